@@ -1,0 +1,53 @@
+-- Consistent Overhead Byte Stuffing, writing and reading (document 01, "The message on the wire").
+-- Assumes nothing: these are definitions.
+use mathlib.Core.Bool.{Bool, true, false, cond}
+use mathlib.Core.List.{List, [], _∷_, _++_}
+use mathlib.Core.Option.{Option, none, some, Option·map}
+use Prim.Native.Nat.{ℕ, zero, suc, _-_}
+use lib.Dec.{eqb, ltb}
+
+-- Writing. A group that is being made: how many bytes it still gets, and all that follows its code byte.
+pub record Group : Type 0 where
+  pub count : ℕ
+  pub after : List ℕ
+
+-- a group behind its code byte
+abbrev pub coded : Group → List ℕ
+coded g = suc (g .count) ∷ g .after
+
+-- a byte ahead of a group's others
+abbrev pub joined : ℕ → Group → Group
+joined b g = record { count = suc (g .count); after = b ∷ g .after }
+
+-- nothing where the message ends
+abbrev pub unlessEnd : List ℕ → List ℕ → List ℕ
+unlessEnd [] ys = []
+unlessEnd (x ∷ xs) ys = ys
+
+-- the groups of a message whose first group takes `room` bytes and one more: a zero ends a group, and so does the
+-- group's last place, after which no code byte is written where the message ends
+unfoldable pub groups : ℕ → List ℕ → Group
+groups room [] = record { count = 0; after = [] }
+groups room (zero ∷ xs) = record { count = 0; after = coded (groups 253 xs) }
+groups zero (suc b ∷ xs) = joined (suc b) (record { count = 0; after = unlessEnd xs (coded (groups 253 xs)) })
+groups (suc room) (suc b ∷ xs) = joined (suc b) (groups room xs)
+
+-- the COBS form of a message; a group has at most 254 bytes
+unfoldable pub cobs : List ℕ → List ℕ
+cobs xs = coded (groups 253 xs)
+
+-- Reading. The zero that follows a group, where it holds one.
+abbrev pub zeros : Bool → List ℕ
+zeros holds = cond holds (0 ∷ []) []
+
+-- `left` bytes of a group are to come, and `holds` says whether a zero follows the group, unless the frame ends there.
+-- A code byte below ff is followed by a zero after its bytes, ff by none. A code byte that runs past the end fails.
+unfoldable pub groupBytes : ℕ → Bool → List ℕ → Option (List ℕ)
+groupBytes zero holds [] = some []
+groupBytes (suc left) holds [] = none
+groupBytes (suc left) holds (b ∷ bs) = Option·map (λ xs. b ∷ xs) (groupBytes left holds bs)
+groupBytes zero holds (c ∷ cs) = cond (eqb c 0) none (Option·map (λ xs. zeros holds ++ xs) (groupBytes (c - 1) (ltb c 255) cs))
+
+-- the bytes of a COBS form, unless it is none
+unfoldable pub uncobs : List ℕ → Option (List ℕ)
+uncobs form = groupBytes 0 false form

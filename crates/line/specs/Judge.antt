@@ -1,0 +1,69 @@
+-- What the line layer's tests make of the bytes before a 00 (document 01, "Reading a request", down to magic).
+-- Assumes nothing: these are definitions.
+use mathlib.Core.Bool.{Bool, true, false, cond, _||_}
+use mathlib.Core.List.{List, [], _∷_}
+use mathlib.Core.Option.{Option, none, some}
+use Prim.Native.Nat.{ℕ, _-_}
+use lib.Dec.{eqb, ltb}
+use lib.ListN.{length, take, drop}
+use Rattle.octets.specs.Bytes.{number, numberAt}
+use Rattle.line.specs.Limits.{header-length, checksum-length, shortest-message, longest-message, longest-form}
+use Rattle.line.specs.Checksum.{checksum}
+use Rattle.line.specs.Message.{magic, Message}
+use Rattle.line.specs.Cobs.{uncobs}
+
+-- a failure has its reason in the table, and the sequence of the request where the table's reply carries it;
+-- none where the reply's sequence is all ones
+pub data Verdict : Type 0 where
+  failure : ℕ → Option ℕ → Verdict
+  good : Message → Verdict
+
+-- the parts of a message's bytes
+abbrev pub bodyOf : List ℕ → List ℕ
+bodyOf xs = take (length xs - checksum-length) xs
+
+abbrev pub checksumOf : List ℕ → ℕ
+checksumOf xs = number (drop (length xs - checksum-length) xs)
+
+abbrev pub magicOf : List ℕ → ℕ
+magicOf xs = numberAt 4 xs 0
+
+abbrev pub versionOf : List ℕ → ℕ
+versionOf xs = numberAt 4 xs 4
+
+abbrev pub sequenceOf : List ℕ → ℕ
+sequenceOf xs = numberAt 8 xs 8
+
+abbrev pub commandOf : List ℕ → ℕ
+commandOf xs = numberAt 1 xs 16
+
+abbrev pub payloadOf : List ℕ → List ℕ
+payloadOf xs = drop header-length (bodyOf xs)
+
+-- any version, sequence and command
+unfoldable pub fields : List ℕ → Message
+fields xs = record { version = versionOf xs; sequence = sequenceOf xs; command = commandOf xs; payload = payloadOf xs }
+
+-- reason 2: the checksum differs, compared as a number; reason 4: the magic differs
+unfoldable pub judgeFields : List ℕ → Verdict
+judgeFields xs =
+    cond (eqb (checksumOf xs) (checksum (bodyOf xs)))
+    (cond (eqb (magicOf xs) magic) (good (fields xs)) (failure 4 (some (sequenceOf xs))))
+    (failure 2 (some (sequenceOf xs)))
+
+-- a decoded length below 19 or above 4,123
+abbrev pub misfit : List ℕ → Bool
+misfit xs = ltb (length xs) shortest-message || ltb longest-message (length xs)
+
+-- reason 3: the decoded length
+unfoldable pub judgeLength : List ℕ → Verdict
+judgeLength xs = cond (misfit xs) (failure 3 none) (judgeFields xs)
+
+-- reason 1: a code byte runs past the end
+unfoldable pub judgeForm : Option (List ℕ) → Verdict
+judgeForm none = failure 1 none
+judgeForm (some xs) = judgeLength xs
+
+-- reason 1: more than 4,140 bytes
+unfoldable pub judge : List ℕ → Verdict
+judge form = cond (ltb longest-form (length form)) (failure 1 none) (judgeForm (uncobs form))

@@ -1,0 +1,8 @@
+-- The line layer's samples and claims.
+-- Assumes nothing.
+pub mod Samples
+pub mod MessageLaws
+pub mod CobsClaims
+pub mod JudgeClaim
+pub mod WireClaim
+pub mod ChecksumClaim

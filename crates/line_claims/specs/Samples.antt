@@ -1,0 +1,73 @@
+-- Document 01's line samples L1 to L12 and the ends of full groups, as one table, held to the line layer's meaning by one computation.
+-- Assumes nothing.
+use mathlib.Core.Path.{_≡_, refl}
+use mathlib.Core.List.{List, [], _∷_, _++_, map}
+use mathlib.Core.Option.{none, some}
+use Prim.Native.Nat.{ℕ}
+use lib.ListN.{replicate}
+use Rattle.octets.specs.Bytes.{number, bytes}
+use Rattle.line.specs.Checksum.{sums, checksum}
+use Rattle.line.specs.Message.{Message, body, message}
+use Rattle.line.specs.Cobs.{groups, cobs, groupBytes, uncobs}
+use Rattle.line.specs.Frame.{frame}
+use Rattle.line.specs.Judge.{Verdict, failure, good, fields, judgeFields, judgeLength, judgeForm, judge}
+
+-- a rule's input, and what it gives
+pub data Sample : Type 0 where
+  sum : List ℕ → ℕ → Sample
+  form : List ℕ → List ℕ → Sample
+  read : List ℕ → Verdict → Sample
+  sent : Message → List ℕ → Sample
+
+-- the sample as the meaning has it
+unfoldable pub meant : Sample → Sample
+meant (sum bs n) = sum bs (checksum bs)
+meant (form bs ys) = form bs (cobs bs)
+meant (read f v) = read f (judge f)
+meant (sent m w) = sent m (frame m)
+
+-- L12: a status request with sequence 1
+unfoldable pub status-request : Message
+status-request = record { version = 1; sequence = 1; command = 0x08; payload = [] }
+
+abbrev pub status-form : List ℕ
+status-form =
+    0x06 ∷ 0xcc ∷ 0x19 ∷ 0xde ∷ 0x01 ∷ 0x01 ∷ 0x01 ∷ 0x01 ∷ 0x02 ∷ 0x01 ∷ 0x01 ∷ 0x01 ∷ 0x01 ∷ 0x01 ∷ 0x01 ∷ 0x01 ∷ 0x04 ∷ 0x08 ∷ 0xcf ∷ 0x66 ∷ []
+
+unfoldable pub samples : List Sample
+samples =
+    -- L1 to L5
+    sum (0x61 ∷ 0x62 ∷ 0x63 ∷ 0x64 ∷ 0x65 ∷ []) 0xC8F0
+    ∷ sum (0x61 ∷ 0x62 ∷ 0x63 ∷ 0x64 ∷ 0x65 ∷ 0x66 ∷ []) 0x2057
+    ∷ sum (0x61 ∷ 0x62 ∷ 0x63 ∷ 0x64 ∷ 0x65 ∷ 0x66 ∷ 0x67 ∷ 0x68 ∷ []) 0x0627
+    ∷ sum [] 0
+    ∷ sum (0x00 ∷ []) 0
+    ∷ sum (0xff ∷ []) 0
+    -- L6 to L9
+    ∷ form [] (0x01 ∷ [])
+    ∷ form (0x00 ∷ []) (0x01 ∷ 0x01 ∷ [])
+    ∷ form (0x11 ∷ 0x22 ∷ []) (0x03 ∷ 0x11 ∷ 0x22 ∷ [])
+    ∷ form (0x11 ∷ 0x00 ∷ []) (0x02 ∷ 0x11 ∷ 0x01 ∷ [])
+    -- L10 to L12
+    ∷ read (0x02 ∷ []) (failure 1 none)
+    ∷ read (0x01 ∷ []) (failure 3 none)
+    ∷ sent status-request (status-form ++ (0x00 ∷ []))
+    ∷ read status-form (good status-request)
+    -- full groups, alone and with a zero or a byte behind them
+    ∷ form (replicate 253 7) (0xfe ∷ replicate 253 7)
+    ∷ form (replicate 253 7 ++ 0 ∷ []) (0xfe ∷ replicate 253 7 ++ 0x01 ∷ [])
+    ∷ form (replicate 254 7) (0xff ∷ replicate 254 7)
+    ∷ form (replicate 254 7 ++ 0 ∷ []) (0xff ∷ replicate 254 7 ++ 0x01 ∷ 0x01 ∷ [])
+    ∷ form (replicate 255 7) (0xff ∷ replicate 254 7 ++ 0x02 ∷ 7 ∷ [])
+    ∷ form (replicate 255 7 ++ 0 ∷ []) (0xff ∷ replicate 254 7 ++ 0x02 ∷ 7 ∷ 0x01 ∷ [])
+    ∷ form (replicate 508 7) (0xff ∷ replicate 254 7 ++ 0xff ∷ replicate 254 7)
+    ∷ form (replicate 508 7 ++ 0 ∷ []) (0xff ∷ replicate 254 7 ++ 0xff ∷ replicate 254 7 ++ 0x01 ∷ 0x01 ∷ [])
+    -- read back: a last 01 after a full group is accepted and adds nothing, a last 02 runs past the end
+    ∷ read (0xff ∷ replicate 254 7) (failure 2 (some 0x0707070707070707))
+    ∷ read (0xff ∷ replicate 254 7 ++ 0x01 ∷ []) (failure 2 (some 0x0707070707070707))
+    ∷ read (0xff ∷ replicate 254 7 ++ 0x02 ∷ []) (failure 1 none)
+    ∷ []
+
+pub samples-hold : map meant samples ≡ samples
+unfolding meant samples status-request number bytes sums checksum body message groups cobs groupBytes uncobs frame fields judgeFields judgeLength judgeForm judge
+samples-hold = refl

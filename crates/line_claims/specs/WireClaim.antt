@@ -1,0 +1,92 @@
+-- A list split at its zeros, and the claim that two lists of messages with the same wire bytes are equal.
+-- Assumes nothing.
+use mathlib.Core.Path.{_≡_, refl, sym, _∙_}
+use mathlib.Core.List.{List, [], _∷_, _++_, map, append-assoc}
+use Prim.Native.Nat.{ℕ, zero, suc, _≤_}
+use native.Mathlib.Omega.{arith}
+use Rattle.octets.specs.Bytes.{Each}
+use Rattle.line.specs.Message.{Message, InRange, message}
+use Rattle.line.specs.Cobs.{cobs}
+use Rattle.line.specs.Frame.{frame, Wire, over, idle, sent}
+use Rattle.line_claims.specs.CobsClaims.{above-zero}
+use Rattle.line_claims.specs.JudgeClaim.{judge-of-message}
+
+-- ---- the pieces of a list between its zeros
+
+-- the pieces that end at a zero, without it, in order, and what stands after the last zero
+pub record Pieces : Type 0 where
+  pub closed : List (List ℕ)
+  pub rest : List ℕ
+
+-- a byte ahead of the first piece
+abbrev pub ahead : ℕ → List (List ℕ) → List ℕ → Pieces
+ahead b [] rest = record { closed = []; rest = b ∷ rest }
+ahead b (p ∷ ps) rest = record { closed = (b ∷ p) ∷ ps; rest = rest }
+
+unfoldable pub split : List ℕ → Pieces
+split [] = record { closed = []; rest = [] }
+split (zero ∷ w) = record { closed = [] ∷ split w .closed; rest = split w .rest }
+split (suc b ∷ w) = ahead (suc b) (split w .closed) (split w .rest)
+
+-- up to the first zero
+pub split-at : (p w : List ℕ) → Each (λ b. 1 ≤ b) p → split (p ++ 0 ∷ w) ≡ record { closed = p ∷ split w .closed; rest = split w .rest }
+unfolding split
+split-at [] w h = refl
+split-at (zero ∷ p) w h = absurd (omega arith)
+split-at (suc b ∷ p) w h = rw (split-at p w (h .1))
+
+-- a list with no zero
+pub split-none : (p : List ℕ) → Each (λ b. 1 ≤ b) p → split p ≡ record { closed = []; rest = p }
+unfolding split
+split-none [] h = refl
+split-none (zero ∷ p) h = absurd (omega arith)
+split-none (suc b ∷ p) h = rw (split-none p (h .1))
+
+-- the pieces that are not empty
+unfoldable pub nonEmpty : List (List ℕ) → List (List ℕ)
+nonEmpty [] = []
+nonEmpty ([] ∷ ps) = nonEmpty ps
+nonEmpty ((b ∷ bs) ∷ ps) = (b ∷ bs) ∷ nonEmpty ps
+
+-- ---- wire bytes
+
+abbrev pub form : Message → List ℕ
+form m = cobs (message m)
+
+pub split-frame : (m : Message) (w : List ℕ) → split (frame m ++ w) ≡ record { closed = form m ∷ split w .closed; rest = split w .rest }
+unfolding frame
+split-frame m w = rw append-assoc (split-at (form m) w (above-zero (message m)))
+
+-- the pieces of wire bytes that are not empty are the messages' COBS forms
+pub wire-forms : {ms : List Message} {w : List ℕ} → Wire ms w → nonEmpty (split w .closed) ≡ map form ms
+unfolding split nonEmpty cobs
+wire-forms over = refl
+wire-forms (idle w) = wire-forms w
+wire-forms (sent {m = m} {w = w} r ws) = rw (split-frame m w, wire-forms ws)
+
+-- wire bytes end with a zero, if there are any
+pub wire-rest : {ms : List Message} {w : List ℕ} → Wire ms w → split w .rest ≡ []
+unfolding split
+wire-rest over = refl
+wire-rest (idle w) = wire-rest w
+wire-rest (sent {m = m} {w = w} r ws) = rw (split-frame m w) (wire-rest ws)
+
+-- what was sent is in range
+pub wire-range : {ms : List Message} {w : List ℕ} → Wire ms w → Each InRange ms
+wire-range over = tt
+wire-range (idle w) = wire-range w
+wire-range (sent r w) = (r, wire-range w)
+
+-- ---- the claim
+
+-- a form is read as one message alone
+forms-same : (ms ns : List Message) → Each InRange ms → Each InRange ns → map form ms ≡ map form ns → ms ≡ ns
+forms-same [] [] r q e = refl
+forms-same [] (n ∷ ns) r q e = cc
+forms-same (m ∷ ms) [] r q e = cc
+forms-same (m ∷ ms) (n ∷ ns) r q e =
+    let s = forms-same ms ns (r .1) (q .1) (cc) in
+    cc (judge-of-message m (r .0), judge-of-message n (q .0))
+
+pub one-meaning : {ms ns : List Message} {w : List ℕ} → Wire ms w → Wire ns w → ms ≡ ns
+one-meaning a b = forms-same _ _ (wire-range a) (wire-range b) (sym (wire-forms a) ∙ wire-forms b)

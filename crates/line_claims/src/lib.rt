@@ -1,0 +1,2 @@
+// The claims over the line layer stand in specs/.
+// No code.

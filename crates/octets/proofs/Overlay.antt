@@ -1,0 +1,288 @@
+-- The laws of runs and overlays: what stands where after bytes were put into a list.
+-- Assumes nothing.
+use Prim.Native.Nat.{ℕ, zero, suc, _+_, _-_, _^_, _≤_, _<_}
+use mathlib.Core.Path.{_≡_, refl, sym, ap, _∙_}
+use mathlib.Core.Bool.{Bool, true, false, cond, _&&_, and-false, and-eq-true-iff}
+use mathlib.Core.List.{List, [], _∷_, _++_, append-assoc, append-nil}
+use native.Mathlib.Nat.{add-zero, zero-add, suc-add, add-suc, add-assoc}
+use native.Mathlib.Numerals.{add-one}
+use native.Mathlib.Omega.{arith}
+use lib.Dec.{leb}
+use lib.ListN.{length, take, drop, set, getD, length-append, length-drop, take-append-drop, List·getD-append}
+use lib.Seq.{take-suc, getD-drop, getD-take, take-nil, drop-nil, drop-drop, take-take, take-at, drop-at, take-append-le, drop-append-le, take-append-add, drop-append-add, length-take-le, append-snoc, set-split, sets, sets-eq}
+use borrow.Author.Tests.{leb-true, le-leb, lt-leb}
+use Rattle.octets.specs.Bytes.{Each, number, bytes, run, numberAt, fits, overlay, put, copied, movedDown}
+use Rattle.octets.proofs.Each.{each-append, each-take, each-drop}
+use Rattle.octets.proofs.Numbers.{length-bytes, number-bytes}
+
+-- ---- runs
+
+-- a run is the end of a beginning
+pub run-take : (j n : ℕ) (s : List ℕ) → run j n s ≡ drop j (take (j + n) s)
+run-take zero n s = rw zero-add
+run-take (suc j) n [] = simp (suc-add, take-nil, drop-nil)
+run-take (suc j) n (x ∷ s) = rw suc-add (run-take j n s)
+
+-- one byte more
+pub run-more : (at n : ℕ) (s : List ℕ) → at + n < length s → run at (n + 1) s ≡ run at n s ++ getD s (at + n) 0 ∷ []
+run-more at n s h =
+    let l : n < length (drop at s) = simp length-drop (omega arith) in
+    rw (add-one, take-suc (drop at s) n 0 l, getD-drop)
+
+pub length-run : (at n : ℕ) (s : List ℕ) → at + n ≤ length s → length (run at n s) ≡ n
+length-run at n s h = length-take-le n (drop at s) (simp length-drop (omega arith))
+
+-- ---- overlays
+
+pub length-overlay : (at : ℕ) (xs s : List ℕ) → at + length xs ≤ length s → length (overlay at xs s) ≡ length s
+unfolding overlay
+length-overlay at xs s h = simp (length-append, length-take-le at s (omega arith), length-drop) (omega arith)
+
+-- what stands before the end of the bytes put
+overlay-front : (at : ℕ) (xs s : List ℕ) → at ≤ length s → length (take at s ++ xs) ≡ at + length xs
+overlay-front at xs s h = simp (length-append, length-take-le at s h)
+
+-- what stands from their place on
+overlay-from : (at : ℕ) (xs s : List ℕ) → at ≤ length s → drop at (overlay at xs s) ≡ xs ++ drop (at + length xs) s
+unfolding overlay
+overlay-from at xs s h = rw append-assoc (drop-at (take at s) _ at (length-take-le at s h))
+
+pub overlay-take : (at n : ℕ) (xs s : List ℕ) → n ≤ at → at ≤ length s → take n (overlay at xs s) ≡ take n s
+unfolding overlay
+overlay-take at n xs s l h =
+    let m : n ≤ length (take at s) = rw (length-take-le at s h) l in
+    rw (append-assoc, take-append-le n (take at s) _ m, take-take n at s l)
+
+pub overlay-drop : (at j : ℕ) (xs s : List ℕ) → at ≤ length s → at + length xs ≤ j → drop j (overlay at xs s) ≡ drop j s
+unfolding overlay
+overlay-drop at j xs s h l =
+    let e : at + length xs + (j - (at + length xs)) ≡ j = omega arith in
+    let d = drop-append-add (take at s ++ xs) (drop (at + length xs) s) (j - (at + length xs)) in
+    rw (overlay-front at xs s h, drop-drop, e) at d
+
+pub overlay-part : (at j n : ℕ) (xs s : List ℕ) → at ≤ length s → j + n ≤ length xs
+    → run (at + j) n (overlay at xs s) ≡ run j n xs
+overlay-part at j n xs s h l =
+    let m : n ≤ length (drop j xs) = simp length-drop (omega arith) in
+    rw (← drop-drop j at (overlay at xs s), overlay-from at xs s h, drop-append-le j xs (drop (at + length xs) s) (omega arith), take-append-le n (drop j xs) _ m)
+
+pub overlay-inside : (at : ℕ) (xs s : List ℕ) → at ≤ length s → run at (length xs) (overlay at xs s) ≡ xs
+overlay-inside at xs s h = rw (overlay-from at xs s h) (take-at xs _ (length xs) refl)
+
+pub overlay-before : (at j n : ℕ) (xs s : List ℕ) → at ≤ length s → j + n ≤ at → run j n (overlay at xs s) ≡ run j n s
+overlay-before at j n xs s h l = rw (run-take j n (overlay at xs s), run-take j n s) (ap (drop j) (overlay-take at (j + n) xs s l h))
+
+pub overlay-after : (at j n : ℕ) (xs s : List ℕ) → at ≤ length s → at + length xs ≤ j → run j n (overlay at xs s) ≡ run j n s
+overlay-after at j n xs s h l = ap (take n) (overlay-drop at j xs s h l)
+
+pub overlay-none : (at : ℕ) (s : List ℕ) → overlay at [] s ≡ s
+unfolding overlay
+overlay-none at s = rw (add-zero, append-nil, take-append-drop)
+
+pub overlay-one : (at v : ℕ) (s : List ℕ) → at < length s → set s at v ≡ overlay at (v ∷ []) s
+unfolding overlay
+overlay-one at v s h = set-split s at v h ∙ rw (append-snoc, add-one)
+
+-- bytes put over bytes as long
+pub overlay-again : (at : ℕ) (xs ys s : List ℕ) → at ≤ length s → length xs ≡ length ys
+    → overlay at ys (overlay at xs s) ≡ overlay at ys s
+unfolding overlay
+overlay-again at xs ys s h e =
+    rw (overlay-take at at xs s (omega arith) h, overlay-drop at (at + length ys) xs s h (omega arith))
+
+-- bytes put right after bytes
+pub overlay-next : (at : ℕ) (xs ys s : List ℕ) → at ≤ length s
+    → overlay (at + length xs) ys (overlay at xs s) ≡ overlay at (xs ++ ys) s
+unfolding overlay
+overlay-next at xs ys s h =
+    rw (
+      overlay-drop at (at + length xs + length ys) xs s h (omega arith),
+      take-at (take at s ++ xs) (drop (at + length xs) s) (at + length xs) (overlay-front at xs s h),
+    )
+    (simp (length-append, append-assoc, add-assoc))
+
+-- ---- one byte of an overlay
+
+-- a byte is the first of what stands from its place on
+first : (j d : ℕ) (s : List ℕ) → getD s j d ≡ getD (drop j s) 0 d
+first j d s = rw (getD-drop, add-zero)
+
+pub overlay-getD-after : (at j d : ℕ) (xs s : List ℕ) → at ≤ length s → at + length xs ≤ j
+    → getD (overlay at xs s) j d ≡ getD s j d
+overlay-getD-after at j d xs s h l = first j d (overlay at xs s) ∙ rw (overlay-drop at j xs s h l, ← first)
+
+pub overlay-getD-before : (at j d : ℕ) (xs s : List ℕ) → at ≤ length s → j < at → getD (overlay at xs s) j d ≡ getD s j d
+overlay-getD-before at j d xs s h l =
+    rw (← getD-take at (overlay at xs s) j d l, overlay-take at at xs s (omega arith) h, getD-take at s j d l)
+
+pub overlay-getD-inside : (at j d : ℕ) (xs s : List ℕ) → at ≤ length s → j < length xs
+    → getD (overlay at xs s) (at + j) d ≡ getD xs j d
+overlay-getD-inside at j d xs s h l =
+    rw (← getD-drop at (overlay at xs s) j d, overlay-from at xs s h) (List·getD-append xs _ d j l)
+
+-- ---- overlays in turn
+
+-- one byte more
+pub overlay-more : (at v : ℕ) (xs s : List ℕ) → at + length xs < length s
+    → set (overlay at xs s) (at + length xs) v ≡ overlay at (xs ++ v ∷ []) s
+overlay-more at v xs s h =
+    let l : length (overlay at xs s) ≡ length s = length-overlay at xs s (omega arith) in
+    overlay-one (at + length xs) v (overlay at xs s) (omega arith) ∙ overlay-next at xs (v ∷ []) s (omega arith)
+
+-- a run put, one byte more
+pub overlay-run-more : (at from i : ℕ) (src s : List ℕ) → from + i < length src → at + i < length s
+    → set (overlay at (run from i src) s) (at + i) (getD src (from + i) 0) ≡ overlay at (run from (i + 1) src) s
+overlay-run-more at from i src s h l =
+    let e : length (run from i src) ≡ i = length-run from i src (omega arith) in
+    let m = overlay-more at (getD src (from + i) 0) (run from i src) s (omega arith) in
+    rw (e, ← run-more from i src h) at m
+
+-- a run put at a lower place of its own list, one byte more: the byte to be read is still as it was
+pub overlay-down-more : (from to i : ℕ) (s : List ℕ) → to ≤ from → from + i < length s
+    → set (overlay to (run from i s) s) (to + i) (getD (overlay to (run from i s) s) (from + i) 0) ≡ overlay to (run from (i + 1) s) s
+overlay-down-more from to i s h l =
+    let e : length (run from i s) ≡ i = length-run from i s (omega arith) in
+    rw (overlay-getD-after to (from + i) 0 (run from i s) s (omega arith) (omega arith))
+    (overlay-run-more to from i s s l (omega arith))
+
+-- the bytes up to a place past those put
+pub overlay-take-past : (at n : ℕ) (xs s : List ℕ) → at ≤ length s → at + length xs ≤ n
+    → take n (overlay at xs s) ≡ take at s ++ xs ++ drop (at + length xs) (take n s)
+unfolding overlay
+overlay-take-past at n xs s h l =
+    let k = n - (at + length xs) in
+    let e : at + length xs + k ≡ n = omega arith in
+    let t = take-append-add (take at s ++ xs) (drop (at + length xs) s) k in
+    rw (overlay-front at xs s h, run-take (at + length xs) k s, e) at t
+
+-- the bytes from a place before those put
+pub overlay-drop-before : (at j : ℕ) (xs s : List ℕ) → at ≤ length s → j ≤ at
+    → drop j (overlay at xs s) ≡ drop j (take at s) ++ xs ++ drop (at + length xs) s
+unfolding overlay
+overlay-drop-before at j xs s h l =
+    let m : j ≤ length (take at s) = rw (length-take-le at s h) l in
+    simp append-assoc (drop-append-le j (take at s) _ m)
+
+-- bytes put at two places apart, in either order
+pub overlay-swap : (at bt : ℕ) (xs ys s : List ℕ) → at + length xs ≤ bt → bt ≤ length s
+    → overlay at xs (overlay bt ys s) ≡ overlay bt ys (overlay at xs s)
+unfolding overlay
+overlay-swap at bt xs ys s h k =
+    rw (
+      overlay-take bt at ys s (omega arith) k,
+      overlay-drop-before bt (at + length xs) ys s k h,
+      overlay-take-past at bt xs s (omega arith) h,
+      overlay-drop at (bt + length ys) xs s (omega arith) (omega arith),
+    )
+    (simp append-assoc)
+
+pub overlay-each : (P : ℕ → Type 0) (at : ℕ) (xs s : List ℕ) → Each P xs → Each P s → Each P (overlay at xs s)
+unfolding overlay
+overlay-each P at xs s h k =
+    each-append P (take at s ++ xs) (drop (at + length xs) s)
+    (each-append P (take at s) xs (each-take P at s k) h) (each-drop P (at + length xs) s k)
+
+-- ---- where it fits, and where not
+
+pub put-fits : (at : ℕ) (xs s : List ℕ) → at + length xs ≤ length s → put at xs s ≡ overlay at xs s
+unfolding put
+put-fits at xs s h = rw (le-leb (at + length xs) (length s) h)
+
+pub put-not : (at : ℕ) (xs s : List ℕ) → length s < at + length xs → put at xs s ≡ s
+unfolding put
+put-not at xs s h = rw (lt-leb (at + length xs) (length s) h)
+
+-- a choice whose first side, where it is taken, is as the second
+cond-same : (b : Bool) (x s : List ℕ) → (b ≡ true → x ≡ s) → cond b x s ≡ s
+cond-same true x s f = f refl
+cond-same false x s f = refl
+
+length-cond : (b : Bool) (x s : List ℕ) → (b ≡ true → length x ≡ length s) → length (cond b x s) ≡ length s
+length-cond true x s f = f refl
+length-cond false x s f = refl
+
+pub length-put : (at : ℕ) (xs s : List ℕ) → length (put at xs s) ≡ length s
+unfolding put
+length-put at xs s = length-cond _ _ s (λ e. length-overlay at xs s (leb-true (at + length xs) (length s) e))
+
+-- what the stores of vs at the places at + i, at + (i + 1), .. leave
+abbrev pub stores : List ℕ → ℕ → ℕ → List ℕ → List ℕ
+stores s at i [] = s
+stores s at i (v ∷ vs) = stores (set s (at + i) v) at (suc i) vs
+
+stores-sets : (vs s : List ℕ) (at i : ℕ) → stores s at i vs ≡ sets s (at + i) vs
+stores-sets [] s at i = refl
+stores-sets (v ∷ vs) s at i = stores-sets vs (set s (at + i) v) at (suc i) ∙ rw add-suc
+
+-- the same from the place at, which the code writes without a sum
+abbrev pub written : List ℕ → ℕ → List ℕ → List ℕ
+written s at [] = s
+written s at (v ∷ vs) = stores (set s at v) at 1 vs
+
+written-sets : (vs s : List ℕ) (at : ℕ) → written s at vs ≡ sets s at vs
+written-sets [] s at = refl
+written-sets (v ∷ vs) s at = stores-sets vs (set s at v) at 1 ∙ rw add-one
+
+pub written-put : (vs s : List ℕ) (at : ℕ) → at + length vs ≤ length s → written s at vs ≡ put at vs s
+unfolding overlay
+written-put vs s at h = written-sets vs s at ∙ sets-eq vs s at h ∙ sym (put-fits at vs s h)
+
+-- a number that does not fit
+pub put-bytes-not : (k at v : ℕ) (s : List ℕ) → length s < at + k → s ≡ put at (bytes k v) s
+put-bytes-not k at v s h =
+    let n = length-bytes k v in
+    sym (put-not at (bytes k v) s (omega arith))
+
+-- what was written is read
+pub number-put : (k at v : ℕ) (s : List ℕ) → at + k ≤ length s → v < 256 ^ k → numberAt k (put at (bytes k v) s) at ≡ v
+number-put k at v s h l =
+    let n = length-bytes k v in
+    rw (put-fits at (bytes k v) s (omega arith))
+    (ap number (rw n at (overlay-inside at (bytes k v) s (omega arith))) ∙ number-bytes k v l)
+
+pub copied-fits : (src : List ℕ) (from n : ℕ) (dst : List ℕ) (at : ℕ) → from + n ≤ length src → at + n ≤ length dst
+    → copied src from n dst at ≡ overlay at (run from n src) dst
+unfolding copied
+copied-fits src from n dst at h l =
+    let e = length-run from n src h in
+    rw (le-leb (from + n) (length src) h) (put-fits at (run from n src) dst (omega arith))
+
+pub copied-not-src : (src : List ℕ) (from n : ℕ) (dst : List ℕ) (at : ℕ) → length src < from + n
+    → copied src from n dst at ≡ dst
+unfolding copied
+copied-not-src src from n dst at h = rw (lt-leb (from + n) (length src) h)
+
+pub copied-not-dst : (src : List ℕ) (from n : ℕ) (dst : List ℕ) (at : ℕ) → length dst < at + n
+    → copied src from n dst at ≡ dst
+unfolding copied
+copied-not-dst src from n dst at h =
+    cond-same (fits from n src) _ dst (λ t.
+    let e = length-run from n src (leb-true (from + n) (length src) t) in
+    put-not at (run from n src) dst (omega arith))
+
+pub length-copied : (src : List ℕ) (from n : ℕ) (dst : List ℕ) (at : ℕ) → length (copied src from n dst at) ≡ length dst
+unfolding copied
+length-copied src from n dst at = length-cond (fits from n src) (put at (run from n src) dst) dst (λ e. length-put at (run from n src) dst)
+
+pub movedDown-fits : (s : List ℕ) (from to n : ℕ) → to ≤ from → from + n ≤ length s
+    → movedDown s from to n ≡ overlay to (run from n s) s
+unfolding movedDown
+movedDown-fits s from to n h l = rw (le-leb (from + n) (length s) l, le-leb to from h)
+
+pub movedDown-not : (s : List ℕ) (from to n : ℕ) → length s < from + n → movedDown s from to n ≡ s
+unfolding movedDown
+movedDown-not s from to n h = rw (lt-leb (from + n) (length s) h)
+
+pub movedDown-up : (s : List ℕ) (from to n : ℕ) → from < to → movedDown s from to n ≡ s
+unfolding movedDown
+movedDown-up s from to n h = rw (lt-leb to from h, and-false)
+
+pub length-movedDown : (s : List ℕ) (from to n : ℕ) → length (movedDown s from to n) ≡ length s
+unfolding movedDown
+length-movedDown s from to n =
+    length-cond (fits from n s && leb to from) (overlay to (run from n s) s) s (λ e.
+    let t = and-eq-true-iff (fits from n s) (leb to from) .0 e in
+    let p = leb-true (from + n) (length s) (t .0) in
+    let q = leb-true to from (t .1) in
+    let l = length-run from n s p in
+    length-overlay to (run from n s) s (omega arith))

@@ -1,0 +1,25 @@
+-- `write_u32` meets its contract: its stores are the number's bytes, in their order.
+-- Assumes nothing.
+use borrow.Author.Needs.{needs}
+use denote.Ref.{now}
+use native.Mathlib.Omega.{arith}
+use lib.ListN.{length-set}
+use Rattle.octets.specs.Bytes.{bytes}
+use Rattle.octets.proofs.Overlay.{written-put, put-bytes-not}
+use Rattle.octets.proofs.write_u32.Statement.{statement}
+use Rattle.octets.proofs.write_u32.Tie as tie
+
+returns-3 : tie.Need-returns-3
+unfolding bytes
+returns-3 c =
+    let a = c .before .before .args in
+    written-put (bytes 4 (a .v)) (now (a .s)) (a .at) (search needs)
+
+pub write-u32-spec : {M : Type 1} → statement M
+write-u32-spec =
+    tie.close
+    (tie.spec
+    (λ c. put-bytes-not 4 _ _ _ (search needs)) (λ c. search needs) (λ c. put-bytes-not 4 _ _ _ (search needs))
+    (λ c. search needs) (λ c. search needs) (λ c. search needs) (λ c. search needs) (λ c. simp length-set (omega arith))
+    (λ c. search needs) (λ c. search needs) (λ c. simp length-set (omega arith)) (λ c. search needs) (λ c. search needs)
+    (λ c. simp length-set (omega arith)) (λ c. search needs) returns-3)

@@ -1,0 +1,3 @@
+-- The definitions of the byte layer: bytes, little-endian numbers, runs and overlays.
+-- Assumes nothing.
+pub mod Bytes

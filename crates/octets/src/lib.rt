@@ -1,0 +1,163 @@
+// Runs of bytes and little-endian numbers on lent slices. Every function is total: a byte past the
+// end reads as 0, and nothing is written where it does not fit.
+ghost use mathlib.Core.Path.{_≡_};
+ghost use Rattle.octets.specs.Bytes.{bytes, numberAt, put, copied, movedDown, sameRun};
+
+// The byte at a place.
+pub fn read_u8(s: &[u8], at: usize) -> u8
+    ensures { λ r. ⌜ r ≡ numberAt 1 (now (s .entry)) at ⌝ }
+{
+    if s.len() <= at {
+        return 0;
+    }
+    s[at]
+}
+
+pub fn read_u16(s: &[u8], at: usize) -> u16
+    ensures { λ r. ⌜ r ≡ numberAt 2 (now (s .entry)) at ⌝ }
+{
+    if s.len() <= at {
+        return 0;
+    }
+    let low = read_u8(s, at);
+    let high = read_u8(s, at + 1);
+    low as u16 + high as u16 * 256
+}
+
+pub fn read_u32(s: &[u8], at: usize) -> u32
+    ensures { λ r. ⌜ r ≡ numberAt 4 (now (s .entry)) at ⌝ }
+{
+    if s.len() <= at {
+        return 0;
+    }
+    let low = read_u16(s, at);
+    let high = read_u16(s, at + 2);
+    low as u32 + high as u32 * 65536
+}
+
+pub fn read_u64(s: &[u8], at: usize) -> u64
+    ensures { λ r. ⌜ r ≡ numberAt 8 (now (s .entry)) at ⌝ }
+{
+    if s.len() <= at {
+        return 0;
+    }
+    let low = read_u32(s, at);
+    let high = read_u32(s, at + 4);
+    low as u64 + high as u64 * 4294967296
+}
+
+pub fn write_u16(s: &mut [u8], at: usize, v: u16)
+    ensures { λ _. ⌜ now (s .exit) ≡ put at (bytes 2 v) (now (s .entry)) ⌝ }
+{
+    if s.len() < at {
+        return;
+    }
+    if s.len() - at < 2 {
+        return;
+    }
+    s[at] = (v % 256) as u8;
+    s[at + 1] = (v / 256 % 256) as u8;
+}
+
+pub fn write_u32(s: &mut [u8], at: usize, v: u32)
+    ensures { λ _. ⌜ now (s .exit) ≡ put at (bytes 4 v) (now (s .entry)) ⌝ }
+{
+    if s.len() < at {
+        return;
+    }
+    if s.len() - at < 4 {
+        return;
+    }
+    s[at] = (v % 256) as u8;
+    s[at + 1] = (v / 256 % 256) as u8;
+    s[at + 2] = (v / 256 / 256 % 256) as u8;
+    s[at + 3] = (v / 256 / 256 / 256 % 256) as u8;
+}
+
+pub fn write_u64(s: &mut [u8], at: usize, v: u64)
+    ensures { λ _. ⌜ now (s .exit) ≡ put at (bytes 8 v) (now (s .entry)) ⌝ }
+{
+    if s.len() < at {
+        return;
+    }
+    if s.len() - at < 8 {
+        return;
+    }
+    s[at] = (v % 256) as u8;
+    s[at + 1] = (v / 256 % 256) as u8;
+    s[at + 2] = (v / 256 / 256 % 256) as u8;
+    s[at + 3] = (v / 256 / 256 / 256 % 256) as u8;
+    s[at + 4] = (v / 256 / 256 / 256 / 256 % 256) as u8;
+    s[at + 5] = (v / 256 / 256 / 256 / 256 / 256 % 256) as u8;
+    s[at + 6] = (v / 256 / 256 / 256 / 256 / 256 / 256 % 256) as u8;
+    s[at + 7] = (v / 256 / 256 / 256 / 256 / 256 / 256 / 256 % 256) as u8;
+}
+
+// Puts n bytes of src, from a place on, into dst at a place.
+pub fn copy(src: &[u8], from: usize, n: usize, dst: &mut [u8], at: usize)
+    ensures { λ _. ⌜ now (dst .exit) ≡ copied (now (src .entry)) from n (now (dst .entry)) at ⌝ }
+{
+    if src.len() < from {
+        return;
+    }
+    if src.len() - from < n {
+        return;
+    }
+    if dst.len() < at {
+        return;
+    }
+    if dst.len() - at < n {
+        return;
+    }
+    let mut i = 0;
+    while i < n {
+        dst[at + i] = src[from + i];
+        i += 1;
+    }
+}
+
+// Moves n bytes of s down, first to last.
+pub fn move_down(s: &mut [u8], from: usize, to: usize, n: usize)
+    ensures { λ _. ⌜ now (s .exit) ≡ movedDown (now (s .entry)) from to n ⌝ }
+{
+    if from < to {
+        return;
+    }
+    if s.len() < from {
+        return;
+    }
+    if s.len() - from < n {
+        return;
+    }
+    let mut i = 0;
+    while i < n {
+        s[to + i] = s[from + i];
+        i += 1;
+    }
+}
+
+// Whether n bytes of s and n bytes of t, each from a place on, are there and equal.
+pub fn same(s: &[u8], at: usize, t: &[u8], bt: usize, n: usize) -> bool
+    ensures { λ r. ⌜ r ≡ sameRun (now (s .entry)) at (now (t .entry)) bt n ⌝ }
+{
+    if s.len() < at {
+        return false;
+    }
+    if s.len() - at < n {
+        return false;
+    }
+    if t.len() < bt {
+        return false;
+    }
+    if t.len() - bt < n {
+        return false;
+    }
+    let mut i = 0;
+    while i < n {
+        if s[at + i] != t[bt + i] {
+            return false;
+        }
+        i += 1;
+    }
+    true
+}

@@ -1,0 +1,310 @@
+#!/usr/bin/env python3
+"""The cases of the program line_cases, worked out from document 01 and not from the Rattle code.
+
+usage: tests/line_cases.py input | expected | check
+
+input:    the program's standard input, one command a line
+expected: what it must write, from the model of document 01 below
+check:    compares both with crates/line_cases/stdin and crates/line_cases/stdout
+
+Commands, one a line; HEX is pairs of hex digits with no space, COUNT and the like are decimal:
+= NAME     begins a case: fills the state's 4,200 bytes with a5, the output's 4,199 with ee, starts a reader, empties the piece
++ HEX      adds bytes to the piece
+* HEX COUNT   adds one byte to the piece so often
+k          prints the piece's checksum, and empties it
+r          reads the piece by calls until it is used up, and empties it; c COUNT: its first COUNT bytes, then the rest; b: byte by byte
+l COUNT    reads the piece by one call that is lent COUNT bytes of the state; the piece stays
+s COUNT    calls start with COUNT bytes of the state
+i COUNT    stores COUNT as the state's first two bytes
+t          prints the unfinished tail;  u COUNT: asked with COUNT bytes of the state
+d COUNT    asks for so many bytes of data of the message just handed out
+g          prints the digest of the state's first 4,142 bytes
+w VERSION SEQUENCE COMMAND HEAD ROOM   writes a message with the piece as its data, HEAD bytes of them as the first part, into the first ROOM
+           bytes of the output (VERSION, SEQUENCE, COMMAND: 8, 16 and 2 hex digits); prints the answer and the digest of the output's 4,199 bytes
+o          reads what was written
+.          ends the case's line
+The digest of bytes is d, from 0, by d = (d * 31 + byte + 1) % 65521 for each byte, in decimal."""
+import os
+import sys
+
+MAGIC = 0x01DE19CC
+
+
+def fletcher(data):
+    first = second = 0
+    for b in data:
+        first = (first + b) % 255
+        second = (second + first) % 255
+    return second * 256 + first
+
+
+def digest(data):
+    d = 0
+    for b in data:
+        d = (d * 31 + b + 1) % 65521
+    return d
+
+
+def stuffed(data):
+    """COBS by cutting at the zeros and at 254 bytes; no code byte after a full group that ends the message."""
+    out = bytearray()
+    rest = bytes(data)
+    while True:
+        zero = rest.find(0)
+        run = rest if zero < 0 else rest[:zero]
+        if len(run) >= 254:
+            out.append(255)
+            out += run[:254]
+            rest = rest[254:]
+            if not rest:
+                return bytes(out)
+            continue
+        out.append(len(run) + 1)
+        out += run
+        if zero < 0:
+            return bytes(out)
+        rest = rest[zero + 1:]
+
+
+def unstuffed(form):
+    """The bytes of a form, or None where a code byte runs past the end."""
+    out = bytearray()
+    at = 0
+    while at < len(form):
+        code = form[at]
+        if code == 0 or at + code > len(form):
+            return None
+        out += form[at + 1:at + code]
+        at += code
+        if code < 255 and at < len(form):
+            out.append(0)
+    return bytes(out)
+
+
+def body(version, sequence, command, data, magic=MAGIC):
+    return magic.to_bytes(4, 'little') + version.to_bytes(4, 'little') + sequence.to_bytes(8, 'little') + bytes([command]) + bytes(data)
+
+
+def message(version, sequence, command, data, magic=MAGIC):
+    b = body(version, sequence, command, data, magic)
+    return b + fletcher(b).to_bytes(2, 'little')
+
+
+def judged(form):
+    """What is answered at the 00 behind these bytes."""
+    if not form:
+        return 'empty'
+    if len(form) > 4140:
+        return 'fail 1'
+    xs = unstuffed(form)
+    if xs is None:
+        return 'fail 1'
+    if len(xs) < 19 or len(xs) > 4123:
+        return 'fail 3'
+    number = lambda a, e: int.from_bytes(xs[a:e], 'little')
+    sequence = number(8, 16)
+    if number(len(xs) - 2, len(xs)) != fletcher(xs[:-2]):
+        return f'fail 2 {sequence:016x}'
+    if number(0, 4) != MAGIC:
+        return f'fail 4 {sequence:016x}'
+    data = xs[17:-2]
+    return f'message {number(4, 8):08x} {sequence:016x} {xs[16]:02x} {len(data)} {digest(data)}'
+
+
+class Case:
+    def __init__(self, name):
+        self.commands = [f'= {name}']
+        self.line = name + ':'
+        self.tail = b''
+        self.piece = b''
+        self.written = b''
+
+    def say(self, text):
+        self.line += ' ' + text
+        return self
+
+    def add(self, data):
+        data = bytes(data)
+        self.piece += data
+        at = 0
+        while at < len(data):
+            run = 1
+            while at + run < len(data) and data[at + run] == data[at]:
+                run += 1
+            if run > 8:
+                self.commands.append(f'* {data[at]:02x} {run}')
+            else:
+                run = 1
+                while at + run < len(data) and run < 32 and data[at + run:at + run + 9] != bytes([data[at + run]]) * 9:
+                    run += 1
+                self.commands.append('+ ' + data[at:at + run].hex())
+            at += run
+        return self
+
+    def feed(self, data):
+        for b in data:
+            if b:
+                self.tail += bytes([b])
+            else:
+                self.say(judged(self.tail))
+                self.tail = b''
+
+    def read(self, command='r'):
+        self.commands.append(command)
+        self.feed(self.piece)
+        self.piece = b''
+        return self
+
+    def checksum(self):
+        self.commands.append('k')
+        self.say(f'{fletcher(self.piece):04x}')
+        self.piece = b''
+        return self
+
+    def write(self, version, sequence, command, head, room):
+        self.commands.append(f'w {version:08x} {sequence:016x} {command:02x} {head} {room}')
+        buffer = bytearray(b'\xee' * 4199)
+        frame = stuffed(message(version, sequence, command, self.piece)) + b'\0'
+        self.written = b''
+        if len(self.piece) > 4104:
+            self.say('refused 9')
+        elif room < len(frame):
+            self.say('refused 8')
+        else:
+            buffer[:len(frame)] = frame
+            self.written = frame
+            self.say(f'wrote {len(frame)}')
+        self.say(f'{digest(buffer)}')
+        self.piece = b''
+        return self
+
+    def back(self):
+        self.commands.append('o')
+        self.feed(self.written)
+        return self
+
+    def tell(self, command, text):
+        self.commands.append(command)
+        return self.say(text)
+
+    def unfinished(self):
+        self.commands.append('t')
+        self.say(f'tail {len(self.tail)}' if len(self.tail) <= 4140 else 'tail longer')
+        return self
+
+
+def nonzero(n):
+    return bytes(1 + i % 251 for i in range(n))
+
+
+L12 = bytes.fromhex('06cc19de01010101020101010101010104' + '08cf6600')
+assert L12 == stuffed(message(1, 1, 8, b'')) + b'\0'
+
+
+def cases():
+    for name, text in (('L1', b'abcde'), ('L2', b'abcdef'), ('L3', b'abcdefgh'), ('L4', b''), ('L5 00', b'\0'), ('L5 ff', b'\xff')):
+        yield Case(name).add(text).checksum()
+    yield Case('L10').add([2, 0]).read()
+    yield Case('L11').add([1, 0]).read()
+    yield Case('L12').add(L12).read().unfinished()
+    yield Case('L12 written').write(1, 1, 8, 0, 4199).back()
+    for cut in range(len(L12) + 1):
+        yield Case(f'L12 cut at {cut}').add(L12).read(f'c {cut}')
+    yield Case('L12 byte by byte').add(L12).read('b')
+    yield Case('L10, L12, L11 in one piece').add(b'\2\0' + L12 + b'\1\0').read()
+    yield Case('spare terminators').add(b'\0\0' + L12 + b'\0\0\0' + L12).read()
+    for n in (4139, 4140, 4141, 4142, 6000):
+        yield Case(f'{n} bytes before the 00').add(b'\1' * n).unfinished().read().unfinished().add(b'\0').read().unfinished().add(L12).read()
+    yield Case('4141 bytes, then a frame').add(b'\1' * 4141 + b'\0' + L12).read()
+    yield Case('4141 bytes, byte by byte').add(b'\1' * 4141 + b'\0' + L12).read('b')
+    for data in (b'', nonzero(4104), bytes(4104), b'\xff' * 4104):
+        m = message(1, 7, 0x10, data)
+        yield Case(f'message of {len(m)} bytes, first data byte {data[:1].hex() or "none"}').add(stuffed(m) + b'\0').read()
+    short = body(1, 7, 0x10, b'')[:16]
+    yield Case('message of 18 bytes').add(stuffed(short + fletcher(short).to_bytes(2, 'little')) + b'\0').read()
+    long = message(1, 7, 0x10, bytes(4105))
+    assert len(long) == 4124 and len(stuffed(long)) <= 4140
+    yield Case('message of 4124 bytes').add(stuffed(long) + b'\0').read()
+    longest = stuffed(message(1, 0x0102030405060708, 0x10, nonzero(4104)))
+    yield Case(f'form of {len(longest)} bytes').add(longest + b'\0').read()
+    # a message that ends with a full group, and the same with a last 01
+    # the version's zeros end a group; the eight bytes of the sequence, the command, 243 bytes of data and the checksum fill the next one
+    full = message(1, 0x0102030405060708, 9, nonzero(243))
+    assert stuffed(full)[-255:] == b'\xff' + full[-254:]
+    yield Case('full group at the end').add(stuffed(full) + b'\0').read()
+    yield Case('full group at the end and a last 01').add(stuffed(full) + b'\1\0').read()
+    yield Case('full group at the end and a last 02').add(stuffed(full) + b'\2\0').read()
+    yield Case('full group cut by one byte').add(stuffed(full)[:-1] + b'\0').read()
+    # checksums with a byte 00, and ff in its place
+    seen = set()
+    for q in range(1, 70000):
+        b = body(1, q, 8, b'')
+        s = fletcher(b)
+        for kind, low, high in (('low', s % 256 == 0, None), ('high', None, s // 256 == 0)):
+            if (low or high) and kind not in seen:
+                seen.add(kind)
+                bad = (s + 255) if kind == 'low' else (s + 255 * 256)
+                yield Case(f'checksum with {kind} byte 00').add(stuffed(b + s.to_bytes(2, 'little')) + b'\0').read()
+                yield Case(f'checksum with {kind} byte ff').add(stuffed(b + bad.to_bytes(2, 'little')) + b'\0').read()
+        if len(seen) == 2:
+            break
+    b = body(1, 5, 8, b'')
+    yield Case('checksum swapped').add(stuffed(b + fletcher(b).to_bytes(2, 'big')) + b'\0').read()
+    yield Case('magic differs').add(stuffed(message(1, 0x8000000000000005, 8, b'', MAGIC + 1)) + b'\0').read()
+    yield Case('magic and checksum differ').add(stuffed(body(1, 6, 8, b'', MAGIC + 1) + b'\1\1') + b'\0').read()
+    yield Case('any version, sequence and command').add(stuffed(message(0xffffffff, 0xffffffffffffffff, 0, b'\0\0')) + b'\0').read()
+    yield Case('code byte past the end').add(b'\5\1\1\0').read()
+    for n in (253, 254, 255, 508, 509):
+        for end in (b'', b'\0'):
+            data = nonzero(n)[:n - len(end)] + end
+            yield Case(f'written data of {n} bytes, last {data[-1]:02x}').add(data).write(1, 0x1122334455667788, 0x0d, n // 2, 4199).back()
+    for n, head in ((0, 0), (1, 1), (4104, 0), (4104, 4104), (4104, 2000), (4105, 0), (4105, 4105), (4105, 2000)):
+        yield Case(f'written data of {n} bytes, {head} in the first part').add(nonzero(n)).write(1, 9, 0x0d, head, 4199).back()
+    for n in (0, 236, 237, 500, 4104):
+        size = len(stuffed(message(2, 3, 4, nonzero(n)))) + 1
+        for room in (size - 1, size, size + 1):
+            yield Case(f'room of {room} bytes for a frame of {size}').add(nonzero(n)).write(2, 3, 4, 0, room).back()
+    yield Case('no room').write(1, 1, 8, 0, 0)
+    yield Case('4105 bytes and no room').add(nonzero(4105)).write(1, 1, 8, 0, 0)
+    # refusals leave the state as it was: 0, 0 and then a5, or what was stored
+    fresh = digest(b'\0\0' + b'\xa5' * 4140)
+    c = Case('read with too little state').add(L12).tell('g', f'{fresh}')
+    for lent in (0, 1, 2, 4141):
+        c.tell(f'l {lent}', 'refused 12')
+    yield c.tell('g', f'{fresh}').tell('u 4141', 'refused 12').tell('u 4142', 'tail 0').read()
+    yield Case('read with just enough state').add(L12).tell('l 4142', judged(L12[:-1]))
+    c = Case('start with too little state').add(b'\1\1').read()
+    c.tell('s 0', 'refused 12').tell('s 4141', 'refused 12').unfinished().tell('s 4142', 'started')
+    c.tail = b''
+    yield c.unfinished()
+    for count in (4141, 4142, 65535):
+        stored = digest(count.to_bytes(2, 'little') + b'\xa5' * 4140)
+        c = Case(f'stored count {count}').tell(f'i {count}', '').tell('g', f'{stored}')
+        c.line = c.line.replace(':  ', ': ')
+        ok = count <= 4141
+        yield c.tell('t', 'tail longer' if ok else 'refused 12').tell('d 0', 'data 0' if ok else 'refused 12').add(b'\0').tell('l 4142', 'fail 1' if ok else 'refused 12').tell('g', f'{fresh if ok else stored}')
+    m = message(1, 2, 3, b'\0abc\0')
+    yield Case('data of a message').add(stuffed(m) + b'\0').read().tell('d 5', f"data {digest(m[17:-2])}").tell('d 4104', f"data {digest(m[17:] + stuffed(m)[len(m):] + bytes([0xa5]) * (4104 - len(stuffed(m)) + 17))}").tell('d 4105', 'refused 9')
+
+
+def main():
+    all_cases = list(cases())
+    given = ''.join('\n'.join(c.commands + ['.']) + '\n' for c in all_cases)
+    wanted = ''.join(c.line + '\n' for c in all_cases)
+    what = sys.argv[1] if len(sys.argv) > 1 else ''
+    if what == 'input':
+        sys.stdout.write(given)
+    elif what == 'expected':
+        sys.stdout.write(wanted)
+    elif what == 'check':
+        crate = os.path.join(os.path.dirname(os.path.abspath(__file__)), '..', 'crates', 'line_cases')
+        for name, text in (('stdin', given), ('stdout', wanted)):
+            with open(os.path.join(crate, name), encoding='ascii') as f:
+                if f.read() != text:
+                    sys.exit(f'crates/line_cases/{name} is not what tests/line_cases.py works out')
+        print(f'line_cases: {len(all_cases)} cases worked out alike')
+    else:
+        sys.exit(__doc__)
+
+
+main()
