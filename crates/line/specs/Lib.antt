@@ -6,3 +6,7 @@ pub mod Message
 pub mod Cobs
 pub mod Frame
 pub mod Judge
+pub mod Runs
+pub mod Decoding
+pub mod Reader
+pub mod Writer

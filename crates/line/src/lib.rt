@@ -1,3 +1,7 @@
-// The line layer of document 01: its meaning stands in specs/.
-// Assumes nothing.
+// The line layer of document 01: checksum, COBS frames, messages; the reader and the writer.
+// No public function has a `requires`; each promise settles the result and every byte lent.
+mod cobs;
+pub mod reader;
+mod scan;
 pub mod sums;
+pub mod writer;

@@ -14,7 +14,7 @@ use Rattle.octets.specs.Bytes.{Byte, Each}
 use Rattle.line.specs.Limits.{longest-form}
 use Rattle.line.specs.Message.{Message, InRange, message}
 use Rattle.line.specs.Cobs.{groups, cobs, groupBytes, uncobs}
-use Rattle.line_claims.specs.MessageLaws.{length-message}
+use Rattle.line.proofs.Message.{length-message}
 
 -- ---- reading gives the list back
 

@@ -10,7 +10,8 @@ use Rattle.line.specs.Message.{Message, InRange, body, message}
 use Rattle.line.specs.Cobs.{cobs}
 use Rattle.line.specs.Judge.{good, judgeFields, judgeLength, judgeForm, judge}
 use Rattle.line_claims.specs.CobsClaims.{round-trip, form-fits}
-use Rattle.line_claims.specs.MessageLaws.{length-message, body-read, checksum-read, magic-read, fields-read}
+use Rattle.line.proofs.Message.{length-message}
+use Rattle.line_claims.specs.MessageLaws.{body-read, checksum-read, magic-read, fields-read}
 
 fields-good : (m : Message) → InRange m → judgeFields (message m) ≡ good m
 unfolding judgeFields

@@ -6,3 +6,9 @@ pub mod CobsClaims
 pub mod JudgeClaim
 pub mod WireClaim
 pub mod ChecksumClaim
+pub mod SplitLaws
+pub mod WriterClaim
+pub mod Calls
+pub mod Streams
+pub mod ReaderClaim
+pub mod Demand3

@@ -1,4 +1,4 @@
--- Laws of a message's bytes: how many there are, that each is a byte, and the parts that are read back from them.
+-- Laws of a message's bytes: that each is a byte, and the parts that are read back from them.
 -- Assumes nothing.
 use mathlib.Core.Path.{_≡_, refl}
 use mathlib.Core.List.{List, [], _∷_, _++_}
@@ -13,17 +13,8 @@ use Rattle.line.specs.Limits.{header-length, checksum-length, shortest-message}
 use Rattle.line.specs.Checksum.{checksum}
 use Rattle.line.specs.Message.{magic, Message, InRange, body, message}
 use Rattle.line.proofs.Checksum.{checksum-bound}
+use Rattle.line.proofs.Message.{length-body, length-message}
 use Rattle.line.specs.Judge.{bodyOf, checksumOf, magicOf, fields}
-
--- ---- how many
-
-pub length-body : (m : Message) → length (body m) ≡ header-length + length (m .payload)
-unfolding body
-length-body m = simp (length-append, length-bytes) (omega arith)
-
-pub length-message : (m : Message) → length (message m) ≡ shortest-message + length (m .payload)
-unfolding message
-length-message m = simp (length-append, length-bytes, length-body) (omega arith)
 
 -- ---- bytes
 

@@ -1,0 +1,182 @@
+-- The laws of decoding a COBS form: what its measured length says of it, and what one group of it gives.
+-- Assumes nothing.
+use mathlib.Core.Path.{_≡_, refl, sym, ap, _∙_}
+use mathlib.Core.Bool.{Bool, true, false, cond}
+use mathlib.Core.List.{List, [], _∷_, _++_}
+use mathlib.Core.Option.{Option, none, some, Option·map}
+use Prim.Native.Nat.{ℕ, zero, suc, _+_, _-_, _≤_, _<_}
+use native.Mathlib.Numerals.{add-one}
+use native.Mathlib.Omega.{arith}
+use lib.Dec.{eqb, leb, ltb, leb·suc-suc}
+use lib.ListN.{length, take, drop, getD, length-append, drop-of-length-le}
+use lib.Seq.{slice, slice-cons, length-slice, length-take-le, drop-drop}
+use borrow.Author.Tests.{eq-eqb, ne-eqb}
+use Rattle.line.specs.declared.cobs.Measured.{Measured}
+use Rattle.line.specs.declared.cobs.Measured.the-variants.{Bad, Length}
+use Rattle.line.specs.Cobs.{zeros, groupBytes, uncobs}
+use Rattle.line.specs.Decoding.{bit, measured, plainGroup, plain}
+
+-- ---- the plain bytes are what a form decodes to, and no longer than the form
+
+-- where anything decodes, it is d
+Gives : Option (List ℕ) → List ℕ → Type 0
+Gives none d = Unit {0}
+Gives (some xs) d = xs ≡ d
+
+gives-map : (ys : List ℕ) (r : Option (List ℕ)) (d : List ℕ) → Gives r d → Gives (Option·map (λ xs. ys ++ xs) r) (ys ++ d)
+unfolding Gives
+gives-map ys none d h = tt
+gives-map ys (some xs) d h = ap (λ (l : List ℕ). ys ++ l) h
+
+gives-unless : (t : Bool) (r : Option (List ℕ)) (d : List ℕ) → Gives r d → Gives (cond t none r) d
+unfolding Gives
+gives-unless true r d h = tt
+gives-unless false r d h = h
+
+gives-end : (left : ℕ) (z : Bool) → Gives (groupBytes left z []) []
+unfolding Gives groupBytes
+gives-end zero z = refl
+gives-end (suc left) z = tt
+
+gives-plain : (left : ℕ) (z : Bool) (bs : List ℕ) → Gives (groupBytes left z bs) (plainGroup left z bs)
+unfolding groupBytes plainGroup
+gives-plain left z [] = gives-end left z
+gives-plain zero z (c ∷ cs) = gives-unless (eqb c 0) _ _ (gives-map (zeros z) _ _ (gives-plain (c - 1) (ltb c 255) cs))
+gives-plain (suc left) z (b ∷ bs) = gives-map (b ∷ []) _ _ (gives-plain left z bs)
+
+bad-none : (r : Option (List ℕ)) → Bad ≡ measured r → r ≡ none
+unfolding measured
+bad-none none e = refl
+bad-none (some xs) e = let z : _≡_ {A = ℕ} 0 1 = cc in absurd (omega arith)
+
+length-some : (r : Option (List ℕ)) (d : List ℕ) (k : ℕ) → Gives r d → Length k ≡ measured r → (r ≡ some d) × (length d ≡ k)
+unfolding measured Gives
+length-some none d k h e = let z : _≡_ {A = ℕ} 0 1 = cc in absurd (omega arith)
+length-some (some xs) d k h e = (ap some h, cc)
+
+-- a form that is measured as bad is none
+pub measured-bad : (f : List ℕ) → Bad ≡ measured (uncobs f) → uncobs f ≡ none
+measured-bad f e = bad-none (uncobs f) e
+
+-- a form with a length decodes to its plain bytes, and they have that length
+pub measured-length : (f : List ℕ) (k : ℕ) → Length k ≡ measured (uncobs f) → (uncobs f ≡ some (plain f)) × (length (plain f) ≡ k)
+unfolding uncobs plain
+measured-length f k e = length-some (groupBytes 0 false f) (plainGroup 0 false f) k (gives-plain 0 false f) e
+
+pub bit-most : (z : Bool) → bit z ≤ 1
+bit-most true = omega arith
+bit-most false = omega arith
+
+pub length-zeros : (z : Bool) → length (zeros z) ≡ bit z
+length-zeros true = refl
+length-zeros false = refl
+
+group-length : (left : ℕ) (z : Bool) (bs : List ℕ) → length (plainGroup left z bs) ≤ length bs + bit z
+unfolding plainGroup
+group-length zero z [] = omega arith
+group-length (suc left) z [] = omega arith
+group-length (suc left) z (b ∷ bs) = omega (arith, group-length left z bs)
+group-length zero z (c ∷ cs) =
+    simp (length-append, length-zeros) (omega (arith, bit-most (ltb c 255), group-length (c - 1) (ltb c 255) cs))
+
+pub plain-length : (f : List ℕ) → length (plain f) ≤ length f
+unfolding plain
+plain-length f = omega (arith, group-length 0 false f)
+
+-- ---- one group
+
+-- whether a zero follows a group, as the code tests its code byte
+pub holds-test : (c : ℕ) → leb c 254 ≡ ltb c 255
+holds-test c = sym (leb·suc-suc c 254)
+
+-- the length of what decodes, with o bytes before it
+pub counted : ℕ → Option (List ℕ) → Measured
+counted o none = Bad
+counted o (some xs) = Length (o + length xs)
+
+counted-all : (r : Option (List ℕ)) → measured r ≡ counted 0 r
+unfolding measured counted
+counted-all none = refl
+counted-all (some xs) = ap Length (omega arith)
+
+pub counted-start : (f : List ℕ) → measured (uncobs f) ≡ counted 0 (groupBytes 0 false f)
+unfolding uncobs
+counted-start f = counted-all (groupBytes 0 false f)
+
+counted-map : (o : ℕ) (ys : List ℕ) (r : Option (List ℕ)) → counted o (Option·map (λ xs. ys ++ xs) r) ≡ counted (o + length ys) r
+unfolding counted
+counted-map o ys none = refl
+counted-map o ys (some xs) = ap Length (omega (arith, length-append ys xs))
+
+-- the bytes of a group that is there as a whole
+counted-run : (k o : ℕ) (z : Bool) (bs : List ℕ) → k ≤ length bs
+    → counted o (groupBytes k z bs) ≡ counted (o + k) (groupBytes 0 z (drop k bs))
+unfolding groupBytes
+counted-run zero o z bs h = ap (λ (p : ℕ). counted p (groupBytes 0 z bs)) (omega arith)
+counted-run (suc k) o z [] h = absurd (omega arith)
+counted-run (suc k) o z (b ∷ bs) h =
+    let e : o + 1 + k ≡ o + suc k = omega arith in
+    counted-map o (b ∷ []) (groupBytes k z bs) ∙ counted-run k (o + 1) z bs (omega arith) ∙ rw e
+
+-- a group that runs past the end
+short-none : (k : ℕ) (z : Bool) (bs : List ℕ) → length bs < k → groupBytes k z bs ≡ none
+unfolding groupBytes
+short-none zero z bs h = absurd (omega arith)
+short-none (suc k) z [] h = refl
+short-none (suc k) z (b ∷ bs) h = rw (short-none k z bs (omega arith))
+
+-- a code byte
+code-zero : (z : Bool) (c : ℕ) (cs : List ℕ) → c ≡ 0 → groupBytes 0 z (c ∷ cs) ≡ none
+unfolding groupBytes
+code-zero z c cs e = rw (eq-eqb c 0 e)
+
+code-other : (z : Bool) (c : ℕ) (cs : List ℕ) → (c ≡ 0 → ⊥)
+    → groupBytes 0 z (c ∷ cs) ≡ Option·map (λ xs. zeros z ++ xs) (groupBytes (c - 1) (ltb c 255) cs)
+unfolding groupBytes
+code-other z c cs e = rw (ne-eqb c 0 e)
+
+-- the group at a place of the first n bytes of s
+module _ (s : List ℕ) (n i : ℕ) where
+  pub slice-next : i < n → n ≤ length s → slice i n s ≡ getD s i 0 ∷ slice (i + 1) n s
+  slice-next h k = rw add-one (slice-cons i n s 0 h k)
+
+  pub slice-past : n ≤ i → n ≤ length s → slice i n s ≡ []
+  slice-past h k = let l : length (take n s) ≤ i = rw (length-take-le n s k) h in drop-of-length-le (take n s) l
+
+  module _ (z : Bool) (o : ℕ) where
+    -- the length of the whole, where o bytes stand before the group
+    abbrev pub Counted : Measured
+    Counted = counted o (groupBytes 0 z (slice i n s))
+
+    pub counted-end : n ≤ i → n ≤ length s → Length o ≡ Counted
+    unfolding counted groupBytes
+    counted-end h k = rw (slice-past h k) (ap Length (omega arith))
+
+    module _ (c : ℕ) (h : i < n) (k : n ≤ length s) (e : c ≡ getD s i 0) where
+      at-code : slice i n s ≡ c ∷ slice (i + 1) n s
+      at-code = rw e (slice-next h k)
+
+      pub counted-zero : c ≡ 0 → Bad ≡ Counted
+      unfolding counted
+      counted-zero f = rw (at-code, code-zero z c (slice (i + 1) n s) f)
+
+      pub counted-short : (c ≡ 0 → ⊥) → n - i < c → Bad ≡ Counted
+      unfolding counted
+      counted-short f l =
+          let m = length-slice (i + 1) n s k in
+          rw (at-code, code-other z c (slice (i + 1) n s) f, short-none (c - 1) (ltb c 255) (slice (i + 1) n s) (omega arith))
+
+      pub counted-group : (c ≡ 0 → ⊥) → c ≤ n - i → Counted ≡ counted (o + bit z + (c - 1)) (groupBytes 0 (leb c 254) (slice (i + c) n s))
+      counted-group f l =
+          let m = length-slice (i + 1) n s k in
+          let p : i + 1 + (c - 1) ≡ i + c = omega arith in
+          rw (
+            at-code,
+            code-other z c (slice (i + 1) n s) f,
+            counted-map o (zeros z),
+            length-zeros,
+            counted-run (c - 1) (o + bit z) (ltb c 255) (slice (i + 1) n s) (omega arith),
+            drop-drop,
+            p,
+            holds-test,
+          )

@@ -1,0 +1,88 @@
+-- The state since the last 00: which bytes it holds, and what the 00 behind them gives.
+-- Assumes nothing.
+use mathlib.Core.Path.{_≡_, refl, sym, ap, _∙_}
+use mathlib.Core.Bool.{false}
+use mathlib.Core.List.{List}
+use mathlib.Core.Option.{Option, none, some}
+use Prim.Native.Nat.{ℕ, _+_, _-_, _≤_, _<_}
+use native.Mathlib.Nat.{add-zero, zero-add}
+use native.Mathlib.Omega.{arith}
+use lib.Dec.{ltb, eqb}
+use lib.ListN.{length, take, length-drop, length-take}
+use lib.Seq.{length-take-le}
+use borrow.Author.Tests.{le-ltb}
+use Rattle.octets.specs.Bytes.{run, overlay, number}
+use Rattle.octets.proofs.Overlay.{run-take, length-overlay, overlay-inside, overlay-part, overlay-before}
+use Rattle.line.specs.Limits.{header-length, checksum-length, shortest-message, longest-data, longest-form}
+use Rattle.line.specs.Judge.{misfit, payloadOf}
+use Rattle.line.specs.Cobs.{uncobs}
+use Rattle.line.specs.Reader.{frame-place, state-length, overlong, count, counted, kept, pushes}
+use Rattle.line.specs.Reader.{failed, Settled, settled, unpacked, settle, finish, dataOf}
+use Rattle.line.proofs.State.{Ready, cond-by, ready-valid, length-counted, count-counted, run-counted, pushes-fit, pushes-some}
+use Rattle.line.proofs.Judging.{finish-over, finish-form}
+use Rattle.line.proofs.Lent.{fit-length}
+
+-- ---- what a 00 gives behind the bytes t, where s keeps none of a frame
+
+module _ (s t : List ℕ) (h : state-length ≤ length s) (z : count s ≡ 0) where
+  ready : Ready s
+  ready = (h, omega arith)
+
+  fitted : 0 < length t → length t ≤ longest-form → pushes s t ≡ counted (length t) (overlay frame-place t s)
+  fitted k l = rw (z, zero-add, add-zero) at (pushes-fit t s ready k (omega arith))
+
+  pub held-form : 0 < length t → length t ≤ longest-form → finish (pushes s t) ≡ settle t (counted 0 (pushes s t))
+  held-form k l =
+      let o = overlay frame-place t s in
+      let e : length o ≡ length s = length-overlay frame-place t s (omega arith) in
+      let n = length-counted (length t) o (omega arith) in
+      let c = count-counted (length t) o (omega arith) (omega arith) in
+      let f = finish-form (counted (length t) o) (λ x. omega arith) (omega arith) (omega arith) in
+      let r = run-counted 0 (counted (length t) o) (omega arith) (length t) ∙ run-counted (length t) o (omega arith) (length t) in
+      rw (fitted k l) (sym (rw (c, r, overlay-inside frame-place t s (omega arith)) at f))
+
+  -- more bytes than the longest form has
+  pub held-over : longest-form < length t → finish (pushes s t) ≡ settled (failed 1 none) (counted 0 (pushes s t))
+  held-over l =
+      let room = longest-form - count s in
+      let o = overlay (frame-place + count s) (take room t) s in
+      let m = length-take-le room t (omega arith) in
+      let e : length o ≡ length s = length-overlay (frame-place + count s) (take room t) s (omega arith) in
+      let c = count-counted overlong o (omega arith) (omega arith) in
+      rw (pushes-some t s ready (omega arith) (omega arith) (omega arith)) (sym (finish-over (counted overlong o) (omega arith)))
+
+-- ---- the state that a 00 leaves
+
+module _ (s : List ℕ) (h : state-length ≤ length s) where
+  unpacked-keeps : (form : Option (List ℕ)) → (length (unpacked form s) ≡ length s) × (count (unpacked form s) ≡ count s)
+  unfolding unpacked count
+  unpacked-keeps none = (refl, refl)
+  unpacked-keeps (some xs) =
+      cond-by (λ (x : List ℕ). (length x ≡ length s) × (number (run 0 2 x) ≡ number (run 0 2 s))) (misfit xs) _ _ (λ e. (refl, refl)) (λ e.
+      let l = fit-length xs e in
+      (length-overlay frame-place xs s (omega arith), ap number (overlay-before frame-place 0 2 xs s (omega arith) (omega arith))))
+
+  -- the data of a message, in its bytes
+  pub data-unpacked : (xs : List ℕ) → count s ≤ overlong → misfit xs ≡ false
+      → dataOf (overlay frame-place xs s) (length (payloadOf xs)) ≡ payloadOf xs
+  unfolding dataOf unpacked
+  data-unpacked xs k e =
+      let n = length xs - shortest-message in
+      let l = fit-length xs e in
+      let u : (length (overlay frame-place xs s) ≡ length s) × (count (overlay frame-place xs s) ≡ count s) = rw e at (unpacked-keeps (some xs)) in
+      let m : length (payloadOf xs) ≡ n = simp (length-drop, length-take) (omega arith) in
+      let t : header-length + n ≡ length xs - checksum-length = omega arith in
+      rw (m, ready-valid (overlay frame-place xs s) (omega arith, omega arith), le-ltb longest-data n (omega arith))
+      (rw (overlay-part frame-place header-length n xs s (omega arith) (omega arith), run-take header-length n xs, t))
+
+pub finish-leaves : (s : List ℕ) → state-length ≤ length s → (length (finish s .state) ≡ length s) × (count (finish s .state) ≡ 0)
+unfolding finish settle
+finish-leaves s h =
+    let l = length-counted 0 s (omega arith) in
+    let c = count-counted 0 s (omega arith) (omega arith) in
+    let u = unpacked-keeps (counted 0 s) (omega arith) (uncobs (kept s)) in
+    cond-by Leaves (eqb (count s) 0) _ _ (λ e. (l, c)) (λ e.
+    cond-by Leaves (ltb longest-form (count s)) _ _ (λ f. (l, c)) (λ f. (u .0 ∙ l, u .1 ∙ c)))
+  where
+    Leaves : Settled → Type 0
+    Leaves x = (length (x .state) ≡ length s) × (count (x .state) ≡ 0)

@@ -1,0 +1,107 @@
+-- In the middle of decoding a COBS form in place: the bytes decoded so far stand at the start, and what is to be read is as it was.
+-- Assumes nothing.
+use mathlib.Core.Path.{_≡_, refl, sym, ap, _∙_}
+use mathlib.Core.Bool.{Bool, true, false, cond}
+use mathlib.Core.List.{List, [], _∷_, _++_, append-assoc, append-nil}
+use Prim.Native.Nat.{ℕ, zero, suc, min, _+_, _-_, _≤_, _<_}
+use native.Mathlib.Nat.{zero-add}
+use native.Mathlib.Omega.{arith}
+use lib.Dec.{leb, ltb}
+use lib.ListN.{length, take, drop, getD, set, length-append}
+use lib.Seq.{slice, length-slice, take-take, drop-drop}
+use Rattle.octets.specs.Bytes.{run, overlay, movedDown}
+use Rattle.octets.proofs.Overlay.{run-take, length-run, length-overlay, overlay-none, overlay-after, overlay-next, overlay-more, overlay-getD-after, movedDown-fits}
+use Rattle.line.specs.Cobs.{zeros}
+use Rattle.line.specs.Decoding.{bit, plainGroup, plain}
+use Rattle.line.proofs.Decoding.{bit-most, length-zeros, holds-test, slice-next, slice-past}
+
+-- a run of the first n bytes
+run-within : (j k n : ℕ) (s : List ℕ) → j + k ≤ n → run j k (take n s) ≡ run j k s
+run-within j k n s h = rw (run-take j k (take n s), take-take (j + k) n s h, run-take j k s)
+
+-- the bytes of a group, as many as there are
+plain-run : (left k : ℕ) (z : Bool) (bs : List ℕ) → k ≡ min left (length bs)
+    → plainGroup left z bs ≡ take k bs ++ plainGroup 0 z (drop k bs)
+unfolding plainGroup
+plain-run zero zero z bs e = refl
+plain-run zero (suc k) z bs e = absurd (omega arith)
+plain-run (suc left) zero z [] e = refl
+plain-run (suc left) (suc k) z [] e = absurd (omega arith)
+plain-run (suc left) zero z (b ∷ bs) e = absurd (omega arith)
+plain-run (suc left) (suc k) z (b ∷ bs) e = ap (λ (l : List ℕ). b ∷ l) (plain-run left k z bs (omega arith))
+
+-- a code byte and the bytes of its group
+plain-code : (z : Bool) (c k : ℕ) (cs : List ℕ) → k ≡ min (c - 1) (length cs)
+    → plainGroup 0 z (c ∷ cs) ≡ zeros z ++ (take k cs ++ plainGroup 0 (ltb c 255) (drop k cs))
+unfolding plainGroup
+plain-code z c k cs e = ap (λ (l : List ℕ). zeros z ++ l) (plain-run (c - 1) k (ltb c 255) cs e)
+
+-- a held zero, put after the bytes decoded
+zero-put : (z : Bool) (d s : List ℕ) → length d < length s
+    → cond z (set (overlay 0 d s) (length d) 0) (overlay 0 d s) ≡ overlay 0 (d ++ zeros z) s
+zero-put true d s h = rw zero-add at (overlay-more 0 0 d s (omega arith))
+zero-put false d s h = rw append-nil
+
+-- a run, moved down behind the bytes decoded
+run-moved : (d s : List ℕ) (from k : ℕ) → length d ≤ from → from + k ≤ length s
+    → movedDown (overlay 0 d s) from (length d) k ≡ overlay 0 (d ++ run from k s) s
+run-moved d s from k h l =
+    let e = length-overlay 0 d s (omega arith) in
+    let n = overlay-next 0 d (run from k s) s (omega arith) in
+    movedDown-fits (overlay 0 d s) from (length d) k h (omega arith)
+    ∙ rw (overlay-after 0 from k d s (omega arith) (omega arith)) (rw zero-add at n)
+
+length-held : (d : List ℕ) (z : Bool) → length (d ++ zeros z) ≡ length d + bit z
+length-held d z = simp (length-append, length-zeros)
+
+-- one group, put after the bytes decoded
+group-put : (z : Bool) (d s : List ℕ) (from k : ℕ) → length d + bit z ≤ from → length d < length s → from + k ≤ length s
+    → movedDown (cond z (set (overlay 0 d s) (length d) 0) (overlay 0 d s)) from (length d + bit z) k
+    ≡ overlay 0 ((d ++ zeros z) ++ run from k s) s
+group-put z d s from k h l f =
+    let e = length-held d z in
+    rw (zero-put z d s l, ← e) (run-moved (d ++ zeros z) s from k (omega arith) f)
+
+-- one group, read at a place of the first n bytes of s
+group-read : (z : Bool) (s : List ℕ) (n i c k : ℕ) → i < n → n ≤ length s → c ≡ getD s i 0 → k ≡ min (c - 1) (n - (i + 1))
+    → plainGroup 0 z (slice i n s) ≡ zeros z ++ (run (i + 1) k s ++ plainGroup 0 (leb c 254) (slice (i + 1 + k) n s))
+group-read z s n i c k h l e f =
+    let u = length-slice (i + 1) n s l in
+    let p = plain-code z c k (slice (i + 1) n s) (omega arith) in
+    rw (slice-next s n i h l, ← e) (rw (run-within (i + 1) k n s (omega arith), drop-drop, ← holds-test) at p)
+
+-- t is s in the middle of the decoding of its first n bytes: i bytes are read, o are decoded, and z says whether a zero is held
+pub record Middle (s : List ℕ) (n : ℕ) (t : List ℕ) (z : Bool) (o i : ℕ) : Type 0 where
+  pub decoded : List ℕ
+  pub long : length decoded ≡ o
+  pub behind : o + bit z ≤ i
+  pub stands : t ≡ overlay 0 decoded s
+  pub whole : plain (take n s) ≡ decoded ++ plainGroup 0 z (slice i n s)
+
+pub middle-start : (s : List ℕ) (n : ℕ) → Middle s n s false 0 0
+unfolding plain
+middle-start s n = record { decoded = []; long = refl; behind = omega arith; stands = sym (overlay-none 0 s); whole = refl }
+
+pub middle-end : (s : List ℕ) (n : ℕ) (t : List ℕ) (z : Bool) (o i : ℕ) → Middle s n t z o i → n ≤ i → n ≤ length s
+    → t ≡ overlay 0 (plain (take n s)) s
+unfolding plainGroup
+middle-end s n t z o i m h l =
+    let e : plain (take n s) ≡ m .decoded = m .whole ∙ rw (slice-past s n i h l, append-nil) in
+    rw e (m .stands)
+
+-- one group, whose code byte is c
+pub middle-next : (s : List ℕ) (n : ℕ) (t : List ℕ) (z : Bool) (o i c k : ℕ) → Middle s n t z o i → i < n → n ≤ length s
+    → c ≡ getD t i 0 → k ≡ min (c - 1) (n - (i + 1))
+    → Middle s n (movedDown (cond z (set t o 0) t) (i + 1) (o + bit z) k) (leb c 254) (o + bit z + k) (i + 1 + k)
+middle-next s n t z o i c k m h l e f =
+    let d = m .decoded in
+    let p : getD t i 0 ≡ getD s i 0 = rw (m .stands) (overlay-getD-after 0 i 0 d s (omega arith) (omega arith)) in
+    let q = length-held d z in
+    let r = length-run (i + 1) k s (omega arith) in
+    record {
+      decoded = (d ++ zeros z) ++ run (i + 1) k s;
+      long = length-append (d ++ zeros z) (run (i + 1) k s) ∙ rw (q, r, m .long);
+      behind = omega (arith, bit-most (leb c 254));
+      stands = rw (m .stands, ← m .long) (group-put z d s (i + 1) k (omega arith) (omega arith) (omega arith));
+      whole = m .whole ∙ rw (group-read z s n i c k h l (e ∙ p) f) (simp append-assoc);
+    }

@@ -1,0 +1,116 @@
+-- Laws of the tests on a frame's bytes, and of what they leave in the reader's state.
+-- Assumes nothing.
+use mathlib.Core.Path.{_≡_, sym, ap, _∙_}
+use mathlib.Core.Bool.{true, false, or-true}
+use mathlib.Core.List.{List}
+use mathlib.Core.Option.{none, some}
+use Prim.Native.Nat.{ℕ, _+_, _-_, _≤_, _<_}
+use native.Mathlib.Nat.{add-sub-cancel-left}
+use native.Mathlib.Omega.{arith}
+use lib.ListN.{length, take, drop, length-drop, length-take}
+use lib.Seq.{take-all}
+use borrow.Author.Tests.{eq-eqb, ne-eqb, lt-ltb, le-ltb}
+use Rattle.octets.specs.Bytes.{number, run, numberAt, overlay}
+use Rattle.octets.proofs.Overlay.{length-run, overlay-inside}
+use Rattle.line.specs.Limits.{checksum-length, shortest-message, longest-message, longest-form}
+use Rattle.line.specs.Checksum.{checksum}
+use Rattle.line.specs.Message.{magic}
+use Rattle.line.specs.Judge.{bodyOf, checksumOf, magicOf, versionOf, sequenceOf, commandOf, payloadOf, fields, judgeFields, misfit, judgeLength, judgeForm, judge}
+use Rattle.line.specs.Cobs.{uncobs}
+use Rattle.line.specs.Decoding.{measured, plain}
+use Rattle.line.specs.Reader.{frame-place, state-length, count, counted, kept, Said, empty, failed, message, told, settled, unpacked, settle, finish}
+use Rattle.line.specs.declared.cobs.Measured.{Measured}
+use Rattle.line.specs.declared.cobs.Measured.the-variants.{Bad, Length}
+use Rattle.line.proofs.Decoding.{measured-bad, measured-length}
+use Rattle.line.proofs.State.{run-counted}
+
+-- the part of a state that holds a decoded message of k bytes, as the code makes it
+pub length-part : (s : List ℕ) (k : ℕ) → frame-place + k ≤ length s → length (run frame-place (frame-place + k - frame-place) s) ≡ k
+length-part s k h = rw add-sub-cancel-left (length-run frame-place k s h)
+
+-- a decoded message of k bytes, and the numbers that are read of it
+module _ (xs : List ℕ) (k : ℕ) (e : length xs ≡ k) (h : shortest-message ≤ k) {a b q : ℕ}
+    (at-end : a ≡ numberAt 2 xs (k - checksum-length)) (of-body : b ≡ checksum (take (k - checksum-length) xs)) (sequence : q ≡ sequenceOf xs) where
+  checksum-read : a ≡ checksumOf xs
+  checksum-read = at-end ∙ rw e (ap number (take-all 2 (drop (k - 2) xs) (simp length-drop (omega arith))))
+
+  checksum-made : b ≡ checksum (bodyOf xs)
+  checksum-made = of-body ∙ rw e
+
+  pub told-checksum : (a ≡ b → ⊥) → failed 2 (some q) ≡ told (judgeFields xs)
+  unfolding told judgeFields
+  told-checksum n = rw (← checksum-read, ← checksum-made, ne-eqb a b n, sequence)
+
+  module _ {m : ℕ} (same : a ≡ b) (first : m ≡ magicOf xs) where
+    pub told-magic : (m ≡ magic → ⊥) → failed 4 (some q) ≡ told (judgeFields xs)
+    unfolding told judgeFields
+    told-magic n = rw (← checksum-read, ← checksum-made, eq-eqb a b same, ← first, ne-eqb m magic n, sequence)
+
+    pub told-good : {v d : ℕ} → m ≡ magic → v ≡ versionOf xs → d ≡ commandOf xs → message v q d (k - shortest-message) ≡ told (judgeFields xs)
+    unfolding told judgeFields fields
+    told-good g version command =
+        let l : length (payloadOf xs) ≡ k - shortest-message = simp (length-drop, length-take) (omega arith) in
+        rw (← checksum-read, ← checksum-made, eq-eqb a b same, ← first, eq-eqb m magic g, l, sequence, version, command)
+
+-- ---- a frame of at most 4,140 bytes
+
+pub form-fits : (s : List ℕ) (n : ℕ) → state-length ≤ length s → n ≤ longest-form → length (run frame-place n s) ≤ longest-form
+form-fits s n h l = omega (arith, length-run frame-place n s (omega arith))
+
+module _ (form s : List ℕ) (l : length form ≤ longest-form) where
+  judge-form : judge form ≡ judgeForm (uncobs form)
+  unfolding judge
+  judge-form = rw (le-ltb longest-form (length form) l)
+
+  settle-none : uncobs form ≡ none → settled (failed 1 none) s ≡ settle form s
+  unfolding settle told judgeForm unpacked
+  settle-none e = rw (judge-form, e)
+
+  module _ (xs : List ℕ) (e : uncobs form ≡ some xs) where
+    settle-misfit : misfit xs ≡ true → settled (failed 3 none) s ≡ settle form s
+    unfolding settle told judgeForm judgeLength unpacked
+    settle-misfit t = rw (judge-form, e, t)
+
+    settle-message : misfit xs ≡ false → settled (told (judgeFields xs)) (overlay frame-place xs s) ≡ settle form s
+    unfolding settle judgeForm judgeLength unpacked
+    settle-message t = rw (judge-form, e, t)
+
+  -- as the length of what the frame decodes to is found
+  module _ {m : Measured} (e : m ≡ measured (uncobs form)) where
+    pub settle-bad : m ≡ Bad → settled (failed 1 none) s ≡ settle form s
+    settle-bad b = settle-none (measured-bad form (sym b ∙ e))
+
+    module _ {k : ℕ} (b : m ≡ Length k) where
+      pub settle-short : k < shortest-message → settled (failed 3 none) s ≡ settle form s
+      settle-short h =
+          let p = measured-length form k (sym b ∙ e) in
+          settle-misfit (plain form) (p .0) (rw (p .1, lt-ltb k shortest-message h))
+
+      pub settle-long : longest-message < k → settled (failed 3 none) s ≡ settle form s
+      settle-long h =
+          let p = measured-length form k (sym b ∙ e) in
+          settle-misfit (plain form) (p .0) (rw (p .1, lt-ltb longest-message k h, or-true))
+
+      pub settle-fits : shortest-message ≤ k → k ≤ longest-message → frame-place ≤ length s → {t : List ℕ} {a : Said}
+          → t ≡ overlay frame-place (plain form) s → a ≡ told (judgeFields (run frame-place k t)) → settled a t ≡ settle form s
+      settle-fits h j i u v =
+          let p = measured-length form k (sym b ∙ e) in
+          let w = settle-message (plain form) (p .0) (rw (p .1, le-ltb k shortest-message h, le-ltb longest-message k j)) in
+          let o = rw (p .1) at (overlay-inside frame-place (plain form) s i) in
+          cc
+
+-- ---- the 00 of a frame
+
+module _ (s : List ℕ) where
+  pub finish-empty : count s ≡ 0 → settled empty (counted 0 s) ≡ finish s
+  unfolding finish
+  finish-empty e = rw (eq-eqb (count s) 0 e)
+
+  pub finish-over : longest-form < count s → settled (failed 1 none) (counted 0 s) ≡ finish s
+  unfolding finish
+  finish-over h = rw (ne-eqb (count s) 0 (λ e. omega arith), lt-ltb longest-form (count s) h)
+
+  pub finish-form : (count s ≡ 0 → ⊥) → count s ≤ longest-form → frame-place ≤ length s
+      → settle (run frame-place (count s) (counted 0 s)) (counted 0 s) ≡ finish s
+  unfolding finish kept
+  finish-form n h l = rw (ne-eqb (count s) 0 n, le-ltb longest-form (count s) h, run-counted 0 s l (count s))

@@ -1,0 +1,74 @@
+-- Laws of a call of `read`: a piece without a 00, and one up to its first 00.
+-- Assumes nothing.
+use mathlib.Core.Path.{_≡_, refl, sym, ap, _∙_}
+use mathlib.Core.Bool.{true, false}
+use mathlib.Core.List.{List, [], _∷_}
+use Prim.Native.Nat.{ℕ, zero, suc, _+_, _≤_, _<_}
+use native.Mathlib.Numerals.{add-one}
+use native.Mathlib.Omega.{arith}
+use lib.ListN.{length, take}
+use lib.Seq.{take-length}
+use borrow.Author.Tests.{ne-eqb}
+use Rattle.line.specs.Runs.{nonzero}
+use Rattle.line.specs.Reader.{Said, refused, more, valid, pushed, pushes, Settled, settled, finish, Outcome, next, readPiece, reading}
+use Rattle.line.proofs.Runs.{nonzero-length}
+use Rattle.line.proofs.State.{Ready, valid-ready, ready-pushes}
+
+abbrev pub outcomeOf : ℕ → Said → List ℕ → Outcome
+outcomeOf n a s = record { used = n; answer = a; state = s }
+
+-- the bytes ahead of a piece's first 00
+abbrev pub ahead : List ℕ → List ℕ
+ahead p = nonzero (length p) p
+
+pub ahead-most : (p : List ℕ) → length (ahead p) ≤ length p
+ahead-most p = nonzero-length (length p) p
+
+read-next : (s : List ℕ) (b : ℕ) (p : List ℕ) → readPiece s (suc b ∷ p) ≡ next (readPiece (pushed s (suc b)) p)
+unfolding readPiece
+read-next s b p = rw (ne-eqb (suc b) 0 (λ e. omega arith))
+
+pub read-more : (s p : List ℕ) → length (ahead p) ≡ length p → outcomeOf (length p) more (pushes s p) ≡ readPiece s p
+unfolding readPiece next pushes nonzero
+read-more s [] e = refl
+read-more s (zero ∷ p) e = absurd (omega arith)
+read-more s (suc b ∷ p) e = ap next (read-more (pushed s (suc b)) p (omega arith)) ∙ sym (read-next s b p)
+
+-- what the 00 behind the first n bytes of a piece gives
+abbrev pub stopped : List ℕ → ℕ → List ℕ → Outcome
+stopped s n p = outcomeOf (suc n) (finish (pushes s (take n p)) .answer) (finish (pushes s (take n p)) .state)
+
+pub read-stop : (s p : List ℕ) → length (ahead p) < length p → stopped s (length (ahead p)) p ≡ readPiece s p
+unfolding readPiece next pushes nonzero
+read-stop s [] h = absurd (omega arith)
+read-stop s (zero ∷ p) h = refl
+read-stop s (suc b ∷ p) h = ap next (read-stop (pushed s (suc b)) p (omega arith)) ∙ sym (read-next s b p)
+
+-- ---- a call
+
+pub reading-refused : (s p : List ℕ) → valid s ≡ false → outcomeOf 0 (refused 12) s ≡ reading s p
+unfolding reading
+reading-refused s p e = rw e
+
+-- n bytes of a piece, as far as its first 00, are kept in the state t
+module _ (s p : List ℕ) (v : valid s ≡ true) {n : ℕ} (e : n ≡ length (ahead p)) {t : List ℕ} (kept : t ≡ pushes s (take n p)) where
+  accepted : reading s p ≡ readPiece s p
+  unfolding reading
+  accepted = rw v
+
+  pub reading-ready : Ready t
+  reading-ready =
+      let r = valid-ready s v in
+      let q = ready-pushes (take n p) s r in
+      rw kept (omega arith, q .1)
+
+  pub reading-more : n ≡ length p → outcomeOf n more t ≡ reading s p
+  reading-more f =
+      let m = read-more s p (sym e ∙ f) in
+      cc (accepted, take-length p)
+
+  pub reading-stop : (n ≡ length p → ⊥) → {a : Said} {u : List ℕ} → settled a u ≡ finish t → outcomeOf (n + 1) a u ≡ reading s p
+  reading-stop f w =
+      let l = ahead-most p in
+      let m = read-stop s p (omega arith) in
+      cc (accepted, add-one n, ap (λ (o : Settled). o .answer) w, ap (λ (o : Settled). o .state) w)

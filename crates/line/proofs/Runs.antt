@@ -1,0 +1,97 @@
+-- The laws of runs of bytes that are not zero.
+-- Assumes nothing.
+use Prim.Native.Nat.{ℕ, zero, suc, _+_, _-_, _≤_, _<_, min}
+use mathlib.Core.Path.{_≡_, refl, ap}
+use mathlib.Core.List.{List, [], _∷_}
+use native.Mathlib.Nat.{add-zero, zero-add, sub-zero}
+use native.Mathlib.Numerals.{add-one, unary-clauses}
+use native.Mathlib.Omega.{arith}
+use lib.ListN.{length, take, drop, getD, length-drop}
+use lib.Seq.{drop-cons}
+use Rattle.octets.specs.Bytes.{Each}
+use Rattle.line.specs.Runs.{nonzero}
+
+-- ---- what a run is
+
+pub nonzero-prefix : (most : ℕ) (xs : List ℕ) → nonzero most xs ≡ take (length (nonzero most xs)) xs
+unfolding nonzero
+nonzero-prefix zero xs = refl
+nonzero-prefix (suc most) [] = refl
+nonzero-prefix (suc most) (zero ∷ xs) = refl
+nonzero-prefix (suc most) (suc b ∷ xs) = ap (λ (l : List ℕ). suc b ∷ l) (nonzero-prefix most xs)
+
+pub nonzero-each : (most : ℕ) (xs : List ℕ) → Each (λ b. 1 ≤ b) (nonzero most xs)
+unfolding nonzero
+nonzero-each zero xs = tt
+nonzero-each (suc most) [] = tt
+nonzero-each (suc most) (zero ∷ xs) = tt
+nonzero-each (suc most) (suc b ∷ xs) = (omega arith, nonzero-each most xs)
+
+pub nonzero-most : (most : ℕ) (xs : List ℕ) → length (nonzero most xs) ≤ most
+unfolding nonzero
+nonzero-most zero xs = omega arith
+nonzero-most (suc most) [] = omega arith
+nonzero-most (suc most) (zero ∷ xs) = omega arith
+nonzero-most (suc most) (suc b ∷ xs) = omega (arith, nonzero-most most xs)
+
+pub nonzero-length : (most : ℕ) (xs : List ℕ) → length (nonzero most xs) ≤ length xs
+unfolding nonzero
+nonzero-length zero xs = omega arith
+nonzero-length (suc most) [] = omega arith
+nonzero-length (suc most) (zero ∷ xs) = omega arith
+nonzero-length (suc most) (suc b ∷ xs) = omega (arith, nonzero-length most xs)
+
+-- a run that is shorter than it may be ends at a zero
+pub nonzero-stop : (most : ℕ) (xs : List ℕ) → length (nonzero most xs) < most → length (nonzero most xs) < length xs
+    → getD xs (length (nonzero most xs)) 0 ≡ 0
+unfolding nonzero
+nonzero-stop zero xs h l = absurd (omega arith)
+nonzero-stop (suc most) [] h l = absurd (omega arith)
+nonzero-stop (suc most) (zero ∷ xs) h l = refl
+nonzero-stop (suc most) (suc b ∷ xs) h l = nonzero-stop most xs (omega arith) (omega arith)
+
+-- the run of a beginning
+pub nonzero-take : (m n : ℕ) (xs : List ℕ) → nonzero m (take n xs) ≡ nonzero (min m n) xs
+unfolding nonzero
+nonzero-take zero n xs = simp unary-clauses
+nonzero-take (suc m) zero xs = simp unary-clauses
+nonzero-take (suc m) (suc n) [] = simp unary-clauses
+nonzero-take (suc m) (suc n) (zero ∷ xs) = simp unary-clauses
+nonzero-take (suc m) (suc n) (suc b ∷ xs) = simp (unary-clauses, nonzero-take m n xs)
+
+-- ---- a run byte by byte
+
+-- the length of a run of which k bytes are passed
+abbrev pub reached : ℕ → ℕ → List ℕ → ℕ
+reached most k xs = k + length (nonzero (most - k) (drop k xs))
+
+pub reached-none : (most : ℕ) (xs : List ℕ) → length (nonzero most xs) ≡ reached most 0 xs
+reached-none most xs = simp (sub-zero, zero-add)
+
+nonzero-more : (most b : ℕ) (xs : List ℕ) → 0 < most → 0 < b → length (nonzero most (b ∷ xs)) ≡ suc (length (nonzero (most - 1) xs))
+unfolding nonzero
+nonzero-more zero b xs h l = absurd (omega arith)
+nonzero-more (suc most) zero xs h l = absurd (omega arith)
+nonzero-more (suc most) (suc b) xs h l = simp unary-clauses
+
+nonzero-zero : (most : ℕ) (xs : List ℕ) → nonzero most (0 ∷ xs) ≡ []
+unfolding nonzero
+nonzero-zero zero xs = refl
+nonzero-zero (suc most) xs = refl
+
+-- a byte that is not zero is next, or a zero, or the run's end
+module _ (most k : ℕ) (xs : List ℕ) where
+  pub reached-more : k < most → k < length xs → 0 < getD xs k 0 → reached most k xs ≡ reached most (k + 1) xs
+  reached-more h l b =
+      let e : most - k - 1 ≡ most - (k + 1) = omega arith in
+      let n = nonzero-more (most - k) (getD xs k 0) (drop (k + 1) xs) (omega arith) b in
+      rw (drop-cons xs k 0 l, ← add-one k) (omega (arith, rw e at n))
+
+  pub reached-zero : k < length xs → getD xs k 0 ≡ 0 → reached most k xs ≡ k
+  reached-zero l e = rw (drop-cons xs k 0 l, e, nonzero-zero, add-zero)
+
+  pub reached-end : min most (length xs) ≤ k → reached most k xs ≡ k
+  reached-end h =
+      let m = nonzero-most (most - k) (drop k xs) in
+      let n = nonzero-length (most - k) (drop k xs) in
+      omega (arith, length-drop k xs)

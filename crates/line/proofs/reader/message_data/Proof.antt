@@ -1,0 +1,42 @@
+-- `line::reader::message_data` meets its contract.
+-- Assumes nothing.
+use mathlib.Core.Path.{sym, _∙_}
+use native.Mathlib.Nat.{add-sub-cancel-left}
+use native.Mathlib.Omega.{arith}
+use borrow.Author.Needs.{needs}
+use borrow.Author.Tests.{not-true, not-false, lt-ltb, le-ltb}
+use Rattle.line.specs.Reader.{dataOf}
+use Rattle.line.proofs.State.{valid-ready}
+use Rattle.line.proofs.reader.message_data.Statement.{statement}
+use Rattle.line.proofs.reader.message_data.Tie as tie
+
+returns : tie.Need-returns
+unfolding dataOf
+returns c = rw (sym (c .before .before .is-valid .ensures) ∙ not-true _ (c .before .if1 .taken))
+
+returns-2 : tie.Need-returns-2
+unfolding dataOf
+returns-2 c =
+    rw (
+      sym (c .before .before .before .is-valid .ensures) ∙ not-false _ (c .before .before .if1 .left),
+      lt-ltb _ _ (c .before .if2 .taken),
+    )
+
+part-result-end : tie.Need-part-result-end
+part-result-end c = omega (arith, valid-ready _ (sym (c .before .before .is-valid .ensures) ∙ not-false _ (c .before .if1 .left)))
+
+returns-3 : tie.Need-returns-3
+unfolding dataOf
+returns-3 c =
+    rw (
+      sym (c .before .before .before .is-valid .ensures) ∙ not-false _ (c .before .before .if1 .left),
+      le-ltb _ _ (c .before .if2 .left),
+      add-sub-cancel-left,
+    )
+
+pub message-data-spec : {M : Type 1} → statement M
+message-data-spec =
+    tie.close
+    (tie.spec
+    (λ c κs. search needs) (λ c. search needs) returns (λ c. search needs) returns-2 (λ c. search needs) (λ c. search needs)
+    (λ c. search needs) part-result-end returns-3)

@@ -1,0 +1,48 @@
+-- `line::reader::settle_form` meets its contract.
+-- Assumes nothing.
+use native.Mathlib.Omega.{arith}
+use borrow.Author.Needs.{needs}
+use denote.Ref.{now}
+use Rattle.line.specs.Reader.{said}
+use Rattle.line.proofs.Judging.{form-fits, settle-bad, settle-short, settle-long, settle-fits}
+use Rattle.line.proofs.reader.settle_form.Statement.{statement}
+use Rattle.line.proofs.reader.settle_form.Tie as tie
+
+returns : tie.Need-returns
+unfolding said
+returns c =
+    let found = c .before .before .before .before in
+    let a = found .before .before .before .args in
+    settle-short _ _ (form-fits (now (a .state)) (a .n) (omega arith) (omega arith)) (found .frame-length .ensures) (c .before .before .m .given .1)
+    (c .if1 .taken)
+
+returns-2 : tie.Need-returns-2
+unfolding said
+returns-2 c =
+    let found = c .before .before .before .before .before in
+    let a = found .before .before .before .args in
+    settle-long _ _ (form-fits (now (a .state)) (a .n) (omega arith) (omega arith)) (found .frame-length .ensures) (c .before .before .before .m .given .1)
+    (c .if2 .taken)
+
+returns-3 : tie.Need-returns-3
+unfolding said
+returns-3 c =
+    let found = c .before .before in
+    let a = found .before .before .before .args in
+    settle-bad _ _ (form-fits (now (a .state)) (a .n) (omega arith) (omega arith)) (found .frame-length .ensures) (c .enum-told .given .1)
+
+returns-4 : tie.Need-returns-4
+unfolding said
+returns-4 c =
+    let found = c .before .before .before .before .before .before .before .before .before .before .before in
+    let a = found .before .before .before .args in
+    settle-fits _ _ (form-fits (now (a .state)) (a .n) (omega arith) (omega arith)) (found .frame-length .ensures) (c .before .before .before .before .before .before .before .before .before .m .given .1)
+    (c .before .before .before .before .before .before .before .if1 .left) (c .before .before .before .before .before .before .if2 .left) (omega arith)
+    (c .before .before .before .before .decode-frame .ensures) (c .inspect .ensures)
+
+pub settle-form-spec : {M : Type 1} → statement M
+settle-form-spec =
+    tie.close
+    (tie.spec
+    (λ c κs. search needs) (λ c. search needs) (λ c. search needs) (λ c. search needs) returns (λ c. search needs) returns-2
+    (λ c κs. search needs) (λ c κs. search needs) (λ c. search needs) returns-3 (λ c. search needs) returns-4)

@@ -1,0 +1,34 @@
+-- `line::reader::tail` meets its contract.
+-- Assumes nothing.
+use mathlib.Core.Path.{sym, _∙_}
+use borrow.Author.Needs.{needs}
+use borrow.Author.Tests.{not-true, not-false, lt-ltb, le-ltb}
+use Rattle.line.specs.Reader.{tailSaid, tailOf}
+use Rattle.line.proofs.reader.tail.Statement.{statement}
+use Rattle.line.proofs.reader.tail.Tie as tie
+
+returns : tie.Need-returns
+unfolding tailSaid tailOf
+returns c = rw (sym (c .before .is-valid .ensures) ∙ not-true _ (c .if1 .taken))
+
+returns-2 : tie.Need-returns-2
+unfolding tailSaid tailOf
+returns-2 c =
+    rw (
+      sym (c .before .before .before .is-valid .ensures) ∙ not-false _ (c .before .before .if1 .left),
+      ← c .before .get-count .ensures .0,
+      lt-ltb _ _ (c .if2 .taken),
+    )
+
+returns-3 : tie.Need-returns-3
+unfolding tailSaid tailOf
+returns-3 c =
+    rw (
+      sym (c .before .before .before .is-valid .ensures) ∙ not-false _ (c .before .before .if1 .left),
+      ← c .before .get-count .ensures .0,
+      le-ltb _ _ (c .if2 .left),
+    )
+
+pub tail-spec : {M : Type 1} → statement M
+tail-spec = tie.close (tie.spec
+    (λ c κs. search needs) returns (λ c κs. search needs) returns-2 returns-3)

@@ -1,0 +1,174 @@
+-- The reader's lent state, and what each call of the reader answers and leaves (document 01, "Reading a request", "When a call says no").
+-- Assumes nothing: these are definitions.
+use mathlib.Core.Bool.{Bool, true, false, cond, _&&_, _||_}
+use mathlib.Core.List.{List, [], _∷_}
+use mathlib.Core.Option.{Option, none, some}
+use Prim.Native.Nat.{ℕ, suc, _+_}
+use lib.Dec.{leb, ltb, eqb}
+use lib.ListN.{length}
+use Rattle.octets.specs.Bytes.{bytes, run, numberAt, overlay}
+use Rattle.line.specs.Limits.{header-length, shortest-message, longest-message, longest-data, longest-form}
+use Rattle.line.specs.Message.{Message}
+use Rattle.line.specs.Cobs.{uncobs}
+use Rattle.line.specs.Judge.{Verdict, failure, good, misfit, judge}
+use Rattle.line.specs.declared.reader.Answer.{Answer}
+use Rattle.line.specs.declared.reader.Answer.the-variants as answer
+use Rattle.line.specs.declared.reader.Reading.{Reading}
+use Rattle.line.specs.declared.reader.Started.{Started}
+use Rattle.line.specs.declared.reader.Started.the-variants as start-answer
+use Rattle.line.specs.declared.reader.Unfinished.{Unfinished}
+use Rattle.line.specs.declared.reader.Unfinished.the-variants as tail-answer
+use Rattle.line.specs.declared.reader.Handed.{Handed}
+use Rattle.line.specs.declared.reader.Handed.the-variants as handed-answer
+
+-- The state: how many bytes of the frame have come, in two bytes, and then those bytes.
+
+abbrev pub frame-place : ℕ
+frame-place = 2
+
+-- the state's published length: 4,142 bytes
+abbrev pub state-length : ℕ
+state-length = frame-place + longest-form
+
+-- stands for more bytes than the longest form has
+abbrev pub overlong : ℕ
+overlong = suc longest-form
+
+unfoldable pub count : List ℕ → ℕ
+count s = numberAt 2 s 0
+
+-- the state with another count
+unfoldable pub counted : ℕ → List ℕ → List ℕ
+counted n s = overlay 0 (bytes 2 n) s
+
+-- the bytes of the frame that have come
+unfoldable pub kept : List ℕ → List ℕ
+kept s = run frame-place (count s) s
+
+-- what the table's 12 asks of the state
+unfoldable pub valid : List ℕ → Bool
+valid s = leb state-length (length s) && leb (count s) overlong
+
+-- What an answer says: document 01's numbers and values.
+pub data Said : Type 0 where
+  refused : ℕ → Said
+  more : Said
+  empty : Said
+  -- version, sequence, command and how many bytes of data
+  message : ℕ → ℕ → ℕ → ℕ → Said
+  -- the reason, and the request's sequence where the table's reply carries it
+  failed : ℕ → Option ℕ → Said
+
+unfoldable pub said : Answer → Said
+said answer.Refused = refused 12
+said answer.More = more
+said answer.Empty = empty
+said (answer.Message h) = message (h .version) (h .sequence) (h .command) (h .length)
+said answer.BadForm = failed 1 none
+said answer.BadLength = failed 3 none
+said (answer.BadChecksum sequence) = failed 2 (some sequence)
+said (answer.BadMagic sequence) = failed 4 (some sequence)
+
+-- what an answer says of a verdict
+unfoldable pub told : Verdict → Said
+told (failure reason sequence) = failed reason sequence
+told (good m) = message (m .version) (m .sequence) (m .command) (length (m .payload))
+
+-- One byte that is not 00: kept, or one too many.
+unfoldable pub pushed : List ℕ → ℕ → List ℕ
+pushed s b = cond (ltb (count s) longest-form) (counted (count s + 1) (overlay (frame-place + count s) (b ∷ []) s)) (counted overlong s)
+
+-- bytes that are not 00, one after the other
+unfoldable pub pushes : List ℕ → List ℕ → List ℕ
+pushes s [] = s
+pushes s (b ∷ bs) = pushes (pushed s b) bs
+
+-- The 00 of a frame: what is answered, and the state that is left.
+pub record Settled : Type 0 where
+  pub answer : Said
+  pub state : List ℕ
+
+abbrev pub settled : Said → List ℕ → Settled
+settled a s = record { answer = a; state = s }
+
+-- the bytes of a form in the frame's place, where they have a message's length
+unfoldable pub unpacked : Option (List ℕ) → List ℕ → List ℕ
+unpacked none s = s
+unpacked (some xs) s = cond (misfit xs) s (overlay frame-place xs s)
+
+unfoldable pub settle : List ℕ → List ℕ → Settled
+settle form s = settled (told (judge form)) (unpacked (uncobs form) s)
+
+-- no byte of a frame is kept afterwards; an empty frame has no reason, and one of more than 4,140 bytes has reason 1
+unfoldable pub finish : List ℕ → Settled
+finish s =
+    cond (eqb (count s) 0) (settled empty (counted 0 s))
+    (cond (ltb longest-form (count s)) (settled (failed 1 none) (counted 0 s))
+    (settle (kept s) (counted 0 s)))
+
+-- How many bytes a call read, what it answered, and the state that it left.
+pub record Outcome : Type 0 where
+  pub used : ℕ
+  pub answer : Said
+  pub state : List ℕ
+
+abbrev pub outcome : Reading → List ℕ → Outcome
+outcome r s = record { used = r .used; answer = said (r .answer); state = s }
+
+-- the same, one byte later
+unfoldable pub next : Outcome → Outcome
+next o = record { used = suc (o .used); answer = o .answer; state = o .state }
+
+-- a piece, byte by byte, up to and with its first 00
+unfoldable pub readPiece : List ℕ → List ℕ → Outcome
+readPiece s [] = record { used = 0; answer = more; state = s }
+readPiece s (b ∷ bs) = cond (eqb b 0) (record { used = 1; answer = finish s .answer; state = finish s .state }) (next (readPiece (pushed s b) bs))
+
+-- a call of `read`: a state that 12 is said of is left as it is
+unfoldable pub reading : List ℕ → List ℕ → Outcome
+reading s piece = cond (valid s) (readPiece s piece) (record { used = 0; answer = refused 12; state = s })
+
+-- A call of `start`: it tests the room alone, and sets the count. `refusal` is the table's number, none where the call is carried out.
+pub record Start : Type 0 where
+  pub refusal : Option ℕ
+  pub state : List ℕ
+
+unfoldable pub startSaid : Started → Option ℕ
+startSaid start-answer.Done = none
+startSaid start-answer.Refused = some 12
+
+abbrev pub started : Started → List ℕ → Start
+started r s = record { refusal = startSaid r; state = s }
+
+unfoldable pub starting : List ℕ → Start
+starting s = cond (leb state-length (length s)) (record { refusal = none; state = counted 0 s }) (record { refusal = some 12; state = s })
+
+-- A call of `tail`: how many bytes of an unfinished frame have come, or that they are more than the longest form has.
+pub data TailSaid : Type 0 where
+  denied : ℕ → TailSaid
+  unfinished : ℕ → TailSaid
+  longer : TailSaid
+
+unfoldable pub tailSaid : Unfinished → TailSaid
+tailSaid tail-answer.Refused = denied 12
+tailSaid (tail-answer.Bytes n) = unfinished n
+tailSaid tail-answer.Longer = longer
+
+unfoldable pub tailOf : List ℕ → TailSaid
+tailOf s = cond (valid s) (cond (ltb longest-form (count s)) longer (unfinished (count s))) (denied 12)
+
+-- The data of the message that a call of `read` handed out with that length, in the state as that call left it.
+abbrev pub data-place : ℕ
+data-place = frame-place + header-length
+
+unfoldable pub dataRefusal : List ℕ → ℕ → Option ℕ
+dataRefusal s n = cond (valid s) (cond (ltb longest-data n) (some 9) none) (some 12)
+
+unfoldable pub dataSaid : Handed → Option ℕ
+dataSaid handed-answer.Given = none
+dataSaid handed-answer.TooLong = some 9
+dataSaid handed-answer.Refused = some 12
+
+-- a refused call hands out an empty part
+unfoldable pub dataOf : List ℕ → ℕ → List ℕ
+dataOf s n = cond (valid s) (cond (ltb longest-data n) [] (run data-place n s)) []

@@ -1,0 +1,142 @@
+// COBS: the length of a form, the form itself, the length that a form decodes to, and its decoding in place.
+// A group goes from one code byte to the next; each loop takes one group a turn.
+use crate::scan::least;
+use crate::scan::nonzero_run;
+ghost use mathlib.Core.Path.{_≡_};
+ghost use mathlib.Core.Bool.{true, false, cond};
+ghost use Prim.Native.Nat.{_≤_, _<_, _-_};
+ghost use lib.ListN.{length, take, set};
+ghost use Rattle.octets.specs.Bytes.{overlay};
+ghost use Rattle.line.specs.Limits.{longest-message};
+ghost use Rattle.line.specs.Cobs.{cobs, uncobs};
+ghost use Rattle.line.specs.Decoding.{measured, plain, bit};
+
+// The longest group: 254 bytes behind the code byte ff.
+const LONGEST_GROUP: usize = 254;
+
+// The length of the COBS form of the first n bytes of s.
+pub(crate) fn form_length(s: &[u8], n: usize) -> usize
+    requires { ⌜ n ≤ length (now s) ⌝ }
+    requires { ⌜ n ≤ longest-message ⌝ }
+    ensures { λ r. ⌜ r ≡ length (cobs (take n (now (s .entry)))) ⌝ }
+{
+    let mut i = 0;
+    let mut o = 0;
+    loop {
+        let most = least(LONGEST_GROUP, n - i);
+        let k = nonzero_run(s, i, most);
+        i += k;
+        o += k + 1;
+        if i == n {
+            return o;
+        }
+        if k < LONGEST_GROUP {
+            i += 1;
+        }
+    }
+}
+
+// The COBS form of the first n bytes of s, at the start of out.
+pub(crate) fn encode(s: &[u8], n: usize, out: &mut [u8])
+    requires { ⌜ n ≤ length (now s) ⌝ }
+    requires { ⌜ n ≤ longest-message ⌝ }
+    requires { ⌜ length (cobs (take n (now s))) ≤ length (now out) ⌝ }
+    ensures { λ _. ⌜ now (out .exit) ≡ overlay 0 (cobs (take n (now (s .entry)))) (now (out .entry)) ⌝ }
+{
+    let mut i = 0;
+    let mut o = 0;
+    loop {
+        let most = least(LONGEST_GROUP, n - i);
+        let k = nonzero_run(s, i, most);
+        out[o] = (k + 1) as u8;
+        octets::copy(s, i, k, out, o + 1);
+        i += k;
+        o += k + 1;
+        if i == n {
+            return;
+        }
+        if k < LONGEST_GROUP {
+            i += 1;
+        }
+    }
+}
+
+pub(crate) enum Measured {
+    Bad,
+    Length(usize),
+}
+
+fn wide(b: u8) -> usize
+    ensures { λ r. ⌜ (r ≡ b) × (r < 256) ⌝ }
+{
+    b as usize
+}
+
+// How many zeros a group holds.
+fn held(zero: bool) -> usize
+    ensures { λ r. ⌜ (r ≡ bit zero) × (r ≤ 1) ⌝ }
+{
+    if zero { 1 } else { 0 }
+}
+
+// A zero at o, where one is held.
+fn put_held(s: &mut [u8], o: usize, zero: bool)
+    requires { ⌜ o < length (now s) ⌝ }
+    ensures { λ _. ⌜ now (s .exit) ≡ cond zero (set (now (s .entry)) o 0) (now (s .entry)) ⌝ }
+{
+    if zero {
+        s[o] = 0;
+    }
+}
+
+// The length that the first n bytes of s decode to, unless they are no COBS form.
+pub(crate) fn decoded_length(s: &[u8], n: usize) -> Measured
+    requires { ⌜ n ≤ length (now s) ⌝ }
+    ensures { λ r. ⌜ r ≡ measured (uncobs (take n (now (s .entry)))) ⌝ }
+{
+    let mut zero = false;
+    let mut o: usize = 0;
+    let mut i: usize = 0;
+    while i < n {
+        let c = wide(s[i]);
+        if c == 0 {
+            return Measured::Bad;
+        }
+        if n - i < c {
+            return Measured::Bad;
+        }
+        o += held(zero);
+        o += c - 1;
+        i += c;
+        zero = c <= LONGEST_GROUP;
+    }
+    Measured::Length(o)
+}
+
+// The first n bytes of s decoded to the start of s, where they are a COBS form.
+pub(crate) fn decode(s: &mut [u8], n: usize)
+    requires { ⌜ n ≤ length (now s) ⌝ }
+    ensures { λ _. ⌜ now (s .exit) ≡ overlay 0 (plain (take n (now (s .entry)))) (now (s .entry)) ⌝ }
+{
+    let mut zero = false;
+    let mut o: usize = 0;
+    let mut i: usize = 0;
+    while i < n {
+        let c = wide(s[i]);
+        i += 1;
+        put_held(s, o, zero);
+        o += held(zero);
+        let k = least(less_one(c), n - i);
+        octets::move_down(s, i, o, k);
+        o += k;
+        i += k;
+        zero = c <= LONGEST_GROUP;
+    }
+}
+
+// One less, and 0 at 0.
+fn less_one(c: usize) -> usize
+    ensures { λ r. ⌜ r ≡ c - 1 ⌝ }
+{
+    if c == 0 { 0 } else { c - 1 }
+}

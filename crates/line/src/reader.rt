@@ -1,0 +1,277 @@
+// The reader: a lent state takes pieces of the received stream and answers once for each 00.
+// The state: how many bytes of the frame have come, u16 at 0 (4,141: more than 4,140), and the bytes from 2 on.
+use crate::cobs;
+use crate::cobs::Measured;
+use crate::scan::nonzero_run;
+use crate::sums;
+ghost use mathlib.Core.Path.{_≡_};
+ghost use Prim.Native.Nat.{_+_, _≤_, _<_};
+ghost use lib.ListN.{length, take, drop};
+ghost use Rattle.octets.specs.Bytes.{run, overlay};
+ghost use Rattle.line.specs.Limits.{shortest-message, longest-message, longest-form};
+ghost use Rattle.line.specs.Cobs.{uncobs};
+ghost use Rattle.line.specs.Decoding.{measured, plain};
+ghost use Rattle.line.specs.Judge.{judgeFields};
+ghost use Rattle.line.specs.Reader.{frame-place, state-length, overlong, count, counted, valid, said, told, pushes, settled, settle, finish, outcome, reading, started, starting, tailSaid, tailOf, dataSaid, dataRefusal, dataOf};
+
+// The state's published length.
+pub const STATE_LENGTH: usize = 4142;
+
+const FRAME_PLACE: usize = 2;
+
+const DATA_PLACE: usize = 19;
+
+const LONGEST_FORM: usize = 4140;
+
+const OVERLONG: usize = 4141;
+
+const SHORTEST_MESSAGE: usize = 19;
+
+const LONGEST_MESSAGE: usize = 4123;
+
+const LONGEST_DATA: usize = 4104;
+
+const MAGIC: u32 = 0x01DE19CC;
+
+// A message that was handed out; its data lie in the state.
+pub struct Head {
+    pub version: u32,
+    pub sequence: u64,
+    pub command: u8,
+    pub length: usize,
+}
+
+pub enum Answer {
+    Refused,
+    More,
+    Empty,
+    Message(Head),
+    BadForm,
+    BadLength,
+    BadChecksum(u64),
+    BadMagic(u64),
+}
+
+pub struct Reading {
+    pub used: usize,
+    pub answer: Answer,
+}
+
+pub enum Started {
+    Done,
+    Refused,
+}
+
+pub enum Unfinished {
+    Refused,
+    Bytes(usize),
+    Longer,
+}
+
+pub enum Handed {
+    Given,
+    TooLong,
+    Refused,
+}
+
+// Begins a fresh reader in a room of any contents.
+pub fn start(state: &mut [u8]) -> Started
+    ensures { λ r. ⌜ started r (now (state .exit)) ≡ starting (now (state .entry)) ⌝ }
+{
+    if state.len() < STATE_LENGTH {
+        return Started::Refused;
+    }
+    set_count(state, 0);
+    Started::Done
+}
+
+// Reads a piece to its end, or up to and with its first 00.
+pub fn read(state: &mut [u8], piece: &[u8]) -> Reading
+    ensures { λ r. ⌜ outcome r (now (state .exit)) ≡ reading (now (state .entry)) (now (piece .entry)) ⌝ }
+{
+    if !is_valid(state) {
+        return Reading {
+            used: 0,
+            answer: Answer::Refused,
+        };
+    }
+    let n = nonzero_run(piece, 0, piece.len());
+    append(state, piece, n);
+    if n == piece.len() {
+        return Reading {
+            used: n,
+            answer: Answer::More,
+        };
+    }
+    let answer = finish_frame(state);
+    Reading {
+        used: n + 1,
+        answer,
+    }
+}
+
+// The data of the message that `read` handed out with this length, or an empty part.
+pub fn message_data<'a>(state: &'a [u8], length: usize) -> &'a [u8]
+    ensures { λ r. ⌜ now r ≡ dataOf (now (state .entry)) length ⌝ }
+{
+    if !is_valid(state) {
+        return &state[..0];
+    }
+    if LONGEST_DATA < length {
+        return &state[..0];
+    }
+    &state[DATA_PLACE..DATA_PLACE + length]
+}
+
+// Whether `message_data` hands out what was asked.
+pub fn message_data_given(state: &[u8], length: usize) -> Handed
+    ensures { λ r. ⌜ dataSaid r ≡ dataRefusal (now (state .entry)) length ⌝ }
+{
+    if !is_valid(state) {
+        return Handed::Refused;
+    }
+    if LONGEST_DATA < length {
+        return Handed::TooLong;
+    }
+    Handed::Given
+}
+
+// How many bytes of an unfinished frame have come.
+pub fn tail(state: &[u8]) -> Unfinished
+    ensures { λ r. ⌜ tailSaid r ≡ tailOf (now (state .entry)) ⌝ }
+{
+    if !is_valid(state) {
+        return Unfinished::Refused;
+    }
+    let n = get_count(state);
+    if LONGEST_FORM < n {
+        return Unfinished::Longer;
+    }
+    Unfinished::Bytes(n)
+}
+
+fn get_count(state: &[u8]) -> usize
+    ensures { λ r. ⌜ (r ≡ count (now (state .entry))) × (r < 65536) ⌝ }
+{
+    octets::read_u16(state, 0) as usize
+}
+
+fn set_count(state: &mut [u8], n: usize)
+    requires { ⌜ 2 ≤ length (now state) ⌝ }
+    requires { ⌜ n ≤ overlong ⌝ }
+    ensures { λ _. ⌜ now (state .exit) ≡ counted n (now (state .entry)) ⌝ }
+{
+    octets::write_u16(state, 0, n as u16);
+}
+
+fn is_valid(state: &[u8]) -> bool
+    ensures { λ r. ⌜ r ≡ valid (now (state .entry)) ⌝ }
+{
+    if state.len() < STATE_LENGTH {
+        return false;
+    }
+    get_count(state) <= OVERLONG
+}
+
+// The first n bytes of a piece, none of them zero, as far as they fit.
+fn append(state: &mut [u8], piece: &[u8], n: usize)
+    requires { ⌜ state-length ≤ length (now state) ⌝ }
+    requires { ⌜ count (now state) ≤ overlong ⌝ }
+    requires { ⌜ n ≤ length (now piece) ⌝ }
+    ensures { λ _. ⌜ now (state .exit) ≡ pushes (now (state .entry)) (take n (now (piece .entry))) ⌝ }
+{
+    if n == 0 {
+        return;
+    }
+    let have = get_count(state);
+    if LONGEST_FORM < have {
+        set_count(state, OVERLONG);
+        return;
+    }
+    let room = LONGEST_FORM - have;
+    if room < n {
+        octets::copy(piece, 0, room, state, FRAME_PLACE + have);
+        set_count(state, OVERLONG);
+        return;
+    }
+    octets::copy(piece, 0, n, state, FRAME_PLACE + have);
+    set_count(state, have + n);
+}
+
+// The 00 of a frame.
+fn finish_frame(state: &mut [u8]) -> Answer
+    requires { ⌜ state-length ≤ length (now state) ⌝ }
+    requires { ⌜ count (now state) ≤ overlong ⌝ }
+    ensures { λ r. ⌜ settled (said r) (now (state .exit)) ≡ finish (now (state .entry)) ⌝ }
+{
+    let n = get_count(state);
+    set_count(state, 0); // for the next frame
+    if n == 0 {
+        return Answer::Empty;
+    }
+    if LONGEST_FORM < n {
+        return Answer::BadForm;
+    }
+    settle_form(state, n)
+}
+
+// The length that the frame's n bytes decode to, unless they are no COBS form.
+fn frame_length(state: &[u8], n: usize) -> Measured
+    requires { ⌜ frame-place + n ≤ length (now state) ⌝ }
+    ensures { λ r. ⌜ r ≡ measured (uncobs (run frame-place n (now (state .entry)))) ⌝ }
+{
+    cobs::decoded_length(&state[FRAME_PLACE..], n)
+}
+
+// The frame's n bytes decoded in their place.
+fn decode_frame(state: &mut [u8], n: usize)
+    requires { ⌜ frame-place + n ≤ length (now state) ⌝ }
+    ensures { λ _. ⌜ now (state .exit) ≡ overlay frame-place (plain (run frame-place n (now (state .entry)))) (now (state .entry)) ⌝ }
+{
+    cobs::decode(&mut state[FRAME_PLACE..], n);
+}
+
+// A frame of n bytes.
+fn settle_form(state: &mut [u8], n: usize) -> Answer
+    requires { ⌜ state-length ≤ length (now state) ⌝ }
+    requires { ⌜ n ≤ longest-form ⌝ }
+    ensures { λ r. ⌜ settled (said r) (now (state .exit)) ≡ settle (run frame-place n (now (state .entry))) (now (state .entry)) ⌝ }
+{
+    let m = frame_length(state, n);
+    match m {
+        Measured::Bad => Answer::BadForm,
+        Measured::Length(k) => {
+            if k < SHORTEST_MESSAGE {
+                return Answer::BadLength;
+            }
+            if LONGEST_MESSAGE < k {
+                return Answer::BadLength;
+            }
+            decode_frame(state, n);
+            inspect(state, k)
+        }
+    }
+}
+
+// A decoded message of k bytes.
+fn inspect(state: &[u8], k: usize) -> Answer
+    requires { ⌜ state-length ≤ length (now state) ⌝ }
+    requires { ⌜ shortest-message ≤ k ⌝ }
+    requires { ⌜ k ≤ longest-message ⌝ }
+    ensures { λ r. ⌜ said r ≡ told (judgeFields (run frame-place k (now (state .entry)))) ⌝ }
+{
+    let message = &state[FRAME_PLACE..FRAME_PLACE + k];
+    let sequence = octets::read_u64(message, 8);
+    if octets::read_u16(message, k - 2) != sums::checksum_of_first(message, k - 2) {
+        return Answer::BadChecksum(sequence);
+    }
+    if octets::read_u32(message, 0) != MAGIC {
+        return Answer::BadMagic(sequence);
+    }
+    Answer::Message(Head {
+        version: octets::read_u32(message, 4),
+        sequence,
+        command: octets::read_u8(message, 16),
+        length: k - SHORTEST_MESSAGE,
+    })
+}

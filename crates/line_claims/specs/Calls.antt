@@ -1,0 +1,96 @@
+-- Calls of a line reader, one after the other, and what they hand out (document 01, "Demand 3's words").
+-- Assumes nothing: these are definitions.
+use mathlib.Core.List.{List, [], _∷_, _++_}
+use mathlib.Core.Option.{Option, none, some}
+use Prim.Native.Nat.{ℕ}
+use lib.ListN.{length, take, drop}
+use Rattle.line.specs.Message.{Message}
+use Rattle.line.specs.Reader.{Said, refused, more, empty, message, failed, Outcome, reading, Start, starting, dataOf}
+
+-- a call that is given a piece to read: it is lent the first bytes of the state, so many of them or all
+pub record Read : Type 0 where
+  pub lent : ℕ
+  pub piece : List ℕ
+
+-- a call of the reader; a start is lent the first bytes of the state likewise
+pub data Call : Type 0 where
+  read : Read → Call
+  start : ℕ → Call
+
+-- the message that an answer hands out, with its data as the state at the call's return holds them
+unfoldable pub handed : Said → List ℕ → List Message
+handed (refused number) s = []
+handed more s = []
+handed empty s = []
+handed (message version sequence command n) s = (record { version = version; sequence = sequence; command = command; payload = dataOf s n }) ∷ []
+handed (failed reason sequence) s = []
+
+-- the reason that an answer reports
+unfoldable pub reasons : Said → List ℕ
+reasons (refused number) = []
+reasons more = []
+reasons empty = []
+reasons (message version sequence command n) = []
+reasons (failed reason sequence) = reason ∷ []
+
+-- an answer to a 00: every answer but a refusal and `more`
+unfoldable pub answers : Said → List Said
+answers (refused number) = []
+answers more = []
+answers empty = empty ∷ []
+answers (message version sequence command n) = message version sequence command n ∷ []
+answers (failed reason sequence) = failed reason sequence ∷ []
+
+-- a reader since its start: the messages that its calls handed out, the reasons that they reported, their answers to a 00, the bytes that they read, and the state
+pub record Reader : Type 0 where
+  pub messages : List Message
+  pub failures : List ℕ
+  pub answered : List Said
+  pub bytes : List ℕ
+  pub state : List ℕ
+
+-- a reader that has read nothing
+unfoldable pub fresh : List ℕ → Reader
+fresh s = record { messages = []; failures = []; answered = []; bytes = []; state = s }
+
+-- what is left of a state whose first bytes were lent
+abbrev pub back : ℕ → List ℕ → List ℕ → List ℕ
+back lent s part = part ++ drop lent s
+
+-- the reader after a call that gave this outcome
+unfoldable pub went : Reader → Read → Outcome → Reader
+went r c o = record {
+  messages = r .messages ++ handed (o .answer) (o .state);
+  failures = r .failures ++ reasons (o .answer);
+  answered = r .answered ++ answers (o .answer);
+  bytes = r .bytes ++ take (o .used) (c .piece);
+  state = back (c .lent) (r .state) (o .state);
+}
+
+-- a call that is given a piece does what the promise of `read` cites
+unfoldable pub afterRead : Reader → Read → Reader
+afterRead r c = went r c (reading (take (c .lent) (r .state)) (c .piece))
+
+-- a start that is refused changes nothing; any other begins another fresh reader
+unfoldable pub restarted : Reader → List ℕ → Option ℕ → Reader
+restarted r s none = fresh s
+restarted r s (some number) = r
+
+unfoldable pub afterStart : Reader → ℕ → Start → Reader
+afterStart r lent t = restarted r (back lent (r .state) (t .state)) (t .refusal)
+
+unfoldable pub after : Reader → Call → Reader
+after r (read c) = afterRead r c
+after r (start lent) = afterStart r lent (starting (take lent (r .state)))
+
+unfoldable pub afterAll : Reader → List Call → Reader
+afterAll r [] = r
+afterAll r (c ∷ cs) = afterAll (after r c) cs
+
+unfoldable pub afterReads : Reader → List Read → Reader
+afterReads r [] = r
+afterReads r (c ∷ cs) = afterReads (afterRead r c) cs
+
+-- the reader just after a start on a room
+unfoldable pub begun : List ℕ → Reader
+begun room = fresh (starting room .state)

@@ -1,0 +1,258 @@
+-- Demand 3's claim over lists of calls of a line reader, the law of any stream behind it, and the cut law.
+-- Assumes nothing.
+use mathlib.Core.Path.{_≡_, refl, sym, ap, _∙_}
+use mathlib.Core.Bool.{Bool, true, false, cond}
+use mathlib.Core.List.{List, [], _∷_, _++_, map, map-append, append-assoc, append-nil}
+use mathlib.Core.Option.{Option, none, some}
+use Prim.Native.Nat.{ℕ, zero, suc, _≤_, _<_}
+use native.Mathlib.Omega.{arith}
+use lib.Dec.{leb, ltb, eqb}
+use lib.ListN.{length, take, drop, length-append}
+use borrow.Author.Tests.{leb-true, le-leb, ltb-true, ltb-false, le-ltb, lt-ltb}
+use Rattle.octets.specs.Bytes.{Each, overlay}
+use Rattle.line.specs.Limits.{longest-form}
+use Rattle.line.specs.Message.{magic, Message, InRange}
+use Rattle.line.specs.Frame.{Wire}
+use Rattle.line.specs.Cobs.{uncobs}
+use Rattle.line.specs.Judge.{Verdict, failure, good, misfit, bodyOf, checksumOf, magicOf, fields, judgeFields, judgeLength, judgeForm, judge}
+use Rattle.line.specs.Checksum.{checksum}
+use Rattle.line.specs.Reader.{Said, empty, told, state-length, frame-place, count, counted, valid, pushes}
+use Rattle.line.specs.Reader.{unpacked, Settled, settle, finish, Start, starting}
+use Rattle.line.proofs.State.{Ready, cond-by, ready-valid, length-counted, count-counted, pushes-append, ready-pushes}
+use Rattle.line.proofs.Judging.{finish-empty}
+use Rattle.line.proofs.Lent.{count-append}
+use Rattle.line.proofs.Held.{held-form, held-over, data-unpacked, finish-leaves}
+use Rattle.line_claims.specs.JudgeClaim.{judge-of-message}
+use Rattle.line_claims.specs.WireClaim.{split, nonEmpty, form, wire-forms, wire-range}
+use Rattle.line_claims.specs.SplitLaws.{split-close, split-more, nonEmpty-append}
+use Rattle.line_claims.specs.Calls.{Read, Call, read, start, handed, reasons, answers, Reader, fresh, back}
+use Rattle.line_claims.specs.Calls.{restarted, afterStart, after, afterAll, afterReads, begun}
+use Rattle.line_claims.specs.Streams.{afterByte, stream, stream-read, bytesRead, call-stream, reads-stream}
+
+-- what is answered at the 00 that closes these bytes
+unfoldable pub frameSaid : List ℕ → Said
+frameSaid [] = empty
+frameSaid (b ∷ bs) = told (judge (b ∷ bs))
+
+-- what the verdicts on these lists of bytes give, in order
+unfoldable pub gathered : {A : Type 0} → (Verdict → List A) → List (List ℕ) → List A
+gathered f [] = []
+gathered f (p ∷ ps) = f (judge p) ++ gathered f ps
+
+abbrev pub goodOf : Verdict → List Message
+goodOf (failure reason sequence) = []
+goodOf (good m) = m ∷ []
+
+abbrev pub reasonOf : Verdict → List ℕ
+reasonOf (failure reason sequence) = reason ∷ []
+reasonOf (good m) = []
+
+-- the messages, and the reasons of the failures
+abbrev pub goods : List (List ℕ) → List Message
+goods = gathered goodOf
+
+abbrev pub reasonsOf : List (List ℕ) → List ℕ
+reasonsOf = gathered reasonOf
+
+gathered-append : {A : Type 0} (f : Verdict → List A) (ps qs : List (List ℕ)) → gathered f (ps ++ qs) ≡ gathered f ps ++ gathered f qs
+unfolding gathered
+gathered-append f [] qs = refl
+gathered-append f (p ∷ ps) qs = rw (gathered-append f ps qs, append-assoc)
+
+-- of messages' forms
+goods-forms : (ms : List Message) → Each InRange ms → goods (map form ms) ≡ ms
+unfolding gathered
+goods-forms [] r = refl
+goods-forms (m ∷ ms) r = rw (judge-of-message m (r .0), goods-forms ms (r .1))
+
+reasons-forms : (ms : List Message) → Each InRange ms → reasonsOf (map form ms) ≡ []
+unfolding gathered
+reasons-forms [] r = refl
+reasons-forms (m ∷ ms) r = rw (judge-of-message m (r .0)) (reasons-forms ms (r .1))
+
+-- ---- one 00
+
+-- a message's data as the state at the call's return holds them
+module _ (s : List ℕ) (h : Ready s) where
+  handed-fields : (xs : List ℕ) → misfit xs ≡ false → handed (told (judgeFields xs)) (overlay frame-place xs s) ≡ goodOf (judgeFields xs)
+  unfolding judgeFields handed told fields
+  handed-fields xs e =
+      cond-by Hands (eqb (checksumOf xs) (checksum (bodyOf xs))) _ _
+      (λ f. cond-by Hands (eqb (magicOf xs) magic) _ _ (λ g. rw (data-unpacked s (h .0) xs (h .1) e)) (λ g. refl))
+      (λ f. refl)
+    where
+      Hands : Verdict → Type 0
+      Hands v = handed (told v) (overlay frame-place xs s) ≡ goodOf v
+
+  handed-length : (xs : List ℕ) (k : Bool) → misfit xs ≡ k
+      → handed (told (cond k (failure 3 none) (judgeFields xs))) (cond k s (overlay frame-place xs s)) ≡ goodOf (cond k (failure 3 none) (judgeFields xs))
+  unfolding handed told
+  handed-length xs true e = refl
+  handed-length xs false e = handed-fields xs e
+
+  handed-bytes : (form : Option (List ℕ)) → handed (told (judgeForm form)) (unpacked form s) ≡ goodOf (judgeForm form)
+  unfolding judgeForm judgeLength unpacked handed told
+  handed-bytes none = refl
+  handed-bytes (some xs) = handed-length xs (misfit xs) refl
+
+  handed-form : (t : List ℕ) → length t ≤ longest-form → handed (told (judge t)) (unpacked (uncobs t) s) ≡ goodOf (judge t)
+  unfolding judge
+  handed-form t l = rw (le-ltb longest-form (length t) l) (handed-bytes (uncobs t))
+
+-- what a 00 gives is the verdict on the bytes before it
+record Judged (t : List ℕ) (x : Settled) : Type 0 where
+  answered : answers (x .answer) ≡ frameSaid t ∷ []
+  messages : handed (x .answer) (x .state) ≡ goods (nonEmpty (t ∷ []))
+  failures : reasons (x .answer) ≡ reasonsOf (nonEmpty (t ∷ []))
+
+verdict-answers : (v : Verdict) → answers (told v) ≡ told v ∷ []
+unfolding told answers
+verdict-answers (failure reason sequence) = refl
+verdict-answers (good m) = refl
+
+verdict-reasons : (v : Verdict) → reasons (told v) ≡ reasonOf v
+unfolding told reasons
+verdict-reasons (failure reason sequence) = refl
+verdict-reasons (good m) = refl
+
+judge-over : (t : List ℕ) → longest-form < length t → judge t ≡ failure 1 none
+unfolding judge
+judge-over t l = rw (lt-ltb longest-form (length t) l)
+
+cleared : (s : List ℕ) → state-length ≤ length s → (state-length ≤ length (counted 0 s)) × (count (counted 0 s) ≡ 0)
+cleared s h = (omega (arith, length-counted 0 s (omega arith)), count-counted 0 s (omega arith) (omega arith))
+
+module _ (s : List ℕ) (enough : state-length ≤ length s) (clear : count s ≡ 0) where
+  judged-some : (b : ℕ) (bs : List ℕ) (k : Bool) → ltb longest-form (length (b ∷ bs)) ≡ k → Judged (b ∷ bs) (finish (pushes s (b ∷ bs)))
+  unfolding frameSaid gathered nonEmpty settle answers handed reasons told
+  judged-some b bs true e =
+      let l = ltb-true longest-form (length (b ∷ bs)) e in
+      let v = judge-over (b ∷ bs) l in
+      rw (held-over s (b ∷ bs) enough clear l) (record { answered = rw v; messages = rw v; failures = rw v })
+  judged-some b bs false e =
+      let t = b ∷ bs in
+      let l = ltb-false longest-form (length t) e in
+      let p = ready-pushes t s (enough, omega arith) in
+      let c = cleared (pushes s t) (omega arith) in
+      rw (held-form s t enough clear (omega arith) l)
+      (record {
+        answered = verdict-answers (judge t);
+        messages = rw append-nil (handed-form (counted 0 (pushes s t)) (c .0, omega arith) t l);
+        failures = rw append-nil (verdict-reasons (judge t));
+      })
+
+  judged : (t : List ℕ) → Judged t (finish (pushes s t))
+  unfolding frameSaid gathered nonEmpty pushes answers handed reasons
+  judged [] = rw (← finish-empty s clear) (record { answered = refl; messages = refl; failures = refl })
+  judged (b ∷ bs) = judged-some b bs (ltb longest-form (length (b ∷ bs))) refl
+
+-- ---- a reader and the bytes that it has read
+
+-- the state holds the bytes after the last 00, and what was said before is the verdict on each piece
+record Follows (r : Reader) : Type 0 where
+  base : List ℕ
+  enough : state-length ≤ length base
+  clear : count base ≡ 0
+  state : r .state ≡ pushes base (split (r .bytes) .rest)
+  answered : r .answered ≡ map frameSaid (split (r .bytes) .closed)
+  messages : r .messages ≡ goods (nonEmpty (split (r .bytes) .closed))
+  failures : r .failures ≡ reasonsOf (nonEmpty (split (r .bytes) .closed))
+
+fresh-follows : (s : List ℕ) → state-length ≤ length s → count s ≡ 0 → Follows (fresh s)
+unfolding fresh split pushes gathered nonEmpty
+fresh-follows s h z = record { base = s; enough = h; clear = z; state = refl; answered = refl; messages = refl; failures = refl }
+
+ready : (r : Reader) → Follows r → Ready (r .state)
+ready r f =
+    let p = ready-pushes (split (r .bytes) .rest) (f .base) (f .enough, omega arith) in
+    rw (f .state) (omega arith, p .1)
+
+byte-follows : (r : Reader) (b : ℕ) → Follows r → Follows (afterByte r b)
+unfolding afterByte pushes
+byte-follows r zero f =
+    let t = split (r .bytes) .rest in
+    let j : Judged t (finish (r .state)) = rw (f .state) (judged (f .base) (f .enough) (f .clear) t) in
+    let l = finish-leaves (r .state) (ready r f .0) in
+    record {
+      base = finish (r .state) .state;
+      enough = omega (arith, ready r f .0);
+      clear = l .1;
+      state = rw (split-close (r .bytes));
+      answered = rw (split-close (r .bytes), map-append, f .answered, j .answered);
+      messages = rw (split-close (r .bytes), nonEmpty-append, gathered-append, f .messages, j .messages);
+      failures = rw (split-close (r .bytes), nonEmpty-append, gathered-append, f .failures, j .failures);
+    }
+byte-follows r (suc b) f = record {
+  base = f .base;
+  enough = f .enough;
+  clear = f .clear;
+  state = rw (split-more (r .bytes) b, pushes-append, f .state);
+  answered = rw (split-more (r .bytes) b) (f .answered);
+  messages = rw (split-more (r .bytes) b) (f .messages);
+  failures = rw (split-more (r .bytes) b) (f .failures);
+}
+
+stream-follows : (bs : List ℕ) (r : Reader) → Follows r → Follows (stream r bs)
+unfolding stream
+stream-follows [] r f = f
+stream-follows (b ∷ bs) r f = stream-follows bs (afterByte r b) (byte-follows r b f)
+
+call-follows : (r : Reader) (c : Call) → Follows r → Follows (after r c)
+unfolding after afterStart starting restarted
+call-follows r (read c) f = rw (call-stream r c) (stream-follows (bytesRead r c) r f)
+call-follows r (start lent) f =
+    let t = take lent (r .state) in
+    let u = drop lent (r .state) in
+    cond-by (λ (x : Start). Follows (restarted r (back lent (r .state) (x .state)) (x .refusal))) (leb state-length (length t)) _ _
+    (λ e.
+    let c = cleared t (leb-true state-length (length t) e) in
+    fresh-follows (counted 0 t ++ u) (simp length-append (omega arith)) (count-append (counted 0 t) u (c .0) ∙ c .1))
+    (λ e. f)
+
+calls-follow : (cs : List Call) (r : Reader) → Follows r → Follows (afterAll r cs)
+unfolding afterAll
+calls-follow [] r f = f
+calls-follow (c ∷ cs) r f = calls-follow cs (after r c) (call-follows r c f)
+
+-- ---- the claims
+
+module _ (room : List ℕ) (enough : state-length ≤ length room) (cs : List Call) where
+  follows : Follows (afterAll (begun room) cs)
+  unfolding begun starting
+  follows =
+      let c = cleared room enough in
+      rw (le-leb state-length (length room) enough) (calls-follow cs (fresh (counted 0 room)) (fresh-follows (counted 0 room) (c .0) (c .1)))
+
+  -- any stream, whatever the cuts: one answer for each 00 of the bytes read, which is the tests' verdict on the bytes before it
+  pub any-stream : afterAll (begun room) cs .answered ≡ map frameSaid (split (afterAll (begun room) cs .bytes) .closed)
+  any-stream = follows .answered
+
+  -- the messages handed out are those that the tests find good, in order, of the bytes before each 00, unless there are none
+  pub any-messages : afterAll (begun room) cs .messages ≡ goods (nonEmpty (split (afterAll (begun room) cs .bytes) .closed))
+  any-messages = follows .messages
+
+  -- and the failures reported are those that the tests find
+  pub any-failures : afterAll (begun room) cs .failures ≡ reasonsOf (nonEmpty (split (afterAll (begun room) cs .bytes) .closed))
+  any-failures = follows .failures
+
+  -- the messages handed out are exactly those of the wire bytes read, in order, and no failure is reported
+  pub hands-out : {ms : List Message} → Wire ms (afterAll (begun room) cs .bytes)
+      → (afterAll (begun room) cs .messages ≡ ms) × (afterAll (begun room) cs .failures ≡ [])
+  hands-out {ms} w = (
+    any-messages ∙ ap goods (wire-forms w) ∙ goods-forms ms (wire-range w),
+    any-failures ∙ ap reasonsOf (wire-forms w) ∙ reasons-forms ms (wire-range w),
+  )
+
+  -- what the layer's own calls leave is never refused as 12
+  pub stays-valid : valid (afterAll (begun room) cs .state) ≡ true
+  stays-valid = ready-valid _ (ready (afterAll (begun room) cs) follows)
+
+-- any two lists of calls on any state that read the same bytes give the same answers to each 00, the same messages and failures, and the same state
+pub cut : (s : List ℕ) (cs ds : List Read) → afterReads (fresh s) cs .bytes ≡ afterReads (fresh s) ds .bytes
+    → afterReads (fresh s) cs ≡ afterReads (fresh s) ds
+unfolding fresh
+cut s cs ds e =
+    let p = reads-stream (fresh s) cs in
+    let q = reads-stream (fresh s) ds in
+    let same : p .0 ≡ q .0 = cc (p .1, q .1, stream-read (fresh s) (p .0), stream-read (fresh s) (q .0)) in
+    p .1 ∙ ap (stream (fresh s)) same ∙ sym (q .1)
