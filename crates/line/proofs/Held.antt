@@ -1,8 +1,8 @@
 -- The state since the last 00: which bytes it holds, and what the 00 behind them gives.
 -- Assumes nothing.
 use mathlib.Core.Path.{_≡_, refl, sym, ap, _∙_}
-use mathlib.Core.Bool.{false}
-use mathlib.Core.List.{List}
+use mathlib.Core.Bool.{false, cond}
+use mathlib.Core.List.{List, [], _∷_}
 use mathlib.Core.Option.{Option, none, some}
 use Prim.Native.Nat.{ℕ, _+_, _-_, _≤_, _<_}
 use native.Mathlib.Nat.{add-zero, zero-add}
@@ -10,15 +10,16 @@ use native.Mathlib.Omega.{arith}
 use lib.Dec.{ltb, eqb}
 use lib.ListN.{length, take, length-drop, length-take}
 use lib.Seq.{length-take-le}
-use borrow.Author.Tests.{le-ltb}
+use borrow.Author.Tests.{le-ltb, ltb-true, ltb-false}
 use Rattle.octets.specs.Bytes.{run, overlay, number}
+use Rattle.octets.proofs.Conditions.{cond-by}
 use Rattle.octets.proofs.Overlay.{run-take, length-overlay, overlay-inside, overlay-part, overlay-before}
 use Rattle.line.specs.Limits.{header-length, checksum-length, shortest-message, longest-data, longest-form}
-use Rattle.line.specs.Judge.{misfit, payloadOf}
+use Rattle.line.specs.Judge.{wrongLength, payloadOf}
 use Rattle.line.specs.Cobs.{uncobs}
 use Rattle.line.specs.Reader.{frame-place, state-length, overlong, count, counted, kept, pushes}
-use Rattle.line.specs.Reader.{failed, Settled, settled, unpacked, settle, finish, dataOf}
-use Rattle.line.proofs.State.{Ready, cond-by, ready-valid, length-counted, count-counted, run-counted, pushes-fit, pushes-some}
+use Rattle.line.specs.Reader.{failed, Settled, settled, unpacked, settle, finish, dataRefusal, partOf, dataOf}
+use Rattle.line.proofs.State.{Ready, ready-valid, length-counted, count-counted, run-counted, pushes-fit, pushes-some}
 use Rattle.line.proofs.Judging.{finish-over, finish-form}
 use Rattle.line.proofs.Lent.{fit-length}
 
@@ -51,6 +52,25 @@ module _ (s t : List ℕ) (h : state-length ≤ length s) (z : count s ≡ 0) wh
       let c = count-counted overlong o (omega arith) (omega arith) in
       rw (pushes-some t s ready (omega arith) (omega arith) (omega arith)) (sym (finish-over (counted overlong o) (omega arith)))
 
+  -- how many bytes it holds
+  pub held-count : cond (ltb longest-form (length t)) overlong (length t) ≡ count (pushes s t)
+  unfolding pushes
+  held-count = cond-by (λ n. n ≡ count (pushes s t)) (ltb longest-form (length t)) overlong (length t) (λ e. over (ltb-true _ _ e)) (λ e. within t refl (ltb-false _ _ e))
+    where
+      over : longest-form < length t → overlong ≡ count (pushes s t)
+      over l =
+          let room = longest-form - count s in
+          let m = length-take-le room t (omega arith) in
+          let e = length-overlay (frame-place + count s) (take room t) s (omega arith) in
+          rw (pushes-some t s ready (omega arith) (omega arith) (omega arith)) (sym (count-counted overlong _ (omega arith) (omega arith)))
+
+      within : (x : List ℕ) → x ≡ t → length t ≤ longest-form → length t ≡ count (pushes s t)
+      within [] p l = rw (← p) (sym z)
+      within (b ∷ bs) p l =
+          let k = ap length p in
+          let e = length-overlay frame-place t s (omega arith) in
+          rw (fitted (omega arith) l) (sym (count-counted (length t) _ (omega arith) (omega arith)))
+
 -- ---- the state that a 00 leaves
 
 module _ (s : List ℕ) (h : state-length ≤ length s) where
@@ -58,14 +78,14 @@ module _ (s : List ℕ) (h : state-length ≤ length s) where
   unfolding unpacked count
   unpacked-keeps none = (refl, refl)
   unpacked-keeps (some xs) =
-      cond-by (λ (x : List ℕ). (length x ≡ length s) × (number (run 0 2 x) ≡ number (run 0 2 s))) (misfit xs) _ _ (λ e. (refl, refl)) (λ e.
+      cond-by (λ (x : List ℕ). (length x ≡ length s) × (number (run 0 2 x) ≡ number (run 0 2 s))) (wrongLength xs) _ _ (λ e. (refl, refl)) (λ e.
       let l = fit-length xs e in
       (length-overlay frame-place xs s (omega arith), ap number (overlay-before frame-place 0 2 xs s (omega arith) (omega arith))))
 
   -- the data of a message, in its bytes
-  pub data-unpacked : (xs : List ℕ) → count s ≤ overlong → misfit xs ≡ false
+  pub data-unpacked : (xs : List ℕ) → count s ≤ overlong → wrongLength xs ≡ false
       → dataOf (overlay frame-place xs s) (length (payloadOf xs)) ≡ payloadOf xs
-  unfolding dataOf unpacked
+  unfolding dataOf dataRefusal partOf unpacked
   data-unpacked xs k e =
       let n = length xs - shortest-message in
       let l = fit-length xs e in

@@ -15,10 +15,10 @@ use Rattle.octets.proofs.Overlay.{length-run, overlay-inside}
 use Rattle.line.specs.Limits.{checksum-length, shortest-message, longest-message, longest-form}
 use Rattle.line.specs.Checksum.{checksum}
 use Rattle.line.specs.Message.{magic}
-use Rattle.line.specs.Judge.{bodyOf, checksumOf, magicOf, versionOf, sequenceOf, commandOf, payloadOf, fields, judgeFields, misfit, judgeLength, judgeForm, judge}
+use Rattle.line.specs.Judge.{bodyOf, checksumOf, magicOf, versionOf, sequenceOf, commandOf, payloadOf, fields, judgeFields, wrongLength, judgeLength, judgeForm, judge}
 use Rattle.line.specs.Cobs.{uncobs}
 use Rattle.line.specs.Decoding.{measured, plain}
-use Rattle.line.specs.Reader.{frame-place, state-length, count, counted, kept, Said, empty, failed, message, told, settled, unpacked, settle, finish}
+use Rattle.line.specs.Reader.{frame-place, state-length, count, counted, kept, Said, empty, failed, message, verdictSaid, settled, unpacked, settle, finish}
 use Rattle.line.specs.declared.cobs.Measured.{Measured}
 use Rattle.line.specs.declared.cobs.Measured.the-variants.{Bad, Length}
 use Rattle.line.proofs.Decoding.{measured-bad, measured-length}
@@ -37,18 +37,18 @@ module _ (xs : List ℕ) (k : ℕ) (e : length xs ≡ k) (h : shortest-message �
   checksum-made : b ≡ checksum (bodyOf xs)
   checksum-made = of-body ∙ rw e
 
-  pub told-checksum : (a ≡ b → ⊥) → failed 2 (some q) ≡ told (judgeFields xs)
-  unfolding told judgeFields
-  told-checksum n = rw (← checksum-read, ← checksum-made, ne-eqb a b n, sequence)
+  pub said-checksum : (a ≡ b → ⊥) → failed 2 (some q) ≡ verdictSaid (judgeFields xs)
+  unfolding verdictSaid judgeFields
+  said-checksum n = rw (← checksum-read, ← checksum-made, ne-eqb a b n, sequence)
 
   module _ {m : ℕ} (same : a ≡ b) (first : m ≡ magicOf xs) where
-    pub told-magic : (m ≡ magic → ⊥) → failed 4 (some q) ≡ told (judgeFields xs)
-    unfolding told judgeFields
-    told-magic n = rw (← checksum-read, ← checksum-made, eq-eqb a b same, ← first, ne-eqb m magic n, sequence)
+    pub said-magic : (m ≡ magic → ⊥) → failed 4 (some q) ≡ verdictSaid (judgeFields xs)
+    unfolding verdictSaid judgeFields
+    said-magic n = rw (← checksum-read, ← checksum-made, eq-eqb a b same, ← first, ne-eqb m magic n, sequence)
 
-    pub told-good : {v d : ℕ} → m ≡ magic → v ≡ versionOf xs → d ≡ commandOf xs → message v q d (k - shortest-message) ≡ told (judgeFields xs)
-    unfolding told judgeFields fields
-    told-good g version command =
+    pub said-good : {v d : ℕ} → m ≡ magic → v ≡ versionOf xs → d ≡ commandOf xs → message v q d (k - shortest-message) ≡ verdictSaid (judgeFields xs)
+    unfolding verdictSaid judgeFields fields
+    said-good g version command =
         let l : length (payloadOf xs) ≡ k - shortest-message = simp (length-drop, length-take) (omega arith) in
         rw (← checksum-read, ← checksum-made, eq-eqb a b same, ← first, eq-eqb m magic g, l, sequence, version, command)
 
@@ -63,15 +63,15 @@ module _ (form s : List ℕ) (l : length form ≤ longest-form) where
   judge-form = rw (le-ltb longest-form (length form) l)
 
   settle-none : uncobs form ≡ none → settled (failed 1 none) s ≡ settle form s
-  unfolding settle told judgeForm unpacked
+  unfolding settle verdictSaid judgeForm unpacked
   settle-none e = rw (judge-form, e)
 
   module _ (xs : List ℕ) (e : uncobs form ≡ some xs) where
-    settle-misfit : misfit xs ≡ true → settled (failed 3 none) s ≡ settle form s
-    unfolding settle told judgeForm judgeLength unpacked
-    settle-misfit t = rw (judge-form, e, t)
+    settle-length : wrongLength xs ≡ true → settled (failed 3 none) s ≡ settle form s
+    unfolding settle verdictSaid judgeForm judgeLength unpacked
+    settle-length t = rw (judge-form, e, t)
 
-    settle-message : misfit xs ≡ false → settled (told (judgeFields xs)) (overlay frame-place xs s) ≡ settle form s
+    settle-message : wrongLength xs ≡ false → settled (verdictSaid (judgeFields xs)) (overlay frame-place xs s) ≡ settle form s
     unfolding settle judgeForm judgeLength unpacked
     settle-message t = rw (judge-form, e, t)
 
@@ -84,15 +84,15 @@ module _ (form s : List ℕ) (l : length form ≤ longest-form) where
       pub settle-short : k < shortest-message → settled (failed 3 none) s ≡ settle form s
       settle-short h =
           let p = measured-length form k (sym b ∙ e) in
-          settle-misfit (plain form) (p .0) (rw (p .1, lt-ltb k shortest-message h))
+          settle-length (plain form) (p .0) (rw (p .1, lt-ltb k shortest-message h))
 
       pub settle-long : longest-message < k → settled (failed 3 none) s ≡ settle form s
       settle-long h =
           let p = measured-length form k (sym b ∙ e) in
-          settle-misfit (plain form) (p .0) (rw (p .1, lt-ltb longest-message k h, or-true))
+          settle-length (plain form) (p .0) (rw (p .1, lt-ltb longest-message k h, or-true))
 
       pub settle-fits : shortest-message ≤ k → k ≤ longest-message → frame-place ≤ length s → {t : List ℕ} {a : Said}
-          → t ≡ overlay frame-place (plain form) s → a ≡ told (judgeFields (run frame-place k t)) → settled a t ≡ settle form s
+          → t ≡ overlay frame-place (plain form) s → a ≡ verdictSaid (judgeFields (run frame-place k t)) → settled a t ≡ settle form s
       settle-fits h j i u v =
           let p = measured-length form k (sym b ∙ e) in
           let w = settle-message (plain form) (p .0) (rw (p .1, le-ltb k shortest-message h, le-ltb longest-message k j)) in

@@ -7,27 +7,21 @@ use mathlib.Core.Option.{Option, none, some}
 use Prim.Native.Nat.{ℕ, _+_, _≤_}
 use native.Mathlib.Omega.{arith}
 use lib.Dec.{ltb, eqb}
-use lib.ListN.{length, drop, length-append, length-drop}
-use lib.Seq.{take-append-le, drop-append-le}
+use lib.ListN.{length, length-append}
 use borrow.Author.Tests.{ltb-true, ltb-false, le-leb}
 use Rattle.octets.specs.Bytes.{bytes, run, overlay}
 use Rattle.octets.proofs.Numbers.{length-bytes}
-use Rattle.octets.proofs.Overlay.{length-overlay}
+use Rattle.octets.proofs.Conditions.{cond-by, cond-map}
+use Rattle.octets.proofs.Overlay.{length-overlay, overlay-append, run-append}
 use Rattle.line.specs.Limits.{shortest-message, longest-message, longest-data, longest-form}
-use Rattle.line.specs.Judge.{misfit}
+use Rattle.line.specs.Judge.{wrongLength}
 use Rattle.line.specs.Cobs.{uncobs}
 use Rattle.line.specs.Reader.{frame-place, state-length, overlong, count, counted, kept, valid, pushed}
-use Rattle.line.specs.Reader.{Settled, settled, unpacked, settle, finish, data-place, dataOf}
+use Rattle.line.specs.Reader.{Settled, settled, unpacked, settle, finish, data-place, dataRefusal, partOf, dataOf}
 use Rattle.line.proofs.State.{length-counted}
 
--- two choices by one test
-cond-same : {A B : Type 0} (f : A → B) (k : Bool) {x y : B} {v w : A}
-    → (k ≡ true → x ≡ f v) → (k ≡ false → y ≡ f w) → cond k x y ≡ f (cond k v w)
-cond-same f true p q = p refl
-cond-same f false p q = q refl
-
 -- bytes with a message's length
-pub fit-length : (xs : List ℕ) → misfit xs ≡ false → (shortest-message ≤ length xs) × (length xs ≤ longest-message)
+pub fit-length : (xs : List ℕ) → wrongLength xs ≡ false → (shortest-message ≤ length xs) × (length xs ≤ longest-message)
 fit-length xs e =
     let f = neither (ltb (length xs) shortest-message) _ e in
     (ltb-false (length xs) shortest-message (f .0), ltb-false longest-message (length xs) (f .1))
@@ -37,16 +31,6 @@ fit-length xs e =
     neither false b p = (refl, p)
 
 -- ---- a state in two parts
-
-module _ (t u : List ℕ) where
-  overlay-append : (at : ℕ) (xs : List ℕ) → at + length xs ≤ length t → overlay at xs (t ++ u) ≡ overlay at xs t ++ u
-  unfolding overlay
-  overlay-append at xs h = rw (take-append-le at t u (omega arith), drop-append-le (at + length xs) t u h) (simp append-assoc)
-
-  run-append : (at n : ℕ) → at + n ≤ length t → run at n (t ++ u) ≡ run at n t
-  run-append at n h =
-      let k : n ≤ length (drop at t) = simp length-drop (omega arith) in
-      rw (drop-append-le at t u (omega arith), take-append-le n (drop at t) u k)
 
 -- what a 00 gives, with bytes behind the state
 abbrev behind : List ℕ → Settled → Settled
@@ -70,18 +54,23 @@ module _ (t u : List ℕ) (h : state-length ≤ length t) where
   valid-append = rw (count-append, le-leb state-length (length t) h, le-leb state-length (length (t ++ u)) (simp length-append (omega arith)))
 
   pub dataOf-append : (n : ℕ) → dataOf (t ++ u) n ≡ dataOf t n
-  unfolding dataOf
+  unfolding dataOf dataRefusal partOf
   dataOf-append n =
       rw valid-append
-      (ap (λ (x : List ℕ). cond (valid t) x []) (cond-same (λ (x : List ℕ). x) (ltb longest-data n) (λ e. refl) (λ e.
+      (cond-by Same (valid t) _ _
+      (λ v. cond-by Same (ltb longest-data n) _ _ (λ e. refl) (λ e.
       let k = ltb-false longest-data n e in
-      run-append t u data-place n (omega arith))))
+      run-append t u data-place n (omega arith)))
+      (λ v. refl))
+    where
+      Same : Option ℕ → Type 0
+      Same o = partOf o (run data-place n (t ++ u)) ≡ partOf o (run data-place n t)
 
   unpacked-append : (form : Option (List ℕ)) → unpacked form (t ++ u) ≡ unpacked form t ++ u
   unfolding unpacked
   unpacked-append none = refl
   unpacked-append (some xs) =
-      cond-same (λ (x : List ℕ). x ++ u) (misfit xs) (λ e. refl) (λ e.
+      cond-map (λ (x : List ℕ). x ++ u) (wrongLength xs) (λ e. refl) (λ e.
       let l = fit-length xs e in
       overlay-append t u frame-place xs (omega arith))
 
@@ -90,7 +79,7 @@ module _ (t u : List ℕ) (h : state-length ≤ length t) where
   unfolding pushed
   pushed-append b =
       rw (count-append t u h)
-      (cond-same (λ (x : List ℕ). x ++ u) (ltb (count t) longest-form)
+      (cond-map (λ (x : List ℕ). x ++ u) (ltb (count t) longest-form)
       (λ e.
       let k = ltb-true (count t) longest-form e in
       let l = length-overlay (frame-place + count t) (b ∷ []) t (omega arith) in
@@ -102,6 +91,6 @@ module _ (t u : List ℕ) (h : state-length ≤ length t) where
   finish-append =
       let l : length (counted 0 t) ≡ length t = length-counted 0 t (omega arith) in
       rw (count-append t u h, counted-append t u h 0)
-      (cond-same (behind u) (eqb (count t) 0) (λ e. refl) (λ e.
-      cond-same (behind u) (ltb longest-form (count t)) (λ f. refl) (λ f.
+      (cond-map (behind u) (eqb (count t) 0) (λ e. refl) (λ e.
+      cond-map (behind u) (ltb longest-form (count t)) (λ f. refl) (λ f.
       rw (kept-append t u h (ltb-false longest-form (count t) f), unpacked-append (counted 0 t) u (omega arith) (uncobs (kept t))))))

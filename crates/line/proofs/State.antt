@@ -11,15 +11,11 @@ use lib.ListN.{length, take, drop, length-drop, take-append-drop}
 use lib.Seq.{length-take-le, take-take}
 use borrow.Author.Tests.{leb-true, le-leb, ltb-true, ltb-false, lt-ltb, le-ltb}
 use Rattle.octets.specs.Bytes.{bytes, run, overlay, copied}
+use Rattle.octets.proofs.Conditions.{cond-by}
 use Rattle.octets.proofs.Numbers.{length-bytes}
 use Rattle.octets.proofs.Overlay.{length-overlay, overlay-after, overlay-none, overlay-again, overlay-next, overlay-swap, put-fits, number-put, copied-fits}
 use Rattle.line.specs.Limits.{longest-form}
 use Rattle.line.specs.Reader.{frame-place, state-length, overlong, count, counted, valid, pushed, pushes}
-
--- a choice by what its test says
-pub cond-by : {A : Type 0} (P : A → Type 0) (t : Bool) (x y : A) → (t ≡ true → P x) → (t ≡ false → P y) → P (cond t x y)
-cond-by P true x y f g = f refl
-cond-by P false x y f g = g refl
 
 -- ---- the count
 

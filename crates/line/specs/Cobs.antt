@@ -3,8 +3,17 @@
 use mathlib.Core.Bool.{Bool, true, false, cond}
 use mathlib.Core.List.{List, [], _∷_, _++_}
 use mathlib.Core.Option.{Option, none, some, Option·map}
-use Prim.Native.Nat.{ℕ, zero, suc, _-_}
+use Prim.Native.Nat.{ℕ, zero, suc, pred, _-_}
 use lib.Dec.{eqb, ltb}
+use Rattle.line.specs.Limits.{longest-group}
+
+-- the code byte of a full group, which no zero follows
+abbrev pub full-code : ℕ
+full-code = suc longest-group
+
+-- the places of a group behind its first byte's
+abbrev pub places-left : ℕ
+places-left = pred longest-group
 
 -- Writing. A group that is being made: how many bytes it still gets, and all that follows its code byte.
 pub record Group : Type 0 where
@@ -24,17 +33,17 @@ abbrev pub unlessEnd : List ℕ → List ℕ → List ℕ
 unlessEnd [] ys = []
 unlessEnd (x ∷ xs) ys = ys
 
--- the groups of a message whose first group takes `room` bytes and one more: a zero ends a group, and so does the
--- group's last place, after which no code byte is written where the message ends
+-- the groups of a message whose first group has `room` places behind its next byte's: a zero ends a group, and so does a
+-- byte in the group's last place, after which no code byte is written where the message ends
 unfoldable pub groups : ℕ → List ℕ → Group
 groups room [] = record { count = 0; after = [] }
-groups room (zero ∷ xs) = record { count = 0; after = coded (groups 253 xs) }
-groups zero (suc b ∷ xs) = joined (suc b) (record { count = 0; after = unlessEnd xs (coded (groups 253 xs)) })
+groups room (zero ∷ xs) = record { count = 0; after = coded (groups places-left xs) }
+groups zero (suc b ∷ xs) = joined (suc b) (record { count = 0; after = unlessEnd xs (coded (groups places-left xs)) })
 groups (suc room) (suc b ∷ xs) = joined (suc b) (groups room xs)
 
--- the COBS form of a message; a group has at most 254 bytes
+-- the COBS form of a message
 unfoldable pub cobs : List ℕ → List ℕ
-cobs xs = coded (groups 253 xs)
+cobs xs = coded (groups places-left xs)
 
 -- Reading. The zero that follows a group, where it holds one.
 abbrev pub zeros : Bool → List ℕ
@@ -46,7 +55,7 @@ unfoldable pub groupBytes : ℕ → Bool → List ℕ → Option (List ℕ)
 groupBytes zero holds [] = some []
 groupBytes (suc left) holds [] = none
 groupBytes (suc left) holds (b ∷ bs) = Option·map (λ xs. b ∷ xs) (groupBytes left holds bs)
-groupBytes zero holds (c ∷ cs) = cond (eqb c 0) none (Option·map (λ xs. zeros holds ++ xs) (groupBytes (c - 1) (ltb c 255) cs))
+groupBytes zero holds (c ∷ cs) = cond (eqb c 0) none (Option·map (λ xs. zeros holds ++ xs) (groupBytes (c - 1) (ltb c full-code) cs))
 
 -- the bytes of a COBS form, unless it is none
 unfoldable pub uncobs : List ℕ → Option (List ℕ)

@@ -52,12 +52,12 @@ judgeFields xs =
     (failure 2 (some (sequenceOf xs)))
 
 -- a decoded length below 19 or above 4,123
-abbrev pub misfit : List ℕ → Bool
-misfit xs = ltb (length xs) shortest-message || ltb longest-message (length xs)
+abbrev pub wrongLength : List ℕ → Bool
+wrongLength xs = ltb (length xs) shortest-message || ltb longest-message (length xs)
 
 -- reason 3: the decoded length
 unfoldable pub judgeLength : List ℕ → Verdict
-judgeLength xs = cond (misfit xs) (failure 3 none) (judgeFields xs)
+judgeLength xs = cond (wrongLength xs) (failure 3 none) (judgeFields xs)
 
 -- reason 1: a code byte runs past the end
 unfoldable pub judgeForm : Option (List ℕ) → Verdict

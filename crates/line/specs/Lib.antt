@@ -1,5 +1,5 @@
--- The meaning of the line layer, in document 01's order: limits, checksum, message, COBS, frame, wire bytes, reading.
--- Assumes nothing.
+-- The meaning of the line layer in document 01's order, Limits to Judge; what the code's own contracts cite, Runs and Decoding;
+-- and what each public call answers and leaves, Reader and Writer. Assumes nothing.
 pub mod Limits
 pub mod Checksum
 pub mod Message

@@ -20,6 +20,10 @@ longest-message = 4123
 abbrev pub longest-data : ℕ
 longest-data = longest-message - shortest-message
 
+-- the bytes that a COBS group carries at most, behind the code byte ff
+abbrev pub longest-group : ℕ
+longest-group = 254
+
 -- the longest COBS form of a message, without its terminator: 4,140 bytes
 abbrev pub longest-form : ℕ
-longest-form = longest-message + 1 + longest-message / 254
+longest-form = longest-message + 1 + longest-message / longest-group

@@ -17,12 +17,16 @@ pub record Message : Type 0 where
   pub command : ℕ
   pub payload : List ℕ
 
--- each field fits its width, and there are at most 4,104 bytes of data
-pub record InRange (m : Message) : Type 0 where
+-- each field fits its width
+pub record Typed (m : Message) : Type 0 where
   pub version : m .version < 2 ^ 32
   pub sequence : m .sequence < 2 ^ 64
   pub command : m .command < 2 ^ 8
   pub payload : Each Byte (m .payload)
+
+-- and there are at most 4,104 bytes of data
+pub record InRange (m : Message) : Type 0 where
+  pub typed : Typed m
   pub fits : length (m .payload) ≤ longest-data
 
 -- the bytes ahead of the checksum

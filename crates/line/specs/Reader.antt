@@ -10,7 +10,7 @@ use Rattle.octets.specs.Bytes.{bytes, run, numberAt, overlay}
 use Rattle.line.specs.Limits.{header-length, shortest-message, longest-message, longest-data, longest-form}
 use Rattle.line.specs.Message.{Message}
 use Rattle.line.specs.Cobs.{uncobs}
-use Rattle.line.specs.Judge.{Verdict, failure, good, misfit, judge}
+use Rattle.line.specs.Judge.{Verdict, failure, good, wrongLength, judge}
 use Rattle.line.specs.declared.reader.Answer.{Answer}
 use Rattle.line.specs.declared.reader.Answer.the-variants as answer
 use Rattle.line.specs.declared.reader.Reading.{Reading}
@@ -70,9 +70,9 @@ said (answer.BadChecksum sequence) = failed 2 (some sequence)
 said (answer.BadMagic sequence) = failed 4 (some sequence)
 
 -- what an answer says of a verdict
-unfoldable pub told : Verdict → Said
-told (failure reason sequence) = failed reason sequence
-told (good m) = message (m .version) (m .sequence) (m .command) (length (m .payload))
+unfoldable pub verdictSaid : Verdict → Said
+verdictSaid (failure reason sequence) = failed reason sequence
+verdictSaid (good m) = message (m .version) (m .sequence) (m .command) (length (m .payload))
 
 -- One byte that is not 00: kept, or one too many.
 unfoldable pub pushed : List ℕ → ℕ → List ℕ
@@ -94,12 +94,12 @@ settled a s = record { answer = a; state = s }
 -- the bytes of a form in the frame's place, where they have a message's length
 unfoldable pub unpacked : Option (List ℕ) → List ℕ → List ℕ
 unpacked none s = s
-unpacked (some xs) s = cond (misfit xs) s (overlay frame-place xs s)
+unpacked (some xs) s = cond (wrongLength xs) s (overlay frame-place xs s)
 
 unfoldable pub settle : List ℕ → List ℕ → Settled
-settle form s = settled (told (judge form)) (unpacked (uncobs form) s)
+settle form s = settled (verdictSaid (judge form)) (unpacked (uncobs form) s)
 
--- no byte of a frame is kept afterwards; an empty frame has no reason, and one of more than 4,140 bytes has reason 1
+-- the count is 0 afterwards; an empty frame has no reason, and one of more than 4,140 bytes has reason 1
 unfoldable pub finish : List ℕ → Settled
 finish s =
     cond (eqb (count s) 0) (settled empty (counted 0 s))
@@ -124,7 +124,7 @@ unfoldable pub readPiece : List ℕ → List ℕ → Outcome
 readPiece s [] = record { used = 0; answer = more; state = s }
 readPiece s (b ∷ bs) = cond (eqb b 0) (record { used = 1; answer = finish s .answer; state = finish s .state }) (next (readPiece (pushed s b) bs))
 
--- a call of `read`: a state that 12 is said of is left as it is
+-- a call of `read`; one refused as 12 reads nothing and leaves the state
 unfoldable pub reading : List ℕ → List ℕ → Outcome
 reading s piece = cond (valid s) (readPiece s piece) (record { used = 0; answer = refused 12; state = s })
 
@@ -145,19 +145,20 @@ starting s = cond (leb state-length (length s)) (record { refusal = none; state 
 
 -- A call of `tail`: how many bytes of an unfinished frame have come, or that they are more than the longest form has.
 pub data TailSaid : Type 0 where
-  denied : ℕ → TailSaid
+  refused : ℕ → TailSaid
   unfinished : ℕ → TailSaid
   longer : TailSaid
 
 unfoldable pub tailSaid : Unfinished → TailSaid
-tailSaid tail-answer.Refused = denied 12
+tailSaid tail-answer.Refused = TailSaid.refused 12
 tailSaid (tail-answer.Bytes n) = unfinished n
 tailSaid tail-answer.Longer = longer
 
 unfoldable pub tailOf : List ℕ → TailSaid
-tailOf s = cond (valid s) (cond (ltb longest-form (count s)) longer (unfinished (count s))) (denied 12)
+tailOf s = cond (valid s) (cond (ltb longest-form (count s)) longer (unfinished (count s))) (TailSaid.refused 12)
 
--- The data of the message that a call of `read` handed out with that length, in the state as that call left it.
+-- The bytes from the data's place on, so many: the data of the message that a call of `read` handed out with that length, in the
+-- state as that call left it; for any other length, or after another call of `read`, the bytes that stand there.
 abbrev pub data-place : ℕ
 data-place = frame-place + header-length
 
@@ -170,5 +171,9 @@ dataSaid handed-answer.TooLong = some 9
 dataSaid handed-answer.Refused = some 12
 
 -- a refused call hands out an empty part
+unfoldable pub partOf : Option ℕ → List ℕ → List ℕ
+partOf none part = part
+partOf (some number) part = []
+
 unfoldable pub dataOf : List ℕ → ℕ → List ℕ
-dataOf s n = cond (valid s) (cond (ltb longest-data n) [] (run data-place n s)) []
+dataOf s n = partOf (dataRefusal s n) (run data-place n s)

@@ -1,4 +1,4 @@
--- Runs of bytes that are not zero.
+-- What the contracts of the loops over bytes cite: runs of bytes that are not zero.
 -- Assumes nothing: these are definitions.
 use mathlib.Core.List.{List, [], _∷_}
 use Prim.Native.Nat.{ℕ, zero, suc}

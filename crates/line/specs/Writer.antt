@@ -31,8 +31,8 @@ abbrev pub outcome : Written → List ℕ → Outcome
 outcome r out = record { answer = said r; out = out }
 
 -- the message of a call: its data stand in two parts
-abbrev pub called : ℕ → ℕ → ℕ → List ℕ → List ℕ → Message
-called version sequence command head rest = record { version = version; sequence = sequence; command = command; payload = head ++ rest }
+abbrev pub messageOf : ℕ → ℕ → ℕ → List ℕ → List ℕ → Message
+messageOf version sequence command head rest = record { version = version; sequence = sequence; command = command; payload = head ++ rest }
 
 -- bytes at the start of the room, where they fit
 unfoldable pub sending : List ℕ → List ℕ → Outcome

@@ -1,5 +1,6 @@
 // COBS: the length of a form, the form itself, the length that a form decodes to, and its decoding in place.
-// A group goes from one code byte to the next; each loop takes one group a turn.
+// Each loop takes one group a turn. Assumes that the bytes named lie within the slices, as each `requires` says.
+use crate::limits::LONGEST_GROUP;
 use crate::scan::least;
 use crate::scan::nonzero_run;
 ghost use mathlib.Core.Path.{_≡_};
@@ -10,9 +11,6 @@ ghost use Rattle.octets.specs.Bytes.{overlay};
 ghost use Rattle.line.specs.Limits.{longest-message};
 ghost use Rattle.line.specs.Cobs.{cobs, uncobs};
 ghost use Rattle.line.specs.Decoding.{measured, plain, bit};
-
-// The longest group: 254 bytes behind the code byte ff.
-const LONGEST_GROUP: usize = 254;
 
 // The length of the COBS form of the first n bytes of s.
 pub(crate) fn form_length(s: &[u8], n: usize) -> usize

@@ -1,7 +1,8 @@
-// The reader: a lent state takes pieces of the received stream and answers once for each 00.
-// The state: how many bytes of the frame have come, u16 at 0 (4,141: more than 4,140), and the bytes from 2 on.
+// The reader: a lent state takes pieces of the received stream and answers once for each 00. docs/STATE.md has the state's fields.
+// Assumes nothing of what a caller lends: no public function here has a `requires`.
 use crate::cobs;
 use crate::cobs::Measured;
+use crate::limits;
 use crate::scan::nonzero_run;
 use crate::sums;
 ghost use mathlib.Core.Path.{_≡_};
@@ -12,26 +13,17 @@ ghost use Rattle.line.specs.Limits.{shortest-message, longest-message, l
 ghost use Rattle.line.specs.Cobs.{uncobs};
 ghost use Rattle.line.specs.Decoding.{measured, plain};
 ghost use Rattle.line.specs.Judge.{judgeFields};
-ghost use Rattle.line.specs.Reader.{frame-place, state-length, overlong, count, counted, valid, said, told, pushes, settled, settle, finish, outcome, reading, started, starting, tailSaid, tailOf, dataSaid, dataRefusal, dataOf};
-
-// The state's published length.
-pub const STATE_LENGTH: usize = 4142;
+ghost use Rattle.line.specs.Reader.{frame-place, state-length, overlong, count, counted, valid, said, verdictSaid, pushes, settled, settle, finish, outcome, reading, started, starting, tailSaid, tailOf, dataSaid, dataRefusal, dataOf};
 
 const FRAME_PLACE: usize = 2;
 
-const DATA_PLACE: usize = 19;
+// The state's published length: 4,142 bytes.
+pub const STATE_LENGTH: usize = FRAME_PLACE + limits::LONGEST_FORM;
 
-const LONGEST_FORM: usize = 4140;
+// The count of a frame that is longer than any form.
+const OVERLONG: usize = limits::LONGEST_FORM + 1;
 
-const OVERLONG: usize = 4141;
-
-const SHORTEST_MESSAGE: usize = 19;
-
-const LONGEST_MESSAGE: usize = 4123;
-
-const LONGEST_DATA: usize = 4104;
-
-const MAGIC: u32 = 0x01DE19CC;
+const DATA_PLACE: usize = FRAME_PLACE + limits::HEADER_LENGTH;
 
 // A message that was handed out; its data lie in the state.
 pub struct Head {
@@ -41,6 +33,7 @@ pub struct Head {
     pub length: usize,
 }
 
+// What a call of `read` says; `said` in specs/Reader.antt gives document 01's numbers and values.
 pub enum Answer {
     Refused,
     More,
@@ -52,22 +45,26 @@ pub enum Answer {
     BadMagic(u64),
 }
 
+// How many bytes of the piece a call of `read` read, and what it says.
 pub struct Reading {
     pub used: usize,
     pub answer: Answer,
 }
 
+// What a call of `start` says.
 pub enum Started {
     Done,
     Refused,
 }
 
+// What a call of `tail` says.
 pub enum Unfinished {
     Refused,
     Bytes(usize),
     Longer,
 }
 
+// What a call of `message_data_given` says.
 pub enum Handed {
     Given,
     TooLong,
@@ -81,7 +78,7 @@ pub fn start(state: &mut [u8]) -> Started
     if state.len() < STATE_LENGTH {
         return Started::Refused;
     }
-    set_count(state, 0);
+    set_count(state, 0); // no frame has begun
     Started::Done
 }
 
@@ -110,14 +107,14 @@ pub fn read(state: &mut [u8], piece: &[u8]) -> Reading
     }
 }
 
-// The data of the message that `read` handed out with this length, or an empty part.
+// The data of the message that `read` handed out with this length; an empty part where `message_data_given` refuses.
 pub fn message_data<'a>(state: &'a [u8], length: usize) -> &'a [u8]
     ensures { λ r. ⌜ now r ≡ dataOf (now (state .entry)) length ⌝ }
 {
     if !is_valid(state) {
         return &state[..0];
     }
-    if LONGEST_DATA < length {
+    if limits::LONGEST_DATA < length {
         return &state[..0];
     }
     &state[DATA_PLACE..DATA_PLACE + length]
@@ -130,7 +127,7 @@ pub fn message_data_given(state: &[u8], length: usize) -> Handed
     if !is_valid(state) {
         return Handed::Refused;
     }
-    if LONGEST_DATA < length {
+    if limits::LONGEST_DATA < length {
         return Handed::TooLong;
     }
     Handed::Given
@@ -144,7 +141,7 @@ pub fn tail(state: &[u8]) -> Unfinished
         return Unfinished::Refused;
     }
     let n = get_count(state);
-    if LONGEST_FORM < n {
+    if limits::LONGEST_FORM < n {
         return Unfinished::Longer;
     }
     Unfinished::Bytes(n)
@@ -184,11 +181,11 @@ fn append(state: &mut [u8], piece: &[u8], n: usize)
         return;
     }
     let have = get_count(state);
-    if LONGEST_FORM < have {
+    if limits::LONGEST_FORM < have {
         set_count(state, OVERLONG);
         return;
     }
-    let room = LONGEST_FORM - have;
+    let room = limits::LONGEST_FORM - have;
     if room < n {
         octets::copy(piece, 0, room, state, FRAME_PLACE + have);
         set_count(state, OVERLONG);
@@ -209,7 +206,7 @@ fn finish_frame(state: &mut [u8]) -> Answer
     if n == 0 {
         return Answer::Empty;
     }
-    if LONGEST_FORM < n {
+    if limits::LONGEST_FORM < n {
         return Answer::BadForm;
     }
     settle_form(state, n)
@@ -241,10 +238,10 @@ fn settle_form(state: &mut [u8], n: usize) -> Answer
     match m {
         Measured::Bad => Answer::BadForm,
         Measured::Length(k) => {
-            if k < SHORTEST_MESSAGE {
+            if k < limits::SHORTEST_MESSAGE {
                 return Answer::BadLength;
             }
-            if LONGEST_MESSAGE < k {
+            if limits::LONGEST_MESSAGE < k {
                 return Answer::BadLength;
             }
             decode_frame(state, n);
@@ -258,20 +255,22 @@ fn inspect(state: &[u8], k: usize) -> Answer
     requires { ⌜ state-length ≤ length (now state) ⌝ }
     requires { ⌜ shortest-message ≤ k ⌝ }
     requires { ⌜ k ≤ longest-message ⌝ }
-    ensures { λ r. ⌜ said r ≡ told (judgeFields (run frame-place k (now (state .entry)))) ⌝ }
+    ensures { λ r. ⌜ said r ≡ verdictSaid (judgeFields (run frame-place k (now (state .entry)))) ⌝ }
 {
     let message = &state[FRAME_PLACE..FRAME_PLACE + k];
     let sequence = octets::read_u64(message, 8);
-    if octets::read_u16(message, k - 2) != sums::checksum_of_first(message, k - 2) {
+    if octets::read_u16(message, k - limits::CHECKSUM_LENGTH)
+        != sums::checksum_of_first(message, k - limits::CHECKSUM_LENGTH)
+    {
         return Answer::BadChecksum(sequence);
     }
-    if octets::read_u32(message, 0) != MAGIC {
+    if octets::read_u32(message, 0) != limits::MAGIC {
         return Answer::BadMagic(sequence);
     }
     Answer::Message(Head {
         version: octets::read_u32(message, 4),
         sequence,
         command: octets::read_u8(message, 16),
-        length: k - SHORTEST_MESSAGE,
+        length: k - limits::SHORTEST_MESSAGE,
     })
 }

@@ -1,4 +1,5 @@
 // Runs of bytes that are not zero.
+// Assumes nothing: no function here has a `requires`.
 ghost use mathlib.Core.Path.{_≡_};
 ghost use lib.ListN.{length, drop};
 ghost use Prim.Native.Nat.{min};

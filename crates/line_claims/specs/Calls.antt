@@ -1,13 +1,19 @@
 -- Calls of a line reader, one after the other, and what they hand out (document 01, "Demand 3's words").
 -- Assumes nothing: these are definitions.
-use mathlib.Core.List.{List, [], _∷_, _++_}
+use mathlib.Core.Bool.{cond}
+use mathlib.Core.List.{List, [], _∷_, _++_, map}
 use mathlib.Core.Option.{Option, none, some}
 use Prim.Native.Nat.{ℕ}
+use lib.Dec.{ltb}
 use lib.ListN.{length, take, drop}
 use Rattle.line.specs.Message.{Message}
-use Rattle.line.specs.Reader.{Said, refused, more, empty, message, failed, Outcome, reading, Start, starting, dataOf}
+use Rattle.line.specs.Judge.{Verdict, failure, good, judge}
+use Rattle.line.specs.Limits.{longest-form}
+use Rattle.line.specs.Reader.{TailSaid, unfinished, longer}
+use Rattle.line.specs.Reader.{Said, refused, more, empty, message, failed, verdictSaid, Outcome, reading, Start, starting, dataOf}
 
--- a call that is given a piece to read: it is lent the first bytes of the state, so many of them or all
+-- a call that is given a piece to read: it is lent the first bytes of the state, so many of them or all. What else a call might get that is
+-- too little of the state is refused likewise, and nothing changes
 pub record Read : Type 0 where
   pub lent : ℕ
   pub piece : List ℕ
@@ -57,19 +63,23 @@ fresh s = record { messages = []; failures = []; answered = []; bytes = []; stat
 abbrev pub back : ℕ → List ℕ → List ℕ → List ℕ
 back lent s part = part ++ drop lent s
 
--- the reader after a call that gave this outcome
-unfoldable pub went : Reader → Read → Outcome → Reader
-went r c o = record {
-  messages = r .messages ++ handed (o .answer) (o .state);
-  failures = r .failures ++ reasons (o .answer);
-  answered = r .answered ++ answers (o .answer);
-  bytes = r .bytes ++ take (o .used) (c .piece);
-  state = back (c .lent) (r .state) (o .state);
+-- the reader after an answer: the bytes lent at the call's return, the bytes that it read, and the whole state
+abbrev pub extended : Reader → Said → List ℕ → List ℕ → List ℕ → Reader
+extended r answer part bs s = record {
+  messages = r .messages ++ handed answer part;
+  failures = r .failures ++ reasons answer;
+  answered = r .answered ++ answers answer;
+  bytes = r .bytes ++ bs;
+  state = s;
 }
+
+-- the reader after a call that gave this outcome
+unfoldable pub afterOutcome : Reader → Read → Outcome → Reader
+afterOutcome r c o = extended r (o .answer) (o .state) (take (o .used) (c .piece)) (back (c .lent) (r .state) (o .state))
 
 -- a call that is given a piece does what the promise of `read` cites
 unfoldable pub afterRead : Reader → Read → Reader
-afterRead r c = went r c (reading (take (c .lent) (r .state)) (c .piece))
+afterRead r c = afterOutcome r c (reading (take (c .lent) (r .state)) (c .piece))
 
 -- a start that is refused changes nothing; any other begins another fresh reader
 unfoldable pub restarted : Reader → List ℕ → Option ℕ → Reader
@@ -87,10 +97,38 @@ unfoldable pub afterAll : Reader → List Call → Reader
 afterAll r [] = r
 afterAll r (c ∷ cs) = afterAll (after r c) cs
 
-unfoldable pub afterReads : Reader → List Read → Reader
-afterReads r [] = r
-afterReads r (c ∷ cs) = afterReads (afterRead r c) cs
+abbrev pub afterReads : Reader → List Read → Reader
+afterReads r cs = afterAll r (map read cs)
 
 -- the reader just after a start on a room
 unfoldable pub begun : List ℕ → Reader
 begun room = fresh (starting room .state)
+
+-- What the tests make of a stream's pieces: the answer at the 00 that closes these bytes
+unfoldable pub frameSaid : List ℕ → Said
+frameSaid [] = empty
+frameSaid (b ∷ bs) = verdictSaid (judge (b ∷ bs))
+
+-- what the verdicts on these lists of bytes give, in order
+unfoldable pub gathered : {A : Type 0} → (Verdict → List A) → List (List ℕ) → List A
+gathered f [] = []
+gathered f (p ∷ ps) = f (judge p) ++ gathered f ps
+
+abbrev pub goodOf : Verdict → List Message
+goodOf (failure reason sequence) = []
+goodOf (good m) = m ∷ []
+
+abbrev pub reasonOf : Verdict → List ℕ
+reasonOf (failure reason sequence) = reason ∷ []
+reasonOf (good m) = []
+
+-- the messages, and the reasons of the failures
+abbrev pub goodMessages : List (List ℕ) → List Message
+goodMessages = gathered goodOf
+
+abbrev pub failureReasons : List (List ℕ) → List ℕ
+failureReasons = gathered reasonOf
+
+-- what is said of an unfinished tail
+unfoldable pub tailMeant : List ℕ → TailSaid
+tailMeant t = cond (ltb longest-form (length t)) longer (unfinished (length t))

@@ -22,38 +22,38 @@ pub record Near (xs ys : List ℕ) : Type 0 where
   pub elsewhere : SameBut place xs ys
 
 -- equal, or one is 00 and the other ff
-abbrev pub Blind : ℕ → ℕ → Type 0
-Blind x y = (x ≡ y) ⊎ (((x ≡ 0) × (y ≡ 255)) ⊎ ((x ≡ 255) × (y ≡ 0)))
+abbrev pub SameOr00Ff : ℕ → ℕ → Type 0
+SameOr00Ff x y = (x ≡ y) ⊎ (((x ≡ 0) × (y ≡ 255)) ⊎ ((x ≡ 255) × (y ≡ 0)))
 
--- blind at every place, for lists of one length
-abbrev pub BlindAll : List ℕ → List ℕ → Type 0
-BlindAll xs ys = (i : ℕ) → Blind (getD xs i 0) (getD ys i 0)
+-- so at every place, for lists of one length
+abbrev pub AllSameOr00Ff : List ℕ → List ℕ → Type 0
+AllSameOr00Ff xs ys = (i : ℕ) → SameOr00Ff (getD xs i 0) (getD ys i 0)
 
--- bytes that are congruent modulo 255 are blind
-blind : (x y : ℕ) → Byte x → Byte y → x % 255 ≡ y % 255 → Blind x y
-blind x y hx hy e =
+-- bytes that are congruent modulo 255 are so
+alike : (x y : ℕ) → Byte x → Byte y → x % 255 ≡ y % 255 → SameOr00Ff x y
+alike x y hx hy e =
     elim (ℕ-discrete x y) [
       | yes p ↦ inl p
       | no p ↦ inr (elim (ℕ-discrete x 0) [ yes q ↦ inl (q, omega arith) | no q ↦ inr (omega arith, omega arith) ])
     ]
 
--- blind bytes add alike, and a summand cancels
-blind-added : (n x y : ℕ) → Blind x y → (n + x) % 255 ≡ (n + y) % 255
-blind-added n x y (inl p) = omega arith
-blind-added n x y (inr (inl p)) = omega arith
-blind-added n x y (inr (inr p)) = omega arith
+-- such bytes add alike, and a summand cancels
+alike-added : (n x y : ℕ) → SameOr00Ff x y → (n + x) % 255 ≡ (n + y) % 255
+alike-added n x y (inl p) = omega arith
+alike-added n x y (inr (inl p)) = omega arith
+alike-added n x y (inr (inr p)) = omega arith
 
 cancel : (n m x y : ℕ) → n ≡ m → (n + x) % 255 ≡ (m + y) % 255 → x % 255 ≡ y % 255
 cancel n m x y h e = omega arith
 
--- from right to left: blind lists have equal sums
-blind-sums : (xs ys : List ℕ) (first second : ℕ) → length xs ≡ length ys → BlindAll xs ys → sums first second xs ≡ sums first second ys
+-- from right to left: such lists have equal sums
+alike-sums : (xs ys : List ℕ) (first second : ℕ) → length xs ≡ length ys → AllSameOr00Ff xs ys → sums first second xs ≡ sums first second ys
 unfolding sums
-blind-sums [] [] first second l h = refl
-blind-sums [] (y ∷ ys) first second l h = absurd (omega arith)
-blind-sums (x ∷ xs) [] first second l h = absurd (omega arith)
-blind-sums (x ∷ xs) (y ∷ ys) first second l h =
-    rw (blind-added first x y (h 0)) (blind-sums xs ys _ _ (omega arith) (λ i. h (suc i)))
+alike-sums [] [] first second l h = refl
+alike-sums [] (y ∷ ys) first second l h = absurd (omega arith)
+alike-sums (x ∷ xs) [] first second l h = absurd (omega arith)
+alike-sums (x ∷ xs) (y ∷ ys) first second l h =
+    rw (alike-added first x y (h 0)) (alike-sums xs ys _ _ (omega arith) (λ i. h (suc i)))
 
 -- from left to right: sums that are equal after equal bytes were equal before them
 sums-before : (bs : List ℕ) (s t s′ t′ : ℕ) → s < 255 → t < 255 → s′ < 255 → t′ < 255 → sums s t bs ≡ sums s′ t′ bs → (s ≡ s′) × (t ≡ t′)
@@ -67,31 +67,31 @@ first-between : (t s s′ b b′ : ℕ) → s < 255 → s′ < 255 → (s + b) %
     → ((t + s) % 255 + (s + b) % 255) % 255 ≡ ((t + s′) % 255 + (s′ + b′) % 255) % 255 → s ≡ s′
 first-between t s s′ b b′ h h′ e f = omega arith
 
-and-blind : (xs ys : List ℕ) {x y : ℕ} → Blind x y → BlindAll xs ys → BlindAll (x ∷ xs) (y ∷ ys)
-and-blind xs ys h r zero = h
-and-blind xs ys h r (suc i) = r i
+and-alike : (xs ys : List ℕ) {x y : ℕ} → SameOr00Ff x y → AllSameOr00Ff xs ys → AllSameOr00Ff (x ∷ xs) (y ∷ ys)
+and-alike xs ys h r zero = h
+and-alike xs ys h r (suc i) = r i
 
-sums-blind : (xs ys : List ℕ) (place s t : ℕ) → length xs ≡ length ys → SameBut place xs ys → Each Byte xs → Each Byte ys
-    → sums s t xs ≡ sums s t ys → BlindAll xs ys
+sums-alike : (xs ys : List ℕ) (place s t : ℕ) → length xs ≡ length ys → SameBut place xs ys → Each Byte xs → Each Byte ys
+    → sums s t xs ≡ sums s t ys → AllSameOr00Ff xs ys
 unfolding sums
-sums-blind [] [] place s t l n h k e = λ i. inl refl
-sums-blind [] (y ∷ ys) place s t l n h k e = absurd (omega arith)
-sums-blind (x ∷ xs) [] place s t l n h k e = absurd (omega arith)
-sums-blind (x ∷ xs) (y ∷ ys) (suc place) s t l n h k e =
+sums-alike [] [] place s t l n h k e = λ i. inl refl
+sums-alike [] (y ∷ ys) place s t l n h k e = absurd (omega arith)
+sums-alike (x ∷ xs) [] place s t l n h k e = absurd (omega arith)
+sums-alike (x ∷ xs) (y ∷ ys) (suc place) s t l n h k e =
     let p : x ≡ y = n 0 (λ z. omega arith) (λ z. omega arith) in
-    and-blind xs ys (inl p) (sums-blind xs ys place _ _ (omega arith) (λ i a b. n (suc i) (λ z. a (omega arith)) (λ z. b (omega arith))) (h .1) (k .1) (rw p at e))
-sums-blind (x ∷ []) (y ∷ []) zero s t l n h k e =
+    and-alike xs ys (inl p) (sums-alike xs ys place _ _ (omega arith) (λ i a b. n (suc i) (λ z. a (omega arith)) (λ z. b (omega arith))) (h .1) (k .1) (rw p at e))
+sums-alike (x ∷ []) (y ∷ []) zero s t l n h k e =
     let r = sums-before [] _ _ _ _ (omega arith) (omega arith) (omega arith) (omega arith) e in
-    and-blind [] [] (blind x y (h .0) (k .0) (cancel s s x y refl (r .0))) (λ i. inl refl)
-sums-blind (x ∷ []) (y ∷ z ∷ ys) zero s t l n h k e = absurd (omega arith)
-sums-blind (x ∷ w ∷ xs) (y ∷ []) zero s t l n h k e = absurd (omega arith)
-sums-blind (x ∷ w ∷ xs) (y ∷ z ∷ ys) zero s t l n h k e =
+    and-alike [] [] (alike x y (h .0) (k .0) (cancel s s x y refl (r .0))) (λ i. inl refl)
+sums-alike (x ∷ []) (y ∷ z ∷ ys) zero s t l n h k e = absurd (omega arith)
+sums-alike (x ∷ w ∷ xs) (y ∷ []) zero s t l n h k e = absurd (omega arith)
+sums-alike (x ∷ w ∷ xs) (y ∷ z ∷ ys) zero s t l n h k e =
     let same : (i : ℕ) → getD xs i 0 ≡ getD ys i 0 = λ i. n (suc (suc i)) (λ z. omega arith) (λ z. omega arith) in
     let r = sums-before ys _ _ _ _ (omega arith) (omega arith) (omega arith) (omega arith) (rw (ext-getD 0 xs ys (omega arith) (λ i _. same i)) at e) in
     let q : (s + x) % 255 ≡ (s + y) % 255 = first-between t _ _ w z (omega arith) (omega arith) (r .0) (r .1) in
-    and-blind (w ∷ xs) (z ∷ ys) (blind x y (h .0) (k .0) (cancel s s x y refl q))
-    (and-blind xs ys (blind w z (h .1 .0) (k .1 .0) (cancel _ _ w z q (r .0))) (λ i. inl (same i)))
+    and-alike (w ∷ xs) (z ∷ ys) (alike x y (h .0) (k .0) (cancel s s x y refl q))
+    (and-alike xs ys (alike w z (h .1 .0) (k .1 .0) (cancel _ _ w z q (r .0))) (λ i. inl (same i)))
 
-pub checksum-claim : {xs ys : List ℕ} → Near xs ys → Each Byte xs → Each Byte ys → (checksum xs ≡ checksum ys) ↔ BlindAll xs ys
+pub checksum-claim : {xs ys : List ℕ} → Near xs ys → Each Byte xs → Each Byte ys → (checksum xs ≡ checksum ys) ↔ AllSameOr00Ff xs ys
 unfolding checksum
-checksum-claim {xs} {ys} n h k = (λ e. sums-blind xs ys (n .place) 0 0 (n .lengths) (n .elsewhere) h k e, blind-sums xs ys 0 0 (n .lengths))
+checksum-claim {xs} {ys} n h k = (λ e. sums-alike xs ys (n .place) 0 0 (n .lengths) (n .elsewhere) h k e, alike-sums xs ys 0 0 (n .lengths))

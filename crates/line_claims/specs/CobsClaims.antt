@@ -8,30 +8,31 @@ use native.Mathlib.Omega.{arith}
 use native.Mathlib.Nat.{add-zero}
 use native.Mathlib.Numerals.{sub-one}
 use borrow.Author.Tests.{lt-ltb, le-ltb}
-use lib.ListN.{length}
+use lib.ListN.{length, length-append}
 use lib.Dec.{ltb, eqb·suc-zero}
 use Rattle.octets.specs.Bytes.{Byte, Each}
 use Rattle.line.specs.Limits.{longest-form}
 use Rattle.line.specs.Message.{Message, InRange, message}
-use Rattle.line.specs.Cobs.{groups, cobs, groupBytes, uncobs}
+use Rattle.line.specs.Frame.{frame}
+use Rattle.line.specs.Cobs.{full-code, places-left, groups, cobs, groupBytes, uncobs}
 use Rattle.line.proofs.Message.{length-message}
 
 -- ---- reading gives the list back
 
 -- `done` bytes of the first group stand ahead of the list, and it gets n in all
-groups-read : (xs : List ℕ) (room done n : ℕ) → room + done ≡ 253 → groups room xs .count + done ≡ n
-    → groupBytes (groups room xs .count) (ltb (suc n) 255) (groups room xs .after) ≡ some xs
+groups-read : (xs : List ℕ) (room done n : ℕ) → room + done ≡ places-left → groups room xs .count + done ≡ n
+    → groupBytes (groups room xs .count) (ltb (suc n) full-code) (groups room xs .after) ≡ some xs
 unfolding groups groupBytes
 groups-read [] room done n h e = refl
-groups-read (zero ∷ xs) room done n h e = rw (eqb·suc-zero, sub-one, groups-read xs 253 0 _ refl (add-zero _), lt-ltb (suc n) 255 (omega arith))
+groups-read (zero ∷ xs) room done n h e = rw (eqb·suc-zero, sub-one, groups-read xs places-left 0 _ refl (add-zero _), lt-ltb (suc n) full-code (omega arith))
 groups-read (suc b ∷ []) zero done n h e = refl
 groups-read (suc b ∷ x ∷ xs) zero done n h e =
-    rw (eqb·suc-zero, sub-one, groups-read (x ∷ xs) 253 0 _ refl (add-zero _), le-ltb (suc n) 255 (omega arith))
+    rw (eqb·suc-zero, sub-one, groups-read (x ∷ xs) places-left 0 _ refl (add-zero _), le-ltb (suc n) full-code (omega arith))
 groups-read (suc b ∷ xs) (suc room) done n h e = rw (groups-read xs room (suc done) n (omega arith) (omega arith))
 
 pub round-trip : (xs : List ℕ) → uncobs (cobs xs) ≡ some xs
 unfolding uncobs cobs groupBytes
-round-trip xs = rw (eqb·suc-zero, sub-one, groups-read xs 253 0 _ refl (add-zero _))
+round-trip xs = rw (eqb·suc-zero, sub-one, groups-read xs places-left 0 _ refl (add-zero _))
 
 -- ---- no zero
 
@@ -79,3 +80,8 @@ overhead xs = let r = groups-length xs 253 0 refl in omega arith
 
 pub form-fits : (m : Message) → InRange m → length (cobs (message m)) ≤ longest-form
 form-fits m r = omega (arith, overhead (message m), length-message m)
+
+-- 4,141 bytes with the terminator
+pub frame-fits : (m : Message) → InRange m → length (frame m) ≤ longest-form + 1
+unfolding frame
+frame-fits m r = rw length-append (omega (arith, form-fits m r))

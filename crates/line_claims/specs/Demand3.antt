@@ -1,24 +1,35 @@
 -- Demand 3 in the paper's order: what a call reads, when it is refused, and that what the writer put out is what the reader hands out.
--- `one-meaning`, `hands-out`, `any-stream`, `cut` and `checksum-claim` are passed on from their files. Assumes nothing.
-use mathlib.Core.Path.{_≡_, refl, sym, _∙_}
-use mathlib.Core.Bool.{Bool, true, false}
+-- `one-meaning`, `hands-out`, `any-stream`, `any-tail`, `cut` and `checksum-claim` are passed on from their files. Assumes nothing.
+use mathlib.Core.Path.{_≡_, refl, sym, ap, _∙_}
+use mathlib.Core.Bool.{Bool, true, false, cond}
 use mathlib.Core.List.{List, [], _∷_}
-use mathlib.Core.Logic.{_⊎_, inl, inr}
-use Prim.Native.Nat.{ℕ, zero, suc, _≤_, _<_}
+use mathlib.Core.Logic.{_⊎_, inl, inr, _↔_}
+use mathlib.Core.Option.{Option, none, some}
+use Prim.Native.Nat.{ℕ, zero, suc, _+_, _≤_, _<_}
 use native.Mathlib.Omega.{arith}
-use lib.Dec.{eqb·suc-zero}
+use lib.Dec.{leb, ltb, eqb, eqb·suc-zero}
 use lib.ListN.{length, take, drop, getD, length-take, take-append-drop}
-use Rattle.line.specs.Message.{Message}
-use Rattle.line.specs.Reader.{state-length, valid, Outcome, next, readPiece, reading, pushed}
-use Rattle.line.proofs.State.{cond-by, valid-ready}
+use borrow.Author.Tests.{le-leb, le-ltb}
+use Rattle.octets.proofs.Conditions.{cond-by}
+use Rattle.line.specs.Limits.{longest-data, longest-form}
+use Rattle.line.specs.Message.{Message, InRange}
+use Rattle.line.specs.Frame.{frame}
+use Rattle.line.specs.Judge.{Verdict, failure, good}
+use Rattle.line.specs.Reader.{Said, refused, more, empty, message, failed, verdictSaid, state-length, count, valid, pushed, Settled, settle, finish}
+use Rattle.line.specs.Reader.{Outcome, next, readPiece, reading, starting, TailSaid, unfinished, longer, tailOf, dataRefusal}
+use Rattle.line.specs.Writer
+use Rattle.line.proofs.State.{valid-ready}
 use Rattle.line.proofs.Lent.{valid-append}
+use Rattle.line_claims.specs.CobsClaims.{frame-fits}
 use Rattle.line_claims.specs.Calls.{Call, Reader, afterAll, begun}
 pub use Rattle.line_claims.specs.WireClaim.{one-meaning}
 pub use Rattle.line_claims.specs.WriterClaim.{Sent, sent-wire, written-frame, one-meaning-sent}
-pub use Rattle.line_claims.specs.ReaderClaim.{any-stream, any-messages, any-failures, hands-out, stays-valid, cut}
-pub use Rattle.line_claims.specs.ChecksumClaim.{Near, Blind, BlindAll, checksum-claim}
+pub use Rattle.line_claims.specs.ReaderClaim.{any-stream, any-messages, any-failures, any-tail, hands-out, stays-valid, cut}
+pub use Rattle.line_claims.specs.ChecksumClaim.{Near, SameOr00Ff, AllSameOr00Ff, checksum-claim}
 
--- a call that is not refused reads its whole piece, or stops behind a 00 of that piece
+-- ---- What a call reads
+
+-- the whole piece, or up to and with a 00 of that piece
 abbrev pub Stops : List ℕ → ℕ → Type 0
 Stops piece used = (used ≡ length piece) ⊎ ((at : ℕ) × (used ≡ suc at) × (at < length piece) × (getD piece at 0 ≡ 0))
 
@@ -26,27 +37,104 @@ later : (b : ℕ) (bs : List ℕ) (used : ℕ) → Stops bs used → Stops (b �
 later b bs used (inl e) = inl (omega arith)
 later b bs used (inr q) = inr (suc (q .0), omega arith, omega arith, q .3)
 
-pub stops : (s piece : List ℕ) → Stops piece (readPiece s piece .used)
+stops : (s piece : List ℕ) → Stops piece (readPiece s piece .used)
 unfolding readPiece next
 stops s [] = inl refl
 stops s (zero ∷ bs) = inr (0, refl, omega arith, refl)
 stops s (suc b ∷ bs) = rw eqb·suc-zero (later (suc b) bs (readPiece (pushed s (suc b)) bs .used) (stops (pushed s (suc b)) bs))
 
--- a refused call reads nothing
-pub reads : (s piece : List ℕ) → (reading s piece .used ≡ 0) ⊎ Stops piece (reading s piece .used)
+-- a refused call reads nothing and changes nothing
+pub refused-nothing : (s piece : List ℕ) → valid s ≡ false → reading s piece ≡ record { used = 0; answer = refused 12; state = s }
 unfolding reading
-reads s piece = cond-by (λ (o : Outcome). (o .used ≡ 0) ⊎ Stops piece (o .used)) (valid s) _ _ (λ e. inr (stops s piece)) (λ e. inl refl)
+refused-nothing s piece e = rw e
+
+-- any other reads its whole piece, or stops behind a 00 of that piece
+pub accepted-stops : (s piece : List ℕ) → valid s ≡ true → Stops piece (reading s piece .used)
+unfolding reading
+accepted-stops s piece e = rw e (stops s piece)
+
+-- ---- When a call is refused
+
+abbrev isRefused : Said → Bool
+isRefused (refused number) = true
+isRefused more = false
+isRefused empty = false
+isRefused (message version sequence command n) = false
+isRefused (failed reason sequence) = false
+
+verdict-said : (v : Verdict) → isRefused (verdictSaid v) ≡ false
+unfolding verdictSaid
+verdict-said (failure reason sequence) = refl
+verdict-said (good m) = refl
+
+finish-said : (s : List ℕ) → isRefused (finish s .answer) ≡ false
+unfolding finish settle
+finish-said s =
+    cond-by Says (eqb (count s) 0) _ _ (λ e. refl) (λ e. cond-by Says (ltb longest-form (count s)) _ _ (λ f. refl) (λ f. verdict-said _))
+  where
+    Says : Settled → Type 0
+    Says x = isRefused (x .answer) ≡ false
+
+piece-said : (s piece : List ℕ) → isRefused (readPiece s piece .answer) ≡ false
+unfolding readPiece next
+piece-said s [] = refl
+piece-said s (zero ∷ bs) = finish-said s
+piece-said s (suc b ∷ bs) = rw eqb·suc-zero (piece-said (pushed s (suc b)) bs)
+
+not-both : {b : Bool} → b ≡ false → b ≡ true → ⊥
+not-both p q = let z : _≡_ {A = ℕ} 0 1 = cc in omega arith
+
+-- 12 is answered exactly where the state is not valid
+pub refused-exactly : (s piece : List ℕ) → (reading s piece .answer ≡ refused 12) ↔ (valid s ≡ false)
+unfolding reading
+refused-exactly s piece = (
+  cond-by (λ (o : Outcome). o .answer ≡ refused 12 → valid s ≡ false) (valid s) _ _ (λ e a. absurd (not-both (piece-said s piece) (ap isRefused a))) (λ e a. e),
+  λ e. rw e,
+)
+
+-- no call says 12 of this part of a state
+pub record NotRefused (part : List ℕ) : Type 0 where
+  pub reads : (piece : List ℕ) → reading part piece .answer ≡ refused 12 → ⊥
+  pub tails : tailOf part ≡ TailSaid.refused 12 → ⊥
+  pub hands : (n : ℕ) → dataRefusal part n ≡ some 12 → ⊥
+  pub starts : starting part .refusal ≡ none
+
+abbrev tailRefused : TailSaid → Bool
+tailRefused (TailSaid.refused number) = true
+tailRefused (unfinished n) = false
+tailRefused longer = false
+
+abbrev twelve : Option ℕ → Bool
+twelve none = false
+twelve (some n) = eqb n 12
+
+valid-answers : (part : List ℕ) → valid part ≡ true → NotRefused part
+unfolding tailOf dataRefusal starting
+valid-answers part v = record {
+  reads = λ piece a. not-both (refused-exactly part piece .0 a) v;
+  tails = rw v (λ a. not-both (cond-by (λ x. tailRefused x ≡ false) (ltb longest-form (count part)) longer (unfinished (count part)) (λ e. refl) (λ e. refl)) (ap tailRefused a));
+  hands = λ n. rw v (λ a. not-both (cond-by (λ x. twelve x ≡ false) (ltb longest-data n) (some 9) none (λ e. refl) (λ e. refl)) (ap twelve a));
+  starts = rw (le-leb state-length (length part) (valid-ready part v .0));
+}
 
 module _ (room : List ℕ) (enough : state-length ≤ length room) (cs : List Call) where
-  -- a call that is lent enough of what the layer's own calls left is never refused
-  pub never-12 : (lent : ℕ) → state-length ≤ lent → valid (take lent (afterAll (begun room) cs .state)) ≡ true
+  -- a call that is lent enough of what the layer's own calls left is never refused as 12
+  pub never-12 : (lent : ℕ) → state-length ≤ lent → NotRefused (take lent (afterAll (begun room) cs .state))
   never-12 lent h =
       let s = afterAll (begun room) cs .state in
       let r = valid-ready s (stays-valid room enough cs) in
       let l : state-length ≤ length (take lent s) = simp length-take (omega arith) in
-      sym (valid-append (take lent s) (drop lent s) l) ∙ rw (take-append-drop lent s) (stays-valid room enough cs)
+      valid-answers (take lent s) (sym (valid-append (take lent s) (drop lent s) l) ∙ rw (take-append-drop lent s) (stays-valid room enough cs))
 
-  -- what the writer put out, read by any calls in any pieces, is handed out, in order, without a failure
+  -- ---- What was written is what is handed out
+
+  -- whatever the calls and pieces: in order, and without a failure
   pub sent-handed : {ms : List Message} → Sent ms (afterAll (begun room) cs .bytes)
       → (afterAll (begun room) cs .messages ≡ ms) × (afterAll (begun room) cs .failures ≡ [])
   sent-handed s = hands-out room enough cs (sent-wire s)
+
+-- a room of 4,141 bytes is never too short
+pub room-enough : (m : Message) (out : List ℕ) → InRange m → longest-form + 1 ≤ length out
+    → Writer.writing m out .answer ≡ Writer.wrote (length (frame m))
+unfolding Writer.writing Writer.sending
+room-enough m out r h = rw (le-ltb longest-data (length (m .payload)) (r .fits), le-ltb (length out) (length (frame m)) (omega (arith, frame-fits m r)))

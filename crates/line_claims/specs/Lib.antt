@@ -2,11 +2,11 @@
 -- Assumes nothing.
 pub mod Samples
 pub mod MessageLaws
+pub mod Pieces
 pub mod CobsClaims
 pub mod JudgeClaim
 pub mod WireClaim
 pub mod ChecksumClaim
-pub mod SplitLaws
 pub mod WriterClaim
 pub mod Calls
 pub mod Streams

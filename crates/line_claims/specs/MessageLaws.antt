@@ -20,7 +20,7 @@ use Rattle.line.specs.Judge.{bodyOf, checksumOf, magicOf, fields}
 
 pub body-each : (m : Message) → InRange m → Each Byte (body m)
 unfolding body
-body-each m r = field 4 _ _ (field 4 _ _ (field 8 _ _ (field 1 _ _ (r .payload))))
+body-each m r = field 4 _ _ (field 4 _ _ (field 8 _ _ (field 1 _ _ (r .typed .payload))))
   where
     field : (k v : ℕ) (xs : List ℕ) → Each Byte xs → Each Byte (bytes k v ++ xs)
     field k v xs h = each-append Byte (bytes k v) xs (bytes-each k v) h
@@ -51,8 +51,8 @@ unfolding fields message body bytes
 fields-read m r =
     rw (body-read m)
     (λ i. record {
-      version = number-bytes 4 (m .version) (r .version) i;
-      sequence = number-bytes 8 (m .sequence) (r .sequence) i;
-      command = number-bytes 1 (m .command) (r .command) i;
+      version = number-bytes 4 (m .version) (r .typed .version) i;
+      sequence = number-bytes 8 (m .sequence) (r .typed .sequence) i;
+      command = number-bytes 1 (m .command) (r .typed .command) i;
       payload = m .payload;
     })

@@ -14,45 +14,22 @@ use Rattle.line.specs.Limits.{longest-form}
 use Rattle.line.specs.Message.{magic, Message, InRange}
 use Rattle.line.specs.Frame.{Wire}
 use Rattle.line.specs.Cobs.{uncobs}
-use Rattle.line.specs.Judge.{Verdict, failure, good, misfit, bodyOf, checksumOf, magicOf, fields, judgeFields, judgeLength, judgeForm, judge}
+use Rattle.line.specs.Judge.{Verdict, failure, good, wrongLength, bodyOf, checksumOf, magicOf, fields, judgeFields, judgeLength, judgeForm, judge}
 use Rattle.line.specs.Checksum.{checksum}
-use Rattle.line.specs.Reader.{Said, empty, told, state-length, frame-place, count, counted, valid, pushes}
-use Rattle.line.specs.Reader.{unpacked, Settled, settle, finish, Start, starting}
-use Rattle.line.proofs.State.{Ready, cond-by, ready-valid, length-counted, count-counted, pushes-append, ready-pushes}
+use Rattle.line.specs.Reader.{Said, empty, verdictSaid, state-length, frame-place, count, counted, valid, pushes}
+use Rattle.line.specs.Reader.{overlong, unpacked, Settled, settle, finish, Start, starting, unfinished, longer, tailOf}
+use Rattle.octets.proofs.Conditions.{cond-by}
+use Rattle.line.proofs.State.{Ready, ready-valid, length-counted, count-counted, pushes-append, ready-pushes}
 use Rattle.line.proofs.Judging.{finish-empty}
 use Rattle.line.proofs.Lent.{count-append}
-use Rattle.line.proofs.Held.{held-form, held-over, data-unpacked, finish-leaves}
+use Rattle.line.proofs.Held.{held-form, held-over, held-count, data-unpacked, finish-leaves}
 use Rattle.line_claims.specs.JudgeClaim.{judge-of-message}
-use Rattle.line_claims.specs.WireClaim.{split, nonEmpty, form, wire-forms, wire-range}
-use Rattle.line_claims.specs.SplitLaws.{split-close, split-more, nonEmpty-append}
+use Rattle.line_claims.specs.Pieces.{split, nonEmpty, split-close, split-more, nonEmpty-append}
+use Rattle.line_claims.specs.WireClaim.{form, wire-forms, wire-range}
 use Rattle.line_claims.specs.Calls.{Read, Call, read, start, handed, reasons, answers, Reader, fresh, back}
 use Rattle.line_claims.specs.Calls.{restarted, afterStart, after, afterAll, afterReads, begun}
+use Rattle.line_claims.specs.Calls.{tailMeant, frameSaid, gathered, goodOf, reasonOf, goodMessages, failureReasons}
 use Rattle.line_claims.specs.Streams.{afterByte, stream, stream-read, bytesRead, call-stream, reads-stream}
-
--- what is answered at the 00 that closes these bytes
-unfoldable pub frameSaid : List ℕ → Said
-frameSaid [] = empty
-frameSaid (b ∷ bs) = told (judge (b ∷ bs))
-
--- what the verdicts on these lists of bytes give, in order
-unfoldable pub gathered : {A : Type 0} → (Verdict → List A) → List (List ℕ) → List A
-gathered f [] = []
-gathered f (p ∷ ps) = f (judge p) ++ gathered f ps
-
-abbrev pub goodOf : Verdict → List Message
-goodOf (failure reason sequence) = []
-goodOf (good m) = m ∷ []
-
-abbrev pub reasonOf : Verdict → List ℕ
-reasonOf (failure reason sequence) = reason ∷ []
-reasonOf (good m) = []
-
--- the messages, and the reasons of the failures
-abbrev pub goods : List (List ℕ) → List Message
-goods = gathered goodOf
-
-abbrev pub reasonsOf : List (List ℕ) → List ℕ
-reasonsOf = gathered reasonOf
 
 gathered-append : {A : Type 0} (f : Verdict → List A) (ps qs : List (List ℕ)) → gathered f (ps ++ qs) ≡ gathered f ps ++ gathered f qs
 unfolding gathered
@@ -60,12 +37,12 @@ gathered-append f [] qs = refl
 gathered-append f (p ∷ ps) qs = rw (gathered-append f ps qs, append-assoc)
 
 -- of messages' forms
-goods-forms : (ms : List Message) → Each InRange ms → goods (map form ms) ≡ ms
+good-forms : (ms : List Message) → Each InRange ms → goodMessages (map form ms) ≡ ms
 unfolding gathered
-goods-forms [] r = refl
-goods-forms (m ∷ ms) r = rw (judge-of-message m (r .0), goods-forms ms (r .1))
+good-forms [] r = refl
+good-forms (m ∷ ms) r = rw (judge-of-message m (r .0), good-forms ms (r .1))
 
-reasons-forms : (ms : List Message) → Each InRange ms → reasonsOf (map form ms) ≡ []
+reasons-forms : (ms : List Message) → Each InRange ms → failureReasons (map form ms) ≡ []
 unfolding gathered
 reasons-forms [] r = refl
 reasons-forms (m ∷ ms) r = rw (judge-of-message m (r .0)) (reasons-forms ms (r .1))
@@ -74,44 +51,44 @@ reasons-forms (m ∷ ms) r = rw (judge-of-message m (r .0)) (reasons-forms ms (r
 
 -- a message's data as the state at the call's return holds them
 module _ (s : List ℕ) (h : Ready s) where
-  handed-fields : (xs : List ℕ) → misfit xs ≡ false → handed (told (judgeFields xs)) (overlay frame-place xs s) ≡ goodOf (judgeFields xs)
-  unfolding judgeFields handed told fields
+  handed-fields : (xs : List ℕ) → wrongLength xs ≡ false → handed (verdictSaid (judgeFields xs)) (overlay frame-place xs s) ≡ goodOf (judgeFields xs)
+  unfolding judgeFields handed verdictSaid fields
   handed-fields xs e =
       cond-by Hands (eqb (checksumOf xs) (checksum (bodyOf xs))) _ _
       (λ f. cond-by Hands (eqb (magicOf xs) magic) _ _ (λ g. rw (data-unpacked s (h .0) xs (h .1) e)) (λ g. refl))
       (λ f. refl)
     where
       Hands : Verdict → Type 0
-      Hands v = handed (told v) (overlay frame-place xs s) ≡ goodOf v
+      Hands v = handed (verdictSaid v) (overlay frame-place xs s) ≡ goodOf v
 
-  handed-length : (xs : List ℕ) (k : Bool) → misfit xs ≡ k
-      → handed (told (cond k (failure 3 none) (judgeFields xs))) (cond k s (overlay frame-place xs s)) ≡ goodOf (cond k (failure 3 none) (judgeFields xs))
-  unfolding handed told
+  handed-length : (xs : List ℕ) (k : Bool) → wrongLength xs ≡ k
+      → handed (verdictSaid (cond k (failure 3 none) (judgeFields xs))) (cond k s (overlay frame-place xs s)) ≡ goodOf (cond k (failure 3 none) (judgeFields xs))
+  unfolding handed verdictSaid
   handed-length xs true e = refl
   handed-length xs false e = handed-fields xs e
 
-  handed-bytes : (form : Option (List ℕ)) → handed (told (judgeForm form)) (unpacked form s) ≡ goodOf (judgeForm form)
-  unfolding judgeForm judgeLength unpacked handed told
+  handed-bytes : (form : Option (List ℕ)) → handed (verdictSaid (judgeForm form)) (unpacked form s) ≡ goodOf (judgeForm form)
+  unfolding judgeForm judgeLength unpacked handed verdictSaid
   handed-bytes none = refl
-  handed-bytes (some xs) = handed-length xs (misfit xs) refl
+  handed-bytes (some xs) = handed-length xs (wrongLength xs) refl
 
-  handed-form : (t : List ℕ) → length t ≤ longest-form → handed (told (judge t)) (unpacked (uncobs t) s) ≡ goodOf (judge t)
+  handed-form : (t : List ℕ) → length t ≤ longest-form → handed (verdictSaid (judge t)) (unpacked (uncobs t) s) ≡ goodOf (judge t)
   unfolding judge
   handed-form t l = rw (le-ltb longest-form (length t) l) (handed-bytes (uncobs t))
 
 -- what a 00 gives is the verdict on the bytes before it
 record Judged (t : List ℕ) (x : Settled) : Type 0 where
   answered : answers (x .answer) ≡ frameSaid t ∷ []
-  messages : handed (x .answer) (x .state) ≡ goods (nonEmpty (t ∷ []))
-  failures : reasons (x .answer) ≡ reasonsOf (nonEmpty (t ∷ []))
+  messages : handed (x .answer) (x .state) ≡ goodMessages (nonEmpty (t ∷ []))
+  failures : reasons (x .answer) ≡ failureReasons (nonEmpty (t ∷ []))
 
-verdict-answers : (v : Verdict) → answers (told v) ≡ told v ∷ []
-unfolding told answers
+verdict-answers : (v : Verdict) → answers (verdictSaid v) ≡ verdictSaid v ∷ []
+unfolding verdictSaid answers
 verdict-answers (failure reason sequence) = refl
 verdict-answers (good m) = refl
 
-verdict-reasons : (v : Verdict) → reasons (told v) ≡ reasonOf v
-unfolding told reasons
+verdict-reasons : (v : Verdict) → reasons (verdictSaid v) ≡ reasonOf v
+unfolding verdictSaid reasons
 verdict-reasons (failure reason sequence) = refl
 verdict-reasons (good m) = refl
 
@@ -124,7 +101,7 @@ cleared s h = (omega (arith, length-counted 0 s (omega arith)), count-counted 0 
 
 module _ (s : List ℕ) (enough : state-length ≤ length s) (clear : count s ≡ 0) where
   judged-some : (b : ℕ) (bs : List ℕ) (k : Bool) → ltb longest-form (length (b ∷ bs)) ≡ k → Judged (b ∷ bs) (finish (pushes s (b ∷ bs)))
-  unfolding frameSaid gathered nonEmpty settle answers handed reasons told
+  unfolding frameSaid gathered nonEmpty settle answers handed reasons verdictSaid
   judged-some b bs true e =
       let l = ltb-true longest-form (length (b ∷ bs)) e in
       let v = judge-over (b ∷ bs) l in
@@ -155,8 +132,8 @@ record Follows (r : Reader) : Type 0 where
   clear : count base ≡ 0
   state : r .state ≡ pushes base (split (r .bytes) .rest)
   answered : r .answered ≡ map frameSaid (split (r .bytes) .closed)
-  messages : r .messages ≡ goods (nonEmpty (split (r .bytes) .closed))
-  failures : r .failures ≡ reasonsOf (nonEmpty (split (r .bytes) .closed))
+  messages : r .messages ≡ goodMessages (nonEmpty (split (r .bytes) .closed))
+  failures : r .failures ≡ failureReasons (nonEmpty (split (r .bytes) .closed))
 
 fresh-follows : (s : List ℕ) → state-length ≤ length s → count s ≡ 0 → Follows (fresh s)
 unfolding fresh split pushes gathered nonEmpty
@@ -228,24 +205,35 @@ module _ (room : List ℕ) (enough : state-length ≤ length room) (cs : List Ca
   any-stream = follows .answered
 
   -- the messages handed out are those that the tests find good, in order, of the bytes before each 00, unless there are none
-  pub any-messages : afterAll (begun room) cs .messages ≡ goods (nonEmpty (split (afterAll (begun room) cs .bytes) .closed))
+  pub any-messages : afterAll (begun room) cs .messages ≡ goodMessages (nonEmpty (split (afterAll (begun room) cs .bytes) .closed))
   any-messages = follows .messages
 
   -- and the failures reported are those that the tests find
-  pub any-failures : afterAll (begun room) cs .failures ≡ reasonsOf (nonEmpty (split (afterAll (begun room) cs .bytes) .closed))
+  pub any-failures : afterAll (begun room) cs .failures ≡ failureReasons (nonEmpty (split (afterAll (begun room) cs .bytes) .closed))
   any-failures = follows .failures
 
   -- the messages handed out are exactly those of the wire bytes read, in order, and no failure is reported
   pub hands-out : {ms : List Message} → Wire ms (afterAll (begun room) cs .bytes)
       → (afterAll (begun room) cs .messages ≡ ms) × (afterAll (begun room) cs .failures ≡ [])
   hands-out {ms} w = (
-    any-messages ∙ ap goods (wire-forms w) ∙ goods-forms ms (wire-range w),
-    any-failures ∙ ap reasonsOf (wire-forms w) ∙ reasons-forms ms (wire-range w),
+    any-messages ∙ ap goodMessages (wire-forms w) ∙ good-forms ms (wire-range w),
+    any-failures ∙ ap failureReasons (wire-forms w) ∙ reasons-forms ms (wire-range w),
   )
 
   -- what the layer's own calls leave is never refused as 12
   pub stays-valid : valid (afterAll (begun room) cs .state) ≡ true
   stays-valid = ready-valid _ (ready (afterAll (begun room) cs) follows)
+
+  -- the unfinished tail is what was read after the last 00
+  pub any-tail : tailOf (afterAll (begun room) cs .state) ≡ tailMeant (split (afterAll (begun room) cs .bytes) .rest)
+  unfolding tailOf tailMeant
+  any-tail =
+      let r = afterAll (begun room) cs in
+      let t = split (r .bytes) .rest in
+      let c : cond (ltb longest-form (length t)) overlong (length t) ≡ count (r .state) = rw (follows .state) (held-count (follows .base) t (follows .enough) (follows .clear)) in
+      rw (stays-valid, ← c)
+      (cond-by (λ n. cond (ltb longest-form n) longer (unfinished n) ≡ cond (ltb longest-form (length t)) longer (unfinished (length t))) (ltb longest-form (length t)) _ _
+      (λ e. rw e) (λ e. refl))
 
 -- any two lists of calls on any state that read the same bytes give the same answers to each 00, the same messages and failures, and the same state
 pub cut : (s : List ℕ) (cs ds : List Read) → afterReads (fresh s) cs .bytes ≡ afterReads (fresh s) ds .bytes

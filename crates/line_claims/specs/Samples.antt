@@ -2,7 +2,7 @@
 -- Assumes nothing.
 use mathlib.Core.Path.{_≡_, refl}
 use mathlib.Core.List.{List, [], _∷_, _++_, map}
-use mathlib.Core.Option.{none, some}
+use mathlib.Core.Option.{Option, none, some}
 use Prim.Native.Nat.{ℕ}
 use lib.ListN.{replicate}
 use Rattle.octets.specs.Bytes.{number, bytes}
@@ -16,6 +16,7 @@ use Rattle.line.specs.Judge.{Verdict, failure, good, fields, judgeFields, judge
 pub data Sample : Type 0 where
   sum : List ℕ → ℕ → Sample
   form : List ℕ → List ℕ → Sample
+  decoded : List ℕ → Option (List ℕ) → Sample
   read : List ℕ → Verdict → Sample
   sent : Message → List ℕ → Sample
 
@@ -23,6 +24,7 @@ pub data Sample : Type 0 where
 unfoldable pub meant : Sample → Sample
 meant (sum bs n) = sum bs (checksum bs)
 meant (form bs ys) = form bs (cobs bs)
+meant (decoded ys bs) = decoded ys (uncobs ys)
 meant (read f v) = read f (judge f)
 meant (sent m w) = sent m (frame m)
 
@@ -62,9 +64,12 @@ samples =
     ∷ form (replicate 255 7 ++ 0 ∷ []) (0xff ∷ replicate 254 7 ++ 0x02 ∷ 7 ∷ 0x01 ∷ [])
     ∷ form (replicate 508 7) (0xff ∷ replicate 254 7 ++ 0xff ∷ replicate 254 7)
     ∷ form (replicate 508 7 ++ 0 ∷ []) (0xff ∷ replicate 254 7 ++ 0xff ∷ replicate 254 7 ++ 0x01 ∷ 0x01 ∷ [])
-    -- read back: a last 01 after a full group is accepted and adds nothing, a last 02 runs past the end
-    ∷ read (0xff ∷ replicate 254 7) (failure 2 (some 0x0707070707070707))
-    ∷ read (0xff ∷ replicate 254 7 ++ 0x01 ∷ []) (failure 2 (some 0x0707070707070707))
+    -- read back: no zero follows a full group, a last 01 after one is accepted and adds nothing, and a last 02 runs past the end
+    ∷ decoded (0xff ∷ replicate 254 7) (some (replicate 254 7))
+    ∷ decoded (0xff ∷ replicate 254 7 ++ 0x01 ∷ []) (some (replicate 254 7))
+    ∷ decoded (0xff ∷ replicate 254 7 ++ 0x01 ∷ 0x01 ∷ []) (some (replicate 254 7 ++ 0 ∷ []))
+    ∷ decoded (0xff ∷ replicate 254 7 ++ 0x02 ∷ 7 ∷ []) (some (replicate 255 7))
+    ∷ decoded (0xfe ∷ replicate 253 7 ++ 0x01 ∷ []) (some (replicate 253 7 ++ 0 ∷ []))
     ∷ read (0xff ∷ replicate 254 7 ++ 0x02 ∷ []) (failure 1 none)
     ∷ []
 

@@ -8,20 +8,15 @@ use lib.Dec.{eqb·suc-zero}
 use lib.ListN.{length, take, drop, take-append-drop}
 use lib.Seq.{append-snoc}
 use Rattle.line.specs.Reader.{Said, refused, more, empty, message, failed, state-length, valid, pushed, finish, Outcome, next, readPiece, reading}
-use Rattle.line.proofs.State.{Ready, cond-by, valid-ready, ready-pushed}
+use Rattle.octets.proofs.Conditions.{cond-by}
+use Rattle.line.proofs.State.{Ready, valid-ready, ready-pushed}
 use Rattle.line.proofs.Lent.{dataOf-append, pushed-append, finish-append}
 use Rattle.line.proofs.Held.{finish-leaves}
-use Rattle.line_claims.specs.Calls.{Read, handed, reasons, answers, Reader, went, afterRead, afterReads}
+use Rattle.line_claims.specs.Calls.{Read, handed, reasons, answers, Reader, extended, afterOutcome, afterRead, after, afterAll, afterReads}
 
 -- a reader after one byte
 unfoldable pub afterByte : Reader → ℕ → Reader
-afterByte r zero = record {
-  messages = r .messages ++ handed (finish (r .state) .answer) (finish (r .state) .state);
-  failures = r .failures ++ reasons (finish (r .state) .answer);
-  answered = r .answered ++ answers (finish (r .state) .answer);
-  bytes = r .bytes ++ 0 ∷ [];
-  state = finish (r .state) .state;
-}
+afterByte r zero = extended r (finish (r .state) .answer) (finish (r .state) .state) (0 ∷ []) (finish (r .state) .state)
 afterByte r (suc b) = record {
   messages = r .messages;
   failures = r .failures;
@@ -63,13 +58,7 @@ handed-append (failed reason sequence) t u h = refl
 
 -- the reader after a piece, where u stands behind the bytes lent
 abbrev joined : Reader → List ℕ → List ℕ → Outcome → Reader
-joined r piece u o = record {
-  messages = r .messages ++ handed (o .answer) (o .state);
-  failures = r .failures ++ reasons (o .answer);
-  answered = r .answered ++ answers (o .answer);
-  bytes = r .bytes ++ take (o .used) piece;
-  state = o .state ++ u;
-}
+joined r piece u o = extended r (o .answer) (o .state) (take (o .used) piece) (o .state ++ u)
 
 piece-stream : (piece : List ℕ) (r : Reader) (t u : List ℕ) → Ready t → r .state ≡ t ++ u
     → joined r piece u (readPiece t piece) ≡ stream r (take (readPiece t piece .used) piece)
@@ -89,11 +78,11 @@ bytesRead r c = take (reading (take (c .lent) (r .state)) (c .piece) .used) (c .
 
 -- a call on any part of the state, refused or not
 pub call-stream : (r : Reader) (c : Read) → afterRead r c ≡ stream r (bytesRead r c)
-unfolding afterRead went reading stream handed reasons answers
+unfolding afterRead afterOutcome reading stream handed reasons answers
 call-stream r c =
     let t = take (c .lent) (r .state) in
     let back = drop (c .lent) (r .state) in
-    cond-by (λ o. went r c o ≡ stream r (take (o .used) (c .piece))) (valid t) _ _
+    cond-by (λ o. afterOutcome r c o ≡ stream r (take (o .used) (c .piece))) (valid t) _ _
     (λ e. piece-stream (c .piece) r t back (valid-ready t e) (sym (take-append-drop (c .lent) (r .state))))
     (λ e. simp (append-nil, take-append-drop))
 
@@ -101,7 +90,7 @@ call-stream r c =
 
 -- calls that are given pieces give what some bytes give, one by one: those that they read
 pub reads-stream : (r : Reader) (cs : List Read) → (bs : List ℕ) × (afterReads r cs ≡ stream r bs)
-unfolding afterReads stream
+unfolding afterAll after stream
 reads-stream r [] = ([], refl)
 reads-stream r (c ∷ cs) =
     let q = reads-stream (afterRead r c) cs in

@@ -1,4 +1,4 @@
--- A list split at its zeros, and the claim that two lists of messages with the same wire bytes are equal.
+-- Wire bytes split at their zeros, and the claim that two lists of messages with the same wire bytes are equal.
 -- Assumes nothing.
 use mathlib.Core.Path.{_≡_, refl, sym, _∙_}
 use mathlib.Core.List.{List, [], _∷_, _++_, map, append-assoc}
@@ -8,45 +8,9 @@ use Rattle.octets.specs.Bytes.{Each}
 use Rattle.line.specs.Message.{Message, InRange, message}
 use Rattle.line.specs.Cobs.{cobs}
 use Rattle.line.specs.Frame.{frame, Wire, over, idle, sent}
+use Rattle.line_claims.specs.Pieces.{split, nonEmpty, split-at}
 use Rattle.line_claims.specs.CobsClaims.{above-zero}
 use Rattle.line_claims.specs.JudgeClaim.{judge-of-message}
-
--- ---- the pieces of a list between its zeros
-
--- the pieces that end at a zero, without it, in order, and what stands after the last zero
-pub record Pieces : Type 0 where
-  pub closed : List (List ℕ)
-  pub rest : List ℕ
-
--- a byte ahead of the first piece
-abbrev pub ahead : ℕ → List (List ℕ) → List ℕ → Pieces
-ahead b [] rest = record { closed = []; rest = b ∷ rest }
-ahead b (p ∷ ps) rest = record { closed = (b ∷ p) ∷ ps; rest = rest }
-
-unfoldable pub split : List ℕ → Pieces
-split [] = record { closed = []; rest = [] }
-split (zero ∷ w) = record { closed = [] ∷ split w .closed; rest = split w .rest }
-split (suc b ∷ w) = ahead (suc b) (split w .closed) (split w .rest)
-
--- up to the first zero
-pub split-at : (p w : List ℕ) → Each (λ b. 1 ≤ b) p → split (p ++ 0 ∷ w) ≡ record { closed = p ∷ split w .closed; rest = split w .rest }
-unfolding split
-split-at [] w h = refl
-split-at (zero ∷ p) w h = absurd (omega arith)
-split-at (suc b ∷ p) w h = rw (split-at p w (h .1))
-
--- a list with no zero
-pub split-none : (p : List ℕ) → Each (λ b. 1 ≤ b) p → split p ≡ record { closed = []; rest = p }
-unfolding split
-split-none [] h = refl
-split-none (zero ∷ p) h = absurd (omega arith)
-split-none (suc b ∷ p) h = rw (split-none p (h .1))
-
--- the pieces that are not empty
-unfoldable pub nonEmpty : List (List ℕ) → List (List ℕ)
-nonEmpty [] = []
-nonEmpty ([] ∷ ps) = nonEmpty ps
-nonEmpty ((b ∷ bs) ∷ ps) = (b ∷ bs) ∷ nonEmpty ps
 
 -- ---- wire bytes
 

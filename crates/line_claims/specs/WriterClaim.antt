@@ -10,10 +10,10 @@ use borrow.Author.Tests.{ltb-false}
 use Rattle.octets.specs.Bytes.{Byte, Each}
 use Rattle.octets.proofs.Overlay.{overlay-inside}
 use Rattle.line.specs.Limits.{longest-data}
-use Rattle.line.specs.Message.{Message}
+use Rattle.line.specs.Message.{Message, Typed}
 use Rattle.line.specs.Frame.{frame, Wire}
 use Rattle.line.specs.Writer.{Said, Outcome, sending, writing}
-use Rattle.line.proofs.State.{cond-by}
+use Rattle.octets.proofs.Conditions.{cond-by}
 use Rattle.line_claims.specs.WireClaim.{one-meaning}
 
 -- an answer other than a refusal is given only where the bytes fit the room
@@ -38,14 +38,7 @@ written-frame m room n =
     Writes : Outcome → Type 0
     Writes o = o .answer ≡ Said.wrote n → (n ≡ length (frame m)) × (take n (o .out) ≡ frame m) × (length (m .payload) ≤ longest-data)
 
--- what the types of the writer's arguments hold
-pub record Typed (m : Message) : Type 0 where
-  pub version : m .version < 2 ^ 32
-  pub sequence : m .sequence < 2 ^ 64
-  pub command : m .command < 2 ^ 8
-  pub payload : Each Byte (m .payload)
-
--- wire bytes made of what the writer put out, each call in any room, and any number of 00 before, between and after
+-- wire bytes made of what the writer put out, each call with arguments of its types and in any room, and any number of 00 before, between and after
 pub data Sent : List Message → List ℕ → Type 0 where
   over : Sent [] []
   idle : {ms : List Message} {w : List ℕ} → Sent ms w → Sent ms (0 ∷ w)
@@ -58,7 +51,7 @@ sent-wire (idle s) = Wire.idle (sent-wire s)
 sent-wire (wrote {m = m} room n t e s) =
     let f = written-frame m room n e in
     rw (f .1)
-    (Wire.sent (record { version = t .version; sequence = t .sequence; command = t .command; payload = t .payload; fits = f .2 }) (sent-wire s))
+    (Wire.sent (record { typed = t; fits = f .2 }) (sent-wire s))
 
 pub one-meaning-sent : {ms ns : List Message} {w : List ℕ} → Sent ms w → Sent ns w → ms ≡ ns
 one-meaning-sent a b = one-meaning (sent-wire a) (sent-wire b)

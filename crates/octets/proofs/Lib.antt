@@ -4,3 +4,4 @@ pub mod Each
 pub mod Equal
 pub mod Numbers
 pub mod Overlay
+pub mod Conditions

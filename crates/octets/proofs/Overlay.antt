@@ -14,6 +14,7 @@ use borrow.Author.Tests.{leb-true, le-leb, lt-leb}
 use Rattle.octets.specs.Bytes.{Each, number, bytes, run, numberAt, fits, overlay, put, copied, movedDown}
 use Rattle.octets.proofs.Each.{each-append, each-take, each-drop}
 use Rattle.octets.proofs.Numbers.{length-bytes, number-bytes}
+use Rattle.octets.proofs.Conditions.{cond-by}
 
 -- ---- runs
 
@@ -194,12 +195,10 @@ put-not at xs s h = rw (lt-leb (at + length xs) (length s) h)
 
 -- a choice whose first side, where it is taken, is as the second
 cond-same : (b : Bool) (x s : List ℕ) → (b ≡ true → x ≡ s) → cond b x s ≡ s
-cond-same true x s f = f refl
-cond-same false x s f = refl
+cond-same b x s f = cond-by (λ t. t ≡ s) b x s f (λ _. refl)
 
 length-cond : (b : Bool) (x s : List ℕ) → (b ≡ true → length x ≡ length s) → length (cond b x s) ≡ length s
-length-cond true x s f = f refl
-length-cond false x s f = refl
+length-cond b x s f = cond-by (λ t. length t ≡ length s) b x s f (λ _. refl)
 
 pub length-put : (at : ℕ) (xs s : List ℕ) → length (put at xs s) ≡ length s
 unfolding put
@@ -286,3 +285,15 @@ length-movedDown s from to n =
     let q = leb-true to from (t .1) in
     let l = length-run from n s p in
     length-overlay to (run from n s) s (omega arith))
+
+-- ---- a list with more behind it
+
+module _ (t u : List ℕ) where
+  pub overlay-append : (at : ℕ) (xs : List ℕ) → at + length xs ≤ length t → overlay at xs (t ++ u) ≡ overlay at xs t ++ u
+  unfolding overlay
+  overlay-append at xs h = rw (take-append-le at t u (omega arith), drop-append-le (at + length xs) t u h) (simp append-assoc)
+
+  pub run-append : (at n : ℕ) → at + n ≤ length t → run at n (t ++ u) ≡ run at n t
+  run-append at n h =
+      let k : n ≤ length (drop at t) = simp length-drop (omega arith) in
+      rw (drop-append-le at t u (omega arith), take-append-le n (drop at t) u k)

@@ -45,14 +45,14 @@ returns-2 c =
 
 loop-again : tie.Need-loop-again Inv-loop μ-loop
 loop-again c =
-    let called = c .before .before .before .wide in
+    let messageOf = c .before .before .before .wide in
     let at-loop = c .before .before .before .before .before .before in
     let turn = at-loop .loop in
     let start = at-loop .before .before in (
       search needs,
-      omega (arith, bit-most (leb (called .result) 254)),
-      cc (counted-group (now (start .args .s)) (start .args .n) (turn .i) (turn .zero) (turn .o) (called .result)
-          (c .before .before .before .before .before .loop-test .taken) (start .pre) (called .ensures .0)
+      omega (arith, bit-most (leb (messageOf .result) 254)),
+      cc (counted-group (now (start .args .s)) (start .args .n) (turn .i) (turn .zero) (turn .o) (messageOf .result)
+          (c .before .before .before .before .before .loop-test .taken) (start .pre) (messageOf .ensures .0)
           (c .before .before .if1 .left) (c .before .if2 .left)),
     )
 

@@ -5,17 +5,17 @@ use native.Mathlib.Nat.{add-sub-cancel-left}
 use native.Mathlib.Omega.{arith}
 use borrow.Author.Needs.{needs}
 use borrow.Author.Tests.{not-true, not-false, lt-ltb, le-ltb}
-use Rattle.line.specs.Reader.{dataOf}
+use Rattle.line.specs.Reader.{dataRefusal, partOf, dataOf}
 use Rattle.line.proofs.State.{valid-ready}
 use Rattle.line.proofs.reader.message_data.Statement.{statement}
 use Rattle.line.proofs.reader.message_data.Tie as tie
 
 returns : tie.Need-returns
-unfolding dataOf
+unfolding dataOf dataRefusal partOf
 returns c = rw (sym (c .before .before .is-valid .ensures) ∙ not-true _ (c .before .if1 .taken))
 
 returns-2 : tie.Need-returns-2
-unfolding dataOf
+unfolding dataOf dataRefusal partOf
 returns-2 c =
     rw (
       sym (c .before .before .before .is-valid .ensures) ∙ not-false _ (c .before .before .if1 .left),
@@ -26,7 +26,7 @@ part-result-end : tie.Need-part-result-end
 part-result-end c = omega (arith, valid-ready _ (sym (c .before .before .is-valid .ensures) ∙ not-false _ (c .before .if1 .left)))
 
 returns-3 : tie.Need-returns-3
-unfolding dataOf
+unfolding dataOf dataRefusal partOf
 returns-3 c =
     rw (
       sym (c .before .before .before .is-valid .ensures) ∙ not-false _ (c .before .before .if1 .left),

@@ -7,7 +7,7 @@ use denote.Ref.{now}
 use native.Mathlib.Omega.{arith}
 use lib.ListN.{length, length-append}
 use Rattle.line.specs.Limits.{longest-message}
-use Rattle.line.specs.Writer.{called}
+use Rattle.line.specs.Writer.{messageOf}
 use Rattle.line.proofs.Message.{length-message}
 use Rattle.line.proofs.Assemble.{assembled}
 use Rattle.line.proofs.writer.assemble.Statement.{statement}
@@ -23,7 +23,7 @@ returns c =
     let magic = version .before .before in
     let start = magic .before .before .before .before in
     let a = start .args in
-    let m = called (a .version) (a .sequence) (a .command) (now (a .head)) (now (a .rest)) in
+    let m = messageOf (a .version) (a .sequence) (a .command) (now (a .head)) (now (a .rest)) in
     let l = length-append (now (a .head)) (now (a .rest)) in
     let k : a .command < 256 = omega (arith, start .fits .command) in
     let n : length (now (a .m)) ≡ longest-message = omega (arith, magic .before .write-u32-arg .given) in (

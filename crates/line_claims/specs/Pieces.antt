@@ -1,9 +1,45 @@
--- Laws of a list split at its zeros: one byte more at its end.
+-- A list split at its zeros, with the laws of one byte or piece more.
 -- Assumes nothing.
 use mathlib.Core.Path.{_≡_, refl}
 use mathlib.Core.List.{List, [], _∷_, _++_}
-use Prim.Native.Nat.{ℕ, zero, suc}
-use Rattle.line_claims.specs.WireClaim.{ahead, split, nonEmpty}
+use Prim.Native.Nat.{ℕ, zero, suc, _≤_}
+use native.Mathlib.Omega.{arith}
+use Rattle.octets.specs.Bytes.{Each}
+
+-- the pieces that end at a zero, without it, in order, and what stands after the last zero
+pub record Pieces : Type 0 where
+  pub closed : List (List ℕ)
+  pub rest : List ℕ
+
+-- a byte ahead of the first piece
+abbrev pub ahead : ℕ → List (List ℕ) → List ℕ → Pieces
+ahead b [] rest = record { closed = []; rest = b ∷ rest }
+ahead b (p ∷ ps) rest = record { closed = (b ∷ p) ∷ ps; rest = rest }
+
+unfoldable pub split : List ℕ → Pieces
+split [] = record { closed = []; rest = [] }
+split (zero ∷ w) = record { closed = [] ∷ split w .closed; rest = split w .rest }
+split (suc b ∷ w) = ahead (suc b) (split w .closed) (split w .rest)
+
+-- up to the first zero
+pub split-at : (p w : List ℕ) → Each (λ b. 1 ≤ b) p → split (p ++ 0 ∷ w) ≡ record { closed = p ∷ split w .closed; rest = split w .rest }
+unfolding split
+split-at [] w h = refl
+split-at (zero ∷ p) w h = absurd (omega arith)
+split-at (suc b ∷ p) w h = rw (split-at p w (h .1))
+
+-- a list with no zero
+pub split-none : (p : List ℕ) → Each (λ b. 1 ≤ b) p → split p ≡ record { closed = []; rest = p }
+unfolding split
+split-none [] h = refl
+split-none (zero ∷ p) h = absurd (omega arith)
+split-none (suc b ∷ p) h = rw (split-none p (h .1))
+
+-- the pieces that are not empty
+unfoldable pub nonEmpty : List (List ℕ) → List (List ℕ)
+nonEmpty [] = []
+nonEmpty ([] ∷ ps) = nonEmpty ps
+nonEmpty ((b ∷ bs) ∷ ps) = (b ∷ bs) ∷ nonEmpty ps
 
 ahead-closed : (b : ℕ) (ps : List (List ℕ)) (rest : List ℕ)
     → ahead b (ps ++ rest ∷ []) [] ≡ record { closed = ahead b ps rest .closed ++ ahead b ps rest .rest ∷ []; rest = [] }
