@@ -1,0 +1,157 @@
+-- The laws of start: zeros put at the start of a list, the parts that start leaves, and what it answers.
+-- Assumes nothing.
+use mathlib.Core.Path.{_≡_, refl, sym, ap, _∙_}
+use mathlib.Core.Bool.{true, false, and-eq-true-iff}
+use mathlib.Core.List.{List, [], _∷_, _++_}
+use Prim.Native.Nat.{ℕ, _+_, _-_, _≤_, _<_}
+use native.Mathlib.Nat.{zero-add}
+use native.Mathlib.Omega.{arith}
+use lib.ListN.{length, set, replicate, length-append, length-replicate, replicate-append-replicate}
+use lib.Seq.{take-all}
+use borrow.Author.Tests.{leb-true, le-leb}
+use Rattle.octets.specs.Bytes.{bytes, overlay, put, copied}
+use Rattle.octets.proofs.Numbers.{length-bytes}
+use Rattle.octets.proofs.Overlay.{length-overlay, overlay-more, overlay-again, overlay-next, overlay-swap, put-fits, put-not, copied-fits}
+use Rattle.line.specs.Reader
+use Rattle.line.specs.declared.reader.Started.{Started as Reader-Started}
+use Rattle.octets.proofs.Conditions.{cond-by}
+use Rattle.supervisor.specs.Layout
+use Rattle.supervisor.specs.Valid.{goodStart, pong}
+use Rattle.supervisor.specs.Calls.{Parts, Start, roomy, freshParts, startSaid, startOf, starting}
+use Rattle.supervisor.specs.declared.start.Started.{Started}
+use Rattle.supervisor.specs.declared.start.Started.the-variants as answer
+
+-- ---- zeros
+
+abbrev pub zeros : ℕ → List ℕ
+zeros n = replicate n 0
+
+zeros-add : (m n : ℕ) → zeros m ++ zeros n ≡ zeros (m + n)
+zeros-add m n = replicate-append-replicate m n 0
+
+length-zeros : (n : ℕ) → length (zeros n) ≡ n
+length-zeros n = length-replicate n 0
+
+pub cleared-more : (i : ℕ) (s : List ℕ) → i < length s → set (overlay 0 (zeros i) s) i 0 ≡ overlay 0 (zeros (i + 1)) s
+cleared-more i s h =
+    let e : 0 + length (zeros i) ≡ i = simp (length-zeros, zero-add) in
+    let m = overlay-more 0 0 (zeros i) s (omega arith) in
+    rw (e, zeros-add i 1) at m
+
+pub cleared-fits : (n : ℕ) (s : List ℕ) → n ≤ length s → put 0 (zeros n) s ≡ overlay 0 (zeros n) s
+cleared-fits n s h = put-fits 0 (zeros n) s (omega (arith, length-zeros n))
+
+pub cleared-not : (n : ℕ) (s : List ℕ) → length s < n → put 0 (zeros n) s ≡ s
+cleared-not n s h = put-not 0 (zeros n) s (omega (arith, length-zeros n))
+
+-- ---- the factory store and the registers
+
+-- bytes put over the first of bytes
+overlay-first : (at : ℕ) (xs ys zs s : List ℕ) → at + length (ys ++ zs) ≤ length s → length xs ≡ length ys
+    → overlay at xs (overlay at (ys ++ zs) s) ≡ overlay at (xs ++ zs) s
+overlay-first at xs ys zs s h e =
+    let a = length-append ys zs in
+    let l : length (overlay at ys s) ≡ length s = length-overlay at ys s (omega arith) in
+    rw (
+      ← overlay-next at ys zs s (omega arith),
+      overlay-swap at (at + length ys) xs zs (overlay at ys s) (omega arith) (omega arith),
+      overlay-again at ys xs s (omega arith) (sym e),
+      ← e,
+    )
+    (overlay-next at xs zs s (omega arith))
+
+-- a number over the first of n zeros
+pub numbered : (k v n : ℕ) (s t u : List ℕ) → k ≤ n → n ≤ length s → t ≡ put 0 (zeros n) s → u ≡ put 0 (bytes k v) t
+    → u ≡ overlay 0 (bytes k v ++ zeros (n - k)) s
+numbered k v n s t u h l p q =
+    let b = length-bytes k v in
+    let o : length (overlay 0 (zeros n) s) ≡ length s = length-overlay 0 (zeros n) s (omega (arith, length-zeros n)) in
+    let e : k + (n - k) ≡ n = omega arith in
+    let z : zeros k ++ zeros (n - k) ≡ zeros n = rw e at (zeros-add k (n - k)) in
+    rw (q, p, cleared-fits n s l, put-fits 0 (bytes k v) (overlay 0 (zeros n) s) (omega arith), ← z)
+    (overlay-first 0 (bytes k v) (zeros k) (zeros (n - k)) s (rw z (omega (arith, length-zeros n))) (b ∙ sym (length-zeros k)))
+
+-- n, k and m bytes, one after the other
+pub stored : (n k m : ℕ) (xs ys zs s t u v : List ℕ) → length xs ≡ n → length ys ≡ k → length zs ≡ m → n + k + m ≤ length s
+    → t ≡ copied xs 0 n s 0 → u ≡ put n ys t → v ≡ copied zs 0 m u (n + k) → v ≡ overlay 0 (xs ++ ys ++ zs) s
+stored n k m xs ys zs s t u v a b c h p q r =
+    let e : 0 + length xs ≡ n = omega arith in
+    let f : 0 + length (xs ++ ys) ≡ n + k = omega (arith, length-append xs ys) in
+    let i : length (overlay 0 xs s) ≡ length s = length-overlay 0 xs s (omega arith) in
+    let j : length (overlay 0 (xs ++ ys) s) ≡ length s = length-overlay 0 (xs ++ ys) s (omega arith) in
+    rw (
+      r,
+      q,
+      p,
+      copied-fits xs 0 n s 0 (omega arith) (omega arith),
+      take-all n xs (omega arith),
+      put-fits n ys (overlay 0 xs s) (omega arith),
+      rw e at (overlay-next 0 xs ys s (omega arith)),
+      copied-fits zs 0 m (overlay 0 (xs ++ ys) s) (n + k) (omega arith) (omega arith),
+      take-all m zs (omega arith),
+    )
+    (rw f at (overlay-next 0 (xs ++ ys) zs s (omega arith)))
+
+-- ---- what start answers
+
+-- every part has its published length
+pub record Roomy (p : Parts) : Type 0 where
+  pub reader : Reader.state-length ≤ length (p .reader)
+  pub outbox : Layout.outbox-length ≤ length (p .outbox)
+  pub factory : Layout.factory-length ≤ length (p .factory)
+  pub settings : Layout.settings-length ≤ length (p .settings)
+  pub registers : Layout.registers-length ≤ length (p .registers)
+
+roomy-is : (p : Parts) → roomy p ≡ true → Roomy p
+unfolding roomy
+roomy-is p e =
+    let a = and-eq-true-iff _ _ .0 e in
+    let b = and-eq-true-iff _ _ .0 (a .1) in
+    let c = and-eq-true-iff _ _ .0 (b .1) in
+    let d = and-eq-true-iff _ _ .0 (c .1) in
+    record {
+      reader = leb-true _ _ (a .0);
+      outbox = leb-true _ _ (b .0);
+      factory = leb-true _ _ (c .0);
+      settings = leb-true _ _ (d .0);
+      registers = leb-true _ _ (d .1);
+    }
+
+is-roomy : (p : Parts) → Roomy p → roomy p ≡ true
+unfolding roomy
+is-roomy p r = rw (le-leb _ _ (r .reader), le-leb _ _ (r .outbox), le-leb _ _ (r .factory), le-leb _ _ (r .settings), le-leb _ _ (r .registers))
+
+-- an answer with the parts as they are
+abbrev kept : Started → Parts → Start
+kept a p = startOf a (p .reader) (p .outbox) (p .factory) (p .settings) (p .registers)
+
+-- a part is too short
+pub cramped : (d : List ℕ) (p : Parts) → (Roomy p → ⊥) → kept answer.Refused p ≡ starting d p
+unfolding starting startSaid
+cramped d p f = cond-by (λ t. kept answer.Refused p ≡ t) (roomy p) _ _ (λ e. absurd (f (roomy-is p e))) (λ e. refl)
+
+-- the start data are not allowed
+pub unfit : (d : List ℕ) (p : Parts) → Roomy p → goodStart d ≡ false → kept answer.BadData p ≡ starting d p
+unfolding starting startSaid
+unfit d p r e = rw (is-roomy p r, e)
+
+-- the reader's part
+reader-begun : (s t : List ℕ) (a : Reader-Started) → Reader.state-length ≤ length s → Reader.started a t ≡ Reader.starting s
+    → t ≡ Reader.counted 0 s
+unfolding Reader.starting
+reader-begun s t a h e = ap (λ (o : Reader.Start). o .state) (rw (le-leb _ _ h) at e)
+
+-- each part as it was set
+pub begun : (d : List ℕ) (p q : Parts) (a : Reader-Started) → Roomy p → goodStart d ≡ true
+    → Reader.started a (q .reader) ≡ Reader.starting (p .reader)
+    → q .outbox ≡ put 0 (zeros Layout.outbox-length) (p .outbox)
+    → q .factory ≡ overlay 0 (d ++ bytes 4 0 ++ pong) (p .factory)
+    → q .settings ≡ put 0 (zeros Layout.settings-length) (p .settings)
+    → q .registers ≡ overlay 0 (bytes 8 1 ++ zeros (Layout.registers-length - 8)) (p .registers)
+    → kept answer.Done q ≡ starting d p
+unfolding starting startSaid freshParts
+begun d p q a r e reader outbox factory settings registers =
+    let x = reader-begun (p .reader) (q .reader) a (r .reader) reader in
+    let y = outbox ∙ cleared-fits Layout.outbox-length (p .outbox) (r .outbox) in
+    let z = settings ∙ cleared-fits Layout.settings-length (p .settings) (r .settings) in
+    rw (is-roomy p r, e, x, y, factory, z, registers)

@@ -1,0 +1,304 @@
+-- What each test of specs/Valid.antt says of the numbers that it reads, as a record, and back.
+-- Assumes nothing.
+use mathlib.Core.Path.{_≡_, refl, sym, _∙_}
+use mathlib.Core.Logic.{_⊎_, inl, inr, ⊎-map}
+use mathlib.Core.Bool.{Bool, true, false, not, _&&_, _||_, false≢true, or-true, and-eq-true-iff}
+use mathlib.Core.List.{List}
+use Prim.Native.Nat.{ℕ, zero, suc, _+_, _≤_, _<_}
+use native.Mathlib.Omega.{arith}
+use native.Mathlib.Numerals.{add-one}
+use lib.Dec.{leb, eqb}
+use lib.ListN.{length}
+use borrow.Author.Count.{below-none, below-more}
+use borrow.Author.Tests.{leb-true, le-leb, eqb-true, eq-eqb, not-true, not-false}
+use Rattle.octets.specs.Bytes.{numberAt, run}
+use Rattle.octets.proofs.Equal.{equal-true, equal-refl}
+use Rattle.supervisor.specs.Limits
+use Rattle.supervisor.specs.Layout
+use Rattle.supervisor.specs.Valid
+
+-- ---- tests
+
+-- a test that leads to what cannot be
+pub untrue : (b : Bool) → (b ≡ true → ⊥) → false ≡ b
+untrue true f = absurd (f refl)
+untrue false f = refl
+
+-- tests that lead to each other
+pub alike : (a b : Bool) → (a ≡ true → b ≡ true) → (b ≡ true → a ≡ true) → a ≡ b
+alike true b f g = sym (f refl)
+alike false b f g = untrue b (λ e. false≢true (g e))
+
+-- a call's answer, told by the test of its negation
+pub passed : (r t : Bool) → r ≡ t → not r ≡ false → t ≡ true
+passed r t e h = sym e ∙ not-false r h
+
+pub failed : (r t : Bool) → r ≡ t → not r ≡ true → t ≡ true → ⊥
+failed r t e h k = false≢true (sym (not-true r h) ∙ (e ∙ k))
+
+pub le-alike : (m n : ℕ) (b : Bool) → (m ≤ n → b ≡ true) → (b ≡ true → m ≤ n) → leb m n ≡ b
+le-alike m n b f g = alike (leb m n) b (λ t. f (leb-true m n t)) (λ e. le-leb m n (g e))
+
+both : (a b : Bool) → (a && b) ≡ true → (a ≡ true) × (b ≡ true)
+both a b = and-eq-true-iff a b .0
+
+and : (a b : Bool) → a ≡ true → b ≡ true → (a && b) ≡ true
+and a b h k = and-eq-true-iff a b .1 (h, k)
+
+le-and : (m n : ℕ) (b : Bool) → (leb m n && b) ≡ true → (m ≤ n) × (b ≡ true)
+le-and m n b e = let t = both (leb m n) b e in (leb-true m n (t .0), t .1)
+
+and-le : (m n : ℕ) (b : Bool) → m ≤ n → b ≡ true → (leb m n && b) ≡ true
+and-le m n b h k = and (leb m n) b (le-leb m n h) k
+
+either : (a b : Bool) → (a || b) ≡ true → (a ≡ true) ⊎ (b ≡ true)
+either true b e = inl refl
+either false b e = inr e
+
+or : (a b : Bool) → (a ≡ true) ⊎ (b ≡ true) → (a || b) ≡ true
+or a b (inl e) = rw e
+or a b (inr e) = rw (e, or-true)
+
+-- ---- every number below n
+
+pub all-none : (p : ℕ → Bool) → Valid.all p 0 ≡ true
+unfolding Valid.all
+all-none p = refl
+
+pub all-more : (p : ℕ → Bool) (n : ℕ) → Valid.all p n ≡ true → p n ≡ true → Valid.all p (n + 1) ≡ true
+unfolding Valid.all
+all-more p n e h = rw add-one (and (Valid.all p n) (p n) e h)
+
+pub all-done : (p : ℕ → Bool) (i n : ℕ) → i ≤ n → n ≤ i → Valid.all p i ≡ true → true ≡ Valid.all p n
+all-done p i n h k e = let s : i ≡ n = omega arith in rw s at (sym e)
+
+pub all-each : (p : ℕ → Bool) (n : ℕ) → Valid.all p n ≡ true → (i : ℕ) → i < n → p i ≡ true
+unfolding Valid.all
+all-each p zero e = below-none (λ k. p k ≡ true)
+all-each p (suc n) e =
+    let t = both (Valid.all p n) (p n) e in
+    rw add-one at (below-more (λ k. p k ≡ true) n (all-each p n (t .0)) (t .1))
+
+pub each-all : (p : ℕ → Bool) (n : ℕ) → ((i : ℕ) → i < n → p i ≡ true) → Valid.all p n ≡ true
+unfolding Valid.all
+each-all p zero f = refl
+each-all p (suc n) f = and (Valid.all p n) (p n) (each-all p n (λ i l. f i (omega arith))) (f n (omega arith))
+
+-- ---- start data
+
+pub record ItemGood (d : List ℕ) (i : ℕ) : Type 0 where
+  pub result : (numberAt 1 d (Layout.item-place i) ≡ 0) ⊎ (numberAt 1 d (Layout.item-place i) ≡ 2) ⊎ (numberAt 1 d (Layout.item-place i) ≡ 3)
+  pub size : numberAt 1 d (Layout.item-place i + Layout.item-data-length-place) ≤ Limits.longest-item-data
+
+pub item-good : (d : List ℕ) (i : ℕ) → Valid.goodItem d i ≡ true → ItemGood d i
+unfolding Valid.goodItem
+item-good d i e =
+    let t = both (Valid.resultAllowed (numberAt 1 d (Layout.item-place i))) _ e in
+    record {
+      result = ⊎-map (eqb-true _ _) (λ o. ⊎-map (eqb-true _ _) (eqb-true _ _) (either _ _ o)) (either _ _ (t .0));
+      size = leb-true _ _ (t .1);
+    }
+
+pub good-item : (d : List ℕ) (i : ℕ) → ItemGood d i → Valid.goodItem d i ≡ true
+unfolding Valid.goodItem
+good-item d i g =
+    and (Valid.resultAllowed (numberAt 1 d (Layout.item-place i))) _
+    (or _ _ (⊎-map (eq-eqb _ _) (λ o. or _ _ (⊎-map (eq-eqb _ _) (eq-eqb _ _) o)) (g .result)))
+    (le-leb _ _ (g .size))
+
+pub record StartGood (d : List ℕ) : Type 0 where
+  pub bsu : (numberAt 1 d Layout.bsu-place ≡ 0x41) ⊎ (numberAt 1 d Layout.bsu-place ≡ 0x42)
+  pub image : Layout.imageIdLength d ≤ Limits.longest-image-id
+  pub count : Layout.itemCount d ≤ Limits.most-items
+  pub items : Valid.goodItems d (Layout.itemCount d) ≡ true
+
+pub start-good : (d : List ℕ) → Valid.goodStart d ≡ true → StartGood d
+unfolding Valid.goodStart
+start-good d e =
+    let a = both (Valid.bsuAllowed (numberAt 1 d Layout.bsu-place)) _ e in
+    let b = le-and _ _ _ (a .1) in
+    let c = le-and _ _ _ (b .1) in
+    record { bsu = ⊎-map (eqb-true _ _) (eqb-true _ _) (either _ _ (a .0)); image = b .0; count = c .0; items = c .1 }
+
+pub good-start : (d : List ℕ) → StartGood d → Valid.goodStart d ≡ true
+unfolding Valid.goodStart
+good-start d g =
+    and (Valid.bsuAllowed (numberAt 1 d Layout.bsu-place)) _
+    (or _ _ (⊎-map (eq-eqb _ _) (eq-eqb _ _) (g .bsu)))
+    (and-le _ _ _ (g .image) (and-le _ _ _ (g .count) (g .items)))
+
+-- ---- the outbox
+
+pub record OutboxValid (o : List ℕ) : Type 0 where
+  pub long : Layout.outbox-length ≤ length o
+  pub order : Layout.outboxFrom o ≤ Layout.outboxTo o
+  pub most : Layout.outboxTo o ≤ Layout.most-pending
+  pub owing : Layout.outboxOwing o ≤ 1
+
+pub outbox-valid : (o : List ℕ) → Valid.validOutbox o ≡ true → OutboxValid o
+unfolding Valid.validOutbox
+outbox-valid o e =
+    let a = le-and _ _ _ e in
+    let b = le-and _ _ _ (a .1) in
+    let c = le-and _ _ _ (b .1) in
+    record { long = a .0; order = b .0; most = c .0; owing = leb-true _ _ (c .1) }
+
+pub valid-outbox : (o : List ℕ) → OutboxValid o → Valid.validOutbox o ≡ true
+unfolding Valid.validOutbox
+valid-outbox o v = and-le _ _ _ (v .long) (and-le _ _ _ (v .order) (and-le _ _ _ (v .most) (le-leb _ _ (v .owing))))
+
+-- ---- the factory store
+
+pub record FactoryValid (f : List ℕ) : Type 0 where
+  pub long : Layout.factory-length ≤ length f
+  pub start : StartGood f
+  pub version : numberAt 4 f Layout.inventory-version-place ≡ 0
+  pub text : run Layout.pong-place 4 f ≡ Valid.pong
+
+pub factory-valid : (f : List ℕ) → Valid.validFactory f ≡ true → FactoryValid f
+unfolding Valid.validFactory
+factory-valid f e =
+    let a = le-and _ _ _ e in
+    let b = both (Valid.goodStart f) _ (a .1) in
+    let c = both (eqb (numberAt 4 f Layout.inventory-version-place) 0) _ (b .1) in
+    record { long = a .0; start = start-good f (b .0); version = eqb-true _ _ (c .0); text = equal-true _ _ (c .1) }
+
+pub valid-factory : (f : List ℕ) → FactoryValid f → Valid.validFactory f ≡ true
+unfolding Valid.validFactory
+valid-factory f v =
+    and-le _ _ _ (v .long)
+    (and (Valid.goodStart f) _ (good-start f (v .start))
+    (and (eqb (numberAt 4 f Layout.inventory-version-place) 0) _ (eq-eqb _ _ (v .version))
+    (rw (v .text) (equal-refl Valid.pong))))
+
+-- ---- the settings store
+
+pub record SettingValid (s : List ℕ) (at most : ℕ) : Type 0 where
+  pub held : Layout.settingHeld s at ≤ 1
+  pub size : Layout.settingLength s at ≤ most
+
+pub setting-valid : (s : List ℕ) (at most : ℕ) → Valid.validSetting s at most ≡ true → SettingValid s at most
+unfolding Valid.validSetting
+setting-valid s at most e = let a = le-and _ _ _ e in record { held = a .0; size = leb-true _ _ (a .1) }
+
+pub valid-setting : (s : List ℕ) (at most : ℕ) → SettingValid s at most → Valid.validSetting s at most ≡ true
+unfolding Valid.validSetting
+valid-setting s at most v = and-le _ _ _ (v .held) (le-leb _ _ (v .size))
+
+pub record SettingsValid (s : List ℕ) : Type 0 where
+  pub long : Layout.settings-length ≤ length s
+  pub key-3 : SettingValid s Layout.key-3-place Limits.longest-key-3
+  pub key-4 : SettingValid s Layout.key-4-place Limits.longest-key-4
+  pub key-5 : SettingValid s Layout.key-5-place Limits.longest-key-5
+
+pub settings-valid : (s : List ℕ) → Valid.validSettings s ≡ true → SettingsValid s
+unfolding Valid.validSettings
+settings-valid s e =
+    let a = le-and _ _ _ e in
+    let b = both (Valid.validSetting s Layout.key-3-place Limits.longest-key-3) _ (a .1) in
+    let c = both (Valid.validSetting s Layout.key-4-place Limits.longest-key-4) _ (b .1) in
+    record { long = a .0; key-3 = setting-valid _ _ _ (b .0); key-4 = setting-valid _ _ _ (c .0); key-5 = setting-valid _ _ _ (c .1) }
+
+pub valid-settings : (s : List ℕ) → SettingsValid s → Valid.validSettings s ≡ true
+unfolding Valid.validSettings
+valid-settings s v =
+    and-le _ _ _ (v .long)
+    (and _ _ (valid-setting _ _ _ (v .key-3)) (and _ _ (valid-setting _ _ _ (v .key-4)) (valid-setting _ _ _ (v .key-5))))
+
+-- ---- the registers
+
+pub record RecordValid (r : List ℕ) (at most : ℕ) : Type 0 where
+  pub held : Layout.recordHeld r at ≤ 1
+  pub size : Layout.recordWhole r at ≤ most
+
+pub record-valid : (r : List ℕ) (at most : ℕ) → Valid.validRecord r at most ≡ true → RecordValid r at most
+unfolding Valid.validRecord
+record-valid r at most e = let a = le-and _ _ _ e in record { held = a .0; size = leb-true _ _ (a .1) }
+
+pub valid-record : (r : List ℕ) (at most : ℕ) → RecordValid r at most → Valid.validRecord r at most ≡ true
+unfolding Valid.validRecord
+valid-record r at most v = and-le _ _ _ (v .held) (le-leb _ _ (v .size))
+
+pub text-valid : (r : List ℕ) (at : ℕ) → Valid.validText r at ≡ true → Layout.alertTextLength r at ≤ Limits.longest-alert
+unfolding Valid.validText
+text-valid r at e = leb-true _ _ e
+
+pub valid-text : (r : List ℕ) (at : ℕ) → Layout.alertTextLength r at ≤ Limits.longest-alert → Valid.validText r at ≡ true
+unfolding Valid.validText
+valid-text r at h = le-leb _ _ h
+
+pub record AlertValid (r : List ℕ) (i : ℕ) : Type 0 where
+  pub size : Layout.alertTextLength r (Layout.alert-place i) ≤ Limits.longest-alert
+  pub action : 1 ≤ Layout.alertAction r (Layout.alert-place i)
+
+pub alert-valid : (r : List ℕ) (i : ℕ) → Valid.validAlert r i ≡ true → AlertValid r i
+unfolding Valid.validAlert
+alert-valid r i e =
+    let a = both (Valid.validText r (Layout.alert-place i)) _ e in
+    record { size = text-valid _ _ (a .0); action = leb-true _ _ (a .1) }
+
+pub valid-alert : (r : List ℕ) (i : ℕ) → AlertValid r i → Valid.validAlert r i ≡ true
+unfolding Valid.validAlert
+valid-alert r i v = and (Valid.validText r (Layout.alert-place i)) _ (valid-text _ _ (v .size)) (le-leb _ _ (v .action))
+
+pub record RecordsAndAlertsValid (r : List ℕ) : Type 0 where
+  pub reason : Layout.recordCode r Layout.boot-failure-place ≤ 255
+  pub boot-failure : RecordValid r Layout.boot-failure-place 4103
+  pub panic : RecordValid r Layout.panic-place 4102
+  pub count : Layout.alertCount r ≤ Limits.most-alerts
+  pub alerts : Valid.validAlerts r (Layout.alertCount r) ≡ true
+  pub retained : numberAt 1 r Layout.retained-place ≤ 1
+  pub text : Layout.alertTextLength r Layout.retained-alert-place ≤ Limits.longest-alert
+
+pub records-and-alerts-valid : (r : List ℕ) → Valid.validRecordsAndAlerts r ≡ true → RecordsAndAlertsValid r
+unfolding Valid.validRecordsAndAlerts
+records-and-alerts-valid r e =
+    let a = le-and _ _ _ e in
+    let b = both (Valid.validRecord r Layout.boot-failure-place 4103) _ (a .1) in
+    let c = both (Valid.validRecord r Layout.panic-place 4102) _ (b .1) in
+    let d = le-and _ _ _ (c .1) in
+    let f = both (Valid.validAlerts r (Layout.alertCount r)) _ (d .1) in
+    let g = le-and _ _ _ (f .1) in
+    record {
+      reason = a .0;
+      boot-failure = record-valid _ _ _ (b .0);
+      panic = record-valid _ _ _ (c .0);
+      count = d .0;
+      alerts = f .0;
+      retained = g .0;
+      text = text-valid _ _ (g .1);
+    }
+
+pub valid-records-and-alerts : (r : List ℕ) → RecordsAndAlertsValid r → Valid.validRecordsAndAlerts r ≡ true
+unfolding Valid.validRecordsAndAlerts
+valid-records-and-alerts r v =
+    and-le _ _ _ (v .reason)
+    (and _ _ (valid-record _ _ _ (v .boot-failure))
+    (and _ _ (valid-record _ _ _ (v .panic))
+    (and-le _ _ _ (v .count) (and _ _ (v .alerts) (and-le _ _ _ (v .retained) (valid-text _ _ (v .text)))))))
+
+pub record RegistersValid (r : List ℕ) : Type 0 where
+  pub long : Layout.registers-length ≤ length r
+  pub status : Layout.statusOf r ≤ 3
+  pub options : Layout.optionsOf r ≤ 511
+  pub reboot : numberAt 1 r Layout.reboot-place ≤ 1
+  pub power-off : numberAt 1 r Layout.power-off-place ≤ 1
+  pub rest : RecordsAndAlertsValid r
+
+pub registers-valid : (r : List ℕ) → Valid.validRegisters r ≡ true → RegistersValid r
+unfolding Valid.validRegisters
+registers-valid r e =
+    let a = le-and _ _ _ e in
+    let b = le-and _ _ _ (a .1) in
+    let c = le-and _ _ _ (b .1) in
+    let d = le-and _ _ _ (c .1) in
+    let f = le-and _ _ _ (d .1) in
+    record { long = a .0; status = b .0; options = c .0; reboot = d .0; power-off = f .0; rest = records-and-alerts-valid r (f .1) }
+
+pub valid-registers : (r : List ℕ) → RegistersValid r → Valid.validRegisters r ≡ true
+unfolding Valid.validRegisters
+valid-registers r v =
+    and-le _ _ _ (v .long)
+    (and-le _ _ _ (v .status)
+    (and-le _ _ _ (v .options)
+    (and-le _ _ _ (v .reboot) (and-le _ _ _ (v .power-off) (valid-records-and-alerts r (v .rest))))))

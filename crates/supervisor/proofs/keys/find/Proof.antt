@@ -1,0 +1,38 @@
+-- `supervisor::keys::find` meets its contract.
+-- Assumes nothing.
+use borrow.Author.Needs.{needs}
+use Rattle.supervisor.specs.Calls.{placeOf}
+use Rattle.supervisor.proofs.Cases.{cases}
+use Rattle.supervisor.proofs.keys.find.Statement.{statement}
+use Rattle.supervisor.proofs.keys.find.Tie as tie
+
+returns : tie.Need-returns
+unfolding placeOf
+returns c = search cases
+
+returns-2 : tie.Need-returns-2
+unfolding placeOf
+returns-2 c = search (cases, c .byte-at .ensures .0)
+
+returns-3 : tie.Need-returns-3
+unfolding placeOf
+returns-3 c = search cases
+
+returns-4 : tie.Need-returns-4
+unfolding placeOf
+returns-4 c = search (cases, c .setting .ensures)
+
+returns-5 : tie.Need-returns-5
+unfolding placeOf
+returns-5 c = search (cases, c .setting2 .ensures)
+
+returns-6 : tie.Need-returns-6
+unfolding placeOf
+returns-6 c = search (cases, c .setting3 .ensures)
+
+pub find-spec : {M : Type 1} → statement M
+find-spec =
+    tie.close
+    (tie.spec
+    returns (λ c κs. search needs) returns-2 returns-3 (λ c κs. search needs) returns-4 (λ c κs. search needs) returns-5
+    (λ c κs. search needs) returns-6)

@@ -1,0 +1,53 @@
+-- `supervisor::outbox::take` meets its contract.
+-- Assumes nothing.
+use mathlib.Core.Path.{sym, ap, _∙_}
+use native.Mathlib.Omega.{arith}
+use borrow.Author.Needs.{needs}
+use borrow.Author.Tests.{not-true}
+use lib.ListN.{length}
+use Rattle.octets.proofs.Overlay.{length-put}
+use Rattle.supervisor.proofs.ValidLaws.{passed, outbox-valid}
+use Rattle.supervisor.proofs.OutboxLaws.{take-refused, take-none, take-some}
+use Rattle.supervisor.proofs.outbox.take.Statement.{statement}
+use Rattle.supervisor.proofs.outbox.take.Tie as tie
+
+returns : tie.Need-returns
+returns c = take-refused _ _ (sym (c .before .outbox-is-valid .ensures) ∙ not-true _ (c .if1 .taken))
+
+sub-pending : tie.Need-sub-pending
+sub-pending c =
+    let start = c .before .before .before .before in
+    omega (arith, outbox-valid _ (passed _ _ (start .before .outbox-is-valid .ensures) (start .if1 .left)))
+
+returns-2 : tie.Need-returns-2
+returns-2 c =
+    let from = c .before .before .before .before in
+    let start = from .before .before in
+    take-none _ _ (passed _ _ (start .before .outbox-is-valid .ensures) (start .if1 .left)) (from .word-at .ensures .0)
+    (c .before .before .word-at2 .ensures .0) (c .before .least .ensures) (c .if2 .taken)
+
+slice-write-outbox : tie.Need-slice-write-outbox
+slice-write-outbox c =
+    let start = c .before .before .before .before .before .before .before .before .before .before .before .before .before .before .before .before .before .before in
+    let v = outbox-valid _ (passed _ _ (start .before .outbox-is-valid .ensures) (start .if1 .left)) in
+    omega (arith, v, ap length (c .before .before .before .write-u16 .ensures) ∙ length-put _ _ _)
+
+returns-3 : tie.Need-returns-3
+returns-3 c =
+    let copy = c .before .before .before .before .before .before .before in
+    let last = copy .before .before .before in
+    let some = last .before .before in
+    let from = some .before .before .before .before in
+    let start = from .before .before in
+    take-some _ _ (passed _ _ (start .before .outbox-is-valid .ensures) (start .if1 .left)) (from .word-at .ensures .0)
+    (some .before .before .word-at2 .ensures .0) (some .before .least .ensures) (some .if2 .left) (last .read-u8 .ensures) (copy .copy .ensures)
+    (c .before .before .before .write-u16 .ensures) (c .owing .ensures)
+
+pub take-spec : {M : Type 1} → statement M
+take-spec =
+    tie.close
+    (tie.spec
+    (λ c κs. search needs) (λ c. search needs) returns (λ c κs. search needs) (λ c κs. search needs) sub-pending
+    (λ c κs. search needs) (λ c. search needs) returns-2 (λ c. search needs) (λ c. search needs) (λ c. search needs)
+    (λ c κs. search needs) (λ c κs. search needs) (λ c. search needs) (λ c. search needs) (λ c κs. search needs)
+    (λ c κs. search needs) slice-write-outbox (λ c. search needs) (λ c. search needs) returns-3)

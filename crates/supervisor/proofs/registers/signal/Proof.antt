@@ -1,0 +1,36 @@
+-- `supervisor::registers::signal` meets its contract.
+-- Assumes nothing.
+use borrow.Author.Needs.{needs}
+use borrow.Author.Tests.{eq-eqb, ne-eqb}
+use Rattle.supervisor.specs.Calls.{signalSaid, signalOf}
+use Rattle.supervisor.proofs.ValidLaws.{passed}
+use Rattle.supervisor.proofs.Cases.{refused}
+use Rattle.supervisor.proofs.registers.signal.Statement.{statement}
+use Rattle.supervisor.proofs.registers.signal.Tie as tie
+
+returns : tie.Need-returns
+unfolding signalSaid signalOf
+returns c = rw (refused _ _ (c .before .registers-are-valid .ensures) (c .if1 .taken))
+
+returns-2 : tie.Need-returns-2
+unfolding signalSaid signalOf
+returns-2 c =
+    rw (
+      passed _ _ (c .before .before .before .registers-are-valid .ensures) (c .before .before .if1 .left),
+      ← c .before .read-u64 .ensures,
+      eq-eqb _ _ (c .if2 .taken),
+    )
+
+returns-3 : tie.Need-returns-3
+unfolding signalSaid signalOf
+returns-3 c =
+    rw (
+      passed _ _ (c .before .before .before .registers-are-valid .ensures) (c .before .before .if1 .left),
+      ← c .before .read-u64 .ensures,
+      ne-eqb _ _ (c .if2 .left),
+    )
+
+pub signal-spec : {M : Type 1} → statement M
+signal-spec =
+    tie.close (tie.spec
+    (λ c κs. search needs) returns (λ c κs. search needs) returns-2 returns-3)

@@ -1,0 +1,14 @@
+-- `valid::setting_is_valid` meets its contract.
+-- Assumes nothing.
+use native.Mathlib.Omega.{arith}
+use borrow.Author.Needs.{needs}
+use Rattle.supervisor.proofs.ValidLaws.{untrue, le-alike, setting-valid, valid-setting}
+use Rattle.supervisor.proofs.valid.setting_is_valid.Statement.{statement}
+use Rattle.supervisor.proofs.valid.setting_is_valid.Tie as tie
+
+pub setting-is-valid-spec : {M : Type 1} → statement M
+setting-is-valid-spec =
+    tie.close
+    (tie.spec
+    (λ c κs. search needs) (λ c. untrue _ (λ e. omega (arith, setting-valid _ _ _ e))) (λ c. search needs) (λ c κs. search needs)
+    (λ c. le-alike (c .word-at .result) _ _ (λ h. valid-setting _ _ _ (search needs)) (λ e. omega (arith, setting-valid _ _ _ e))))

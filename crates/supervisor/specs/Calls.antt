@@ -1,0 +1,290 @@
+-- What each local call answers and leaves in the bytes that it is lent (document 01, "When a call says no" and the rules it names).
+-- Assumes nothing: these are definitions.
+use mathlib.Core.Bool.{Bool, true, false, cond, _&&_}
+use mathlib.Core.List.{List, [], _∷_, _++_}
+use mathlib.Core.Option.{Option, none, some}
+use Prim.Native.Nat.{ℕ, _+_, _-_, min}
+use lib.Dec.{leb, ltb, eqb}
+use lib.ListN.{length, replicate, getD}
+use Rattle.octets.specs.Bytes.{bytes, run, numberAt, overlay}
+use Rattle.line.specs.Reader
+use Rattle.supervisor.specs.Limits
+use Rattle.supervisor.specs.Local
+use Rattle.supervisor.specs.Layout
+use Rattle.supervisor.specs.Valid.{goodStart, validOutbox, validFactory, validSettings, validRegisters, pong}
+use Rattle.supervisor.specs.declared.start.Started.{Started}
+use Rattle.supervisor.specs.declared.start.Started.the-variants as started
+use Rattle.supervisor.specs.declared.outbox.Taken.{Taken}
+use Rattle.supervisor.specs.declared.outbox.Taken.the-variants as taken
+use Rattle.supervisor.specs.declared.alerts.Posted.{Posted}
+use Rattle.supervisor.specs.declared.alerts.Posted.the-variants as posted
+use Rattle.supervisor.specs.declared.options.OptionsSet.{OptionsSet}
+use Rattle.supervisor.specs.declared.options.OptionsSet.the-variants as options-set
+use Rattle.supervisor.specs.declared.keys.Found.{Found}
+use Rattle.supervisor.specs.declared.keys.Found.the-variants as found
+use Rattle.supervisor.specs.declared.keys.Place.{Place}
+use Rattle.supervisor.specs.declared.keys.Place.the-variants as place
+use Rattle.supervisor.specs.declared.registers.SignalRead.{SignalRead}
+use Rattle.supervisor.specs.declared.registers.SignalRead.the-variants as signal
+use Rattle.supervisor.specs.declared.registers.Asked.{Asked}
+use Rattle.supervisor.specs.declared.registers.FlagsRead.{FlagsRead}
+use Rattle.supervisor.specs.declared.registers.FlagsRead.the-variants as flags
+use Rattle.supervisor.specs.declared.registers.Kind.{Kind}
+use Rattle.supervisor.specs.declared.registers.Kind.the-variants as kind
+use Rattle.supervisor.specs.declared.registers.Entry.{Entry}
+use Rattle.supervisor.specs.declared.registers.Recorded.{Recorded}
+use Rattle.supervisor.specs.declared.registers.Recorded.the-variants as recorded
+
+-- ---- Start
+
+pub record Parts : Type 0 where
+  pub reader : List ℕ
+  pub outbox : List ℕ
+  pub factory : List ℕ
+  pub settings : List ℕ
+  pub registers : List ℕ
+
+-- every part has its published length
+unfoldable pub roomy : Parts → Bool
+roomy p =
+    leb Reader.state-length (length (p .reader))
+    && (leb Layout.outbox-length (length (p .outbox))
+    && (leb Layout.factory-length (length (p .factory))
+    && (leb Layout.settings-length (length (p .settings))
+    && leb Layout.registers-length (length (p .registers)))))
+
+-- status 1; every other register, every setting and the outbox 0; the start data in the factory store, and key 2's version and key 0's text
+unfoldable pub freshParts : List ℕ → Parts → Parts
+freshParts d p = record {
+  reader = Reader.counted 0 (p .reader);
+  outbox = overlay 0 (replicate Layout.outbox-length 0) (p .outbox);
+  factory = overlay 0 (d ++ bytes 4 0 ++ pong) (p .factory);
+  settings = overlay 0 (replicate Layout.settings-length 0) (p .settings);
+  registers = overlay 0 (bytes 8 1 ++ replicate (Layout.registers-length - 8) 0) (p .registers);
+}
+
+-- the table's number of a refusal; none where the call is carried out
+unfoldable pub startSaid : Started → Option ℕ
+startSaid started.Done = none
+startSaid started.Refused = some 12
+startSaid started.BadData = some 11
+
+pub record Start : Type 0 where
+  pub refusal : Option ℕ
+  pub parts : Parts
+
+abbrev pub startOf : Started → List ℕ → List ℕ → List ℕ → List ℕ → List ℕ → Start
+startOf r reader outbox factory settings registers = record {
+  refusal = startSaid r;
+  parts = record { reader = reader; outbox = outbox; factory = factory; settings = settings; registers = registers };
+}
+
+-- the room alone is tested for 12, then the start data for 11
+unfoldable pub starting : List ℕ → Parts → Start
+starting d p =
+    cond (roomy p)
+    (cond (goodStart d) (record { refusal = none; parts = freshParts d p }) (record { refusal = some 11; parts = p }))
+    (record { refusal = some 12; parts = p })
+
+-- ---- Take
+
+-- how many bytes were moved, or the table's number
+pub data TakeSaid : Type 0 where
+  moved : ℕ → TakeSaid
+  refused : ℕ → TakeSaid
+
+unfoldable pub takeSaid : Taken → TakeSaid
+takeSaid (taken.Moved n) = moved n
+takeSaid taken.Refused = refused 12
+
+pub record Take : Type 0 where
+  pub said : TakeSaid
+  pub outbox : List ℕ
+  pub room : List ℕ
+
+abbrev pub takeOf : Taken → List ℕ → List ℕ → Take
+takeOf r outbox room = record { said = takeSaid r; outbox = outbox; room = room }
+
+-- whether the last of some bytes is not zero
+abbrev pub lastNonZero : List ℕ → ℕ
+lastNonZero bs = cond (eqb (getD bs (length bs - 1) 0) 0) 0 1
+
+-- the outbox after bytes were taken
+unfoldable pub afterTaken : List ℕ → List ℕ → List ℕ
+afterTaken [] o = o
+afterTaken (b ∷ bs) o =
+    overlay Layout.outbox-owing-place (lastNonZero (b ∷ bs) ∷ [])
+    (overlay Layout.outbox-from-place (bytes 2 (Layout.outboxFrom o + length (b ∷ bs))) o)
+
+-- the smaller of the room and the bytes pending
+abbrev pub takeable : List ℕ → List ℕ → ℕ
+takeable o room = min (length room) (Layout.outboxTo o - Layout.outboxFrom o)
+
+abbrev pub takenBytes : List ℕ → List ℕ → List ℕ
+takenBytes o room = run (Layout.outbox-bytes-place + Layout.outboxFrom o) (takeable o room) o
+
+unfoldable pub taking : List ℕ → List ℕ → Take
+taking o room =
+    cond (validOutbox o)
+    (record { said = moved (takeable o room); outbox = afterTaken (takenBytes o room) o; room = overlay 0 (takenBytes o room) room })
+    (record { said = refused 12; outbox = o; room = room })
+
+-- ---- Post an alert
+
+unfoldable pub postSaid : Posted → Option ℕ
+postSaid posted.Done = none
+postSaid posted.Refused = some 12
+postSaid posted.BadAction = some 13
+postSaid posted.TooLong = some 9
+postSaid posted.Full = some 10
+
+-- a call that changes the registers alone
+pub record Registered : Type 0 where
+  pub refusal : Option ℕ
+  pub registers : List ℕ
+
+abbrev pub registered : Option ℕ → List ℕ → Registered
+registered n r = record { refusal = n; registers = r }
+
+-- the alert behind those that wait, one more that waits, status bit 1
+unfoldable pub withAlert : List ℕ → ℕ → List ℕ → List ℕ
+withAlert r action text =
+    overlay Layout.status-place (bytes 8 (Local.setBit (Layout.statusOf r) 1))
+    (overlay Layout.alert-count-place (bytes 1 (Layout.alertCount r + 1))
+    (overlay (Layout.alert-place (Layout.alertCount r)) (bytes 2 (length text) ++ (bytes 1 action ++ text)) r))
+
+-- tests 12, 13, 9, 10
+unfoldable pub posting : List ℕ → ℕ → List ℕ → Registered
+posting r action text =
+    cond (validRegisters r)
+    (cond (eqb action 0) (registered (some 13) r)
+    (cond (ltb Limits.longest-alert (length text)) (registered (some 9) r)
+    (cond (ltb (Layout.alertCount r) Limits.most-alerts) (registered none (withAlert r action text)) (registered (some 10) r))))
+    (registered (some 12) r)
+
+-- ---- Set options
+
+unfoldable pub optionsSaid : OptionsSet → Option ℕ
+optionsSaid options-set.Done = none
+optionsSaid options-set.Refused = some 12
+optionsSaid options-set.BadOption = some 13
+
+unfoldable pub settingOptions : List ℕ → ℕ → Registered
+settingOptions r options =
+    cond (validRegisters r)
+    (cond (Local.optionsAllowed options) (registered none (overlay Layout.options-place (bytes 8 options) r)) (registered (some 13) r))
+    (registered (some 12) r)
+
+-- ---- Look a key up
+
+-- where a key's value lies: from which byte of a store, and how many
+unfoldable pub settingAt : List ℕ → ℕ → Place
+settingAt s at = cond (eqb (Layout.settingHeld s at) 1) (place.Settings (at + Layout.setting-value-place) (Layout.settingLength s at)) place.Nowhere
+
+-- of a key from 0 to 5
+unfoldable pub placeOf : List ℕ → List ℕ → ℕ → Place
+placeOf f s key =
+    cond (eqb key 0) (place.Factory Layout.pong-place 4)
+    (cond (eqb key 1) (place.Factory Layout.image-id-place (Layout.imageIdLength f))
+    (cond (eqb key 2) (place.Factory Layout.item-count-place 8)
+    (cond (eqb key 3) (settingAt s Layout.key-3-place)
+    (cond (eqb key 4) (settingAt s Layout.key-4-place)
+    (settingAt s Layout.key-5-place)))))
+
+-- the result of a lookup and how many bytes were found, or the table's number
+pub data LookupSaid : Type 0 where
+  result : ℕ → ℕ → LookupSaid
+  refused : ℕ → LookupSaid
+
+unfoldable pub lookupSaid : Found → LookupSaid
+lookupSaid found.Refused = refused 12
+lookupSaid (found.Value n) = result 0 n
+lookupSaid found.BadKey = result 1 0
+lookupSaid found.NoValue = result 2 0
+lookupSaid found.TooLong = result 3 0
+
+abbrev pub sized : ℕ → ℕ → LookupSaid
+sized most n = cond (ltb most n) (result 3 0) (result 0 n)
+
+unfoldable pub resultAt : ℕ → Place → LookupSaid
+resultAt most (place.Factory at n) = sized most n
+resultAt most (place.Settings at n) = sized most n
+resultAt most place.Nowhere = result 2 0
+
+unfoldable pub lookupResult : List ℕ → List ℕ → ℕ → ℕ → LookupSaid
+lookupResult f s key most =
+    cond (validFactory f && validSettings s)
+    (cond (ltb Limits.highest-key key) (result 1 0) (resultAt most (placeOf f s key)))
+    (refused 12)
+
+abbrev pub within : ℕ → ℕ → List ℕ → List ℕ
+within most n v = cond (ltb most n) [] v
+
+unfoldable pub valueAt : List ℕ → List ℕ → ℕ → Place → List ℕ
+valueAt f s most (place.Factory at n) = within most n (run at n f)
+valueAt f s most (place.Settings at n) = within most n (run at n s)
+valueAt f s most place.Nowhere = []
+
+-- a result other than 0 and a refusal hand out an empty part
+unfoldable pub lookupValue : List ℕ → List ℕ → ℕ → ℕ → List ℕ
+lookupValue f s key most =
+    cond (validFactory f && validSettings s)
+    (cond (ltb Limits.highest-key key) [] (valueAt f s most (placeOf f s key)))
+    []
+
+-- ---- Read the line signal, the two flags, a record
+
+-- what is read, or the table's number
+pub data ReadSaid (A : Type 0) : Type 0 where
+  is : A → ReadSaid A
+  refused : ℕ → ReadSaid A
+
+unfoldable pub signalSaid : SignalRead → ReadSaid Bool
+signalSaid signal.Refused = ReadSaid.refused 12
+signalSaid signal.Asserted = is true
+signalSaid signal.Clear = is false
+
+-- asserted exactly when status is not 0
+unfoldable pub signalOf : List ℕ → ReadSaid Bool
+signalOf r = cond (validRegisters r) (is (cond (eqb (Layout.statusOf r) 0) false true)) (ReadSaid.refused 12)
+
+-- reboot asked for, power off asked for
+unfoldable pub flagsSaid : FlagsRead → ReadSaid (Bool × Bool)
+flagsSaid flags.Refused = ReadSaid.refused 12
+flagsSaid (flags.Read a) = is (a .reboot, a .«power_off»)
+
+unfoldable pub flagsOf : List ℕ → ReadSaid (Bool × Bool)
+flagsOf r =
+    cond (validRegisters r) (is (eqb (numberAt 1 r Layout.reboot-place) 1, eqb (numberAt 1 r Layout.power-off-place) 1)) (ReadSaid.refused 12)
+
+unfoldable pub recordPlace : Kind → ℕ
+recordPlace kind.BootFailure = Layout.boot-failure-place
+recordPlace kind.Panic = Layout.panic-place
+
+-- a record: its code, the whole length of its rest, and how many bytes of the rest are kept
+pub record Read : Type 0 where
+  pub code : ℕ
+  pub whole : ℕ
+  pub kept : ℕ
+
+unfoldable pub recordSaid : Recorded → ReadSaid (Option Read)
+recordSaid recorded.Refused = ReadSaid.refused 12
+recordSaid recorded.Nothing = is none
+recordSaid (recorded.Found e) = is (some (record { code = e .code; whole = e .whole; kept = e .kept }))
+
+abbrev pub keptOf : List ℕ → ℕ → ℕ
+keptOf r at = min (Layout.recordWhole r at) Limits.most-kept
+
+unfoldable pub recordAt : List ℕ → ℕ → Option Read
+recordAt r at =
+    cond (eqb (Layout.recordHeld r at) 1) (some (record { code = Layout.recordCode r at; whole = Layout.recordWhole r at; kept = keptOf r at })) none
+
+unfoldable pub recordOf : List ℕ → Kind → ReadSaid (Option Read)
+recordOf r k = cond (validRegisters r) (is (recordAt r (recordPlace k))) (ReadSaid.refused 12)
+
+-- the kept bytes; an empty part where there is no record and in a refusal
+unfoldable pub recordBytes : List ℕ → Kind → List ℕ
+recordBytes r k =
+    cond (validRegisters r)
+    (cond (eqb (Layout.recordHeld r (recordPlace k)) 1) (run (recordPlace k + Layout.record-kept-place) (keptOf r (recordPlace k)) r) [])
+    []

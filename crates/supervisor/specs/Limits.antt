@@ -1,0 +1,41 @@
+-- The supervisor's limits, each in one place (document 01, "Requests and what they do").
+-- Assumes nothing: these are definitions.
+use Prim.Native.Nat.{ℕ}
+
+-- inventory
+abbrev pub most-items : ℕ
+most-items = 16
+
+abbrev pub longest-item-data : ℕ
+longest-item-data = 64
+
+-- keys
+abbrev pub longest-image-id : ℕ
+longest-image-id = 64
+
+abbrev pub highest-key : ℕ
+highest-key = 5
+
+abbrev pub longest-key-3 : ℕ
+longest-key-3 = 256
+
+abbrev pub longest-key-4 : ℕ
+longest-key-4 = 4096
+
+abbrev pub longest-key-5 : ℕ
+longest-key-5 = 1024
+
+-- alerts
+abbrev pub most-alerts : ℕ
+most-alerts = 8
+
+abbrev pub longest-alert : ℕ
+longest-alert = 256
+
+-- bytes of a record's rest that are kept
+abbrev pub most-kept : ℕ
+most-kept = 512
+
+-- the highest option bit
+abbrev pub highest-option : ℕ
+highest-option = 8

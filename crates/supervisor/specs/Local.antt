@@ -1,0 +1,124 @@
+-- What each local call answers and does, in document 01's words: the meaning of the keys, alerts, options, sending and the reading calls.
+-- Assumes nothing: these are definitions.
+use mathlib.Core.Bool.{Bool, true, false, cond, not, _||_}
+use mathlib.Core.List.{List, [], _∷_, _++_}
+use mathlib.Core.Option.{Option, none, some}
+use Prim.Native.Nat.{ℕ, zero, suc, _+_, _-_, _/_, _%_, _^_}
+use lib.Dec.{leb, ltb, eqb}
+use lib.ListN.{length, take, drop, getD}
+use Rattle.octets.specs.Bytes.{bytes}
+use Rattle.supervisor.specs.Limits.{most-items, longest-item-data, longest-image-id, highest-key, most-alerts, longest-alert, highest-option}
+use Rattle.supervisor.specs.State.{Item, Factory, Settings, Recorded, Alert, Retained, State, state}
+
+-- ---- Start data: refused as 11
+
+unfoldable pub badItem : Item → Bool
+badItem i = ltb longest-item-data (length (i .payload)) || not (eqb (i .result) 0 || eqb (i .result) 2 || eqb (i .result) 3)
+
+unfoldable pub anyBad : List Item → Bool
+anyBad [] = false
+anyBad (i ∷ is) = badItem i || anyBad is
+
+unfoldable pub badStart : Factory → Bool
+badStart f =
+    ltb most-items (length (f .items)) || anyBad (f .items) || ltb longest-image-id (length (f .image-id))
+    || not (eqb (f .bsu) 0x41 || eqb (f .bsu) 0x42)
+
+-- ---- Bits of a number
+
+-- the bit at a place
+abbrev pub bit : ℕ → ℕ → ℕ
+bit n k = n / 2 ^ k % 2
+
+unfoldable pub setBit : ℕ → ℕ → ℕ
+setBit n k = cond (eqb (bit n k) 1) n (n + 2 ^ k)
+
+-- the highest of the k lowest bits that is set; none where none is
+unfoldable pub highest : ℕ → ℕ → Option ℕ
+highest zero n = none
+highest (suc k) n = cond (eqb (bit n k) 1) (some k) (highest k n)
+
+-- the highest option bit set is at most 8
+abbrev pub atMost : ℕ → Option ℕ → Bool
+atMost most none = true
+atMost most (some k) = leb k most
+
+unfoldable pub optionsAllowed : ℕ → Bool
+optionsAllowed options = atMost highest-option (highest 64 options)
+
+-- ---- Keys
+
+-- the value of a key from 0 to 5
+unfoldable pub valueOf : State → ℕ → Option (List ℕ)
+valueOf s key =
+    cond (eqb key 0) (some (0x70 ∷ 0x6f ∷ 0x6e ∷ 0x67 ∷ []))
+    (cond (eqb key 1) (some (s .factory .image-id))
+    (cond (eqb key 2) (some (bytes 4 (length (s .factory .items)) ++ bytes 4 0))
+    (cond (eqb key 3) (s .settings .key-3)
+    (cond (eqb key 4) (s .settings .key-4)
+    (s .settings .key-5)))))
+
+-- a lookup's result, and the value where the result is 0
+pub record Found : Type 0 where
+  pub result : ℕ
+  pub value : List ℕ
+
+abbrev pub without : ℕ → Found
+without n = record { result = n; value = [] }
+
+-- no value 2, longer than maxresponse 3
+unfoldable pub fitted : ℕ → Option (List ℕ) → Found
+fitted most none = without 2
+fitted most (some v) = cond (ltb most (length v)) (without 3) (record { result = 0; value = v })
+
+-- an invalid key 1
+unfoldable pub lookup : State → ℕ → ℕ → Found
+lookup s key most = cond (ltb highest-key key) (without 1) (fitted most (valueOf s key))
+
+-- ---- Alerts, options and sending: the state afterwards
+
+-- a refusal by its number, or the state that the call leaves
+pub data Done : Type 0 where
+  refused : ℕ → Done
+  left : State → Done
+
+unfoldable pub posted : State → ℕ → List ℕ → State
+posted s action text =
+    state (setBit (s .status) 1) (s .options) (s .reboot-asked) (s .power-off-asked) (s .boot-failure) (s .panic) (s .factory) (s .settings)
+    (s .waiting ++ ((record { action = action; text = text }) ∷ [])) (s .retained) (s .received) (s .pending) (s .owing)
+
+-- tests 13, 9, 10
+unfoldable pub post : State → ℕ → List ℕ → Done
+post s action text =
+    cond (eqb action 0) (refused 13)
+    (cond (ltb longest-alert (length text)) (refused 9)
+    (cond (ltb (length (s .waiting)) most-alerts) (left (posted s action text)) (refused 10)))
+
+unfoldable pub withOptions : State → ℕ → State
+withOptions s options =
+    state (s .status) options (s .reboot-asked) (s .power-off-asked) (s .boot-failure) (s .panic) (s .factory) (s .settings)
+    (s .waiting) (s .retained) (s .received) (s .pending) (s .owing)
+
+-- test 13
+unfoldable pub setOptions : State → ℕ → Done
+setOptions s options = cond (optionsAllowed options) (left (withOptions s options)) (refused 13)
+
+-- whether the last byte of a list is not zero; as before where there is none
+unfoldable pub lastNonZero : Bool → List ℕ → Bool
+lastNonZero before [] = before
+lastNonZero before (b ∷ bs) = not (eqb (getD (b ∷ bs) (length bs) 0) 0)
+
+-- the smaller of the room and the bytes pending goes out
+unfoldable pub taken : State → ℕ → List ℕ
+taken s room = take room (s .pending)
+
+unfoldable pub afterTake : State → ℕ → State
+afterTake s room =
+    state (s .status) (s .options) (s .reboot-asked) (s .power-off-asked) (s .boot-failure) (s .panic) (s .factory) (s .settings)
+    (s .waiting) (s .retained) (s .received) (drop room (s .pending)) (lastNonZero (s .owing) (taken s room))
+
+-- ---- The line signal
+
+-- asserted exactly when status is not 0
+unfoldable pub asserted : State → Bool
+asserted s = not (eqb (s .status) 0)

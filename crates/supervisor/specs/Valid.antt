@@ -1,0 +1,106 @@
+-- What the table's 11 asks of start data and its 12 of each lent part (document 01, "When a call says no").
+-- Assumes nothing: these are definitions.
+use mathlib.Core.Bool.{Bool, true, false, _&&_, _||_}
+use mathlib.Core.List.{List, [], _∷_}
+use Prim.Native.Nat.{ℕ, zero, suc, _+_}
+use lib.Dec.{leb, eqb}
+use lib.ListN.{length}
+use Rattle.octets.specs.Bytes.{numberAt, run, equal}
+use Rattle.supervisor.specs.Limits
+use Rattle.supervisor.specs.Layout
+
+-- every number below n passes the test
+unfoldable pub all : (ℕ → Bool) → ℕ → Bool
+all p zero = true
+all p (suc n) = all p n && p n
+
+-- ---- Start data
+
+-- the result of an item
+abbrev pub resultAllowed : ℕ → Bool
+resultAllowed n = eqb n 0 || (eqb n 2 || eqb n 3)
+
+unfoldable pub goodItem : List ℕ → ℕ → Bool
+goodItem d i =
+    resultAllowed (numberAt 1 d (Layout.item-place i))
+    && leb (numberAt 1 d (Layout.item-place i + Layout.item-data-length-place)) Limits.longest-item-data
+
+-- the first n items
+abbrev pub goodItems : List ℕ → ℕ → Bool
+goodItems d = all (goodItem d)
+
+abbrev pub bsuAllowed : ℕ → Bool
+bsuAllowed n = eqb n 0x41 || eqb n 0x42
+
+unfoldable pub goodStart : List ℕ → Bool
+goodStart d =
+    bsuAllowed (numberAt 1 d Layout.bsu-place)
+    && (leb (Layout.imageIdLength d) Limits.longest-image-id
+    && (leb (Layout.itemCount d) Limits.most-items
+    && goodItems d (Layout.itemCount d)))
+
+-- ---- Lent parts
+
+unfoldable pub validOutbox : List ℕ → Bool
+validOutbox o =
+    leb Layout.outbox-length (length o)
+    && (leb (Layout.outboxFrom o) (Layout.outboxTo o)
+    && (leb (Layout.outboxTo o) Layout.most-pending
+    && leb (Layout.outboxOwing o) 1))
+
+-- the text of key 0
+abbrev pub pong : List ℕ
+pong = 0x70 ∷ 0x6f ∷ 0x6e ∷ 0x67 ∷ []
+
+unfoldable pub validFactory : List ℕ → Bool
+validFactory f =
+    leb Layout.factory-length (length f)
+    && (goodStart f
+    && (eqb (numberAt 4 f Layout.inventory-version-place) 0
+    && equal (run Layout.pong-place 4 f) pong))
+
+unfoldable pub validSetting : List ℕ → ℕ → ℕ → Bool
+validSetting s at most = leb (Layout.settingHeld s at) 1 && leb (Layout.settingLength s at) most
+
+unfoldable pub validSettings : List ℕ → Bool
+validSettings s =
+    leb Layout.settings-length (length s)
+    && (validSetting s Layout.key-3-place Limits.longest-key-3
+    && (validSetting s Layout.key-4-place Limits.longest-key-4
+    && validSetting s Layout.key-5-place Limits.longest-key-5))
+
+-- the rest of a record has at most so many bytes
+unfoldable pub validRecord : List ℕ → ℕ → ℕ → Bool
+validRecord r at most = leb (Layout.recordHeld r at) 1 && leb (Layout.recordWhole r at) most
+
+unfoldable pub validText : List ℕ → ℕ → Bool
+validText r at = leb (Layout.alertTextLength r at) Limits.longest-alert
+
+-- an alert that waits has an action from 1 to 255
+unfoldable pub validAlert : List ℕ → ℕ → Bool
+validAlert r i = validText r (Layout.alert-place i) && leb 1 (Layout.alertAction r (Layout.alert-place i))
+
+-- the first n alerts
+abbrev pub validAlerts : List ℕ → ℕ → Bool
+validAlerts r = all (validAlert r)
+
+-- the reason of a boot failure is one byte, so that its rest has at most 4,103; the cause of a panic is two bytes
+unfoldable pub validRecordsAndAlerts : List ℕ → Bool
+validRecordsAndAlerts r =
+    leb (Layout.recordCode r Layout.boot-failure-place) 255
+    && (validRecord r Layout.boot-failure-place 4103
+    && (validRecord r Layout.panic-place 4102
+    && (leb (Layout.alertCount r) Limits.most-alerts
+    && (validAlerts r (Layout.alertCount r)
+    && (leb (numberAt 1 r Layout.retained-place) 1
+    && validText r Layout.retained-alert-place)))))
+
+-- status has bits 0 and 1, and options bits 0 to 8
+unfoldable pub validRegisters : List ℕ → Bool
+validRegisters r =
+    leb Layout.registers-length (length r)
+    && (leb (Layout.statusOf r) 3
+    && (leb (Layout.optionsOf r) 511
+    && (leb (numberAt 1 r Layout.reboot-place) 1
+    && (leb (numberAt 1 r Layout.power-off-place) 1
+    && validRecordsAndAlerts r))))

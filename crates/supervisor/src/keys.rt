@@ -1,0 +1,136 @@
+// Keys: a value is handed out as a part of the store that holds it.
+// Assumes nothing: no public function here has a `requires`.
+use crate::layout;
+use crate::valid;
+ghost use mathlib.Core.Path.{_≡_};
+ghost use mathlib.Core.Bool.{_&&_};
+ghost use Prim.Native.Nat.{_<_};
+ghost use Rattle.supervisor.specs.Valid.{validFactory, validSettings};
+ghost use Rattle.supervisor.specs.Calls.{lookupSaid, lookupResult, lookupValue, placeOf, settingAt, sized, within};
+ghost use Rattle.octets.specs.Bytes.{run};
+
+pub enum Found {
+    Refused,
+    Value(usize),
+    BadKey,
+    NoValue,
+    TooLong,
+}
+
+// Where a key's value lies: from which byte, and how many.
+pub(crate) enum Place {
+    Factory(usize, usize),
+    Settings(usize, usize),
+    Nowhere,
+}
+
+// The value of a key, if it has at most `most` bytes; an empty part where `lookup_result` is not 0.
+pub fn lookup<'a>(factory: &'a [u8], settings: &'a [u8], key: u8, most: u16) -> &'a [u8]
+    ensures { λ r. ⌜ now r ≡ lookupValue (now (factory .entry)) (now (settings .entry)) key most ⌝ }
+{
+    if !stores_are_valid(factory, settings) {
+        return &factory[0..0];
+    }
+    if layout::HIGHEST_KEY < key {
+        return &factory[0..0];
+    }
+    let p = find(factory, settings, key);
+    match p {
+        Place::Factory(at, n) => part(factory, at, n, most),
+        Place::Settings(at, n) => part(settings, at, n, most),
+        Place::Nowhere => &factory[0..0],
+    }
+}
+
+// The result of a lookup.
+pub fn lookup_result(factory: &[u8], settings: &[u8], key: u8, most: u16) -> Found
+    ensures { λ r. ⌜ lookupSaid r ≡ lookupResult (now (factory .entry)) (now (settings .entry)) key most ⌝ }
+{
+    if !stores_are_valid(factory, settings) {
+        return Found::Refused;
+    }
+    if layout::HIGHEST_KEY < key {
+        return Found::BadKey;
+    }
+    let p = find(factory, settings, key);
+    match p {
+        Place::Factory(_, n) => size(n, most),
+        Place::Settings(_, n) => size(n, most),
+        Place::Nowhere => Found::NoValue,
+    }
+}
+
+// Whether both stores pass the tests for 12.
+fn stores_are_valid(factory: &[u8], settings: &[u8]) -> bool
+    ensures { λ r. ⌜ r ≡ (validFactory (now (factory .entry)) && validSettings (now (settings .entry))) ⌝ }
+{
+    if !valid::factory_is_valid(factory) {
+        return false;
+    }
+    valid::settings_are_valid(settings)
+}
+
+// Where the value of a key from 0 to 5 lies.
+fn find(factory: &[u8], settings: &[u8], key: u8) -> Place
+    ensures { λ r. ⌜ r ≡ placeOf (now (factory .entry)) (now (settings .entry)) key ⌝ }
+{
+    if key == 0 {
+        return Place::Factory(layout::PONG_PLACE, 4);
+    }
+    if key == 1 {
+        return Place::Factory(
+            layout::IMAGE_ID_PLACE,
+            valid::byte_at(factory, layout::IMAGE_ID_LENGTH_PLACE),
+        );
+    }
+    if key == 2 {
+        return Place::Factory(layout::ITEM_COUNT_PLACE, 8);
+    }
+    if key == 3 {
+        return setting(settings, layout::KEY_3_PLACE);
+    }
+    if key == 4 {
+        return setting(settings, layout::KEY_4_PLACE);
+    }
+    setting(settings, layout::KEY_5_PLACE)
+}
+
+// Where the value of the setting at a place lies, if it has one.
+fn setting(settings: &[u8], at: usize) -> Place
+    requires { ⌜ at < 65536 ⌝ }
+    ensures { λ r. ⌜ r ≡ settingAt (now (settings .entry)) at ⌝ }
+{
+    if valid::byte_at(settings, at) == 1 {
+        return Place::Settings(
+            at + layout::SETTING_VALUE_PLACE,
+            valid::word_at(settings, at + layout::SETTING_LENGTH_PLACE),
+        );
+    }
+    Place::Nowhere
+}
+
+// What a lookup says of a value of n bytes.
+fn size(n: usize, most: u16) -> Found
+    ensures { λ r. ⌜ lookupSaid r ≡ sized most n ⌝ }
+{
+    if (most as usize) < n {
+        return Found::TooLong;
+    }
+    Found::Value(n)
+}
+
+// The n bytes of s from a place on, if they are at most `most`.
+fn part<'a>(s: &'a [u8], at: usize, n: usize, most: u16) -> &'a [u8]
+    ensures { λ r. ⌜ now r ≡ within most n (run at n (now (s .entry))) ⌝ }
+{
+    if (most as usize) < n {
+        return &s[0..0];
+    }
+    if s.len() < at {
+        return &s[0..0];
+    }
+    if s.len() - at < n {
+        return &s[at..];
+    }
+    &s[at..at + n]
+}

@@ -1,0 +1,18 @@
+// Request and reply numbers: two types, so that one is never passed for the other.
+// Assumes nothing.
+ghost use mathlib.Core.Path.{_≡_};
+ghost use Rattle.supervisor.specs.Number.{replyTo};
+
+pub struct RequestNumber(pub u64);
+
+pub struct ReplyNumber(pub u64);
+
+// The request's number with the top bit set.
+pub fn reply_to(n: RequestNumber) -> ReplyNumber
+    ensures { λ r. ⌜ r ≡ replyTo n ⌝ }
+{
+    if n.0 < 0x8000000000000000 {
+        return ReplyNumber(n.0 + 0x8000000000000000);
+    }
+    ReplyNumber(n.0)
+}

@@ -1,0 +1,34 @@
+// Startup options.
+// Assumes nothing: no function here has a `requires`.
+use crate::layout;
+use crate::valid;
+ghost use mathlib.Core.Path.{_≡_};
+ghost use Rattle.supervisor.specs.Local.{optionsAllowed};
+ghost use Rattle.supervisor.specs.Calls.{registered, optionsSaid, settingOptions};
+
+pub enum OptionsSet {
+    Done,
+    Refused,
+    BadOption,
+}
+
+// Sets the options, if the highest option bit set is at most 8.
+pub fn set_options(registers: &mut [u8], options: u64) -> OptionsSet
+    ensures { λ r. ⌜ registered (optionsSaid r) (now (registers .exit)) ≡ settingOptions (now (registers .entry)) options ⌝ }
+{
+    if !valid::registers_are_valid(registers) {
+        return OptionsSet::Refused;
+    }
+    if !are_allowed(options) {
+        return OptionsSet::BadOption;
+    }
+    octets::write_u64(registers, layout::OPTIONS_PLACE, options);
+    OptionsSet::Done
+}
+
+// Bit 8 is the highest where at least 55 zeros lead.
+fn are_allowed(options: u64) -> bool
+    ensures { λ r. ⌜ r ≡ optionsAllowed options ⌝ }
+{
+    u64::leading_zeros(options) >= 55
+}

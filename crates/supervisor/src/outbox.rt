@@ -1,0 +1,48 @@
+// The outbox: the bytes of the pending reply, taken by the caller as room allows.
+// Assumes nothing: no public function here has a `requires`.
+use crate::layout;
+use crate::valid;
+ghost use mathlib.Core.Path.{_≡_};
+ghost use mathlib.Core.Bool.{cond};
+ghost use Prim.Native.Nat.{min};
+ghost use lib.Dec.{eqb};
+ghost use Rattle.supervisor.specs.Calls.{takeOf, taking};
+
+pub enum Taken {
+    Moved(usize),
+    Refused,
+}
+
+// Moves the smaller of the room and the bytes pending.
+pub fn take(outbox: &mut [u8], room: &mut [u8]) -> Taken
+    ensures { λ r. ⌜ takeOf r (now (outbox .exit)) (now (room .exit)) ≡ taking (now (outbox .entry)) (now (room .entry)) ⌝ }
+{
+    if !valid::outbox_is_valid(outbox) {
+        return Taken::Refused;
+    }
+    let from = valid::word_at(outbox, layout::OUTBOX_FROM_PLACE);
+    let pending = valid::word_at(outbox, layout::OUTBOX_TO_PLACE) - from;
+    let n = least(room.len(), pending);
+    if n == 0 {
+        return Taken::Moved(0);
+    }
+    let at = layout::OUTBOX_BYTES_PLACE + from;
+    let last = octets::read_u8(outbox, at + n - 1);
+    octets::copy(outbox, at, n, room, 0);
+    octets::write_u16(outbox, layout::OUTBOX_FROM_PLACE, (from + n) as u16);
+    outbox[layout::OUTBOX_OWING_PLACE] = owing(last);
+    Taken::Moved(n)
+}
+
+fn least(a: usize, b: usize) -> usize
+    ensures { λ r. ⌜ r ≡ min a b ⌝ }
+{
+    if a < b { a } else { b }
+}
+
+// Whether a 00 is owed behind a byte.
+fn owing(last: u8) -> u8
+    ensures { λ r. ⌜ r ≡ cond (eqb last 0) 0 1 ⌝ }
+{
+    if last == 0 { 0 } else { 1 }
+}

@@ -1,0 +1,75 @@
+// Start: from any bytes of sufficient length to a fresh state.
+// Assumes nothing: no public function here has a `requires`.
+use crate::fill::clear;
+use crate::layout;
+use crate::valid;
+ghost use mathlib.Core.Path.{_≡_};
+ghost use mathlib.Core.List.{_++_};
+ghost use Prim.Native.Nat.{_≤_, _-_};
+ghost use lib.ListN.{length, replicate};
+ghost use Rattle.octets.specs.Bytes.{bytes, overlay};
+ghost use Rattle.supervisor.specs.Layout.{factory-length, registers-length};
+ghost use Rattle.supervisor.specs.Valid.{pong};
+ghost use Rattle.supervisor.specs.Calls.{startOf, starting};
+
+pub enum Started {
+    Done,
+    Refused,
+    BadData,
+}
+
+// Begins the supervisor with start data, whose layout is that of the factory store's first bytes.
+pub fn start(
+    data: &[u8; 1721],
+    reader: &mut [u8],
+    outbox: &mut [u8],
+    factory: &mut [u8],
+    settings: &mut [u8],
+    registers: &mut [u8],
+) -> Started
+    ensures { λ r. ⌜ startOf r (now (reader .exit)) (now (outbox .exit)) (now (factory .exit)) (now (settings .exit)) (now (registers .exit)) ≡ starting (now («data» .entry)) (record { reader = now (reader .entry); outbox = now (outbox .entry); factory = now (factory .entry); settings = now (settings .entry); registers = now (registers .entry) }) ⌝ }
+{
+    if reader.len() < line::reader::STATE_LENGTH {
+        return Started::Refused;
+    }
+    if outbox.len() < layout::OUTBOX_LENGTH {
+        return Started::Refused;
+    }
+    if factory.len() < layout::FACTORY_LENGTH {
+        return Started::Refused;
+    }
+    if settings.len() < layout::SETTINGS_LENGTH {
+        return Started::Refused;
+    }
+    if registers.len() < layout::REGISTERS_LENGTH {
+        return Started::Refused;
+    }
+    if !valid::start_is_good(data) {
+        return Started::BadData;
+    }
+    line::reader::start(reader);
+    clear(outbox, layout::OUTBOX_LENGTH);
+    set_factory(data, factory);
+    clear(settings, layout::SETTINGS_LENGTH);
+    set_registers(registers);
+    Started::Done
+}
+
+// The start data, then key 2's version and key 0's text.
+fn set_factory(data: &[u8; 1721], factory: &mut [u8])
+    requires { ⌜ factory-length ≤ length (now factory) ⌝ }
+    ensures { λ _. ⌜ now (factory .exit) ≡ overlay 0 (now («data» .entry) ++ bytes 4 0 ++ pong) (now (factory .entry)) ⌝ }
+{
+    octets::copy(data, 0, layout::START_LENGTH, factory, 0);
+    octets::write_u32(factory, layout::INVENTORY_VERSION_PLACE, 0);
+    octets::copy(b"pong", 0, 4, factory, layout::PONG_PLACE);
+}
+
+// Status 1, and every other register 0.
+fn set_registers(registers: &mut [u8])
+    requires { ⌜ registers-length ≤ length (now registers) ⌝ }
+    ensures { λ _. ⌜ now (registers .exit) ≡ overlay 0 (bytes 8 1 ++ replicate (registers-length - 8) 0) (now (registers .entry)) ⌝ }
+{
+    clear(registers, layout::REGISTERS_LENGTH);
+    octets::write_u64(registers, layout::STATUS_PLACE, 1);
+}

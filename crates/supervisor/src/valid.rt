@@ -1,0 +1,224 @@
+// The tests for 11 and 12: start data, and each lent part.
+// Assumes nothing: no function here has a `requires`.
+use crate::layout;
+ghost use mathlib.Core.Path.{_≡_};
+ghost use Prim.Native.Nat.{_<_};
+ghost use Rattle.supervisor.specs.Valid.{goodItem, goodItems, goodStart, validOutbox, validFactory, validSetting, validSettings, validRecord, validText, validAlert, validAlerts, validRecordsAndAlerts, validRegisters};
+ghost use Rattle.octets.specs.Bytes.{numberAt};
+
+// A number of one byte and of two bytes, as an index.
+pub(crate) fn byte_at(s: &[u8], at: usize) -> usize
+    ensures { λ r. ⌜ (r ≡ numberAt 1 (now (s .entry)) at) × (r < 256) ⌝ }
+{
+    octets::read_u8(s, at) as usize
+}
+
+pub(crate) fn word_at(s: &[u8], at: usize) -> usize
+    ensures { λ r. ⌜ (r ≡ numberAt 2 (now (s .entry)) at) × (r < 65536) ⌝ }
+{
+    octets::read_u16(s, at) as usize
+}
+
+// Whether item i has a result of 0, 2 or 3 and at most 64 bytes of data.
+fn item_is_good(d: &[u8], i: usize) -> bool
+    requires { ⌜ i < 4294967296 ⌝ }
+    ensures { λ r. ⌜ r ≡ goodItem (now (d .entry)) i ⌝ }
+{
+    let at = layout::ITEMS_PLACE + i * layout::ITEM_LENGTH;
+    let result = byte_at(d, at);
+    if result != 0 {
+        if result != 2 {
+            if result != 3 {
+                return false;
+            }
+        }
+    }
+    byte_at(d, at + layout::ITEM_DATA_LENGTH_PLACE) <= layout::LONGEST_ITEM_DATA
+}
+
+// Whether the first n items are good.
+fn items_are_good(d: &[u8], n: usize) -> bool
+    requires { ⌜ n < 4294967296 ⌝ }
+    ensures { λ r. ⌜ r ≡ goodItems (now (d .entry)) n ⌝ }
+{
+    let mut i = 0;
+    while i < n {
+        if !item_is_good(d, i) {
+            return false;
+        }
+        i += 1;
+    }
+    true
+}
+
+pub(crate) fn start_is_good(d: &[u8]) -> bool
+    ensures { λ r. ⌜ r ≡ goodStart (now (d .entry)) ⌝ }
+{
+    let bsu = byte_at(d, layout::BSU_PLACE);
+    if bsu != 0x41 {
+        if bsu != 0x42 {
+            return false;
+        }
+    }
+    if layout::LONGEST_IMAGE_ID < byte_at(d, layout::IMAGE_ID_LENGTH_PLACE) {
+        return false;
+    }
+    let count = octets::read_u32(d, layout::ITEM_COUNT_PLACE) as usize;
+    if layout::MOST_ITEMS < count {
+        return false;
+    }
+    items_are_good(d, count)
+}
+
+pub(crate) fn outbox_is_valid(outbox: &[u8]) -> bool
+    ensures { λ r. ⌜ r ≡ validOutbox (now (outbox .entry)) ⌝ }
+{
+    if outbox.len() < layout::OUTBOX_LENGTH {
+        return false;
+    }
+    let to = word_at(outbox, layout::OUTBOX_TO_PLACE);
+    if to < word_at(outbox, layout::OUTBOX_FROM_PLACE) {
+        return false;
+    }
+    if layout::MOST_PENDING < to {
+        return false;
+    }
+    byte_at(outbox, layout::OUTBOX_OWING_PLACE) <= 1
+}
+
+pub(crate) fn factory_is_valid(factory: &[u8]) -> bool
+    ensures { λ r. ⌜ r ≡ validFactory (now (factory .entry)) ⌝ }
+{
+    if factory.len() < layout::FACTORY_LENGTH {
+        return false;
+    }
+    if !start_is_good(factory) {
+        return false;
+    }
+    if octets::read_u32(factory, layout::INVENTORY_VERSION_PLACE) != 0 {
+        return false;
+    }
+    octets::same(factory, layout::PONG_PLACE, b"pong", 0, 4)
+}
+
+fn setting_is_valid(settings: &[u8], at: usize, most: usize) -> bool
+    requires { ⌜ at < 65536 ⌝ }
+    ensures { λ r. ⌜ r ≡ validSetting (now (settings .entry)) at most ⌝ }
+{
+    if 1 < byte_at(settings, at) {
+        return false;
+    }
+    word_at(settings, at + layout::SETTING_LENGTH_PLACE) <= most
+}
+
+pub(crate) fn settings_are_valid(settings: &[u8]) -> bool
+    ensures { λ r. ⌜ r ≡ validSettings (now (settings .entry)) ⌝ }
+{
+    if settings.len() < layout::SETTINGS_LENGTH {
+        return false;
+    }
+    if !setting_is_valid(settings, layout::KEY_3_PLACE, layout::LONGEST_KEY_3) {
+        return false;
+    }
+    if !setting_is_valid(settings, layout::KEY_4_PLACE, layout::LONGEST_KEY_4) {
+        return false;
+    }
+    setting_is_valid(settings, layout::KEY_5_PLACE, layout::LONGEST_KEY_5)
+}
+
+fn record_is_valid(registers: &[u8], at: usize, most: usize) -> bool
+    requires { ⌜ at < 65536 ⌝ }
+    ensures { λ r. ⌜ r ≡ validRecord (now (registers .entry)) at most ⌝ }
+{
+    if 1 < byte_at(registers, at) {
+        return false;
+    }
+    word_at(registers, at + layout::RECORD_WHOLE_PLACE) <= most
+}
+
+fn text_is_valid(registers: &[u8], at: usize) -> bool
+    ensures { λ r. ⌜ r ≡ validText (now (registers .entry)) at ⌝ }
+{
+    word_at(registers, at) <= layout::LONGEST_ALERT
+}
+
+fn alert_is_valid(registers: &[u8], i: usize) -> bool
+    requires { ⌜ i < 256 ⌝ }
+    ensures { λ r. ⌜ r ≡ validAlert (now (registers .entry)) i ⌝ }
+{
+    let at = layout::ALERTS_PLACE + i * layout::ALERT_LENGTH;
+    if !text_is_valid(registers, at) {
+        return false;
+    }
+    1 <= byte_at(registers, at + layout::ALERT_ACTION_PLACE)
+}
+
+fn alerts_are_valid(registers: &[u8], n: usize) -> bool
+    requires { ⌜ n < 256 ⌝ }
+    ensures { λ r. ⌜ r ≡ validAlerts (now (registers .entry)) n ⌝ }
+{
+    let mut i = 0;
+    while i < n {
+        if !alert_is_valid(registers, i) {
+            return false;
+        }
+        i += 1;
+    }
+    true
+}
+
+// The longest rests of the two records.
+const LONGEST_BOOT_FAILURE: usize = 4103;
+
+const LONGEST_PANIC: usize = 4102;
+
+pub(crate) fn registers_are_valid(registers: &[u8]) -> bool
+    ensures { λ r. ⌜ r ≡ validRegisters (now (registers .entry)) ⌝ }
+{
+    if registers.len() < layout::REGISTERS_LENGTH {
+        return false;
+    }
+    if 3 < octets::read_u64(registers, layout::STATUS_PLACE) {
+        return false;
+    }
+    if 511 < octets::read_u64(registers, layout::OPTIONS_PLACE) {
+        return false;
+    }
+    if 1 < byte_at(registers, layout::REBOOT_PLACE) {
+        return false;
+    }
+    if 1 < byte_at(registers, layout::POWER_OFF_PLACE) {
+        return false;
+    }
+    records_and_alerts_are_valid(registers)
+}
+
+fn records_and_alerts_are_valid(registers: &[u8]) -> bool
+    ensures { λ r. ⌜ r ≡ validRecordsAndAlerts (now (registers .entry)) ⌝ }
+{
+    if 255
+        < word_at(
+            registers,
+            layout::BOOT_FAILURE_PLACE + layout::RECORD_CODE_PLACE,
+        )
+    {
+        return false;
+    }
+    if !record_is_valid(registers, layout::BOOT_FAILURE_PLACE, LONGEST_BOOT_FAILURE) {
+        return false;
+    }
+    if !record_is_valid(registers, layout::PANIC_PLACE, LONGEST_PANIC) {
+        return false;
+    }
+    let count = byte_at(registers, layout::ALERT_COUNT_PLACE);
+    if layout::MOST_ALERTS < count {
+        return false;
+    }
+    if !alerts_are_valid(registers, count) {
+        return false;
+    }
+    if 1 < byte_at(registers, layout::RETAINED_PLACE) {
+        return false;
+    }
+    text_is_valid(registers, layout::RETAINED_ALERT_PLACE)
+}
