@@ -102,7 +102,7 @@ pub record Roomy (p : Parts) : Type 0 where
   pub settings : Layout.settings-length ≤ length (p .settings)
   pub registers : Layout.registers-length ≤ length (p .registers)
 
-roomy-is : (p : Parts) → roomy p ≡ true → Roomy p
+pub roomy-is : (p : Parts) → roomy p ≡ true → Roomy p
 unfolding roomy
 roomy-is p e =
     let a = and-eq-true-iff _ _ .0 e in

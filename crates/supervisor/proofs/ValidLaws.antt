@@ -132,7 +132,7 @@ good-start d g =
 pub record OutboxValid (o : List ℕ) : Type 0 where
   pub long : Layout.outbox-length ≤ length o
   pub order : Layout.outboxFrom o ≤ Layout.outboxTo o
-  pub most : Layout.outboxTo o ≤ Layout.most-pending
+  pub most : Layout.outboxTo o ≤ Limits.most-pending
   pub owing : Layout.outboxOwing o ≤ 1
 
 pub outbox-valid : (o : List ℕ) → Valid.validOutbox o ≡ true → OutboxValid o
@@ -243,8 +243,8 @@ valid-alert r i v = and (Valid.validText r (Layout.alert-place i)) _ (valid-text
 
 pub record RecordsAndAlertsValid (r : List ℕ) : Type 0 where
   pub reason : Layout.recordCode r Layout.boot-failure-place ≤ 255
-  pub boot-failure : RecordValid r Layout.boot-failure-place 4103
-  pub panic : RecordValid r Layout.panic-place 4102
+  pub boot-failure : RecordValid r Layout.boot-failure-place Limits.longest-boot-failure
+  pub panic : RecordValid r Layout.panic-place Limits.longest-panic
   pub count : Layout.alertCount r ≤ Limits.most-alerts
   pub alerts : Valid.validAlerts r (Layout.alertCount r) ≡ true
   pub retained : numberAt 1 r Layout.retained-place ≤ 1
@@ -254,8 +254,8 @@ pub records-and-alerts-valid : (r : List ℕ) → Valid.validRecordsAndAlerts r 
 unfolding Valid.validRecordsAndAlerts
 records-and-alerts-valid r e =
     let a = le-and _ _ _ e in
-    let b = both (Valid.validRecord r Layout.boot-failure-place 4103) _ (a .1) in
-    let c = both (Valid.validRecord r Layout.panic-place 4102) _ (b .1) in
+    let b = both (Valid.validRecord r Layout.boot-failure-place Limits.longest-boot-failure) _ (a .1) in
+    let c = both (Valid.validRecord r Layout.panic-place Limits.longest-panic) _ (b .1) in
     let d = le-and _ _ _ (c .1) in
     let f = both (Valid.validAlerts r (Layout.alertCount r)) _ (d .1) in
     let g = le-and _ _ _ (f .1) in
@@ -280,7 +280,7 @@ valid-records-and-alerts r v =
 pub record RegistersValid (r : List ℕ) : Type 0 where
   pub long : Layout.registers-length ≤ length r
   pub status : Layout.statusOf r ≤ 3
-  pub options : Layout.optionsOf r ≤ 511
+  pub options : Layout.optionsOf r ≤ Limits.all-options
   pub reboot : numberAt 1 r Layout.reboot-place ≤ 1
   pub power-off : numberAt 1 r Layout.power-off-place ≤ 1
   pub rest : RecordsAndAlertsValid r

@@ -1,6 +1,6 @@
 -- What each local call answers and leaves in the bytes that it is lent (document 01, "When a call says no" and the rules it names).
 -- Assumes nothing: these are definitions.
-use mathlib.Core.Bool.{Bool, true, false, cond, _&&_}
+use mathlib.Core.Bool.{Bool, true, false, cond, not, _&&_}
 use mathlib.Core.List.{List, [], _∷_, _++_}
 use mathlib.Core.Option.{Option, none, some}
 use Prim.Native.Nat.{ℕ, _+_, _-_, min}
@@ -246,7 +246,7 @@ signalSaid signal.Clear = is false
 
 -- asserted exactly when status is not 0
 unfoldable pub signalOf : List ℕ → ReadSaid Bool
-signalOf r = cond (validRegisters r) (is (cond (eqb (Layout.statusOf r) 0) false true)) (ReadSaid.refused 12)
+signalOf r = cond (validRegisters r) (is (not (eqb (Layout.statusOf r) 0))) (ReadSaid.refused 12)
 
 -- reboot asked for, power off asked for
 unfoldable pub flagsSaid : FlagsRead → ReadSaid (Bool × Bool)

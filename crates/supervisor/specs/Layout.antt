@@ -3,13 +3,9 @@
 use Prim.Native.Nat.{ℕ, _+_, _*_}
 use mathlib.Core.List.{List}
 use Rattle.octets.specs.Bytes.{numberAt}
-use Rattle.supervisor.specs.Limits.{most-items, longest-item-data, longest-image-id, longest-key-3, longest-key-4, longest-key-5, most-alerts, longest-alert, most-kept}
+use Rattle.supervisor.specs.Limits.{most-items, longest-item-data, longest-image-id, longest-key-3, longest-key-4, longest-key-5, most-alerts, longest-alert, most-kept, most-pending}
 
 -- ---- The outbox: the pending bytes run from `outbox-from` up to `outbox-to` among the bytes at `outbox-bytes`.
-
--- a reply's frame and the 00 ahead of it
-abbrev pub most-pending : ℕ
-most-pending = 4142
 
 abbrev pub outbox-from-place : ℕ
 outbox-from-place = 0

@@ -1,6 +1,7 @@
 -- The supervisor's limits, each in one place (document 01, "Requests and what they do").
 -- Assumes nothing: these are definitions.
-use Prim.Native.Nat.{ℕ}
+use Prim.Native.Nat.{ℕ, _+_, _-_, _^_}
+use Rattle.line.specs.Limits.{longest-data, longest-form}
 
 -- inventory
 abbrev pub most-items : ℕ
@@ -36,6 +37,20 @@ longest-alert = 256
 abbrev pub most-kept : ℕ
 most-kept = 512
 
--- the highest option bit
+-- the rest of a boot failure behind its reason, and of a panic behind its cause
+abbrev pub longest-boot-failure : ℕ
+longest-boot-failure = longest-data - 1
+
+abbrev pub longest-panic : ℕ
+longest-panic = longest-data - 2
+
+-- the highest option bit, and all options up to it
 abbrev pub highest-option : ℕ
 highest-option = 8
+
+abbrev pub all-options : ℕ
+all-options = 2 ^ (highest-option + 1) - 1
+
+-- bytes of the outbox: a 00 that is owed, the longest form and its terminator
+abbrev pub most-pending : ℕ
+most-pending = longest-form + 2

@@ -1,4 +1,4 @@
--- What each local call answers and does, in document 01's words: the meaning of the keys, alerts, options, sending and the reading calls.
+-- What each local call answers and does, in document 01's words: start, keys, alerts, options, sending, the line signal.
 -- Assumes nothing: these are definitions.
 use mathlib.Core.Bool.{Bool, true, false, cond, not, _||_}
 use mathlib.Core.List.{List, [], _∷_, _++_}
@@ -8,7 +8,7 @@ use lib.Dec.{leb, ltb, eqb}
 use lib.ListN.{length, take, drop, getD}
 use Rattle.octets.specs.Bytes.{bytes}
 use Rattle.supervisor.specs.Limits.{most-items, longest-item-data, longest-image-id, highest-key, most-alerts, longest-alert, highest-option}
-use Rattle.supervisor.specs.State.{Item, Factory, Settings, Recorded, Alert, Retained, State, state}
+use Rattle.supervisor.specs.State.{Item, Factory, Settings, Recorded, Alert, Retained, State, state, fresh}
 
 -- ---- Start data: refused as 11
 
@@ -23,6 +23,14 @@ unfoldable pub badStart : Factory → Bool
 badStart f =
     ltb most-items (length (f .items)) || anyBad (f .items) || ltb longest-image-id (length (f .image-id))
     || not (eqb (f .bsu) 0x41 || eqb (f .bsu) 0x42)
+
+-- a refusal by its number, or the state that a call leaves
+pub data Done : Type 0 where
+  refused : ℕ → Done
+  left : State → Done
+
+unfoldable pub start : Factory → Done
+start f = cond (badStart f) (refused 11) (left (fresh f))
 
 -- ---- Bits of a number
 
@@ -76,11 +84,6 @@ unfoldable pub lookup : State → ℕ → ℕ → Found
 lookup s key most = cond (ltb highest-key key) (without 1) (fitted most (valueOf s key))
 
 -- ---- Alerts, options and sending: the state afterwards
-
--- a refusal by its number, or the state that the call leaves
-pub data Done : Type 0 where
-  refused : ℕ → Done
-  left : State → Done
 
 unfoldable pub posted : State → ℕ → List ℕ → State
 posted s action text =

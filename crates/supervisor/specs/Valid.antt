@@ -45,7 +45,7 @@ unfoldable pub validOutbox : List ℕ → Bool
 validOutbox o =
     leb Layout.outbox-length (length o)
     && (leb (Layout.outboxFrom o) (Layout.outboxTo o)
-    && (leb (Layout.outboxTo o) Layout.most-pending
+    && (leb (Layout.outboxTo o) Limits.most-pending
     && leb (Layout.outboxOwing o) 1))
 
 -- the text of key 0
@@ -84,23 +84,23 @@ validAlert r i = validText r (Layout.alert-place i) && leb 1 (Layout.alertAction
 abbrev pub validAlerts : List ℕ → ℕ → Bool
 validAlerts r = all (validAlert r)
 
--- the reason of a boot failure is one byte, so that its rest has at most 4,103; the cause of a panic is two bytes
+-- the reason of a boot failure is one byte
 unfoldable pub validRecordsAndAlerts : List ℕ → Bool
 validRecordsAndAlerts r =
     leb (Layout.recordCode r Layout.boot-failure-place) 255
-    && (validRecord r Layout.boot-failure-place 4103
-    && (validRecord r Layout.panic-place 4102
+    && (validRecord r Layout.boot-failure-place Limits.longest-boot-failure
+    && (validRecord r Layout.panic-place Limits.longest-panic
     && (leb (Layout.alertCount r) Limits.most-alerts
     && (validAlerts r (Layout.alertCount r)
     && (leb (numberAt 1 r Layout.retained-place) 1
     && validText r Layout.retained-alert-place)))))
 
--- status has bits 0 and 1, and options bits 0 to 8
+-- status has no bit but 0 and 1, and options none above 8
 unfoldable pub validRegisters : List ℕ → Bool
 validRegisters r =
     leb Layout.registers-length (length r)
     && (leb (Layout.statusOf r) 3
-    && (leb (Layout.optionsOf r) 511
+    && (leb (Layout.optionsOf r) Limits.all-options
     && (leb (numberAt 1 r Layout.reboot-place) 1
     && (leb (numberAt 1 r Layout.power-off-place) 1
     && validRecordsAndAlerts r))))

@@ -22,6 +22,14 @@ pub const LONGEST_ALERT: usize = 256;
 
 pub const MOST_KEPT: usize = 512;
 
+// The rest of a boot failure behind its reason, and of a panic behind its cause.
+pub const LONGEST_BOOT_FAILURE: usize = 4103;
+
+pub const LONGEST_PANIC: usize = 4102;
+
+// Bits 0 to 8.
+pub const ALL_OPTIONS: u64 = 511;
+
 // The outbox.
 pub const MOST_PENDING: usize = 4142;
 

@@ -20,7 +20,7 @@ pub enum Started {
 
 // Begins the supervisor with start data, whose layout is that of the factory store's first bytes.
 pub fn start(
-    data: &[u8; 1721],
+    data: &[u8; layout::START_LENGTH],
     reader: &mut [u8],
     outbox: &mut [u8],
     factory: &mut [u8],
@@ -56,7 +56,7 @@ pub fn start(
 }
 
 // The start data, then key 2's version and key 0's text.
-fn set_factory(data: &[u8; 1721], factory: &mut [u8])
+fn set_factory(data: &[u8; layout::START_LENGTH], factory: &mut [u8])
     requires { ⌜ factory-length ≤ length (now factory) ⌝ }
     ensures { λ _. ⌜ now (factory .exit) ≡ overlay 0 (now («data» .entry) ++ bytes 4 0 ++ pong) (now (factory .entry)) ⌝ }
 {

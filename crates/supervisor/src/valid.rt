@@ -1,5 +1,5 @@
 // The tests for 11 and 12: start data, and each lent part.
-// Assumes nothing: no function here has a `requires`.
+// Assumes nothing of the bytes tested; some inner functions want a small place or number, as their `requires` say.
 use crate::layout;
 ghost use mathlib.Core.Path.{_≡_};
 ghost use Prim.Native.Nat.{_<_};
@@ -167,11 +167,6 @@ fn alerts_are_valid(registers: &[u8], n: usize) -> bool
     true
 }
 
-// The longest rests of the two records.
-const LONGEST_BOOT_FAILURE: usize = 4103;
-
-const LONGEST_PANIC: usize = 4102;
-
 pub(crate) fn registers_are_valid(registers: &[u8]) -> bool
     ensures { λ r. ⌜ r ≡ validRegisters (now (registers .entry)) ⌝ }
 {
@@ -181,7 +176,7 @@ pub(crate) fn registers_are_valid(registers: &[u8]) -> bool
     if 3 < octets::read_u64(registers, layout::STATUS_PLACE) {
         return false;
     }
-    if 511 < octets::read_u64(registers, layout::OPTIONS_PLACE) {
+    if layout::ALL_OPTIONS < octets::read_u64(registers, layout::OPTIONS_PLACE) {
         return false;
     }
     if 1 < byte_at(registers, layout::REBOOT_PLACE) {
@@ -204,10 +199,14 @@ fn records_and_alerts_are_valid(registers: &[u8]) -> bool
     {
         return false;
     }
-    if !record_is_valid(registers, layout::BOOT_FAILURE_PLACE, LONGEST_BOOT_FAILURE) {
+    if !record_is_valid(
+        registers,
+        layout::BOOT_FAILURE_PLACE,
+        layout::LONGEST_BOOT_FAILURE,
+    ) {
         return false;
     }
-    if !record_is_valid(registers, layout::PANIC_PLACE, LONGEST_PANIC) {
+    if !record_is_valid(registers, layout::PANIC_PLACE, layout::LONGEST_PANIC) {
         return false;
     }
     let count = byte_at(registers, layout::ALERT_COUNT_PLACE);

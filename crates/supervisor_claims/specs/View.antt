@@ -1,0 +1,95 @@
+-- The view: document 01's state as the lent parts hold it.
+-- Assumes nothing: these are definitions.
+use mathlib.Core.Bool.{Bool, cond}
+use mathlib.Core.List.{List, [], _∷_, _++_}
+use mathlib.Core.Option.{Option, none, some}
+use Prim.Native.Nat.{ℕ, zero, suc, _+_, _-_, min}
+use lib.Dec.{ltb, eqb}
+use Rattle.octets.specs.Bytes.{run, numberAt}
+use Rattle.line.specs.Limits as LineLimits
+use Rattle.line.specs.Reader as LineReader
+use Rattle.supervisor.specs.Limits
+use Rattle.supervisor.specs.Layout
+use Rattle.supervisor.specs.State.{Item, Factory, Settings, Recorded, Alert, Retained, State}
+use Rattle.supervisor.specs.Calls.{Parts, keptOf}
+
+-- the first n values of a function
+unfoldable pub listed : {A : Type 0} → (ℕ → A) → ℕ → List A
+listed f zero = []
+listed f (suc n) = listed f n ++ (f n ∷ [])
+
+-- ---- the factory store, and start data
+
+unfoldable pub itemAt : List ℕ → ℕ → Item
+itemAt f i = record {
+  result = numberAt 1 f (Layout.item-place i);
+  name = run (Layout.item-place i + 1) 32 f;
+  type = numberAt 1 f (Layout.item-place i + 33);
+  payload = run (Layout.item-place i + Layout.item-data-place) (numberAt 1 f (Layout.item-place i + Layout.item-data-length-place)) f;
+}
+
+unfoldable pub factoryOf : List ℕ → Factory
+factoryOf f = record {
+  bsu = numberAt 1 f Layout.bsu-place;
+  model = run Layout.identity-place 11 f;
+  revision = numberAt 4 f (Layout.identity-place + 11);
+  serial = run (Layout.identity-place + 15) 11 f;
+  base = run Layout.mac-place 6 f;
+  count = numberAt 2 f (Layout.mac-place + 6);
+  stride = numberAt 1 f (Layout.mac-place + 8);
+  hash = run Layout.hash-place 32 f;
+  image-id = run Layout.image-id-place (Layout.imageIdLength f) f;
+  items = listed (itemAt f) (Layout.itemCount f);
+}
+
+-- ---- the settings store
+
+unfoldable pub settingOf : List ℕ → ℕ → Option (List ℕ)
+settingOf s at = cond (eqb (Layout.settingHeld s at) 1) (some (run (at + Layout.setting-value-place) (Layout.settingLength s at) s)) none
+
+unfoldable pub settingsOf : List ℕ → Settings
+settingsOf s = record { key-3 = settingOf s Layout.key-3-place; key-4 = settingOf s Layout.key-4-place; key-5 = settingOf s Layout.key-5-place }
+
+-- ---- the registers
+
+unfoldable pub recordedOf : List ℕ → ℕ → Option Recorded
+recordedOf r at =
+    cond (eqb (Layout.recordHeld r at) 1)
+    (some (record { code = Layout.recordCode r at; whole = Layout.recordWhole r at; kept = run (at + Layout.record-kept-place) (keptOf r at) r }))
+    none
+
+unfoldable pub alertOf : List ℕ → ℕ → Alert
+alertOf r at = record { action = Layout.alertAction r at; text = run (at + Layout.alert-text-place) (Layout.alertTextLength r at) r }
+
+unfoldable pub retainedOf : List ℕ → Option Retained
+retainedOf r =
+    cond (eqb (numberAt 1 r Layout.retained-place) 1)
+    (some (record { sequence = numberAt 8 r Layout.retained-sequence-place; alert = alertOf r Layout.retained-alert-place }))
+    none
+
+-- ---- the line reader's part: its bytes since the last 00, none where they are more than a form has
+
+unfoldable pub receivedOf : List ℕ → Option (List ℕ)
+receivedOf s = cond (ltb LineLimits.longest-form (LineReader.count s)) none (some (LineReader.kept s))
+
+-- ---- the outbox
+
+unfoldable pub pendingOf : List ℕ → List ℕ
+pendingOf o = run (Layout.outbox-bytes-place + Layout.outboxFrom o) (Layout.outboxTo o - Layout.outboxFrom o) o
+
+unfoldable pub view : Parts → State
+view p = record {
+  status = Layout.statusOf (p .registers);
+  options = Layout.optionsOf (p .registers);
+  reboot-asked = eqb (numberAt 1 (p .registers) Layout.reboot-place) 1;
+  power-off-asked = eqb (numberAt 1 (p .registers) Layout.power-off-place) 1;
+  boot-failure = recordedOf (p .registers) Layout.boot-failure-place;
+  panic = recordedOf (p .registers) Layout.panic-place;
+  factory = factoryOf (p .factory);
+  settings = settingsOf (p .settings);
+  waiting = listed (λ i. alertOf (p .registers) (Layout.alert-place i)) (Layout.alertCount (p .registers));
+  retained = retainedOf (p .registers);
+  received = receivedOf (p .reader);
+  pending = pendingOf (p .outbox);
+  owing = eqb (Layout.outboxOwing (p .outbox)) 1;
+}

@@ -1,0 +1,2 @@
+// The claims over the supervisor stand in specs/.
+// No code.
