@@ -2,6 +2,7 @@
 -- Assumes nothing.
 pub mod Checksum
 pub mod Message
+pub mod FrameLength
 pub mod Runs
 pub mod Groups
 pub mod Decoding

@@ -15,7 +15,8 @@ use Rattle.line.specs.Limits.{longest-form}
 use Rattle.line.specs.Message.{Message, InRange, message}
 use Rattle.line.specs.Frame.{frame}
 use Rattle.line.specs.Cobs.{full-code, places-left, groups, cobs, groupBytes, uncobs}
-use Rattle.line.proofs.Message.{length-message}
+use Rattle.line.proofs.FrameLength
+pub use Rattle.line.proofs.FrameLength.{overhead}
 
 -- ---- reading gives the list back
 
@@ -65,23 +66,9 @@ above-zero xs = cobs-each (λ b. 1 ≤ b) (λ b. Unit {0}) (λ n h. omega arith)
 
 -- ---- length
 
--- `done` bytes of the first group stand ahead of the list
-groups-length : (xs : List ℕ) (room done : ℕ) → room + done ≡ 253 → length (groups room xs .after) ≤ length xs + (length xs + done) / 254
-unfolding groups
-groups-length [] room done h = omega arith
-groups-length (zero ∷ xs) room done h = let r = groups-length xs 253 0 refl in omega arith
-groups-length (suc b ∷ []) zero done h = omega arith
-groups-length (suc b ∷ x ∷ xs) zero done h = let r = groups-length (x ∷ xs) 253 0 refl in omega arith
-groups-length (suc b ∷ xs) (suc room) done h = let r = groups-length xs room (suc done) (omega arith) in omega arith
-
-pub overhead : (xs : List ℕ) → length (cobs xs) ≤ length xs + 1 + length xs / 254
-unfolding cobs
-overhead xs = let r = groups-length xs 253 0 refl in omega arith
-
 pub form-fits : (m : Message) → InRange m → length (cobs (message m)) ≤ longest-form
-form-fits m r = omega (arith, overhead (message m), length-message m)
+form-fits m r = FrameLength.form-fits m (r .fits)
 
 -- 4,141 bytes with the terminator
 pub frame-fits : (m : Message) → InRange m → length (frame m) ≤ longest-form + 1
-unfolding frame
-frame-fits m r = rw length-append (omega (arith, form-fits m r))
+frame-fits m r = FrameLength.frame-fits m (r .fits)

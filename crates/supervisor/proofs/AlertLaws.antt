@@ -18,7 +18,7 @@ use Rattle.supervisor.specs.Valid.{validRegisters}
 use Rattle.supervisor.specs.Calls.{registered, postSaid, withAlert, posting}
 use Rattle.supervisor.specs.declared.alerts.Posted.the-variants.{Done, Refused, BadAction, TooLong, Full}
 
-one-byte : (v : ℕ) → v < 256 → bytes 1 v ≡ v ∷ []
+pub one-byte : (v : ℕ) → v < 256 → bytes 1 v ≡ v ∷ []
 unfolding bytes
 one-byte v h =
     let e : v % 256 ≡ v = omega arith in

@@ -6,14 +6,19 @@ use mathlib.Core.List.{List, []}
 use Prim.Native.Nat.{ℕ, _+_, _-_, _≤_, _<_}
 use native.Mathlib.Nat.{le-of-lt, add-sub-cancel-left}
 use native.Mathlib.Omega.{arith}
-use lib.ListN.{length, take, drop, drop-of-length-le, length-drop}
+use lib.Dec.{ltb, eqb}
+use lib.ListN.{length, take, drop, drop-of-length-le, length-drop, length-take}
 use lib.Seq.{take-nil, take-all}
 use borrow.Author.Tests.{le-ltb}
 use Rattle.octets.specs.Bytes.{run}
+use Rattle.octets.proofs.Conditions.{cond-by}
+use Rattle.supervisor.specs.Limits
 use Rattle.supervisor.specs.Limits.{highest-key}
+use Rattle.supervisor.specs.Layout
 use Rattle.supervisor.specs.Valid.{validFactory, validSettings}
-use Rattle.supervisor.specs.Calls.{placeOf, resultAt, lookupResult, within, valueAt, lookupValue}
+use Rattle.supervisor.specs.Calls.{settingAt, placeOf, resultAt, lookupResult, within, valueAt, lookupValue}
 use Rattle.supervisor.specs.declared.keys.Place.{Place}
+use Rattle.supervisor.proofs.ValidLaws.{FactoryValid, SettingsValid, factory-valid, settings-valid}
 
 -- ---- n bytes from a place on, at most `most`: past the end, as many as there are, all
 
@@ -41,3 +46,35 @@ module _
   pub value-found : lookupValue f s key most ≡ valueAt f s most p
   unfolding lookupValue
   value-found = rw (v, le-ltb highest-key key k, e)
+
+-- ---- a value that is handed out is no longer than the longest key's
+
+within-short : (most at n : ℕ) (s : List ℕ) → n ≤ Limits.longest-key-4 → length (within most n (run at n s)) ≤ Limits.longest-key-4
+within-short most at n s h =
+    cond-by (λ v. length v ≤ Limits.longest-key-4) (ltb most n) [] (run at n s) (λ _. omega arith) (λ _. omega (arith, length-take n (drop at s)))
+
+module _ (f s : List ℕ) (most : ℕ) where
+  -- the value at a place
+  abbrev Short : Place → Type 0
+  Short p = length (valueAt f s most p) ≤ Limits.longest-key-4
+
+  setting-short : (at : ℕ) → Layout.settingLength s at ≤ Limits.longest-key-4 → Short (settingAt s at)
+  unfolding settingAt valueAt
+  setting-short at h = cond-by Short (eqb (Layout.settingHeld s at) 1) _ _ (λ _. within-short most (at + Layout.setting-value-place) _ s h) (λ _. omega arith)
+
+  place-short : (key : ℕ) → FactoryValid f → SettingsValid s → Short (placeOf f s key)
+  unfolding placeOf valueAt
+  place-short key v w =
+      cond-by Short (eqb key 0) _ _ (λ _. within-short most Layout.pong-place 4 f (omega arith)) (λ _.
+      cond-by Short (eqb key 1) _ _ (λ _. within-short most Layout.image-id-place (Layout.imageIdLength f) f (omega arith)) (λ _.
+      cond-by Short (eqb key 2) _ _ (λ _. within-short most Layout.item-count-place 8 f (omega arith)) (λ _.
+      cond-by Short (eqb key 3) _ _ (λ _. setting-short Layout.key-3-place (omega arith)) (λ _.
+      cond-by Short (eqb key 4) _ _ (λ _. setting-short Layout.key-4-place (omega arith)) (λ _.
+      setting-short Layout.key-5-place (omega arith))))))
+
+pub value-short : (f s : List ℕ) (key most : ℕ) → validFactory f ≡ true → validSettings s ≡ true → length (lookupValue f s key most) ≤ Limits.longest-key-4
+unfolding lookupValue
+value-short f s key most v w =
+    rw (v, w)
+    (cond-by (λ l. length l ≤ Limits.longest-key-4) (ltb Limits.highest-key key) [] _ (λ _. omega arith) (λ _.
+    place-short f s most key (factory-valid f v) (settings-valid s w)))

@@ -203,6 +203,11 @@ lookupSaid found.BadKey = result 1 0
 lookupSaid found.NoValue = result 2 0
 lookupSaid found.TooLong = result 3 0
 
+-- the number of a lookup's result
+abbrev pub resultNumber : LookupSaid → ℕ
+resultNumber (result n k) = n
+resultNumber (refused n) = n
+
 abbrev pub sized : ℕ → ℕ → LookupSaid
 sized most n = cond (ltb most n) (result 3 0) (result 0 n)
 

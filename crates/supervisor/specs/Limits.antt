@@ -51,6 +51,10 @@ highest-option = 8
 abbrev pub all-options : ℕ
 all-options = 2 ^ (highest-option + 1) - 1
 
+-- bytes of an image block
+abbrev pub longest-block : ℕ
+longest-block = 4096
+
 -- bytes of the outbox: a 00 that is owed, the longest form and its terminator
 abbrev pub most-pending : ℕ
 most-pending = longest-form + 2

@@ -6,7 +6,7 @@ ghost use mathlib.Core.Path.{_≡_};
 ghost use mathlib.Core.Bool.{_&&_};
 ghost use Prim.Native.Nat.{_<_};
 ghost use Rattle.supervisor.specs.Valid.{validFactory, validSettings};
-ghost use Rattle.supervisor.specs.Calls.{lookupSaid, lookupResult, lookupValue, placeOf, settingAt, sized, within};
+ghost use Rattle.supervisor.specs.Calls.{resultNumber, lookupSaid, lookupResult, lookupValue, placeOf, settingAt, sized, within};
 ghost use Rattle.octets.specs.Bytes.{run};
 
 pub enum Found {
@@ -70,6 +70,20 @@ fn stores_are_valid(factory: &[u8], settings: &[u8]) -> bool
     valid::settings_are_valid(settings)
 }
 
+// The number of a lookup's result.
+pub fn result_number(factory: &[u8], settings: &[u8], key: u8, most: u16) -> u8
+    ensures { λ r. ⌜ r ≡ resultNumber (lookupResult (now (factory .entry)) (now (settings .entry)) key most) ⌝ }
+{
+    let found = lookup_result(factory, settings, key, most);
+    match found {
+        Found::Refused => 12,
+        Found::Value(_) => 0,
+        Found::BadKey => 1,
+        Found::NoValue => 2,
+        Found::TooLong => 3,
+    }
+}
+
 // Where the value of a key from 0 to 5 lies.
 fn find(factory: &[u8], settings: &[u8], key: u8) -> Place
     ensures { λ r. ⌜ r ≡ placeOf (now (factory .entry)) (now (settings .entry)) key ⌝ }
@@ -120,7 +134,7 @@ fn size(n: usize, most: u16) -> Found
 }
 
 // The n bytes of s from a place on, if they are at most `most`.
-fn part<'a>(s: &'a [u8], at: usize, n: usize, most: u16) -> &'a [u8]
+pub fn part<'a>(s: &'a [u8], at: usize, n: usize, most: u16) -> &'a [u8]
     ensures { λ r. ⌜ now r ≡ within most n (run at n (now (s .entry))) ⌝ }
 {
     if (most as usize) < n {

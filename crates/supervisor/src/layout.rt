@@ -22,6 +22,8 @@ pub const LONGEST_ALERT: usize = 256;
 
 pub const MOST_KEPT: usize = 512;
 
+pub const LONGEST_BLOCK: usize = 4096;
+
 // The rest of a boot failure behind its reason, and of a panic behind its cause.
 pub const LONGEST_BOOT_FAILURE: usize = 4103;
 
@@ -119,6 +121,8 @@ pub const ALERT_TEXT_PLACE: usize = 3;
 pub const ALERT_LENGTH: usize = ALERT_TEXT_PLACE + LONGEST_ALERT;
 
 pub const RETAINED_PLACE: usize = ALERTS_PLACE + MOST_ALERTS * ALERT_LENGTH;
+
+pub const RETAINED_SEQUENCE_PLACE: usize = RETAINED_PLACE + 1;
 
 pub const RETAINED_ALERT_PLACE: usize = RETAINED_PLACE + 9;
 

@@ -9,4 +9,4 @@ pub mod options;
 pub mod outbox;
 pub mod registers;
 pub mod start;
-mod valid;
+pub mod valid;

@@ -7,13 +7,13 @@ ghost use Rattle.supervisor.specs.Valid.{goodItem, goodItems, goodStart,
 ghost use Rattle.octets.specs.Bytes.{numberAt};
 
 // A number of one byte and of two bytes, as an index.
-pub(crate) fn byte_at(s: &[u8], at: usize) -> usize
+pub fn byte_at(s: &[u8], at: usize) -> usize
     ensures { λ r. ⌜ (r ≡ numberAt 1 (now (s .entry)) at) × (r < 256) ⌝ }
 {
     octets::read_u8(s, at) as usize
 }
 
-pub(crate) fn word_at(s: &[u8], at: usize) -> usize
+pub fn word_at(s: &[u8], at: usize) -> usize
     ensures { λ r. ⌜ (r ≡ numberAt 2 (now (s .entry)) at) × (r < 65536) ⌝ }
 {
     octets::read_u16(s, at) as usize
@@ -70,7 +70,7 @@ pub(crate) fn start_is_good(d: &[u8]) -> bool
     items_are_good(d, count)
 }
 
-pub(crate) fn outbox_is_valid(outbox: &[u8]) -> bool
+pub fn outbox_is_valid(outbox: &[u8]) -> bool
     ensures { λ r. ⌜ r ≡ validOutbox (now (outbox .entry)) ⌝ }
 {
     if outbox.len() < layout::OUTBOX_LENGTH {
@@ -86,7 +86,7 @@ pub(crate) fn outbox_is_valid(outbox: &[u8]) -> bool
     byte_at(outbox, layout::OUTBOX_OWING_PLACE) <= 1
 }
 
-pub(crate) fn factory_is_valid(factory: &[u8]) -> bool
+pub fn factory_is_valid(factory: &[u8]) -> bool
     ensures { λ r. ⌜ r ≡ validFactory (now (factory .entry)) ⌝ }
 {
     if factory.len() < layout::FACTORY_LENGTH {
@@ -111,7 +111,7 @@ fn setting_is_valid(settings: &[u8], at: usize, most: usize) -> bool
     word_at(settings, at + layout::SETTING_LENGTH_PLACE) <= most
 }
 
-pub(crate) fn settings_are_valid(settings: &[u8]) -> bool
+pub fn settings_are_valid(settings: &[u8]) -> bool
     ensures { λ r. ⌜ r ≡ validSettings (now (settings .entry)) ⌝ }
 {
     if settings.len() < layout::SETTINGS_LENGTH {
@@ -167,7 +167,7 @@ fn alerts_are_valid(registers: &[u8], n: usize) -> bool
     true
 }
 
-pub(crate) fn registers_are_valid(registers: &[u8]) -> bool
+pub fn registers_are_valid(registers: &[u8]) -> bool
     ensures { λ r. ⌜ r ≡ validRegisters (now (registers .entry)) ⌝ }
 {
     if registers.len() < layout::REGISTERS_LENGTH {

@@ -1,0 +1,6 @@
+-- Laws that the proofs of requests cite.
+-- Assumes nothing.
+pub mod SendingLaws
+pub mod RecordLaws
+pub mod TakenLaws
+pub mod ReceiveLaws

@@ -1,0 +1,98 @@
+-- Laws of what a valid request is answered: data that fit a reply, and the choices that the stores settle.
+-- Assumes nothing.
+use mathlib.Core.Path.{_≡_, sym, ap, _∙_}
+use mathlib.Core.Bool.{Bool, true, false, not}
+use mathlib.Core.List.{List, [], _∷_, _++_}
+use Prim.Native.Nat.{ℕ, _+_, _-_, _≤_, _<_}
+use native.Mathlib.Nat.{add-sub-cancel-left}
+use native.Mathlib.Omega.{arith}
+use lib.Dec.{ltb, eqb}
+use lib.ListN.{length, take, drop, replicate, length-take}
+use borrow.Author.Tests.{not-true, not-false, leb-true, lt-ltb, le-ltb}
+use Rattle.octets.specs.Bytes.{run, numberAt, equal, sameRun}
+use Rattle.octets.proofs.Conditions.{cond-by}
+use Rattle.octets.proofs.Equal.{equal-true, equal-refl, sameRun-true, sameRun-equal}
+use Rattle.octets.proofs.Overlay.{length-run}
+use Rattle.supervisor.specs.Limits
+use Rattle.supervisor.specs.Layout
+use Rattle.supervisor.specs.Number.{topSet, replyTo}
+use Rattle.supervisor.specs.Valid.{goodItem, validFactory, validSettings}
+use Rattle.requests.specs.Requests.{lengthAllowed}
+use Rattle.requests.specs.Receive.{itemDataLength, itemBytes, blockBytes}
+use Rattle.supervisor.specs.declared.number.ReplyNumber.{ReplyNumber}
+use Rattle.supervisor.specs.declared.number.RequestNumber.{RequestNumber}
+use Rattle.supervisor.proofs.ValidLaws.{alike, all-each, item-good, factory-valid}
+
+-- the number of a reply
+pub reply-number : (r : ReplyNumber) (n : RequestNumber) → r ≡ replyTo n → r .0 ≡ topSet (n .0)
+reply-number r n e = ap (λ (x : ReplyNumber). x .0) e
+
+-- ---- the data of a valid request are long enough for its command
+
+pub boot-failure-long : (command n : ℕ) → lengthAllowed command n ≡ true → command ≡ 0x06 → 1 ≤ n
+unfolding lengthAllowed
+boot-failure-long command n e h = leb-true 1 n (rw h at e)
+
+pub panic-long : (command n : ℕ) → lengthAllowed command n ≡ true → command ≡ 0x07 → 2 ≤ n
+unfolding lengthAllowed
+panic-long command n e h = leb-true 2 n (rw h at e)
+
+pub key-set-long : (command n : ℕ) → lengthAllowed command n ≡ true → command ≡ 0x10 → 1 ≤ n
+unfolding lengthAllowed
+key-set-long command n e h = leb-true 1 n (rw h at e)
+
+-- ---- an item
+
+-- an item that is there lies within the store
+pub record ItemHeld (f : List ℕ) (index : ℕ) : Type 0 where
+  pub low : index < Limits.most-items
+  pub long : Layout.factory-length ≤ length f
+  pub size : itemDataLength f (Layout.item-place index) ≤ Limits.longest-item-data
+
+pub item-held : (f : List ℕ) (index : ℕ) → validFactory f ≡ true → index < Layout.itemCount f → ItemHeld f index
+unfolding itemDataLength
+item-held f index e h =
+    let v = factory-valid f e in
+    let g = item-good f index (all-each (goodItem f) _ (v .start .items) index h) in
+    record {
+      low = omega arith;
+      long = v .long;
+      size = cond-by (λ n. n ≤ Limits.longest-item-data) (eqb (numberAt 1 f (Layout.item-place index)) 0) _ 0 (λ _. g .size) (λ _. omega arith);
+    }
+
+pub item-there : (f : List ℕ) (index n : ℕ) → index < Layout.itemCount f → n ≡ itemDataLength f (Layout.item-place index)
+    → let at = Layout.item-place index in
+    let from = at + Layout.item-data-place in
+    take (at + Layout.item-data-length-place - at) (drop at f) ++ take (from + n - from) (drop from f) ≡ itemBytes f index
+unfolding itemBytes
+item-there f index n h e = rw (lt-ltb index (Layout.itemCount f) h, e) (simp add-sub-cancel-left)
+
+pub item-none : (f : List ℕ) (index : ℕ) → Layout.itemCount f ≤ index → 1 ∷ replicate 33 0 ≡ itemBytes f index
+unfolding itemBytes
+item-none f index h = rw (le-ltb index (Layout.itemCount f) h)
+
+-- ---- a block of the image
+
+same-hash : (f d : List ℕ) → Layout.hash-place + 32 ≤ length f
+    → sameRun d 0 f Layout.hash-place 32 ≡ equal (run 0 32 d) (run Layout.hash-place 32 f)
+same-hash f d h =
+    alike _ _
+    (λ e. rw (sameRun-true d 0 f Layout.hash-place 32 e .2) (equal-refl (run Layout.hash-place 32 f)))
+    (λ e.
+    let q = equal-true _ _ e in
+    let l = length-take 32 d in
+    let m = ap length q ∙ length-run Layout.hash-place 32 f h in
+    sameRun-equal d 0 f Layout.hash-place 32 (omega arith) h q)
+
+-- by what the code's test of the hash answered
+module _ (f image d : List ℕ) (v : validFactory f ≡ true) (r : Bool) (e : r ≡ sameRun d 0 f Layout.hash-place 32) where
+  hash-told : equal (run 0 32 d) (run Layout.hash-place 32 f) ≡ r
+  hash-told = let l = factory-valid f v .long in sym (e ∙ same-hash f d (omega arith))
+
+  pub block-same : not r ≡ false → run (numberAt 8 d 32) Limits.longest-block image ≡ blockBytes f image d
+  unfolding blockBytes
+  block-same h = rw (hash-told ∙ not-false r h)
+
+  pub block-other : not r ≡ true → [] ≡ blockBytes f image d
+  unfolding blockBytes
+  block-other h = rw (hash-told ∙ not-true r h)

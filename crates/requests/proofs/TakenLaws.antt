@@ -1,0 +1,174 @@
+-- Laws of an alert request: what is retained, the alerts that move down, and the text of the reply.
+-- Assumes nothing.
+use mathlib.Core.Path.{_≡_, refl, ap, _∙_}
+use mathlib.Core.Bool.{true, cond}
+use mathlib.Core.List.{List, [], _∷_, _++_, append-assoc}
+use Prim.Native.Nat.{ℕ, _+_, _-_, _*_, _≤_, _<_}
+use native.Mathlib.Omega.{arith}
+use borrow.Author.Tests.{eq-eqb, ne-eqb, eqb-false}
+use lib.Dec.{leb, eqb}
+use lib.ListN.{length, take, drop, set, replicate, length-append, length-set}
+use lib.Seq.{take-take, drop-at}
+use Rattle.octets.specs.Bytes.{bytes, number, run, overlay, put, copied, movedDown}
+use Rattle.octets.proofs.Numbers.{length-bytes}
+use Rattle.octets.proofs.Conditions.{cond-by}
+use Rattle.octets.proofs.Overlay.{length-run, length-overlay, overlay-before, overlay-after, overlay-inside, overlay-part, overlay-one, overlay-more, copied-fits, movedDown-fits}
+use Rattle.supervisor.specs.Limits.{most-alerts, longest-alert}
+use Rattle.supervisor.specs.Layout
+use Rattle.supervisor.specs.Valid.{validRegisters}
+use Rattle.requests.specs.Requests.{clearBit}
+use Rattle.requests.specs.Receive.{withRetained, movedAlerts, withTaken, isRetained, alertRegisters, alertParts, alertAnswered, sentBox, replyBytes}
+use Rattle.supervisor.proofs.ValidLaws.{registers-valid, all-each, alert-valid}
+use Rattle.supervisor.proofs.AlertLaws.{one-byte}
+use Rattle.requests.proofs.RecordLaws.{marked, length-marked, next-number, next-run, number-stored}
+
+-- ---- what is retained
+
+three-zeros : bytes 2 0 ++ 0 ∷ [] ≡ replicate 3 0
+unfolding bytes
+three-zeros = refl
+
+module _ (r : List ℕ) (sequence : ℕ) (long : Layout.registers-length ≤ length r) where
+  -- action 0 and no text
+  pub none-retained : {s t : List ℕ} → Layout.alertCount r ≡ 0 → s ≡ put Layout.retained-sequence-place (bytes 8 sequence) (set r Layout.retained-place 1)
+      → t ≡ put Layout.retained-alert-place (bytes 2 0) s → set t (Layout.retained-alert-place + Layout.alert-action-place) 0 ≡ withRetained r sequence
+  unfolding withRetained
+  none-retained e f g =
+      let at = Layout.retained-place in
+      let head = bytes 1 1 ++ bytes 8 sequence in
+      let a = length-marked 8 sequence in
+      let b : length (head ++ bytes 2 0) ≡ 11 = simp (length-append, length-bytes) in
+      let m = rw b at (overlay-more at 0 (head ++ bytes 2 0) r (omega arith)) in
+      rw (
+        g,
+        f,
+        marked 8 sequence at r (omega arith),
+        next-number at Layout.retained-alert-place head r (omega arith) 2 0 (omega arith),
+        m,
+        eq-eqb (Layout.alertCount r) 0 e,
+      )
+      (simp (append-assoc, three-zeros))
+
+  -- the oldest alert, by way of a room of its length
+  pub oldest-retained : (room : List ℕ) {s t u : List ℕ} → length room ≡ Layout.alert-length → (Layout.alertCount r ≡ 0 → ⊥)
+      → s ≡ put Layout.retained-sequence-place (bytes 8 sequence) (set r Layout.retained-place 1)
+      → t ≡ copied s Layout.alerts-place Layout.alert-length room 0 → u ≡ copied t 0 Layout.alert-length s Layout.retained-alert-place
+      → u ≡ withRetained r sequence
+  unfolding withRetained
+  oldest-retained room {s} {t} l e f g h =
+      let at = Layout.retained-place in
+      let head = bytes 1 1 ++ bytes 8 sequence in
+      let a = length-marked 8 sequence in
+      let i : s ≡ overlay at head r = f ∙ marked 8 sequence at r (omega arith) in
+      let j = ap length i ∙ length-overlay at head r (omega arith) in
+      let slot = run Layout.alerts-place Layout.alert-length r in
+      let k = length-run Layout.alerts-place Layout.alert-length r (omega arith) in
+      let m : t ≡ overlay 0 slot room
+      = g ∙ copied-fits s Layout.alerts-place Layout.alert-length room 0 (omega arith) (omega arith)
+      ∙ ap (λ (x : List ℕ). overlay 0 x room) (rw i (overlay-before at Layout.alerts-place Layout.alert-length head r (omega arith) (omega arith))) in
+      let n = ap length m ∙ length-overlay 0 slot room (omega arith) in
+      let o : run 0 Layout.alert-length t ≡ slot = rw m (rw k at (overlay-inside 0 slot room (omega arith))) in
+      rw (
+        h,
+        i,
+        next-run at Layout.retained-alert-place head r (omega arith) t 0 Layout.alert-length (omega arith) (omega arith),
+        o,
+        ne-eqb (Layout.alertCount r) 0 e,
+        append-assoc,
+      )
+
+  -- ---- the alerts that are left
+
+  pub alert-taken : {count status left next : ℕ} {s t u : List ℕ} → count ≡ Layout.alertCount r → count < 256 → status ≡ Layout.statusOf r
+      → s ≡ withRetained r sequence → length s ≡ length r
+      → t ≡ movedDown s (Layout.alert-place 1) Layout.alerts-place ((most-alerts - 1) * Layout.alert-length) → length t ≡ length s
+      → left ≡ count - 1 → next ≡ cond (leb count 1) (clearBit status 1) status
+      → u ≡ put Layout.status-place (bytes 8 next) (set t Layout.alert-count-place left) → u ≡ withTaken r sequence
+  unfolding withTaken movedAlerts
+  alert-taken {left} {next} {s} {t} n byte o e l f m a h i =
+      let k = length-set t Layout.alert-count-place left in
+      number-stored 8 Layout.status-place (set t Layout.alert-count-place left) (omega arith) h i
+      ∙ rw (
+        overlay-one Layout.alert-count-place left t (omega arith),
+        f,
+        movedDown-fits s (Layout.alert-place 1) Layout.alerts-place ((most-alerts - 1) * Layout.alert-length) (omega arith) (omega arith),
+        e,
+        ← one-byte left (omega arith),
+        a,
+        n,
+        o,
+      )
+
+-- ---- the text of the reply
+
+no-text : number (take 2 (replicate 3 0)) ≤ longest-alert
+unfolding number
+no-text = omega arith
+
+-- registers as long as others, whose retained alert has no more than the longest text
+pub record Settled (r s : List ℕ) : Type 0 where
+  pub same : length s ≡ length r
+  pub text : Layout.alertTextLength s Layout.retained-alert-place ≤ longest-alert
+
+module _ (r : List ℕ) (sequence : ℕ) (v : validRegisters r ≡ true) where
+  abbrev kept : List ℕ → List ℕ
+  kept zs = overlay Layout.retained-place (bytes 1 1 ++ (bytes 8 sequence ++ zs)) r
+
+  kept-settled : (zs : List ℕ) → 2 ≤ length zs → length zs ≤ Layout.alert-length → number (take 2 zs) ≤ longest-alert → Settled r (kept zs)
+  kept-settled zs l m h =
+      let long = registers-valid r v .long in
+      let head = bytes 1 1 ++ bytes 8 sequence in
+      let b : length (head ++ zs) ≡ 9 + length zs = simp (length-append, length-bytes) in
+      rw (← append-assoc) (record {
+        same = length-overlay Layout.retained-place (head ++ zs) r (omega arith);
+        text = rw (overlay-part Layout.retained-place 9 2 (head ++ zs) r (omega arith) (omega arith), drop-at head zs 9 (length-marked 8 sequence)) h;
+      })
+
+  retained-settled : Settled r (withRetained r sequence)
+  unfolding withRetained
+  retained-settled =
+      let g = registers-valid r v in
+      let slot = run Layout.alerts-place Layout.alert-length r in
+      cond-by (λ zs. Settled r (kept zs)) (eqb (Layout.alertCount r) 0) (replicate 3 0) slot
+      (λ e. kept-settled (replicate 3 0) (omega arith) (omega arith) no-text)
+      (λ e.
+      let some : Layout.alertCount r ≡ 0 → ⊥ = eqb-false (Layout.alertCount r) 0 e in
+      let k = length-run Layout.alerts-place Layout.alert-length r (omega arith) in
+      let oldest = alert-valid r 0 (all-each _ _ (g .rest .alerts) 0 (omega arith)) in
+      kept-settled slot (omega arith) (omega arith) (rw (take-take 2 Layout.alert-length (drop Layout.alerts-place r) (omega arith)) (oldest .size)))
+
+  -- bytes put before what is retained
+  before-settled : (at : ℕ) (xs : List ℕ) {s : List ℕ} → at + length xs ≤ Layout.retained-place → Settled r s → Settled r (overlay at xs s)
+  before-settled at xs {s} h a =
+      let long = registers-valid r v .long in
+      record {
+        same = length-overlay at xs s (omega arith) ∙ a .same;
+        text = rw (overlay-after at Layout.retained-alert-place 2 xs s (omega arith) (omega arith)) (a .text);
+      }
+
+  taken-settled : Settled r (withTaken r sequence)
+  unfolding withTaken movedAlerts
+  taken-settled =
+      let long = registers-valid r v .long in
+      let a = retained-settled in
+      before-settled Layout.status-place _ (rw length-bytes (omega arith))
+      (before-settled Layout.alert-count-place _ (rw length-bytes (omega arith))
+      (before-settled Layout.alerts-place _ (rw (length-run (Layout.alert-place 1) ((most-alerts - 1) * Layout.alert-length) (withRetained r sequence) (omega arith)) (omega arith)) a))
+
+  pub settled : {s : List ℕ} → s ≡ alertRegisters r sequence → Settled r s
+  unfolding alertRegisters
+  settled e =
+      rw e
+      (cond-by (Settled r) (isRetained r sequence) r (withTaken r sequence)
+      (λ _. record { same = refl; text = registers-valid r v .rest .text })
+      (λ _. taken-settled))
+
+-- the reply, from the registers as they are then
+pub alert-sent : (o r : List ℕ) (reply sequence : ℕ) {n : ℕ} {s p : List ℕ} → s ≡ alertRegisters r sequence
+    → n ≡ Layout.alertTextLength s Layout.retained-alert-place
+    → p ≡ sentBox (replyBytes reply 0x07 (run (Layout.retained-alert-place + Layout.alert-action-place) (n + 1) s)) o
+    → alertParts p s ≡ alertAnswered o r reply sequence
+unfolding alertAnswered
+alert-sent o r reply sequence {n} e f g =
+    let k : n + 1 ≡ 1 + n = omega arith in
+    rw (g, k, f, e)

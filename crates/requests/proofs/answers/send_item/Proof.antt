@@ -1,0 +1,49 @@
+-- `requests::answers::send_item` meets its contract.
+-- Assumes nothing.
+use native.Mathlib.Omega.{arith}
+use denote.Ref.{now}
+use lib.ListN.{length-take}
+use borrow.Author.Needs.{needs}
+use Rattle.requests.proofs.ReceiveLaws.{ItemHeld, item-held, item-there, item-none}
+use Rattle.requests.proofs.answers.send_item.Statement.{statement}
+use Rattle.requests.proofs.answers.send_item.Tie as tie
+
+returns : tie.Need-returns
+returns c =
+    let tested = c .before .before .before .before .before .before .before .before in
+    rw (← item-none _ (tested .before .before .before .before .args .index) (rw (tested .before .read-u32 .ensures) at (tested .if1 .taken)))
+    (c .before .before .send .ensures)
+
+-- the item is there
+held : (c : tie.Else1) → ItemHeld (now (c .before .before .before .before .args .factory)) (c .before .before .before .before .args .index)
+held c = item-held _ _ (c .before .before .before .before .pre .1) (rw (c .before .read-u32 .ensures) at (c .if1 .left))
+
+part-send-end-3 : tie.Need-part-send-end-3
+part-send-end-3 c = let h = held (c .before .before) in search needs
+
+add-send-2 : tie.Need-add-send-2
+add-send-2 c = let h = held (c .before .before .before) in search needs
+
+part-send-end-4 : tie.Need-part-send-end-4
+part-send-end-4 c = let h = held (c .before .before .before) in search needs
+
+send-requires-2 : tie.Need-send-requires-2
+send-requires-2 c κs = let h = held (c .before .before .before .before) in (search needs, simp length-take (omega arith))
+
+returns-2 : tie.Need-returns-2
+returns-2 c =
+    let n = c .before .before .before .before .before .before in
+    let tested = n .before in
+    let below = rw (tested .before .read-u32 .ensures) at (tested .if1 .left) in
+    rw (← item-there _ (tested .before .before .before .before .args .index) _ below (n .item-data-length .ensures))
+    (c .before .before .send2 .ensures)
+
+pub send-item-spec : {M : Type 1} → statement M
+send-item-spec =
+    tie.close
+    (tie.spec
+    (λ c κs. search needs) (λ c. search needs) (λ c. search needs) (λ c. search needs) (λ c. search needs)
+    (λ c. search needs) (λ c. search needs) (λ c. search needs) (λ c κs. search needs) (λ c. search needs) returns
+    (λ c. search needs) (λ c. search needs) (λ c. search needs) (λ c κs. let h = held c in search needs) (λ c. search needs)
+    (λ c. search needs) (λ c. search needs) part-send-end-3 add-send-2 (λ c. search needs) (λ c. search needs)
+    part-send-end-4 send-requires-2 (λ c. search needs) returns-2)

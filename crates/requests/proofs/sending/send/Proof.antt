@@ -1,0 +1,21 @@
+-- `requests::sending::send` meets its contract.
+-- Assumes nothing.
+use mathlib.Core.List.{_++_}
+use borrow.Author.Needs.{needs}
+use denote.Ref.{now}
+use Rattle.requests.specs.Receive.{replyBytes}
+use Rattle.requests.proofs.SendingLaws.{sent}
+use Rattle.requests.proofs.sending.send.Statement.{statement}
+use Rattle.requests.proofs.sending.send.Tie as tie
+
+returns : tie.Need-returns
+returns c =
+    let written = c .before .before .before .before .before .before in
+    let start = written .before .before .before .before .before in
+    let a = start .args in
+    sent (replyBytes (a .number .0) (a .command) (now (a .head) ++ now (a .rest))) (now (a .outbox)) (start .pre .0)
+    (written .write-reply .ensures .0) (written .write-reply .ensures .1 .1) (c .before .before .set-pending .ensures)
+
+pub send-spec : {M : Type 1} → statement M
+send-spec = tie.close (tie.spec
+    (λ c κs. search needs) (λ c κs. search needs) (λ c. search needs) returns)

@@ -1,0 +1,15 @@
+-- `requests::sending::send_byte` meets its contract.
+-- Assumes nothing.
+use native.Mathlib.Omega.{arith}
+use borrow.Author.Needs.{needs}
+use Rattle.supervisor.proofs.AlertLaws.{one-byte}
+use Rattle.requests.proofs.sending.send_byte.Statement.{statement}
+use Rattle.requests.proofs.sending.send_byte.Tie as tie
+
+returns : tie.Need-returns
+returns c =
+    let start = c .before .before .before .before .before .before in
+    rw (one-byte (start .args .byte) (omega (arith, start .fits .byte))) (c .before .before .send-part .ensures)
+
+pub send-byte-spec : {M : Type 1} → statement M
+send-byte-spec = tie.close (tie.spec (λ c. search needs) (λ c κs. search needs) (λ c. search needs) returns)

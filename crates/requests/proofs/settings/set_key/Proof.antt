@@ -1,0 +1,18 @@
+-- `requests::settings::set_key` meets its contract.
+-- Assumes nothing.
+use borrow.Author.Needs.{needs}
+use Rattle.requests.specs.Receive.{keySetAnswered}
+use Rattle.requests.proofs.settings.set_key.Statement.{statement}
+use Rattle.requests.proofs.settings.set_key.Tie as tie
+
+returns : tie.Need-returns
+unfolding keySetAnswered
+returns c =
+    let stored = c .before .before .before .before .before .before in
+    rw (c .before .before .send-byte .ensures, ← stored .before .read-u8 .ensures, ← stored .store .ensures)
+
+pub set-key-spec : {M : Type 1} → statement M
+set-key-spec =
+    tie.close
+    (tie.spec
+    (λ c κs. search needs) (λ c κs. search needs) (λ c κs. search needs) (λ c. search needs) (λ c. search needs) returns)

@@ -1,0 +1,4 @@
+-- Definitions of what a request means, and of what the calls that receive answer and leave.
+-- Assumes nothing.
+pub mod Requests
+pub mod Receive

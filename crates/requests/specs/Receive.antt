@@ -1,0 +1,224 @@
+-- What a received byte does to the lent parts, and what the calls that receive answer and leave.
+-- Assumes nothing: these are definitions.
+use mathlib.Core.Bool.{Bool, true, false, cond, not, _&&_}
+use mathlib.Core.List.{List, [], _∷_, _++_}
+use mathlib.Core.Option.{Option, none, some}
+use Prim.Native.Nat.{ℕ, zero, suc, _+_, _-_, _*_, _^_, min}
+use lib.Dec.{leb, ltb, eqb}
+use lib.ListN.{length, take, drop, replicate}
+use Rattle.octets.specs.Bytes.{bytes, run, numberAt, overlay, equal}
+use Rattle.line.specs.Message.{Message}
+use Rattle.line.specs.Frame.{frame}
+use Rattle.line.specs.Reader as LineReader
+use Rattle.supervisor.specs.Limits
+use Rattle.supervisor.specs.Layout
+use Rattle.supervisor.specs.Number.{topSet}
+use Rattle.supervisor.specs.Valid.{validOutbox, validFactory, validSettings, validRegisters}
+use Rattle.requests.specs.Requests
+use Rattle.supervisor.specs.Calls.{Parts, resultNumber, lookupResult, lookupValue}
+
+-- ---- Sending
+
+-- the bytes of a reply, or none, become the pending ones: place 0 of the outbox' bytes is for a 00 that is owed
+unfoldable pub sentBox : List ℕ → List ℕ → List ℕ
+sentBox bs o =
+    overlay Layout.outbox-from-place (bytes 2 (cond (eqb (Layout.outboxOwing o) 1) 0 1) ++ bytes 2 (suc (length bs)))
+    (overlay Layout.outbox-bytes-place (0 ∷ bs) o)
+
+-- a reply's bytes
+abbrev pub replyBytes : ℕ → ℕ → List ℕ → List ℕ
+replyBytes sequence command payload = frame (record { version = 1; sequence = sequence; command = command; payload = payload })
+
+-- ---- What a request changes: the outbox, the settings and the registers
+
+pub record Inner : Type 0 where
+  pub outbox : List ℕ
+  pub settings : List ℕ
+  pub registers : List ℕ
+
+abbrev pub inner : List ℕ → List ℕ → List ℕ → Inner
+inner o s r = record { outbox = o; settings = s; registers = r }
+
+-- a reply alone
+unfoldable pub answering : Inner → ℕ → ℕ → List ℕ → Inner
+answering i sequence command payload = inner (sentBox (replyBytes sequence command payload) (i .outbox)) (i .settings) (i .registers)
+
+-- an acknowledgement, and other registers
+unfoldable pub acknowledged : Inner → ℕ → List ℕ → Inner
+acknowledged i reply r = inner (sentBox (replyBytes reply 0x01 []) (i .outbox)) (i .settings) r
+
+-- no reply, and other registers
+unfoldable pub silently : Inner → List ℕ → Inner
+silently i r = inner (sentBox [] (i .outbox)) (i .settings) r
+
+-- a record, with its code and its rest
+unfoldable pub withRecord : List ℕ → ℕ → ℕ → List ℕ → List ℕ
+withRecord r at code rest =
+    overlay at (bytes 1 1 ++ (bytes 2 code ++ (bytes 2 (length rest) ++ take Limits.most-kept rest))) r
+
+-- the retained reply's action and text
+abbrev pub retainedData : List ℕ → List ℕ
+retainedData r = run (Layout.retained-alert-place + Layout.alert-action-place) (1 + Layout.alertTextLength r Layout.retained-alert-place) r
+
+-- the oldest alert is retained, and the others move down; or action 0 and no text is retained
+unfoldable pub withRetained : List ℕ → ℕ → List ℕ
+withRetained r sequence =
+    overlay Layout.retained-place (bytes 1 1 ++ (bytes 8 sequence ++ cond (eqb (Layout.alertCount r) 0) (replicate 3 0) (run Layout.alerts-place Layout.alert-length r))) r
+
+unfoldable pub movedAlerts : List ℕ → List ℕ
+movedAlerts r = overlay Layout.alerts-place (run (Layout.alert-place 1) ((Limits.most-alerts - 1) * Layout.alert-length) r) r
+
+unfoldable pub withTaken : List ℕ → ℕ → List ℕ
+withTaken r sequence =
+    overlay Layout.status-place (bytes 8 (cond (leb (Layout.alertCount r) 1) (Requests.clearBit (Layout.statusOf r) 1) (Layout.statusOf r)))
+    (overlay Layout.alert-count-place (bytes 1 (Layout.alertCount r - 1))
+    (movedAlerts (withRetained r sequence)))
+
+-- whether a reply is retained with this sequence
+unfoldable pub isRetained : List ℕ → ℕ → Bool
+isRetained r sequence = eqb (numberAt 1 r Layout.retained-place) 1 && eqb (numberAt 8 r Layout.retained-sequence-place) sequence
+
+-- the registers after an alert request: as they are where its reply is retained
+unfoldable pub alertRegisters : List ℕ → ℕ → List ℕ
+alertRegisters r sequence = cond (isRetained r sequence) r (withTaken r sequence)
+
+pub record AlertParts : Type 0 where
+  pub outbox : List ℕ
+  pub registers : List ℕ
+
+abbrev pub alertParts : List ℕ → List ℕ → AlertParts
+alertParts o r = record { outbox = o; registers = r }
+
+unfoldable pub alertAnswered : List ℕ → List ℕ → ℕ → ℕ → AlertParts
+alertAnswered o r reply sequence =
+    alertParts (sentBox (replyBytes reply 0x07 (retainedData (alertRegisters r sequence))) o) (alertRegisters r sequence)
+
+-- an item's reply: result, name and type, and its data where the result is 0
+unfoldable pub itemDataLength : List ℕ → ℕ → ℕ
+itemDataLength f at = cond (eqb (numberAt 1 f at) 0) (numberAt 1 f (at + Layout.item-data-length-place)) 0
+
+unfoldable pub itemBytes : List ℕ → ℕ → List ℕ
+itemBytes f index =
+    cond (ltb index (Layout.itemCount f))
+    (run (Layout.item-place index) Layout.item-data-length-place f
+    ++ run (Layout.item-place index + Layout.item-data-place) (itemDataLength f (Layout.item-place index)) f)
+    (1 ∷ replicate 33 0)
+
+unfoldable pub blockBytes : List ℕ → List ℕ → List ℕ → List ℕ
+blockBytes f image d = cond (equal (run 0 32 d) (run Layout.hash-place 32 f)) (take Limits.longest-block (drop (numberAt 8 d 32) image)) []
+
+unfoldable pub valueBytes : List ℕ → List ℕ → List ℕ → List ℕ
+valueBytes f s d =
+    bytes 1 (resultNumber (lookupResult f s (numberAt 1 d 0) (numberAt 2 d 1))) ++ lookupValue f s (numberAt 1 d 0) (numberAt 2 d 1)
+
+-- the value of a key in its setting
+unfoldable pub withValue : List ℕ → ℕ → List ℕ → List ℕ
+withValue s at v = overlay at (bytes 1 1 ++ (bytes 2 (length v) ++ v)) s
+
+pub record KeyStored : Type 0 where
+  pub result : ℕ
+  pub settings : List ℕ
+
+abbrev pub keyStored : ℕ → List ℕ → KeyStored
+keyStored n s = record { result = n; settings = s }
+
+unfoldable pub storingAt : List ℕ → ℕ → ℕ → List ℕ → KeyStored
+storingAt s at most v = cond (ltb most (length v)) (keyStored 3 s) (keyStored 0 (withValue s at v))
+
+unfoldable pub storing : List ℕ → ℕ → List ℕ → KeyStored
+storing s key v =
+    cond (ltb Limits.highest-key key) (keyStored 1 s)
+    (cond (ltb key 3) (keyStored 2 s)
+    (cond (eqb key 3) (storingAt s Layout.key-3-place Limits.longest-key-3 v)
+    (cond (eqb key 4) (storingAt s Layout.key-4-place Limits.longest-key-4 v)
+    (storingAt s Layout.key-5-place Limits.longest-key-5 v))))
+
+pub record KeySet : Type 0 where
+  pub outbox : List ℕ
+  pub settings : List ℕ
+
+abbrev pub keySetParts : List ℕ → List ℕ → KeySet
+keySetParts o s = record { outbox = o; settings = s }
+
+unfoldable pub keySetAnswered : List ℕ → List ℕ → ℕ → List ℕ → KeySet
+keySetAnswered o s reply d =
+    let t = storing s (numberAt 1 d 0) (drop 1 d) in
+    keySetParts (sentBox (replyBytes reply 0x0c (bytes 1 (t .result))) o) (t .settings)
+
+-- a request that changes no more than the pending reply; 0x0f is left
+unfoldable pub askedBytes : List ℕ → List ℕ → List ℕ → List ℕ → ℕ → ℕ → List ℕ → List ℕ
+askedBytes image f s r reply command d =
+    cond (eqb command 0x03) (replyBytes reply 0x03 (run Layout.bsu-place 1 f))
+    (cond (eqb command 0x04) (replyBytes reply 0x04 (run Layout.identity-place 26 f))
+    (cond (eqb command 0x05) (replyBytes reply 0x05 (run Layout.mac-place 9 f))
+    (cond (eqb command 0x08) (replyBytes reply 0x06 (run Layout.status-place 16 r))
+    (cond (eqb command 0x0d) (replyBytes reply 0x09 (blockBytes f image d))
+    (cond (eqb command 0x0e) (replyBytes reply 0x0a (valueBytes f s d))
+    (replyBytes reply 0x0b (itemBytes f (numberAt 4 d 0))))))))
+
+-- ---- A valid request: its command, sequence and data
+
+unfoldable pub carriedInner : List ℕ → List ℕ → Inner → ℕ → ℕ → List ℕ → Inner
+carriedInner image f i sequence command d =
+    cond (eqb command 0x01) (silently i (overlay Layout.reboot-place (1 ∷ []) (i .registers)))
+    (cond (eqb command 0x02) (silently i (overlay Layout.power-off-place (1 ∷ []) (i .registers)))
+    (cond (eqb command 0x06) (silently i (withRecord (i .registers) Layout.boot-failure-place (numberAt 1 d 0) (drop 1 d)))
+    (cond (eqb command 0x10) (let k = keySetAnswered (i .outbox) (i .settings) (topSet sequence) d in inner (k .outbox) (k .settings) (i .registers))
+    (cond (eqb command 0x0a)
+    (let a = alertAnswered (i .outbox) (i .registers) (topSet sequence) sequence in inner (a .outbox) (i .settings) (a .registers))
+    (cond (eqb command 0x07) (acknowledged i (topSet sequence) (withRecord (i .registers) Layout.panic-place (numberAt 2 d 0) (drop 2 d)))
+    (cond (eqb command 0x09)
+    (acknowledged i (topSet sequence) (overlay Layout.status-place (bytes 8 (Requests.clearBit (Layout.statusOf (i .registers)) 0)) (i .registers)))
+    (inner (sentBox (askedBytes image f (i .settings) (i .registers) (topSet sequence) command d) (i .outbox)) (i .settings) (i .registers))))))))
+
+-- ---- A message, by the supervisor's tests
+
+unfoldable pub requestInner : List ℕ → List ℕ → Inner → ℕ → ℕ → ℕ → List ℕ → Inner
+requestInner image f i version sequence command d =
+    cond (eqb version 1)
+    (cond (ltb sequence (2 ^ 63))
+    (cond (Requests.known command)
+    (cond (Requests.lengthAllowed command (length d))
+    (carriedInner image f i sequence command d)
+    (answering i (topSet sequence) 0x02 (7 ∷ [])))
+    (answering i Requests.all-ones 0x02 (3 ∷ [])))
+    (answering i (topSet sequence) 0x02 (6 ∷ [])))
+    (answering i (topSet sequence) 0x02 (5 ∷ []))
+
+-- ---- One byte
+
+abbrev pub partsWith : Parts → List ℕ → Inner → Parts
+partsWith p reader i = record { reader = reader; outbox = i .outbox; factory = p .factory; settings = i .settings; registers = i .registers }
+
+abbrev pub innerOf : Parts → Inner
+innerOf p = inner (p .outbox) (p .settings) (p .registers)
+
+abbrev pub failureSequence : Option ℕ → ℕ
+failureSequence none = Requests.all-ones
+failureSequence (some q) = topSet q
+
+-- by the line reader's answer to a 00 and the state that it left
+unfoldable pub answered : List ℕ → Parts → List ℕ → LineReader.Said → Parts
+answered image p reader (LineReader.refused n) = partsWith p reader (innerOf p)
+answered image p reader LineReader.more = partsWith p reader (innerOf p)
+answered image p reader LineReader.empty = partsWith p reader (innerOf p)
+answered image p reader (LineReader.failed reason sequence) = partsWith p reader (answering (innerOf p) (failureSequence sequence) 0x02 (bytes 1 reason))
+answered image p reader (LineReader.message version sequence command n) =
+    partsWith p reader (requestInner image (p .factory) (innerOf p) version sequence command (LineReader.dataOf reader n))
+
+unfoldable pub feed : List ℕ → Parts → ℕ → Parts
+feed image p b =
+    cond (eqb b 0)
+    (answered image p (LineReader.finish (p .reader) .state) (LineReader.finish (p .reader) .answer))
+    (partsWith p (LineReader.pushed (p .reader) b) (innerOf p))
+
+-- ---- The call
+
+unfoldable pub fed : List ℕ → Parts → List ℕ → Parts
+fed image p [] = p
+fed image p (b ∷ bs) = fed image (feed image p b) bs
+
+unfoldable pub validParts : Parts → Bool
+validParts p =
+    LineReader.valid (p .reader)
+    && (validOutbox (p .outbox) && (validFactory (p .factory) && (validSettings (p .settings) && validRegisters (p .registers))))

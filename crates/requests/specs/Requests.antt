@@ -1,0 +1,249 @@
+-- What a request earns and does, and what one received byte does (document 01, "Reading a request", "Requests and what they do").
+-- Assumes nothing: these are definitions.
+use mathlib.Core.Bool.{Bool, true, false, cond, not, _&&_, _||_}
+use mathlib.Core.List.{List, [], _∷_, _++_}
+use mathlib.Core.Option.{Option, none, some}
+use Prim.Native.Nat.{ℕ, zero, suc, _+_, _-_, _*_, _/_, _%_, _^_}
+use lib.Dec.{leb, ltb, eqb}
+use lib.ListN.{length, take, drop, getD, replicate}
+use Rattle.octets.specs.Bytes.{bytes, number, numberAt, equal, run}
+use Rattle.line.specs.Limits.{longest-form}
+use Rattle.line.specs.Message.{Message}
+use Rattle.line.specs.Frame.{frame}
+use Rattle.line.specs.Judge.{Verdict, failure, good, judge}
+use Rattle.supervisor.specs.Limits.{highest-key, longest-key-3, longest-key-4, longest-key-5, most-kept, longest-block}
+use Rattle.supervisor.specs.State.{Item, Factory, Settings, Recorded, Alert, Retained, State, state}
+use Rattle.supervisor.specs.Number.{topSet}
+use Rattle.supervisor.specs.Local.{bit, setBit, Found, lookup}
+
+-- ---- The tests after the line layer's
+
+-- the listed commands, and whether a data length is right for one
+unfoldable pub known : ℕ → Bool
+known c = (leb 0x01 c && leb c 0x0a) || (leb 0x0d c && leb c 0x10)
+
+unfoldable pub lengthAllowed : ℕ → ℕ → Bool
+lengthAllowed c n =
+    cond (eqb c 0x06) (leb 1 n)
+    (cond (eqb c 0x07) (leb 2 n)
+    (cond (eqb c 0x0d) (eqb n 40)
+    (cond (eqb c 0x0e) (eqb n 3)
+    (cond (eqb c 0x0f) (eqb n 4)
+    (cond (eqb c 0x10) (leb 1 n)
+    (eqb n 0))))))
+
+-- the reply to a failure: its reason, and the request's sequence with the top bit set or all ones
+pub record Reply : Type 0 where
+  pub sequence : ℕ
+  pub command : ℕ
+  pub payload : List ℕ
+
+abbrev pub all-ones : ℕ
+all-ones = 0xffffffffffffffff
+
+abbrev pub failed : ℕ → ℕ → Reply
+failed reason sequence = record { sequence = sequence; command = 0x02; payload = reason ∷ [] }
+
+unfoldable pub failedOf : ℕ → Option ℕ → Reply
+failedOf reason none = failed reason all-ones
+failedOf reason (some sequence) = failed reason (topSet sequence)
+
+-- the failure that a good message earns as a request: version 5, top bit 6, command 3, data length 7; none where it is valid
+unfoldable pub requestFailure : Message → Option Reply
+requestFailure m =
+    cond (not (eqb (m .version) 1)) (some (failed 5 (topSet (m .sequence))))
+    (cond (leb (2 ^ 63) (m .sequence)) (some (failed 6 (topSet (m .sequence))))
+    (cond (not (known (m .command))) (some (failed 3 all-ones))
+    (cond (not (lengthAllowed (m .command) (length (m .payload)))) (some (failed 7 (topSet (m .sequence))))
+    none)))
+
+-- ---- What a valid request does: the state, and the reply's command and data, or none
+
+pub record Carried : Type 0 where
+  pub state : State
+  pub reply : Option (ℕ × List ℕ)
+
+abbrev pub silent : State → Carried
+silent s = record { state = s; reply = none }
+
+abbrev pub replied : State → ℕ → List ℕ → Carried
+replied s c bs = record { state = s; reply = some (c, bs) }
+
+-- a record keeps its code, the whole length of the rest, and the rest's first 512 bytes
+unfoldable pub recorded : ℕ → List ℕ → Recorded
+recorded code rest = record { code = code; whole = length rest; kept = take most-kept rest }
+
+unfoldable pub clearBit : ℕ → ℕ → ℕ
+clearBit n k = cond (eqb (bit n k) 1) (n - 2 ^ k) n
+
+-- 0x01, 0x02: counted as asked for, no reply
+unfoldable pub reboot : State → Carried
+reboot s =
+    silent (state (s .status) (s .options) true (s .power-off-asked) (s .boot-failure) (s .panic) (s .factory) (s .settings)
+    (s .waiting) (s .retained) (s .received) (s .pending) (s .owing))
+
+unfoldable pub powerOff : State → Carried
+powerOff s =
+    silent (state (s .status) (s .options) (s .reboot-asked) true (s .boot-failure) (s .panic) (s .factory) (s .settings)
+    (s .waiting) (s .retained) (s .received) (s .pending) (s .owing))
+
+-- 0x06: reason u8, rest free; recorded, no reply
+unfoldable pub bootFailure : State → List ℕ → Carried
+bootFailure s bs =
+    silent (state (s .status) (s .options) (s .reboot-asked) (s .power-off-asked) (some (recorded (numberAt 1 bs 0) (drop 1 bs))) (s .panic)
+    (s .factory) (s .settings) (s .waiting) (s .retained) (s .received) (s .pending) (s .owing))
+
+-- 0x07: cause u16, rest free; recorded; acknowledged
+unfoldable pub panicked : State → List ℕ → Carried
+panicked s bs =
+    replied (state (s .status) (s .options) (s .reboot-asked) (s .power-off-asked) (s .boot-failure) (some (recorded (numberAt 2 bs 0) (drop 2 bs)))
+    (s .factory) (s .settings) (s .waiting) (s .retained) (s .received) (s .pending) (s .owing)) 0x01 []
+
+-- 0x09: clears status bit 0; acknowledged
+unfoldable pub startAcknowledged : State → Carried
+startAcknowledged s =
+    replied (state (clearBit (s .status) 0) (s .options) (s .reboot-asked) (s .power-off-asked) (s .boot-failure) (s .panic)
+    (s .factory) (s .settings) (s .waiting) (s .retained) (s .received) (s .pending) (s .owing)) 0x01 []
+
+-- 0x0a: the retained reply again where it has the request's sequence; else the oldest alert, or action 0 and no data, which is then retained, and
+-- status bit 1 is cleared if none waits
+abbrev pub alertData : Alert → List ℕ
+alertData a = bytes 1 (a .action) ++ a .text
+
+unfoldable pub oldest : List Alert → Alert
+oldest [] = record { action = 0; text = [] }
+oldest (a ∷ rest) = a
+
+abbrev pub others : List Alert → List Alert
+others waiting = drop 1 waiting
+
+abbrev pub statusAfter : ℕ → List Alert → ℕ
+statusAfter status [] = clearBit status 1
+statusAfter status (a ∷ rest) = status
+
+unfoldable pub alertTaken : State → ℕ → Carried
+alertTaken s sequence =
+    replied (state (statusAfter (s .status) (others (s .waiting))) (s .options) (s .reboot-asked) (s .power-off-asked) (s .boot-failure) (s .panic)
+    (s .factory) (s .settings) (others (s .waiting)) (some (record { sequence = sequence; alert = oldest (s .waiting) })) (s .received) (s .pending) (s .owing))
+    0x07 (alertData (oldest (s .waiting)))
+
+unfoldable pub alertAsked : State → ℕ → Option Retained → Carried
+alertAsked s sequence none = alertTaken s sequence
+alertAsked s sequence (some r) = cond (eqb (r .sequence) sequence) (replied s 0x07 (alertData (r .alert))) (alertTaken s sequence)
+
+-- 0x0d: up to 4,096 bytes of the image from the offset, none where the hash is not the start data's or the offset is at or past the end
+unfoldable pub block : Factory → List ℕ → List ℕ → List ℕ
+block f image bs = cond (equal (run 0 32 bs) (f .hash)) (take longest-block (drop (numberAt 8 bs 32) image)) []
+
+-- 0x0f: out of range result 1, name and type zero, no data; a result other than 0 has no data
+abbrev pub itemData : Item → List ℕ
+itemData i = bytes 1 (i .result) ++ (i .name ++ (bytes 1 (i .type) ++ cond (eqb (i .result) 0) (i .payload) []))
+
+unfoldable pub itemOf : List Item → ℕ → Option Item
+itemOf [] n = none
+itemOf (i ∷ is) zero = some i
+itemOf (i ∷ is) (suc n) = itemOf is n
+
+unfoldable pub inventoried : Option Item → List ℕ
+inventoried none = 1 ∷ replicate 33 0
+inventoried (some i) = itemData i
+
+-- 0x10: an invalid key 1, a read-only one 2, too long 3, else 0 and stored
+pub record Stored : Type 0 where
+  pub result : ℕ
+  pub settings : Settings
+
+abbrev pub longest : ℕ → ℕ
+longest key = cond (eqb key 3) longest-key-3 (cond (eqb key 4) longest-key-4 longest-key-5)
+
+unfoldable pub withSetting : Settings → ℕ → List ℕ → Settings
+withSetting s key v =
+    cond (eqb key 3) (record { key-3 = some v; key-4 = s .key-4; key-5 = s .key-5 })
+    (cond (eqb key 4) (record { key-3 = s .key-3; key-4 = some v; key-5 = s .key-5 })
+    (record { key-3 = s .key-3; key-4 = s .key-4; key-5 = some v }))
+
+unfoldable pub stored : Settings → ℕ → List ℕ → Stored
+stored s key v =
+    cond (ltb highest-key key) (record { result = 1; settings = s })
+    (cond (ltb key 3) (record { result = 2; settings = s })
+    (cond (ltb (longest key) (length v)) (record { result = 3; settings = s })
+    (record { result = 0; settings = withSetting s key v })))
+
+unfoldable pub keySet : State → List ℕ → Carried
+keySet s bs =
+    let t = stored (s .settings) (numberAt 1 bs 0) (drop 1 bs) in
+    replied (state (s .status) (s .options) (s .reboot-asked) (s .power-off-asked) (s .boot-failure) (s .panic)
+    (s .factory) (t .settings) (s .waiting) (s .retained) (s .received) (s .pending) (s .owing)) 0x0c (t .result ∷ [])
+
+-- a valid request
+unfoldable pub carried : List ℕ → State → Message → Carried
+carried image s m =
+    cond (eqb (m .command) 0x01) (reboot s)
+    (cond (eqb (m .command) 0x02) (powerOff s)
+    (cond (eqb (m .command) 0x03) (replied s 0x03 (bytes 1 (s .factory .bsu)))
+    (cond (eqb (m .command) 0x04) (replied s 0x04 (s .factory .model ++ (bytes 4 (s .factory .revision) ++ s .factory .serial)))
+    (cond (eqb (m .command) 0x05) (replied s 0x05 (s .factory .base ++ (bytes 2 (s .factory .count) ++ bytes 1 (s .factory .stride))))
+    (cond (eqb (m .command) 0x06) (bootFailure s (m .payload))
+    (cond (eqb (m .command) 0x07) (panicked s (m .payload))
+    (cond (eqb (m .command) 0x08) (replied s 0x06 (bytes 8 (s .status) ++ bytes 8 (s .options)))
+    (cond (eqb (m .command) 0x09) (startAcknowledged s)
+    (cond (eqb (m .command) 0x0a) (alertAsked s (m .sequence) (s .retained))
+    (cond (eqb (m .command) 0x0d) (replied s 0x09 (block (s .factory) image (m .payload)))
+    (cond (eqb (m .command) 0x0e)
+    (let f = lookup s (numberAt 1 (m .payload) 0) (numberAt 2 (m .payload) 1) in replied s 0x0a (f .result ∷ f .value))
+    (cond (eqb (m .command) 0x0f) (replied s 0x0b (inventoried (itemOf (s .factory .items) (numberAt 4 (m .payload) 0))))
+    (keySet s (m .payload))))))))))))))
+
+-- ---- Sending: what is unsent is discarded; a 00 goes first where one is owed, or alone where there is no reply
+
+abbrev pub owed : Bool → List ℕ
+owed owing = cond owing (0 ∷ []) []
+
+unfoldable pub replyFrame : Option Reply → List ℕ
+replyFrame none = []
+replyFrame (some r) = frame (record { version = 1; sequence = r .sequence; command = r .command; payload = r .payload })
+
+unfoldable pub sent : State → Option Reply → State
+sent s reply =
+    state (s .status) (s .options) (s .reboot-asked) (s .power-off-asked) (s .boot-failure) (s .panic) (s .factory) (s .settings)
+    (s .waiting) (s .retained) (s .received) (owed (s .owing) ++ replyFrame reply) (s .owing)
+
+-- the reply to a valid request carries its sequence with the top bit set
+unfoldable pub replyOf : ℕ → Option (ℕ × List ℕ) → Option Reply
+replyOf sequence none = none
+replyOf sequence (some r) = some (record { sequence = topSet sequence; command = r .0; payload = r .1 })
+
+unfoldable pub request : List ℕ → State → Message → Option Reply → State
+request image s m (some f) = sent s (some f)
+request image s m none = let c = carried image s m in sent (c .state) (replyOf (m .sequence) (c .reply))
+
+-- ---- One received byte
+
+abbrev pub receiving : State → Option (List ℕ) → State
+receiving s received =
+    state (s .status) (s .options) (s .reboot-asked) (s .power-off-asked) (s .boot-failure) (s .panic) (s .factory) (s .settings)
+    (s .waiting) (s .retained) received (s .pending) (s .owing)
+
+-- a frame by the tests' verdict on it: a failure changes nothing but the receive progress and the pending reply
+unfoldable pub judged : List ℕ → State → Verdict → State
+judged image s (failure reason sequence) = sent s (some (failedOf reason sequence))
+judged image s (good m) = request image s m (requestFailure m)
+
+-- the 00 behind these bytes; an empty frame is ignored
+unfoldable pub closed : List ℕ → State → Option (List ℕ) → State
+closed image s none = judged image (receiving s (some [])) (failure 1 none)
+closed image s (some []) = s
+closed image s (some (b ∷ bs)) = judged image (receiving s (some [])) (judge (b ∷ bs))
+
+-- one byte more, or one too many
+unfoldable pub more : Option (List ℕ) → ℕ → Option (List ℕ)
+more none b = none
+more (some bs) b = cond (ltb (length bs) longest-form) (some (bs ++ (b ∷ []))) none
+
+unfoldable pub byte : List ℕ → State → ℕ → State
+byte image s b = cond (eqb b 0) (closed image s (s .received)) (receiving s (more (s .received) b))
+
+-- a received stream
+unfoldable pub stream : List ℕ → State → List ℕ → State
+stream image s [] = s
+stream image s (b ∷ bs) = stream image (byte image s b) bs

@@ -1,0 +1,132 @@
+// An alert request: the retained reply again, or the oldest alert.
+// Assumes valid registers, as each `requires` says.
+use crate::sending::send_part;
+use supervisor::layout;
+use supervisor::number::ReplyNumber;
+use supervisor::valid;
+ghost use mathlib.Core.Path.{_≡_};
+ghost use mathlib.Core.Bool.{true, cond};
+ghost use Prim.Native.Nat.{_-_, _≤_, _<_};
+ghost use lib.Dec.{leb};
+ghost use lib.ListN.{length};
+ghost use Rattle.supervisor.specs.Layout.{outbox-length, registers-length, alertCount};
+ghost use Rattle.supervisor.specs.Valid.{validRegisters};
+ghost use Rattle.requests.specs.Requests.{clearBit};
+ghost use Rattle.requests.specs.Receive.{withRetained, withTaken, isRetained, alertRegisters, alertParts, alertAnswered};
+
+// An alert request: the retained reply again, or the oldest alert.
+pub(crate) fn alert(outbox: &mut [u8], registers: &mut [u8], reply: ReplyNumber, sequence: u64)
+    requires { ⌜ outbox-length ≤ length (now outbox) ⌝ }
+    requires { ⌜ validRegisters (now registers) ≡ true ⌝ }
+    ensures { λ _. ⌜ alertParts (now (outbox .exit)) (now (registers .exit)) ≡ alertAnswered (now (outbox .entry)) (now (registers .entry)) (reply .0) sequence ⌝ }
+{
+    settle_alert(registers, sequence);
+    let at = layout::RETAINED_ALERT_PLACE;
+    let n = valid::word_at(registers, at) + 1;
+    send_part(
+        outbox,
+        reply,
+        0x07,
+        registers,
+        at + layout::ALERT_ACTION_PLACE,
+        n,
+    );
+}
+
+// The registers after an alert request: as they are where its reply is retained.
+fn settle_alert(registers: &mut [u8], sequence: u64)
+    requires { ⌜ validRegisters (now registers) ≡ true ⌝ }
+    ensures { λ _. ⌜ now (registers .exit) ≡ alertRegisters (now (registers .entry)) sequence ⌝ }
+{
+    if is_retained(registers, sequence) {
+        return;
+    }
+    take_alert(registers, sequence);
+}
+
+fn is_retained(registers: &[u8], sequence: u64) -> bool
+    ensures { λ r. ⌜ r ≡ isRetained (now (registers .entry)) sequence ⌝ }
+{
+    if valid::byte_at(registers, layout::RETAINED_PLACE) != 1 {
+        return false;
+    }
+    octets::read_u64(registers, layout::RETAINED_SEQUENCE_PLACE) == sequence
+}
+
+// The oldest alert, or none, is retained with the request's sequence, and the others move down.
+fn take_alert(registers: &mut [u8], sequence: u64)
+    requires { ⌜ validRegisters (now registers) ≡ true ⌝ }
+    ensures { λ _. ⌜ now (registers .exit) ≡ withTaken (now (registers .entry)) sequence ⌝ }
+{
+    let count = valid::byte_at(registers, layout::ALERT_COUNT_PLACE);
+    let status = octets::read_u64(registers, layout::STATUS_PLACE);
+    retain(registers, count, sequence);
+    octets::move_down(
+        registers,
+        layout::ALERTS_PLACE + layout::ALERT_LENGTH,
+        layout::ALERTS_PLACE,
+        (layout::MOST_ALERTS - 1) * layout::ALERT_LENGTH,
+    );
+    registers[layout::ALERT_COUNT_PLACE] = one_less(count);
+    octets::write_u64(registers, layout::STATUS_PLACE, status_after(count, status));
+}
+
+fn one_less(count: usize) -> u8
+    requires { ⌜ count < 256 ⌝ }
+    ensures { λ r. ⌜ r ≡ count - 1 ⌝ }
+{
+    if count == 0 {
+        return 0;
+    }
+    (count - 1) as u8
+}
+
+// Status bit 1 is cleared where none of the alerts that waited is left.
+fn status_after(count: usize, status: u64) -> u64
+    ensures { λ r. ⌜ r ≡ cond (leb count 1) (clearBit status 1) status ⌝ }
+{
+    if count <= 1 {
+        return without_bit_1(status);
+    }
+    status
+}
+
+fn without_bit_1(status: u64) -> u64
+    ensures { λ r. ⌜ r ≡ clearBit status 1 ⌝ }
+{
+    if status / 2 % 2 == 1 {
+        status - 2
+    } else {
+        status
+    }
+}
+
+// The oldest of so many alerts, or action 0 and no text, with the request's sequence.
+fn retain(registers: &mut [u8], count: usize, sequence: u64)
+    requires { ⌜ registers-length ≤ length (now registers) ⌝ }
+    requires { ⌜ count ≡ alertCount (now registers) ⌝ }
+    ensures { λ _. ⌜ now (registers .exit) ≡ withRetained (now (registers .entry)) sequence ⌝ }
+{
+    registers[layout::RETAINED_PLACE] = 1;
+    octets::write_u64(registers, layout::RETAINED_SEQUENCE_PLACE, sequence);
+    if count == 0 {
+        octets::write_u16(registers, layout::RETAINED_ALERT_PLACE, 0);
+        registers[layout::RETAINED_ALERT_PLACE + layout::ALERT_ACTION_PLACE] = 0;
+        return;
+    }
+    let mut oldest = [0u8; layout::ALERT_LENGTH];
+    octets::copy(
+        registers,
+        layout::ALERTS_PLACE,
+        layout::ALERT_LENGTH,
+        &mut oldest,
+        0,
+    );
+    octets::copy(
+        &oldest,
+        0,
+        layout::ALERT_LENGTH,
+        registers,
+        layout::RETAINED_ALERT_PLACE,
+    );
+}

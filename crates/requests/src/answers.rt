@@ -1,0 +1,145 @@
+// Requests that change no more than the pending reply.
+// Assumes valid parts, as each `requires` says.
+use crate::sending::send;
+use crate::sending::send_part;
+use supervisor::keys;
+use supervisor::layout;
+use supervisor::number::ReplyNumber;
+use supervisor::valid;
+ghost use mathlib.Core.Path.{_≡_};
+ghost use mathlib.Core.Bool.{true};
+ghost use Prim.Native.Nat.{_≤_, _<_};
+ghost use lib.ListN.{length};
+ghost use Rattle.supervisor.specs.Layout.{outbox-length};
+ghost use Rattle.supervisor.specs.Valid.{validFactory, validSettings, validRegisters};
+ghost use Rattle.requests.specs.Receive.{itemDataLength, itemBytes, blockBytes, valueBytes, askedBytes, sentBox, replyBytes};
+
+// A valid request that changes no more than the pending reply.
+pub(crate) fn ask<'a>(
+    image: &[u8],
+    factory: &'a [u8],
+    data: &[u8],
+    reply: ReplyNumber,
+    command: u8,
+    outbox: &mut [u8],
+    settings: &'a [u8],
+    registers: &[u8],
+)
+    requires { ⌜ outbox-length ≤ length (now outbox) ⌝ }
+    requires { ⌜ validFactory (now factory) ≡ true ⌝ }
+    requires { ⌜ validSettings (now settings) ≡ true ⌝ }
+    requires { ⌜ validRegisters (now registers) ≡ true ⌝ }
+    ensures { λ _. ⌜ now (outbox .exit) ≡ sentBox (askedBytes (now (image .entry)) (now (factory .entry)) (now (settings .entry)) (now (registers .entry)) (reply .0) command (now («data» .entry))) (now (outbox .entry)) ⌝ }
+{
+    if command == 0x03 {
+        send_part(outbox, reply, 0x03, factory, layout::BSU_PLACE, 1);
+        return;
+    }
+    if command == 0x04 {
+        send_part(outbox, reply, 0x04, factory, layout::IDENTITY_PLACE, 26);
+        return;
+    }
+    if command == 0x05 {
+        send_part(outbox, reply, 0x05, factory, layout::MAC_PLACE, 9);
+        return;
+    }
+    if command == 0x08 {
+        send_part(outbox, reply, 0x06, registers, layout::STATUS_PLACE, 16);
+        return;
+    }
+    if command == 0x0d {
+        send_block(outbox, reply, factory, image, data);
+        return;
+    }
+    if command == 0x0e {
+        send_value(outbox, reply, factory, settings, data);
+        return;
+    }
+    send_item(outbox, reply, factory, octets::read_u32(data, 0) as usize);
+}
+
+// A block of the image: hash[32], offset u64.
+fn send_block(outbox: &mut [u8], reply: ReplyNumber, factory: &[u8], image: &[u8], data: &[u8])
+    requires { ⌜ outbox-length ≤ length (now outbox) ⌝ }
+    requires { ⌜ validFactory (now factory) ≡ true ⌝ }
+    ensures { λ _. ⌜ now (outbox .exit) ≡ sentBox (replyBytes (reply .0) 0x09 (blockBytes (now (factory .entry)) (now (image .entry)) (now («data» .entry)))) (now (outbox .entry)) ⌝ }
+{
+    if !octets::same(data, 0, factory, layout::HASH_PLACE, 32) {
+        send_part(outbox, reply, 0x09, image, 0, 0);
+        return;
+    }
+    let offset = octets::read_u64(data, 32) as usize;
+    send(
+        outbox,
+        reply,
+        0x09,
+        &image[0..0],
+        keys::part(
+            image,
+            offset,
+            layout::LONGEST_BLOCK,
+            layout::LONGEST_BLOCK as u16,
+        ),
+    );
+}
+
+// A lookup: key u8, maxresponse u16.
+fn send_value<'a>(
+    outbox: &mut [u8],
+    reply: ReplyNumber,
+    factory: &'a [u8],
+    settings: &'a [u8],
+    data: &[u8],
+)
+    requires { ⌜ outbox-length ≤ length (now outbox) ⌝ }
+    requires { ⌜ validFactory (now factory) ≡ true ⌝ }
+    requires { ⌜ validSettings (now settings) ≡ true ⌝ }
+    ensures { λ _. ⌜ now (outbox .exit) ≡ sentBox (replyBytes (reply .0) 0x0a (valueBytes (now (factory .entry)) (now (settings .entry)) (now («data» .entry)))) (now (outbox .entry)) ⌝ }
+{
+    let key = octets::read_u8(data, 0);
+    let most = octets::read_u16(data, 1);
+    let result = [keys::result_number(factory, settings, key, most)];
+    send(
+        outbox,
+        reply,
+        0x0a,
+        &result[0..1],
+        keys::lookup(factory, settings, key, most),
+    );
+}
+
+// An inventory item by its index.
+fn send_item(outbox: &mut [u8], reply: ReplyNumber, factory: &[u8], index: usize)
+    requires { ⌜ outbox-length ≤ length (now outbox) ⌝ }
+    requires { ⌜ validFactory (now factory) ≡ true ⌝ }
+    ensures { λ _. ⌜ now (outbox .exit) ≡ sentBox (replyBytes (reply .0) 0x0b (itemBytes (now (factory .entry)) index)) (now (outbox .entry)) ⌝ }
+{
+    let count = octets::read_u32(factory, layout::ITEM_COUNT_PLACE) as usize;
+    if count <= index {
+        let result = [1u8];
+        let nothing = [0u8; 33];
+        send(outbox, reply, 0x0b, &result[0..1], &nothing[0..33]);
+        return;
+    }
+    let at = layout::ITEMS_PLACE + index * layout::ITEM_LENGTH;
+    let from = at + layout::ITEM_DATA_PLACE;
+    let n = item_data_length(factory, at);
+    send(
+        outbox,
+        reply,
+        0x0b,
+        &factory[at..at + layout::ITEM_DATA_LENGTH_PLACE],
+        &factory[from..from + n],
+    );
+}
+
+// How many bytes of data the reply for the item at a place has: those of a result 0.
+fn item_data_length(factory: &[u8], at: usize) -> usize
+    requires { ⌜ at < 65536 ⌝ }
+    ensures { λ r. ⌜ r ≡ itemDataLength (now (factory .entry)) at ⌝ }
+{
+    if valid::byte_at(factory, at) == 0 {
+        return valid::byte_at(factory, at + layout::ITEM_DATA_LENGTH_PLACE);
+    }
+    0
+}

@@ -1,0 +1,190 @@
+// Requests: the supervisor's tests on a message, and what each valid request does.
+// Assumes valid parts, as each `requires` says.
+use crate::alert::alert;
+use crate::answers::ask;
+use crate::records::clear_start;
+use crate::records::set_record;
+use crate::sending::acknowledge;
+use crate::sending::fail;
+use crate::sending::send_none;
+use crate::settings::set_key;
+use supervisor::layout;
+use supervisor::number;
+use supervisor::number::ReplyNumber;
+use supervisor::number::RequestNumber;
+ghost use mathlib.Core.Path.{_≡_};
+ghost use mathlib.Core.Bool.{true};
+ghost use Prim.Native.Nat.{_≤_};
+ghost use lib.ListN.{length};
+ghost use Rattle.line.specs.Limits.{longest-data};
+ghost use Rattle.supervisor.specs.Layout.{outbox-length};
+ghost use Rattle.supervisor.specs.Valid.{validFactory, validSettings, validRegisters};
+ghost use Rattle.requests.specs.Requests.{known, lengthAllowed};
+ghost use Rattle.requests.specs.Receive.{inner, carriedInner, requestInner};
+
+const ALL_ONES: u64 = 0xffffffffffffffff;
+
+// A message that the line layer found good: failure 5, 6, 3 or 7, or what the request does.
+fn request(
+    image: &[u8],
+    factory: &[u8],
+    data: &[u8],
+    version: u32,
+    sequence: u64,
+    command: u8,
+    outbox: &mut [u8],
+    settings: &mut [u8],
+    registers: &mut [u8],
+)
+    requires { ⌜ outbox-length ≤ length (now outbox) ⌝ }
+    requires { ⌜ validFactory (now factory) ≡ true ⌝ }
+    requires { ⌜ validSettings (now settings) ≡ true ⌝ }
+    requires { ⌜ validRegisters (now registers) ≡ true ⌝ }
+    requires { ⌜ length (now «data») ≤ longest-data ⌝ }
+    ensures { λ _. ⌜ inner (now (outbox .exit)) (now (settings .exit)) (now (registers .exit)) ≡ requestInner (now (image .entry)) (now (factory .entry)) (inner (now (outbox .entry)) (now (settings .entry)) (now (registers .entry))) version sequence command (now («data» .entry)) ⌝ }
+{
+    let reply = number::reply_to(RequestNumber(sequence));
+    if version != 1 {
+        fail(outbox, reply, 5);
+        return;
+    }
+    if 0x8000000000000000 <= sequence {
+        fail(outbox, reply, 6);
+        return;
+    }
+    if !is_known(command) {
+        fail(outbox, ReplyNumber(ALL_ONES), 3);
+        return;
+    }
+    if !length_is_allowed(command, data.len()) {
+        fail(outbox, reply, 7);
+        return;
+    }
+    carry(
+        image,
+        factory,
+        data,
+        sequence,
+        command,
+        outbox,
+        settings,
+        registers,
+    );
+}
+
+// Whether a command is among those of document 01.
+fn is_known(command: u8) -> bool
+    ensures { λ r. ⌜ r ≡ known command ⌝ }
+{
+    if command < 0x01 {
+        return false;
+    }
+    if command <= 0x0a {
+        return true;
+    }
+    if command < 0x0d {
+        return false;
+    }
+    command <= 0x10
+}
+
+fn length_is_allowed(command: u8, n: usize) -> bool
+    ensures { λ r. ⌜ r ≡ lengthAllowed command n ⌝ }
+{
+    if command == 0x06 {
+        return 1 <= n;
+    }
+    if command == 0x07 {
+        return 2 <= n;
+    }
+    if command == 0x0d {
+        return n == 40;
+    }
+    if command == 0x0e {
+        return n == 3;
+    }
+    if command == 0x0f {
+        return n == 4;
+    }
+    if command == 0x10 {
+        return 1 <= n;
+    }
+    n == 0
+}
+
+// What a valid request does.
+fn carry(
+    image: &[u8],
+    factory: &[u8],
+    data: &[u8],
+    sequence: u64,
+    command: u8,
+    outbox: &mut [u8],
+    settings: &mut [u8],
+    registers: &mut [u8],
+)
+    requires { ⌜ outbox-length ≤ length (now outbox) ⌝ }
+    requires { ⌜ validFactory (now factory) ≡ true ⌝ }
+    requires { ⌜ validSettings (now settings) ≡ true ⌝ }
+    requires { ⌜ validRegisters (now registers) ≡ true ⌝ }
+    requires { ⌜ length (now «data») ≤ longest-data ⌝ }
+    requires { ⌜ lengthAllowed command (length (now «data»)) ≡ true ⌝ }
+    ensures { λ _. ⌜ inner (now (outbox .exit)) (now (settings .exit)) (now (registers .exit)) ≡ carriedInner (now (image .entry)) (now (factory .entry)) (inner (now (outbox .entry)) (now (settings .entry)) (now (registers .entry))) sequence command (now («data» .entry)) ⌝ }
+{
+    let reply = number::reply_to(RequestNumber(sequence));
+    if command == 0x01 {
+        registers[layout::REBOOT_PLACE] = 1;
+        send_none(outbox);
+        return;
+    }
+    if command == 0x02 {
+        registers[layout::POWER_OFF_PLACE] = 1;
+        send_none(outbox);
+        return;
+    }
+    if command == 0x06 {
+        set_record(
+            registers,
+            layout::BOOT_FAILURE_PLACE,
+            octets::read_u8(data, 0) as u16,
+            data,
+            1,
+        );
+        send_none(outbox);
+        return;
+    }
+    if command == 0x10 {
+        set_key(outbox, settings, reply, data);
+        return;
+    }
+    if command == 0x0a {
+        alert(outbox, registers, reply, sequence);
+        return;
+    }
+    if command == 0x07 {
+        set_record(
+            registers,
+            layout::PANIC_PLACE,
+            octets::read_u16(data, 0),
+            data,
+            2,
+        );
+        acknowledge(outbox, reply);
+        return;
+    }
+    if command == 0x09 {
+        clear_start(registers);
+        acknowledge(outbox, reply);
+        return;
+    }
+    ask(
+        image,
+        factory,
+        data,
+        reply,
+        command,
+        outbox,
+        settings,
+        registers,
+    );
+}

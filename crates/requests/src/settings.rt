@@ -1,0 +1,59 @@
+// A key set: the value of a key in the settings store.
+// Assumes that the store has its published length, as each `requires` says.
+use crate::sending::send_byte;
+use supervisor::layout;
+use supervisor::number::ReplyNumber;
+ghost use mathlib.Core.Path.{_≡_};
+ghost use Prim.Native.Nat.{_+_, _≤_, _<_};
+ghost use lib.ListN.{length, drop};
+ghost use Rattle.supervisor.specs.Layout.{outbox-length, settings-length, setting-value-place};
+ghost use Rattle.requests.specs.Receive.{keyStored, storing, storingAt, keySetParts, keySetAnswered};
+
+// A key set: key u8, rest the value.
+pub(crate) fn set_key(outbox: &mut [u8], settings: &mut [u8], reply: ReplyNumber, data: &[u8])
+    requires { ⌜ outbox-length ≤ length (now outbox) ⌝ }
+    requires { ⌜ settings-length ≤ length (now settings) ⌝ }
+    requires { ⌜ 1 ≤ length (now «data») ⌝ }
+    ensures { λ _. ⌜ keySetParts (now (outbox .exit)) (now (settings .exit)) ≡ keySetAnswered (now (outbox .entry)) (now (settings .entry)) (reply .0) (now («data» .entry)) ⌝ }
+{
+    let result = store(settings, octets::read_u8(data, 0), data);
+    send_byte(outbox, reply, 0x0c, result);
+}
+
+// Stores the data behind the key, and answers the result.
+fn store(settings: &mut [u8], key: u8, data: &[u8]) -> u8
+    requires { ⌜ settings-length ≤ length (now settings) ⌝ }
+    requires { ⌜ 1 ≤ length (now «data») ⌝ }
+    ensures { λ r. ⌜ keyStored r (now (settings .exit)) ≡ storing (now (settings .entry)) key (drop 1 (now («data» .entry))) ⌝ }
+{
+    if layout::HIGHEST_KEY < key {
+        return 1;
+    }
+    if key < 3 {
+        return 2;
+    }
+    if key == 3 {
+        return store_at(settings, layout::KEY_3_PLACE, layout::LONGEST_KEY_3, data);
+    }
+    if key == 4 {
+        return store_at(settings, layout::KEY_4_PLACE, layout::LONGEST_KEY_4, data);
+    }
+    store_at(settings, layout::KEY_5_PLACE, layout::LONGEST_KEY_5, data)
+}
+
+// Stores the data behind the key in the setting at a place, if they are not too long.
+fn store_at(settings: &mut [u8], at: usize, most: usize, data: &[u8]) -> u8
+    requires { ⌜ at + (setting-value-place + most) ≤ length (now settings) ⌝ }
+    requires { ⌜ most < 65536 ⌝ }
+    requires { ⌜ 1 ≤ length (now «data») ⌝ }
+    ensures { λ r. ⌜ keyStored r (now (settings .exit)) ≡ storingAt (now (settings .entry)) at most (drop 1 (now («data» .entry))) ⌝ }
+{
+    let n = data.len() - 1;
+    if most < n {
+        return 3;
+    }
+    settings[at] = 1;
+    octets::write_u16(settings, at + layout::SETTING_LENGTH_PLACE, n as u16);
+    octets::copy(data, 1, n, settings, at + layout::SETTING_VALUE_PLACE);
+    0
+}

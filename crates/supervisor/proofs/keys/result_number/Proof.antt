@@ -1,0 +1,33 @@
+-- `supervisor::keys::result_number` meets its contract.
+-- Assumes nothing.
+use borrow.Author.Needs.{needs}
+use Rattle.supervisor.specs.Calls.{lookupSaid}
+use Rattle.supervisor.proofs.keys.result_number.Statement.{statement}
+use Rattle.supervisor.proofs.keys.result_number.Tie as tie
+
+returns : tie.Need-returns
+unfolding lookupSaid
+returns c = rw (← c .before .before .lookup-result .ensures, c .enum-told .given .1)
+
+returns-2 : tie.Need-returns-2
+unfolding lookupSaid
+returns-2 c = rw (← c .before .before .lookup-result .ensures, c .enum-told2 .given .1)
+
+returns-3 : tie.Need-returns-3
+unfolding lookupSaid
+returns-3 c = rw (← c .before .before .lookup-result .ensures, c .enum-told3 .given .1)
+
+returns-4 : tie.Need-returns-4
+unfolding lookupSaid
+returns-4 c = rw (← c .before .before .lookup-result .ensures, c .enum-told4 .given .1)
+
+returns-5 : tie.Need-returns-5
+unfolding lookupSaid
+returns-5 c = rw (← c .before .before .lookup-result .ensures, c .enum-told5 .given .1)
+
+pub result-number-spec : {M : Type 1} → statement M
+result-number-spec =
+    tie.close
+    (tie.spec
+    (λ c κs. search needs) (λ c. search needs) (λ c. search needs) (λ c. search needs) (λ c. search needs)
+    (λ c. search needs) returns returns-2 returns-3 returns-4 returns-5)
