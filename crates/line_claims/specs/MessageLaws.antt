@@ -18,16 +18,16 @@ use Rattle.line.specs.Judge.{bodyOf, checksumOf, magicOf, fields}
 
 -- ---- bytes
 
-pub body-each : (m : Message) → InRange m → Each Byte (body m)
+pub body-each : (m : Message) → Each Byte (m .payload) → Each Byte (body m)
 unfolding body
-body-each m r = field 4 _ _ (field 4 _ _ (field 8 _ _ (field 1 _ _ (r .typed .payload))))
+body-each m h = field 4 _ _ (field 4 _ _ (field 8 _ _ (field 1 _ _ h)))
   where
     field : (k v : ℕ) (xs : List ℕ) → Each Byte xs → Each Byte (bytes k v ++ xs)
     field k v xs h = each-append Byte (bytes k v) xs (bytes-each k v) h
 
-pub message-each : (m : Message) → InRange m → Each Byte (message m)
+pub message-each : (m : Message) → Each Byte (m .payload) → Each Byte (message m)
 unfolding message
-message-each m r = each-append Byte (body m) _ (body-each m r) (bytes-each 2 _)
+message-each m h = each-append Byte (body m) _ (body-each m h) (bytes-each 2 _)
 
 -- ---- the parts, read back
 

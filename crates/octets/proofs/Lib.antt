@@ -4,4 +4,6 @@ pub mod Each
 pub mod Equal
 pub mod Numbers
 pub mod Overlay
+pub mod Parts
+pub mod SameBytes
 pub mod Conditions

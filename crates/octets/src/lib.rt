@@ -1,7 +1,8 @@
 // Runs of bytes and little-endian numbers on lent slices. Every function is total: a byte past the
 // end reads as 0, and nothing is written where it does not fit.
 ghost use mathlib.Core.Path.{_≡_};
-ghost use Rattle.octets.specs.Bytes.{bytes, numberAt, put, copied, movedDown, sameRun};
+ghost use Prim.Native.Nat.{_<_};
+ghost use Rattle.octets.specs.Bytes.{bytes, run, numberAt, put, copied, movedDown, sameRun};
 
 // The byte at a place.
 pub fn read_u8(s: &[u8], at: usize) -> u8
@@ -44,6 +45,32 @@ pub fn read_u64(s: &[u8], at: usize) -> u64
     let low = read_u32(s, at);
     let high = read_u32(s, at + 4);
     low as u64 + high as u64 * 4294967296
+}
+
+// The numbers of one byte and of two bytes at a place, as an index.
+pub fn byte_at(s: &[u8], at: usize) -> usize
+    ensures { λ r. ⌜ (r ≡ numberAt 1 (now (s .entry)) at) × (r < 256) ⌝ }
+{
+    read_u8(s, at) as usize
+}
+
+pub fn word_at(s: &[u8], at: usize) -> usize
+    ensures { λ r. ⌜ (r ≡ numberAt 2 (now (s .entry)) at) × (r < 65536) ⌝ }
+{
+    read_u16(s, at) as usize
+}
+
+// The n bytes from a place on, or as many as there are.
+pub fn part<'a>(s: &'a [u8], at: usize, n: usize) -> &'a [u8]
+    ensures { λ r. ⌜ now r ≡ run at n (now (s .entry)) ⌝ }
+{
+    if s.len() < at {
+        return &s[0..0];
+    }
+    if s.len() - at < n {
+        return &s[at..];
+    }
+    &s[at..at + n]
 }
 
 pub fn write_u16(s: &mut [u8], at: usize, v: u16)

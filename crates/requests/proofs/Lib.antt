@@ -4,3 +4,5 @@ pub mod SendingLaws
 pub mod RecordLaws
 pub mod TakenLaws
 pub mod ReceiveLaws
+pub mod KeptLaws
+pub mod TurnLaws

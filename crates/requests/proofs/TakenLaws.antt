@@ -124,7 +124,7 @@ module _ (r : List ℕ) (sequence : ℕ) (v : validRegisters r ≡ true) where
         text = rw (overlay-part Layout.retained-place 9 2 (head ++ zs) r (omega arith) (omega arith), drop-at head zs 9 (length-marked 8 sequence)) h;
       })
 
-  retained-settled : Settled r (withRetained r sequence)
+  pub retained-settled : Settled r (withRetained r sequence)
   unfolding withRetained
   retained-settled =
       let g = registers-valid r v in

@@ -9,6 +9,7 @@ use lib.ListN.{length, take, drop, replicate}
 use Rattle.octets.specs.Bytes.{bytes, run, numberAt, overlay, equal}
 use Rattle.line.specs.Message.{Message}
 use Rattle.line.specs.Frame.{frame}
+use Rattle.line.specs.Judge.{Verdict, failure, good}
 use Rattle.line.specs.Reader as LineReader
 use Rattle.supervisor.specs.Limits
 use Rattle.supervisor.specs.Layout
@@ -16,6 +17,11 @@ use Rattle.supervisor.specs.Number.{topSet}
 use Rattle.supervisor.specs.Valid.{validOutbox, validFactory, validSettings, validRegisters}
 use Rattle.requests.specs.Requests
 use Rattle.supervisor.specs.Calls.{Parts, resultNumber, lookupResult, lookupValue}
+use Rattle.requests.specs.declared.receive.Outcome.{Outcome}
+use Rattle.requests.specs.declared.receive.Outcome.the-variants as outcome
+use Rattle.requests.specs.declared.receive.Stepped.{Stepped}
+use Rattle.requests.specs.declared.receive.Received.{Received}
+use Rattle.requests.specs.declared.receive.Received.the-variants as received
 
 -- ---- Sending
 
@@ -171,19 +177,27 @@ carriedInner image f i sequence command d =
     (acknowledged i (topSet sequence) (overlay Layout.status-place (bytes 8 (Requests.clearBit (Layout.statusOf (i .registers)) 0)) (i .registers)))
     (inner (sentBox (askedBytes image f (i .settings) (i .registers) (topSet sequence) command d) (i .outbox)) (i .settings) (i .registers))))))))
 
--- ---- A message, by the supervisor's tests
+-- ---- A frame, by the table's verdict on it
 
-unfoldable pub requestInner : List ℕ → List ℕ → Inner → ℕ → ℕ → ℕ → List ℕ → Inner
-requestInner image f i version sequence command d =
-    cond (eqb version 1)
-    (cond (ltb sequence (2 ^ 63))
-    (cond (Requests.known command)
-    (cond (Requests.lengthAllowed command (length d))
-    (carriedInner image f i sequence command d)
-    (answering i (topSet sequence) 0x02 (7 ∷ [])))
-    (answering i Requests.all-ones 0x02 (3 ∷ [])))
-    (answering i (topSet sequence) 0x02 (6 ∷ [])))
-    (answering i (topSet sequence) 0x02 (5 ∷ []))
+unfoldable pub innerBy : List ℕ → List ℕ → Inner → Verdict → Inner
+innerBy image f i (failure reason sequence) = answering i (Requests.failureSequence sequence) 0x02 (bytes 1 reason)
+innerBy image f i (good m) = carriedInner image f i (m .sequence) (m .command) (m .payload)
+
+abbrev pub messageBy : ℕ → ℕ → ℕ → List ℕ → Message
+messageBy version sequence command d = record { version = version; sequence = sequence; command = command; payload = d }
+
+-- the table's verdict by the line reader's answer and the state that it left; none where no frame ended that is not empty
+unfoldable pub verdictOf : List ℕ → LineReader.Said → Option Verdict
+verdictOf reader (LineReader.refused n) = none
+verdictOf reader LineReader.more = none
+verdictOf reader LineReader.empty = none
+verdictOf reader (LineReader.failed reason sequence) = some (failure reason sequence)
+verdictOf reader (LineReader.message version sequence command n) =
+    some (Requests.tested (messageBy version sequence command (LineReader.dataOf reader n)))
+
+unfoldable pub innerAfter : List ℕ → List ℕ → Inner → Option Verdict → Inner
+innerAfter image f i none = i
+innerAfter image f i (some v) = innerBy image f i v
 
 -- ---- One byte
 
@@ -193,18 +207,9 @@ partsWith p reader i = record { reader = reader; outbox = i .outbox; factory = p
 abbrev pub innerOf : Parts → Inner
 innerOf p = inner (p .outbox) (p .settings) (p .registers)
 
-abbrev pub failureSequence : Option ℕ → ℕ
-failureSequence none = Requests.all-ones
-failureSequence (some q) = topSet q
-
--- by the line reader's answer to a 00 and the state that it left
+-- by the line reader's answer and the state that it left
 unfoldable pub answered : List ℕ → Parts → List ℕ → LineReader.Said → Parts
-answered image p reader (LineReader.refused n) = partsWith p reader (innerOf p)
-answered image p reader LineReader.more = partsWith p reader (innerOf p)
-answered image p reader LineReader.empty = partsWith p reader (innerOf p)
-answered image p reader (LineReader.failed reason sequence) = partsWith p reader (answering (innerOf p) (failureSequence sequence) 0x02 (bytes 1 reason))
-answered image p reader (LineReader.message version sequence command n) =
-    partsWith p reader (requestInner image (p .factory) (innerOf p) version sequence command (LineReader.dataOf reader n))
+answered image p reader a = partsWith p reader (innerAfter image (p .factory) (innerOf p) (verdictOf reader a))
 
 unfoldable pub feed : List ℕ → Parts → ℕ → Parts
 feed image p b =
@@ -212,13 +217,75 @@ feed image p b =
     (answered image p (LineReader.finish (p .reader) .state) (LineReader.finish (p .reader) .answer))
     (partsWith p (LineReader.pushed (p .reader) b) (innerOf p))
 
--- ---- The call
-
+-- bytes, one after the other
 unfoldable pub fed : List ℕ → Parts → List ℕ → Parts
 fed image p [] = p
 fed image p (b ∷ bs) = fed image (feed image p b) bs
 
+-- ---- The calls
+
+-- what 12 asks of the parts that a request may change, and of all parts
+unfoldable pub validInner : Inner → Bool
+validInner i = validOutbox (i .outbox) && (validSettings (i .settings) && validRegisters (i .registers))
+
 unfoldable pub validParts : Parts → Bool
-validParts p =
-    LineReader.valid (p .reader)
-    && (validOutbox (p .outbox) && (validFactory (p .factory) && (validSettings (p .settings) && validRegisters (p .registers))))
+validParts p = LineReader.valid (p .reader) && (validFactory (p .factory) && validInner (innerOf p))
+
+-- what a call of `step` says: no 00 came, an empty frame, a valid request, a failure by its reason, or the table's number
+pub data Ended : Type 0 where
+  refused : ℕ → Ended
+  more : Ended
+  empty : Ended
+  request : Ended
+  failed : ℕ → Ended
+
+unfoldable pub endedSaid : Outcome → Ended
+endedSaid outcome.Refused = Ended.refused 12
+endedSaid outcome.More = Ended.more
+endedSaid outcome.Empty = Ended.empty
+endedSaid outcome.Request = request
+endedSaid (outcome.Failure reason) = Ended.failed reason
+
+abbrev pub endedBy : Verdict → Ended
+endedBy (failure reason sequence) = Ended.failed reason
+endedBy (good m) = request
+
+unfoldable pub ended : List ℕ → LineReader.Said → Ended
+ended reader (LineReader.refused n) = Ended.refused n
+ended reader LineReader.more = Ended.more
+ended reader LineReader.empty = Ended.empty
+ended reader (LineReader.failed reason sequence) = Ended.failed reason
+ended reader (LineReader.message version sequence command n) =
+    endedBy (Requests.tested (messageBy version sequence command (LineReader.dataOf reader n)))
+
+-- a call of `step` reads its piece to the end, or up to and with its first 00
+pub record StepDone : Type 0 where
+  pub used : ℕ
+  pub ended : Ended
+  pub parts : Parts
+
+abbrev pub stepOf : Stepped → Parts → StepDone
+stepOf r p = record { used = r .used; ended = endedSaid (r .outcome); parts = p }
+
+unfoldable pub turned : List ℕ → Parts → List ℕ → StepDone
+turned image p piece =
+    let o = LineReader.readPiece (p .reader) piece in
+    record { used = o .used; ended = ended (o .state) (o .answer); parts = answered image p (o .state) (o .answer) }
+
+unfoldable pub stepping : List ℕ → Parts → List ℕ → StepDone
+stepping image p piece = cond (validParts p) (turned image p piece) (record { used = 0; ended = Ended.refused 12; parts = p })
+
+-- a call of `receive` reads its whole piece; the table's number of a refusal, none where it is carried out
+pub record Receipt : Type 0 where
+  pub refusal : Option ℕ
+  pub parts : Parts
+
+unfoldable pub receiptSaid : Received → Option ℕ
+receiptSaid received.Done = none
+receiptSaid received.Refused = some 12
+
+abbrev pub receiptOf : Received → Parts → Receipt
+receiptOf r p = record { refusal = receiptSaid r; parts = p }
+
+unfoldable pub receiving : List ℕ → Parts → List ℕ → Receipt
+receiving image p piece = cond (validParts p) (record { refusal = none; parts = fed image p piece }) (record { refusal = some 12; parts = p })

@@ -32,7 +32,25 @@ lengthAllowed c n =
     (cond (eqb c 0x10) (leb 1 n)
     (eqb n 0))))))
 
--- the reply to a failure: its reason, and the request's sequence with the top bit set or all ones
+-- what the table makes of a message that the line layer found good: version 5, top bit of the sequence 6, command 3, data length 7
+unfoldable pub tested : Message → Verdict
+tested m =
+    cond (not (eqb (m .version) 1)) (failure 5 (some (m .sequence)))
+    (cond (leb (2 ^ 63) (m .sequence)) (failure 6 (some (m .sequence)))
+    (cond (not (known (m .command))) (failure 3 none)
+    (cond (not (lengthAllowed (m .command) (length (m .payload)))) (failure 7 (some (m .sequence)))
+    (good m))))
+
+-- the whole table, on the bytes before a 00
+abbrev pub testedWhere : Verdict → Verdict
+testedWhere (failure reason sequence) = failure reason sequence
+testedWhere (good m) = tested m
+
+unfoldable pub verdict : List ℕ → Verdict
+verdict form = testedWhere (judge form)
+
+-- ---- Replies
+
 pub record Reply : Type 0 where
   pub sequence : ℕ
   pub command : ℕ
@@ -41,21 +59,14 @@ pub record Reply : Type 0 where
 abbrev pub all-ones : ℕ
 all-ones = 0xffffffffffffffff
 
-abbrev pub failed : ℕ → ℕ → Reply
-failed reason sequence = record { sequence = sequence; command = 0x02; payload = reason ∷ [] }
+-- the sequence of a failure's reply: the request's with the top bit set, or all ones
+abbrev pub failureSequence : Option ℕ → ℕ
+failureSequence none = all-ones
+failureSequence (some sequence) = topSet sequence
 
+-- the reply to a failure
 unfoldable pub failedOf : ℕ → Option ℕ → Reply
-failedOf reason none = failed reason all-ones
-failedOf reason (some sequence) = failed reason (topSet sequence)
-
--- the failure that a good message earns as a request: version 5, top bit 6, command 3, data length 7; none where it is valid
-unfoldable pub requestFailure : Message → Option Reply
-requestFailure m =
-    cond (not (eqb (m .version) 1)) (some (failed 5 (topSet (m .sequence))))
-    (cond (leb (2 ^ 63) (m .sequence)) (some (failed 6 (topSet (m .sequence))))
-    (cond (not (known (m .command))) (some (failed 3 all-ones))
-    (cond (not (lengthAllowed (m .command) (length (m .payload)))) (some (failed 7 (topSet (m .sequence))))
-    none)))
+failedOf reason sequence = record { sequence = failureSequence sequence; command = 0x02; payload = reason ∷ [] }
 
 -- ---- What a valid request does: the state, and the reply's command and data, or none
 
@@ -213,10 +224,6 @@ unfoldable pub replyOf : ℕ → Option (ℕ × List ℕ) → Option Reply
 replyOf sequence none = none
 replyOf sequence (some r) = some (record { sequence = topSet sequence; command = r .0; payload = r .1 })
 
-unfoldable pub request : List ℕ → State → Message → Option Reply → State
-request image s m (some f) = sent s (some f)
-request image s m none = let c = carried image s m in sent (c .state) (replyOf (m .sequence) (c .reply))
-
 -- ---- One received byte
 
 abbrev pub receiving : State → Option (List ℕ) → State
@@ -224,16 +231,16 @@ receiving s received =
     state (s .status) (s .options) (s .reboot-asked) (s .power-off-asked) (s .boot-failure) (s .panic) (s .factory) (s .settings)
     (s .waiting) (s .retained) received (s .pending) (s .owing)
 
--- a frame by the tests' verdict on it: a failure changes nothing but the receive progress and the pending reply
+-- a frame by the table's verdict on it: a valid request is carried out; a failure changes nothing but the receive progress and the pending reply
 unfoldable pub judged : List ℕ → State → Verdict → State
 judged image s (failure reason sequence) = sent s (some (failedOf reason sequence))
-judged image s (good m) = request image s m (requestFailure m)
+judged image s (good m) = let c = carried image s m in sent (c .state) (replyOf (m .sequence) (c .reply))
 
 -- the 00 behind these bytes; an empty frame is ignored
 unfoldable pub closed : List ℕ → State → Option (List ℕ) → State
 closed image s none = judged image (receiving s (some [])) (failure 1 none)
 closed image s (some []) = s
-closed image s (some (b ∷ bs)) = judged image (receiving s (some [])) (judge (b ∷ bs))
+closed image s (some (b ∷ bs)) = judged image (receiving s (some [])) (verdict (b ∷ bs))
 
 -- one byte more, or one too many
 unfoldable pub more : Option (List ℕ) → ℕ → Option (List ℕ)

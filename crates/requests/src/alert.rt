@@ -3,7 +3,6 @@
 use crate::sending::send_part;
 use supervisor::layout;
 use supervisor::number::ReplyNumber;
-use supervisor::valid;
 ghost use mathlib.Core.Path.{_≡_};
 ghost use mathlib.Core.Bool.{true, cond};
 ghost use Prim.Native.Nat.{_-_, _≤_, _<_};
@@ -22,7 +21,7 @@ pub(crate) fn alert(outbox: &mut [u8], registers: &mut [u8], reply: ReplyNumber,
 {
     settle_alert(registers, sequence);
     let at = layout::RETAINED_ALERT_PLACE;
-    let n = valid::word_at(registers, at) + 1;
+    let n = octets::word_at(registers, at) + 1;
     send_part(
         outbox,
         reply,
@@ -47,7 +46,7 @@ fn settle_alert(registers: &mut [u8], sequence: u64)
 fn is_retained(registers: &[u8], sequence: u64) -> bool
     ensures { λ r. ⌜ r ≡ isRetained (now (registers .entry)) sequence ⌝ }
 {
-    if valid::byte_at(registers, layout::RETAINED_PLACE) != 1 {
+    if octets::byte_at(registers, layout::RETAINED_PLACE) != 1 {
         return false;
     }
     octets::read_u64(registers, layout::RETAINED_SEQUENCE_PLACE) == sequence
@@ -58,7 +57,7 @@ fn take_alert(registers: &mut [u8], sequence: u64)
     requires { ⌜ validRegisters (now registers) ≡ true ⌝ }
     ensures { λ _. ⌜ now (registers .exit) ≡ withTaken (now (registers .entry)) sequence ⌝ }
 {
-    let count = valid::byte_at(registers, layout::ALERT_COUNT_PLACE);
+    let count = octets::byte_at(registers, layout::ALERT_COUNT_PLACE);
     let status = octets::read_u64(registers, layout::STATUS_PLACE);
     retain(registers, count, sequence);
     octets::move_down(

@@ -5,7 +5,6 @@ use crate::sending::send_part;
 use supervisor::keys;
 use supervisor::layout;
 use supervisor::number::ReplyNumber;
-use supervisor::valid;
 ghost use mathlib.Core.Path.{_≡_};
 ghost use mathlib.Core.Bool.{true};
 ghost use Prim.Native.Nat.{_≤_, _<_};
@@ -74,12 +73,7 @@ fn send_block(outbox: &mut [u8], reply: ReplyNumber, factory: &[u8], image: &[u8
         reply,
         0x09,
         &image[0..0],
-        keys::part(
-            image,
-            offset,
-            layout::LONGEST_BLOCK,
-            layout::LONGEST_BLOCK as u16,
-        ),
+        octets::part(image, offset, layout::LONGEST_BLOCK),
     );
 }
 
@@ -138,8 +132,8 @@ fn item_data_length(factory: &[u8], at: usize) -> usize
     requires { ⌜ at < 65536 ⌝ }
     ensures { λ r. ⌜ r ≡ itemDataLength (now (factory .entry)) at ⌝ }
 {
-    if valid::byte_at(factory, at) == 0 {
-        return valid::byte_at(factory, at + layout::ITEM_DATA_LENGTH_PLACE);
+    if octets::byte_at(factory, at) == 0 {
+        return octets::byte_at(factory, at + layout::ITEM_DATA_LENGTH_PLACE);
     }
     0
 }

@@ -2,6 +2,7 @@
 // Assumes valid parts, as each `requires` says.
 use crate::alert::alert;
 use crate::answers::ask;
+use crate::receive::Outcome;
 use crate::records::clear_start;
 use crate::records::set_record;
 use crate::sending::acknowledge;
@@ -13,19 +14,21 @@ use supervisor::number;
 use supervisor::number::ReplyNumber;
 use supervisor::number::RequestNumber;
 ghost use mathlib.Core.Path.{_≡_};
-ghost use mathlib.Core.Bool.{true};
+ghost use mathlib.Core.Bool.{true, false};
 ghost use Prim.Native.Nat.{_≤_};
+ghost use lib.Dec.{eqb};
 ghost use lib.ListN.{length};
 ghost use Rattle.line.specs.Limits.{longest-data};
 ghost use Rattle.supervisor.specs.Layout.{outbox-length};
 ghost use Rattle.supervisor.specs.Valid.{validFactory, validSettings, validRegisters};
-ghost use Rattle.requests.specs.Requests.{known, lengthAllowed};
-ghost use Rattle.requests.specs.Receive.{inner, carriedInner, requestInner};
+ghost use Rattle.requests.specs.Requests.{tested, known, lengthAllowed};
+ghost use Rattle.requests.specs.Receive.{inner, validInner, carriedInner, innerBy, messageBy, endedBy, endedSaid};
 
-const ALL_ONES: u64 = 0xffffffffffffffff;
+// The sequence of a failure whose request has none.
+pub(crate) const ALL_ONES: u64 = 0xffffffffffffffff;
 
 // A message that the line layer found good: failure 5, 6, 3 or 7, or what the request does.
-fn request(
+pub(crate) fn request(
     image: &[u8],
     factory: &[u8],
     data: &[u8],
@@ -35,30 +38,27 @@ fn request(
     outbox: &mut [u8],
     settings: &mut [u8],
     registers: &mut [u8],
-)
+) -> Outcome
     requires { ⌜ outbox-length ≤ length (now outbox) ⌝ }
     requires { ⌜ validFactory (now factory) ≡ true ⌝ }
-    requires { ⌜ validSettings (now settings) ≡ true ⌝ }
-    requires { ⌜ validRegisters (now registers) ≡ true ⌝ }
+    requires { ⌜ validInner (inner (now outbox) (now settings) (now registers)) ≡ true ⌝ }
     requires { ⌜ length (now «data») ≤ longest-data ⌝ }
-    ensures { λ _. ⌜ inner (now (outbox .exit)) (now (settings .exit)) (now (registers .exit)) ≡ requestInner (now (image .entry)) (now (factory .entry)) (inner (now (outbox .entry)) (now (settings .entry)) (now (registers .entry))) version sequence command (now («data» .entry)) ⌝ }
+    ensures { λ r. ⌜ endedSaid r ≡ endedBy (tested (messageBy version sequence command (now («data» .entry)))) ⌝ }
+    ensures { λ _. ⌜ inner (now (outbox .exit)) (now (settings .exit)) (now (registers .exit)) ≡ innerBy (now (image .entry)) (now (factory .entry)) (inner (now (outbox .entry)) (now (settings .entry)) (now (registers .entry))) (tested (messageBy version sequence command (now («data» .entry)))) ⌝ }
+    ensures { λ _. ⌜ validInner (inner (now (outbox .exit)) (now (settings .exit)) (now (registers .exit))) ≡ true ⌝ }
 {
     let reply = number::reply_to(RequestNumber(sequence));
     if version != 1 {
-        fail(outbox, reply, 5);
-        return;
+        return fail(outbox, reply, 5);
     }
     if 0x8000000000000000 <= sequence {
-        fail(outbox, reply, 6);
-        return;
+        return fail(outbox, reply, 6);
     }
     if !is_known(command) {
-        fail(outbox, ReplyNumber(ALL_ONES), 3);
-        return;
+        return fail(outbox, ReplyNumber(ALL_ONES), 3);
     }
     if !length_is_allowed(command, data.len()) {
-        fail(outbox, reply, 7);
-        return;
+        return fail(outbox, reply, 7);
     }
     carry(
         image,
@@ -70,6 +70,7 @@ fn request(
         settings,
         registers,
     );
+    Outcome::Request
 }
 
 // Whether a command is among those of document 01.
@@ -125,13 +126,13 @@ fn carry(
 )
     requires { ⌜ outbox-length ≤ length (now outbox) ⌝ }
     requires { ⌜ validFactory (now factory) ≡ true ⌝ }
-    requires { ⌜ validSettings (now settings) ≡ true ⌝ }
-    requires { ⌜ validRegisters (now registers) ≡ true ⌝ }
+    requires { ⌜ validInner (inner (now outbox) (now settings) (now registers)) ≡ true ⌝ }
     requires { ⌜ length (now «data») ≤ longest-data ⌝ }
     requires { ⌜ lengthAllowed command (length (now «data»)) ≡ true ⌝ }
     ensures { λ _. ⌜ inner (now (outbox .exit)) (now (settings .exit)) (now (registers .exit)) ≡ carriedInner (now (image .entry)) (now (factory .entry)) (inner (now (outbox .entry)) (now (settings .entry)) (now (registers .entry))) sequence command (now («data» .entry)) ⌝ }
+    ensures { λ _. ⌜ validInner (inner (now (outbox .exit)) (now (settings .exit)) (now (registers .exit))) ≡ true ⌝ }
 {
-    let reply = number::reply_to(RequestNumber(sequence));
+    let reason = octets::byte_at(data, 0);
     if command == 0x01 {
         registers[layout::REBOOT_PLACE] = 1;
         send_none(outbox);
@@ -146,13 +147,48 @@ fn carry(
         set_record(
             registers,
             layout::BOOT_FAILURE_PLACE,
-            octets::read_u8(data, 0) as u16,
+            reason as u16,
             data,
             1,
         );
         send_none(outbox);
         return;
     }
+    carry_with_reply(
+        image,
+        factory,
+        data,
+        sequence,
+        command,
+        outbox,
+        settings,
+        registers,
+    );
+}
+
+// What a valid request does that earns a reply.
+fn carry_with_reply(
+    image: &[u8],
+    factory: &[u8],
+    data: &[u8],
+    sequence: u64,
+    command: u8,
+    outbox: &mut [u8],
+    settings: &mut [u8],
+    registers: &mut [u8],
+)
+    requires { ⌜ outbox-length ≤ length (now outbox) ⌝ }
+    requires { ⌜ validFactory (now factory) ≡ true ⌝ }
+    requires { ⌜ validSettings (now settings) ≡ true ⌝ }
+    requires { ⌜ validRegisters (now registers) ≡ true ⌝ }
+    requires { ⌜ length (now «data») ≤ longest-data ⌝ }
+    requires { ⌜ lengthAllowed command (length (now «data»)) ≡ true ⌝ }
+    requires { ⌜ eqb command 0x01 ≡ false ⌝ }
+    requires { ⌜ eqb command 0x02 ≡ false ⌝ }
+    requires { ⌜ eqb command 0x06 ≡ false ⌝ }
+    ensures { λ _. ⌜ inner (now (outbox .exit)) (now (settings .exit)) (now (registers .exit)) ≡ carriedInner (now (image .entry)) (now (factory .entry)) (inner (now (outbox .entry)) (now (settings .entry)) (now (registers .entry))) sequence command (now («data» .entry)) ⌝ }
+{
+    let reply = number::reply_to(RequestNumber(sequence));
     if command == 0x10 {
         set_key(outbox, settings, reply, data);
         return;

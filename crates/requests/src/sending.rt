@@ -1,9 +1,9 @@
 // Sending: a reply, or none, takes the place of what is unsent.
 // Assumes that the outbox has its published length and that the data fit a message, as each `requires` says.
+use crate::receive::Outcome;
 use line::writer::Written;
 use supervisor::layout;
 use supervisor::number::ReplyNumber;
-use supervisor::valid;
 ghost use mathlib.Core.Path.{_≡_};
 ghost use mathlib.Core.Bool.{cond};
 ghost use mathlib.Core.List.{[], _∷_, _++_};
@@ -13,7 +13,7 @@ ghost use lib.ListN.{length};
 ghost use Rattle.octets.specs.Bytes.{bytes, run, overlay};
 ghost use Rattle.line.specs.Limits.{longest-data, longest-form};
 ghost use Rattle.supervisor.specs.Layout.{outbox-length, outbox-from-place, outbox-bytes-place, outboxOwing};
-ghost use Rattle.requests.specs.Receive.{sentBox, replyBytes};
+ghost use Rattle.requests.specs.Receive.{sentBox, replyBytes, failed, endedSaid};
 
 // A reply of version 1 whose data are head and then rest.
 pub(crate) fn send(outbox: &mut [u8], number: ReplyNumber, command: u8, head: &[u8], rest: &[u8])
@@ -69,7 +69,7 @@ fn set_pending(outbox: &mut [u8], n: usize)
     requires { ⌜ n ≤ longest-form + 1 ⌝ }
     ensures { λ _. ⌜ now (outbox .exit) ≡ overlay outbox-from-place (bytes 2 (cond (eqb (outboxOwing (now (outbox .entry))) 1) 0 1) ++ bytes 2 (suc n)) (overlay outbox-bytes-place (0 ∷ []) (now (outbox .entry))) ⌝ }
 {
-    let from = first(valid::byte_at(outbox, layout::OUTBOX_OWING_PLACE));
+    let from = first(octets::byte_at(outbox, layout::OUTBOX_OWING_PLACE));
     outbox[layout::OUTBOX_BYTES_PLACE] = 0;
     octets::write_u16(outbox, layout::OUTBOX_FROM_PLACE, from);
     octets::write_u16(outbox, layout::OUTBOX_TO_PLACE, (n + 1) as u16);
@@ -118,9 +118,11 @@ pub(crate) fn acknowledge(outbox: &mut [u8], number: ReplyNumber)
 }
 
 // A decode failure with its reason.
-pub(crate) fn fail(outbox: &mut [u8], number: ReplyNumber, reason: u8)
+pub(crate) fn fail(outbox: &mut [u8], number: ReplyNumber, reason: u8) -> Outcome
     requires { ⌜ outbox-length ≤ length (now outbox) ⌝ }
+    ensures { λ r. ⌜ endedSaid r ≡ failed reason ⌝ }
     ensures { λ _. ⌜ now (outbox .exit) ≡ sentBox (replyBytes (number .0) 0x02 (bytes 1 reason)) (now (outbox .entry)) ⌝ }
 {
     send_byte(outbox, number, 0x02, reason);
+    Outcome::Failure(reason)
 }

@@ -2,6 +2,7 @@
 -- Assumes nothing.
 pub mod Cases
 pub mod ValidLaws
+pub mod KeptRegisters
 pub mod StartLaws
 pub mod OutboxLaws
 pub mod AlertLaws

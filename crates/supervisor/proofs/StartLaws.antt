@@ -17,7 +17,7 @@ use Rattle.line.specs.declared.reader.Started.{Started as Reader-Started}
 use Rattle.octets.proofs.Conditions.{cond-by}
 use Rattle.supervisor.specs.Layout
 use Rattle.supervisor.specs.Valid.{goodStart, pong}
-use Rattle.supervisor.specs.Calls.{Parts, Start, roomy, freshParts, startSaid, startOf, starting}
+use Rattle.supervisor.specs.Calls.{Parts, parts, Start, roomy, freshParts, startSaid, startOf, starting}
 use Rattle.supervisor.specs.declared.start.Started.{Started}
 use Rattle.supervisor.specs.declared.start.Started.the-variants as answer
 
@@ -123,7 +123,7 @@ is-roomy p r = rw (le-leb _ _ (r .reader), le-leb _ _ (r .outbox), le-leb _ _ (r
 
 -- an answer with the parts as they are
 abbrev kept : Started → Parts → Start
-kept a p = startOf a (p .reader) (p .outbox) (p .factory) (p .settings) (p .registers)
+kept a p = startOf a (parts (p .reader) (p .outbox) (p .factory) (p .settings) (p .registers))
 
 -- a part is too short
 pub cramped : (d : List ℕ) (p : Parts) → (Roomy p → ⊥) → kept answer.Refused p ≡ starting d p

@@ -44,6 +44,10 @@ pub record Parts : Type 0 where
   pub settings : List ℕ
   pub registers : List ℕ
 
+-- parts by their names, in this order
+abbrev pub parts : List ℕ → List ℕ → List ℕ → List ℕ → List ℕ → Parts
+parts reader outbox factory settings registers = record { reader = reader; outbox = outbox; factory = factory; settings = settings; registers = registers }
+
 -- every part has its published length
 unfoldable pub roomy : Parts → Bool
 roomy p =
@@ -73,11 +77,8 @@ pub record Start : Type 0 where
   pub refusal : Option ℕ
   pub parts : Parts
 
-abbrev pub startOf : Started → List ℕ → List ℕ → List ℕ → List ℕ → List ℕ → Start
-startOf r reader outbox factory settings registers = record {
-  refusal = startSaid r;
-  parts = record { reader = reader; outbox = outbox; factory = factory; settings = settings; registers = registers };
-}
+abbrev pub startOf : Started → Parts → Start
+startOf r p = record { refusal = startSaid r; parts = p }
 
 -- the room alone is tested for 12, then the start data for 11
 unfoldable pub starting : List ℕ → Parts → Start

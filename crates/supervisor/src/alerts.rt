@@ -31,7 +31,7 @@ pub fn post(registers: &mut [u8], action: u8, text: &[u8]) -> Posted
     if layout::LONGEST_ALERT < text.len() {
         return Posted::TooLong;
     }
-    let count = valid::byte_at(registers, layout::ALERT_COUNT_PLACE);
+    let count = octets::byte_at(registers, layout::ALERT_COUNT_PLACE);
     if count < layout::MOST_ALERTS {
         add_alert(registers, count, action, text);
         return Posted::Done;

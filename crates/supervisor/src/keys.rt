@@ -94,7 +94,7 @@ fn find(factory: &[u8], settings: &[u8], key: u8) -> Place
     if key == 1 {
         return Place::Factory(
             layout::IMAGE_ID_PLACE,
-            valid::byte_at(factory, layout::IMAGE_ID_LENGTH_PLACE),
+            octets::byte_at(factory, layout::IMAGE_ID_LENGTH_PLACE),
         );
     }
     if key == 2 {
@@ -114,10 +114,10 @@ fn setting(settings: &[u8], at: usize) -> Place
     requires { ⌜ at < 65536 ⌝ }
     ensures { λ r. ⌜ r ≡ settingAt (now (settings .entry)) at ⌝ }
 {
-    if valid::byte_at(settings, at) == 1 {
+    if octets::byte_at(settings, at) == 1 {
         return Place::Settings(
             at + layout::SETTING_VALUE_PLACE,
-            valid::word_at(settings, at + layout::SETTING_LENGTH_PLACE),
+            octets::word_at(settings, at + layout::SETTING_LENGTH_PLACE),
         );
     }
     Place::Nowhere
@@ -134,17 +134,11 @@ fn size(n: usize, most: u16) -> Found
 }
 
 // The n bytes of s from a place on, if they are at most `most`.
-pub fn part<'a>(s: &'a [u8], at: usize, n: usize, most: u16) -> &'a [u8]
+fn part<'a>(s: &'a [u8], at: usize, n: usize, most: u16) -> &'a [u8]
     ensures { λ r. ⌜ now r ≡ within most n (run at n (now (s .entry))) ⌝ }
 {
     if (most as usize) < n {
         return &s[0..0];
     }
-    if s.len() < at {
-        return &s[0..0];
-    }
-    if s.len() - at < n {
-        return &s[at..];
-    }
-    &s[at..at + n]
+    octets::part(s, at, n)
 }

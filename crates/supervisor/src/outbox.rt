@@ -20,8 +20,8 @@ pub fn take(outbox: &mut [u8], room: &mut [u8]) -> Taken
     if !valid::outbox_is_valid(outbox) {
         return Taken::Refused;
     }
-    let from = valid::word_at(outbox, layout::OUTBOX_FROM_PLACE);
-    let pending = valid::word_at(outbox, layout::OUTBOX_TO_PLACE) - from;
+    let from = octets::word_at(outbox, layout::OUTBOX_FROM_PLACE);
+    let pending = octets::word_at(outbox, layout::OUTBOX_TO_PLACE) - from;
     let n = least(room.len(), pending);
     if n == 0 {
         return Taken::Moved(0);

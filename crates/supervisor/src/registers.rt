@@ -63,8 +63,8 @@ pub fn flags(registers: &[u8]) -> FlagsRead
     if !valid::registers_are_valid(registers) {
         return FlagsRead::Refused;
     }
-    let reboot = valid::byte_at(registers, layout::REBOOT_PLACE) == 1;
-    let power_off = valid::byte_at(registers, layout::POWER_OFF_PLACE) == 1;
+    let reboot = octets::byte_at(registers, layout::REBOOT_PLACE) == 1;
+    let power_off = octets::byte_at(registers, layout::POWER_OFF_PLACE) == 1;
     FlagsRead::Read(Asked { reboot, power_off })
 }
 
@@ -76,12 +76,12 @@ pub fn record(registers: &[u8], kind: Kind) -> Recorded
         return Recorded::Refused;
     }
     let at = place(kind);
-    if valid::byte_at(registers, at) != 1 {
+    if octets::byte_at(registers, at) != 1 {
         return Recorded::Nothing;
     }
     Recorded::Found(Entry {
-        code: valid::word_at(registers, at + layout::RECORD_CODE_PLACE),
-        whole: valid::word_at(registers, at + layout::RECORD_WHOLE_PLACE),
+        code: octets::word_at(registers, at + layout::RECORD_CODE_PLACE),
+        whole: octets::word_at(registers, at + layout::RECORD_WHOLE_PLACE),
         kept: kept(registers, at),
     })
 }
@@ -94,7 +94,7 @@ pub fn record_bytes<'a>(registers: &'a [u8], kind: Kind) -> &'a [u8]
         return &registers[0..0];
     }
     let at = place(kind);
-    if valid::byte_at(registers, at) != 1 {
+    if octets::byte_at(registers, at) != 1 {
         return &registers[0..0];
     }
     let from = at + layout::RECORD_KEPT_PLACE;
@@ -115,7 +115,7 @@ fn kept(registers: &[u8], at: usize) -> usize
     requires { ⌜ at < 65536 ⌝ }
     ensures { λ r. ⌜ (r ≡ keptOf (now (registers .entry)) at) × (r ≤ most-kept) ⌝ }
 {
-    let whole = valid::word_at(registers, at + layout::RECORD_WHOLE_PLACE);
+    let whole = octets::word_at(registers, at + layout::RECORD_WHOLE_PLACE);
     if whole < layout::MOST_KEPT {
         whole
     } else {

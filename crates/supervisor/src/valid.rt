@@ -6,26 +6,13 @@ ghost use Prim.Native.Nat.{_<_};
 ghost use Rattle.supervisor.specs.Valid.{goodItem, goodItems, goodStart, validOutbox, validFactory, validSetting, validSettings, validRecord, validText, validAlert, validAlerts, validRecordsAndAlerts, validRegisters};
 ghost use Rattle.octets.specs.Bytes.{numberAt};
 
-// A number of one byte and of two bytes, as an index.
-pub fn byte_at(s: &[u8], at: usize) -> usize
-    ensures { λ r. ⌜ (r ≡ numberAt 1 (now (s .entry)) at) × (r < 256) ⌝ }
-{
-    octets::read_u8(s, at) as usize
-}
-
-pub fn word_at(s: &[u8], at: usize) -> usize
-    ensures { λ r. ⌜ (r ≡ numberAt 2 (now (s .entry)) at) × (r < 65536) ⌝ }
-{
-    octets::read_u16(s, at) as usize
-}
-
 // Whether item i has a result of 0, 2 or 3 and at most 64 bytes of data.
 fn item_is_good(d: &[u8], i: usize) -> bool
     requires { ⌜ i < 4294967296 ⌝ }
     ensures { λ r. ⌜ r ≡ goodItem (now (d .entry)) i ⌝ }
 {
     let at = layout::ITEMS_PLACE + i * layout::ITEM_LENGTH;
-    let result = byte_at(d, at);
+    let result = octets::byte_at(d, at);
     if result != 0 {
         if result != 2 {
             if result != 3 {
@@ -33,7 +20,7 @@ fn item_is_good(d: &[u8], i: usize) -> bool
             }
         }
     }
-    byte_at(d, at + layout::ITEM_DATA_LENGTH_PLACE) <= layout::LONGEST_ITEM_DATA
+    octets::byte_at(d, at + layout::ITEM_DATA_LENGTH_PLACE) <= layout::LONGEST_ITEM_DATA
 }
 
 // Whether the first n items are good.
@@ -54,13 +41,13 @@ fn items_are_good(d: &[u8], n: usize) -> bool
 pub(crate) fn start_is_good(d: &[u8]) -> bool
     ensures { λ r. ⌜ r ≡ goodStart (now (d .entry)) ⌝ }
 {
-    let bsu = byte_at(d, layout::BSU_PLACE);
+    let bsu = octets::byte_at(d, layout::BSU_PLACE);
     if bsu != 0x41 {
         if bsu != 0x42 {
             return false;
         }
     }
-    if layout::LONGEST_IMAGE_ID < byte_at(d, layout::IMAGE_ID_LENGTH_PLACE) {
+    if layout::LONGEST_IMAGE_ID < octets::byte_at(d, layout::IMAGE_ID_LENGTH_PLACE) {
         return false;
     }
     let count = octets::read_u32(d, layout::ITEM_COUNT_PLACE) as usize;
@@ -76,14 +63,14 @@ pub fn outbox_is_valid(outbox: &[u8]) -> bool
     if outbox.len() < layout::OUTBOX_LENGTH {
         return false;
     }
-    let to = word_at(outbox, layout::OUTBOX_TO_PLACE);
-    if to < word_at(outbox, layout::OUTBOX_FROM_PLACE) {
+    let to = octets::word_at(outbox, layout::OUTBOX_TO_PLACE);
+    if to < octets::word_at(outbox, layout::OUTBOX_FROM_PLACE) {
         return false;
     }
     if layout::MOST_PENDING < to {
         return false;
     }
-    byte_at(outbox, layout::OUTBOX_OWING_PLACE) <= 1
+    octets::byte_at(outbox, layout::OUTBOX_OWING_PLACE) <= 1
 }
 
 pub fn factory_is_valid(factory: &[u8]) -> bool
@@ -105,10 +92,10 @@ fn setting_is_valid(settings: &[u8], at: usize, most: usize) -> bool
     requires { ⌜ at < 65536 ⌝ }
     ensures { λ r. ⌜ r ≡ validSetting (now (settings .entry)) at most ⌝ }
 {
-    if 1 < byte_at(settings, at) {
+    if 1 < octets::byte_at(settings, at) {
         return false;
     }
-    word_at(settings, at + layout::SETTING_LENGTH_PLACE) <= most
+    octets::word_at(settings, at + layout::SETTING_LENGTH_PLACE) <= most
 }
 
 pub fn settings_are_valid(settings: &[u8]) -> bool
@@ -130,16 +117,16 @@ fn record_is_valid(registers: &[u8], at: usize, most: usize) -> bool
     requires { ⌜ at < 65536 ⌝ }
     ensures { λ r. ⌜ r ≡ validRecord (now (registers .entry)) at most ⌝ }
 {
-    if 1 < byte_at(registers, at) {
+    if 1 < octets::byte_at(registers, at) {
         return false;
     }
-    word_at(registers, at + layout::RECORD_WHOLE_PLACE) <= most
+    octets::word_at(registers, at + layout::RECORD_WHOLE_PLACE) <= most
 }
 
 fn text_is_valid(registers: &[u8], at: usize) -> bool
     ensures { λ r. ⌜ r ≡ validText (now (registers .entry)) at ⌝ }
 {
-    word_at(registers, at) <= layout::LONGEST_ALERT
+    octets::word_at(registers, at) <= layout::LONGEST_ALERT
 }
 
 fn alert_is_valid(registers: &[u8], i: usize) -> bool
@@ -150,7 +137,7 @@ fn alert_is_valid(registers: &[u8], i: usize) -> bool
     if !text_is_valid(registers, at) {
         return false;
     }
-    1 <= byte_at(registers, at + layout::ALERT_ACTION_PLACE)
+    1 <= octets::byte_at(registers, at + layout::ALERT_ACTION_PLACE)
 }
 
 fn alerts_are_valid(registers: &[u8], n: usize) -> bool
@@ -179,10 +166,10 @@ pub fn registers_are_valid(registers: &[u8]) -> bool
     if layout::ALL_OPTIONS < octets::read_u64(registers, layout::OPTIONS_PLACE) {
         return false;
     }
-    if 1 < byte_at(registers, layout::REBOOT_PLACE) {
+    if 1 < octets::byte_at(registers, layout::REBOOT_PLACE) {
         return false;
     }
-    if 1 < byte_at(registers, layout::POWER_OFF_PLACE) {
+    if 1 < octets::byte_at(registers, layout::POWER_OFF_PLACE) {
         return false;
     }
     records_and_alerts_are_valid(registers)
@@ -192,7 +179,7 @@ fn records_and_alerts_are_valid(registers: &[u8]) -> bool
     ensures { λ r. ⌜ r ≡ validRecordsAndAlerts (now (registers .entry)) ⌝ }
 {
     if 255
-        < word_at(
+        < octets::word_at(
             registers,
             layout::BOOT_FAILURE_PLACE + layout::RECORD_CODE_PLACE,
         )
@@ -209,14 +196,14 @@ fn records_and_alerts_are_valid(registers: &[u8]) -> bool
     if !record_is_valid(registers, layout::PANIC_PLACE, layout::LONGEST_PANIC) {
         return false;
     }
-    let count = byte_at(registers, layout::ALERT_COUNT_PLACE);
+    let count = octets::byte_at(registers, layout::ALERT_COUNT_PLACE);
     if layout::MOST_ALERTS < count {
         return false;
     }
     if !alerts_are_valid(registers, count) {
         return false;
     }
-    if 1 < byte_at(registers, layout::RETAINED_PLACE) {
+    if 1 < octets::byte_at(registers, layout::RETAINED_PLACE) {
         return false;
     }
     text_is_valid(registers, layout::RETAINED_ALERT_PLACE)

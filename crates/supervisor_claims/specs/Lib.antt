@@ -1,8 +1,7 @@
--- The claims over the supervisor: the view of its parts, and each local call as the meaning has it.
+-- The claims over the supervisor: the view of its parts, each call as the meaning has it, and lists of calls.
 -- Assumes nothing.
 pub mod View
 pub mod Meant
-pub mod SameBytes
 pub mod ViewLaws
 pub mod GoodStart
 pub mod StartClaim
@@ -12,3 +11,23 @@ pub mod PostLaws
 pub mod RegistersClaim
 pub mod LookupClaim
 pub mod Refusals
+pub mod PartLaws
+pub mod SettingLaws
+pub mod RecordLaws
+pub mod TakenLaws
+pub mod ChangesClaim
+pub mod SendingClaim
+pub mod AnswersClaim
+pub mod Histories
+pub mod ReceivedClaim
+pub mod InOrder
+pub mod TakenAll
+pub mod Sound
+pub mod Locality
+pub mod LentCalls
+pub mod StepClaim
+pub mod CallClaims
+pub mod ReceiveClaim
+pub mod History
+pub mod Demand2
+pub mod Replies

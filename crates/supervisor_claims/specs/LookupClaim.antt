@@ -47,12 +47,12 @@ choose false a = a
 
 -- ---- key 2: the count of the items, then the version 0
 
-number-run : (k at : ℕ) (f : List ℕ) → at + k ≤ length f → Each Byte f → bytes k (numberAt k f at) ≡ run at k f
+pub number-run : (k at : ℕ) (f : List ℕ) → at + k ≤ length f → Each Byte f → bytes k (numberAt k f at) ≡ run at k f
 number-run k at f h b =
     let e = bytes-number (run at k f) (each-take Byte k (drop at f) (each-drop Byte at f b)) in
     rw (length-run at k f h) at e
 
-run-add : (at j k : ℕ) (s : List ℕ) → run at (j + k) s ≡ run at j s ++ run (at + j) k s
+pub run-add : (at j k : ℕ) (s : List ℕ) → run at (j + k) s ≡ run at j s ++ run (at + j) k s
 run-add at j k s = take-add j k (drop at s) ∙ rw drop-drop
 
 inventory-run : (f : List ℕ) → FactoryValid f → Each Byte f

@@ -1,16 +1,16 @@
 -- The registers after an alert was posted: what stays, the status, the alerts that wait, and that they are valid.
 -- Assumes nothing.
 use mathlib.Core.Path.{_≡_, ap, _∙_}
-use mathlib.Core.Bool.{true}
+use mathlib.Core.Bool.{true, false}
 use mathlib.Core.List.{List, [], _∷_, _++_}
 use Prim.Native.Nat.{ℕ, _+_, _≤_, _<_}
 use native.Mathlib.Nat.{add-zero}
 use native.Mathlib.Numerals.{add-one}
 use native.Mathlib.Omega.{arith}
-use lib.Dec.{eqb}
+use lib.Dec.{ltb, eqb}
 use lib.ListN.{length}
 use lib.Seq.{take-length}
-use borrow.Author.Tests.{eqb-false}
+use borrow.Author.Tests.{ltb-true, ltb-false, eqb-false}
 use Rattle.octets.specs.Bytes.{number, bytes, overlay}
 use Rattle.octets.proofs.Conditions.{cond-by}
 use Rattle.octets.proofs.Numbers.{number-bytes}
@@ -20,11 +20,12 @@ use Rattle.supervisor.specs.Layout
 use Rattle.supervisor.specs.Local
 use Rattle.supervisor.specs.Valid.{validAlert, validRegisters}
 use Rattle.supervisor.specs.Calls
-use Rattle.supervisor.proofs.ValidLaws.{RegistersValid, valid-alert, all-more}
+use Rattle.supervisor.proofs.ValidLaws.{RegistersValid, registers-valid, valid-alert, all-more}
+use Rattle.supervisor.proofs.KeptRegisters.{alerts-valid, Kept, kept-valid}
 use Rattle.supervisor_claims.specs.View.{listed, alertOf}
-use Rattle.supervisor_claims.specs.SameBytes.{Same, same-before, same-after, same-then, same-within, number-same}
-use Rattle.supervisor_claims.specs.SameBytes.{stored-long, stored-number, stored-before, stored-after}
-use Rattle.supervisor_claims.specs.RegisterLaws.{alertsOf, alert-same, alerts-same, alerts-valid, Kept, kept-valid}
+use Rattle.octets.proofs.SameBytes.{Same, same-before, same-after, same-then, same-within, number-same}
+use Rattle.octets.proofs.SameBytes.{stored-long, stored-number, stored-before, stored-after}
+use Rattle.supervisor_claims.specs.RegisterLaws.{alertsOf, alert-same, alerts-same}
 
 -- ---- an alert's bytes: the length of its text, its action, its text
 
@@ -58,6 +59,17 @@ pub record Posting (r : List ℕ) (action : ℕ) (text : List ℕ) : Type 0 wher
   pub byte : action < 256
   pub short : length text ≤ Limits.longest-alert
   pub few : Layout.alertCount r < Limits.most-alerts
+
+-- one that passes the tests
+pub allowed : (r : List ℕ) (action : ℕ) (text : List ℕ) → validRegisters r ≡ true → action < 256 → eqb action 0 ≡ false
+    → ltb Limits.longest-alert (length text) ≡ false → ltb (Layout.alertCount r) Limits.most-alerts ≡ true → Posting r action text
+allowed r action text v h e f g = record {
+  valid = registers-valid r v;
+  least = omega (arith, eqb-false action 0 e);
+  byte = h;
+  short = ltb-false _ _ f;
+  few = ltb-true _ _ g;
+}
 
 -- the alert's bytes behind those that wait, then one more that waits
 abbrev slotted : List ℕ → ℕ → List ℕ → List ℕ

@@ -1,6 +1,6 @@
--- Refusal 12 of each local call: exactly where a part that it is lent is not as 12 asks, and then nothing changes. The parts' lengths.
+-- Refusal 12 of each call: exactly where a part that it is lent is not as 12 asks, and then nothing changes. The parts' lengths.
 -- Assumes nothing.
-use mathlib.Core.Path.{_≡_, refl}
+use mathlib.Core.Path.{_≡_}
 use mathlib.Core.Bool.{false, _&&_}
 use mathlib.Core.List.{List, []}
 use mathlib.Core.Option.{some}
@@ -11,6 +11,7 @@ use Rattle.supervisor.specs.Layout
 use Rattle.supervisor.specs.Valid.{validOutbox, validFactory, validSettings, validRegisters}
 use Rattle.supervisor.specs.Calls
 use Rattle.supervisor.specs.declared.registers.Kind.{Kind}
+use Rattle.requests.specs.Receive
 
 -- all parts together have at most 65,536 bytes
 pub parts-fit : LineReader.state-length + Layout.outbox-length + Layout.factory-length + Layout.settings-length + Layout.registers-length ≤ 65536
@@ -50,3 +51,13 @@ pub lookup-12 : (f s : List ℕ) → (validFactory f && validSettings s) ≡ fal
     → (Calls.lookupResult f s key most ≡ Calls.LookupSaid.refused 12) × (Calls.lookupValue f s key most ≡ [])
 unfolding Calls.lookupResult Calls.lookupValue
 lookup-12 f s e key most = (rw e, rw e)
+
+pub receive-12 : (image : List ℕ) (p : Calls.Parts) (piece : List ℕ) → Receive.validParts p ≡ false
+    → Receive.receiving image p piece ≡ record { refusal = some 12; parts = p }
+unfolding Receive.receiving
+receive-12 image p piece e = rw e
+
+pub step-12 : (image : List ℕ) (p : Calls.Parts) (piece : List ℕ) → Receive.validParts p ≡ false
+    → Receive.stepping image p piece ≡ record { used = 0; ended = Receive.Ended.refused 12; parts = p }
+unfolding Receive.stepping
+step-12 image p piece e = rw e

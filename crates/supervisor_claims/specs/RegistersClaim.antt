@@ -1,7 +1,7 @@
 -- The calls on the registers of valid parts: post, set options, the line signal, the flags, the records.
 -- Assumes nothing.
 use mathlib.Core.Path.{_≡_, refl, sym, _∙_}
-use mathlib.Core.Bool.{Bool, true, false, cond, not}
+use mathlib.Core.Bool.{Bool, true, false, cond}
 use mathlib.Core.List.{List, []}
 use mathlib.Core.Option.{none, some}
 use Prim.Native.Nat.{ℕ, _+_, _^_, _≤_, _<_}
@@ -10,7 +10,7 @@ use native.Mathlib.Omega.{arith}
 use lib.Count.{leadingZeros, leading-length}
 use lib.Dec.{ltb, eqb}
 use lib.ListN.{length}
-use borrow.Author.Tests.{leb-true, ltb-true, ltb-false, eqb-false}
+use borrow.Author.Tests.{leb-true}
 use Rattle.octets.specs.Bytes.{bytes, overlay}
 use Rattle.octets.proofs.Conditions.{cond-both}
 use Rattle.octets.proofs.Overlay.{length-run}
@@ -25,9 +25,10 @@ use Rattle.supervisor.proofs.ValidLaws.{registers-valid}
 use Rattle.supervisor_claims.specs.View.{recordedOf, view}
 use Rattle.supervisor_claims.specs.Meant.{Valid, Does, Reads, RecordedAs}
 use Rattle.supervisor_claims.specs.ViewLaws.{length-listed}
-use Rattle.supervisor_claims.specs.SameBytes.{Same, same-within, number-same, stored-long, stored-number, stored-before, stored-after}
-use Rattle.supervisor_claims.specs.RegisterLaws.{alerts-same, alerts-valid, Kept, kept-valid, kept-view, registers-left}
-use Rattle.supervisor_claims.specs.PostLaws.{Posting, posted-kept, posted-status, posted-options, posted-count, posted-alerts, posted-valid}
+use Rattle.supervisor.proofs.KeptRegisters.{alerts-valid, Kept, kept-valid}
+use Rattle.octets.proofs.SameBytes.{Same, same-within, number-same, stored-long, stored-number, stored-before, stored-after}
+use Rattle.supervisor_claims.specs.RegisterLaws.{alerts-same, kept-view, registers-left}
+use Rattle.supervisor_claims.specs.PostLaws.{Posting, allowed, posted-kept, posted-status, posted-options, posted-count, posted-alerts, posted-valid}
 
 -- options of which the highest bit set is at most 8
 options-small : (options : ℕ) → options < 2 ^ 64 → Local.optionsAllowed options ≡ true → options ≤ 511
@@ -61,14 +62,7 @@ module _ (p : Calls.Parts) (v : Valid p) where
       cond-both (Does p) (ltb Limits.longest-alert (length text)) (λ f. refl) (λ f.
       rw waiting-count
       (cond-both (Does p) (ltb (Layout.alertCount (p .registers)) Limits.most-alerts) (λ g.
-      posted
-      (record {
-        valid = registers-valid (p .registers) (v .registers);
-        least = omega (arith, eqb-false action 0 e);
-        byte = h;
-        short = ltb-false _ _ f;
-        few = ltb-true _ _ g;
-      }))
+      posted (allowed (p .registers) action text (v .registers) h e f g))
       (λ g. refl)))))
 
   -- ---- set options

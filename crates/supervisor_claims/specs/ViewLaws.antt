@@ -15,7 +15,7 @@ use Rattle.supervisor.specs.Limits
 use Rattle.supervisor.specs.Layout
 use Rattle.supervisor.proofs.ValidLaws.{StartGood, item-good, all-each}
 use Rattle.supervisor_claims.specs.View.{listed, itemAt, factoryOf}
-use Rattle.supervisor_claims.specs.SameBytes.{same-first, number-same}
+use Rattle.octets.proofs.SameBytes.{same-first, number-same}
 
 -- ---- the first values of a function
 

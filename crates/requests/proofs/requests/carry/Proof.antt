@@ -1,6 +1,7 @@
 -- `requests::requests::carry` meets its contract: each command's arm does what the definition does for it.
 -- Assumes nothing.
-use mathlib.Core.Path.{ap}
+use mathlib.Core.Path.{_≡_}
+use mathlib.Core.Bool.{true}
 use Prim.Native.Nat.{_≤_}
 use native.Mathlib.Omega.{arith}
 use denote.Ref.{now}
@@ -9,138 +10,89 @@ use borrow.Author.Needs.{needs}
 use borrow.Author.Tests.{ne-eqb}
 use Rattle.octets.proofs.Overlay.{overlay-one}
 use Rattle.supervisor.specs.Layout.{registers-length}
-use Rattle.requests.specs.Receive.{KeySet, AlertParts, inner, acknowledged, silently, carriedInner}
-use Rattle.supervisor.proofs.ValidLaws.{settings-valid, registers-valid}
-use Rattle.requests.proofs.ReceiveLaws.{reply-number, boot-failure-long, panic-long, key-set-long}
+use Rattle.supervisor.proofs.ValidLaws.{registers-valid}
+use Rattle.requests.specs.Receive.{Inner, inner, carriedInner, validInner}
+use Rattle.requests.proofs.ReceiveLaws.{boot-failure-long}
+use Rattle.requests.proofs.KeptLaws.{inner-valid}
+use Rattle.requests.proofs.TurnLaws.{silently-by, carried-both}
 use Rattle.requests.proofs.requests.carry.Statement.{statement}
 use Rattle.requests.proofs.requests.carry.Tie as tie
 
 registers-long : (c : tie.Start) → registers-length ≤ length (now (c .args .registers))
-registers-long c = registers-valid _ (c .pre .1 .1 .1 .0) .long
+registers-long c = registers-valid _ (inner-valid _ (c .pre .1 .1 .0) .registers) .long
+
+abbrev lent : tie.Start → Inner
+lent c = inner (now (c .args .outbox)) (now (c .args .settings)) (now (c .args .registers))
+
+abbrev carriedBy : tie.Start → Inner
+carriedBy c = carriedInner (now (c .args .image)) (now (c .args .factory)) (lent c) (c .args .sequence) (c .args .command) (now (c .args .«data»))
+
+both : (c : tie.After-byte-at) {j : Inner} → j ≡ carriedBy (c .before .before .before .before .before .before .before) → (j ≡ carriedBy (c .before .before .before .before .before .before .before)) × (validInner j ≡ true)
+both c =
+    let start = c .before .before .before .before .before .before .before in
+    let a = start .args in
+    carried-both (now (a .image)) (now (a .factory)) (lent start) (a .sequence) (a .command) (now (a .«data»))
+    (start .pre .1 .0) (start .pre .1 .1 .0) (start .pre .1 .1 .1 .0) (c .byte-at .ensures)
 
 slice-write-registers : tie.Need-slice-write-registers
 slice-write-registers c = let l = registers-long (c .before .before .before .before .before .before .before .before) in search needs
 
 returns : tie.Need-returns
-unfolding carriedInner silently
+unfolding carriedInner
 returns c =
     let told = c .before .before .before .before in
-    let start = told .before .before .before .before .before .before .before .before in
+    let first = told .before in
+    let start = first .before .before .before .before .before .before .before in
     let l = registers-long start in
-    rw (told .if1 .taken, overlay-one 16 1 (now (start .args .registers)) (omega arith), c .before .before .send-none .ensures)
+    both first (rw (told .if1 .taken) (silently-by (lent start) _ (c .before .before .send-none .ensures) (overlay-one 16 1 (now (start .args .registers)) (omega arith))))
 
 slice-write-registers-2 : tie.Need-slice-write-registers-2
 slice-write-registers-2 c = let l = registers-long (c .before .before .before .before .before .before .before .before .before) in search needs
 
 returns-2 : tie.Need-returns-2
-unfolding carriedInner silently
+unfolding carriedInner
 returns-2 c =
     let told = c .before .before .before .before in
-    let start = told .before .before .before .before .before .before .before .before .before in
+    let first = told .before .before in
+    let start = first .before .before .before .before .before .before .before in
     let l = registers-long start in
-    rw (told .if2 .taken, overlay-one 17 1 (now (start .args .registers)) (omega arith), c .before .before .send-none2 .ensures)
+    both first (rw (told .if2 .taken) (silently-by (lent start) _ (c .before .before .send-none2 .ensures) (overlay-one 17 1 (now (start .args .registers)) (omega arith))))
 
 set-record-requires : tie.Need-set-record-requires
 set-record-requires c κs =
-    let told = c .before .before in
+    let told = c .before in
     let start = told .before .before .before .before .before .before .before .before .before .before in
     let l = registers-long start in
-    let d = boot-failure-long _ _ (start .pre .1 .1 .1 .1 .1) (told .if3 .taken) in
+    let d = boot-failure-long _ _ (start .pre .1 .1 .1 .1) (told .if3 .taken) in
     search needs
 
 returns-3 : tie.Need-returns-3
-unfolding carriedInner silently
+unfolding carriedInner
 returns-3 c =
     let set = c .before .before .before .before .before .before in
-    rw (set .before .before .before .if3 .taken, ← set .before .read-u8 .ensures, set .set-record .ensures, c .before .before .send-none3 .ensures)
+    let told = set .before .before in
+    let first = told .before .before .before in
+    both first (rw (told .if3 .taken, ← first .byte-at .ensures .0) (silently-by (lent (first .before .before .before .before .before .before .before)) _ (c .before .before .send-none3 .ensures) (set .set-record .ensures)))
 
-set-key-requires : tie.Need-set-key-requires
-set-key-requires c κs =
-    let told = c .before .before in
-    let start = told .before .before .before .before .before .before .before .before .before .before .before in
-    let v = settings-valid _ (start .pre .1 .1 .0) in
-    let d = key-set-long _ _ (start .pre .1 .1 .1 .1 .1) (told .if4 .taken) in
-    search needs
+carry-with-reply-requires : tie.Need-carry-with-reply-requires
+carry-with-reply-requires c κs =
+    let told = c .before .before .before in
+    let p = told .before .before .before .before .before .before .before .before .before .before .pre in
+    let v = inner-valid _ (p .1 .1 .0) in
+    let one = ne-eqb _ 1 (told .before .before .if1 .left) in
+    let two = ne-eqb _ 2 (told .before .if2 .left) in
+    (p .0, (p .1 .0, (v .settings, (v .registers, (p .1 .1 .1 .0, (p .1 .1 .1 .1, (one, (two, ne-eqb _ 6 (told .if3 .left)))))))))
 
 returns-4 : tie.Need-returns-4
-unfolding carriedInner
 returns-4 c =
-    let told = c .before .before .before .before .before .before .before in
-    let numbered = told .before .before .before .before in
-    rw (told .if4 .taken, ← reply-number _ _ (numbered .reply-to .ensures))
-    (ap (λ (k : KeySet). inner (k .outbox) (k .settings) (now (numbered .before .before .before .before .before .before .before .args .registers))) (c .before .before .before .before .set-key .ensures))
-
-returns-5 : tie.Need-returns-5
-unfolding carriedInner
-returns-5 c =
-    let told = c .before .before .before .before .before .before .before in
-    let numbered = told .before .before .before .before .before in
-    rw (told .if5 .taken, ← reply-number _ _ (numbered .reply-to .ensures))
-    (ap (λ (a : AlertParts). inner (a .outbox) (now (numbered .before .before .before .before .before .before .before .args .settings)) (a .registers)) (c .before .before .before .before .alert .ensures))
-
-set-record-requires-2 : tie.Need-set-record-requires-2
-set-record-requires-2 c κs =
-    let told = c .before .before in
-    let start = told .before .before .before .before .before .before .before .before .before .before .before .before .before in
-    let l = registers-long start in
-    let d = panic-long _ _ (start .pre .1 .1 .1 .1 .1) (told .if6 .taken) in
-    search needs
-
-returns-6 : tie.Need-returns-6
-unfolding carriedInner acknowledged
-returns-6 c =
-    let set = c .before .before .before .before .before .before in
-    let told = set .before .before .before in
-    rw (
-      told .if6 .taken,
-      ← reply-number _ _ (told .before .before .before .before .before .before .reply-to .ensures),
-      ← set .before .read-u16 .ensures,
-      set .set-record2 .ensures,
-      c .before .before .acknowledge .ensures,
-    )
-
-clear-start-requires : tie.Need-clear-start-requires
-clear-start-requires c κs = let l = registers-long (c .before .before .before .before .before .before .before .before .before .before .before .before .before .before .before) in search needs
-
-returns-7 : tie.Need-returns-7
-unfolding carriedInner acknowledged
-returns-7 c =
-    let cleared = c .before .before .before .before .before .before in
-    let told = cleared .before .before in
-    rw (
-      told .if7 .taken,
-      ← reply-number _ _ (told .before .before .before .before .before .before .before .reply-to .ensures),
-      cleared .clear-start .ensures,
-      c .before .before .acknowledge2 .ensures,
-    )
-
-ask-requires : tie.Need-ask-requires
-ask-requires c κs = let p = c .before .before .before .before .before .before .before .before .before .before .before .before .before .before .before .before .before .pre in (p .0, (p .1 .0, (p .1 .1 .0, p .1 .1 .1 .0)))
-
-returns-8 : tie.Need-returns-8
-unfolding carriedInner
-returns-8 c =
-    let told = c .before .before .before .before .before .before in
-    rw (
-      ne-eqb _ _ (told .before .before .before .before .before .before .if1 .left),
-      ne-eqb _ _ (told .before .before .before .before .before .if2 .left),
-      ne-eqb _ _ (told .before .before .before .before .if3 .left),
-      ne-eqb _ _ (told .before .before .before .if4 .left),
-      ne-eqb _ _ (told .before .before .if5 .left),
-      ne-eqb _ _ (told .before .if6 .left),
-      ne-eqb _ _ (told .if7 .left),
-      ← reply-number _ _ (told .before .before .before .before .before .before .before .reply-to .ensures),
-      c .before .before .ask .ensures,
-    )
+    let called = c .before .before .before .before .before .before in
+    both (called .before .before .before .before .before .before .before) (called .carry-with-reply .ensures)
 
 pub carry-spec : {M : Type 1} → statement M
 carry-spec =
     tie.close
     (tie.spec
     (λ c κs. search needs) slice-write-registers (λ c κs. search needs) (λ c. search needs) (λ c. search needs) returns
-    slice-write-registers-2 (λ c κs. search needs) (λ c. search needs) (λ c. search needs) returns-2 (λ c κs. search needs)
-    (λ c. search needs) set-record-requires (λ c κs. search needs) (λ c. search needs) (λ c. search needs) returns-3
-    set-key-requires (λ c. search needs) (λ c. search needs) returns-4 (λ c κs. search needs) (λ c. search needs)
-    (λ c. search needs) returns-5 (λ c κs. search needs) set-record-requires-2 (λ c κs. search needs) (λ c. search needs)
-    (λ c. search needs) returns-6 clear-start-requires (λ c κs. search needs) (λ c. search needs) (λ c. search needs)
-    returns-7 ask-requires (λ c. search needs) (λ c. search needs) (λ c. search needs) returns-8)
+    slice-write-registers-2 (λ c κs. search needs) (λ c. search needs) (λ c. search needs) returns-2 (λ c. search needs)
+    set-record-requires (λ c κs. search needs) (λ c. search needs) (λ c. search needs) returns-3 carry-with-reply-requires
+    (λ c. search needs) (λ c. search needs) (λ c. search needs) returns-4)

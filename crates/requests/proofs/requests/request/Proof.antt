@@ -1,74 +1,66 @@
 -- `requests::requests::request` meets its contract: the tests in their order, each with its failure.
 -- Assumes nothing.
+use mathlib.Core.Path.{_≡_, refl}
+use mathlib.Core.List.{List}
+use mathlib.Core.Option.{Option, none, some}
+use Prim.Native.Nat.{ℕ}
 use borrow.Author.Needs.{needs}
-use borrow.Author.Tests.{lt-ltb, le-ltb, ne-eqb}
+use denote.Ref.{now}
 use Rattle.octets.specs.Bytes.{bytes}
-use Rattle.requests.specs.Receive.{answering, requestInner}
+use Rattle.line.specs.Judge.{Verdict, failure}
 use Rattle.supervisor.proofs.Cases.{refused}
 use Rattle.supervisor.proofs.ValidLaws.{passed}
+use Rattle.requests.specs.Requests.{failureSequence}
+use Rattle.requests.specs.Receive.{Ended, sentBox, replyBytes, inner, endedSaid}
 use Rattle.requests.proofs.ReceiveLaws.{reply-number}
+use Rattle.requests.proofs.TurnLaws.{Judged, other-version, top-bit-set, command-unknown, length-wrong, passed-all, judged-failure, judged-good}
 use Rattle.requests.proofs.requests.request.Statement.{statement}
 use Rattle.requests.proofs.requests.request.Tie as tie
 
+by-fail : (c : tie.Start) (reason : ℕ) (sequence : Option ℕ) {v : Verdict} {n : ℕ} {g : Ended} {o : List ℕ}
+    → v ≡ failure reason sequence → n ≡ failureSequence sequence
+    → (g ≡ Ended.failed reason) × (o ≡ sentBox (replyBytes n 0x02 (bytes 1 reason)) (now (c .args .outbox)))
+    → Judged (now (c .args .image)) (now (c .args .factory)) (inner (now (c .args .outbox)) (now (c .args .settings)) (now (c .args .registers))) v g
+    (inner o (now (c .args .settings)) (now (c .args .registers)))
+by-fail c reason sequence =
+    let a = c .args in
+    judged-failure (now (a .image)) (now (a .factory)) (now (a .outbox)) (now (a .settings)) (now (a .registers)) reason sequence (c .pre .1 .1 .0)
+
 returns : tie.Need-returns
-unfolding requestInner answering bytes
 returns c =
     let told = c .before .before .before .before in
-    rw (ne-eqb _ _ (told .if1 .taken), ← reply-number _ _ (told .before .reply-to .ensures), c .before .before .fail .ensures)
+    by-fail (told .before .before .before .before .before .before .before .before) 5 (some _) (other-version _ _ _ _ (told .if1 .taken)) (reply-number _ _ (told .before .reply-to .ensures)) (c .before .before .fail .ensures)
 
 returns-2 : tie.Need-returns-2
-unfolding requestInner answering bytes
 returns-2 c =
     let told = c .before .before .before .before in
-    rw (
-      told .before .if1 .left,
-      le-ltb _ _ (told .if2 .taken),
-      ← reply-number _ _ (told .before .before .reply-to .ensures),
-      c .before .before .fail2 .ensures,
-    )
+    by-fail (told .before .before .before .before .before .before .before .before .before) 6 (some _) (top-bit-set _ _ _ _ (told .before .if1 .left) (told .if2 .taken)) (reply-number _ _ (told .before .before .reply-to .ensures)) (c .before .before .fail2 .ensures)
 
 returns-3 : tie.Need-returns-3
-unfolding requestInner answering bytes
 returns-3 c =
     let told = c .before .before .before .before in
-    rw (
-      told .before .before .before .if1 .left,
-      lt-ltb _ _ (told .before .before .if2 .left),
-      refused _ _ (told .before .is-known .ensures) (told .if3 .taken),
-      c .before .before .fail3 .ensures,
-    )
+    by-fail (told .before .before .before .before .before .before .before .before .before .before .before) 3 none (command-unknown _ _ _ _ (told .before .before .before .if1 .left) (told .before .before .if2 .left) (refused _ _ (told .before .is-known .ensures) (told .if3 .taken))) refl (c .before .before .fail3 .ensures)
 
 returns-4 : tie.Need-returns-4
-unfolding requestInner answering bytes
 returns-4 c =
     let told = c .before .before .before .before in
-    rw (
-      told .before .before .before .before .before .if1 .left,
-      lt-ltb _ _ (told .before .before .before .before .if2 .left),
-      passed _ _ (told .before .before .before .is-known .ensures) (told .before .before .if3 .left),
-      refused _ _ (told .before .length-is-allowed .ensures) (told .if4 .taken),
-      ← reply-number _ _ (told .before .before .before .before .before .before .reply-to .ensures),
-      c .before .before .fail4 .ensures,
-    )
+    by-fail (told .before .before .before .before .before .before .before .before .before .before .before .before .before) 7 (some _) (length-wrong _ _ _ _ (told .before .before .before .before .before .if1 .left) (told .before .before .before .before .if2 .left) (passed _ _ (told .before .before .before .is-known .ensures) (told .before .before .if3 .left)) (refused _ _ (told .before .length-is-allowed .ensures) (told .if4 .taken))) (reply-number _ _ (told .before .before .before .before .before .before .reply-to .ensures)) (c .before .before .fail4 .ensures)
 
 carry-requires : tie.Need-carry-requires
 carry-requires c κs =
     let told = c .before .before .before in
     let p = told .before .before .before .before .before .before .before .before .before .before .before .before .before .pre in
-    let allowed = passed _ _ (told .before .length-is-allowed .ensures) (told .if4 .left) in
-    (p .0, (p .1 .0, (p .1 .1 .0, (p .1 .1 .1 .0, (p .1 .1 .1 .1, allowed)))))
+    (p .0, (p .1 .0, (p .1 .1 .0, (p .1 .1 .1, passed _ _ (told .before .length-is-allowed .ensures) (told .if4 .left)))))
 
 returns-5 : tie.Need-returns-5
-unfolding requestInner
+unfolding endedSaid
 returns-5 c =
     let called = c .before .before .before .before .before .before in
     let told = called .before .before .before .before in
-    rw (
-      told .before .before .before .before .before .if1 .left,
-      lt-ltb _ _ (told .before .before .before .before .if2 .left),
-      passed _ _ (told .before .before .before .is-known .ensures) (told .before .before .if3 .left),
-      passed _ _ (told .before .length-is-allowed .ensures) (told .if4 .left),
-    )
+    let a = told .before .before .before .before .before .before .before .before .before .before .before .before .before .args in
+    judged-good (now (a .image)) (now (a .factory)) (inner (now (a .outbox)) (now (a .settings)) (now (a .registers))) (a .version) (a .sequence) (a .command) (now (a .«data»))
+    (passed-all _ _ _ _ (told .before .before .before .before .before .if1 .left) (told .before .before .before .before .if2 .left) (passed _ _ (told .before .before .before .is-known .ensures) (told .before .before .if3 .left))
+    (passed _ _ (told .before .length-is-allowed .ensures) (told .if4 .left)))
     (called .carry .ensures)
 
 pub request-spec : {M : Type 1} → statement M

@@ -1,22 +1,13 @@
 -- `supervisor::keys::part` meets its contract.
 -- Assumes nothing.
-use denote.Ref.{now}
 use borrow.Author.Needs.{needs}
+use borrow.Author.Tests.{le-ltb}
 use Rattle.supervisor.proofs.Cases.{cases}
-use Rattle.supervisor.proofs.KeyLaws.{part-past, part-short, part-whole}
 use Rattle.supervisor.proofs.keys.part.Statement.{statement}
 use Rattle.supervisor.proofs.keys.part.Tie as tie
 
-returns-3 : tie.Need-returns-3
-returns-3 c =
-    let a = c .before .before .before .before .args in
-    part-short (a .most) (a .at) (a .n) (now (a .s)) (c .before .before .before .if1 .left) (c .before .if3 .taken)
+returns-2 : tie.Need-returns-2
+returns-2 c = rw (le-ltb _ _ (c .before .if1 .left)) (c .part .ensures)
 
 pub part-spec : {M : Type 1} → statement M
-part-spec =
-    tie.close
-    (tie.spec
-    (λ c. search needs) (λ c. search needs) (λ c. search needs) (λ c. search cases) (λ c. search needs) (λ c. search needs)
-    (λ c. search needs) (λ c. part-past _ _ _ _ (c .before .before .if1 .left) (c .before .if2 .taken)) (λ c. search needs)
-    (λ c. search needs) (λ c. search needs) (λ c. search needs) returns-3 (λ c. search needs) (λ c. search needs)
-    (λ c. search needs) (λ c. search needs) (λ c. part-whole _ _ _ _ (c .before .before .before .if1 .left)))
+part-spec = tie.close (tie.spec (λ c. search needs) (λ c. search needs) (λ c. search needs) (λ c. search cases) (λ c. search needs) returns-2)

@@ -1,0 +1,23 @@
+-- `octets::part` meets its contract.
+-- Assumes nothing.
+use denote.Ref.{now}
+use borrow.Author.Needs.{needs}
+use Rattle.octets.proofs.Parts.{part-past, part-short, part-whole}
+use Rattle.octets.proofs.part.Statement.{statement}
+use Rattle.octets.proofs.part.Tie as tie
+
+returns : tie.Need-returns
+returns c = let a = c .before .before .args in part-past (a .at) (a .n) (now (a .s)) (c .before .if1 .taken)
+
+returns-2 : tie.Need-returns-2
+returns-2 c = let a = c .before .before .before .args in part-short (a .at) (a .n) (now (a .s)) (c .before .if2 .taken)
+
+returns-3 : tie.Need-returns-3
+returns-3 c = let a = c .before .before .before .args in part-whole (a .at) (a .n) (now (a .s))
+
+pub part-spec : {M : Type 1} → statement M
+part-spec =
+    tie.close
+    (tie.spec
+    (λ c. search needs) (λ c. search needs) (λ c. search needs) returns (λ c. search needs) (λ c. search needs) (λ c. search needs)
+    (λ c. search needs) returns-2 (λ c. search needs) (λ c. search needs) (λ c. search needs) (λ c. search needs) returns-3)

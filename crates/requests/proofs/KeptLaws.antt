@@ -1,0 +1,495 @@
+-- What a request does keeps the outbox, the settings and the registers valid.
+-- Assumes nothing.
+use mathlib.Core.Path.{_≡_, refl, ap, _∙_}
+use mathlib.Core.Logic.{_⊎_, inl, inr}
+use mathlib.Core.Bool.{true, cond, and-eq-true-iff}
+use mathlib.Core.List.{List, [], _∷_, _++_}
+use Prim.Native.Nat.{ℕ, suc, _+_, _-_, _*_, _^_, _≤_, _<_}
+use native.Mathlib.Nat.{add-zero}
+use native.Mathlib.Omega.{arith}
+use lib.Dec.{leb, ltb, eqb}
+use lib.ListN.{length, take, drop, replicate, length-append, length-drop, length-take}
+use lib.Seq.{take-length, take-take, drop-drop}
+use borrow.Author.Tests.{ltb-true, ltb-false}
+use Rattle.octets.specs.Bytes.{bytes, number, run, numberAt, overlay, equal}
+use Rattle.octets.proofs.Conditions.{cond-by}
+use Rattle.octets.proofs.Numbers.{length-bytes, number-bytes}
+use Rattle.octets.proofs.Overlay.{length-run, length-overlay, overlay-part}
+use Rattle.octets.proofs.SameBytes.{Same, same-before, same-after, same-then, same-within, same-first, number-same}
+use Rattle.octets.proofs.SameBytes.{stored-long, stored-number, stored-before, stored-after}
+use Rattle.line.specs.Limits.{longest-data, longest-form}
+use Rattle.line.proofs.FrameLength.{frame-fits}
+use Rattle.supervisor.specs.Limits
+use Rattle.supervisor.specs.Layout
+use Rattle.supervisor.specs.Local
+use Rattle.supervisor.specs.Number.{topSet}
+use Rattle.supervisor.specs.Valid.{validOutbox, validFactory, validSettings, validAlert, validRegisters}
+use Rattle.supervisor.proofs.AlertLaws.{one-byte}
+use Rattle.supervisor.proofs.KeyLaws.{value-short}
+use Rattle.supervisor.proofs.ValidLaws.{all-each, each-all, outbox-valid, valid-outbox, SettingValid, SettingsValid, settings-valid, valid-settings}
+use Rattle.supervisor.proofs.ValidLaws.{alert-valid, valid-alert, RecordValid, RegistersValid, registers-valid}
+use Rattle.supervisor.proofs.KeptRegisters.{FlagsValid, FailureValid, PanicValid, groups-valid, numbers-kept, flags-kept, failure-kept, panic-kept, waiting-kept, retained-kept, kept-valid}
+use Rattle.requests.specs.Requests.{clearBit}
+use Rattle.requests.specs.Receive
+use Rattle.requests.proofs.ReceiveLaws.{item-held}
+use Rattle.requests.proofs.TakenLaws.{retained-settled, settled}
+
+-- ---- the outbox
+
+-- a reply, or none
+pub box-valid : (o bs : List ℕ) → validOutbox o ≡ true → length bs ≤ longest-form + 1 → validOutbox (Receive.sentBox bs o) ≡ true
+unfolding Receive.sentBox bytes
+box-valid o bs v h =
+    let w = outbox-valid o v in
+    let first : ℕ = cond (eqb (Layout.outboxOwing o) 1) 0 1 in
+    let low : first ≤ 1 = cond-by (λ n. n ≤ 1) (eqb (Layout.outboxOwing o) 1) 0 1 (λ _. omega arith) (λ _. omega arith) in
+    let head = bytes 2 first ++ bytes 2 (suc (length bs)) in
+    let t = overlay Layout.outbox-bytes-place (0 ∷ bs) o in
+    let a : length t ≡ length o = length-overlay Layout.outbox-bytes-place (0 ∷ bs) o (omega arith) in
+    let b : length (overlay Layout.outbox-from-place head t) ≡ length t = length-overlay Layout.outbox-from-place head t (omega arith) in
+    let from = ap number (overlay-part Layout.outbox-from-place 0 2 head t (omega arith) (omega arith)) ∙ number-bytes 2 first (omega arith) in
+    let to = ap number (overlay-part Layout.outbox-from-place 2 2 head t (omega arith) (omega arith)) ∙ number-bytes 2 (suc (length bs)) (omega arith) in
+    let early : Same 0 Layout.outbox-bytes-place o t = same-before Layout.outbox-bytes-place (0 ∷ bs) o (omega arith) (omega arith) in
+    let late : Same Layout.outbox-owing-place Layout.outbox-length t (overlay Layout.outbox-from-place head t)
+    = same-after Layout.outbox-from-place head t (omega arith) (omega arith) in
+    let owing = number-same late 1 Layout.outbox-owing-place (omega arith) ∙ number-same early 1 Layout.outbox-owing-place (omega arith) in
+    valid-outbox _ (omega arith)
+
+-- ---- the registers
+
+-- what stands before the flags and behind the records is the same
+middle-valid : {r s : List ℕ} → RegistersValid r → length s ≡ length r → Same 0 Layout.reboot-place r s
+    → Same Layout.alert-count-place Layout.registers-length r s → FlagsValid s → FailureValid s → PanicValid s → validRegisters s ≡ true
+middle-valid v long before after flags failure panic =
+    groups-valid (omega arith) (numbers-kept before v (omega arith)) flags failure panic (waiting-kept after v (omega arith)) (retained-kept after v (omega arith))
+
+module _ (r : List ℕ) (v : validRegisters r ≡ true) where
+  -- a flag
+  flag-valid : (at : ℕ) → (Layout.reboot-place ≤ at) × (at < Layout.boot-failure-place) → FlagsValid (overlay at (bytes 1 1) r)
+      → validRegisters (overlay at (1 ∷ []) r) ≡ true
+  flag-valid at h flags =
+      let w = registers-valid r v in
+      let after : Same Layout.boot-failure-place Layout.registers-length r (overlay at (bytes 1 1) r)
+      = stored-after 1 at 1 r (omega arith) (omega arith) in
+      rw (one-byte 1 (omega arith)) at
+      (middle-valid w (stored-long 1 at 1 r (omega arith)) (stored-before 1 at 1 r (omega arith) (omega arith)) (same-within after (omega arith)) flags
+      (failure-kept after w (omega arith)) (panic-kept after w (omega arith)))
+
+  pub reboot-valid : validRegisters (overlay Layout.reboot-place (1 ∷ []) r) ≡ true
+  reboot-valid =
+      let w = registers-valid r v in
+      let at = Layout.reboot-place in
+      let set = stored-number 1 at 1 r (omega arith) (omega arith) in
+      let after : Same Layout.power-off-place Layout.registers-length r (overlay at (bytes 1 1) r) = stored-after 1 at 1 r (omega arith) (omega arith) in
+      let other = number-same after 1 Layout.power-off-place (omega arith) in
+      flag-valid at (omega arith) (omega arith)
+
+  pub power-off-valid : validRegisters (overlay Layout.power-off-place (1 ∷ []) r) ≡ true
+  power-off-valid =
+      let w = registers-valid r v in
+      let at = Layout.power-off-place in
+      let set = stored-number 1 at 1 r (omega arith) (omega arith) in
+      let before : Same 0 at r (overlay at (bytes 1 1) r) = stored-before 1 at 1 r (omega arith) (omega arith) in
+      let other = number-same before 1 Layout.reboot-place (omega arith) in
+      flag-valid at (omega arith) (omega arith)
+
+  -- a status without a bit above 1
+  pub status-valid : (n : ℕ) → n ≤ 3 → validRegisters (overlay Layout.status-place (bytes 8 n) r) ≡ true
+  status-valid n small =
+      let w = registers-valid r v in
+      let at = Layout.status-place in
+      let s = overlay at (bytes 8 n) r in
+      let new = stored-number 8 at n r (omega arith) (omega arith) in
+      let after : Same Layout.options-place Layout.registers-length r s = stored-after 8 at n r (omega arith) (omega arith) in
+      let options = number-same after 8 Layout.options-place (omega arith) in
+      let waiting = waiting-kept after w (omega arith) in
+      kept-valid
+      (record {
+        long = stored-long 8 at n r (omega arith);
+        flags-and-records = same-within after (omega arith);
+        retained = same-within after (omega arith);
+      })
+      w (omega arith) (waiting .alerts)
+
+-- ---- a record
+
+-- its bytes
+abbrev entry : ℕ → List ℕ → List ℕ
+entry code rest = bytes 1 1 ++ (bytes 2 code ++ (bytes 2 (length rest) ++ take Limits.most-kept rest))
+
+length-entry : (code : ℕ) (rest : List ℕ) → (5 ≤ length (entry code rest)) × (length (entry code rest) ≤ Layout.record-length)
+length-entry code rest = simp (length-append, length-bytes) (omega (arith, length-take Limits.most-kept rest))
+
+module _ (r : List ℕ) (at code : ℕ) (rest : List ℕ) (room : at + Layout.record-length ≤ length r) where
+  pub recorded-long : length (Receive.withRecord r at code rest) ≡ length r
+  unfolding Receive.withRecord
+  recorded-long = length-overlay at (entry code rest) r (omega (arith, length-entry code rest))
+
+  pub recorded-before : {from to : ℕ} → to ≤ at → Same from to r (Receive.withRecord r at code rest)
+  unfolding Receive.withRecord
+  recorded-before h = same-before at (entry code rest) r (omega arith) h
+
+  pub recorded-after : {from to : ℕ} → at + Layout.record-length ≤ from → Same from to r (Receive.withRecord r at code rest)
+  unfolding Receive.withRecord
+  recorded-after h = same-after at (entry code rest) r (omega arith) (omega (arith, length-entry code rest))
+
+  pub recorded-held : Layout.recordHeld (Receive.withRecord r at code rest) at ≡ 1
+  unfolding Receive.withRecord bytes
+  recorded-held =
+      ap number (rw add-zero at (overlay-part at 0 1 (entry code rest) r (omega arith) (omega (arith, length-entry code rest)))) ∙ number-bytes 1 1 (omega arith)
+
+  pub recorded-code : code < 65536 → Layout.recordCode (Receive.withRecord r at code rest) at ≡ code
+  unfolding Receive.withRecord bytes
+  recorded-code h =
+      ap number (overlay-part at Layout.record-code-place 2 (entry code rest) r (omega arith) (omega (arith, length-entry code rest))) ∙ number-bytes 2 code h
+
+  pub recorded-whole : length rest < 65536 → Layout.recordWhole (Receive.withRecord r at code rest) at ≡ length rest
+  unfolding Receive.withRecord bytes
+  recorded-whole h =
+      ap number (overlay-part at Layout.record-whole-place 2 (entry code rest) r (omega arith) (omega (arith, length-entry code rest))) ∙ number-bytes 2 (length rest) h
+
+  -- the bytes that are kept
+  pub recorded-rest : run (at + Layout.record-kept-place) (length (take Limits.most-kept rest)) (Receive.withRecord r at code rest) ≡ take Limits.most-kept rest
+  unfolding Receive.withRecord bytes
+  recorded-rest =
+      let n = length (take Limits.most-kept rest) in
+      overlay-part at Layout.record-kept-place n (entry code rest) r (omega arith) (omega arith) ∙ take-length (take Limits.most-kept rest)
+
+  recorded-valid : (most : ℕ) → length rest ≤ most → most < 65536 → RecordValid (Receive.withRecord r at code rest) at most
+  recorded-valid most short small = let whole = recorded-whole (omega arith) in omega (arith, recorded-held)
+
+module _ (r : List ℕ) (code : ℕ) (rest : List ℕ) (v : validRegisters r ≡ true) where
+  pub boot-failure-valid : code < 256 → length rest ≤ Limits.longest-boot-failure → validRegisters (Receive.withRecord r Layout.boot-failure-place code rest) ≡ true
+  boot-failure-valid byte short =
+      let w = registers-valid r v in
+      let at = Layout.boot-failure-place in
+      let room : at + Layout.record-length ≤ length r = omega arith in
+      let before : Same 0 at r (Receive.withRecord r at code rest) = recorded-before r at code rest room (omega arith) in
+      let after : Same Layout.panic-place Layout.registers-length r (Receive.withRecord r at code rest) = recorded-after r at code rest room (omega arith) in
+      let reason = recorded-code r at code rest room (omega arith) in
+      middle-valid w (recorded-long r at code rest room) (same-within before (omega arith)) (same-within after (omega arith)) (flags-kept before w (omega arith))
+      (record { reason = omega arith; entry = recorded-valid r at code rest room _ short (omega arith) }) (panic-kept after w (omega arith))
+
+  pub panic-valid : length rest ≤ Limits.longest-panic → validRegisters (Receive.withRecord r Layout.panic-place code rest) ≡ true
+  panic-valid short =
+      let w = registers-valid r v in
+      let at = Layout.panic-place in
+      let room : at + Layout.record-length ≤ length r = omega arith in
+      let before : Same 0 at r (Receive.withRecord r at code rest) = recorded-before r at code rest room (omega arith) in
+      let after : Same Layout.alert-count-place Layout.registers-length r (Receive.withRecord r at code rest) = recorded-after r at code rest room (omega arith) in
+      middle-valid w (recorded-long r at code rest room) (same-within before (omega arith)) after (flags-kept before w (omega arith))
+      (failure-kept before w (omega arith)) (recorded-valid r at code rest room _ short (omega arith))
+
+-- ---- an alert that is taken
+
+-- a cleared bit makes a number no greater
+pub clear-small : (n k : ℕ) → clearBit n k ≤ n
+unfolding clearBit
+clear-small n k = cond-by (λ m. m ≤ n) (eqb (Local.bit n k) 1) (n - 2 ^ k) n (λ _. omega arith) (λ _. omega arith)
+
+module _ (r : List ℕ) (long : Layout.registers-length ≤ length r) where
+  abbrev rest-length : ℕ
+  rest-length = (Limits.most-alerts - 1) * Layout.alert-length
+
+  length-rest : length (run (Layout.alert-place 1) rest-length r) ≡ rest-length
+  length-rest = length-run (Layout.alert-place 1) rest-length r (omega arith)
+
+  pub moved-long : length (Receive.movedAlerts r) ≡ length r
+  unfolding Receive.movedAlerts
+  moved-long = length-overlay Layout.alerts-place _ r (omega (arith, length-rest))
+
+  pub moved-before : {from to : ℕ} → to ≤ Layout.alerts-place → Same from to r (Receive.movedAlerts r)
+  unfolding Receive.movedAlerts
+  moved-before h = same-before Layout.alerts-place _ r (omega arith) h
+
+  pub moved-after : {from to : ℕ} → Layout.retained-place ≤ from → Same from to r (Receive.movedAlerts r)
+  unfolding Receive.movedAlerts
+  moved-after h = same-after Layout.alerts-place _ r (omega arith) (omega (arith, length-rest))
+
+  -- what stands in an alert stood in the one behind it
+  pub moved-run : (i j n : ℕ) → i < Limits.most-alerts - 1 → j + n ≤ Layout.alert-length
+      → run (Layout.alert-place i + j) n (Receive.movedAlerts r) ≡ run (Layout.alert-place (i + 1) + j) n r
+  unfolding Receive.movedAlerts
+  moved-run i j n low h =
+      let k = i * Layout.alert-length + j in
+      let d : Layout.alerts-place + k ≡ Layout.alert-place i + j = omega arith in
+      let e : Layout.alert-place 1 + k ≡ Layout.alert-place (i + 1) + j = omega arith in
+      let old = drop (Layout.alert-place 1) r in
+      let p = overlay-part Layout.alerts-place k n (run (Layout.alert-place 1) rest-length r) r (omega arith) (omega (arith, length-rest)) in
+      let q = same-first rest-length old (take rest-length old) (take-take rest-length rest-length old (omega arith)) .runs k n (omega arith) in
+      let s = drop-drop k (Layout.alert-place 1) r in
+      rw (d, q, s, e) at p
+
+-- one alert fewer, or none still
+pub fewer-valid : (r : List ℕ) (n : ℕ) → validRegisters r ≡ true → n ≤ Layout.alertCount r - 1
+    → validRegisters (overlay Layout.alert-count-place (bytes 1 n) (Receive.movedAlerts r)) ≡ true
+fewer-valid r n v h =
+    let w = registers-valid r v in
+    let at = Layout.alert-count-place in
+    let t = Receive.movedAlerts r in
+    let s = overlay at (bytes 1 n) t in
+    let long = moved-long r (w .long) in
+    let room : at + 1 ≤ length t = omega arith in
+    let early : Same 0 at t s = stored-before 1 at n t room (omega arith) in
+    let late : Same Layout.alerts-place Layout.registers-length t s = stored-after 1 at n t room (omega arith) in
+    let before : Same 0 at r s = same-then (moved-before r (w .long) (omega arith)) early in
+    let after : Same Layout.retained-place Layout.registers-length r s = same-then (moved-after r (w .long) (omega arith)) (same-within late (omega arith)) in
+    let numbers = numbers-kept before w (omega arith) in
+    let count = stored-number 1 at n t room (omega arith) in
+    kept-valid (record { long = stored-long 1 at n t room ∙ long; flags-and-records = same-within before (omega arith); retained = after }) w (omega arith)
+    (rw count
+    (each-all (validAlert s) n (λ i k.
+    let a = alert-valid r (i + 1) (all-each (validAlert r) _ (w .rest .alerts) (i + 1) (omega arith)) in
+    let size = number-same late 2 (Layout.alert-place i) (omega arith) ∙ ap number (simp add-zero at (moved-run r (w .long) i 0 2 (omega arith) (omega arith))) in
+    let action = number-same late 1 (Layout.alert-place i + Layout.alert-action-place) (omega arith)
+    ∙ ap number (moved-run r (w .long) i Layout.alert-action-place 1 (omega arith) (omega arith)) in
+    valid-alert s i (omega arith))))
+
+module _ (r : List ℕ) (sequence : ℕ) (v : validRegisters r ≡ true) where
+  pub retained-before : {from to : ℕ} → to ≤ Layout.retained-place → Same from to r (Receive.withRetained r sequence)
+  unfolding Receive.withRetained
+  retained-before h = let w = registers-valid r v in same-before Layout.retained-place _ r (omega arith) h
+
+  -- whether a reply is retained
+  pub retained-held : numberAt 1 (Receive.withRetained r sequence) Layout.retained-place ≡ 1
+  unfolding Receive.withRetained bytes
+  retained-held =
+      let w = registers-valid r v in
+      ap number (overlay-part Layout.retained-place 0 1 _ r (omega arith) (omega arith)) ∙ number-bytes 1 1 (omega arith)
+
+  pub retained-valid : validRegisters (Receive.withRetained r sequence) ≡ true
+  retained-valid =
+      let w = registers-valid r v in
+      let a = retained-settled r sequence v in
+      let before : Same 0 Layout.retained-place r (Receive.withRetained r sequence) = retained-before (omega arith) in
+      let held = retained-held in
+      groups-valid (omega arith) (numbers-kept before w (omega arith)) (flags-kept before w (omega arith)) (failure-kept before w (omega arith))
+      (panic-kept before w (omega arith)) (waiting-kept before w (omega arith)) (omega arith)
+
+  pub taken-valid : validRegisters (Receive.withTaken r sequence) ≡ true
+  unfolding Receive.withTaken
+  taken-valid =
+      let w = registers-valid r v in
+      let before : Same 0 Layout.retained-place r (Receive.withRetained r sequence) = retained-before (omega arith) in
+      let count = number-same before 1 Layout.alert-count-place (omega arith) in
+      status-valid _ (fewer-valid (Receive.withRetained r sequence) (Layout.alertCount r - 1) retained-valid (omega arith)) _
+      (cond-by (λ n. n ≤ 3) (leb (Layout.alertCount r) 1) _ _ (λ _. omega (arith, clear-small (Layout.statusOf r) 1)) (λ _. w .status))
+
+  pub alert-registers-valid : validRegisters (Receive.alertRegisters r sequence) ≡ true
+  unfolding Receive.alertRegisters
+  alert-registers-valid = cond-by (λ s. validRegisters s ≡ true) (Receive.isRetained r sequence) r (Receive.withTaken r sequence) (λ _. v) (λ _. taken-valid)
+
+-- ---- the settings
+
+-- a value's bytes in its setting
+abbrev settingBytes : List ℕ → List ℕ
+settingBytes v = bytes 1 1 ++ (bytes 2 (length v) ++ v)
+
+length-setting : (v : List ℕ) → length (settingBytes v) ≡ Layout.setting-value-place + length v
+length-setting v = simp (length-append, length-bytes) (omega arith)
+
+module _ (s v : List ℕ) (at : ℕ) (room : at + (Layout.setting-value-place + length v) ≤ length s) where
+  pub setting-long : length (Receive.withValue s at v) ≡ length s
+  unfolding Receive.withValue
+  setting-long = length-overlay at (settingBytes v) s (omega (arith, length-setting v))
+
+  pub setting-before : {from to : ℕ} → to ≤ at → Same from to s (Receive.withValue s at v)
+  unfolding Receive.withValue
+  setting-before h = same-before at (settingBytes v) s (omega arith) h
+
+  pub setting-after : {from to : ℕ} → at + (Layout.setting-value-place + length v) ≤ from → Same from to s (Receive.withValue s at v)
+  unfolding Receive.withValue
+  setting-after h = same-after at (settingBytes v) s (omega arith) (omega (arith, length-setting v))
+
+  pub setting-held : Layout.settingHeld (Receive.withValue s at v) at ≡ 1
+  unfolding Receive.withValue bytes
+  setting-held =
+      ap number (rw add-zero at (overlay-part at 0 1 (settingBytes v) s (omega arith) (omega (arith, length-setting v)))) ∙ number-bytes 1 1 (omega arith)
+
+  pub setting-size : length v < 65536 → Layout.settingLength (Receive.withValue s at v) at ≡ length v
+  unfolding Receive.withValue bytes
+  setting-size h =
+      ap number (overlay-part at Layout.setting-length-place 2 (settingBytes v) s (omega arith) (omega (arith, length-setting v))) ∙ number-bytes 2 (length v) h
+
+  pub setting-value : run (at + Layout.setting-value-place) (length v) (Receive.withValue s at v) ≡ v
+  unfolding Receive.withValue bytes
+  setting-value =
+      overlay-part at Layout.setting-value-place (length v) (settingBytes v) s (omega arith) (omega (arith, length-setting v)) ∙ take-length v
+
+module _ (s v : List ℕ) (w : SettingsValid s) (at most : ℕ) (short : length v ≤ most) (room : (at + (Layout.setting-value-place + most) ≤ Layout.settings-length) × (most < 65536)) where
+  -- a setting lies before the one that is stored, or is that one, or lies behind it
+  abbrev Lies : ℕ → ℕ → Type 0
+  Lies bt m = (bt + Layout.setting-value-place ≤ at) ⊎ ((bt ≡ at) × (m ≡ most)) ⊎ (at + (Layout.setting-value-place + most) ≤ bt)
+
+  setting-kept : {bt m : ℕ} → Same bt (bt + Layout.setting-value-place) s (Receive.withValue s at v) → SettingValid s bt m → SettingValid (Receive.withValue s at v) bt m
+  setting-kept {bt} same g =
+      let held = number-same same 1 bt (omega arith) in
+      let size = number-same same 2 (bt + Layout.setting-length-place) (omega arith) in
+      omega arith
+
+  setting-left : (bt m : ℕ) → Lies bt m → SettingValid s bt m → SettingValid (Receive.withValue s at v) bt m
+  setting-left bt m (inl h) g = setting-kept (setting-before s v at (omega arith) h) g
+  setting-left bt m (inr (inl h)) g = rw (h .0, h .1) (omega (arith, setting-held s v at (omega arith), setting-size s v at (omega arith) (omega arith)))
+  setting-left bt m (inr (inr h)) g = setting-kept (setting-after s v at (omega arith) (omega arith)) g
+
+  settings-left : Lies Layout.key-3-place Limits.longest-key-3 → Lies Layout.key-4-place Limits.longest-key-4 → Lies Layout.key-5-place Limits.longest-key-5
+      → validSettings (Receive.withValue s at v) ≡ true
+  settings-left h k l =
+      valid-settings _
+      (record {
+        long = omega (arith, setting-long s v at (omega arith));
+        key-3 = setting-left _ _ h (w .key-3);
+        key-4 = setting-left _ _ k (w .key-4);
+        key-5 = setting-left _ _ l (w .key-5);
+      })
+
+module _ (s v : List ℕ) (w : validSettings s ≡ true) where
+  abbrev Left : Receive.KeyStored → Type 0
+  Left k = validSettings (k .settings) ≡ true
+
+  -- a value that is not too long is stored
+  stored-valid : (at most : ℕ) → (length v ≤ most → validSettings (Receive.withValue s at v) ≡ true) → Left (Receive.storingAt s at most v)
+  unfolding Receive.storingAt
+  stored-valid at most f = cond-by Left (ltb most (length v)) _ _ (λ _. w) (λ e. f (ltb-false _ _ e))
+
+  pub storing-valid : (key : ℕ) → validSettings (Receive.storing s key v .settings) ≡ true
+  unfolding Receive.storing
+  storing-valid key =
+      let g = settings-valid s w in
+      cond-by Left (ltb Limits.highest-key key) _ _ (λ _. w) (λ _.
+      cond-by Left (ltb key 3) _ _ (λ _. w) (λ _.
+      cond-by Left (eqb key 3) _ _ (λ _.
+      stored-valid _ _ (λ h. settings-left s v g _ _ h (omega arith) (inr (inl (refl, refl))) (inr (inr (omega arith))) (inr (inr (omega arith))))) (λ _.
+      cond-by Left (eqb key 4) _ _ (λ _.
+      stored-valid _ _ (λ h. settings-left s v g _ _ h (omega arith) (inl (omega arith)) (inr (inl (refl, refl))) (inr (inr (omega arith))))) (λ _.
+      stored-valid _ _ (λ h. settings-left s v g _ _ h (omega arith) (inl (omega arith)) (inl (omega arith)) (inr (inl (refl, refl))))))))
+
+-- ---- the data of a reply
+
+-- a run has at most as many bytes as it asks for
+pub run-short : (at n most : ℕ) (s : List ℕ) → n ≤ most → length (run at n s) ≤ most
+run-short at n most s h = omega (arith, length-take n (drop at s))
+
+pub block-short : (f image d : List ℕ) → length (Receive.blockBytes f image d) ≤ Limits.longest-block
+unfolding Receive.blockBytes
+block-short f image d =
+    cond-by (λ l. length l ≤ Limits.longest-block) (equal (run 0 32 d) (run Layout.hash-place 32 f)) _ []
+    (λ _. run-short (numberAt 8 d 32) Limits.longest-block Limits.longest-block image (omega arith)) (λ _. omega arith)
+
+-- the result and the value of a key
+pub value-data-short : (f s d : List ℕ) → validFactory f ≡ true → validSettings s ≡ true → length (Receive.valueBytes f s d) ≤ 1 + Limits.longest-key-4
+unfolding Receive.valueBytes
+value-data-short f s d v w = simp (length-append, length-bytes) (omega (arith, value-short f s (numberAt 1 d 0) (numberAt 2 d 1) v w))
+
+pub item-short : (f : List ℕ) (index : ℕ) → validFactory f ≡ true → length (Receive.itemBytes f index) ≤ Layout.item-data-length-place + Limits.longest-item-data
+unfolding Receive.itemBytes
+item-short f index v =
+    let at = Layout.item-place index in
+    let head = run at Layout.item-data-length-place f in
+    let tail = run (at + Layout.item-data-place) (Receive.itemDataLength f at) f in
+    cond-by (λ l. length l ≤ Layout.item-data-length-place + Limits.longest-item-data) (ltb index (Layout.itemCount f)) (head ++ tail) (1 ∷ replicate 33 0)
+    (λ e.
+    let held = item-held f index v (ltb-true _ _ e) in
+    let a = run-short at Layout.item-data-length-place Layout.item-data-length-place f (omega arith) in
+    let b = run-short (at + Layout.item-data-place) (Receive.itemDataLength f at) Limits.longest-item-data f (held .size) in
+    simp length-append (omega arith))
+    (λ _. omega arith)
+
+-- the action and the text of an alert
+pub alert-data-short : (r : List ℕ) (sequence : ℕ) → validRegisters r ≡ true
+    → length (Receive.retainedData (Receive.alertRegisters r sequence)) ≤ 1 + Limits.longest-alert
+alert-data-short r sequence v =
+    let s = Receive.alertRegisters r sequence in
+    let a = settled r sequence v {s = s} refl in
+    run-short (Layout.retained-alert-place + Layout.alert-action-place) (1 + Layout.alertTextLength s Layout.retained-alert-place) (1 + Limits.longest-alert) s (omega arith)
+
+-- a reply with data that a message may have, with one byte, and to a request that changes no more than the pending reply
+pub reply-short : (sequence command : ℕ) (payload : List ℕ) → length payload ≤ longest-data
+    → length (Receive.replyBytes sequence command payload) ≤ longest-form + 1
+reply-short sequence command payload h = frame-fits (Receive.messageBy 1 sequence command payload) h
+
+pub byte-reply-short : (sequence command n : ℕ) → length (Receive.replyBytes sequence command (bytes 1 n)) ≤ longest-form + 1
+byte-reply-short sequence command n = reply-short sequence command (bytes 1 n) (rw length-bytes (omega arith))
+
+abbrev Short : List ℕ → Type 0
+Short l = length l ≤ longest-form + 1
+
+pub asked-short : (image f s r : List ℕ) (reply command : ℕ) (d : List ℕ) → validFactory f ≡ true → validSettings s ≡ true
+    → length (Receive.askedBytes image f s r reply command d) ≤ longest-form + 1
+unfolding Receive.askedBytes
+asked-short image f s r reply command d v w =
+    cond-by Short (eqb command 0x03) _ _ (λ _. reply-short _ _ _ (run-short Layout.bsu-place 1 longest-data f (omega arith))) (λ _.
+    cond-by Short (eqb command 0x04) _ _ (λ _. reply-short _ _ _ (run-short Layout.identity-place 26 longest-data f (omega arith))) (λ _.
+    cond-by Short (eqb command 0x05) _ _ (λ _. reply-short _ _ _ (run-short Layout.mac-place 9 longest-data f (omega arith))) (λ _.
+    cond-by Short (eqb command 0x08) _ _ (λ _. reply-short _ _ _ (run-short Layout.status-place 16 longest-data r (omega arith))) (λ _.
+    cond-by Short (eqb command 0x0d) _ _ (λ _. reply-short _ _ _ (omega (arith, block-short f image d))) (λ _.
+    cond-by Short (eqb command 0x0e) _ _ (λ _. reply-short _ _ _ (omega (arith, value-data-short f s d v w))) (λ _.
+    reply-short _ _ _ (omega (arith, item-short f (numberAt 4 d 0) v))))))))
+
+-- ---- all that a request changes
+
+pub record InnerValid (i : Receive.Inner) : Type 0 where
+  pub outbox : validOutbox (i .outbox) ≡ true
+  pub settings : validSettings (i .settings) ≡ true
+  pub registers : validRegisters (i .registers) ≡ true
+
+pub inner-valid : (i : Receive.Inner) → Receive.validInner i ≡ true → InnerValid i
+unfolding Receive.validInner
+inner-valid i e =
+    let a = and-eq-true-iff (validOutbox (i .outbox)) _ .0 e in
+    let b = and-eq-true-iff (validSettings (i .settings)) _ .0 (a .1) in
+    record { outbox = a .0; settings = b .0; registers = b .1 }
+
+pub valid-inner : (i : Receive.Inner) → InnerValid i → Receive.validInner i ≡ true
+unfolding Receive.validInner
+valid-inner i v =
+    and-eq-true-iff (validOutbox (i .outbox)) _ .1 (v .outbox, and-eq-true-iff (validSettings (i .settings)) _ .1 (v .settings, v .registers))
+
+-- bytes sent, and other settings and registers
+changed-valid : (o bs s r : List ℕ) → validOutbox o ≡ true → length bs ≤ longest-form + 1 → validSettings s ≡ true → validRegisters r ≡ true
+    → Receive.validInner (Receive.inner (Receive.sentBox bs o) s r) ≡ true
+changed-valid o bs s r v h k l = valid-inner _ (record { outbox = box-valid o bs v h; settings = k; registers = l })
+
+pub answering-valid : (i : Receive.Inner) (sequence command : ℕ) (payload : List ℕ) → Receive.validInner i ≡ true → length payload ≤ longest-data
+    → Receive.validInner (Receive.answering i sequence command payload) ≡ true
+unfolding Receive.answering
+answering-valid i sequence command payload v h =
+    let w = inner-valid i v in
+    changed-valid _ _ _ _ (w .outbox) (reply-short sequence command payload h) (w .settings) (w .registers)
+
+pub acknowledged-valid : (i : Receive.Inner) (reply : ℕ) (r : List ℕ) → Receive.validInner i ≡ true → validRegisters r ≡ true
+    → Receive.validInner (Receive.acknowledged i reply r) ≡ true
+unfolding Receive.acknowledged
+acknowledged-valid i reply r v h =
+    let w = inner-valid i v in
+    changed-valid _ _ _ _ (w .outbox) (reply-short reply 0x01 [] (omega arith)) (w .settings) h
+
+pub silently-valid : (i : Receive.Inner) (r : List ℕ) → Receive.validInner i ≡ true → validRegisters r ≡ true → Receive.validInner (Receive.silently i r) ≡ true
+unfolding Receive.silently
+silently-valid i r v h =
+    let w = inner-valid i v in
+    changed-valid _ [] _ _ (w .outbox) (omega arith) (w .settings) h
+
+abbrev Good : Receive.Inner → Type 0
+Good i = Receive.validInner i ≡ true
+
+pub carried-valid : (image f : List ℕ) (i : Receive.Inner) (sequence command : ℕ) (d : List ℕ) → validFactory f ≡ true → Receive.validInner i ≡ true
+    → length d ≤ longest-data → numberAt 1 d 0 < 256 → Receive.validInner (Receive.carriedInner image f i sequence command d) ≡ true
+unfolding Receive.carriedInner Receive.keySetAnswered Receive.alertAnswered
+carried-valid image f i sequence command d g v short byte =
+    let w = inner-valid i v in
+    let r = i .registers in
+    cond-by Good (eqb command 0x01) _ _ (λ _. silently-valid i _ v (reboot-valid r (w .registers))) (λ _.
+    cond-by Good (eqb command 0x02) _ _ (λ _. silently-valid i _ v (power-off-valid r (w .registers))) (λ _.
+    cond-by Good (eqb command 0x06) _ _ (λ _.
+    silently-valid i _ v (boot-failure-valid r (numberAt 1 d 0) (drop 1 d) (w .registers) byte (omega (arith, length-drop 1 d)))) (λ _.
+    cond-by Good (eqb command 0x10) _ _ (λ _.
+    changed-valid _ _ _ _ (w .outbox) (byte-reply-short _ 0x0c _) (storing-valid (i .settings) (drop 1 d) (w .settings) (numberAt 1 d 0)) (w .registers)) (λ _.
+    cond-by Good (eqb command 0x0a) _ _ (λ _.
+    changed-valid _ _ _ _ (w .outbox) (reply-short _ 0x07 _ (omega (arith, alert-data-short r sequence (w .registers)))) (w .settings) (alert-registers-valid r sequence (w .registers))) (λ _.
+    cond-by Good (eqb command 0x07) _ _ (λ _.
+    acknowledged-valid i _ _ v (panic-valid r (numberAt 2 d 0) (drop 2 d) (w .registers) (omega (arith, length-drop 2 d)))) (λ _.
+    cond-by Good (eqb command 0x09) _ _ (λ _.
+    let s = registers-valid r (w .registers) in
+    acknowledged-valid i _ _ v (status-valid r (w .registers) _ (omega (arith, clear-small (Layout.statusOf r) 0)))) (λ _.
+    changed-valid _ _ _ _ (w .outbox) (asked-short image f (i .settings) r (topSet sequence) command d g (w .settings)) (w .settings) (w .registers))))))))

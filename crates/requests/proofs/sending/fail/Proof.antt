@@ -1,0 +1,14 @@
+-- `requests::sending::fail` meets its contract.
+-- Assumes nothing.
+use mathlib.Core.Path.{refl}
+use borrow.Author.Needs.{needs}
+use Rattle.requests.specs.Receive.{endedSaid}
+use Rattle.requests.proofs.sending.fail.Statement.{statement}
+use Rattle.requests.proofs.sending.fail.Tie as tie
+
+returns : tie.Need-returns
+unfolding endedSaid
+returns c = (refl, c .before .before .send-byte .ensures)
+
+pub fail-spec : {M : Type 1} → statement M
+fail-spec = tie.close (tie.spec (λ c κs. search needs) (λ c. search needs) returns)

@@ -1,0 +1,304 @@
+-- The requests that change no more than the pending reply, on valid parts that hold bytes: each reply is the one that document 01 has.
+-- Assumes nothing.
+use mathlib.Core.Path.{_≡_, refl, sym, _∙_}
+use mathlib.Core.Bool.{Bool, true, false, cond, _&&_, _||_, and-eq-true-iff}
+use mathlib.Core.List.{List, [], _∷_, _++_, append-assoc}
+use mathlib.Core.Option.{Option, none, some}
+use Prim.Native.Nat.{ℕ, zero, suc, _+_, _≤_, _<_}
+use native.Mathlib.Numerals.{add-one}
+use native.Mathlib.Omega.{arith}
+use lib.Dec.{leb, ltb, eqb}
+use lib.ListN.{length, drop, replicate, length-append, length-take}
+use borrow.Author.Count.{below-none, below-more}
+use borrow.Author.Tests.{leb-true, ltb-true, ltb-false, eqb-false, eq-eqb}
+use Rattle.octets.specs.Bytes.{Byte, Each, bytes, run, numberAt, equal}
+use Rattle.octets.proofs.Conditions.{cond-by, cond-both}
+use Rattle.octets.proofs.Each.{each-append}
+use Rattle.line.specs.Limits.{longest-data, longest-form}
+use Rattle.line.specs.Message.{Message}
+use Rattle.supervisor.specs.Limits
+use Rattle.supervisor.specs.Layout
+use Rattle.supervisor.specs.Number.{topSet}
+use Rattle.supervisor.specs.State.{Item, State}
+use Rattle.supervisor.specs.Local
+use Rattle.supervisor.specs.Valid.{validFactory, validSettings, validRegisters}
+use Rattle.supervisor.specs.Calls
+use Rattle.supervisor.proofs.AlertLaws.{one-byte}
+use Rattle.supervisor.proofs.KeyLaws.{value-short}
+use Rattle.supervisor.proofs.ValidLaws.{factory-valid, registers-valid}
+use Rattle.requests.specs.Requests
+use Rattle.requests.specs.Receive.{replyBytes, itemDataLength, itemBytes, blockBytes, valueBytes, askedBytes}
+use Rattle.requests.proofs.ReceiveLaws.{ItemHeld, item-held}
+use Rattle.supervisor_claims.specs.View.{listed, itemAt, factoryOf, view}
+use Rattle.supervisor_claims.specs.ViewLaws.{length-listed}
+use Rattle.supervisor_claims.specs.Meant.{Valid}
+use Rattle.supervisor_claims.specs.LookupClaim.{number-run, run-add, lookup-meant}
+use Rattle.supervisor_claims.specs.SendingClaim.{Sendable, run-each, run-sendable, reply-sendable}
+
+-- ---- a list of items by the index
+
+first-items : (is js : List Item) (i : ℕ) → i < length is → Requests.itemOf (is ++ js) i ≡ Requests.itemOf is i
+unfolding Requests.itemOf
+first-items [] js i h = absurd (omega arith)
+first-items (x ∷ is) js zero h = refl
+first-items (x ∷ is) js (suc i) h = first-items is js i (omega arith)
+
+next-item : (is : List Item) (x : Item) → Requests.itemOf (is ++ x ∷ []) (length is) ≡ some x
+unfolding Requests.itemOf
+next-item [] x = refl
+next-item (y ∷ is) x = next-item is x
+
+no-item : (is : List Item) (i : ℕ) → length is ≤ i → Requests.itemOf is i ≡ none
+unfolding Requests.itemOf
+no-item [] i h = refl
+no-item (x ∷ is) zero h = absurd (omega arith)
+no-item (x ∷ is) (suc i) h = no-item is i (omega arith)
+
+module _ (g : ℕ → Item) where
+  pub listed-item : (n i : ℕ) → i < n → Requests.itemOf (listed g n) i ≡ some (g i)
+  unfolding listed
+  listed-item zero = below-none (λ i. Requests.itemOf [] i ≡ some (g i))
+  listed-item (suc n) =
+      let next = next-item (listed g n) (g n) in
+      rw add-one at
+      (below-more (λ i. Requests.itemOf (listed g n ++ g n ∷ []) i ≡ some (g i)) n
+      (λ i h. first-items (listed g n) (g n ∷ []) i (rw length-listed h) ∙ listed-item n i h)
+      (rw length-listed at next))
+
+  pub listed-none : (n i : ℕ) → n ≤ i → Requests.itemOf (listed g n) i ≡ none
+  listed-none n i h = no-item (listed g n) i (rw length-listed h)
+
+-- ---- runs of a store
+
+-- three runs, one behind the other
+run-three : (at i j k : ℕ) (s : List ℕ) → run at (i + (j + k)) s ≡ run at i s ++ (run (at + i) j s ++ run (at + i + j) k s)
+run-three at i j k s = run-add at i (j + k) s ∙ rw (run-add (at + i) j k s)
+
+-- a run whose length is chosen
+run-chosen : (at n : ℕ) (t : Bool) (s : List ℕ) → run at (cond t n 0) s ≡ cond t (run at n s) []
+run-chosen at n true s = refl
+run-chosen at n false s = refl
+
+-- two runs
+runs-sendable : (at n bt k : ℕ) (s : List ℕ) → n + k ≤ longest-data → Each Byte s → Sendable (run at n s ++ run bt k s)
+runs-sendable at n bt k s h b = (
+  rw length-append (omega (arith, length-take n (drop at s), length-take k (drop bt s))),
+  each-append Byte (run at n s) (run bt k s) (run-each at n s b) (run-each bt k s b),
+)
+
+zeros-each : (n : ℕ) → Each Byte (replicate n 0)
+zeros-each zero = tt
+zeros-each (suc n) = (omega arith, zeros-each n)
+
+-- ---- a block of the image
+
+pub block-meant : (f image d : List ℕ) → blockBytes f image d ≡ Requests.block (factoryOf f) image d
+unfolding blockBytes Requests.block factoryOf
+block-meant f image d = refl
+
+pub block-sendable : (f image d : List ℕ) → Each Byte image → Sendable (blockBytes f image d)
+unfolding blockBytes
+block-sendable f image d h =
+    cond-by Sendable (equal (run 0 32 d) (run Layout.hash-place 32 f)) _ []
+    (λ e. run-sendable (numberAt 8 d 32) Limits.longest-block image (omega arith) h) (λ e. (omega arith, tt))
+
+-- ---- the factory store
+
+module _ (f : List ℕ) (valid : validFactory f ≡ true) (b : Each Byte f) where
+  pub bsu-meant : run Layout.bsu-place 1 f ≡ bytes 1 (factoryOf f .bsu)
+  unfolding factoryOf
+  bsu-meant = let v = factory-valid f valid in sym (number-run 1 Layout.bsu-place f (omega arith) b)
+
+  pub identity-meant : run Layout.identity-place 26 f ≡ factoryOf f .model ++ (bytes 4 (factoryOf f .revision) ++ factoryOf f .serial)
+  unfolding factoryOf
+  identity-meant =
+      let v = factory-valid f valid in
+      rw (number-run 4 (Layout.identity-place + 11) f (omega arith) b) (run-three Layout.identity-place 11 4 11 f)
+
+  pub mac-meant : run Layout.mac-place 9 f ≡ factoryOf f .base ++ (bytes 2 (factoryOf f .count) ++ bytes 1 (factoryOf f .stride))
+  unfolding factoryOf
+  mac-meant =
+      let v = factory-valid f valid in
+      rw (number-run 2 (Layout.mac-place + 6) f (omega arith) b, number-run 1 (Layout.mac-place + 8) f (omega arith) b)
+      (run-three Layout.mac-place 6 2 1 f)
+
+  -- an item that is there
+  item-run : (index : ℕ) → ItemHeld f index → let at = Layout.item-place index in
+      run at Layout.item-data-length-place f ≡ bytes 1 (numberAt 1 f at) ++ (run (at + 1) 32 f ++ bytes 1 (numberAt 1 f (at + 33)))
+  item-run index held =
+      let at = Layout.item-place index in
+      let e : at + 1 + 32 ≡ at + 33 = omega arith in
+      rw (number-run 1 at f (omega arith) b, number-run 1 (at + 33) f (omega arith) b, ← e) (run-three at 1 32 1 f)
+
+  pub item-meant : (index : ℕ) → itemBytes f index ≡ Requests.inventoried (Requests.itemOf (factoryOf f .items) index)
+  unfolding itemBytes itemDataLength Requests.inventoried factoryOf itemAt
+  item-meant index =
+      let n = Layout.itemCount f in
+      let at = Layout.item-place index in
+      cond-by (λ bs. bs ≡ Requests.inventoried (Requests.itemOf (listed (itemAt f) n) index)) (ltb index n) _ _
+      (λ e.
+      let l = ltb-true index n e in
+      rw (listed-item (itemAt f) n index l, item-run index (item-held f index valid l), run-chosen (at + Layout.item-data-place)) (simp append-assoc))
+      (λ e. rw (listed-none (itemAt f) n index (ltb-false index n e)))
+
+  pub item-sendable : (index : ℕ) → Sendable (itemBytes f index)
+  unfolding itemBytes
+  item-sendable index =
+      let at = Layout.item-place index in
+      cond-by Sendable (ltb index (Layout.itemCount f)) _ _
+      (λ e.
+      let held = item-held f index valid (ltb-true _ _ e) in
+      runs-sendable at Layout.item-data-length-place (at + Layout.item-data-place) (itemDataLength f at) f (omega arith) b)
+      (λ e. (omega arith, (omega arith, zeros-each 33)))
+
+-- ---- the registers
+
+pub status-meant : (r : List ℕ) → validRegisters r ≡ true → Each Byte r
+    → run Layout.status-place 16 r ≡ bytes 8 (Layout.statusOf r) ++ bytes 8 (Layout.optionsOf r)
+status-meant r valid b =
+    let v = registers-valid r valid in
+    rw (number-run 8 Layout.status-place r (omega arith) b, number-run 8 Layout.options-place r (omega arith) b) (run-add Layout.status-place 8 8 r)
+
+-- ---- a key's value
+
+fitted-small : (most : ℕ) (v : Option (List ℕ)) → Local.fitted most v .result ≤ 3
+unfolding Local.fitted
+fitted-small most none = omega arith
+fitted-small most (some v) = cond-by (λ (x : Local.Found). x .result ≤ 3) (ltb most (length v)) _ _ (λ e. omega arith) (λ e. omega arith)
+
+found-small : (s : State) (key most : ℕ) → Local.lookup s key most .result ≤ 3
+unfolding Local.lookup
+found-small s key most =
+    cond-by (λ (x : Local.Found). x .result ≤ 3) (ltb Limits.highest-key key) _ _ (λ e. omega arith) (λ e. fitted-small most (Local.valueOf s key))
+
+-- the bytes at a place q
+abbrev BytesAt : {Q : Type 0} → (Q → List ℕ) → Q → Type 0
+BytesAt value q = Each Byte (value q)
+
+module _ (f s : List ℕ) (fb : Each Byte f) (sb : Each Byte s) (most : ℕ) where
+  part-each : (at n : ℕ) (l : List ℕ) → Each Byte l → Each Byte (Calls.within most n (run at n l))
+  part-each at n l h =
+      cond-by (Each Byte) (ltb most n) [] (run at n l) (λ e. tt) (λ e. run-each at n l h)
+
+  setting-each : (at : ℕ) → BytesAt (Calls.valueAt f s most) (Calls.settingAt s at)
+  unfolding Calls.settingAt Calls.valueAt
+  setting-each at =
+      cond-by (BytesAt (Calls.valueAt f s most)) (eqb (Layout.settingHeld s at) 1) _ _
+      (λ e. part-each (at + Layout.setting-value-place) (Layout.settingLength s at) s sb) (λ e. tt)
+
+  place-each : (key : ℕ) → BytesAt (Calls.valueAt f s most) (Calls.placeOf f s key)
+  unfolding Calls.placeOf Calls.valueAt
+  place-each key =
+      let P = BytesAt (Calls.valueAt f s most) in
+      cond-by P (eqb key 0) _ _ (λ e. part-each Layout.pong-place 4 f fb) (λ e.
+      cond-by P (eqb key 1) _ _ (λ e. part-each Layout.image-id-place (Layout.imageIdLength f) f fb) (λ e.
+      cond-by P (eqb key 2) _ _ (λ e. part-each Layout.item-count-place 8 f fb) (λ e.
+      cond-by P (eqb key 3) _ _ (λ e. setting-each Layout.key-3-place) (λ e.
+      cond-by P (eqb key 4) _ _ (λ e. setting-each Layout.key-4-place) (λ e.
+      setting-each Layout.key-5-place)))))
+
+  value-each : (key : ℕ) → Each Byte (Calls.lookupValue f s key most)
+  unfolding Calls.lookupValue
+  value-each key =
+      cond-by (Each Byte) (validFactory f && validSettings s) _ []
+      (λ e. cond-by (Each Byte) (ltb Limits.highest-key key) [] _ (λ k. tt) (λ k. place-each key)) (λ e. tt)
+
+-- ---- the commands that are left
+
+-- none of the commands that change more than the pending reply
+pub record Asks (command : ℕ) : Type 0 where
+  pub known : Requests.known command ≡ true
+  pub reboot : eqb command 0x01 ≡ false
+  pub power-off : eqb command 0x02 ≡ false
+  pub boot-failure : eqb command 0x06 ≡ false
+  pub panic : eqb command 0x07 ≡ false
+  pub start : eqb command 0x09 ≡ false
+  pub alert : eqb command 0x0a ≡ false
+  pub key-set : eqb command 0x10 ≡ false
+
+-- the other test, where the one fails
+other : (x y : Bool) → (x ≡ true → ⊥) → (x || y) ≡ true → y ≡ true
+other true y f e = absurd (f refl)
+other false y f e = e
+
+between : (low c high : ℕ) → (leb low c && leb c high) ≡ true → (low ≤ c) × (c ≤ high)
+between low c high e = let t = and-eq-true-iff (leb low c) (leb c high) .0 e in (leb-true low c (t .0), leb-true c high (t .1))
+
+-- inventory is the last
+inventory-left : (c : ℕ) → Asks c → eqb c 0x03 ≡ false → eqb c 0x04 ≡ false → eqb c 0x05 ≡ false → eqb c 0x08 ≡ false → eqb c 0x0d ≡ false
+    → eqb c 0x0e ≡ false → eqb c 0x0f ≡ true
+unfolding Requests.known
+inventory-left c a bsu identity mac status block key =
+    let t = between 0x0d c 0x10 (other (leb 0x01 c && leb c 0x0a) (leb 0x0d c && leb c 0x10) below (a .known)) in
+    let past-key = past 0x0e (past 0x0d (t .0) block) key in
+    eq-eqb c 0x0f (omega (arith, eqb-false c 0x10 (a .key-set)))
+  where
+    past : (n : ℕ) → n ≤ c → eqb c n ≡ false → n + 1 ≤ c
+    past n h e = omega (arith, eqb-false c n e)
+
+    below : (leb 0x01 c && leb c 0x0a) ≡ true → ⊥
+    below e =
+        let t = between 0x01 c 0x0a e in
+        let past-mac = past 0x05 (past 0x04 (past 0x03 (past 0x02 (past 0x01 (t .0) (a .reboot)) (a .power-off)) bsu) identity) mac in
+        let past-alert = past 0x0a (past 0x09 (past 0x08 (past 0x07 (past 0x06 past-mac (a .boot-failure)) (a .panic)) status) (a .start)) (a .alert) in
+        omega arith
+
+-- ---- the claim
+
+-- the data of a reply, where there is one
+abbrev pub SendableReply : Option (ℕ × List ℕ) → Type 0
+SendableReply none = Unit {0}
+SendableReply (some r) = Sendable (r .1)
+
+-- the bytes sent are the reply's of what is carried out, and nothing else changes
+pub record Answers (p : Calls.Parts) (sequence : ℕ) (bs : List ℕ) (c : Requests.Carried) : Type 0 where
+  pub state : c .state ≡ view p
+  pub frame : bs ≡ Requests.replyFrame (Requests.replyOf sequence (c .reply))
+  pub payload : SendableReply (c .reply)
+  pub short : length bs ≤ longest-form + 1
+  pub bytes : Each Byte bs
+
+module _ (p : Calls.Parts) (v : Valid p) (fb : Each Byte (p .factory)) (sb : Each Byte (p .settings)) (rb : Each Byte (p .registers)) where
+  pub value-meant : (d : List ℕ) → let found = Local.lookup (view p) (numberAt 1 d 0) (numberAt 2 d 1) in
+      valueBytes (p .factory) (p .settings) d ≡ found .result ∷ found .value
+  unfolding valueBytes
+  value-meant d =
+      let key = numberAt 1 d 0 in
+      let most = numberAt 2 d 1 in
+      let looked = lookup-meant p v fb key most in
+      let small = found-small (view p) key most in
+      rw (looked .0, looked .1, one-byte (Local.lookup (view p) key most .result) (omega arith))
+
+  pub value-sendable : (d : List ℕ) → Sendable (valueBytes (p .factory) (p .settings) d)
+  unfolding valueBytes bytes
+  value-sendable d =
+      let key = numberAt 1 d 0 in
+      let most = numberAt 2 d 1 in
+      (omega (arith, value-short (p .factory) (p .settings) key most (v .factory) (v .settings)), (omega arith, value-each (p .factory) (p .settings) fb sb most key))
+
+  answers : (sequence command : ℕ) {bs payload : List ℕ} → bs ≡ payload → Sendable bs
+      → Answers p sequence (replyBytes (topSet sequence) command bs) (Requests.replied (view p) command payload)
+  unfolding Requests.replyFrame Requests.replyOf
+  answers sequence command {bs} e s =
+      let sent = reply-sendable (topSet sequence) command bs s in
+      record { state = refl; frame = rw e; payload = rw e at s; short = sent .0; bytes = sent .1 }
+
+  pub asked-carried : (image : List ℕ) → Each Byte image → (m : Message) → Asks (m .command)
+      → Answers p (m .sequence) (askedBytes image (p .factory) (p .settings) (p .registers) (topSet (m .sequence)) (m .command) (m .payload))
+      (Requests.carried image (view p) m)
+  unfolding askedBytes Requests.carried view
+  asked-carried image ib m a =
+      let f = p .factory in
+      let r = p .registers in
+      let c = m .command in
+      let d = m .payload in
+      let A = Answers p (m .sequence) in
+      rw (a .reboot, a .power-off, a .boot-failure, a .panic, a .start, a .alert)
+      (cond-both A (eqb c 0x03) (λ e. answers (m .sequence) 0x03 (bsu-meant f (v .factory) fb) (run-sendable Layout.bsu-place 1 f (omega arith) fb)) (λ bsu.
+      cond-both A (eqb c 0x04) (λ e. answers (m .sequence) 0x04 (identity-meant f (v .factory) fb) (run-sendable Layout.identity-place 26 f (omega arith) fb)) (λ identity.
+      cond-both A (eqb c 0x05) (λ e. answers (m .sequence) 0x05 (mac-meant f (v .factory) fb) (run-sendable Layout.mac-place 9 f (omega arith) fb)) (λ mac.
+      cond-both A (eqb c 0x08) (λ e. answers (m .sequence) 0x06 (status-meant r (v .registers) rb) (run-sendable Layout.status-place 16 r (omega arith) rb)) (λ status.
+      cond-both A (eqb c 0x0d) (λ e. answers (m .sequence) 0x09 (block-meant f image d) (block-sendable f image d ib)) (λ block.
+      cond-both A (eqb c 0x0e) (λ e. answers (m .sequence) 0x0a (value-meant d) (value-sendable d)) (λ key.
+      rw (inventory-left c a bsu identity mac status block key)
+      (answers (m .sequence) 0x0b (item-meant f (v .factory) fb (numberAt 4 d 0)) (item-sendable f (v .factory) fb (numberAt 4 d 0))))))))))

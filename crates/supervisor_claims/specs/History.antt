@@ -1,0 +1,274 @@
+-- Demand 2's claim over lists of calls: what each answers, writes and leaves is document 01's, whatever is lent; refusals; the cut law.
+-- Assumes nothing: what a received byte leaves, and what the line reader makes of one, are arguments.
+use mathlib.Core.Path.{_≡_, refl, sym, subst, _∙_}
+use mathlib.Core.Bool.{Bool, true, false, _&&_}
+use mathlib.Core.List.{List, [], _∷_, _++_}
+use mathlib.Core.Option.{Option, none, some}
+use Prim.Native.Nat.{ℕ}
+use native.Mathlib.Omega.{arith}
+use lib.Dec.{ltb, eqb}
+use lib.ListN.{length}
+use Rattle.octets.specs.Bytes.{Each, Byte}
+use Rattle.octets.proofs.Conditions.{cond-by, cond-both}
+use Rattle.supervisor.specs.Limits
+use Rattle.supervisor.specs.Layout
+use Rattle.supervisor.specs.State.{Recorded, State, fresh}
+use Rattle.supervisor.specs.Local
+use Rattle.supervisor.specs.Valid.{goodStart, validOutbox, validFactory, validSettings, validRegisters}
+use Rattle.supervisor.specs.Calls
+use Rattle.supervisor.specs.Calls.{Parts}
+use Rattle.requests.specs.Receive
+use Rattle.supervisor_claims.specs.View.{factoryOf, view}
+use Rattle.supervisor_claims.specs.Meant.{withOutbox, withRegisters}
+use Rattle.supervisor_claims.specs.Histories
+use Rattle.supervisor_claims.specs.Histories.{Call, Typed, Answer, refused, done, Did, didBy, did, refusal, doneMeans, recordMeans, meant}
+use Rattle.supervisor_claims.specs.Histories.{Lent, lentOf, enough, Made, untouched, made, meantMade, told, left, toldMeant, leftMeant, AllTyped}
+use Rattle.supervisor_claims.specs.Refusals.{start-12}
+use Rattle.supervisor_claims.specs.StartClaim.{start-refused}
+use Rattle.supervisor_claims.specs.Sound.{Bytes, Sound, Lengths, lengths-same, lengths-then, valid-roomy, Leaves, Feeds, fed-leaves}
+use Rattle.supervisor_claims.specs.Locality.{lent-bytes, lent-sound, lent-view, back-lent, back-leaves}
+use Rattle.supervisor_claims.specs.LentCalls.{parts-valid, valid-parts, made-12, widened, widened-enough, widened-same}
+use Rattle.supervisor_claims.specs.StepClaim.{Pushes, Finishes, turned-stepped}
+use Rattle.supervisor_claims.specs.CallClaims.{Meets, start-leaves, call-meets}
+
+-- ---- refusals change nothing
+
+-- what holds of the number where an answer is a refusal
+abbrev WhereRefused : Answer → (ℕ → Type 0) → Type 0
+WhereRefused (refused n) X = X n
+WhereRefused done X = Unit {0}
+WhereRefused (Histories.stepped used ended) X = Unit {0}
+WhereRefused (Histories.moved n) X = Unit {0}
+WhereRefused (Histories.found n k) X = Unit {0}
+WhereRefused (Histories.asserted b) X = Unit {0}
+WhereRefused (Histories.asked reboot power-off) X = Unit {0}
+WhereRefused (Histories.recorded r) X = Unit {0}
+
+-- nothing has changed where it is
+abbrev Held : Parts → Call → Did → Type 0
+Held p c d = WhereRefused (d .answer) (λ n. (d .parts ≡ p) × (d .out ≡ untouched c))
+
+-- a key's place is no refusal
+module _ (X : ℕ → Type 0) (most : ℕ) where
+  abbrev FoundHeld : {Q : Type 0} → (Q → Calls.LookupSaid) → Q → Type 0
+  FoundHeld said q = WhereRefused (Histories.lookupAnswer (said q)) X
+
+  sized-held : (n : ℕ) → WhereRefused (Histories.lookupAnswer (Calls.sized most n)) X
+  sized-held n = cond-by (λ a. WhereRefused (Histories.lookupAnswer a) X) (ltb most n) _ _ (λ e. tt) (λ e. tt)
+
+  setting-held : (s : List ℕ) (at : ℕ) → FoundHeld (Calls.resultAt most) (Calls.settingAt s at)
+  unfolding Calls.resultAt Calls.settingAt
+  setting-held s at =
+      cond-by (FoundHeld (Calls.resultAt most)) (eqb (Layout.settingHeld s at) 1) _ _ (λ e. sized-held (Layout.settingLength s at)) (λ e. tt)
+
+  found-held : (f s : List ℕ) (key : ℕ) → FoundHeld (Calls.resultAt most) (Calls.placeOf f s key)
+  unfolding Calls.resultAt Calls.placeOf
+  found-held f s key =
+      let P = FoundHeld (Calls.resultAt most) in
+      cond-by P (eqb key 0) _ _ (λ e. sized-held 4) (λ e.
+      cond-by P (eqb key 1) _ _ (λ e. sized-held (Layout.imageIdLength f)) (λ e.
+      cond-by P (eqb key 2) _ _ (λ e. sized-held 8) (λ e.
+      cond-by P (eqb key 3) _ _ (λ e. setting-held s Layout.key-3-place) (λ e.
+      cond-by P (eqb key 4) _ _ (λ e. setting-held s Layout.key-4-place) (λ e.
+      setting-held s Layout.key-5-place)))))
+
+module _ (p : Parts) where
+  abbrev HeldRegisters : Call → Calls.Registered → Type 0
+  HeldRegisters c r = Held p c (didBy (refusal (r .refusal)) [] (withRegisters p (r .registers)))
+
+  held : (c : Call) → Held p c (did p c)
+  unfolding did Calls.starting Receive.receiving Receive.stepping Calls.taking Calls.posting Calls.settingOptions
+      Calls.lookupResult Calls.lookupValue Calls.signalOf Calls.flagsOf Calls.recordOf Calls.recordBytes
+  held (Histories.start d) =
+      cond-by P (Calls.roomy p) _ _ (λ e. cond-by P (goodStart d) _ _ (λ f. tt) (λ f. (refl, refl))) (λ e. (refl, refl))
+    where
+      P : Calls.Start → Type 0
+      P t = Held p (Histories.start d) (didBy (refusal (t .refusal)) [] (t .parts))
+  held (Histories.receive image piece) = cond-by P (Receive.validParts p) _ _ (λ e. tt) (λ e. (refl, refl))
+    where
+      P : Receive.Receipt → Type 0
+      P r = Held p (Histories.receive image piece) (didBy (refusal (r .refusal)) [] (r .parts))
+  held (Histories.step image piece) = cond-by P (Receive.validParts p) _ _ (λ e. rw (turned-stepped image p piece) tt) (λ e. (refl, refl))
+    where
+      P : Receive.StepDone → Type 0
+      P r = Held p (Histories.step image piece) (didBy (Histories.stepAnswer (r .used) (r .ended)) [] (r .parts))
+  held (Histories.take room) = cond-by P (validOutbox (p .outbox)) _ _ (λ e. tt) (λ e. (refl, refl))
+    where
+      P : Calls.Take → Type 0
+      P t = Held p (Histories.take room) (didBy (Histories.takeAnswer (t .said)) (t .room) (withOutbox p (t .outbox)))
+  held (Histories.post action text) =
+      cond-by P (validRegisters (p .registers)) _ _
+      (λ e. cond-by P (eqb action 0) _ _ (λ f. (refl, refl)) (λ f.
+      cond-by P (ltb Limits.longest-alert (length text)) _ _ (λ g. (refl, refl)) (λ g.
+      cond-by P (ltb (Layout.alertCount (p .registers)) Limits.most-alerts) _ _ (λ h. tt) (λ h. (refl, refl)))))
+      (λ e. (refl, refl))
+    where
+      P : Calls.Registered → Type 0
+      P r = HeldRegisters (Histories.post action text) r
+  held (Histories.setOptions options) =
+      cond-by P (validRegisters (p .registers)) _ _ (λ e. cond-by P (Local.optionsAllowed options) _ _ (λ f. tt) (λ f. (refl, refl))) (λ e. (refl, refl))
+    where
+      P : Calls.Registered → Type 0
+      P r = HeldRegisters (Histories.setOptions options) r
+  held (Histories.lookup key most) =
+      cond-both P (validFactory (p .factory) && validSettings (p .settings))
+      (λ e. cond-both P (ltb Limits.highest-key key) (λ f. tt) (λ f. found-held _ most (p .factory) (p .settings) key))
+      (λ e. (refl, refl))
+    where
+      P : Calls.LookupSaid → List ℕ → Type 0
+      P a bs = Held p (Histories.lookup key most) (didBy (Histories.lookupAnswer a) bs p)
+  held Histories.signal = cond-by P (validRegisters (p .registers)) _ _ (λ e. tt) (λ e. (refl, refl))
+    where
+      P : Calls.ReadSaid Bool → Type 0
+      P a = Held p Histories.signal (didBy (Histories.signalAnswer a) [] p)
+  held Histories.flags = cond-by P (validRegisters (p .registers)) _ _ (λ e. tt) (λ e. (refl, refl))
+    where
+      P : Calls.ReadSaid (Bool × Bool) → Type 0
+      P a = Held p Histories.flags (didBy (Histories.flagsAnswer a) [] p)
+  held (Histories.readRecord k) = cond-both P (validRegisters (p .registers)) (λ e. tt) (λ e. (refl, refl))
+    where
+      P : Calls.ReadSaid (Option Calls.Read) → List ℕ → Type 0
+      P a bs = Held p (Histories.readRecord k) (didBy (Histories.recordAnswer a) bs p)
+
+-- on any parts at all
+pub refused-holds : (p : Parts) (c : Call) (n : ℕ) → did p c .answer ≡ refused n → (did p c .parts ≡ p) × (did p c .out ≡ untouched c)
+refused-holds p c n e = rw e at (held p c)
+
+-- and whatever of them is lent
+pub refused-made : (p : Parts) (m : Made) (n : ℕ) → made p m .answer ≡ refused n → (made p m .parts ≡ p) × (made p m .out ≡ untouched (m .call))
+unfolding made
+refused-made p m n e =
+    let h = refused-holds (lentOf (m .lent) p) (m .call) n e in
+    (rw (h .0) (back-lent (m .lent) p), h .1)
+
+-- ---- 12 only where too little is lent
+
+abbrev Not12 : Answer → Type 0
+Not12 a = WhereRefused a (λ n. n ≡ 12 → ⊥)
+
+module _ (s : State) where
+  abbrev DoneNot12 : Local.Done → Type 0
+  DoneNot12 x = Not12 (doneMeans s x .answer)
+
+  record-12 : (x : Option Recorded) → Not12 (recordMeans s x .answer)
+  record-12 none = tt
+  record-12 (some x) = tt
+
+  meant-12 : (c : Call) → Not12 (meant s c .answer)
+  unfolding meant Local.start Local.post Local.setOptions
+  meant-12 (Histories.start d) = cond-by DoneNot12 (Local.badStart (factoryOf d)) _ _ (λ e f. omega (arith, f)) (λ e. tt)
+  meant-12 (Histories.receive image piece) = tt
+  meant-12 (Histories.step image piece) = tt
+  meant-12 (Histories.take room) = tt
+  meant-12 (Histories.post action text) =
+      cond-by DoneNot12 (eqb action 0) _ _ (λ e f. omega (arith, f)) (λ e.
+      cond-by DoneNot12 (ltb Limits.longest-alert (length text)) _ _ (λ g f. omega (arith, f)) (λ g.
+      cond-by DoneNot12 (ltb (length (s .waiting)) Limits.most-alerts) _ _ (λ h. tt) (λ h f. omega (arith, f))))
+  meant-12 (Histories.setOptions options) = cond-by DoneNot12 (Local.optionsAllowed options) _ _ (λ e. tt) (λ e f. omega (arith, f))
+  meant-12 (Histories.lookup key most) = tt
+  meant-12 Histories.signal = tt
+  meant-12 Histories.flags = tt
+  meant-12 (Histories.readRecord k) = record-12 (Histories.recordOf s k)
+
+pub never-12 : (s : State) (m : Made) → enough (m .call) (m .lent) ≡ true → meantMade s m .answer ≡ refused 12 → ⊥
+unfolding meantMade
+never-12 s m e f = let h : meant s (m .call) .answer ≡ refused 12 = rw e at f in (rw h at (meant-12 s (m .call))) refl
+
+-- ---- one call
+
+back-meets : (l : Lent) (p : Parts) (c : Call) → Bytes p → Meets (lentOf l p) (did (lentOf l p) c) (meant (view p) c)
+    → Meets p (made p (record { lent = l; call = c })) (meant (view p) c)
+unfolding made
+back-meets l p c b k = record { answer = k .answer; out = k .out; leaves = back-leaves l p _ b (k .leaves) }
+
+-- calls on q do what document 01 has of the same calls on the state s, and leave sound parts
+abbrev pub Follows : Parts → State → List Made → Type 0
+Follows q s ms = (told q ms ≡ toldMeant s ms) × (view (left q ms) ≡ leftMeant s ms) × Sound (left q ms) × Lengths q (left q ms)
+
+module _ (feeds : Feeds) (pushes : Pushes) (finishes : Finishes) where
+  -- on sound parts, lent enough of each part that it takes
+  enough-meets : (p : Parts) (m : Made) → Sound p → Typed (m .call) → enough (m .call) (m .lent) ≡ true
+      → Meets p (made p m) (meant (view p) (m .call))
+  enough-meets p m s typed e =
+      let n = widened (m .call) (m .lent) p in
+      let w = widened-enough (m .lent) p (valid-roomy (s .valid)) (m .call) e in
+      let k = call-meets feeds pushes finishes (lentOf n p) (lent-sound n p w s) (m .call) typed in
+      rw (widened-same p (m .call) (m .lent)) (back-meets n p (m .call) (s .bytes) (rw (lent-view n p w (s .valid)) at k))
+
+  -- whatever is lent: the answer, what is written outside the state, and the sound parts that are left
+  pub one-call : (p : Parts) (m : Made) → Sound p → Typed (m .call) → Meets p (made p m) (meantMade (view p) m)
+  unfolding meantMade
+  one-call p m s typed =
+      cond-by (Meets p (made p m)) (enough (m .call) (m .lent)) _ _
+      (λ e. enough-meets p m s typed e)
+      (λ e. rw (made-12 p m e) (record { answer = refl; out = refl; leaves = (refl, s, lengths-same) }))
+
+  -- sound parts never earn 12
+  pub earns-no-12 : (p : Parts) (m : Made) → Sound p → Typed (m .call) → enough (m .call) (m .lent) ≡ true → made p m .answer ≡ refused 12 → ⊥
+  earns-no-12 p m s typed e h = never-12 (view p) m e (sym (one-call p m s typed .answer) ∙ h)
+
+  -- ---- a list of calls, on sound parts
+
+  pub follows : (q : Parts) → Sound q → (ms : List Made) → AllTyped ms → Follows q (view q) ms
+  unfolding told left toldMeant leftMeant
+  follows q s [] h = (refl, refl, s, lengths-same)
+  follows q s (m ∷ ms) h =
+      let k = one-call q m s (h .0) in
+      let i : Follows (made q m .parts) (meantMade (view q) m .state) ms = rw (k .leaves .0) at (follows (made q m .parts) (k .leaves .1) ms (h .1)) in
+      (rw (k .answer, k .out, i .0), i .1, i .2, lengths-then (k .leaves .2) (i .3))
+
+-- ---- the first start, on any bytes
+
+-- a refusal is not done
+undone : (n : ℕ) → refused n ≡ done → ⊥
+undone n e = subst (λ a. WhereRefused a (λ _. ⊥)) (sym e) tt
+
+module _ (p : Parts) (b : Bytes p) (l : Lent) (d : List ℕ) (typed : Typed (Histories.start d)) where
+  -- a start that is accepted had room and start data that are not refused
+  accepted : (x y : Bool) → Calls.roomy (lentOf l p) ≡ x → Local.badStart (factoryOf d) ≡ y → did (lentOf l p) (Histories.start d) .answer ≡ done
+      → Leaves (lentOf l p) (did (lentOf l p) (Histories.start d) .parts) (fresh (factoryOf d))
+  unfolding did
+  accepted false y r e h = absurd (undone 12 (rw (start-12 d (lentOf l p) r) at h))
+  accepted true true r e h = absurd (undone 11 (rw (start-refused d (typed .0) (lentOf l p) r e) at h))
+  accepted true false r e h = start-leaves d typed (lentOf l p) (lent-bytes l p b) r e .1
+
+  pub started : made p (record { lent = l; call = Histories.start d }) .answer ≡ done
+      → Leaves p (made p (record { lent = l; call = Histories.start d }) .parts) (fresh (factoryOf d))
+  unfolding made
+  started h = back-leaves l p _ b (accepted _ _ refl refl h)
+
+-- ---- the claim
+
+-- a start that is accepted, on any bytes, then any calls, each lent any number of each part's bytes: every answer, all that is written outside
+-- the state, and the state that is left are document 01's
+pub history : Feeds → Pushes → Finishes → (p : Parts) → Bytes p → (l : Lent) (d : List ℕ) → Typed (Histories.start d)
+    → made p (record { lent = l; call = Histories.start d }) .answer ≡ done → (ms : List Made) → AllTyped ms
+    → let q = made p (record { lent = l; call = Histories.start d }) .parts in
+    (told q ms ≡ toldMeant (fresh (factoryOf d)) ms)
+    × (view (left q ms) ≡ leftMeant (fresh (factoryOf d)) ms)
+    × Sound (left q ms)
+    × Lengths p (left q ms)
+history feeds pushes finishes p b l d typed h ms t =
+    let k = started p b l d typed h in
+    let i = rw (k .0) at (follows feeds pushes finishes _ (k .1) ms t) in
+    (i .0, i .1, i .2, lengths-then (k .2) (i .3))
+
+-- ---- the cut law
+
+fed-append : (image a b : List ℕ) (p : Parts) → Receive.fed image p (a ++ b) ≡ Receive.fed image (Receive.fed image p a) b
+unfolding Receive.fed
+fed-append image [] b p = refl
+fed-append image (x ∷ a) b p = fed-append image a b (Receive.feed image p x)
+
+-- a piece of the stream in two calls of receive, on any parts: the same answer, and the same bytes in every part
+pub cut : Feeds → (image : List ℕ) (p : Parts) (a b : List ℕ) → Bytes p → Each Byte image → Each Byte a
+    → did p (Histories.receive image (a ++ b)) ≡ did (did p (Histories.receive image a) .parts) (Histories.receive image b)
+unfolding did Receive.receiving
+cut feeds image p a b h i k = go (Receive.validParts p) refl
+  where
+    go : (t : Bool) → Receive.validParts p ≡ t
+        → did p (Histories.receive image (a ++ b)) ≡ did (did p (Histories.receive image a) .parts) (Histories.receive image b)
+    go true e =
+        let f = fed-leaves feeds image p a i (record { valid = parts-valid p e; bytes = h }) k in
+        rw (e, valid-parts (Receive.fed image p a) (f .1 .valid), fed-append image a b p)
+    go false e = rw (e, e)

@@ -1,0 +1,240 @@
+-- A received stream is its frames, carried out or answered in order, once each, and then the unfinished tail.
+-- Assumes nothing.
+use mathlib.Core.Path.{_≡_, refl, ap, _∙_}
+use mathlib.Core.Bool.{Bool, true, false, cond}
+use mathlib.Core.List.{List, [], _∷_, _++_, append-nil}
+use mathlib.Core.Option.{Option, none, some}
+use Prim.Native.Nat.{ℕ, zero, suc, _+_, _≤_, _<_}
+use native.Mathlib.Omega.{arith}
+use lib.Dec.{ltb, eqb, eqb·suc-zero}
+use lib.ListN.{length, length-append}
+use lib.Seq.{append-snoc}
+use borrow.Author.Tests.{ltb-true, ltb-false, lt-ltb, le-ltb}
+use Rattle.octets.specs.Bytes.{Each}
+use Rattle.octets.proofs.Conditions.{cond-both}
+use Rattle.line.specs.Limits.{longest-form}
+use Rattle.line.specs.Message.{Message}
+use Rattle.line.specs.Judge.{Verdict, failure, good, judge}
+use Rattle.supervisor.specs.State.{Retained, State, state}
+use Rattle.supervisor.specs.Local.{lookup, valueOf}
+use Rattle.requests.specs.Requests
+use Rattle.requests.specs.Requests.{Reply, Carried, verdict, carried, receiving, judged, closed, more, byte, stream, owed, replyFrame, sent, replyOf, failedOf}
+use Rattle.line_claims.specs.Pieces.{split, nonEmpty, split-none, split-close, split-more}
+
+-- the stream in cuts
+pub stream-append : (image : List ℕ) (s : State) (bs cs : List ℕ) → stream image s (bs ++ cs) ≡ stream image (stream image s bs) cs
+unfolding stream
+stream-append image s [] cs = refl
+stream-append image s (b ∷ bs) cs = stream-append image (byte image s b) bs cs
+
+-- ---- a request neither looks at the receive progress, the pending bytes and the last taken byte nor changes them
+
+-- a state with these as given
+abbrev pub lined : State → Option (List ℕ) → List ℕ → Bool → State
+lined s received pending owing =
+    state (s .status) (s .options) (s .reboot-asked) (s .power-off-asked) (s .boot-failure) (s .panic) (s .factory) (s .settings)
+    (s .waiting) (s .retained) received pending owing
+
+-- a state with other pending bytes
+abbrev pub withPending : State → List ℕ → State
+withPending s pending = lined s (s .received) pending (s .owing)
+
+-- c is what d is, with these as given
+pub record Lined (received : Option (List ℕ)) (pending : List ℕ) (owing : Bool) (c d : Carried) : Type 0 where
+  pub state : c .state ≡ lined (d .state) received pending owing
+  pub reply : c .reply ≡ d .reply
+
+module _ (received : Option (List ℕ)) (pending : List ℕ) (owing : Bool) (s : State) where
+  abbrev Alike : Carried → Carried → Type 0
+  Alike = Lined received pending owing
+
+  abbrev other : State
+  other = lined s received pending owing
+
+  alert-lined : (sequence : ℕ) (r : Option Retained) → Alike (Requests.alertAsked other sequence r) (Requests.alertAsked s sequence r)
+  unfolding Requests.alertAsked Requests.alertTaken
+  alert-lined sequence none = record { state = refl; reply = refl }
+  alert-lined sequence (some r) =
+      cond-both Alike (eqb (r .sequence) sequence) (λ e. record { state = refl; reply = refl }) (λ e. record { state = refl; reply = refl })
+
+  pub carried-lined : (image : List ℕ) (m : Message) → Lined received pending owing (carried image other m) (carried image s m)
+  unfolding carried Requests.reboot Requests.powerOff Requests.bootFailure Requests.panicked Requests.startAcknowledged Requests.keySet lookup valueOf
+  carried-lined image m =
+      cond-both Alike (eqb (m .command) 0x01) (λ e. record { state = refl; reply = refl }) (λ e.
+      cond-both Alike (eqb (m .command) 0x02) (λ e. record { state = refl; reply = refl }) (λ e.
+      cond-both Alike (eqb (m .command) 0x03) (λ e. record { state = refl; reply = refl }) (λ e.
+      cond-both Alike (eqb (m .command) 0x04) (λ e. record { state = refl; reply = refl }) (λ e.
+      cond-both Alike (eqb (m .command) 0x05) (λ e. record { state = refl; reply = refl }) (λ e.
+      cond-both Alike (eqb (m .command) 0x06) (λ e. record { state = refl; reply = refl }) (λ e.
+      cond-both Alike (eqb (m .command) 0x07) (λ e. record { state = refl; reply = refl }) (λ e.
+      cond-both Alike (eqb (m .command) 0x08) (λ e. record { state = refl; reply = refl }) (λ e.
+      cond-both Alike (eqb (m .command) 0x09) (λ e. record { state = refl; reply = refl }) (λ e.
+      cond-both Alike (eqb (m .command) 0x0a) (λ e. alert-lined (m .sequence) (s .retained)) (λ e.
+      cond-both Alike (eqb (m .command) 0x0d) (λ e. record { state = refl; reply = refl }) (λ e.
+      cond-both Alike (eqb (m .command) 0x0e) (λ e. record { state = refl; reply = refl }) (λ e.
+      cond-both Alike (eqb (m .command) 0x0f) (λ e. record { state = refl; reply = refl }) (λ e. record { state = refl; reply = refl })))))))))))))
+
+-- ---- a frame, by the verdict on it
+
+-- what it does to the rest of the state, and the reply that it earns
+unfoldable pub doneBy : List ℕ → State → Verdict → State
+doneBy image s (failure reason sequence) = s
+doneBy image s (good m) = carried image s m .state
+
+unfoldable pub replyBy : List ℕ → State → Verdict → Option Reply
+replyBy image s (failure reason sequence) = some (failedOf reason sequence)
+replyBy image s (good m) = replyOf (m .sequence) (carried image s m .reply)
+
+module _ (image : List ℕ) (s : State) where
+  pub done-lined : (received : Option (List ℕ)) (pending : List ℕ) (owing : Bool) (v : Verdict)
+      → doneBy image (lined s received pending owing) v ≡ lined (doneBy image s v) received pending owing
+  unfolding doneBy
+  done-lined received pending owing (failure reason sequence) = refl
+  done-lined received pending owing (good m) = carried-lined received pending owing s image m .state
+
+  pub reply-lined : (received : Option (List ℕ)) (pending : List ℕ) (owing : Bool) (v : Verdict)
+      → replyBy image (lined s received pending owing) v ≡ replyBy image s v
+  unfolding replyBy
+  reply-lined received pending owing (failure reason sequence) = refl
+  reply-lined received pending owing (good m) = ap (replyOf (m .sequence)) (carried-lined received pending owing s image m .reply)
+
+  -- pending is then a 00 where one is owed, and the reply; the receive progress and the last taken byte are as before
+  pub judged-is : (v : Verdict)
+      → judged image s v ≡ lined (doneBy image s v) (s .received) (owed (s .owing) ++ replyFrame (replyBy image s v)) (s .owing)
+  unfolding judged sent doneBy replyBy
+  judged-is (failure reason sequence) = refl
+  judged-is (good m) =
+      let c = carried-lined (s .received) (s .pending) (s .owing) s image m .state in
+      let r : carried image s m .state .received ≡ s .received = ap (λ (x : State). x .received) c in
+      let o : carried image s m .state .owing ≡ s .owing = ap (λ (x : State). x .owing) c in
+      rw (r, o)
+
+  pub judged-received : (v : Verdict) → judged image s v .received ≡ s .received
+  judged-received v = ap (λ (x : State). x .received) (judged-is v)
+
+pub judged-receiving : (image : List ℕ) (s : State) (r : Option (List ℕ)) (v : Verdict)
+    → judged image (receiving s r) v ≡ receiving (judged image s v) r
+judged-receiving image s r v =
+    rw (judged-is image (receiving s r) v, judged-is image s v)
+    (rw (done-lined image s r (s .pending) (s .owing) v, reply-lined image s r (s .pending) (s .owing) v))
+
+-- ---- frames
+
+-- the bytes before a 00; an empty frame is ignored
+unfoldable pub framed : List ℕ → State → List ℕ → State
+framed image s [] = s
+framed image s (b ∷ bs) = judged image s (verdict (b ∷ bs))
+
+-- frames, one after the other
+unfoldable pub allFramed : List ℕ → State → List (List ℕ) → State
+allFramed image s [] = s
+allFramed image s (f ∷ fs) = allFramed image (framed image s f) fs
+
+module _ (image : List ℕ) (s : State) (b : ℕ) (bs : List ℕ) where
+  -- a valid request is carried out, and its reply, if it earns one, is pending
+  pub request-carried : (m : Message) → verdict (b ∷ bs) ≡ good m → let c = carried image s m in
+      framed image s (b ∷ bs) ≡ withPending (c .state) (owed (s .owing) ++ replyFrame (replyOf (m .sequence) (c .reply)))
+  unfolding framed judged sent
+  request-carried m e =
+      let c = carried-lined (s .received) (s .pending) (s .owing) s image m .state in
+      let o : carried image s m .state .owing ≡ s .owing = ap (λ (x : State). x .owing) c in
+      rw (e, o)
+
+  -- any other frame that is not empty changes nothing but the pending bytes
+  pub failure-only-pending : (reason : ℕ) (sequence : Option ℕ) → verdict (b ∷ bs) ≡ failure reason sequence
+      → framed image s (b ∷ bs) ≡ withPending s (owed (s .owing) ++ replyFrame (some (failedOf reason sequence)))
+  unfolding framed judged sent
+  failure-only-pending reason sequence e = rw e
+
+pub allFramed-append : (image : List ℕ) (s : State) (fs gs : List (List ℕ)) → allFramed image s (fs ++ gs) ≡ allFramed image (allFramed image s fs) gs
+unfolding allFramed
+allFramed-append image s [] gs = refl
+allFramed-append image s (f ∷ fs) gs = allFramed-append image (framed image s f) fs gs
+
+pub empty-ignored : (image : List ℕ) (s : State) (fs : List (List ℕ)) → allFramed image s fs ≡ allFramed image s (nonEmpty fs)
+unfolding allFramed framed nonEmpty
+empty-ignored image s [] = refl
+empty-ignored image s ([] ∷ fs) = empty-ignored image s fs
+empty-ignored image s ((b ∷ bs) ∷ fs) = empty-ignored image (judged image s (verdict (b ∷ bs))) fs
+
+-- ---- one byte more
+
+-- the receive progress after bytes that are not 00: none where they are more than a form has
+unfoldable pub tailOf : List ℕ → Option (List ℕ)
+tailOf bs = cond (ltb longest-form (length bs)) none (some bs)
+
+tail-over : (bs : List ℕ) → longest-form < length bs → tailOf bs ≡ none
+unfolding tailOf
+tail-over bs h = rw (lt-ltb longest-form (length bs) h)
+
+tail-within : (bs : List ℕ) → length bs ≤ longest-form → tailOf bs ≡ some bs
+unfolding tailOf
+tail-within bs h = rw (le-ltb longest-form (length bs) h)
+
+pub more-tail : (bs : List ℕ) (b : ℕ) → more (tailOf bs) b ≡ tailOf (bs ++ (b ∷ []))
+unfolding more
+more-tail bs b = by (ltb longest-form (length bs)) (ltb (length bs) longest-form) refl refl
+  where
+    long : length (bs ++ (b ∷ [])) ≡ length bs + 1
+    long = simp length-append
+
+    by : (over room : Bool) → ltb longest-form (length bs) ≡ over → ltb (length bs) longest-form ≡ room → more (tailOf bs) b ≡ tailOf (bs ++ (b ∷ []))
+    by true room e f =
+        let h = ltb-true longest-form (length bs) e in
+        rw (tail-over bs h, tail-over (bs ++ (b ∷ [])) (omega (arith, long)))
+    by false true e f = rw (tail-within bs (ltb-false _ _ e), f, tail-within (bs ++ (b ∷ [])) (omega (arith, long, ltb-true (length bs) longest-form f)))
+    by false false e f = rw (tail-within bs (ltb-false _ _ e), f, tail-over (bs ++ (b ∷ [])) (omega (arith, long, ltb-false (length bs) longest-form f)))
+
+-- more bytes than a form has
+verdict-over : (bs : List ℕ) → longest-form < length bs → verdict bs ≡ failure 1 none
+unfolding verdict judge
+verdict-over bs h = rw (lt-ltb longest-form (length bs) h)
+
+module _ (image : List ℕ) (s : State) where
+  -- the 00 behind bytes
+  pub closed-framed : (bs : List ℕ) → closed image (receiving s (tailOf bs)) (tailOf bs) ≡ receiving (framed image s bs) (some [])
+  unfolding closed framed
+  closed-framed [] = rw (tail-within [] (omega arith))
+  closed-framed (b ∷ bs) = by (ltb longest-form (length (b ∷ bs))) refl
+    where
+      by : (over : Bool) → ltb longest-form (length (b ∷ bs)) ≡ over
+          → closed image (receiving s (tailOf (b ∷ bs))) (tailOf (b ∷ bs)) ≡ receiving (judged image s (verdict (b ∷ bs))) (some [])
+      by true e =
+          let h = ltb-true longest-form (length (b ∷ bs)) e in
+          rw (tail-over (b ∷ bs) h, verdict-over (b ∷ bs) h) (judged-receiving image s (some []) (failure 1 none))
+      by false e = rw (tail-within (b ∷ bs) (ltb-false _ _ e)) (judged-receiving image s (some []) (verdict (b ∷ bs)))
+
+module _ (image : List ℕ) (s : State) where
+  -- the state after bytes: their frames, then the tail
+  abbrev pub following : List ℕ → State
+  following bs = receiving (allFramed image s (split bs .closed)) (tailOf (split bs .rest))
+
+  byte-following : (bs : List ℕ) (b : ℕ) → byte image (following bs) b ≡ following (bs ++ (b ∷ []))
+  unfolding byte allFramed
+  byte-following bs zero =
+      let a = allFramed image s (split bs .closed) in
+      rw (split-close bs, allFramed-append image s (split bs .closed) (split bs .rest ∷ []), tail-within [] (omega arith)) (closed-framed image a (split bs .rest))
+  byte-following bs (suc b) = rw (eqb·suc-zero, split-more bs b, more-tail (split bs .rest) (suc b))
+
+  stream-following : (cs bs : List ℕ) → stream image (following bs) cs ≡ following (bs ++ cs)
+  unfolding stream
+  stream-following [] bs = rw append-nil
+  stream-following (c ∷ cs) bs = rw (byte-following bs c, stream-following cs (bs ++ (c ∷ [])), append-snoc)
+
+-- in the middle of a frame, of which the bytes p have come
+pub in-order-behind : (image : List ℕ) (s : State) (p bs : List ℕ) → Each (λ b. 1 ≤ b) p → s .received ≡ tailOf p
+    → stream image s bs ≡ receiving (allFramed image s (split (p ++ bs) .closed)) (tailOf (split (p ++ bs) .rest))
+unfolding allFramed
+in-order-behind image s p bs h e =
+    let z : s ≡ following image s p = rw (split-none p h, ← e) in
+    ap (λ (x : State). stream image x bs) z ∙ stream-following image s bs p
+
+-- in order, once each: the frames that the stream's 00 close, then the unfinished tail
+pub in-order : (image : List ℕ) (s : State) (bs : List ℕ) → s .received ≡ some []
+    → stream image s bs ≡ receiving (allFramed image s (split bs .closed)) (tailOf (split bs .rest))
+in-order image s bs e = in-order-behind image s [] bs tt (rw (tail-within [] (omega arith)) e)
+
+-- of the frames, those that are not empty
+pub in-order-frames : (image : List ℕ) (s : State) (bs : List ℕ) → s .received ≡ some []
+    → stream image s bs ≡ receiving (allFramed image s (nonEmpty (split bs .closed))) (tailOf (split bs .rest))
+in-order-frames image s bs e = rw (← empty-ignored image s (split bs .closed)) (in-order image s bs e)

@@ -1,0 +1,338 @@
+-- One received byte on sound parts: it leaves what document 01 says of it, and sound parts.
+-- Assumes nothing.
+use mathlib.Core.Path.{_≡_, refl, sym, ap, _∙_}
+use mathlib.Core.Bool.{Bool, true, false, cond, not, _||_}
+use mathlib.Core.List.{List, [], _∷_, _++_}
+use mathlib.Core.Option.{Option, none, some}
+use Prim.Native.Nat.{ℕ, _+_, _^_, _≤_, _<_}
+use native.Mathlib.Omega.{arith}
+use lib.Dec.{leb, ltb, eqb}
+use lib.ListN.{length, drop}
+use borrow.Author.Tests.{eqb-true, eqb-false}
+use Rattle.octets.specs.Bytes.{Each, Byte, bytes, numberAt}
+use Rattle.octets.proofs.Conditions.{cond-by, cond-both}
+use Rattle.octets.proofs.Each.{each-drop}
+use Rattle.line.specs.Limits.{longest-data, longest-form}
+use Rattle.line.specs.Checksum.{checksum}
+use Rattle.line.specs.Message.{magic, Message}
+use Rattle.line.specs.Judge.{Verdict, failure, good, bodyOf, checksumOf, magicOf, wrongLength, judge, judgeForm, judgeLength, judgeFields}
+use Rattle.line.specs.Reader as LineReader
+use Rattle.supervisor.specs.Limits
+use Rattle.supervisor.specs.Layout
+use Rattle.supervisor.specs.Number.{topSet}
+use Rattle.supervisor.specs.State.{State}
+use Rattle.supervisor.specs.Calls.{Parts}
+use Rattle.supervisor.proofs.AlertLaws.{one-byte}
+use Rattle.supervisor.proofs.ValidLaws.{settings-valid}
+use Rattle.requests.specs.Requests
+use Rattle.requests.specs.Receive
+use Rattle.requests.proofs.KeptLaws.{carried-valid, alert-data-short, inner-valid, valid-inner, box-valid}
+use Rattle.supervisor_claims.specs.View.{receivedOf, view}
+use Rattle.supervisor_claims.specs.Meant.{Valid, withOutbox}
+use Rattle.supervisor_claims.specs.Histories.{verdictMeant}
+use Rattle.supervisor_claims.specs.Sound.{Bytes, Sound, Lengths, lengths-same, lengths-then, Leaves, Feeds}
+use Rattle.supervisor_claims.specs.SettingLaws.{storing-stored}
+use Rattle.supervisor_claims.specs.TakenLaws.{alert-asked, alert-reply}
+use Rattle.supervisor_claims.specs.ChangesClaim.{changing, withStores, Changed, changed-carried, number-small}
+use Rattle.supervisor_claims.specs.SendingClaim.{Sendable, run-each, reply-sendable, sent-long, sent-owing, sent-pending, sent-bytes}
+use Rattle.supervisor_claims.specs.AnswersClaim.{Asks, SendableReply, Answers, asked-carried}
+use Rattle.supervisor_claims.specs.ReceivedClaim.{Requestable, ReaderKept, pushed-received, pushed-kept, finished-received, finished-kept, finished-verdict, finished-typed}
+
+-- ---- Sending
+
+-- a reply's bytes, or none, become the pending ones
+sent-leaves : (p : Parts) → Sound p → (r : Option Requests.Reply) → length (Requests.replyFrame r) ≤ longest-form + 1 → Each Byte (Requests.replyFrame r)
+    → Leaves p (withOutbox p (Receive.sentBox (Requests.replyFrame r) (p .outbox))) (Requests.sent (view p) r)
+unfolding view Requests.sent
+sent-leaves p s r short each =
+    let o = p .outbox in
+    let v = s .valid .outbox in
+    let bs = Requests.replyFrame r in (
+      rw (sent-pending o bs v short, sent-owing o bs v short),
+      record {
+        valid = record {
+          reader = s .valid .reader;
+          outbox = box-valid o bs v short;
+          factory = s .valid .factory;
+          settings = s .valid .settings;
+          registers = s .valid .registers;
+        };
+        bytes = record {
+          reader = s .bytes .reader;
+          outbox = sent-bytes o bs v short (s .bytes .outbox) each;
+          factory = s .bytes .factory;
+          settings = s .bytes .settings;
+          registers = s .bytes .registers;
+        };
+      },
+      record { reader = refl; outbox = sent-long o bs v short; factory = refl; settings = refl; registers = refl },
+    )
+
+-- the frame of a reply with data that a message may have
+frame-sendable : (sequence : ℕ) (r : Option (ℕ × List ℕ)) → SendableReply r
+    → let bs = Requests.replyFrame (Requests.replyOf sequence r) in (length bs ≤ longest-form + 1) × Each Byte bs
+unfolding Requests.replyFrame Requests.replyOf
+frame-sendable sequence none h = (omega arith, tt)
+frame-sendable sequence (some r) h = reply-sendable _ (r .0) (r .1) h
+
+-- ---- A valid request
+
+abbrev Carried : List ℕ → Parts → Message → Receive.Inner
+Carried image p m = Receive.carriedInner image (p .factory) (Receive.innerOf p) (m .sequence) (m .command) (m .payload)
+
+-- the parts with other stores, registers and outbox
+abbrev within : Parts → Receive.Inner → Parts
+within p i = Receive.partsWith p (p .reader) i
+
+-- the state of what was carried out, with its reply pending
+abbrev sentBy : ℕ → Requests.Carried → State
+sentBy sequence c = Requests.sent (c .state) (Requests.replyOf sequence (c .reply))
+
+module _ (p : Parts) (s : Sound p) (sequence : ℕ) where
+  change-leaves : (i : Receive.Inner) (c : Requests.Carried) → Changed p i sequence c → Receive.validInner i ≡ true → SendableReply (c .reply)
+      → Leaves p (within p i) (sentBy sequence c)
+  change-leaves i c ch v send =
+      let w = inner-valid i v in
+      let bs = frame-sendable sequence (c .reply) send in
+      let stores : Sound (withStores p i) = record {
+        valid = record { reader = s .valid .reader; outbox = s .valid .outbox; factory = s .valid .factory; settings = w .settings; registers = w .registers };
+        bytes = record {
+          reader = s .bytes .reader;
+          outbox = s .bytes .outbox;
+          factory = s .bytes .factory;
+          settings = ch .settings .bytes (s .bytes .settings);
+          registers = ch .registers .bytes (s .bytes .registers);
+        };
+      } in
+      let l = sent-leaves (withStores p i) stores (Requests.replyOf sequence (c .reply)) (bs .0) (bs .1) in
+      rw (ch .outbox, ← ch .state) (
+        l .0,
+        l .1,
+        record { reader = refl; outbox = l .2 .outbox; factory = refl; settings = ch .settings .long; registers = ch .registers .long },
+      )
+
+  answer-leaves : (bs : List ℕ) (c : Requests.Carried) → Answers p sequence bs c
+      → Leaves p (within p (Receive.inner (Receive.sentBox bs (p .outbox)) (p .settings) (p .registers))) (sentBy sequence c)
+  answer-leaves bs c a =
+      rw (a .state, a .frame) (sent-leaves p s (Requests.replyOf sequence (c .reply)) (rw (← a .frame) (a .short)) (rw (← a .frame) (a .bytes)))
+
+-- a command that changes the stores or registers, or one that only asks
+not-either : (a b : Bool) → (a || b) ≡ false → (a ≡ false) × (b ≡ false)
+not-either true b e = let z : _≡_ {A = ℕ} 1 0 = ap (λ t. cond t 1 0) e in absurd (omega arith)
+not-either false b e = (refl, e)
+
+asks : (c : ℕ) → Requests.known c ≡ true → changing c ≡ false → Asks c
+unfolding changing
+asks c k e =
+    let a = not-either _ _ e in
+    let b = not-either _ _ (a .1) in
+    let d = not-either _ _ (b .1) in
+    let f = not-either _ _ (d .1) in
+    let g = not-either _ _ (f .1) in
+    let h = not-either _ _ (g .1) in
+    record { known = k; reboot = a .0; power-off = b .0; boot-failure = d .0; panic = f .0; start = g .0; alert = h .0; key-set = h .1 }
+
+module _ (image : List ℕ) (each : Each Byte image) (p : Parts) (s : Sound p) (m : Message) (q : Requestable m) where
+  -- another command than the one tested
+  other : {X : Type 0} (k : ℕ) → changing k ≡ false → changing (m .command) ≡ true → eqb (m .command) k ≡ true → X
+  other k f h e =
+      let z : _≡_ {A = ℕ} 1 0 = ap (λ t. cond t 0 1) (sym f ∙ rw (eqb-true (m .command) k e) at h) in
+      absurd (omega arith)
+
+  -- the data of a reply to a request that changes stores or registers
+  abbrev Sends : Requests.Carried → Type 0
+  Sends c = SendableReply (c .reply)
+
+  alert-sendable : Sends (Requests.alertAsked (view p) (m .sequence) (view p .retained))
+  alert-sendable =
+      let below : m .sequence < 2 ^ 64 = omega (arith, q .sequence) in
+      let r = Receive.alertRegisters (p .registers) (m .sequence) in
+      let like = alert-asked p (s .valid) (m .sequence) below .like in
+      rw (alert-reply p (s .valid) (m .sequence) below (s .bytes .registers)) (
+        omega (arith, alert-data-short (p .registers) (m .sequence) (s .valid .registers)),
+        run-each (Layout.retained-alert-place + Layout.alert-action-place) (1 + Layout.alertTextLength r Layout.retained-alert-place) r (like .bytes (s .bytes .registers)),
+      )
+
+  key-set-sendable : Sends (Requests.keySet (view p) (m .payload))
+  unfolding Requests.keySet view
+  key-set-sendable =
+      let d = m .payload in
+      let k = storing-stored (p .settings) (drop 1 d) (settings-valid _ (s .valid .settings)) (each-drop Byte 1 d (q .payload)) (numberAt 1 d 0) in
+      (omega arith, (rw (← k .result) (k .small), tt))
+
+  changing-sendable : changing (m .command) ≡ true → Sends (Requests.carried image (view p) m)
+  unfolding Requests.carried Requests.reboot Requests.powerOff Requests.bootFailure Requests.panicked Requests.startAcknowledged changing
+  changing-sendable h =
+      let c = m .command in
+      let ack : Sendable [] = (omega arith, tt) in
+      cond-by Sends (eqb c 0x01) _ _ (λ _. tt) (λ _.
+      cond-by Sends (eqb c 0x02) _ _ (λ _. tt) (λ _.
+      cond-by Sends (eqb c 0x03) _ _ (other 0x03 refl h) (λ _.
+      cond-by Sends (eqb c 0x04) _ _ (other 0x04 refl h) (λ _.
+      cond-by Sends (eqb c 0x05) _ _ (other 0x05 refl h) (λ _.
+      cond-by Sends (eqb c 0x06) _ _ (λ _. tt) (λ _.
+      cond-by Sends (eqb c 0x07) _ _ (λ _. ack) (λ _.
+      cond-by Sends (eqb c 0x08) _ _ (other 0x08 refl h) (λ _.
+      cond-by Sends (eqb c 0x09) _ _ (λ _. ack) (λ _.
+      cond-by Sends (eqb c 0x0a) _ _ (λ _. alert-sendable) (λ _.
+      cond-by Sends (eqb c 0x0d) _ _ (other 0x0d refl h) (λ _.
+      cond-by Sends (eqb c 0x0e) _ _ (other 0x0e refl h) (λ _.
+      cond-by Sends (eqb c 0x0f) _ _ (other 0x0f refl h) (λ _.
+      key-set-sendable)))))))))))))
+
+  parts-valid : Receive.validInner (Receive.innerOf p) ≡ true
+  parts-valid = valid-inner _ (record { outbox = s .valid .outbox; settings = s .valid .settings; registers = s .valid .registers })
+
+  carried-inner : Receive.validInner (Carried image p m) ≡ true
+  carried-inner = carried-valid image (p .factory) _ (m .sequence) (m .command) (m .payload) (s .valid .factory) parts-valid (q .fits) (number-small 1 0 (m .payload) (q .payload))
+
+  -- a command that only asks leaves the outbox alone changed
+  only-asked : Asks (m .command)
+      → Carried image p m ≡ Receive.inner (Receive.sentBox (Receive.askedBytes image (p .factory) (p .settings) (p .registers) (topSet (m .sequence)) (m .command) (m .payload)) (p .outbox)) (p .settings) (p .registers)
+  unfolding Receive.carriedInner
+  only-asked a = rw (a .reboot, a .power-off, a .boot-failure, a .key-set, a .alert, a .panic, a .start)
+
+  by-change : (b : Bool) → changing (m .command) ≡ b → Leaves p (within p (Carried image p m)) (sentBy (m .sequence) (Requests.carried image (view p) m))
+  by-change true e =
+      let below : m .sequence < 2 ^ 64 = omega (arith, q .sequence) in
+      change-leaves p s (m .sequence) _ _ (changed-carried p (s .valid) (s .bytes .registers) image m below (q .fits) (q .payload) e) carried-inner (changing-sendable e)
+  by-change false e =
+      let a = asks (m .command) (q .command) e in
+      rw (only-asked a)
+      (answer-leaves p s (m .sequence) _ _ (asked-carried p (s .valid) (s .bytes .factory) (s .bytes .settings) (s .bytes .registers) image each m a))
+
+  request-leaves : Leaves p (within p (Carried image p m)) (sentBy (m .sequence) (Requests.carried image (view p) m))
+  request-leaves = by-change (changing (m .command)) refl
+
+-- ---- A frame by the verdict on it
+
+abbrev Judgeable : Verdict → Type 0
+Judgeable (failure reason sequence) = reason < 256
+Judgeable (good m) = Requestable m
+
+judged-leaves : (image : List ℕ) → Each Byte image → (p : Parts) → Sound p → (v : Verdict) → Judgeable v
+    → Leaves p (within p (Receive.innerBy image (p .factory) (Receive.innerOf p) v)) (Requests.judged image (view p) v)
+unfolding Receive.innerBy Receive.answering Requests.judged Requests.failedOf Requests.replyFrame
+judged-leaves image each p s (failure reason sequence) small =
+    let bs = reply-sendable (Requests.failureSequence sequence) 0x02 (reason ∷ []) (omega arith, (small, tt)) in
+    rw (one-byte reason small) (sent-leaves p s (some (Requests.failedOf reason sequence)) (bs .0) (bs .1))
+judged-leaves image each p s (good m) q = request-leaves image each p s m q
+
+-- the reasons of the table
+abbrev reasonOf : Verdict → ℕ
+reasonOf (failure reason sequence) = reason
+reasonOf (good m) = 0
+
+record Small (v : Verdict) : Type 0 where
+  low : reasonOf v < 256
+
+found-good : (m : Message) → Small (good m)
+found-good m = record { low = omega arith }
+
+-- a test that fails with a reason, ahead of other tests
+fails : (t : Bool) (reason : ℕ) (sequence : Option ℕ) (v : Verdict) → reason < 256 → Small v → Small (cond t (failure reason sequence) v)
+fails true reason sequence v h k = record { low = h }
+fails false reason sequence v h k = k
+
+-- a test that passes ahead of a failure
+passes : (t : Bool) (reason : ℕ) (sequence : Option ℕ) (v : Verdict) → reason < 256 → Small v → Small (cond t v (failure reason sequence))
+passes true reason sequence v h k = k
+passes false reason sequence v h k = record { low = h }
+
+tested-small : (m : Message) → Small (Requests.tested m)
+unfolding Requests.tested
+tested-small m =
+    fails (not (eqb (m .version) 1)) 5 _ _ (omega arith)
+    (fails (leb (2 ^ 63) (m .sequence)) 6 _ _ (omega arith)
+    (fails (not (Requests.known (m .command))) 3 _ _ (omega arith)
+    (fails (not (Requests.lengthAllowed (m .command) (length (m .payload)))) 7 _ _ (omega arith) (found-good m))))
+
+where-small : (v : Verdict) → Small v → Small (Requests.testedWhere v)
+where-small (failure reason sequence) h = h
+where-small (good m) h = tested-small m
+
+length-small : (xs : List ℕ) → Small (judgeLength xs)
+unfolding judgeLength judgeFields
+length-small xs =
+    fails (wrongLength xs) 3 _ _ (omega arith)
+    (passes (eqb (checksumOf xs) (checksum (bodyOf xs))) 2 _ _ (omega arith)
+    (passes (eqb (magicOf xs) magic) 4 _ _ (omega arith) (found-good _)))
+
+form-small : (form : Option (List ℕ)) → Small (judgeForm form)
+unfolding judgeForm
+form-small none = record { low = omega arith }
+form-small (some xs) = length-small xs
+
+verdict-small : (form : List ℕ) → Small (Requests.verdict form)
+unfolding Requests.verdict judge
+verdict-small form = where-small _ (fails (ltb longest-form (length form)) 1 _ _ (omega arith) (form-small _))
+
+-- ---- One byte
+
+progress-same : (s : State) (r : Option (List ℕ)) → s .received ≡ r → Requests.receiving s r ≡ s
+progress-same s r e = ap (Requests.receiving s) (sym e)
+
+module _ (image : List ℕ) (each : Each Byte image) (p : Parts) (s : Sound p) where
+  -- the parts with another reader
+  reader-leaves : (t : List ℕ) → ReaderKept (p .reader) t → Leaves p (Receive.partsWith p t (Receive.innerOf p)) (Requests.receiving (view p) (receivedOf t))
+  unfolding view
+  reader-leaves t k = (
+    refl,
+    record {
+      valid = record { reader = k .valid; outbox = s .valid .outbox; factory = s .valid .factory; settings = s .valid .settings; registers = s .valid .registers };
+      bytes = record {
+        reader = k .bytes (s .bytes .reader);
+        outbox = s .bytes .outbox;
+        factory = s .bytes .factory;
+        settings = s .bytes .settings;
+        registers = s .bytes .registers;
+      };
+    },
+    record { reader = k .long; outbox = refl; factory = refl; settings = refl; registers = refl },
+  )
+
+  abbrev ended : List ℕ
+  ended = LineReader.finish (p .reader) .state
+
+  judgeable : (v : Verdict) → verdictMeant (receivedOf (p .reader)) ≡ some v → Small v → Judgeable v
+  judgeable (failure reason sequence) e h = h .low
+  judgeable (good m) e h = finished-typed (p .reader) m (s .bytes .reader) e
+
+  -- a frame that is not empty
+  frame-leaves : (v : Verdict) → Judgeable v
+      → Leaves p (Receive.partsWith p ended (Receive.innerBy image (p .factory) (Receive.innerOf p) v)) (Requests.judged image (Requests.receiving (view p) (some [])) v)
+  frame-leaves v j =
+      let a = rw (finished-received (p .reader) (s .valid .reader)) at (reader-leaves ended (finished-kept (p .reader) (s .valid .reader))) in
+      let b = judged-leaves image each _ (a .1) v j in
+      (b .0 ∙ ap (λ x. Requests.judged image x v) (a .0), b .1, lengths-then (a .2) (b .2))
+
+  received-view : view p .received ≡ receivedOf (p .reader)
+  unfolding view
+  received-view = refl
+
+  -- by the bytes since the last 00
+  closed-leaves : (r : Option (List ℕ)) → receivedOf (p .reader) ≡ r
+      → Leaves p (Receive.partsWith p ended (Receive.innerAfter image (p .factory) (Receive.innerOf p) (verdictMeant r))) (Requests.closed image (view p) r)
+  unfolding Receive.innerAfter Requests.closed
+  closed-leaves none e = frame-leaves (failure 1 none) (omega arith)
+  closed-leaves (some []) e =
+      let a = rw (finished-received (p .reader) (s .valid .reader)) at (reader-leaves ended (finished-kept (p .reader) (s .valid .reader))) in
+      (a .0 ∙ progress-same (view p) (some []) (received-view ∙ e), a .1, a .2)
+  closed-leaves (some (b ∷ bs)) e = frame-leaves _ (judgeable _ (rw e) (verdict-small (b ∷ bs)))
+
+  zero-leaves : Leaves p (Receive.answered image p ended (LineReader.finish (p .reader) .answer)) (Requests.closed image (view p) (view p .received))
+  unfolding Receive.answered
+  zero-leaves = rw (finished-verdict (p .reader) (s .valid .reader) ∙ ap verdictMeant (sym received-view)) (closed-leaves (view p .received) (sym received-view))
+
+  -- a byte that is not 00
+  pushed-leaves : (b : ℕ) → b < 256
+      → Leaves p (Receive.partsWith p (LineReader.pushed (p .reader) b) (Receive.innerOf p)) (Requests.receiving (view p) (Requests.more (view p .received) b))
+  pushed-leaves b small =
+      let a = reader-leaves (LineReader.pushed (p .reader) b) (pushed-kept (p .reader) b (s .valid .reader) small) in
+      let more = pushed-received (p .reader) b (s .valid .reader) ∙ ap (λ r. Requests.more r b) (sym received-view) in
+      (a .0 ∙ ap (Requests.receiving (view p)) more, a .1, a .2)
+
+pub feed-leaves : Feeds
+unfolding Receive.feed Requests.byte
+feed-leaves image p b each s small =
+    cond-both (λ q t. Leaves p q t) (eqb b 0) (λ _. zero-leaves image each p s) (λ _. pushed-leaves image each p s b small)

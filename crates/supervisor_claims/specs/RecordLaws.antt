@@ -1,0 +1,226 @@
+-- The registers after a flag or a record was set, or the start acknowledged, and the view of them.
+-- Assumes nothing.
+use mathlib.Core.Path.{_≡_, ap, _∙_}
+use mathlib.Core.Bool.{Bool, true}
+use mathlib.Core.List.{List, [], _∷_, _++_}
+use mathlib.Core.Option.{Option, some}
+use Prim.Native.Nat.{ℕ, _+_, _-_, _^_, _≤_, _<_, min}
+use native.Mathlib.Nat.{add-zero}
+use native.Mathlib.Omega.{arith}
+use lib.Dec.{eqb}
+use lib.ListN.{length, take, length-take}
+use lib.Seq.{take-length}
+use Rattle.octets.specs.Bytes.{Byte, Each, number, numberAt, bytes, overlay}
+use Rattle.octets.proofs.Conditions.{cond-by}
+use Rattle.octets.proofs.Each.{each-take}
+use Rattle.octets.proofs.Numbers.{number-bytes}
+use Rattle.octets.proofs.Overlay.{overlay-inside, overlay-part}
+use Rattle.octets.proofs.SameBytes.{Same, same-before, same-after, same-within, number-same, stored-long, stored-number, stored-after}
+use Rattle.supervisor.specs.Limits
+use Rattle.supervisor.specs.Layout
+use Rattle.supervisor.specs.State.{Recorded, State, state}
+use Rattle.supervisor.specs.Local
+use Rattle.supervisor.specs.Calls
+use Rattle.supervisor.proofs.ValidLaws.{RegistersValid}
+use Rattle.requests.specs.Requests
+use Rattle.requests.specs.Receive
+use Rattle.supervisor.proofs.KeptRegisters.{Kept}
+use Rattle.supervisor_claims.specs.View.{recordedOf, view}
+use Rattle.supervisor_claims.specs.Meant.{withRegisters}
+use Rattle.supervisor_claims.specs.PartLaws.{Like, like-put, like-stored, each-number}
+use Rattle.supervisor_claims.specs.RegisterLaws.{recorded-same, retained-same, alerts-same, kept-view}
+
+-- ---- a record's bytes: that there is one, its code, the length of its rest, the rest's first bytes
+
+abbrev recordBytes : ℕ → List ℕ → List ℕ
+recordBytes code rest = bytes 1 1 ++ (bytes 2 code ++ (bytes 2 (length rest) ++ take Limits.most-kept rest))
+
+length-record : (code : ℕ) (rest : List ℕ) → length (recordBytes code rest) ≡ Layout.record-kept-place + min Limits.most-kept (length rest)
+unfolding bytes
+length-record code rest = omega (arith, length-take Limits.most-kept rest)
+
+module _ (r : List ℕ) (at code : ℕ) (rest : List ℕ) (room : at ≤ length r) where
+  put-held : Layout.recordHeld (Receive.withRecord r at code rest) at ≡ 1
+  unfolding Receive.withRecord bytes
+  put-held = ap number (rw add-zero at (overlay-part at 0 1 (recordBytes code rest) r room (omega arith))) ∙ number-bytes 1 1 (omega arith)
+
+  put-code : code < 65536 → Layout.recordCode (Receive.withRecord r at code rest) at ≡ code
+  unfolding Receive.withRecord bytes
+  put-code h = ap number (overlay-part at 1 2 (recordBytes code rest) r room (omega arith)) ∙ number-bytes 2 code (omega arith)
+
+  put-whole : length rest < 65536 → Layout.recordWhole (Receive.withRecord r at code rest) at ≡ length rest
+  unfolding Receive.withRecord bytes
+  put-whole h = ap number (overlay-part at 3 2 (recordBytes code rest) r room (omega arith)) ∙ number-bytes 2 (length rest) (omega arith)
+
+  put-record : code < 65536 → length rest < 65536 → recordedOf (Receive.withRecord r at code rest) at ≡ some (Requests.recorded code rest)
+  unfolding Receive.withRecord bytes recordedOf Requests.recorded
+  put-record h l =
+      let kept = take Limits.most-kept rest in
+      let n : min (length rest) Limits.most-kept ≡ length kept = omega (arith, length-take Limits.most-kept rest) in
+      rw (
+        put-held,
+        put-code h,
+        put-whole l,
+        n,
+        overlay-part at 5 (length kept) (recordBytes code rest) r room (omega arith),
+        take-length,
+      )
+
+-- ---- a bit cleared
+
+pub clear-small : (n k : ℕ) → Requests.clearBit n k ≤ n
+unfolding Requests.clearBit
+clear-small n k = cond-by (λ m. m ≤ n) (eqb (Local.bit n k) 1) (n - 2 ^ k) n (λ e. omega arith) (λ e. omega arith)
+
+-- ---- the view of registers that have other flags or records
+
+-- the state with other flags and records
+abbrev pub noted : State → Bool → Bool → Option Recorded → Option Recorded → State
+noted s reboot power-off boot-failure panic =
+    state (s .status) (s .options) reboot power-off boot-failure panic (s .factory) (s .settings) (s .waiting) (s .retained)
+    (s .received) (s .pending) (s .owing)
+
+abbrev flag : List ℕ → ℕ → Bool
+flag r at = eqb (numberAt 1 r at) 1
+
+module _ (p : Calls.Parts) (w : RegistersValid (p .registers)) where
+  -- bytes put among the flags and records
+  module _ (at : ℕ) (xs : List ℕ) (h : (Layout.reboot-place ≤ at) × (at + length xs ≤ Layout.alert-count-place)) where
+    abbrev put : List ℕ
+    put = overlay at xs (p .registers)
+
+    before : Same Layout.status-place at (p .registers) put
+    before = same-before at xs (p .registers) (omega arith) (omega arith)
+
+    after : Same (at + length xs) Layout.registers-length (p .registers) put
+    after = same-after at xs (p .registers) (omega arith) (omega arith)
+
+    put-view : view (withRegisters p put)
+        ≡ noted (view p) (flag put Layout.reboot-place) (flag put Layout.power-off-place)
+        (recordedOf put Layout.boot-failure-place) (recordedOf put Layout.panic-place)
+    unfolding view
+    put-view =
+        let behind = same-within after {a = Layout.alert-count-place} {b = Layout.registers-length} (omega arith) in
+        rw (
+          number-same before 8 Layout.status-place (omega arith),
+          number-same before 8 Layout.options-place (omega arith),
+          number-same behind 1 Layout.alert-count-place (omega arith),
+          alerts-same behind (Layout.alertCount (p .registers)) (omega arith) (w .rest .alerts),
+          retained-same behind (omega arith) (w .rest .text),
+        )
+
+  -- ---- a flag
+
+  module _ (at : ℕ) (h : (Layout.reboot-place ≤ at) × (at ≤ Layout.power-off-place)) where
+    abbrev asked : List ℕ
+    asked = overlay at (1 ∷ []) (p .registers)
+
+    flag-put : flag asked at ≡ true
+    unfolding number
+    flag-put = rw (overlay-inside at (1 ∷ []) (p .registers) (omega arith))
+
+    flag-view : view (withRegisters p asked)
+        ≡ noted (view p) (flag asked Layout.reboot-place) (flag asked Layout.power-off-place) (view p .boot-failure) (view p .panic)
+    unfolding view
+    flag-view =
+        let behind = after at (1 ∷ []) (omega arith) in
+        put-view at (1 ∷ []) (omega arith)
+        ∙ rw (recorded-same behind Layout.boot-failure-place (omega arith), recorded-same behind Layout.panic-place (omega arith))
+
+    pub flag-like : Like (p .registers) asked
+    flag-like = like-put at (1 ∷ []) (p .registers) (omega arith) (λ _. (omega arith, tt))
+
+  pub reboot-view : view (withRegisters p (overlay Layout.reboot-place (1 ∷ []) (p .registers))) ≡ Requests.reboot (view p) .state
+  unfolding view Requests.reboot
+  reboot-view =
+      let at = Layout.reboot-place in
+      flag-view at (omega arith)
+      ∙ rw (flag-put at (omega arith), number-same (after at (1 ∷ []) (omega arith)) 1 Layout.power-off-place (omega arith))
+
+  pub power-off-view : view (withRegisters p (overlay Layout.power-off-place (1 ∷ []) (p .registers))) ≡ Requests.powerOff (view p) .state
+  unfolding view Requests.powerOff
+  power-off-view =
+      let at = Layout.power-off-place in
+      flag-view at (omega arith)
+      ∙ rw (flag-put at (omega arith), number-same (before at (1 ∷ []) (omega arith)) 1 Layout.reboot-place (omega arith))
+
+  -- ---- a record
+
+  module _ (at code : ℕ) (rest : List ℕ) (h : (Layout.boot-failure-place ≤ at) × (at ≤ Layout.panic-place)) where
+    abbrev telling : List ℕ
+    telling = Receive.withRecord (p .registers) at code rest
+
+    record-before : Same Layout.status-place at (p .registers) telling
+    unfolding Receive.withRecord
+    record-before = before at (recordBytes code rest) (omega (arith, length-record code rest))
+
+    record-after : Same (at + Layout.record-length) Layout.registers-length (p .registers) telling
+    unfolding Receive.withRecord
+    record-after = let n = length-record code rest in same-within (after at (recordBytes code rest) (omega arith)) (omega arith)
+
+    record-view : view (withRegisters p telling)
+        ≡ noted (view p) (view p .reboot-asked) (view p .power-off-asked) (recordedOf telling Layout.boot-failure-place) (recordedOf telling Layout.panic-place)
+    unfolding view Receive.withRecord
+    record-view =
+        put-view at (recordBytes code rest) (omega (arith, length-record code rest))
+        ∙ rw (
+          number-same record-before 1 Layout.reboot-place (omega arith),
+          number-same record-before 1 Layout.power-off-place (omega arith),
+        )
+
+    pub record-like : Each Byte rest → Like (p .registers) telling
+    unfolding Receive.withRecord
+    record-like e =
+        like-put at (recordBytes code rest) (p .registers) (omega (arith, length-record code rest))
+        (λ _. each-number 1 1 _ (each-number 2 code _ (each-number 2 (length rest) _ (each-take Byte Limits.most-kept rest e))))
+
+  module _ (code : ℕ) (rest : List ℕ) (small : code < 65536) (short : length rest < 65536) where
+    pub boot-failure-view : view (withRegisters p (Receive.withRecord (p .registers) Layout.boot-failure-place code rest))
+        ≡ noted (view p) (view p .reboot-asked) (view p .power-off-asked) (some (Requests.recorded code rest)) (view p .panic)
+    unfolding view
+    boot-failure-view =
+        let at = Layout.boot-failure-place in
+        record-view at code rest (omega arith)
+        ∙ rw (
+          put-record (p .registers) at code rest (omega arith) small short,
+          recorded-same (record-after at code rest (omega arith)) Layout.panic-place (omega arith),
+        )
+
+    pub panic-view : view (withRegisters p (Receive.withRecord (p .registers) Layout.panic-place code rest))
+        ≡ noted (view p) (view p .reboot-asked) (view p .power-off-asked) (view p .boot-failure) (some (Requests.recorded code rest))
+    unfolding view
+    panic-view =
+        let at = Layout.panic-place in
+        record-view at code rest (omega arith)
+        ∙ rw (
+          recorded-same (record-before at code rest (omega arith)) Layout.boot-failure-place (omega arith),
+          put-record (p .registers) at code rest (omega arith) small short,
+        )
+
+  -- ---- the start acknowledged
+
+  pub acknowledged-view : view (withRegisters p (overlay Layout.status-place (bytes 8 (Requests.clearBit (Layout.statusOf (p .registers)) 0)) (p .registers)))
+      ≡ Requests.startAcknowledged (view p) .state
+  unfolding view Requests.startAcknowledged
+  acknowledged-view =
+      let r = p .registers in
+      let status = Requests.clearBit (Layout.statusOf r) 0 in
+      let small = clear-small (Layout.statusOf r) 0 in
+      let room : Layout.status-place + 8 ≤ length r = omega arith in
+      let s = overlay Layout.status-place (bytes 8 status) r in
+      let behind : Same Layout.options-place Layout.registers-length r s = stored-after 8 Layout.status-place status r room (omega arith) in
+      let kept : Kept r s = record {
+        long = stored-long 8 Layout.status-place status r room;
+        flags-and-records = same-within behind (omega arith);
+        retained = same-within behind (omega arith);
+      } in
+      kept-view p kept w
+      ∙ rw (
+        stored-number 8 Layout.status-place status r room (omega arith),
+        number-same behind 8 Layout.options-place (omega arith),
+        number-same behind 1 Layout.alert-count-place (omega arith),
+        alerts-same behind (Layout.alertCount r) (omega arith) (w .rest .alerts),
+      )
+
+  pub acknowledged-like : (status : ℕ) → Like (p .registers) (overlay Layout.status-place (bytes 8 status) (p .registers))
+  acknowledged-like status = like-stored 8 Layout.status-place status (p .registers) (omega arith)

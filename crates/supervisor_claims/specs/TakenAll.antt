@@ -1,0 +1,215 @@
+-- A stream received byte by byte, all that is pending taken after each byte: what goes out is the replies' frames, in order.
+-- Assumes nothing.
+use mathlib.Core.Path.{_≡_, refl, sym, ap, _∙_}
+use mathlib.Core.Bool.{Bool, false}
+use mathlib.Core.List.{List, [], _∷_, _++_, append-assoc, append-nil}
+use mathlib.Core.Option.{Option, none, some}
+use Prim.Native.Nat.{ℕ, zero, suc, _≤_}
+use native.Mathlib.Omega.{arith}
+use lib.Dec.{eqb·suc-zero}
+use lib.ListN.{length, take, drop, length-append, drop-of-length-le}
+use lib.Seq.{take-all, append-snoc, getD-at}
+use Rattle.line.specs.Message.{Message, message}
+use Rattle.line.specs.Cobs.{cobs}
+use Rattle.line.specs.Frame.{frame}
+use Rattle.supervisor.specs.State.{State}
+use Rattle.supervisor.specs.Local.{lastNonZero, taken, afterTake}
+use Rattle.requests.specs.Requests.{Reply, verdict, receiving, judged, closed, byte, owed, replyFrame}
+use Rattle.line_claims.specs.Pieces.{split, nonEmpty, split-close, split-more, nonEmpty-append}
+use Rattle.supervisor_claims.specs.InOrder.{lined, doneBy, replyBy, done-lined, judged-is, framed, tailOf, more-tail, closed-framed}
+
+drop-all : (n : ℕ) (l : List ℕ) → length l ≤ n → drop n l ≡ []
+drop-all n l h = drop-of-length-le l h
+
+-- ---- taking all
+
+abbrev pub allTaken : State → List ℕ
+allTaken s = taken s (length (s .pending))
+
+abbrev pub afterAll : State → State
+afterAll s = afterTake s (length (s .pending))
+
+-- any larger room takes the same
+pub larger-room : (s : State) (room : ℕ) → length (s .pending) ≤ room → (taken s room ≡ allTaken s) × (afterTake s room ≡ afterAll s)
+unfolding taken afterTake
+larger-room s room h =
+    let p = s .pending in
+    let t : take room p ≡ take (length p) p = take-all room p h ∙ sym (take-all (length p) p (omega arith)) in
+    let d : drop room p ≡ drop (length p) p = drop-all room p h ∙ sym (drop-all (length p) p (omega arith)) in
+    (t, rw (t, d))
+
+pub all-taken : (s : State) → allTaken s ≡ s .pending
+unfolding taken
+all-taken s = take-all (length (s .pending)) (s .pending) (omega arith)
+
+pub after-all : (s : State) → afterAll s ≡ lined s (s .received) [] (lastNonZero (s .owing) (s .pending))
+unfolding afterTake
+after-all s = rw (all-taken s, drop-all (length (s .pending)) (s .pending) (omega arith))
+
+-- ---- a session
+
+-- the bytes taken, and the state that is left
+pub record Session : Type 0 where
+  pub taken : List ℕ
+  pub state : State
+
+-- all is taken
+abbrev pub tookAll : State → Session
+tookAll s = record { taken = allTaken s; state = afterAll s }
+
+-- one byte is received, and then all is taken
+unfoldable pub turn : List ℕ → State → ℕ → Session
+turn image s b = tookAll (byte image s b)
+
+unfoldable pub session : List ℕ → State → List ℕ → Session
+session image s [] = record { taken = []; state = s }
+session image s (b ∷ bs) =
+    let t = turn image s b in
+    let u = session image (t .state) bs in
+    record { taken = t .taken ++ u .taken; state = u .state }
+
+-- ---- replies
+
+-- the reply that a frame that is not empty earns, and the state after it, with nothing pending
+unfoldable pub replyTo : List ℕ → State → List ℕ → Option Reply
+replyTo image s f = replyBy image s (verdict f)
+
+unfoldable pub afterFrame : List ℕ → State → List ℕ → State
+afterFrame image s f = doneBy image s (verdict f)
+
+-- their replies' frames, in order, and the state after all
+unfoldable pub replies : List ℕ → State → List (List ℕ) → List ℕ
+replies image s [] = []
+replies image s (f ∷ fs) = replyFrame (replyTo image s f) ++ replies image (afterFrame image s f) fs
+
+unfoldable pub afterFrames : List ℕ → State → List (List ℕ) → State
+afterFrames image s [] = s
+afterFrames image s (f ∷ fs) = afterFrames image (afterFrame image s f) fs
+
+replies-append : (image : List ℕ) (s : State) (fs gs : List (List ℕ))
+    → replies image s (fs ++ gs) ≡ replies image s fs ++ replies image (afterFrames image s fs) gs
+unfolding replies afterFrames
+replies-append image s [] gs = refl
+replies-append image s (f ∷ fs) gs = rw (replies-append image (afterFrame image s f) fs gs, append-assoc)
+
+after-append : (image : List ℕ) (s : State) (fs gs : List (List ℕ)) → afterFrames image s (fs ++ gs) ≡ afterFrames image (afterFrames image s fs) gs
+unfolding afterFrames
+after-append image s [] gs = refl
+after-append image s (f ∷ fs) gs = after-append image (afterFrame image s f) fs gs
+
+-- ---- nothing is pending and no 00 is owed, before a frame and after it
+
+pub record Quiet (s : State) : Type 0 where
+  pub pending : s .pending ≡ []
+  pub owing : s .owing ≡ false
+
+frame-quiet : (image : List ℕ) (s : State) (f : List ℕ) → Quiet s → Quiet (afterFrame image s f)
+unfolding afterFrame
+frame-quiet image s f q =
+    let d = done-lined image s (s .received) (s .pending) (s .owing) (verdict f) in
+    record { pending = ap (λ (x : State). x .pending) d ∙ q .pending; owing = ap (λ (x : State). x .owing) d ∙ q .owing }
+
+frames-quiet : (image : List ℕ) (s : State) (fs : List (List ℕ)) → Quiet s → Quiet (afterFrames image s fs)
+unfolding afterFrames
+frames-quiet image s [] q = q
+frames-quiet image s (f ∷ fs) q = frames-quiet image (afterFrame image s f) fs (frame-quiet image s f q)
+
+-- a reply ends in a 00
+last-zero : (bs : List ℕ) → lastNonZero false (bs ++ (0 ∷ [])) ≡ false
+unfolding lastNonZero
+last-zero [] = refl
+last-zero (b ∷ bs) =
+    let l : length (b ∷ bs) ≡ length (bs ++ (0 ∷ [])) = simp length-append (omega arith) in
+    rw (getD-at (b ∷ bs) 0 [] 0 (length (bs ++ (0 ∷ []))) l)
+
+frame-last : (m : Message) → lastNonZero false (frame m) ≡ false
+unfolding frame
+frame-last m = last-zero (cobs (message m))
+
+reply-last : (r : Option Reply) → lastNonZero false (replyFrame r) ≡ false
+unfolding replyFrame lastNonZero
+reply-last none = refl
+reply-last (some r) = frame-last (record { version = 1; sequence = r .sequence; command = r .command; payload = r .payload })
+
+took-is : (s : State) → tookAll s ≡ record { taken = s .pending; state = lined s (s .received) [] (lastNonZero (s .owing) (s .pending)) }
+took-is s = rw (all-taken s, after-all s)
+
+quiet-taken : (s : State) (r : Option (List ℕ)) → Quiet s → tookAll (receiving s r) ≡ record { taken = []; state = receiving s r }
+unfolding lastNonZero
+quiet-taken s r q = took-is (receiving s r) ∙ rw (q .pending, q .owing)
+
+reply-taken : (s : State) (r : Option (List ℕ)) (owing : Bool) (reply : Option Reply) → Quiet s → owing ≡ false
+    → tookAll (lined s r (owed owing ++ replyFrame reply) owing) ≡ record { taken = replyFrame reply; state = receiving s r }
+reply-taken s r owing reply q e = rw e (took-is (lined s r (replyFrame reply) false) ∙ rw (reply-last reply, q .pending, q .owing))
+
+module _ (image : List ℕ) (s : State) (q : Quiet s) where
+  judged-taken : (r : Option (List ℕ)) (f : List ℕ)
+      → tookAll (receiving (judged image s (verdict f)) r) ≡ record { taken = replyFrame (replyTo image s f); state = receiving (afterFrame image s f) r }
+  unfolding afterFrame replyTo
+  judged-taken r f =
+      ap (λ (x : State). tookAll (receiving x r)) (judged-is image s (verdict f))
+      ∙ reply-taken (afterFrame image s f) r (s .owing) (replyTo image s f) (frame-quiet image s f q) (q .owing)
+
+  -- a 00 behind bytes
+  turn-close : (bs : List ℕ) → turn image (receiving s (tailOf bs)) 0
+      ≡ record { taken = replies image s (nonEmpty (bs ∷ [])); state = receiving (afterFrames image s (nonEmpty (bs ∷ []))) (some []) }
+  unfolding turn byte framed replies afterFrames nonEmpty
+  turn-close [] = ap tookAll (closed-framed image s []) ∙ quiet-taken s (some []) q
+  turn-close (b ∷ bs) = ap tookAll (closed-framed image s (b ∷ bs)) ∙ rw append-nil (judged-taken (some []) (b ∷ bs))
+
+  -- any other byte
+  turn-more : (bs : List ℕ) (b : ℕ) → turn image (receiving s (tailOf bs)) (suc b) ≡ record { taken = []; state = receiving s (tailOf (bs ++ (suc b ∷ []))) }
+  unfolding turn byte
+  turn-more bs b = rw (eqb·suc-zero, more-tail bs (suc b)) (quiet-taken s (tailOf (bs ++ (suc b ∷ []))) q)
+
+-- ---- the claim
+
+module _ (image : List ℕ) (s : State) (q : Quiet s) where
+  -- after bytes: their replies were taken, and nothing is pending
+  abbrev repliedTo : List ℕ → Session
+  repliedTo bs = record {
+    taken = replies image s (nonEmpty (split bs .closed));
+    state = receiving (afterFrames image s (nonEmpty (split bs .closed))) (tailOf (split bs .rest));
+  }
+
+  abbrev joined : Session → Session → Session
+  joined x y = record { taken = x .taken ++ y .taken; state = y .state }
+
+  turn-replied : (bs : List ℕ) (b : ℕ) → joined (repliedTo bs) (turn image (repliedTo bs .state) b) ≡ repliedTo (bs ++ (b ∷ []))
+  unfolding tailOf
+  turn-replied bs zero =
+      let fs = nonEmpty (split bs .closed) in
+      let t = split bs .rest in
+      let g = nonEmpty (t ∷ []) in
+      ap (joined (repliedTo bs)) (turn-close image (afterFrames image s fs) (frames-quiet image s fs q) t)
+      ∙ rw (split-close bs, nonEmpty-append (split bs .closed) (t ∷ []), replies-append image s fs g, after-append image s fs g)
+  turn-replied bs (suc b) =
+      let fs = nonEmpty (split bs .closed) in
+      ap (joined (repliedTo bs)) (turn-more image (afterFrames image s fs) (frames-quiet image s fs q) (split bs .rest) b)
+      ∙ rw (split-more bs b) (simp append-nil)
+
+  session-replied : (cs bs : List ℕ) → joined (repliedTo bs) (session image (repliedTo bs .state) cs) ≡ repliedTo (bs ++ cs)
+  unfolding session
+  session-replied [] bs = simp append-nil
+  session-replied (c ∷ cs) bs =
+      let t = turn image (repliedTo bs .state) c in
+      rw (← append-assoc (repliedTo bs .taken) (t .taken) (session image (t .state) cs .taken))
+      (ap (λ (x : Session). joined x (session image (x .state) cs)) (turn-replied bs c) ∙ session-replied cs (bs ++ (c ∷ [])) ∙ rw append-snoc)
+
+-- what is taken is the replies to the frames that are not empty, in order, and the state is as those frames leave it, with nothing pending
+module _ (image : List ℕ) (s : State) (bs : List ℕ) (idle : s .received ≡ some []) (pending : s .pending ≡ []) (owing : s .owing ≡ false) where
+  all-replied : session image s bs ≡ record {
+    taken = replies image s (nonEmpty (split bs .closed));
+    state = receiving (afterFrames image s (nonEmpty (split bs .closed))) (tailOf (split bs .rest));
+  }
+  unfolding replies afterFrames nonEmpty split tailOf
+  all-replied =
+      let q : Quiet s = record { pending = pending; owing = owing } in
+      let z : s ≡ receiving s (some []) = rw (← idle) in
+      ap (λ (x : State). session image x bs) z ∙ session-replied image s q bs []
+
+  pub replies-taken : session image s bs .taken ≡ replies image s (nonEmpty (split bs .closed))
+  replies-taken = ap (λ (x : Session). x .taken) all-replied
+
+  pub session-leaves : session image s bs .state ≡ receiving (afterFrames image s (nonEmpty (split bs .closed))) (tailOf (split bs .rest))
+  session-leaves = ap (λ (x : Session). x .state) all-replied

@@ -1,0 +1,347 @@
+-- The registers after an alert request: what is retained, the alerts that wait, the status, and the reply's data.
+-- Assumes nothing.
+use mathlib.Core.Path.{_≡_, refl, ap, _∙_}
+use mathlib.Core.Bool.{Bool, true, false, cond, _&&_}
+use mathlib.Core.List.{List, [], _∷_, _++_}
+use mathlib.Core.Option.{none, some}
+use Prim.Native.Nat.{ℕ, zero, suc, _+_, _-_, _*_, _^_, _≤_, _<_}
+use native.Mathlib.Nat.{add-zero}
+use native.Mathlib.Omega.{arith}
+use lib.Dec.{leb, eqb}
+use lib.ListN.{length, take, drop, replicate}
+use lib.Seq.{take-take, drop-drop}
+use borrow.Author.Tests.{lt-leb, eq-eqb, ne-eqb}
+use Rattle.octets.specs.Bytes.{Byte, Each, number, numberAt, bytes, run, overlay}
+use Rattle.octets.proofs.Conditions.{cond-by, cond-both}
+use Rattle.octets.proofs.Numbers.{number-bytes}
+use Rattle.octets.proofs.Overlay.{length-run, overlay-part}
+use Rattle.octets.proofs.SameBytes.{Same, same-first, same-before, same-after, same-then, same-within, number-same, stored-number, stored-before, stored-after}
+use Rattle.supervisor.specs.Limits
+use Rattle.supervisor.specs.Layout
+use Rattle.supervisor.specs.State.{Alert}
+use Rattle.supervisor.specs.Valid.{validAlert}
+use Rattle.supervisor.specs.Calls
+use Rattle.supervisor.proofs.ValidLaws.{all-each, alert-valid, RegistersValid, registers-valid}
+use Rattle.requests.proofs.TakenLaws.{settled}
+use Rattle.requests.specs.Requests
+use Rattle.requests.specs.Receive
+use Rattle.supervisor_claims.specs.View.{listed, alertOf, retainedOf, view}
+use Rattle.supervisor_claims.specs.Meant.{Valid, withRegisters}
+use Rattle.supervisor_claims.specs.ViewLaws.{length-listed, listed-same}
+use Rattle.supervisor_claims.specs.LookupClaim.{number-run, run-add}
+use Rattle.supervisor_claims.specs.PartLaws.{Like, like-itself, like-then, like-put, like-stored, each-number, each-run}
+use Rattle.supervisor_claims.specs.RegisterLaws.{alertsOf, recorded-same}
+use Rattle.supervisor_claims.specs.RecordLaws.{clear-small}
+
+-- ---- the first of some values, and the others
+
+module _ {A : Type 0} where
+  listed-first : (f : ℕ → A) (n : ℕ) → listed f (suc n) ≡ f 0 ∷ listed (λ i. f (suc i)) n
+  unfolding listed
+  listed-first f zero = refl
+  listed-first f (suc n) = rw (listed-first f n)
+
+  listed-others : (f : ℕ → A) (n : ℕ) → listed (λ i. f (suc i)) (n - 1) ≡ drop 1 (listed f n)
+  unfolding listed
+  listed-others f zero = refl
+  listed-others f (suc n) = let e : suc n - 1 ≡ n = omega arith in rw (e, listed-first f n)
+
+-- the status, by how many wait
+status-after : (status : ℕ) (waiting : List Alert)
+    → cond (leb (length waiting) 1) (Requests.clearBit status 1) status ≡ Requests.statusAfter status (Requests.others waiting)
+status-after status [] = refl
+status-after status (a ∷ []) = refl
+status-after status (a ∷ b ∷ rest) = rw (lt-leb (suc (suc (length rest))) 1 (omega arith))
+
+-- ---- bytes at another place
+
+-- s has from bt on what r has from at on
+record Moved (size at bt : ℕ) (r s : List ℕ) : Type 0 where
+  runs : (j n : ℕ) → j + n ≤ size → run (bt + j) n s ≡ run (at + j) n r
+
+alert-moved : {at bt : ℕ} {r s : List ℕ} → Moved Layout.alert-length at bt r s → Layout.alertTextLength r at ≤ Limits.longest-alert
+    → alertOf s bt ≡ alertOf r at
+unfolding alertOf
+alert-moved {at} {r = r} moved h =
+    rw (
+      ap number (simp add-zero at (moved .runs 0 2 (omega arith))),
+      ap number (moved .runs Layout.alert-action-place 1 (omega arith)),
+      moved .runs Layout.alert-text-place (Layout.alertTextLength r at) (omega arith),
+    )
+
+-- a run of a run
+run-run : (at size j n : ℕ) (s : List ℕ) → j + n ≤ size → run j n (run at size s) ≡ run (at + j) n s
+run-run at size j n s h =
+    same-first size (drop at s) (take size (drop at s)) (take-take size size (drop at s) (omega arith)) .runs j n (omega arith) ∙ rw drop-drop
+
+-- ---- the retained reply's bytes: that there is one, its sequence, its alert
+
+abbrev retainedBytes : ℕ → List ℕ → List ℕ
+retainedBytes sequence zs = bytes 1 1 ++ (bytes 8 sequence ++ zs)
+
+length-retained : (sequence : ℕ) (zs : List ℕ) → length (retainedBytes sequence zs) ≡ 9 + length zs
+unfolding bytes
+length-retained sequence zs = omega arith
+
+module _ (r : List ℕ) (sequence : ℕ) (zs : List ℕ) (room : Layout.retained-place ≤ length r) where
+  abbrev retaining : List ℕ
+  retaining = overlay Layout.retained-place (retainedBytes sequence zs) r
+
+  put-held : numberAt 1 retaining Layout.retained-place ≡ 1
+  unfolding bytes
+  put-held =
+      ap number (rw add-zero at (overlay-part Layout.retained-place 0 1 (retainedBytes sequence zs) r room (omega arith)))
+      ∙ number-bytes 1 1 (omega arith)
+
+  put-sequence : sequence < 2 ^ 64 → numberAt 8 retaining Layout.retained-sequence-place ≡ sequence
+  unfolding bytes
+  put-sequence h =
+      ap number (overlay-part Layout.retained-place 1 8 (retainedBytes sequence zs) r room (omega arith)) ∙ number-bytes 8 sequence (omega arith)
+
+  put-alert : (j n : ℕ) → j + n ≤ length zs → run (Layout.retained-alert-place + j) n retaining ≡ run j n zs
+  unfolding bytes
+  put-alert j n h =
+      let e : Layout.retained-place + (9 + j) ≡ Layout.retained-alert-place + j = omega arith in
+      let part = overlay-part Layout.retained-place (9 + j) n (retainedBytes sequence zs) r room (omega (arith, length-retained sequence zs)) in
+      rw (e, ← drop-drop j 9 (retainedBytes sequence zs)) at part
+
+-- ---- the registers of an alert request that takes an alert, or none
+
+-- the bytes of the alert that is retained: the oldest one's, or action 0 and no text
+abbrev firstBytes : List ℕ → List ℕ
+firstBytes r = cond (eqb (Layout.alertCount r) 0) (replicate 3 0) (run Layout.alerts-place Layout.alert-length r)
+
+-- the registers before the status is stored
+abbrev counted : List ℕ → ℕ → List ℕ
+counted r sequence = overlay Layout.alert-count-place (bytes 1 (Layout.alertCount r - 1)) (Receive.movedAlerts (Receive.withRetained r sequence))
+
+abbrev statusThen : List ℕ → ℕ
+statusThen r = cond (leb (Layout.alertCount r) 1) (Requests.clearBit (Layout.statusOf r) 1) (Layout.statusOf r)
+
+three-zeros : Each Byte (replicate 3 0)
+three-zeros = (omega arith, (omega arith, (omega arith, tt)))
+
+module _ (r : List ℕ) (sequence : ℕ) (w : RegistersValid r) where
+  first-long : (3 ≤ length (firstBytes r)) × (length (firstBytes r) ≤ Layout.alert-length)
+  first-long =
+      let n = length-run Layout.alerts-place Layout.alert-length r (omega arith) in
+      cond-by (λ zs. (3 ≤ length zs) × (length zs ≤ Layout.alert-length)) (eqb (Layout.alertCount r) 0) (replicate 3 0) _
+      (λ e. omega arith) (λ e. omega arith)
+
+  first-bytes : Each Byte r → Each Byte (firstBytes r)
+  first-bytes b =
+      cond-by (Each Byte) (eqb (Layout.alertCount r) 0) (replicate 3 0) _
+      (λ e. three-zeros) (λ e. each-run Layout.alerts-place Layout.alert-length r b)
+
+  retained-like : Like r (Receive.withRetained r sequence)
+  unfolding Receive.withRetained
+  retained-like =
+      like-put Layout.retained-place (retainedBytes sequence (firstBytes r)) r (omega (arith, first-long, length-retained sequence (firstBytes r)))
+      (λ b. each-number 1 1 _ (each-number 8 sequence _ (first-bytes b)))
+
+  -- how many bytes move down
+  abbrev rest : ℕ
+  rest = (Limits.most-alerts - 1) * Layout.alert-length
+
+  rest-long : length (run (Layout.alert-place 1) rest (Receive.withRetained r sequence)) ≡ rest
+  rest-long = length-run (Layout.alert-place 1) rest (Receive.withRetained r sequence) (omega (arith, retained-like .long))
+
+  moved-like : Like (Receive.withRetained r sequence) (Receive.movedAlerts (Receive.withRetained r sequence))
+  unfolding Receive.movedAlerts
+  moved-like =
+      let s = Receive.withRetained r sequence in
+      like-put Layout.alerts-place (run (Layout.alert-place 1) rest s) s (omega (arith, rest-long, retained-like .long))
+      (each-run (Layout.alert-place 1) rest s)
+
+  counted-like : Like r (counted r sequence)
+  counted-like =
+      let l = like-then retained-like moved-like in
+      like-then l (like-stored 1 Layout.alert-count-place _ _ (omega (arith, l .long)))
+
+  pub taken-like : Like r (Receive.withTaken r sequence)
+  unfolding Receive.withTaken
+  taken-like = like-then counted-like (like-stored 8 Layout.status-place _ (counted r sequence) (omega (arith, counted-like .long)))
+
+  -- ---- what stays
+
+  retained-before : Same Layout.status-place Layout.retained-place r (Receive.withRetained r sequence)
+  unfolding Receive.withRetained
+  retained-before = same-before Layout.retained-place _ r (omega arith) (omega arith)
+
+  moved-before : Same Layout.status-place Layout.alerts-place (Receive.withRetained r sequence) (Receive.movedAlerts (Receive.withRetained r sequence))
+  unfolding Receive.movedAlerts
+  moved-before = same-before Layout.alerts-place _ _ (omega (arith, retained-like .long)) (omega arith)
+
+  moved-after : Same Layout.retained-place Layout.registers-length (Receive.withRetained r sequence) (Receive.movedAlerts (Receive.withRetained r sequence))
+  unfolding Receive.movedAlerts
+  moved-after = same-after Layout.alerts-place _ _ (omega (arith, retained-like .long)) (omega (arith, rest-long))
+
+  counted-room : Layout.registers-length ≤ length (Receive.movedAlerts (Receive.withRetained r sequence))
+  counted-room = omega (arith, retained-like .long, moved-like .long)
+
+  -- the alerts and the retained reply
+  counted-after : Same Layout.alerts-place Layout.registers-length (Receive.movedAlerts (Receive.withRetained r sequence)) (counted r sequence)
+  counted-after = stored-after 1 Layout.alert-count-place _ _ (omega (arith, counted-room)) (omega arith)
+
+  taken-after : Same Layout.options-place Layout.registers-length (counted r sequence) (Receive.withTaken r sequence)
+  unfolding Receive.withTaken
+  taken-after = stored-after 8 Layout.status-place _ _ (omega (arith, counted-like .long)) (omega arith)
+
+  -- the options, the flags and the records
+  front : Same Layout.options-place Layout.alert-count-place r (Receive.withTaken r sequence)
+  front =
+      same-then (same-within retained-before (omega arith))
+      (same-then (same-within moved-before (omega arith))
+      (same-then (stored-before 1 Layout.alert-count-place _ _ (omega (arith, counted-room)) (omega arith)) (same-within taken-after (omega arith))))
+
+  slots : Same Layout.alerts-place Layout.registers-length (Receive.movedAlerts (Receive.withRetained r sequence)) (Receive.withTaken r sequence)
+  slots = same-then counted-after (same-within taken-after (omega arith))
+
+  kept : Same Layout.retained-place Layout.registers-length (Receive.withRetained r sequence) (Receive.withTaken r sequence)
+  kept = same-then moved-after (same-within slots (omega arith))
+
+  -- ---- the status and the count
+
+  taken-status : Layout.statusOf (Receive.withTaken r sequence) ≡ statusThen r
+  unfolding Receive.withTaken
+  taken-status =
+      let small : statusThen r ≤ 3
+      = cond-by (λ n. n ≤ 3) (leb (Layout.alertCount r) 1) _ _ (λ e. omega (arith, clear-small (Layout.statusOf r) 1)) (λ e. omega arith) in
+      stored-number 8 Layout.status-place (statusThen r) (counted r sequence) (omega (arith, counted-like .long)) (omega arith)
+
+  taken-count : Layout.alertCount (Receive.withTaken r sequence) ≡ Layout.alertCount r - 1
+  taken-count =
+      number-same taken-after 1 Layout.alert-count-place (omega arith)
+      ∙ stored-number 1 Layout.alert-count-place (Layout.alertCount r - 1) _ (omega (arith, counted-room)) (omega arith)
+
+  -- ---- the alerts that wait
+
+  valid-at : (i : ℕ) → i < Layout.alertCount r → Layout.alertTextLength r (Layout.alert-place i) ≤ Limits.longest-alert
+  valid-at i h = alert-valid r i (all-each (validAlert r) _ (w .rest .alerts) i h) .size
+
+  moved-down : (i : ℕ) → i + 1 < Limits.most-alerts → Moved Layout.alert-length (Layout.alert-place (suc i)) (Layout.alert-place i) r (Receive.withTaken r sequence)
+  unfolding Receive.movedAlerts
+  moved-down i h = record {
+    runs = λ j n k.
+        let s = Receive.withRetained r sequence in
+        let d = i * Layout.alert-length + j in
+        let e : Layout.alerts-place + d ≡ Layout.alert-place i + j = omega arith in
+        let f : Layout.alert-place 1 + d ≡ Layout.alert-place (suc i) + j = omega arith in
+        let part = overlay-part Layout.alerts-place d n (run (Layout.alert-place 1) rest s) s (omega (arith, retained-like .long)) (omega (arith, rest-long)) in
+        let inside = run-run (Layout.alert-place 1) rest d n s (omega arith) in
+        slots .runs (Layout.alert-place i + j) n (omega arith)
+        ∙ rw e at part
+        ∙ rw f at inside
+        ∙ retained-before .runs (Layout.alert-place (suc i) + j) n (omega arith);
+  }
+
+  taken-waiting : alertsOf (Receive.withTaken r sequence) (Layout.alertCount r - 1) ≡ Requests.others (alertsOf r (Layout.alertCount r))
+  taken-waiting =
+      listed-same _ (λ i. alertOf r (Layout.alert-place (suc i))) _ (λ i h.
+      alert-moved (moved-down i (omega arith)) (valid-at (suc i) (omega arith)))
+      ∙ listed-others (λ i. alertOf r (Layout.alert-place i)) (Layout.alertCount r)
+
+  -- ---- the retained reply
+
+  retained-run : (j n : ℕ) → j + n ≤ length (firstBytes r) → run (Layout.retained-alert-place + j) n (Receive.withTaken r sequence) ≡ run j n (firstBytes r)
+  unfolding Receive.withRetained
+  retained-run j n h =
+      kept .runs (Layout.retained-alert-place + j) n (omega (arith, first-long)) ∙ put-alert r sequence (firstBytes r) (omega arith) j n h
+
+  none-taken : Layout.alertCount r ≡ 0 → alertOf (Receive.withTaken r sequence) Layout.retained-alert-place ≡ Requests.oldest []
+  unfolding alertOf number Requests.oldest
+  none-taken e =
+      let f = eq-eqb (Layout.alertCount r) 0 e in
+      let part : (j n : ℕ) → j + n ≤ 3 → run (Layout.retained-alert-place + j) n (Receive.withTaken r sequence) ≡ run j n (replicate 3 0)
+      = λ j n h. rw f at (retained-run j n (rw f h)) in
+      rw (rw add-zero at (part 0 2 (omega arith)), part 2 1 (omega arith))
+
+  first-taken : (Layout.alertCount r ≡ 0 → ⊥) → alertOf (Receive.withTaken r sequence) Layout.retained-alert-place ≡ alertOf r (Layout.alert-place 0)
+  first-taken e =
+      let f = ne-eqb (Layout.alertCount r) 0 e in
+      let size = length-run Layout.alerts-place Layout.alert-length r (omega arith) in
+      let moved : Moved Layout.alert-length (Layout.alert-place 0) Layout.retained-alert-place r (Receive.withTaken r sequence)
+      = record {
+        runs = λ j n h. rw f at (retained-run j n (rw f (omega arith))) ∙ run-run Layout.alerts-place Layout.alert-length j n r h;
+      } in
+      alert-moved moved (valid-at 0 (omega arith))
+
+  oldest-taken : (n : ℕ) → Layout.alertCount r ≡ n → alertOf (Receive.withTaken r sequence) Layout.retained-alert-place ≡ Requests.oldest (alertsOf r n)
+  unfolding listed Requests.oldest
+  oldest-taken zero e = none-taken e
+  oldest-taken (suc n) e = rw (listed-first (λ i. alertOf r (Layout.alert-place i)) n) (first-taken (λ f. omega arith))
+
+  taken-retained : sequence < 2 ^ 64
+      → retainedOf (Receive.withTaken r sequence) ≡ some (record { sequence = sequence; alert = Requests.oldest (alertsOf r (Layout.alertCount r)) })
+  unfolding retainedOf Receive.withRetained
+  taken-retained h =
+      let zs = firstBytes r in
+      rw (
+        number-same kept 1 Layout.retained-place (omega arith) ∙ put-held r sequence zs (omega arith),
+        number-same kept 8 Layout.retained-sequence-place (omega arith) ∙ put-sequence r sequence zs (omega arith) h,
+        oldest-taken (Layout.alertCount r) refl,
+      )
+
+-- ---- the reply's data
+
+retained-data : (s : List ℕ) → Layout.registers-length ≤ length s → Layout.alertTextLength s Layout.retained-alert-place ≤ Limits.longest-alert → Each Byte s
+    → Receive.retainedData s ≡ Requests.alertData (alertOf s Layout.retained-alert-place)
+unfolding alertOf
+retained-data s long h b =
+    let at = Layout.retained-alert-place + Layout.alert-action-place in
+    rw (number-run 1 at s (omega arith) b) (run-add at 1 (Layout.alertTextLength s Layout.retained-alert-place) s)
+
+-- ---- an alert request
+
+-- registers that hold what a request leaves, and the alert of its reply
+pub record Asked (p : Calls.Parts) (s : List ℕ) (c : Requests.Carried) : Type 0 where
+  pub state : view (withRegisters p s) ≡ c .state
+  pub reply : c .reply ≡ some (0x07, Requests.alertData (alertOf s Layout.retained-alert-place))
+  pub like : Like (p .registers) s
+
+module _ (p : Calls.Parts) (v : Valid p) (sequence : ℕ) (h : sequence < 2 ^ 64) where
+  -- an alert is taken, or none
+  taken : Asked p (Receive.withTaken (p .registers) sequence) (Requests.alertTaken (view p) sequence)
+  unfolding view Requests.alertTaken
+  taken =
+      let r = p .registers in
+      let w = registers-valid r (v .registers) in
+      let same = front r sequence w in
+      let status : Layout.statusOf (Receive.withTaken r sequence) ≡ Requests.statusAfter (Layout.statusOf r) (Requests.others (alertsOf r (Layout.alertCount r)))
+      = taken-status r sequence w ∙ rw length-listed at (status-after (Layout.statusOf r) (alertsOf r (Layout.alertCount r))) in
+      record {
+        state = rw (
+          status,
+          number-same same 8 Layout.options-place (omega arith),
+          number-same same 1 Layout.reboot-place (omega arith),
+          number-same same 1 Layout.power-off-place (omega arith),
+          recorded-same same Layout.boot-failure-place (omega arith),
+          recorded-same same Layout.panic-place (omega arith),
+          taken-count r sequence w,
+          taken-waiting r sequence w,
+          taken-retained r sequence w h,
+        );
+        reply = rw (oldest-taken r sequence w (Layout.alertCount r) refl);
+        like = taken-like r sequence w;
+      }
+
+  -- the retained reply again, or another
+  by-retained : (t : Bool) (n : ℕ) → let r = p .registers in
+      let a = alertOf r Layout.retained-alert-place in
+      Asked p (cond (t && eqb n sequence) r (Receive.withTaken r sequence))
+      (Requests.alertAsked (view p) sequence (cond t (some (record { sequence = n; alert = a })) none))
+  unfolding Requests.alertAsked
+  by-retained true n = cond-both (Asked p) (eqb n sequence) (λ e. record { state = refl; reply = refl; like = like-itself (p .registers) }) (λ e. taken)
+  by-retained false n = taken
+
+  pub alert-asked : Asked p (Receive.alertRegisters (p .registers) sequence) (Requests.alertAsked (view p) sequence (view p .retained))
+  unfolding Receive.alertRegisters Receive.isRetained view retainedOf
+  alert-asked = by-retained (eqb (numberAt 1 (p .registers) Layout.retained-place) 1) (numberAt 8 (p .registers) Layout.retained-sequence-place)
+
+  pub alert-reply : Each Byte (p .registers)
+      → Requests.alertAsked (view p) sequence (view p .retained) .reply ≡ some (0x07, Receive.retainedData (Receive.alertRegisters (p .registers) sequence))
+  alert-reply b =
+      let r = p .registers in
+      let s = settled r sequence (v .registers) refl in
+      let w = registers-valid r (v .registers) in
+      rw (retained-data (Receive.alertRegisters r sequence) (omega arith) (s .text) (alert-asked .like .bytes b)) (alert-asked .reply)
