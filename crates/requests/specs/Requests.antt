@@ -236,11 +236,19 @@ unfoldable pub judged : List ℕ → State → Verdict → State
 judged image s (failure reason sequence) = sent s (some (failedOf reason sequence))
 judged image s (good m) = let c = carried image s m in sent (c .state) (replyOf (m .sequence) (c .reply))
 
--- the 00 behind these bytes; an empty frame is ignored
+-- the verdict on the bytes since the last 00; none on an empty frame, which is ignored
+abbrev pub verdictSince : Option (List ℕ) → Option Verdict
+verdictSince none = some (failure 1 none)
+verdictSince (some []) = none
+verdictSince (some (b ∷ bs)) = some (verdict (b ∷ bs))
+
+abbrev pub closedBy : List ℕ → State → Option Verdict → State
+closedBy image s none = s
+closedBy image s (some v) = judged image (receiving s (some [])) v
+
+-- the 00 behind these bytes
 unfoldable pub closed : List ℕ → State → Option (List ℕ) → State
-closed image s none = judged image (receiving s (some [])) (failure 1 none)
-closed image s (some []) = s
-closed image s (some (b ∷ bs)) = judged image (receiving s (some [])) (verdict (b ∷ bs))
+closed image s received = closedBy image s (verdictSince received)
 
 -- one byte more, or one too many
 unfoldable pub more : Option (List ℕ) → ℕ → Option (List ℕ)

@@ -147,12 +147,6 @@ unfoldable pub upTo : List ℕ → ℕ
 upTo [] = 0
 upTo (b ∷ bs) = cond (eqb b 0) 1 (suc (upTo bs))
 
--- the verdict on the bytes since the last 00; none where there are none
-abbrev pub verdictMeant : Option (List ℕ) → Option Verdict
-verdictMeant none = some (Verdict.failure 1 none)
-verdictMeant (some []) = none
-verdictMeant (some (b ∷ bs)) = some (Requests.verdict (b ∷ bs))
-
 abbrev pub endedMeant : Option Verdict → Ended
 endedMeant none = Ended.empty
 endedMeant (some v) = Receive.endedBy v
@@ -160,7 +154,7 @@ endedMeant (some v) = Receive.endedBy v
 -- how the frame ends that began with these bytes
 unfoldable pub frameEnds : Option (List ℕ) → List ℕ → Ended
 frameEnds received [] = Ended.more
-frameEnds received (b ∷ bs) = cond (eqb b 0) (endedMeant (verdictMeant received)) (frameEnds (Requests.more received b) bs)
+frameEnds received (b ∷ bs) = cond (eqb b 0) (endedMeant (Requests.verdictSince received)) (frameEnds (Requests.more received b) bs)
 
 abbrev pub recordOf : State → Kind → Option Recorded
 recordOf s kind.BootFailure = s .boot-failure

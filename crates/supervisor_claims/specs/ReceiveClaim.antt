@@ -29,7 +29,7 @@ use Rattle.requests.specs.Receive
 use Rattle.requests.proofs.KeptLaws.{carried-valid, alert-data-short, inner-valid, valid-inner, box-valid}
 use Rattle.supervisor_claims.specs.View.{receivedOf, view}
 use Rattle.supervisor_claims.specs.Meant.{Valid, withOutbox}
-use Rattle.supervisor_claims.specs.Histories.{verdictMeant}
+use Rattle.requests.specs.Requests.{verdictSince}
 use Rattle.supervisor_claims.specs.Sound.{Bytes, Sound, Lengths, lengths-same, lengths-then, Leaves, Feeds}
 use Rattle.supervisor_claims.specs.SettingLaws.{storing-stored}
 use Rattle.supervisor_claims.specs.TakenLaws.{alert-asked, alert-reply}
@@ -294,7 +294,7 @@ module _ (image : List ℕ) (each : Each Byte image) (p : Parts) (s : Sound p) w
   abbrev ended : List ℕ
   ended = LineReader.finish (p .reader) .state
 
-  judgeable : (v : Verdict) → verdictMeant (receivedOf (p .reader)) ≡ some v → Small v → Judgeable v
+  judgeable : (v : Verdict) → verdictSince (receivedOf (p .reader)) ≡ some v → Small v → Judgeable v
   judgeable (failure reason sequence) e h = h .low
   judgeable (good m) e h = finished-typed (p .reader) m (s .bytes .reader) e
 
@@ -312,7 +312,7 @@ module _ (image : List ℕ) (each : Each Byte image) (p : Parts) (s : Sound p) w
 
   -- by the bytes since the last 00
   closed-leaves : (r : Option (List ℕ)) → receivedOf (p .reader) ≡ r
-      → Leaves p (Receive.partsWith p ended (Receive.innerAfter image (p .factory) (Receive.innerOf p) (verdictMeant r))) (Requests.closed image (view p) r)
+      → Leaves p (Receive.partsWith p ended (Receive.innerAfter image (p .factory) (Receive.innerOf p) (verdictSince r))) (Requests.closed image (view p) r)
   unfolding Receive.innerAfter Requests.closed
   closed-leaves none e = frame-leaves (failure 1 none) (omega arith)
   closed-leaves (some []) e =
@@ -322,7 +322,7 @@ module _ (image : List ℕ) (each : Each Byte image) (p : Parts) (s : Sound p) w
 
   zero-leaves : Leaves p (Receive.answered image p ended (LineReader.finish (p .reader) .answer)) (Requests.closed image (view p) (view p .received))
   unfolding Receive.answered
-  zero-leaves = rw (finished-verdict (p .reader) (s .valid .reader) ∙ ap verdictMeant (sym received-view)) (closed-leaves (view p .received) (sym received-view))
+  zero-leaves = rw (finished-verdict (p .reader) (s .valid .reader) ∙ ap verdictSince (sym received-view)) (closed-leaves (view p .received) (sym received-view))
 
   -- a byte that is not 00
   pushed-leaves : (b : ℕ) → b < 256

@@ -28,7 +28,7 @@ use Rattle.line.proofs.Lent.{fit-length}
 use Rattle.line.proofs.Held.{data-unpacked, finish-leaves}
 use Rattle.requests.specs.Requests.{known, lengthAllowed, tested, testedWhere, verdict, more}
 use Rattle.requests.specs.Receive.{verdictOf}
-use Rattle.supervisor_claims.specs.Histories.{verdictMeant}
+use Rattle.requests.specs.Requests.{verdictSince}
 use Rattle.supervisor_claims.specs.View.{receivedOf}
 
 -- ---- the bytes since the last 00
@@ -107,7 +107,7 @@ finished-received s v =
 
 -- ---- the verdict on them
 
-meant-some : (form : List ℕ) → 0 < length form → verdictMeant (some form) ≡ some (verdict form)
+meant-some : (form : List ℕ) → 0 < length form → verdictSince (some form) ≡ some (verdict form)
 meant-some [] h = absurd (omega arith)
 meant-some (b ∷ bs) h = refl
 
@@ -142,7 +142,7 @@ module _ (s : List ℕ) (r : Ready s) where
   verdict-form form l = rw (le-ltb longest-form (length form) l) (verdict-bytes (uncobs form))
 
 pub finished-verdict : (s : List ℕ) → LineReader.valid s ≡ true
-    → verdictOf (LineReader.finish s .state) (LineReader.finish s .answer) ≡ verdictMeant (receivedOf s)
+    → verdictOf (LineReader.finish s .state) (LineReader.finish s .answer) ≡ verdictSince (receivedOf s)
 unfolding LineReader.finish LineReader.settle LineReader.kept verdictOf
 finished-verdict s v =
     let r = valid-ready s v in
@@ -160,7 +160,7 @@ finished-verdict s v =
     (verdict-form (LineReader.counted 0 s) (omega arith, omega arith) (LineReader.kept s) (omega arith))))
   where
     Says : LineReader.Settled → Type 0
-    Says x = verdictOf (x .state) (x .answer) ≡ verdictMeant (receivedOf s)
+    Says x = verdictOf (x .state) (x .answer) ≡ verdictSince (receivedOf s)
 
     positive : (n : ℕ) → (n ≡ 0 → ⊥) → 0 < n
     positive zero f = absurd (f refl)
@@ -331,17 +331,17 @@ finished-kept s v =
     record { valid = ready-valid (LineReader.finish s .state) (omega arith, omega arith); long = p .0; bytes = finished-each s }
 
 -- the request that a 00 brings, where the state holds bytes
-pub finished-typed : (s : List ℕ) (m : Message) → Each Byte s → verdictMeant (receivedOf s) ≡ some (good m) → Requestable m
+pub finished-typed : (s : List ℕ) (m : Message) → Each Byte s → verdictSince (receivedOf s) ≡ some (good m) → Requestable m
 unfolding receivedOf
 finished-typed s m b =
-    cond-by (λ o. verdictMeant o ≡ some (good m) → Requestable m) (ltb longest-form (LineReader.count s)) _ _
+    cond-by (λ o. verdictSince o ≡ some (good m) → Requestable m) (ltb longest-form (LineReader.count s)) _ _
     (λ e. typed none tt) (λ e. typed (some (LineReader.kept s)) (kept-each s b))
   where
     EachOf : Option (List ℕ) → Type 0
     EachOf none = Unit {0}
     EachOf (some form) = Each Byte form
 
-    typed : (o : Option (List ℕ)) → EachOf o → verdictMeant o ≡ some (good m) → Requestable m
+    typed : (o : Option (List ℕ)) → EachOf o → verdictSince o ≡ some (good m) → Requestable m
     typed none h p = let z : _≡_ {A = ℕ} 0 1 = cc in absurd (omega arith)
     typed (some []) h p = let z : _≡_ {A = ℕ} 0 1 = cc in absurd (omega arith)
     typed (some (c ∷ cs)) h p = good-typed (c ∷ cs) m h (cc)

@@ -16,7 +16,8 @@ use Rattle.supervisor.specs.Calls.{Parts}
 use Rattle.requests.specs.Requests
 use Rattle.requests.specs.Receive
 use Rattle.supervisor_claims.specs.View.{receivedOf}
-use Rattle.supervisor_claims.specs.Histories.{upTo, verdictMeant, endedMeant, frameEnds, stepped, stepAnswer}
+use Rattle.requests.specs.Requests.{verdictSince}
+use Rattle.supervisor_claims.specs.Histories.{upTo, endedMeant, frameEnds, stepped, stepAnswer}
 
 -- ---- the bytes read
 
@@ -83,7 +84,7 @@ Pushes = (s : List ℕ) (b : ℕ) → LineReader.valid s ≡ true → receivedOf
 
 abbrev pub Finishes : Type 0
 Finishes = (s : List ℕ) → LineReader.valid s ≡ true
-    → Receive.verdictOf (LineReader.finish s .state) (LineReader.finish s .answer) ≡ verdictMeant (receivedOf s)
+    → Receive.verdictOf (LineReader.finish s .state) (LineReader.finish s .answer) ≡ verdictSince (receivedOf s)
 
 pub step-ends : Pushes → Finishes → (piece s : List ℕ) → LineReader.valid s ≡ true → let o = LineReader.readPiece s piece in
     Receive.ended (o .state) (o .answer) ≡ frameEnds (receivedOf s) piece
