@@ -1,11 +1,11 @@
 #!/usr/bin/env python3
-"""The cases of the program line_cases, worked out from document 01 and not from the Rattle code.
+"""The line layer's cases of the program cases, worked out from document 01 and not from the Rattle code.
 
-usage: tests/line_cases.py input | expected | check
+usage: tests/line_cases.py input | expected
 
-input:    the program's standard input, one command a line
-expected: what it must write, from the model of document 01 below
-check:    compares both with crates/line_cases/stdin and crates/line_cases/stdout
+input:    the first part of the program's standard input, one command a line
+expected: what it must write there, from the model of document 01 below
+tests/cases.py puts them ahead of the supervisor's.
 
 Commands, one a line; HEX is pairs of hex digits with no space, COUNT and the like are decimal:
 = NAME     begins a case: fills the state's 4,200 bytes with a5, the output's 4,199 with ee, starts a reader, empties the piece
@@ -25,8 +25,10 @@ o          reads what was written
 .          ends the case's line
 L6 to L9 are not run: the COBS form has no public call of its own. They are proved in the table of crates/line_claims/specs/Samples.antt.
 The digest of bytes is d, from 0, by d = (d * 31 + byte + 1) % 65521 for each byte, in decimal."""
-import os
 import sys
+
+sys.dont_write_bytecode = True
+import common
 
 MAGIC = 0x01DE19CC
 
@@ -91,25 +93,37 @@ def message(version, sequence, command, data, magic=MAGIC):
     return b + fletcher(b).to_bytes(2, 'little')
 
 
-def judged(form):
-    """What is answered at the 00 behind these bytes."""
+def verdict(form):
+    """What the line layer makes of the bytes ahead of a 00: ('empty',), ('fail', reason, sequence or None) or
+    ('message', version, sequence, command, data)."""
     if not form:
-        return 'empty'
+        return ('empty',)
     if len(form) > 4140:
-        return 'fail 1'
+        return ('fail', 1, None)
     xs = unstuffed(form)
     if xs is None:
-        return 'fail 1'
+        return ('fail', 1, None)
     if len(xs) < 19 or len(xs) > 4123:
-        return 'fail 3'
+        return ('fail', 3, None)
     number = lambda a, e: int.from_bytes(xs[a:e], 'little')
     sequence = number(8, 16)
     if number(len(xs) - 2, len(xs)) != fletcher(xs[:-2]):
-        return f'fail 2 {sequence:016x}'
+        return ('fail', 2, sequence)
     if number(0, 4) != MAGIC:
-        return f'fail 4 {sequence:016x}'
-    data = xs[17:-2]
-    return f'message {number(4, 8):08x} {sequence:016x} {xs[16]:02x} {len(data)} {digest(data)}'
+        return ('fail', 4, sequence)
+    return ('message', number(4, 8), sequence, xs[16], xs[17:-2])
+
+
+def judged(form):
+    """What is answered at the 00 behind these bytes."""
+    what, *rest = verdict(form)
+    if what == 'empty':
+        return what
+    if what == 'fail':
+        reason, sequence = rest
+        return f'fail {reason}' if sequence is None else f'fail {reason} {sequence:016x}'
+    version, sequence, command, data = rest
+    return f'message {version:08x} {sequence:016x} {command:02x} {len(data)} {digest(data)}'
 
 
 class Case:
@@ -291,24 +305,9 @@ def cases():
     yield Case('data of a message').add(stuffed(m) + b'\0').read().tell('d 5', f"data {digest(m[17:-2])}").tell('d 4104', f"data {digest(m[17:] + stuffed(m)[len(m):] + bytes([0xa5]) * (4104 - len(stuffed(m)) + 17))}").tell('d 4105', 'refused 9')
 
 
-def main():
-    all_cases = list(cases())
-    given = ''.join('\n'.join(c.commands + ['.']) + '\n' for c in all_cases)
-    wanted = ''.join(c.line + '\n' for c in all_cases)
-    what = sys.argv[1] if len(sys.argv) > 1 else ''
-    if what == 'input':
-        sys.stdout.write(given)
-    elif what == 'expected':
-        sys.stdout.write(wanted)
-    elif what == 'check':
-        crate = os.path.join(os.path.dirname(os.path.abspath(__file__)), '..', 'crates', 'line_cases')
-        for name, text in (('stdin', given), ('stdout', wanted)):
-            with open(os.path.join(crate, name), encoding='ascii') as f:
-                if f.read() != text:
-                    sys.exit(f'crates/line_cases/{name} is not what tests/line_cases.py works out')
-        print(f'line_cases: {len(all_cases)} cases worked out alike')
-    else:
-        sys.exit(__doc__)
+def texts():
+    return common.texts(list(cases()))
 
 
-main()
+if __name__ == '__main__':
+    common.serve(__doc__, input=lambda: texts()[0], expected=lambda: texts()[1])

@@ -29,10 +29,6 @@ untrue : (b : Bool) → (b ≡ true → ⊥) → b ≡ false
 untrue true f = absurd (f refl)
 untrue false f = refl
 
--- lists that differ
-pub equal-false : (xs ys : List ℕ) → (xs ≡ ys → ⊥) → equal xs ys ≡ false
-equal-false xs ys f = untrue (equal xs ys) (λ e. f (equal-true xs ys e))
-
 -- ---- runs
 
 pub sameRun-true : (s : List ℕ) (at : ℕ) (t : List ℕ) (bt n : ℕ) → sameRun s at t bt n ≡ true

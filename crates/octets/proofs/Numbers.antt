@@ -2,12 +2,13 @@
 -- Assumes nothing.
 use Prim.Native.Nat.{ℕ, zero, suc, _+_, _*_, _/_, _%_, _^_, _≤_, _<_}
 use mathlib.Core.Path.{_≡_, refl, sym, ap, _∙_}
-use mathlib.Core.List.{List, [], _∷_}
-use native.Mathlib.Nat.{add-zero, zero-add, suc-add, mul-one, zero-mul, mul-assoc, pow-suc, div-lt-iff-lt-mul}
+use mathlib.Core.List.{List, [], _∷_, _++_}
+use native.Mathlib.Nat.{add-zero, zero-add, suc-add, mul-one, zero-mul, mul-assoc, pow-suc, pow-le-pow-right, div-lt-iff-lt-mul}
 use native.Mathlib.Omega.{arith}
-use lib.ListN.{length, take, drop, getD, drop-of-length-le}
+use lib.ListN.{length, take, drop, getD, length-take, drop-of-length-le}
 use lib.Seq.{take-nil, drop-cons, drop-drop}
-use Rattle.octets.specs.Bytes.{Byte, Each, number, bytes, numberAt}
+use Rattle.octets.specs.Bytes.{Byte, Each, number, bytes, run, numberAt}
+use Rattle.octets.proofs.Each.{each-run}
 
 -- ---- bytes
 
@@ -20,6 +21,24 @@ pub bytes-each : (k v : ℕ) → Each Byte (bytes k v)
 unfolding bytes
 bytes-each zero v = tt
 bytes-each (suc k) v = (omega arith, bytes-each k (v / 256))
+
+pub one-byte : (v : ℕ) → v < 256 → bytes 1 v ≡ v ∷ []
+unfolding bytes
+one-byte v h =
+    let e : v % 256 ≡ v = omega arith in
+    rw e
+
+-- j bytes of a number below 256 ^ j, and k bytes of what stands above it
+pub bytes-join : (j k a b : ℕ) → a < 256 ^ j → bytes (j + k) (a + b * 256 ^ j) ≡ bytes j a ++ bytes k b
+unfolding bytes
+bytes-join zero k a b h =
+    let e : a + b * 1 ≡ b = omega arith in
+    rw (zero-add, e)
+bytes-join (suc j) k a b h =
+    let x = b * 256 ^ j in
+    let low : (a + x * 256) % 256 ≡ a % 256 = omega arith in
+    let high : (a + x * 256) / 256 ≡ a / 256 + x = omega arith in
+    rw (suc-add, pow-suc, ← mul-assoc, low, high, bytes-join j k (a / 256) b (div-lt-iff-lt-mul (omega arith) .1 (rw pow-suc at h)))
 
 -- ---- there and back
 
@@ -51,6 +70,13 @@ number-bound (b ∷ bs) h =
     rw pow-suc (omega arith)
 
 -- ---- a number at a place
+
+-- of k bytes
+pub number-small : (k at : ℕ) (s : List ℕ) → Each Byte s → numberAt k s at < 256 ^ k
+number-small k at s b =
+    let n = number-bound (run at k s) (each-run at k s b) in
+    let l = length-take k (drop at s) in
+    omega (arith, pow-le-pow-right {n = 256} (omega arith) {i = length (run at k s)} {j = k} (omega arith))
 
 -- past the end it is 0
 pub number-none : (k : ℕ) (s : List ℕ) (at : ℕ) → length s ≤ at → 0 ≡ numberAt k s at

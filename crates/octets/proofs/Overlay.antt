@@ -1,19 +1,18 @@
 -- The laws of runs and overlays: what stands where after bytes were put into a list.
 -- Assumes nothing.
-use Prim.Native.Nat.{ℕ, zero, suc, _+_, _-_, _^_, _≤_, _<_}
+use Prim.Native.Nat.{ℕ, zero, suc, _+_, _-_, _*_, _^_, _≤_, _<_}
 use mathlib.Core.Path.{_≡_, refl, sym, ap, _∙_}
-use mathlib.Core.Bool.{Bool, true, false, cond, _&&_, and-false, and-eq-true-iff}
+use mathlib.Core.Bool.{Bool, true, cond, and-false}
 use mathlib.Core.List.{List, [], _∷_, _++_, append-assoc, append-nil}
-use native.Mathlib.Nat.{add-zero, zero-add, suc-add, add-suc, add-assoc}
+use native.Mathlib.Nat.{add-zero, zero-add, suc-add, add-assoc}
 use native.Mathlib.Numerals.{add-one}
 use native.Mathlib.Omega.{arith}
-use lib.Dec.{leb}
 use lib.ListN.{length, take, drop, set, getD, length-append, length-drop, take-append-drop, List·getD-append}
-use lib.Seq.{take-suc, getD-drop, getD-take, take-nil, drop-nil, drop-drop, take-take, take-at, drop-at, take-append-le, drop-append-le, take-append-add, drop-append-add, length-take-le, append-snoc, set-split, sets, sets-eq}
+use lib.Seq.{take-suc, take-add, getD-drop, take-nil, drop-nil, drop-drop, take-take, take-at, drop-at, take-append-le, drop-append-le, take-append-add, drop-append-add, length-take-le, append-snoc, set-split}
 use borrow.Author.Tests.{leb-true, le-leb, lt-leb}
-use Rattle.octets.specs.Bytes.{Each, number, bytes, run, numberAt, fits, overlay, put, copied, movedDown}
-use Rattle.octets.proofs.Each.{each-append, each-take, each-drop}
-use Rattle.octets.proofs.Numbers.{length-bytes, number-bytes}
+use Rattle.octets.specs.Bytes.{Byte, Each, number, bytes, run, numberAt, fits, overlay, put, copied, movedDown}
+use Rattle.octets.proofs.Each.{each-append, each-take, each-drop, each-run}
+use Rattle.octets.proofs.Numbers.{length-bytes, bytes-join, number-bytes, bytes-number}
 use Rattle.octets.proofs.Conditions.{cond-by}
 
 -- ---- runs
@@ -32,6 +31,18 @@ run-more at n s h =
 
 pub length-run : (at n : ℕ) (s : List ℕ) → at + n ≤ length s → length (run at n s) ≡ n
 length-run at n s h = length-take-le n (drop at s) (simp length-drop (omega arith))
+
+-- a run and the run behind it
+pub run-add : (at j k : ℕ) (s : List ℕ) → run at (j + k) s ≡ run at j s ++ run (at + j) k s
+run-add at j k s = take-add j k (drop at s) ∙ rw drop-drop
+
+-- a run of a run
+pub run-run : (at size j n : ℕ) (s : List ℕ) → j + n ≤ size → run j n (run at size s) ≡ run (at + j) n s
+run-run at size j n s h = rw (run-take j n (run at size s), take-take (j + n) size (drop at s) h, ← run-take j n (drop at s), drop-drop)
+
+-- the bytes of a number that was read
+pub number-run : (k at : ℕ) (s : List ℕ) → at + k ≤ length s → Each Byte s → bytes k (numberAt k s at) ≡ run at k s
+number-run k at s h b = rw (length-run at k s h) at (bytes-number (run at k s) (each-run at k s b))
 
 -- ---- overlays
 
@@ -111,10 +122,6 @@ first j d s = rw (getD-drop, add-zero)
 pub overlay-getD-after : (at j d : ℕ) (xs s : List ℕ) → at ≤ length s → at + length xs ≤ j
     → getD (overlay at xs s) j d ≡ getD s j d
 overlay-getD-after at j d xs s h l = first j d (overlay at xs s) ∙ rw (overlay-drop at j xs s h l, ← first)
-
-pub overlay-getD-before : (at j d : ℕ) (xs s : List ℕ) → at ≤ length s → j < at → getD (overlay at xs s) j d ≡ getD s j d
-overlay-getD-before at j d xs s h l =
-    rw (← getD-take at (overlay at xs s) j d l, overlay-take at at xs s (omega arith) h, getD-take at s j d l)
 
 pub overlay-getD-inside : (at j d : ℕ) (xs s : List ℕ) → at ≤ length s → j < length xs
     → getD (overlay at xs s) (at + j) d ≡ getD xs j d
@@ -204,27 +211,26 @@ pub length-put : (at : ℕ) (xs s : List ℕ) → length (put at xs s) ≡ lengt
 unfolding put
 length-put at xs s = length-cond _ _ s (λ e. length-overlay at xs s (leb-true (at + length xs) (length s) e))
 
--- what the stores of vs at the places at + i, at + (i + 1), .. leave
-abbrev pub stores : List ℕ → ℕ → ℕ → List ℕ → List ℕ
-stores s at i [] = s
-stores s at i (v ∷ vs) = stores (set s (at + i) v) at (suc i) vs
+-- two bytes, one after the other
+pub pair-put : (at a b : ℕ) (s : List ℕ) → at + 2 ≤ length s → set (set s at a) (at + 1) b ≡ put at (a ∷ b ∷ []) s
+pair-put at a b s h = rw (overlay-one at a s (omega arith), put-fits at (a ∷ b ∷ []) s h) (overlay-more at b (a ∷ []) s (omega arith))
 
-stores-sets : (vs s : List ℕ) (at i : ℕ) → stores s at i vs ≡ sets s (at + i) vs
-stores-sets [] s at i = refl
-stores-sets (v ∷ vs) s at i = stores-sets vs (set s (at + i) v) at (suc i) ∙ rw add-suc
-
--- the same from the place at, which the code writes without a sum
-abbrev pub written : List ℕ → ℕ → List ℕ → List ℕ
-written s at [] = s
-written s at (v ∷ vs) = stores (set s at v) at 1 vs
-
-written-sets : (vs s : List ℕ) (at : ℕ) → written s at vs ≡ sets s at vs
-written-sets [] s at = refl
-written-sets (v ∷ vs) s at = stores-sets vs (set s at v) at 1 ∙ rw add-one
-
-pub written-put : (vs s : List ℕ) (at : ℕ) → at + length vs ≤ length s → written s at vs ≡ put at vs s
-unfolding overlay
-written-put vs s at h = written-sets vs s at ∙ sets-eq vs s at h ∙ sym (put-fits at vs s h)
+-- a number by its halves of k bytes, one after the other
+pub halves-put : (k at a b v : ℕ) (s : List ℕ) → at + (k + k) ≤ length s → a < 256 ^ k → a + b * 256 ^ k ≡ v
+    → put (at + k) (bytes k b) (put at (bytes k a) s) ≡ put at (bytes (k + k) v) s
+halves-put k at a b v s h l e =
+    let m = length-bytes k a in
+    let n = length-bytes k b in
+    let o = length-bytes (k + k) v in
+    let p = length-overlay at (bytes k a) s (omega arith) in
+    rw (
+      put-fits at (bytes k a) s (omega arith),
+      put-fits (at + k) (bytes k b) (overlay at (bytes k a) s) (omega arith),
+      put-fits at (bytes (k + k) v) s (omega arith),
+      ← e,
+      bytes-join k k a b l,
+    )
+    (rw m at (overlay-next at (bytes k a) (bytes k b) s (omega arith)))
 
 -- a number that does not fit
 pub put-bytes-not : (k at v : ℕ) (s : List ℕ) → length s < at + k → s ≡ put at (bytes k v) s
@@ -275,16 +281,6 @@ movedDown-not s from to n h = rw (lt-leb (from + n) (length s) h)
 pub movedDown-up : (s : List ℕ) (from to n : ℕ) → from < to → movedDown s from to n ≡ s
 unfolding movedDown
 movedDown-up s from to n h = rw (lt-leb to from h, and-false)
-
-pub length-movedDown : (s : List ℕ) (from to n : ℕ) → length (movedDown s from to n) ≡ length s
-unfolding movedDown
-length-movedDown s from to n =
-    length-cond (fits from n s && leb to from) (overlay to (run from n s) s) s (λ e.
-    let t = and-eq-true-iff (fits from n s) (leb to from) .0 e in
-    let p = leb-true (from + n) (length s) (t .0) in
-    let q = leb-true to from (t .1) in
-    let l = length-run from n s p in
-    length-overlay to (run from n s) s (omega arith))
 
 -- ---- a list with more behind it
 

@@ -95,10 +95,8 @@ pub fn write_u32(s: &mut [u8], at: usize, v: u32)
     if s.len() - at < 4 {
         return;
     }
-    s[at] = (v % 256) as u8;
-    s[at + 1] = (v / 256 % 256) as u8;
-    s[at + 2] = (v / 256 / 256 % 256) as u8;
-    s[at + 3] = (v / 256 / 256 / 256 % 256) as u8;
+    write_u16(s, at, (v % 65536) as u16);
+    write_u16(s, at + 2, (v / 65536) as u16);
 }
 
 pub fn write_u64(s: &mut [u8], at: usize, v: u64)
@@ -110,14 +108,8 @@ pub fn write_u64(s: &mut [u8], at: usize, v: u64)
     if s.len() - at < 8 {
         return;
     }
-    s[at] = (v % 256) as u8;
-    s[at + 1] = (v / 256 % 256) as u8;
-    s[at + 2] = (v / 256 / 256 % 256) as u8;
-    s[at + 3] = (v / 256 / 256 / 256 % 256) as u8;
-    s[at + 4] = (v / 256 / 256 / 256 / 256 % 256) as u8;
-    s[at + 5] = (v / 256 / 256 / 256 / 256 / 256 % 256) as u8;
-    s[at + 6] = (v / 256 / 256 / 256 / 256 / 256 / 256 % 256) as u8;
-    s[at + 7] = (v / 256 / 256 / 256 / 256 / 256 / 256 / 256 % 256) as u8;
+    write_u32(s, at, (v % 4294967296) as u32);
+    write_u32(s, at + 4, (v / 4294967296) as u32);
 }
 
 // Puts n bytes of src, from a place on, into dst at a place.

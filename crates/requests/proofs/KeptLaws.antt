@@ -2,20 +2,20 @@
 -- Assumes nothing.
 use mathlib.Core.Path.{_≡_, refl, ap, _∙_}
 use mathlib.Core.Logic.{_⊎_, inl, inr}
-use mathlib.Core.Bool.{true, cond, and-eq-true-iff}
+use mathlib.Core.Bool.{Bool, true, cond, and-eq-true-iff}
 use mathlib.Core.List.{List, [], _∷_, _++_}
 use Prim.Native.Nat.{ℕ, suc, _+_, _-_, _*_, _^_, _≤_, _<_}
 use native.Mathlib.Nat.{add-zero}
 use native.Mathlib.Omega.{arith}
 use lib.Dec.{leb, ltb, eqb}
 use lib.ListN.{length, take, drop, replicate, length-append, length-drop, length-take}
-use lib.Seq.{take-length, take-take, drop-drop}
+use lib.Seq.{take-length}
 use borrow.Author.Tests.{ltb-true, ltb-false}
 use Rattle.octets.specs.Bytes.{bytes, number, run, numberAt, overlay, equal}
 use Rattle.octets.proofs.Conditions.{cond-by}
-use Rattle.octets.proofs.Numbers.{length-bytes, number-bytes}
-use Rattle.octets.proofs.Overlay.{length-run, length-overlay, overlay-part}
-use Rattle.octets.proofs.SameBytes.{Same, same-before, same-after, same-then, same-within, same-first, number-same}
+use Rattle.octets.proofs.Numbers.{length-bytes, number-bytes, one-byte}
+use Rattle.octets.proofs.Overlay.{length-run, length-overlay, overlay-part, run-run}
+use Rattle.octets.proofs.SameBytes.{Same, same-before, same-after, same-then, same-within, number-same}
 use Rattle.octets.proofs.SameBytes.{stored-long, stored-number, stored-before, stored-after}
 use Rattle.line.specs.Limits.{longest-data, longest-form}
 use Rattle.line.proofs.FrameLength.{frame-fits}
@@ -24,7 +24,6 @@ use Rattle.supervisor.specs.Layout
 use Rattle.supervisor.specs.Local
 use Rattle.supervisor.specs.Number.{topSet}
 use Rattle.supervisor.specs.Valid.{validOutbox, validFactory, validSettings, validAlert, validRegisters}
-use Rattle.supervisor.proofs.AlertLaws.{one-byte}
 use Rattle.supervisor.proofs.KeyLaws.{value-short}
 use Rattle.supervisor.proofs.ValidLaws.{all-each, each-all, outbox-valid, valid-outbox, SettingValid, SettingsValid, settings-valid, valid-settings}
 use Rattle.supervisor.proofs.ValidLaws.{alert-valid, valid-alert, RecordValid, RegistersValid, registers-valid}
@@ -32,28 +31,63 @@ use Rattle.supervisor.proofs.KeptRegisters.{FlagsValid, FailureValid, PanicVali
 use Rattle.requests.specs.Requests.{clearBit}
 use Rattle.requests.specs.Receive
 use Rattle.requests.proofs.ReceiveLaws.{item-held}
-use Rattle.requests.proofs.TakenLaws.{retained-settled, settled}
+use Rattle.requests.proofs.TakenLaws.{retaining-held, retained-settled, settled}
 
 -- ---- the outbox
 
+-- the first byte that is pending, by whether a 00 is owed
+abbrev pub begun : Bool → ℕ
+begun owing = cond owing 0 1
+
+-- the two places that say which bytes are pending
+abbrev pub places : ℕ → ℕ → List ℕ
+places from to = bytes 2 from ++ bytes 2 to
+
+-- a 00 and the bytes
+abbrev pub filled : List ℕ → List ℕ → List ℕ
+filled bs o = overlay Layout.outbox-bytes-place (0 ∷ bs) o
+
 -- a reply, or none
-pub box-valid : (o bs : List ℕ) → validOutbox o ≡ true → length bs ≤ longest-form + 1 → validOutbox (Receive.sentBox bs o) ≡ true
-unfolding Receive.sentBox bytes
-box-valid o bs v h =
-    let w = outbox-valid o v in
-    let first : ℕ = cond (eqb (Layout.outboxOwing o) 1) 0 1 in
-    let low : first ≤ 1 = cond-by (λ n. n ≤ 1) (eqb (Layout.outboxOwing o) 1) 0 1 (λ _. omega arith) (λ _. omega arith) in
-    let head = bytes 2 first ++ bytes 2 (suc (length bs)) in
-    let t = overlay Layout.outbox-bytes-place (0 ∷ bs) o in
-    let a : length t ≡ length o = length-overlay Layout.outbox-bytes-place (0 ∷ bs) o (omega arith) in
-    let b : length (overlay Layout.outbox-from-place head t) ≡ length t = length-overlay Layout.outbox-from-place head t (omega arith) in
-    let from = ap number (overlay-part Layout.outbox-from-place 0 2 head t (omega arith) (omega arith)) ∙ number-bytes 2 first (omega arith) in
-    let to = ap number (overlay-part Layout.outbox-from-place 2 2 head t (omega arith) (omega arith)) ∙ number-bytes 2 (suc (length bs)) (omega arith) in
-    let early : Same 0 Layout.outbox-bytes-place o t = same-before Layout.outbox-bytes-place (0 ∷ bs) o (omega arith) (omega arith) in
-    let late : Same Layout.outbox-owing-place Layout.outbox-length t (overlay Layout.outbox-from-place head t)
-    = same-after Layout.outbox-from-place head t (omega arith) (omega arith) in
-    let owing = number-same late 1 Layout.outbox-owing-place (omega arith) ∙ number-same early 1 Layout.outbox-owing-place (omega arith) in
-    valid-outbox _ (omega arith)
+module _ (o bs : List ℕ) (valid : validOutbox o ≡ true) (short : length bs ≤ longest-form + 1) where
+  abbrev first : ℕ
+  first = begun (eqb (Layout.outboxOwing o) 1)
+
+  pub first-low : first ≤ 1
+  first-low = cond-by (λ n. n ≤ 1) (eqb (Layout.outboxOwing o) 1) 0 1 (λ _. omega arith) (λ _. omega arith)
+
+  filled-long : length (filled bs o) ≡ length o
+  filled-long = let v = outbox-valid o valid in length-overlay Layout.outbox-bytes-place (0 ∷ bs) o (omega arith)
+
+  pub sent-long : length (Receive.sentBox bs o) ≡ length o
+  unfolding Receive.sentBox bytes
+  sent-long =
+      let v = outbox-valid o valid in
+      length-overlay Layout.outbox-from-place (places _ _) (filled bs o) (omega (arith, filled-long)) ∙ filled-long
+
+  pub sent-from : Layout.outboxFrom (Receive.sentBox bs o) ≡ first
+  unfolding Receive.sentBox bytes
+  sent-from =
+      ap number (overlay-part Layout.outbox-from-place 0 2 (places _ _) (filled bs o) (omega arith) (omega arith))
+      ∙ number-bytes 2 _ (omega (arith, first-low))
+
+  pub sent-to : Layout.outboxTo (Receive.sentBox bs o) ≡ suc (length bs)
+  unfolding Receive.sentBox bytes
+  sent-to =
+      ap number (overlay-part Layout.outbox-from-place 2 2 (places _ _) (filled bs o) (omega arith) (omega arith)) ∙ number-bytes 2 _ (omega arith)
+
+  -- all behind the two places
+  pub sent-rest : Same Layout.outbox-owing-place Layout.outbox-length (filled bs o) (Receive.sentBox bs o)
+  unfolding Receive.sentBox bytes
+  sent-rest = same-after Layout.outbox-from-place (places _ _) (filled bs o) (omega arith) (omega arith)
+
+  pub sent-owing : Layout.outboxOwing (Receive.sentBox bs o) ≡ Layout.outboxOwing o
+  sent-owing =
+      let v = outbox-valid o valid in
+      let early : Same 0 Layout.outbox-bytes-place o (filled bs o) = same-before Layout.outbox-bytes-place (0 ∷ bs) o (omega arith) (omega arith) in
+      number-same sent-rest 1 Layout.outbox-owing-place (omega arith) ∙ number-same early 1 Layout.outbox-owing-place (omega arith)
+
+  pub box-valid : validOutbox (Receive.sentBox bs o) ≡ true
+  box-valid = let v = outbox-valid o valid in valid-outbox _ (omega (arith, first-low, sent-long, sent-from, sent-to, sent-owing))
 
 -- ---- the registers
 
@@ -113,11 +147,11 @@ module _ (r : List ℕ) (v : validRegisters r ≡ true) where
 
 -- ---- a record
 
--- its bytes
-abbrev entry : ℕ → List ℕ → List ℕ
+-- its bytes: that there is one, its code, the length of its rest, the rest's first bytes
+abbrev pub entry : ℕ → List ℕ → List ℕ
 entry code rest = bytes 1 1 ++ (bytes 2 code ++ (bytes 2 (length rest) ++ take Limits.most-kept rest))
 
-length-entry : (code : ℕ) (rest : List ℕ) → (5 ≤ length (entry code rest)) × (length (entry code rest) ≤ Layout.record-length)
+pub length-entry : (code : ℕ) (rest : List ℕ) → (5 ≤ length (entry code rest)) × (length (entry code rest) ≤ Layout.record-length)
 length-entry code rest = simp (length-append, length-bytes) (omega (arith, length-take Limits.most-kept rest))
 
 module _ (r : List ℕ) (at code : ℕ) (rest : List ℕ) (room : at + Layout.record-length ≤ length r) where
@@ -187,11 +221,16 @@ pub clear-small : (n k : ℕ) → clearBit n k ≤ n
 unfolding clearBit
 clear-small n k = cond-by (λ m. m ≤ n) (eqb (Local.bit n k) 1) (n - 2 ^ k) n (λ _. omega arith) (λ _. omega arith)
 
-module _ (r : List ℕ) (long : Layout.registers-length ≤ length r) where
-  abbrev rest-length : ℕ
-  rest-length = (Limits.most-alerts - 1) * Layout.alert-length
+-- the status then
+pub taken-small : (status count : ℕ) → status ≤ 3 → cond (leb count 1) (clearBit status 1) status ≤ 3
+taken-small status count h = cond-by (λ n. n ≤ 3) (leb count 1) _ _ (λ _. omega (arith, clear-small status 1)) (λ _. h)
 
-  length-rest : length (run (Layout.alert-place 1) rest-length r) ≡ rest-length
+-- how many bytes move down
+abbrev pub rest-length : ℕ
+rest-length = (Limits.most-alerts - 1) * Layout.alert-length
+
+module _ (r : List ℕ) (long : Layout.registers-length ≤ length r) where
+  pub length-rest : length (run (Layout.alert-place 1) rest-length r) ≡ rest-length
   length-rest = length-run (Layout.alert-place 1) rest-length r (omega arith)
 
   pub moved-long : length (Receive.movedAlerts r) ≡ length r
@@ -214,11 +253,8 @@ module _ (r : List ℕ) (long : Layout.registers-length ≤ length r) where
       let k = i * Layout.alert-length + j in
       let d : Layout.alerts-place + k ≡ Layout.alert-place i + j = omega arith in
       let e : Layout.alert-place 1 + k ≡ Layout.alert-place (i + 1) + j = omega arith in
-      let old = drop (Layout.alert-place 1) r in
       let p = overlay-part Layout.alerts-place k n (run (Layout.alert-place 1) rest-length r) r (omega arith) (omega (arith, length-rest)) in
-      let q = same-first rest-length old (take rest-length old) (take-take rest-length rest-length old (omega arith)) .runs k n (omega arith) in
-      let s = drop-drop k (Layout.alert-place 1) r in
-      rw (d, q, s, e) at p
+      rw (d, run-run (Layout.alert-place 1) rest-length k n r (omega arith), e) at p
 
 -- one alert fewer, or none still
 pub fewer-valid : (r : List ℕ) (n : ℕ) → validRegisters r ≡ true → n ≤ Layout.alertCount r - 1
@@ -245,23 +281,22 @@ fewer-valid r n v h =
     ∙ ap number (moved-run r (w .long) i Layout.alert-action-place 1 (omega arith) (omega arith)) in
     valid-alert s i (omega arith))))
 
-module _ (r : List ℕ) (sequence : ℕ) (v : validRegisters r ≡ true) where
-  pub retained-before : {from to : ℕ} → to ≤ Layout.retained-place → Same from to r (Receive.withRetained r sequence)
-  unfolding Receive.withRetained
-  retained-before h = let w = registers-valid r v in same-before Layout.retained-place _ r (omega arith) h
+pub retained-before : (r : List ℕ) (sequence : ℕ) → Layout.registers-length ≤ length r → {from to : ℕ} → to ≤ Layout.retained-place
+    → Same from to r (Receive.withRetained r sequence)
+unfolding Receive.withRetained
+retained-before r sequence long h = same-before Layout.retained-place _ r (omega arith) h
 
+module _ (r : List ℕ) (sequence : ℕ) (v : validRegisters r ≡ true) where
   -- whether a reply is retained
-  pub retained-held : numberAt 1 (Receive.withRetained r sequence) Layout.retained-place ≡ 1
-  unfolding Receive.withRetained bytes
-  retained-held =
-      let w = registers-valid r v in
-      ap number (overlay-part Layout.retained-place 0 1 _ r (omega arith) (omega arith)) ∙ number-bytes 1 1 (omega arith)
+  retained-held : numberAt 1 (Receive.withRetained r sequence) Layout.retained-place ≡ 1
+  unfolding Receive.withRetained
+  retained-held = let w = registers-valid r v in retaining-held r sequence _ (omega arith)
 
   pub retained-valid : validRegisters (Receive.withRetained r sequence) ≡ true
   retained-valid =
       let w = registers-valid r v in
       let a = retained-settled r sequence v in
-      let before : Same 0 Layout.retained-place r (Receive.withRetained r sequence) = retained-before (omega arith) in
+      let before : Same 0 Layout.retained-place r (Receive.withRetained r sequence) = retained-before r sequence (w .long) (omega arith) in
       let held = retained-held in
       groups-valid (omega arith) (numbers-kept before w (omega arith)) (flags-kept before w (omega arith)) (failure-kept before w (omega arith))
       (panic-kept before w (omega arith)) (waiting-kept before w (omega arith)) (omega arith)
@@ -270,10 +305,10 @@ module _ (r : List ℕ) (sequence : ℕ) (v : validRegisters r ≡ true) where
   unfolding Receive.withTaken
   taken-valid =
       let w = registers-valid r v in
-      let before : Same 0 Layout.retained-place r (Receive.withRetained r sequence) = retained-before (omega arith) in
+      let before : Same 0 Layout.retained-place r (Receive.withRetained r sequence) = retained-before r sequence (w .long) (omega arith) in
       let count = number-same before 1 Layout.alert-count-place (omega arith) in
       status-valid _ (fewer-valid (Receive.withRetained r sequence) (Layout.alertCount r - 1) retained-valid (omega arith)) _
-      (cond-by (λ n. n ≤ 3) (leb (Layout.alertCount r) 1) _ _ (λ _. omega (arith, clear-small (Layout.statusOf r) 1)) (λ _. w .status))
+      (taken-small (Layout.statusOf r) (Layout.alertCount r) (w .status))
 
   pub alert-registers-valid : validRegisters (Receive.alertRegisters r sequence) ≡ true
   unfolding Receive.alertRegisters
@@ -281,11 +316,11 @@ module _ (r : List ℕ) (sequence : ℕ) (v : validRegisters r ≡ true) where
 
 -- ---- the settings
 
--- a value's bytes in its setting
-abbrev settingBytes : List ℕ → List ℕ
+-- a value's bytes in its setting: that there is one, its length, the value
+abbrev pub settingBytes : List ℕ → List ℕ
 settingBytes v = bytes 1 1 ++ (bytes 2 (length v) ++ v)
 
-length-setting : (v : List ℕ) → length (settingBytes v) ≡ Layout.setting-value-place + length v
+pub length-setting : (v : List ℕ) → length (settingBytes v) ≡ Layout.setting-value-place + length v
 length-setting v = simp (length-append, length-bytes) (omega arith)
 
 module _ (s v : List ℕ) (at : ℕ) (room : at + (Layout.setting-value-place + length v) ≤ length s) where
@@ -316,16 +351,17 @@ module _ (s v : List ℕ) (at : ℕ) (room : at + (Layout.setting-value-place + 
   setting-value =
       overlay-part at Layout.setting-value-place (length v) (settingBytes v) s (omega arith) (omega (arith, length-setting v)) ∙ take-length v
 
+-- what stands before its value is the same
+pub setting-kept : {s t : List ℕ} {at most : ℕ} → Same at (at + Layout.setting-value-place) s t → SettingValid s at most → SettingValid t at most
+setting-kept {at = at} same g =
+    let held = number-same same 1 at (omega arith) in
+    let size = number-same same 2 (at + Layout.setting-length-place) (omega arith) in
+    omega arith
+
 module _ (s v : List ℕ) (w : SettingsValid s) (at most : ℕ) (short : length v ≤ most) (room : (at + (Layout.setting-value-place + most) ≤ Layout.settings-length) × (most < 65536)) where
   -- a setting lies before the one that is stored, or is that one, or lies behind it
   abbrev Lies : ℕ → ℕ → Type 0
   Lies bt m = (bt + Layout.setting-value-place ≤ at) ⊎ ((bt ≡ at) × (m ≡ most)) ⊎ (at + (Layout.setting-value-place + most) ≤ bt)
-
-  setting-kept : {bt m : ℕ} → Same bt (bt + Layout.setting-value-place) s (Receive.withValue s at v) → SettingValid s bt m → SettingValid (Receive.withValue s at v) bt m
-  setting-kept {bt} same g =
-      let held = number-same same 1 bt (omega arith) in
-      let size = number-same same 2 (bt + Layout.setting-length-place) (omega arith) in
-      omega arith
 
   setting-left : (bt m : ℕ) → Lies bt m → SettingValid s bt m → SettingValid (Receive.withValue s at v) bt m
   setting-left bt m (inl h) g = setting-kept (setting-before s v at (omega arith) h) g

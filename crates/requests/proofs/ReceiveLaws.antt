@@ -6,7 +6,7 @@ use mathlib.Core.List.{List, [], _∷_, _++_}
 use Prim.Native.Nat.{ℕ, _+_, _-_, _≤_, _<_}
 use native.Mathlib.Nat.{add-sub-cancel-left}
 use native.Mathlib.Omega.{arith}
-use lib.Dec.{ltb, eqb}
+use lib.Dec.{eqb}
 use lib.ListN.{length, take, drop, replicate, length-take}
 use borrow.Author.Tests.{not-true, not-false, leb-true, lt-ltb, le-ltb}
 use Rattle.octets.specs.Bytes.{run, numberAt, equal, sameRun}
@@ -16,7 +16,7 @@ use Rattle.octets.proofs.Overlay.{length-run}
 use Rattle.supervisor.specs.Limits
 use Rattle.supervisor.specs.Layout
 use Rattle.supervisor.specs.Number.{topSet, replyTo}
-use Rattle.supervisor.specs.Valid.{goodItem, validFactory, validSettings}
+use Rattle.supervisor.specs.Valid.{goodItem, validFactory}
 use Rattle.requests.specs.Requests.{lengthAllowed}
 use Rattle.requests.specs.Receive.{itemDataLength, itemBytes, blockBytes}
 use Rattle.supervisor.specs.declared.number.ReplyNumber.{ReplyNumber}

@@ -9,12 +9,11 @@ use borrow.Author.Tests.{lt-ltb, le-ltb}
 use lib.ListN.{length, take, drop, set, length-append, length-drop}
 use lib.Seq.{take-nil, take-length}
 use Rattle.octets.specs.Bytes.{bytes, run, overlay, put, copied}
-use Rattle.octets.proofs.Numbers.{length-bytes}
+use Rattle.octets.proofs.Numbers.{length-bytes, one-byte}
 use Rattle.octets.proofs.Overlay.{length-overlay, overlay-one, overlay-next, put-fits, copied-fits}
 use Rattle.supervisor.specs.Limits.{most-kept}
 use Rattle.supervisor.specs.Layout.{registers-length, panic-place, record-code-place, record-whole-place, record-kept-place, setting-length-place, setting-value-place}
 use Rattle.requests.specs.Receive.{withRecord, withValue, keyStored, storingAt}
-use Rattle.supervisor.proofs.AlertLaws.{one-byte}
 
 -- ---- bytes put, and more behind them
 

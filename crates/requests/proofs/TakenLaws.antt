@@ -1,16 +1,17 @@
 -- Laws of an alert request: what is retained, the alerts that move down, and the text of the reply.
 -- Assumes nothing.
 use mathlib.Core.Path.{_≡_, refl, ap, _∙_}
-use mathlib.Core.Bool.{true, cond}
+use mathlib.Core.Bool.{true, false, cond}
 use mathlib.Core.List.{List, [], _∷_, _++_, append-assoc}
-use Prim.Native.Nat.{ℕ, _+_, _-_, _*_, _≤_, _<_}
+use Prim.Native.Nat.{ℕ, _+_, _-_, _*_, _^_, _≤_, _<_}
+use native.Mathlib.Nat.{add-zero}
 use native.Mathlib.Omega.{arith}
 use borrow.Author.Tests.{eq-eqb, ne-eqb, eqb-false}
 use lib.Dec.{leb, eqb}
 use lib.ListN.{length, take, drop, set, replicate, length-append, length-set}
-use lib.Seq.{take-take, drop-at}
-use Rattle.octets.specs.Bytes.{bytes, number, run, overlay, put, copied, movedDown}
-use Rattle.octets.proofs.Numbers.{length-bytes}
+use lib.Seq.{take-take, drop-drop, drop-at}
+use Rattle.octets.specs.Bytes.{bytes, number, run, numberAt, overlay, put, copied, movedDown}
+use Rattle.octets.proofs.Numbers.{length-bytes, number-bytes, one-byte}
 use Rattle.octets.proofs.Conditions.{cond-by}
 use Rattle.octets.proofs.Overlay.{length-run, length-overlay, overlay-before, overlay-after, overlay-inside, overlay-part, overlay-one, overlay-more, copied-fits, movedDown-fits}
 use Rattle.supervisor.specs.Limits.{most-alerts, longest-alert}
@@ -19,8 +20,18 @@ use Rattle.supervisor.specs.Valid.{validRegisters}
 use Rattle.requests.specs.Requests.{clearBit}
 use Rattle.requests.specs.Receive.{withRetained, movedAlerts, withTaken, isRetained, alertRegisters, alertParts, alertAnswered, sentBox, replyBytes}
 use Rattle.supervisor.proofs.ValidLaws.{registers-valid, all-each, alert-valid}
-use Rattle.supervisor.proofs.AlertLaws.{one-byte}
 use Rattle.requests.proofs.RecordLaws.{marked, length-marked, next-number, next-run, number-stored}
+
+-- ---- whether a reply is retained
+
+module _ (r : List ℕ) (sequence : ℕ) {n : ℕ} (e : n ≡ numberAt 1 r Layout.retained-place) where
+  pub none-kept : (n ≡ 1 → ⊥) → false ≡ isRetained r sequence
+  unfolding isRetained
+  none-kept f = rw (← e, ne-eqb _ _ f)
+
+  pub kept-by : {s : ℕ} → n ≡ 1 → s ≡ numberAt 8 r Layout.retained-sequence-place → eqb s sequence ≡ isRetained r sequence
+  unfolding isRetained
+  kept-by f g = rw (← e, eq-eqb _ _ f, g)
 
 -- ---- what is retained
 
@@ -99,6 +110,36 @@ module _ (r : List ℕ) (sequence : ℕ) (long : Layout.registers-length ≤ len
         o,
       )
 
+-- ---- the retained reply's bytes: that there is one, its sequence, its alert
+
+abbrev pub retainedBytes : ℕ → List ℕ → List ℕ
+retainedBytes sequence zs = bytes 1 1 ++ (bytes 8 sequence ++ zs)
+
+pub length-retained : (sequence : ℕ) (zs : List ℕ) → length (retainedBytes sequence zs) ≡ 9 + length zs
+length-retained sequence zs = simp (length-append, length-bytes) (omega arith)
+
+abbrev pub retaining : List ℕ → ℕ → List ℕ → List ℕ
+retaining r sequence zs = overlay Layout.retained-place (retainedBytes sequence zs) r
+
+module _ (r : List ℕ) (sequence : ℕ) (zs : List ℕ) (room : Layout.retained-place ≤ length r) where
+  pub retaining-held : numberAt 1 (retaining r sequence zs) Layout.retained-place ≡ 1
+  unfolding bytes
+  retaining-held =
+      ap number (rw add-zero at (overlay-part Layout.retained-place 0 1 (retainedBytes sequence zs) r room (omega arith)))
+      ∙ number-bytes 1 1 (omega arith)
+
+  pub retaining-sequence : sequence < 2 ^ 64 → numberAt 8 (retaining r sequence zs) Layout.retained-sequence-place ≡ sequence
+  unfolding bytes
+  retaining-sequence h =
+      ap number (overlay-part Layout.retained-place 1 8 (retainedBytes sequence zs) r room (omega arith)) ∙ number-bytes 8 sequence (omega arith)
+
+  pub retaining-alert : (j n : ℕ) → j + n ≤ length zs → run (Layout.retained-alert-place + j) n (retaining r sequence zs) ≡ run j n zs
+  unfolding bytes
+  retaining-alert j n h =
+      let e : Layout.retained-place + (9 + j) ≡ Layout.retained-alert-place + j = omega arith in
+      let part = overlay-part Layout.retained-place (9 + j) n (retainedBytes sequence zs) r room (omega (arith, length-retained sequence zs)) in
+      rw (e, ← drop-drop j 9 (retainedBytes sequence zs)) at part
+
 -- ---- the text of the reply
 
 no-text : number (take 2 (replicate 3 0)) ≤ longest-alert
@@ -111,25 +152,21 @@ pub record Settled (r s : List ℕ) : Type 0 where
   pub text : Layout.alertTextLength s Layout.retained-alert-place ≤ longest-alert
 
 module _ (r : List ℕ) (sequence : ℕ) (v : validRegisters r ≡ true) where
-  abbrev kept : List ℕ → List ℕ
-  kept zs = overlay Layout.retained-place (bytes 1 1 ++ (bytes 8 sequence ++ zs)) r
-
-  kept-settled : (zs : List ℕ) → 2 ≤ length zs → length zs ≤ Layout.alert-length → number (take 2 zs) ≤ longest-alert → Settled r (kept zs)
+  kept-settled : (zs : List ℕ) → 2 ≤ length zs → length zs ≤ Layout.alert-length → number (take 2 zs) ≤ longest-alert → Settled r (retaining r sequence zs)
   kept-settled zs l m h =
       let long = registers-valid r v .long in
-      let head = bytes 1 1 ++ bytes 8 sequence in
-      let b : length (head ++ zs) ≡ 9 + length zs = simp (length-append, length-bytes) in
-      rw (← append-assoc) (record {
-        same = length-overlay Layout.retained-place (head ++ zs) r (omega arith);
-        text = rw (overlay-part Layout.retained-place 9 2 (head ++ zs) r (omega arith) (omega arith), drop-at head zs 9 (length-marked 8 sequence)) h;
-      })
+      let n = length-retained sequence zs in
+      record {
+        same = length-overlay Layout.retained-place (retainedBytes sequence zs) r (omega arith);
+        text = rw (rw add-zero at (retaining-alert r sequence zs (omega arith) 0 2 (omega arith))) h;
+      }
 
   pub retained-settled : Settled r (withRetained r sequence)
   unfolding withRetained
   retained-settled =
       let g = registers-valid r v in
       let slot = run Layout.alerts-place Layout.alert-length r in
-      cond-by (λ zs. Settled r (kept zs)) (eqb (Layout.alertCount r) 0) (replicate 3 0) slot
+      cond-by (λ zs. Settled r (retaining r sequence zs)) (eqb (Layout.alertCount r) 0) (replicate 3 0) slot
       (λ e. kept-settled (replicate 3 0) (omega arith) (omega arith) no-text)
       (λ e.
       let some : Layout.alertCount r ≡ 0 → ⊥ = eqb-false (Layout.alertCount r) 0 e in

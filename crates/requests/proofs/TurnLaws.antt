@@ -39,7 +39,7 @@ parts-valid p e =
     let b = and-eq-true-iff (validFactory (p .factory)) _ .0 (a .1) in
     record { reader = a .0; factory = b .0; inner = b .1 }
 
-valid-parts : (p : Parts) → PartsValid p → Receive.validParts p ≡ true
+pub valid-parts : (p : Parts) → PartsValid p → Receive.validParts p ≡ true
 unfolding Receive.validParts
 valid-parts p v = rw (v .reader, v .factory) (v .inner)
 

@@ -1,12 +1,12 @@
 -- What a request earns and does, and what one received byte does (document 01, "Reading a request", "Requests and what they do").
 -- Assumes nothing: these are definitions.
-use mathlib.Core.Bool.{Bool, true, false, cond, not, _&&_, _||_}
+use mathlib.Core.Bool.{Bool, true, cond, not, _&&_, _||_}
 use mathlib.Core.List.{List, [], _∷_, _++_}
 use mathlib.Core.Option.{Option, none, some}
-use Prim.Native.Nat.{ℕ, zero, suc, _+_, _-_, _*_, _/_, _%_, _^_}
+use Prim.Native.Nat.{ℕ, zero, suc, _+_, _-_, _^_}
 use lib.Dec.{leb, ltb, eqb}
-use lib.ListN.{length, take, drop, getD, replicate}
-use Rattle.octets.specs.Bytes.{bytes, number, numberAt, equal, run}
+use lib.ListN.{length, take, drop, replicate}
+use Rattle.octets.specs.Bytes.{bytes, numberAt, equal, run}
 use Rattle.line.specs.Limits.{longest-form}
 use Rattle.line.specs.Message.{Message}
 use Rattle.line.specs.Frame.{frame}
@@ -14,7 +14,7 @@ use Rattle.line.specs.Judge.{Verdict, failure, good, judge}
 use Rattle.supervisor.specs.Limits.{highest-key, longest-key-3, longest-key-4, longest-key-5, most-kept, longest-block}
 use Rattle.supervisor.specs.State.{Item, Factory, Settings, Recorded, Alert, Retained, State, state}
 use Rattle.supervisor.specs.Number.{topSet}
-use Rattle.supervisor.specs.Local.{bit, setBit, Found, lookup}
+use Rattle.supervisor.specs.Local.{bit, lookup}
 
 -- ---- The tests after the line layer's
 

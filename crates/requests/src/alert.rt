@@ -3,6 +3,7 @@
 use crate::sending::send_part;
 use supervisor::layout;
 use supervisor::number::ReplyNumber;
+use supervisor::number::RequestNumber;
 ghost use mathlib.Core.Path.{_≡_};
 ghost use mathlib.Core.Bool.{true, cond};
 ghost use Prim.Native.Nat.{_-_, _≤_, _<_};
@@ -14,12 +15,17 @@ ghost use Rattle.requests.specs.Requests.{clearBit};
 ghost use Rattle.requests.specs.Receive.{withRetained, withTaken, isRetained, alertRegisters, alertParts, alertAnswered};
 
 // An alert request: the retained reply again, or the oldest alert.
-pub(crate) fn alert(outbox: &mut [u8], registers: &mut [u8], reply: ReplyNumber, sequence: u64)
+pub(crate) fn alert(
+    outbox: &mut [u8],
+    registers: &mut [u8],
+    reply: ReplyNumber,
+    number: RequestNumber,
+)
     requires { ⌜ outbox-length ≤ length (now outbox) ⌝ }
     requires { ⌜ validRegisters (now registers) ≡ true ⌝ }
-    ensures { λ _. ⌜ alertParts (now (outbox .exit)) (now (registers .exit)) ≡ alertAnswered (now (outbox .entry)) (now (registers .entry)) (reply .0) sequence ⌝ }
+    ensures { λ _. ⌜ alertParts (now (outbox .exit)) (now (registers .exit)) ≡ alertAnswered (now (outbox .entry)) (now (registers .entry)) (reply .0) (number .0) ⌝ }
 {
-    settle_alert(registers, sequence);
+    settle_alert(registers, number);
     let at = layout::RETAINED_ALERT_PLACE;
     let n = octets::word_at(registers, at) + 1;
     send_part(
@@ -33,33 +39,34 @@ pub(crate) fn alert(outbox: &mut [u8], registers: &mut [u8], reply: ReplyNumber,
 }
 
 // The registers after an alert request: as they are where its reply is retained.
-fn settle_alert(registers: &mut [u8], sequence: u64)
+fn settle_alert(registers: &mut [u8], number: RequestNumber)
     requires { ⌜ validRegisters (now registers) ≡ true ⌝ }
-    ensures { λ _. ⌜ now (registers .exit) ≡ alertRegisters (now (registers .entry)) sequence ⌝ }
+    ensures { λ _. ⌜ now (registers .exit) ≡ alertRegisters (now (registers .entry)) (number .0) ⌝ }
 {
-    if is_retained(registers, sequence) {
+    if is_retained(registers, number) {
         return;
     }
-    take_alert(registers, sequence);
+    take_alert(registers, number);
 }
 
-fn is_retained(registers: &[u8], sequence: u64) -> bool
-    ensures { λ r. ⌜ r ≡ isRetained (now (registers .entry)) sequence ⌝ }
+fn is_retained(registers: &[u8], number: RequestNumber) -> bool
+    ensures { λ r. ⌜ r ≡ isRetained (now (registers .entry)) (number .0) ⌝ }
 {
     if octets::byte_at(registers, layout::RETAINED_PLACE) != 1 {
         return false;
     }
-    octets::read_u64(registers, layout::RETAINED_SEQUENCE_PLACE) == sequence
+    let sequence = octets::read_u64(registers, layout::RETAINED_SEQUENCE_PLACE);
+    sequence == number.0
 }
 
-// The oldest alert, or none, is retained with the request's sequence, and the others move down.
-fn take_alert(registers: &mut [u8], sequence: u64)
+// The oldest alert, or none, is retained with the request's number, and the others move down.
+fn take_alert(registers: &mut [u8], number: RequestNumber)
     requires { ⌜ validRegisters (now registers) ≡ true ⌝ }
-    ensures { λ _. ⌜ now (registers .exit) ≡ withTaken (now (registers .entry)) sequence ⌝ }
+    ensures { λ _. ⌜ now (registers .exit) ≡ withTaken (now (registers .entry)) (number .0) ⌝ }
 {
     let count = octets::byte_at(registers, layout::ALERT_COUNT_PLACE);
     let status = octets::read_u64(registers, layout::STATUS_PLACE);
-    retain(registers, count, sequence);
+    retain(registers, count, number);
     octets::move_down(
         registers,
         layout::ALERTS_PLACE + layout::ALERT_LENGTH,
@@ -100,14 +107,14 @@ fn without_bit_1(status: u64) -> u64
     }
 }
 
-// The oldest of so many alerts, or action 0 and no text, with the request's sequence.
-fn retain(registers: &mut [u8], count: usize, sequence: u64)
+// The oldest of so many alerts, or action 0 and no text, with the request's number.
+fn retain(registers: &mut [u8], count: usize, number: RequestNumber)
     requires { ⌜ registers-length ≤ length (now registers) ⌝ }
     requires { ⌜ count ≡ alertCount (now registers) ⌝ }
-    ensures { λ _. ⌜ now (registers .exit) ≡ withRetained (now (registers .entry)) sequence ⌝ }
+    ensures { λ _. ⌜ now (registers .exit) ≡ withRetained (now (registers .entry)) (number .0) ⌝ }
 {
     registers[layout::RETAINED_PLACE] = 1;
-    octets::write_u64(registers, layout::RETAINED_SEQUENCE_PLACE, sequence);
+    octets::write_u64(registers, layout::RETAINED_SEQUENCE_PLACE, number.0);
     if count == 0 {
         octets::write_u16(registers, layout::RETAINED_ALERT_PLACE, 0);
         registers[layout::RETAINED_ALERT_PLACE + layout::ALERT_ACTION_PLACE] = 0;

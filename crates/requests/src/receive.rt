@@ -86,7 +86,8 @@ pub fn receive(
             settings,
             registers,
         );
-        at += done.used;
+        let used = done.used;
+        at += used;
     }
     Received::Done
 }
@@ -176,7 +177,7 @@ fn settle(
                 factory,
                 data,
                 head.version,
-                head.sequence,
+                RequestNumber(head.sequence),
                 head.command,
                 outbox,
                 settings,

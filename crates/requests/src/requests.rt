@@ -10,9 +10,9 @@ use crate::sending::fail;
 use crate::sending::send_none;
 use crate::settings::set_key;
 use supervisor::layout;
-use supervisor::number;
 use supervisor::number::ReplyNumber;
 use supervisor::number::RequestNumber;
+use supervisor::number::reply_to;
 ghost use mathlib.Core.Path.{_≡_};
 ghost use mathlib.Core.Bool.{true, false};
 ghost use Prim.Native.Nat.{_≤_};
@@ -33,7 +33,7 @@ pub(crate) fn request(
     factory: &[u8],
     data: &[u8],
     version: u32,
-    sequence: u64,
+    number: RequestNumber,
     command: u8,
     outbox: &mut [u8],
     settings: &mut [u8],
@@ -43,15 +43,15 @@ pub(crate) fn request(
     requires { ⌜ validFactory (now factory) ≡ true ⌝ }
     requires { ⌜ validInner (inner (now outbox) (now settings) (now registers)) ≡ true ⌝ }
     requires { ⌜ length (now «data») ≤ longest-data ⌝ }
-    ensures { λ r. ⌜ endedSaid r ≡ endedBy (tested (messageBy version sequence command (now («data» .entry)))) ⌝ }
-    ensures { λ _. ⌜ inner (now (outbox .exit)) (now (settings .exit)) (now (registers .exit)) ≡ innerBy (now (image .entry)) (now (factory .entry)) (inner (now (outbox .entry)) (now (settings .entry)) (now (registers .entry))) (tested (messageBy version sequence command (now («data» .entry)))) ⌝ }
+    ensures { λ r. ⌜ endedSaid r ≡ endedBy (tested (messageBy version (number .0) command (now («data» .entry)))) ⌝ }
+    ensures { λ _. ⌜ inner (now (outbox .exit)) (now (settings .exit)) (now (registers .exit)) ≡ innerBy (now (image .entry)) (now (factory .entry)) (inner (now (outbox .entry)) (now (settings .entry)) (now (registers .entry))) (tested (messageBy version (number .0) command (now («data» .entry)))) ⌝ }
     ensures { λ _. ⌜ validInner (inner (now (outbox .exit)) (now (settings .exit)) (now (registers .exit))) ≡ true ⌝ }
 {
-    let reply = number::reply_to(RequestNumber(sequence));
+    let reply = reply_to(number);
     if version != 1 {
         return fail(outbox, reply, 5);
     }
-    if 0x8000000000000000 <= sequence {
+    if 0x8000000000000000 <= number.0 {
         return fail(outbox, reply, 6);
     }
     if !is_known(command) {
@@ -64,7 +64,7 @@ pub(crate) fn request(
         image,
         factory,
         data,
-        sequence,
+        number,
         command,
         outbox,
         settings,
@@ -118,7 +118,7 @@ fn carry(
     image: &[u8],
     factory: &[u8],
     data: &[u8],
-    sequence: u64,
+    number: RequestNumber,
     command: u8,
     outbox: &mut [u8],
     settings: &mut [u8],
@@ -129,7 +129,7 @@ fn carry(
     requires { ⌜ validInner (inner (now outbox) (now settings) (now registers)) ≡ true ⌝ }
     requires { ⌜ length (now «data») ≤ longest-data ⌝ }
     requires { ⌜ lengthAllowed command (length (now «data»)) ≡ true ⌝ }
-    ensures { λ _. ⌜ inner (now (outbox .exit)) (now (settings .exit)) (now (registers .exit)) ≡ carriedInner (now (image .entry)) (now (factory .entry)) (inner (now (outbox .entry)) (now (settings .entry)) (now (registers .entry))) sequence command (now («data» .entry)) ⌝ }
+    ensures { λ _. ⌜ inner (now (outbox .exit)) (now (settings .exit)) (now (registers .exit)) ≡ carriedInner (now (image .entry)) (now (factory .entry)) (inner (now (outbox .entry)) (now (settings .entry)) (now (registers .entry))) (number .0) command (now («data» .entry)) ⌝ }
     ensures { λ _. ⌜ validInner (inner (now (outbox .exit)) (now (settings .exit)) (now (registers .exit))) ≡ true ⌝ }
 {
     let reason = octets::byte_at(data, 0);
@@ -158,7 +158,7 @@ fn carry(
         image,
         factory,
         data,
-        sequence,
+        number,
         command,
         outbox,
         settings,
@@ -171,7 +171,7 @@ fn carry_with_reply(
     image: &[u8],
     factory: &[u8],
     data: &[u8],
-    sequence: u64,
+    number: RequestNumber,
     command: u8,
     outbox: &mut [u8],
     settings: &mut [u8],
@@ -186,15 +186,15 @@ fn carry_with_reply(
     requires { ⌜ eqb command 0x01 ≡ false ⌝ }
     requires { ⌜ eqb command 0x02 ≡ false ⌝ }
     requires { ⌜ eqb command 0x06 ≡ false ⌝ }
-    ensures { λ _. ⌜ inner (now (outbox .exit)) (now (settings .exit)) (now (registers .exit)) ≡ carriedInner (now (image .entry)) (now (factory .entry)) (inner (now (outbox .entry)) (now (settings .entry)) (now (registers .entry))) sequence command (now («data» .entry)) ⌝ }
+    ensures { λ _. ⌜ inner (now (outbox .exit)) (now (settings .exit)) (now (registers .exit)) ≡ carriedInner (now (image .entry)) (now (factory .entry)) (inner (now (outbox .entry)) (now (settings .entry)) (now (registers .entry))) (number .0) command (now («data» .entry)) ⌝ }
 {
-    let reply = number::reply_to(RequestNumber(sequence));
+    let reply = reply_to(number);
     if command == 0x10 {
         set_key(outbox, settings, reply, data);
         return;
     }
     if command == 0x0a {
-        alert(outbox, registers, reply, sequence);
+        alert(outbox, registers, reply, number);
         return;
     }
     if command == 0x07 {

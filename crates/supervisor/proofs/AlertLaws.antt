@@ -3,13 +3,13 @@
 use mathlib.Core.Path.{_≡_}
 use mathlib.Core.Bool.{true, false}
 use mathlib.Core.List.{List, [], _∷_, _++_, append-assoc}
-use Prim.Native.Nat.{ℕ, _+_, _%_, _≤_, _<_}
+use Prim.Native.Nat.{ℕ, _+_, _≤_, _<_}
 use native.Mathlib.Omega.{arith}
 use borrow.Author.Tests.{lt-ltb, le-ltb, eq-eqb, ne-eqb}
 use lib.ListN.{length, set, length-append, length-set}
 use lib.Seq.{take-length}
 use Rattle.octets.specs.Bytes.{bytes, overlay, put, copied}
-use Rattle.octets.proofs.Numbers.{length-bytes}
+use Rattle.octets.proofs.Numbers.{length-bytes, one-byte}
 use Rattle.octets.proofs.Overlay.{length-overlay, length-put, length-copied, overlay-one, overlay-next, overlay-more, put-fits, copied-fits}
 use Rattle.supervisor.specs.Limits.{most-alerts, longest-alert}
 use Rattle.supervisor.specs.Layout.{registers-length, status-place, alert-count-place, alert-place, alert-action-place, alert-text-place, statusOf, alertCount}
@@ -17,12 +17,6 @@ use Rattle.supervisor.specs.Local.{setBit}
 use Rattle.supervisor.specs.Valid.{validRegisters}
 use Rattle.supervisor.specs.Calls.{registered, postSaid, withAlert, posting}
 use Rattle.supervisor.specs.declared.alerts.Posted.the-variants.{Done, Refused, BadAction, TooLong, Full}
-
-pub one-byte : (v : ℕ) → v < 256 → bytes 1 v ≡ v ∷ []
-unfolding bytes
-one-byte v h =
-    let e : v % 256 ≡ v = omega arith in
-    rw e
 
 -- its length, action and text, each stored behind the other
 slot : (at action : ℕ) (text r : List ℕ) → action < 256 → at + alert-text-place + length text ≤ length r

@@ -1,11 +1,12 @@
 -- The laws of start: zeros put at the start of a list, the parts that start leaves, and what it answers.
 -- Assumes nothing.
 use mathlib.Core.Path.{_≡_, refl, sym, ap, _∙_}
-use mathlib.Core.Bool.{true, false, and-eq-true-iff}
-use mathlib.Core.List.{List, [], _∷_, _++_}
+use mathlib.Core.Bool.{true, false, _&&_, and-eq-true-iff}
+use mathlib.Core.List.{List, _++_}
 use Prim.Native.Nat.{ℕ, _+_, _-_, _≤_, _<_}
 use native.Mathlib.Nat.{zero-add}
 use native.Mathlib.Omega.{arith}
+use lib.Dec.{leb}
 use lib.ListN.{length, set, replicate, length-append, length-replicate, replicate-append-replicate}
 use lib.Seq.{take-all}
 use borrow.Author.Tests.{leb-true, le-leb}
@@ -102,22 +103,24 @@ pub record Roomy (p : Parts) : Type 0 where
   pub settings : Layout.settings-length ≤ length (p .settings)
   pub registers : Layout.registers-length ≤ length (p .registers)
 
+-- five lengths, each at least the published one
+pub all-long : (reader outbox factory settings registers : ℕ)
+    → (leb Reader.state-length reader && (leb Layout.outbox-length outbox && (leb Layout.factory-length factory
+    && (leb Layout.settings-length settings && leb Layout.registers-length registers)))) ≡ true
+    → (Reader.state-length ≤ reader) × (Layout.outbox-length ≤ outbox) × (Layout.factory-length ≤ factory)
+    × (Layout.settings-length ≤ settings) × (Layout.registers-length ≤ registers)
+all-long reader outbox factory settings registers h =
+    let s = and-eq-true-iff _ _ .0 h in
+    let t = and-eq-true-iff _ _ .0 (s .1) in
+    let u = and-eq-true-iff _ _ .0 (t .1) in
+    let v = and-eq-true-iff _ _ .0 (u .1) in
+    (leb-true _ _ (s .0), leb-true _ _ (t .0), leb-true _ _ (u .0), leb-true _ _ (v .0), leb-true _ _ (v .1))
+
 pub roomy-is : (p : Parts) → roomy p ≡ true → Roomy p
 unfolding roomy
-roomy-is p e =
-    let a = and-eq-true-iff _ _ .0 e in
-    let b = and-eq-true-iff _ _ .0 (a .1) in
-    let c = and-eq-true-iff _ _ .0 (b .1) in
-    let d = and-eq-true-iff _ _ .0 (c .1) in
-    record {
-      reader = leb-true _ _ (a .0);
-      outbox = leb-true _ _ (b .0);
-      factory = leb-true _ _ (c .0);
-      settings = leb-true _ _ (d .0);
-      registers = leb-true _ _ (d .1);
-    }
+roomy-is p e = omega (arith, all-long (length (p .reader)) (length (p .outbox)) (length (p .factory)) (length (p .settings)) (length (p .registers)) e)
 
-is-roomy : (p : Parts) → Roomy p → roomy p ≡ true
+pub is-roomy : (p : Parts) → Roomy p → roomy p ≡ true
 unfolding roomy
 is-roomy p r = rw (le-leb _ _ (r .reader), le-leb _ _ (r .outbox), le-leb _ _ (r .factory), le-leb _ _ (r .settings), le-leb _ _ (r .registers))
 

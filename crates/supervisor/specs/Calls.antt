@@ -26,12 +26,10 @@ use Rattle.supervisor.specs.declared.keys.Place.{Place}
 use Rattle.supervisor.specs.declared.keys.Place.the-variants as place
 use Rattle.supervisor.specs.declared.registers.SignalRead.{SignalRead}
 use Rattle.supervisor.specs.declared.registers.SignalRead.the-variants as signal
-use Rattle.supervisor.specs.declared.registers.Asked.{Asked}
 use Rattle.supervisor.specs.declared.registers.FlagsRead.{FlagsRead}
 use Rattle.supervisor.specs.declared.registers.FlagsRead.the-variants as flags
 use Rattle.supervisor.specs.declared.registers.Kind.{Kind}
 use Rattle.supervisor.specs.declared.registers.Kind.the-variants as kind
-use Rattle.supervisor.specs.declared.registers.Entry.{Entry}
 use Rattle.supervisor.specs.declared.registers.Recorded.{Recorded}
 use Rattle.supervisor.specs.declared.registers.Recorded.the-variants as recorded
 

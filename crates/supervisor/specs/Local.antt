@@ -8,7 +8,7 @@ use lib.Dec.{leb, ltb, eqb}
 use lib.ListN.{length, take, drop, getD}
 use Rattle.octets.specs.Bytes.{bytes}
 use Rattle.supervisor.specs.Limits.{most-items, longest-item-data, longest-image-id, highest-key, most-alerts, longest-alert, highest-option}
-use Rattle.supervisor.specs.State.{Item, Factory, Settings, Recorded, Alert, Retained, State, state, fresh}
+use Rattle.supervisor.specs.State.{Item, Factory, State, state, fresh}
 
 -- ---- Start data: refused as 11
 

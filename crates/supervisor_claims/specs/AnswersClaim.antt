@@ -8,13 +8,15 @@ use Prim.Native.Nat.{ℕ, zero, suc, _+_, _≤_, _<_}
 use native.Mathlib.Numerals.{add-one}
 use native.Mathlib.Omega.{arith}
 use lib.Dec.{leb, ltb, eqb}
-use lib.ListN.{length, drop, replicate, length-append, length-take}
+use lib.ListN.{length, replicate}
 use borrow.Author.Count.{below-none, below-more}
 use borrow.Author.Tests.{leb-true, ltb-true, ltb-false, eqb-false, eq-eqb}
 use Rattle.octets.specs.Bytes.{Byte, Each, bytes, run, numberAt, equal}
 use Rattle.octets.proofs.Conditions.{cond-by, cond-both}
-use Rattle.octets.proofs.Each.{each-append}
-use Rattle.line.specs.Limits.{longest-data, longest-form}
+use Rattle.octets.proofs.Each.{each-append, each-run}
+use Rattle.octets.proofs.Numbers.{one-byte}
+use Rattle.octets.proofs.Overlay.{number-run, run-add}
+use Rattle.line.specs.Limits.{longest-form}
 use Rattle.line.specs.Message.{Message}
 use Rattle.supervisor.specs.Limits
 use Rattle.supervisor.specs.Layout
@@ -23,17 +25,17 @@ use Rattle.supervisor.specs.State.{Item, State}
 use Rattle.supervisor.specs.Local
 use Rattle.supervisor.specs.Valid.{validFactory, validSettings, validRegisters}
 use Rattle.supervisor.specs.Calls
-use Rattle.supervisor.proofs.AlertLaws.{one-byte}
-use Rattle.supervisor.proofs.KeyLaws.{value-short}
 use Rattle.supervisor.proofs.ValidLaws.{factory-valid, registers-valid}
 use Rattle.requests.specs.Requests
 use Rattle.requests.specs.Receive.{replyBytes, itemDataLength, itemBytes, blockBytes, valueBytes, askedBytes}
 use Rattle.requests.proofs.ReceiveLaws.{ItemHeld, item-held}
+use Rattle.requests.proofs.KeptLaws.{value-data-short, item-short}
 use Rattle.supervisor_claims.specs.View.{listed, itemAt, factoryOf, view}
 use Rattle.supervisor_claims.specs.ViewLaws.{length-listed}
 use Rattle.supervisor_claims.specs.Meant.{Valid}
-use Rattle.supervisor_claims.specs.LookupClaim.{number-run, run-add, lookup-meant}
-use Rattle.supervisor_claims.specs.SendingClaim.{Sendable, run-each, run-sendable, reply-sendable}
+use Rattle.supervisor_claims.specs.LookupClaim.{lookup-meant}
+use Rattle.supervisor_claims.specs.SendingClaim.{Sendable, run-sendable, reply-sendable}
+use Rattle.supervisor_claims.specs.PartLaws.{each-number}
 
 -- ---- a list of items by the index
 
@@ -78,13 +80,6 @@ run-three at i j k s = run-add at i (j + k) s ∙ rw (run-add (at + i) j k s)
 run-chosen : (at n : ℕ) (t : Bool) (s : List ℕ) → run at (cond t n 0) s ≡ cond t (run at n s) []
 run-chosen at n true s = refl
 run-chosen at n false s = refl
-
--- two runs
-runs-sendable : (at n bt k : ℕ) (s : List ℕ) → n + k ≤ longest-data → Each Byte s → Sendable (run at n s ++ run bt k s)
-runs-sendable at n bt k s h b = (
-  rw length-append (omega (arith, length-take n (drop at s), length-take k (drop bt s))),
-  each-append Byte (run at n s) (run bt k s) (run-each at n s b) (run-each bt k s b),
-)
 
 zeros-each : (n : ℕ) → Each Byte (replicate n 0)
 zeros-each zero = tt
@@ -145,11 +140,14 @@ module _ (f : List ℕ) (valid : validFactory f ≡ true) (b : Each Byte f) wher
   unfolding itemBytes
   item-sendable index =
       let at = Layout.item-place index in
-      cond-by Sendable (ltb index (Layout.itemCount f)) _ _
-      (λ e.
-      let held = item-held f index valid (ltb-true _ _ e) in
-      runs-sendable at Layout.item-data-length-place (at + Layout.item-data-place) (itemDataLength f at) f (omega arith) b)
-      (λ e. (omega arith, (omega arith, zeros-each 33)))
+      let n = Layout.item-data-length-place in
+      let bt = at + Layout.item-data-place in
+      let k = itemDataLength f at in
+      let short = item-short f index valid in (
+        omega arith,
+        cond-by (Each Byte) (ltb index (Layout.itemCount f)) _ _
+            (λ e. each-append Byte (run at n f) (run bt k f) (each-run at n f b) (each-run bt k f b)) (λ e. (omega arith, zeros-each 33)),
+      )
 
 -- ---- the registers
 
@@ -178,7 +176,7 @@ BytesAt value q = Each Byte (value q)
 module _ (f s : List ℕ) (fb : Each Byte f) (sb : Each Byte s) (most : ℕ) where
   part-each : (at n : ℕ) (l : List ℕ) → Each Byte l → Each Byte (Calls.within most n (run at n l))
   part-each at n l h =
-      cond-by (Each Byte) (ltb most n) [] (run at n l) (λ e. tt) (λ e. run-each at n l h)
+      cond-by (Each Byte) (ltb most n) [] (run at n l) (λ e. tt) (λ e. each-run at n l h)
 
   setting-each : (at : ℕ) → BytesAt (Calls.valueAt f s most) (Calls.settingAt s at)
   unfolding Calls.settingAt Calls.valueAt
@@ -270,11 +268,10 @@ module _ (p : Calls.Parts) (v : Valid p) (fb : Each Byte (p .factory)) (sb : Eac
       rw (looked .0, looked .1, one-byte (Local.lookup (view p) key most .result) (omega arith))
 
   pub value-sendable : (d : List ℕ) → Sendable (valueBytes (p .factory) (p .settings) d)
-  unfolding valueBytes bytes
+  unfolding valueBytes
   value-sendable d =
-      let key = numberAt 1 d 0 in
-      let most = numberAt 2 d 1 in
-      (omega (arith, value-short (p .factory) (p .settings) key most (v .factory) (v .settings)), (omega arith, value-each (p .factory) (p .settings) fb sb most key))
+      let short = value-data-short (p .factory) (p .settings) d (v .factory) (v .settings) in
+      (omega arith, each-number 1 _ _ (value-each (p .factory) (p .settings) fb sb (numberAt 2 d 1) (numberAt 1 d 0)))
 
   answers : (sequence command : ℕ) {bs payload : List ℕ} → bs ≡ payload → Sendable bs
       → Answers p sequence (replyBytes (topSet sequence) command bs) (Requests.replied (view p) command payload)

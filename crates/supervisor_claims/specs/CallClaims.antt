@@ -1,5 +1,5 @@
 -- Each call on sound parts: its answer, what it writes outside the state, and the sound parts that it leaves, as document 01 has them.
--- Assumes nothing: what a received byte leaves, and what the line reader makes of one, are arguments of the laws on receive and step.
+-- Assumes nothing.
 use mathlib.Core.Path.{_≡_, refl, ap, _∙_}
 use mathlib.Core.Bool.{true, false}
 use mathlib.Core.List.{List, [], _∷_, _++_}
@@ -38,10 +38,11 @@ use Rattle.supervisor_claims.specs.TakeClaim.{take-meant}
 use Rattle.supervisor_claims.specs.PostLaws.{allowed, posted-kept}
 use Rattle.supervisor_claims.specs.RegistersClaim.{post-meant, options-meant, signal-meant, flags-meant, boot-failure-meant, panic-meant}
 use Rattle.supervisor_claims.specs.LookupClaim.{lookup-meant}
-use Rattle.supervisor_claims.specs.Sound.{Bytes, Sound, Lengths, lengths-same, Leaves, Feeds, fed-leaves}
+use Rattle.supervisor_claims.specs.Sound.{Bytes, Sound, Lengths, lengths-same, Leaves}
 use Rattle.supervisor_claims.specs.Locality.{valid-room}
 use Rattle.supervisor_claims.specs.LentCalls.{valid-parts}
-use Rattle.supervisor_claims.specs.StepClaim.{step-used, step-fed, Pushes, Finishes, step-ends, turned-stepped}
+use Rattle.supervisor_claims.specs.StepClaim.{step-used, step-fed, step-ends, turned-stepped}
+use Rattle.supervisor_claims.specs.ReceiveClaim.{fed-leaves}
 
 -- a call on p did what document 01 has of it
 pub record Meets (p : Parts) (d : Did) (m : Means) : Type 0 where
@@ -259,13 +260,13 @@ module _ (p : Parts) (s : Sound p) where
 
 -- ---- the calls that receive
 
-module _ (feeds : Feeds) (pushes : Pushes) (finishes : Finishes) (p : Parts) (s : Sound p) where
+module _ (p : Parts) (s : Sound p) where
   module _ (image piece : List ℕ) (typed : Each Byte image × Each Byte piece) where
     receive-meets : Meets p (did p (Histories.receive image piece)) (meant (view p) (Histories.receive image piece))
     unfolding did meant Receive.receiving
     receive-meets =
         rw (valid-parts p (s .valid))
-        (record { answer = refl; out = refl; leaves = fed-leaves feeds image p piece (typed .0) s (typed .1) })
+        (record { answer = refl; out = refl; leaves = fed-leaves image p piece (typed .0) s (typed .1) })
 
     turned-used : Receive.turned image p piece .used ≡ upTo piece
     unfolding Receive.turned
@@ -273,7 +274,7 @@ module _ (feeds : Feeds) (pushes : Pushes) (finishes : Finishes) (p : Parts) (s 
 
     turned-ended : Receive.turned image p piece .ended ≡ frameEnds (view p .received) piece
     unfolding Receive.turned view
-    turned-ended = step-ends pushes finishes piece (p .reader) (s .valid .reader)
+    turned-ended = step-ends piece (p .reader) (s .valid .reader)
 
     turned-parts : Receive.turned image p piece .parts ≡ Receive.fed image p (ListN.take (upTo piece) piece)
     unfolding Receive.turned
@@ -287,7 +288,7 @@ module _ (feeds : Feeds) (pushes : Pushes) (finishes : Finishes) (p : Parts) (s 
         (record {
           answer = refl;
           out = refl;
-          leaves = fed-leaves feeds image p (ListN.take n piece) (typed .0) s (each-take Byte n piece (typed .1));
+          leaves = fed-leaves image p (ListN.take n piece) (typed .0) s (each-take Byte n piece (typed .1));
         })
 
   -- ---- every call

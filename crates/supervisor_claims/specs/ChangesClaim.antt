@@ -4,25 +4,23 @@ use mathlib.Core.Path.{_≡_, refl}
 use mathlib.Core.Bool.{Bool, true, false, _||_}
 use mathlib.Core.List.{List}
 use Prim.Native.Nat.{ℕ, _^_, _≤_, _<_}
-use native.Mathlib.Nat.{pow-le-pow-right}
 use native.Mathlib.Omega.{arith}
 use lib.Dec.{eqb}
-use lib.ListN.{length, drop, length-take, length-drop}
+use lib.ListN.{length, drop, length-drop}
 use borrow.Author.Tests.{eqb-true}
-use Rattle.octets.specs.Bytes.{Byte, Each, run, numberAt}
+use Rattle.octets.specs.Bytes.{Byte, Each, numberAt}
 use Rattle.octets.proofs.Each.{each-drop}
-use Rattle.octets.proofs.Numbers.{number-bound}
+use Rattle.octets.proofs.Numbers.{one-byte, number-small}
 use Rattle.line.specs.Limits.{longest-data}
 use Rattle.line.specs.Message.{Message}
 use Rattle.supervisor.specs.Layout
 use Rattle.supervisor.specs.Calls
 use Rattle.supervisor.proofs.ValidLaws.{settings-valid, registers-valid}
-use Rattle.supervisor.proofs.AlertLaws.{one-byte}
 use Rattle.requests.specs.Requests
 use Rattle.requests.specs.Receive
 use Rattle.supervisor_claims.specs.View.{view}
 use Rattle.supervisor_claims.specs.Meant.{Valid, withRegisters}
-use Rattle.supervisor_claims.specs.PartLaws.{Like, like-itself, each-run}
+use Rattle.supervisor_claims.specs.PartLaws.{Like, like-itself}
 use Rattle.supervisor_claims.specs.SettingLaws.{storing-stored}
 use Rattle.supervisor_claims.specs.RecordLaws.{reboot-view, power-off-view, flag-like, boot-failure-view, panic-view, record-like, acknowledged-view, acknowledged-like}
 use Rattle.supervisor_claims.specs.TakenLaws.{alert-asked, alert-reply}
@@ -48,13 +46,6 @@ Carries p image m =
     Changed p
     (Receive.carriedInner image (p .factory) (Receive.inner (p .outbox) (p .settings) (p .registers)) (m .sequence) (m .command) (m .payload))
     (m .sequence) (Requests.carried image (view p) m)
-
--- a number of k bytes
-pub number-small : (k at : ℕ) (s : List ℕ) → Each Byte s → numberAt k s at < 256 ^ k
-number-small k at s b =
-    let n = number-bound (run at k s) (each-run at k s b) in
-    let l = length-take k (drop at s) in
-    omega (arith, pow-le-pow-right {n = 256} (omega arith) {i = length (run at k s)} {j = k} (omega arith))
 
 -- one of two tests
 either : {P : Type 0} (a b : Bool) → (a ≡ true → P) → (b ≡ true → P) → (a || b) ≡ true → P

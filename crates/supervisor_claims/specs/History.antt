@@ -1,15 +1,16 @@
--- Demand 2's claim over lists of calls: what each answers, writes and leaves is document 01's, whatever is lent; refusals; the cut law.
--- Assumes nothing: what a received byte leaves, and what the line reader makes of one, are arguments.
-use mathlib.Core.Path.{_≡_, refl, sym, subst, _∙_}
+-- Demand 2's claim over lists of calls: what each answers, writes and leaves is document 01's, whatever is lent; refusals; the cut law; step.
+-- Assumes nothing.
+use mathlib.Core.Path.{_≡_, refl, sym, ap, subst, _∙_}
 use mathlib.Core.Bool.{Bool, true, false, _&&_}
 use mathlib.Core.List.{List, [], _∷_, _++_}
 use mathlib.Core.Option.{Option, none, some}
-use Prim.Native.Nat.{ℕ}
+use Prim.Native.Nat.{ℕ, zero, suc, _+_, _-_, _≤_}
 use native.Mathlib.Omega.{arith}
 use lib.Dec.{ltb, eqb}
-use lib.ListN.{length}
+use lib.ListN.{length, take, drop, take-append-drop, length-drop}
 use Rattle.octets.specs.Bytes.{Each, Byte}
 use Rattle.octets.proofs.Conditions.{cond-by, cond-both}
+use Rattle.octets.proofs.Each.{each-take, each-drop}
 use Rattle.supervisor.specs.Limits
 use Rattle.supervisor.specs.Layout
 use Rattle.supervisor.specs.State.{Recorded, State, fresh}
@@ -21,56 +22,22 @@ use Rattle.requests.specs.Receive
 use Rattle.supervisor_claims.specs.View.{factoryOf, view}
 use Rattle.supervisor_claims.specs.Meant.{withOutbox, withRegisters}
 use Rattle.supervisor_claims.specs.Histories
-use Rattle.supervisor_claims.specs.Histories.{Call, Typed, Answer, refused, done, Did, didBy, did, refusal, doneMeans, recordMeans, meant}
+use Rattle.supervisor_claims.specs.Histories.{Call, Typed, refused, done, Did, didBy, did, refusal, doneMeans, recordMeans, meant, upTo}
 use Rattle.supervisor_claims.specs.Histories.{Lent, lentOf, enough, Made, untouched, made, meantMade, told, left, toldMeant, leftMeant, AllTyped}
-use Rattle.supervisor_claims.specs.Refusals.{start-12}
+use Rattle.supervisor_claims.specs.Refusals.{fit, refused-12, WhereRefused, found-held, Not12}
 use Rattle.supervisor_claims.specs.StartClaim.{start-refused}
-use Rattle.supervisor_claims.specs.Sound.{Bytes, Sound, Lengths, lengths-same, lengths-then, valid-roomy, Leaves, Feeds, fed-leaves}
+use Rattle.supervisor_claims.specs.Sound.{Bytes, Sound, Lengths, lengths-same, lengths-then, valid-roomy, Leaves}
 use Rattle.supervisor_claims.specs.Locality.{lent-bytes, lent-sound, lent-view, back-lent, back-leaves}
 use Rattle.supervisor_claims.specs.LentCalls.{parts-valid, valid-parts, made-12, widened, widened-enough, widened-same}
-use Rattle.supervisor_claims.specs.StepClaim.{Pushes, Finishes, turned-stepped}
+use Rattle.supervisor_claims.specs.StepClaim.{step-fed, turned-stepped}
+use Rattle.supervisor_claims.specs.ReceiveClaim.{fed-leaves}
 use Rattle.supervisor_claims.specs.CallClaims.{Meets, start-leaves, call-meets}
 
 -- ---- refusals change nothing
 
--- what holds of the number where an answer is a refusal
-abbrev WhereRefused : Answer → (ℕ → Type 0) → Type 0
-WhereRefused (refused n) X = X n
-WhereRefused done X = Unit {0}
-WhereRefused (Histories.stepped used ended) X = Unit {0}
-WhereRefused (Histories.moved n) X = Unit {0}
-WhereRefused (Histories.found n k) X = Unit {0}
-WhereRefused (Histories.asserted b) X = Unit {0}
-WhereRefused (Histories.asked reboot power-off) X = Unit {0}
-WhereRefused (Histories.recorded r) X = Unit {0}
-
 -- nothing has changed where it is
 abbrev Held : Parts → Call → Did → Type 0
 Held p c d = WhereRefused (d .answer) (λ n. (d .parts ≡ p) × (d .out ≡ untouched c))
-
--- a key's place is no refusal
-module _ (X : ℕ → Type 0) (most : ℕ) where
-  abbrev FoundHeld : {Q : Type 0} → (Q → Calls.LookupSaid) → Q → Type 0
-  FoundHeld said q = WhereRefused (Histories.lookupAnswer (said q)) X
-
-  sized-held : (n : ℕ) → WhereRefused (Histories.lookupAnswer (Calls.sized most n)) X
-  sized-held n = cond-by (λ a. WhereRefused (Histories.lookupAnswer a) X) (ltb most n) _ _ (λ e. tt) (λ e. tt)
-
-  setting-held : (s : List ℕ) (at : ℕ) → FoundHeld (Calls.resultAt most) (Calls.settingAt s at)
-  unfolding Calls.resultAt Calls.settingAt
-  setting-held s at =
-      cond-by (FoundHeld (Calls.resultAt most)) (eqb (Layout.settingHeld s at) 1) _ _ (λ e. sized-held (Layout.settingLength s at)) (λ e. tt)
-
-  found-held : (f s : List ℕ) (key : ℕ) → FoundHeld (Calls.resultAt most) (Calls.placeOf f s key)
-  unfolding Calls.resultAt Calls.placeOf
-  found-held f s key =
-      let P = FoundHeld (Calls.resultAt most) in
-      cond-by P (eqb key 0) _ _ (λ e. sized-held 4) (λ e.
-      cond-by P (eqb key 1) _ _ (λ e. sized-held (Layout.imageIdLength f)) (λ e.
-      cond-by P (eqb key 2) _ _ (λ e. sized-held 8) (λ e.
-      cond-by P (eqb key 3) _ _ (λ e. setting-held s Layout.key-3-place) (λ e.
-      cond-by P (eqb key 4) _ _ (λ e. setting-held s Layout.key-4-place) (λ e.
-      setting-held s Layout.key-5-place)))))
 
 module _ (p : Parts) where
   abbrev HeldRegisters : Call → Calls.Registered → Type 0
@@ -143,9 +110,6 @@ refused-made p m n e =
 
 -- ---- 12 only where too little is lent
 
-abbrev Not12 : Answer → Type 0
-Not12 a = WhereRefused a (λ n. n ≡ 12 → ⊥)
-
 module _ (s : State) where
   abbrev DoneNot12 : Local.Done → Type 0
   DoneNot12 x = Not12 (doneMeans s x .answer)
@@ -185,37 +149,36 @@ back-meets l p c b k = record { answer = k .answer; out = k .out; leaves = back-
 abbrev pub Follows : Parts → State → List Made → Type 0
 Follows q s ms = (told q ms ≡ toldMeant s ms) × (view (left q ms) ≡ leftMeant s ms) × Sound (left q ms) × Lengths q (left q ms)
 
-module _ (feeds : Feeds) (pushes : Pushes) (finishes : Finishes) where
-  -- on sound parts, lent enough of each part that it takes
-  enough-meets : (p : Parts) (m : Made) → Sound p → Typed (m .call) → enough (m .call) (m .lent) ≡ true
-      → Meets p (made p m) (meant (view p) (m .call))
-  enough-meets p m s typed e =
-      let n = widened (m .call) (m .lent) p in
-      let w = widened-enough (m .lent) p (valid-roomy (s .valid)) (m .call) e in
-      let k = call-meets feeds pushes finishes (lentOf n p) (lent-sound n p w s) (m .call) typed in
-      rw (widened-same p (m .call) (m .lent)) (back-meets n p (m .call) (s .bytes) (rw (lent-view n p w (s .valid)) at k))
+-- on sound parts, lent enough of each part that it takes
+enough-meets : (p : Parts) (m : Made) → Sound p → Typed (m .call) → enough (m .call) (m .lent) ≡ true
+    → Meets p (made p m) (meant (view p) (m .call))
+enough-meets p m s typed e =
+    let n = widened (m .call) (m .lent) p in
+    let w = widened-enough (m .lent) p (valid-roomy (s .valid)) (m .call) e in
+    let k = call-meets (lentOf n p) (lent-sound n p w s) (m .call) typed in
+    rw (widened-same p (m .call) (m .lent)) (back-meets n p (m .call) (s .bytes) (rw (lent-view n p w (s .valid)) at k))
 
-  -- whatever is lent: the answer, what is written outside the state, and the sound parts that are left
-  pub one-call : (p : Parts) (m : Made) → Sound p → Typed (m .call) → Meets p (made p m) (meantMade (view p) m)
-  unfolding meantMade
-  one-call p m s typed =
-      cond-by (Meets p (made p m)) (enough (m .call) (m .lent)) _ _
-      (λ e. enough-meets p m s typed e)
-      (λ e. rw (made-12 p m e) (record { answer = refl; out = refl; leaves = (refl, s, lengths-same) }))
+-- whatever is lent: the answer, what is written outside the state, and the sound parts that are left
+pub one-call : (p : Parts) (m : Made) → Sound p → Typed (m .call) → Meets p (made p m) (meantMade (view p) m)
+unfolding meantMade
+one-call p m s typed =
+    cond-by (Meets p (made p m)) (enough (m .call) (m .lent)) _ _
+    (λ e. enough-meets p m s typed e)
+    (λ e. rw (made-12 p m e) (record { answer = refl; out = refl; leaves = (refl, s, lengths-same) }))
 
-  -- sound parts never earn 12
-  pub earns-no-12 : (p : Parts) (m : Made) → Sound p → Typed (m .call) → enough (m .call) (m .lent) ≡ true → made p m .answer ≡ refused 12 → ⊥
-  earns-no-12 p m s typed e h = never-12 (view p) m e (sym (one-call p m s typed .answer) ∙ h)
+-- sound parts never earn 12
+pub earns-no-12 : (p : Parts) (m : Made) → Sound p → Typed (m .call) → enough (m .call) (m .lent) ≡ true → made p m .answer ≡ refused 12 → ⊥
+earns-no-12 p m s typed e h = never-12 (view p) m e (sym (one-call p m s typed .answer) ∙ h)
 
-  -- ---- a list of calls, on sound parts
+-- ---- a list of calls, on sound parts
 
-  pub follows : (q : Parts) → Sound q → (ms : List Made) → AllTyped ms → Follows q (view q) ms
-  unfolding told left toldMeant leftMeant
-  follows q s [] h = (refl, refl, s, lengths-same)
-  follows q s (m ∷ ms) h =
-      let k = one-call q m s (h .0) in
-      let i : Follows (made q m .parts) (meantMade (view q) m .state) ms = rw (k .leaves .0) at (follows (made q m .parts) (k .leaves .1) ms (h .1)) in
-      (rw (k .answer, k .out, i .0), i .1, i .2, lengths-then (k .leaves .2) (i .3))
+pub follows : (q : Parts) → Sound q → (ms : List Made) → AllTyped ms → Follows q (view q) ms
+unfolding told left toldMeant leftMeant
+follows q s [] h = (refl, refl, s, lengths-same)
+follows q s (m ∷ ms) h =
+    let k = one-call q m s (h .0) in
+    let i : Follows (made q m .parts) (meantMade (view q) m .state) ms = rw (k .leaves .0) at (follows (made q m .parts) (k .leaves .1) ms (h .1)) in
+    (rw (k .answer, k .out, i .0), i .1, i .2, lengths-then (k .leaves .2) (i .3))
 
 -- ---- the first start, on any bytes
 
@@ -227,8 +190,8 @@ module _ (p : Parts) (b : Bytes p) (l : Lent) (d : List ℕ) (typed : Typed (His
   -- a start that is accepted had room and start data that are not refused
   accepted : (x y : Bool) → Calls.roomy (lentOf l p) ≡ x → Local.badStart (factoryOf d) ≡ y → did (lentOf l p) (Histories.start d) .answer ≡ done
       → Leaves (lentOf l p) (did (lentOf l p) (Histories.start d) .parts) (fresh (factoryOf d))
-  unfolding did
-  accepted false y r e h = absurd (undone 12 (rw (start-12 d (lentOf l p) r) at h))
+  unfolding did fit
+  accepted false y r e h = absurd (undone 12 (sym (ap (λ (x : Did). x .answer) (refused-12 (lentOf l p) (Histories.start d) r)) ∙ h))
   accepted true true r e h = absurd (undone 11 (rw (start-refused d (typed .0) (lentOf l p) r e) at h))
   accepted true false r e h = start-leaves d typed (lentOf l p) (lent-bytes l p b) r e .1
 
@@ -241,16 +204,16 @@ module _ (p : Parts) (b : Bytes p) (l : Lent) (d : List ℕ) (typed : Typed (His
 
 -- a start that is accepted, on any bytes, then any calls, each lent any number of each part's bytes: every answer, all that is written outside
 -- the state, and the state that is left are document 01's
-pub history : Feeds → Pushes → Finishes → (p : Parts) → Bytes p → (l : Lent) (d : List ℕ) → Typed (Histories.start d)
+pub history : (p : Parts) → Bytes p → (l : Lent) (d : List ℕ) → Typed (Histories.start d)
     → made p (record { lent = l; call = Histories.start d }) .answer ≡ done → (ms : List Made) → AllTyped ms
     → let q = made p (record { lent = l; call = Histories.start d }) .parts in
     (told q ms ≡ toldMeant (fresh (factoryOf d)) ms)
     × (view (left q ms) ≡ leftMeant (fresh (factoryOf d)) ms)
     × Sound (left q ms)
     × Lengths p (left q ms)
-history feeds pushes finishes p b l d typed h ms t =
+history p b l d typed h ms t =
     let k = started p b l d typed h in
-    let i = rw (k .0) at (follows feeds pushes finishes _ (k .1) ms t) in
+    let i = rw (k .0) at (follows _ (k .1) ms t) in
     (i .0, i .1, i .2, lengths-then (k .2) (i .3))
 
 -- ---- the cut law
@@ -261,14 +224,58 @@ fed-append image [] b p = refl
 fed-append image (x ∷ a) b p = fed-append image a b (Receive.feed image p x)
 
 -- a piece of the stream in two calls of receive, on any parts: the same answer, and the same bytes in every part
-pub cut : Feeds → (image : List ℕ) (p : Parts) (a b : List ℕ) → Bytes p → Each Byte image → Each Byte a
+pub cut : (image : List ℕ) (p : Parts) (a b : List ℕ) → Bytes p → Each Byte image → Each Byte a
     → did p (Histories.receive image (a ++ b)) ≡ did (did p (Histories.receive image a) .parts) (Histories.receive image b)
 unfolding did Receive.receiving
-cut feeds image p a b h i k = go (Receive.validParts p) refl
+cut image p a b h i k = go (Receive.validParts p) refl
   where
     go : (t : Bool) → Receive.validParts p ≡ t
         → did p (Histories.receive image (a ++ b)) ≡ did (did p (Histories.receive image a) .parts) (Histories.receive image b)
     go true e =
-        let f = fed-leaves feeds image p a i (record { valid = parts-valid p e; bytes = h }) k in
+        let f = fed-leaves image p a i (record { valid = parts-valid p e; bytes = h }) k in
         rw (e, valid-parts (Receive.fed image p a) (f .1 .valid), fed-append image a b p)
     go false e = rw (e, e)
+
+-- ---- step repeated is receive
+
+-- on any parts: what receive leaves of the bytes up to and with the first 00
+pub step-receives : (image : List ℕ) (p : Parts) (piece : List ℕ)
+    → did p (Histories.step image piece) .parts ≡ did p (Histories.receive image (take (upTo piece) piece)) .parts
+unfolding did Receive.receiving Receive.stepping Receive.turned
+step-receives image p piece = go (Receive.validParts p) refl
+  where
+    go : (t : Bool) → Receive.validParts p ≡ t
+        → did p (Histories.step image piece) .parts ≡ did p (Histories.receive image (take (upTo piece) piece)) .parts
+    go true e = rw e (step-fed image piece p)
+    go false e = rw e
+
+-- and the bytes left, received then, do what the whole piece does
+pub step-then-receive : (image : List ℕ) (p : Parts) (piece : List ℕ) → Bytes p → Each Byte image → Each Byte piece
+    → did (did p (Histories.step image piece) .parts) (Histories.receive image (drop (upTo piece) piece)) ≡ did p (Histories.receive image piece)
+step-then-receive image p piece b i h =
+    let n = upTo piece in
+    let c = cut image p (take n piece) (drop n piece) b i (each-take Byte n piece h) in
+    rw (step-receives image p piece) (sym c ∙ ap (λ x. did p (Histories.receive image x)) (take-append-drop n piece))
+
+-- a piece that is not empty is read by one byte at least
+upTo-least : (piece : List ℕ) → length piece ≤ length piece - 1 + upTo piece
+unfolding upTo
+upTo-least [] = omega arith
+upTo-least (b ∷ bs) = cond-by (λ n. length (b ∷ bs) ≤ length (b ∷ bs) - 1 + n) (eqb b 0) _ _ (λ e. omega arith) (λ e. omega arith)
+
+-- calls of step, each on what the one before left of the piece
+unfoldable pub steps : ℕ → List ℕ → Parts → List ℕ → Parts
+steps zero image p piece = p
+steps (suc n) image p piece = steps n image (did p (Histories.step image piece) .parts) (drop (upTo piece) piece)
+
+-- none of the piece is left after as many calls as it has bytes
+pub steps-receive : (n : ℕ) (image : List ℕ) (p : Parts) (piece : List ℕ) → Sound p → Each Byte image → Each Byte piece → length piece ≤ n
+    → steps n image p piece ≡ did p (Histories.receive image piece) .parts
+unfolding steps did Receive.receiving Receive.fed
+steps-receive zero image p [] s i h l = rw (valid-parts p (s .valid))
+steps-receive zero image p (b ∷ bs) s i h l = absurd (omega arith)
+steps-receive (suc n) image p piece s i h l =
+    let k = call-meets p s (Histories.step image piece) (i, h) .leaves .1 in
+    let m = upTo-least piece in
+    steps-receive n image _ (drop (upTo piece) piece) k i (each-drop Byte (upTo piece) piece h) (omega (arith, length-drop (upTo piece) piece))
+    ∙ ap (λ (x : Did). x .parts) (step-then-receive image p piece (s .bytes) i h)

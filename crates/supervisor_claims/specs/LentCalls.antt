@@ -15,27 +15,27 @@ use Rattle.supervisor.specs.Calls.{Parts}
 use Rattle.supervisor.proofs.StartLaws.{Roomy, roomy-is}
 use Rattle.supervisor.proofs.ValidLaws.{outbox-valid, factory-valid, settings-valid, registers-valid, untrue}
 use Rattle.requests.specs.Receive
+use Rattle.requests.proofs.KeptLaws.{inner-valid, valid-inner}
+use Rattle.requests.proofs.TurnLaws
 use Rattle.supervisor_claims.specs.Meant.{Valid}
 use Rattle.supervisor_claims.specs.Histories
 use Rattle.supervisor_claims.specs.Histories.{Call, Lent, Made, didBy, did, lentOf, enoughOfAll, enough, untouched, made}
-use Rattle.supervisor_claims.specs.Refusals.{start-12, take-12, post-12, options-12, signal-12, flags-12, record-12, lookup-12, receive-12, step-12}
+use Rattle.supervisor_claims.specs.Refusals.{fit, refused-12}
 use Rattle.supervisor_claims.specs.Sound.{valid-roomy}
 use Rattle.supervisor_claims.specs.Locality.{EnoughOfAll, enough-of-all, all-enough, lent-enough, lent-most, back-lent}
 
 -- ---- valid parts, by the test and by the record
 
 pub parts-valid : (p : Parts) → Receive.validParts p ≡ true → Valid p
-unfolding Receive.validParts Receive.validInner
 parts-valid p e =
-    let a = and-eq-true-iff _ _ .0 e in
-    let b = and-eq-true-iff _ _ .0 (a .1) in
-    let c = and-eq-true-iff _ _ .0 (b .1) in
-    let d = and-eq-true-iff _ _ .0 (c .1) in
-    record { reader = a .0; outbox = c .0; factory = b .0; settings = d .0; registers = d .1 }
+    let v = TurnLaws.parts-valid p e in
+    let w = inner-valid (Receive.innerOf p) (v .inner) in
+    record { reader = v .reader; outbox = w .outbox; factory = v .factory; settings = w .settings; registers = w .registers }
 
 pub valid-parts : (p : Parts) → Valid p → Receive.validParts p ≡ true
-unfolding Receive.validParts Receive.validInner
-valid-parts p v = rw (v .reader, v .factory, v .outbox, v .settings, v .registers)
+valid-parts p v =
+    let w = valid-inner (Receive.innerOf p) (record { outbox = v .outbox; settings = v .settings; registers = v .registers }) in
+    TurnLaws.valid-parts p (record { reader = v .reader; factory = v .factory; inner = w })
 
 -- ---- too little
 
@@ -70,28 +70,24 @@ module _ (l : Lent) (p : Parts) where
   short-parts : enoughOfAll l ≡ false → Receive.validParts (lentOf l p) ≡ false
   short-parts e = fails _ _ e (λ v. all-enough l (lent-enough l p (valid-roomy (parts-valid (lentOf l p) v))))
 
-  -- 12, and nothing changes
-  did-12 : (c : Call) → enough c l ≡ false → did (lentOf l p) c ≡ didBy (Histories.refused 12) (untouched c) (lentOf l p)
-  unfolding did enough
-  did-12 (Histories.start d) e = rw (start-12 d (lentOf l p) (short-room e))
-  did-12 (Histories.receive image piece) e = rw (receive-12 image (lentOf l p) piece (short-parts e))
-  did-12 (Histories.step image piece) e = rw (step-12 image (lentOf l p) piece (short-parts e))
-  did-12 (Histories.take room) e = rw (take-12 (lentOf l p .outbox) room (short-outbox e))
-  did-12 (Histories.post action text) e = rw (post-12 (lentOf l p .registers) (short-registers e) action text)
-  did-12 (Histories.setOptions options) e = rw (options-12 (lentOf l p .registers) (short-registers e) options)
-  did-12 (Histories.lookup key most) e =
-      let h = lookup-12 (lentOf l p .factory) (lentOf l p .settings) (short-stores e) key most in
-      rw (h .0, h .1)
-  did-12 Histories.signal e = rw (signal-12 (lentOf l p .registers) (short-registers e))
-  did-12 Histories.flags e = rw (flags-12 (lentOf l p .registers) (short-registers e))
-  did-12 (Histories.readRecord k) e =
-      let h = record-12 (lentOf l p .registers) (short-registers e) k in
-      rw (h .0, h .1)
+  -- what a call is lent is not as 12 asks
+  short-fit : (c : Call) → enough c l ≡ false → fit (lentOf l p) c ≡ false
+  unfolding fit enough
+  short-fit (Histories.start d) e = short-room e
+  short-fit (Histories.receive image piece) e = short-parts e
+  short-fit (Histories.step image piece) e = short-parts e
+  short-fit (Histories.take room) e = short-outbox e
+  short-fit (Histories.post action text) e = short-registers e
+  short-fit (Histories.setOptions options) e = short-registers e
+  short-fit (Histories.lookup key most) e = short-stores e
+  short-fit Histories.signal e = short-registers e
+  short-fit Histories.flags e = short-registers e
+  short-fit (Histories.readRecord k) e = short-registers e
 
 -- on any parts
 pub made-12 : (p : Parts) (m : Made) → enough (m .call) (m .lent) ≡ false → made p m ≡ didBy (Histories.refused 12) (untouched (m .call)) p
 unfolding made
-made-12 p m e = rw (did-12 (m .lent) p (m .call) e, back-lent (m .lent) p)
+made-12 p m e = rw (refused-12 (lentOf (m .lent) p) (m .call) (short-fit (m .lent) p (m .call) e), back-lent (m .lent) p)
 
 -- ---- enough of what a call takes
 

@@ -1,7 +1,7 @@
 -- The view and what 12 asks read the published bytes alone: parts of which some bytes are lent, and parts with bytes behind them.
 -- Assumes nothing.
 use mathlib.Core.Path.{_≡_, refl, ap, _∙_}
-use mathlib.Core.Bool.{true, and-eq-true-iff}
+use mathlib.Core.Bool.{true}
 use mathlib.Core.List.{List, _++_}
 use mathlib.Core.Option.{some}
 use Prim.Native.Nat.{ℕ, _+_, _-_, _≤_}
@@ -9,7 +9,7 @@ use native.Mathlib.Omega.{arith}
 use lib.Dec.{ltb}
 use lib.ListN.{length, take, length-append, length-take, take-append-drop}
 use lib.Seq.{take-take, take-append-le, length-front}
-use borrow.Author.Tests.{ltb-false, leb-true, le-leb}
+use borrow.Author.Tests.{ltb-false, le-leb}
 use Rattle.octets.specs.Bytes.{Byte}
 use Rattle.octets.proofs.Each.{each-append, each-take, each-drop}
 use Rattle.octets.proofs.Conditions.{cond-both}
@@ -23,14 +23,16 @@ use Rattle.supervisor.specs.State.{State}
 use Rattle.supervisor.specs.Valid.{validOutbox, validFactory, validSettings, validRegisters}
 use Rattle.supervisor.specs.Calls
 use Rattle.supervisor.specs.Calls.{Parts}
-use Rattle.supervisor.proofs.StartLaws.{Roomy}
-use Rattle.supervisor.proofs.ValidLaws.{OutboxValid, FactoryValid, SettingValid, SettingsValid, RegistersValid}
+use Rattle.supervisor.proofs.StartLaws.{Roomy, all-long, is-roomy}
+use Rattle.supervisor.proofs.ValidLaws.{OutboxValid, FactoryValid, SettingsValid, RegistersValid}
 use Rattle.supervisor.proofs.ValidLaws.{outbox-valid, valid-outbox, factory-valid, valid-factory, settings-valid, valid-settings, registers-valid}
 use Rattle.supervisor.proofs.ValidLaws.{start-good, good-start}
 use Rattle.supervisor.proofs.KeptRegisters.{groups-valid, numbers-kept, flags-kept, failure-kept, panic-kept, waiting-kept, retained-kept}
-use Rattle.supervisor_claims.specs.View.{factoryOf, settingOf, settingsOf, receivedOf, pendingOf, view}
+use Rattle.requests.proofs.KeptLaws.{setting-kept}
+use Rattle.supervisor_claims.specs.View.{factoryOf, settingsOf, receivedOf, pendingOf, view}
 use Rattle.supervisor_claims.specs.ViewLaws.{factory-same}
 use Rattle.supervisor_claims.specs.GoodStart.{good-bad}
+use Rattle.supervisor_claims.specs.SettingLaws.{setting-same}
 use Rattle.supervisor_claims.specs.RegisterLaws.{recorded-same, retained-same, alerts-same}
 use Rattle.supervisor_claims.specs.Meant.{Valid}
 use Rattle.supervisor_claims.specs.Histories.{Lent, lentOf, givenBack, enoughOfAll}
@@ -94,34 +96,25 @@ module _ {f g : List ℕ} (same : Same 0 Layout.factory-length f g) (v : Factory
 
 -- ---- the settings store
 
-module _ {s t : List ℕ} (same : Same 0 Layout.settings-length s t) where
-  setting-alike : (at most : ℕ) → at + Layout.setting-value-place + most ≤ Layout.settings-length → SettingValid s at most
-      → (settingOf t at ≡ settingOf s at) × SettingValid t at most
-  unfolding settingOf
-  setting-alike at most h v =
-      let n = Layout.settingLength s at in
-      let held = number-same same 1 at (omega arith) in
-      let size = number-same same 2 (at + Layout.setting-length-place) (omega arith) in (
-        rw (held, size, same .runs (at + Layout.setting-value-place) n (omega arith)),
-        record { held = omega arith; size = omega arith },
+module _ {s t : List ℕ} (same : Same 0 Layout.settings-length s t) (v : SettingsValid s) where
+  values-alike : settingsOf t ≡ settingsOf s
+  unfolding settingsOf
+  values-alike =
+      rw (
+        setting-same same Layout.key-3-place Limits.longest-key-3 (v .key-3) (omega arith),
+        setting-same same Layout.key-4-place Limits.longest-key-4 (v .key-4) (omega arith),
+        setting-same same Layout.key-5-place Limits.longest-key-5 (v .key-5) (omega arith),
       )
 
-  module _ (v : SettingsValid s) where
-    key-3-alike : (settingOf t Layout.key-3-place ≡ settingOf s Layout.key-3-place) × SettingValid t Layout.key-3-place Limits.longest-key-3
-    key-3-alike = setting-alike Layout.key-3-place Limits.longest-key-3 (omega arith) (v .key-3)
-
-    key-4-alike : (settingOf t Layout.key-4-place ≡ settingOf s Layout.key-4-place) × SettingValid t Layout.key-4-place Limits.longest-key-4
-    key-4-alike = setting-alike Layout.key-4-place Limits.longest-key-4 (omega arith) (v .key-4)
-
-    key-5-alike : (settingOf t Layout.key-5-place ≡ settingOf s Layout.key-5-place) × SettingValid t Layout.key-5-place Limits.longest-key-5
-    key-5-alike = setting-alike Layout.key-5-place Limits.longest-key-5 (omega arith) (v .key-5)
-
-    values-alike : settingsOf t ≡ settingsOf s
-    unfolding settingsOf
-    values-alike = rw (key-3-alike .0, key-4-alike .0, key-5-alike .0)
-
-    settings-alike : Layout.settings-length ≤ length t → validSettings t ≡ true
-    settings-alike h = valid-settings t (record { long = h; key-3 = key-3-alike .1; key-4 = key-4-alike .1; key-5 = key-5-alike .1 })
+  settings-alike : Layout.settings-length ≤ length t → validSettings t ≡ true
+  settings-alike h =
+      valid-settings t
+      (record {
+        long = h;
+        key-3 = setting-kept (same-within same (omega arith)) (v .key-3);
+        key-4 = setting-kept (same-within same (omega arith)) (v .key-4);
+        key-5 = setting-kept (same-within same (omega arith)) (v .key-5);
+      })
 
 -- ---- the registers
 
@@ -198,36 +191,14 @@ pub record EnoughOfAll (l : Lent) : Type 0 where
   pub registers : Layout.registers-length ≤ l .registers
 
 pub enough-of-all : (l : Lent) → enoughOfAll l ≡ true → EnoughOfAll l
-enough-of-all l e =
-    let a = and-eq-true-iff _ _ .0 e in
-    let b = and-eq-true-iff _ _ .0 (a .1) in
-    let c = and-eq-true-iff _ _ .0 (b .1) in
-    let d = and-eq-true-iff _ _ .0 (c .1) in
-    record {
-      reader = leb-true _ _ (a .0);
-      outbox = leb-true _ _ (b .0);
-      factory = leb-true _ _ (c .0);
-      settings = leb-true _ _ (d .0);
-      registers = leb-true _ _ (d .1);
-    }
+enough-of-all l e = omega (arith, all-long (l .reader) (l .outbox) (l .factory) (l .settings) (l .registers) e)
 
 pub all-enough : (l : Lent) → EnoughOfAll l → enoughOfAll l ≡ true
 all-enough l e = rw (le-leb _ _ (e .reader), le-leb _ _ (e .outbox), le-leb _ _ (e .factory), le-leb _ _ (e .settings), le-leb _ _ (e .registers))
 
 -- valid parts have room for a start
 pub valid-room : {p : Parts} → Valid p → Calls.roomy p ≡ true
-unfolding Calls.roomy
-valid-room {p} v =
-    let r = valid-roomy v in
-    all-enough
-    (record {
-      reader = length (p .reader);
-      outbox = length (p .outbox);
-      factory = length (p .factory);
-      settings = length (p .settings);
-      registers = length (p .registers);
-    })
-    (omega arith)
+valid-room {p} v = is-roomy p (valid-roomy v)
 
 -- so many bytes are there where so many are lent, and no more than are lent
 lent-long : (n m : ℕ) (s : List ℕ) → n ≤ m → n ≤ length s → n ≤ length (take m s)

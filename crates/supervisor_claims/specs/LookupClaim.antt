@@ -7,13 +7,10 @@ use mathlib.Core.Option.{Option, some}
 use Prim.Native.Nat.{ℕ, _+_, _≤_}
 use native.Mathlib.Omega.{arith}
 use lib.Dec.{ltb, eqb}
-use lib.ListN.{length, drop}
-use lib.Seq.{drop-drop, take-add}
-use Rattle.octets.specs.Bytes.{Byte, Each, bytes, run, numberAt}
+use lib.ListN.{length}
+use Rattle.octets.specs.Bytes.{Byte, Each, bytes, run}
 use Rattle.octets.proofs.Conditions.{cond-both}
-use Rattle.octets.proofs.Each.{each-take, each-drop}
-use Rattle.octets.proofs.Numbers.{bytes-number}
-use Rattle.octets.proofs.Overlay.{length-run}
+use Rattle.octets.proofs.Overlay.{length-run, number-run, run-add}
 use Rattle.supervisor.specs.Limits
 use Rattle.supervisor.specs.Layout
 use Rattle.supervisor.specs.Local
@@ -46,14 +43,6 @@ choose true a = (refl, refl)
 choose false a = a
 
 -- ---- key 2: the count of the items, then the version 0
-
-pub number-run : (k at : ℕ) (f : List ℕ) → at + k ≤ length f → Each Byte f → bytes k (numberAt k f at) ≡ run at k f
-number-run k at f h b =
-    let e = bytes-number (run at k f) (each-take Byte k (drop at f) (each-drop Byte at f b)) in
-    rw (length-run at k f h) at e
-
-pub run-add : (at j k : ℕ) (s : List ℕ) → run at (j + k) s ≡ run at j s ++ run (at + j) k s
-run-add at j k s = take-add j k (drop at s) ∙ rw drop-drop
 
 inventory-run : (f : List ℕ) → FactoryValid f → Each Byte f
     → run Layout.item-count-place 8 f ≡ bytes 4 (length (listed (itemAt f) (Layout.itemCount f))) ++ bytes 4 0

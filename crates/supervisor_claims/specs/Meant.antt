@@ -7,7 +7,7 @@ use mathlib.Core.Option.{Option, none, some}
 use Prim.Native.Nat.{ℕ}
 use lib.ListN.{length}
 use Rattle.line.specs.Reader as LineReader
-use Rattle.supervisor.specs.State.{Recorded, State}
+use Rattle.supervisor.specs.State.{Recorded}
 use Rattle.supervisor.specs.Local
 use Rattle.supervisor.specs.Valid.{validOutbox, validFactory, validSettings, validRegisters}
 use Rattle.supervisor.specs.Calls
@@ -22,7 +22,10 @@ pub record Valid (p : Calls.Parts) : Type 0 where
   pub settings : validSettings (p .settings) ≡ true
   pub registers : validRegisters (p .registers) ≡ true
 
--- the parts with another outbox, or with other registers
+-- the parts with another reader, another outbox, or with other registers
+abbrev pub withReader : Calls.Parts → List ℕ → Calls.Parts
+withReader p r = record { reader = r; outbox = p .outbox; factory = p .factory; settings = p .settings; registers = p .registers }
+
 abbrev pub withOutbox : Calls.Parts → List ℕ → Calls.Parts
 withOutbox p o = record { reader = p .reader; outbox = o; factory = p .factory; settings = p .settings; registers = p .registers }
 

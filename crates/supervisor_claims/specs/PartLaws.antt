@@ -4,9 +4,9 @@ use mathlib.Core.Path.{_≡_, refl, _∙_}
 use mathlib.Core.List.{List, _++_}
 use Prim.Native.Nat.{ℕ, _+_, _≤_}
 use native.Mathlib.Omega.{arith}
-use lib.ListN.{length, drop}
-use Rattle.octets.specs.Bytes.{Byte, Each, bytes, run, overlay}
-use Rattle.octets.proofs.Each.{each-append, each-take, each-drop}
+use lib.ListN.{length}
+use Rattle.octets.specs.Bytes.{Byte, Each, bytes, overlay}
+use Rattle.octets.proofs.Each.{each-append}
 use Rattle.octets.proofs.Numbers.{length-bytes, bytes-each}
 use Rattle.octets.proofs.Overlay.{length-overlay, overlay-each}
 
@@ -29,6 +29,3 @@ like-stored k at v s h = like-put at (bytes k v) s (omega (arith, length-bytes k
 -- a number, and bytes behind it
 pub each-number : (k v : ℕ) (xs : List ℕ) → Each Byte xs → Each Byte (bytes k v ++ xs)
 each-number k v xs e = each-append Byte (bytes k v) xs (bytes-each k v) e
-
-pub each-run : (at n : ℕ) (s : List ℕ) → Each Byte s → Each Byte (run at n s)
-each-run at n s e = each-take Byte n (drop at s) (each-drop Byte at s e)

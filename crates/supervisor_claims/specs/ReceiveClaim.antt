@@ -1,40 +1,39 @@
--- One received byte on sound parts: it leaves what document 01 says of it, and sound parts.
+-- Received bytes on sound parts, one and many: they leave what document 01 says of them, and sound parts.
 -- Assumes nothing.
 use mathlib.Core.Path.{_≡_, refl, sym, ap, _∙_}
 use mathlib.Core.Bool.{Bool, true, false, cond, not, _||_}
-use mathlib.Core.List.{List, [], _∷_, _++_}
+use mathlib.Core.List.{List, [], _∷_}
 use mathlib.Core.Option.{Option, none, some}
 use Prim.Native.Nat.{ℕ, _+_, _^_, _≤_, _<_}
 use native.Mathlib.Omega.{arith}
 use lib.Dec.{leb, ltb, eqb}
 use lib.ListN.{length, drop}
-use borrow.Author.Tests.{eqb-true, eqb-false}
+use borrow.Author.Tests.{eqb-true}
 use Rattle.octets.specs.Bytes.{Each, Byte, bytes, numberAt}
 use Rattle.octets.proofs.Conditions.{cond-by, cond-both}
-use Rattle.octets.proofs.Each.{each-drop}
-use Rattle.line.specs.Limits.{longest-data, longest-form}
+use Rattle.octets.proofs.Each.{each-drop, each-run}
+use Rattle.octets.proofs.Numbers.{one-byte, number-small}
+use Rattle.line.specs.Limits.{longest-form}
 use Rattle.line.specs.Checksum.{checksum}
 use Rattle.line.specs.Message.{magic, Message}
 use Rattle.line.specs.Judge.{Verdict, failure, good, bodyOf, checksumOf, magicOf, wrongLength, judge, judgeForm, judgeLength, judgeFields}
 use Rattle.line.specs.Reader as LineReader
-use Rattle.supervisor.specs.Limits
 use Rattle.supervisor.specs.Layout
 use Rattle.supervisor.specs.Number.{topSet}
 use Rattle.supervisor.specs.State.{State}
 use Rattle.supervisor.specs.Calls.{Parts}
-use Rattle.supervisor.proofs.AlertLaws.{one-byte}
 use Rattle.supervisor.proofs.ValidLaws.{settings-valid}
 use Rattle.requests.specs.Requests
 use Rattle.requests.specs.Receive
-use Rattle.requests.proofs.KeptLaws.{carried-valid, alert-data-short, inner-valid, valid-inner, box-valid}
+use Rattle.requests.proofs.KeptLaws.{carried-valid, alert-data-short, inner-valid, valid-inner, sent-long, sent-owing, box-valid}
 use Rattle.supervisor_claims.specs.View.{receivedOf, view}
-use Rattle.supervisor_claims.specs.Meant.{Valid, withOutbox}
 use Rattle.requests.specs.Requests.{verdictSince}
-use Rattle.supervisor_claims.specs.Sound.{Bytes, Sound, Lengths, lengths-same, lengths-then, Leaves, Feeds}
+use Rattle.supervisor_claims.specs.Meant.{withReader, withOutbox}
+use Rattle.supervisor_claims.specs.Sound.{Sound, lengths-same, lengths-then, Leaves}
 use Rattle.supervisor_claims.specs.SettingLaws.{storing-stored}
 use Rattle.supervisor_claims.specs.TakenLaws.{alert-asked, alert-reply}
-use Rattle.supervisor_claims.specs.ChangesClaim.{changing, withStores, Changed, changed-carried, number-small}
-use Rattle.supervisor_claims.specs.SendingClaim.{Sendable, run-each, reply-sendable, sent-long, sent-owing, sent-pending, sent-bytes}
+use Rattle.supervisor_claims.specs.ChangesClaim.{changing, withStores, Changed, changed-carried}
+use Rattle.supervisor_claims.specs.SendingClaim.{Sendable, reply-sendable, sent-pending, sent-bytes}
 use Rattle.supervisor_claims.specs.AnswersClaim.{Asks, SendableReply, Answers, asked-carried}
 use Rattle.supervisor_claims.specs.ReceivedClaim.{Requestable, ReaderKept, pushed-received, pushed-kept, finished-received, finished-kept, finished-verdict, finished-typed}
 
@@ -150,7 +149,7 @@ module _ (image : List ℕ) (each : Each Byte image) (p : Parts) (s : Sound p) (
       let like = alert-asked p (s .valid) (m .sequence) below .like in
       rw (alert-reply p (s .valid) (m .sequence) below (s .bytes .registers)) (
         omega (arith, alert-data-short (p .registers) (m .sequence) (s .valid .registers)),
-        run-each (Layout.retained-alert-place + Layout.alert-action-place) (1 + Layout.alertTextLength r Layout.retained-alert-place) r (like .bytes (s .bytes .registers)),
+        each-run (Layout.retained-alert-place + Layout.alert-action-place) (1 + Layout.alertTextLength r Layout.retained-alert-place) r (like .bytes (s .bytes .registers)),
       )
 
   key-set-sendable : Sends (Requests.keySet (view p) (m .payload))
@@ -188,7 +187,8 @@ module _ (image : List ℕ) (each : Each Byte image) (p : Parts) (s : Sound p) (
 
   -- a command that only asks leaves the outbox alone changed
   only-asked : Asks (m .command)
-      → Carried image p m ≡ Receive.inner (Receive.sentBox (Receive.askedBytes image (p .factory) (p .settings) (p .registers) (topSet (m .sequence)) (m .command) (m .payload)) (p .outbox)) (p .settings) (p .registers)
+      → let bs = Receive.askedBytes image (p .factory) (p .settings) (p .registers) (topSet (m .sequence)) (m .command) (m .payload) in
+      Carried image p m ≡ Receive.inner (Receive.sentBox bs (p .outbox)) (p .settings) (p .registers)
   unfolding Receive.carriedInner
   only-asked a = rw (a .reboot, a .power-off, a .boot-failure, a .key-set, a .alert, a .panic, a .start)
 
@@ -272,9 +272,9 @@ verdict-small form = where-small _ (fails (ltb longest-form (length form)) 1 _ _
 progress-same : (s : State) (r : Option (List ℕ)) → s .received ≡ r → Requests.receiving s r ≡ s
 progress-same s r e = ap (Requests.receiving s) (sym e)
 
-module _ (image : List ℕ) (each : Each Byte image) (p : Parts) (s : Sound p) where
-  -- the parts with another reader
-  reader-leaves : (t : List ℕ) → ReaderKept (p .reader) t → Leaves p (Receive.partsWith p t (Receive.innerOf p)) (Requests.receiving (view p) (receivedOf t))
+module _ (p : Parts) (s : Sound p) where
+  -- another state of the reader
+  pub reader-leaves : (t : List ℕ) → ReaderKept (p .reader) t → Leaves p (withReader p t) (Requests.receiving (view p) (receivedOf t))
   unfolding view
   reader-leaves t k = (
     refl,
@@ -291,6 +291,7 @@ module _ (image : List ℕ) (each : Each Byte image) (p : Parts) (s : Sound p) w
     record { reader = k .long; outbox = refl; factory = refl; settings = refl; registers = refl },
   )
 
+module _ (image : List ℕ) (each : Each Byte image) (p : Parts) (s : Sound p) where
   abbrev ended : List ℕ
   ended = LineReader.finish (p .reader) .state
 
@@ -302,7 +303,7 @@ module _ (image : List ℕ) (each : Each Byte image) (p : Parts) (s : Sound p) w
   frame-leaves : (v : Verdict) → Judgeable v
       → Leaves p (Receive.partsWith p ended (Receive.innerBy image (p .factory) (Receive.innerOf p) v)) (Requests.judged image (Requests.receiving (view p) (some [])) v)
   frame-leaves v j =
-      let a = rw (finished-received (p .reader) (s .valid .reader)) at (reader-leaves ended (finished-kept (p .reader) (s .valid .reader))) in
+      let a = rw (finished-received (p .reader) (s .valid .reader)) at (reader-leaves p s ended (finished-kept (p .reader) (s .valid .reader))) in
       let b = judged-leaves image each _ (a .1) v j in
       (b .0 ∙ ap (λ x. Requests.judged image x v) (a .0), b .1, lengths-then (a .2) (b .2))
 
@@ -316,7 +317,7 @@ module _ (image : List ℕ) (each : Each Byte image) (p : Parts) (s : Sound p) w
   unfolding Receive.innerAfter Requests.closed
   closed-leaves none e = frame-leaves (failure 1 none) (omega arith)
   closed-leaves (some []) e =
-      let a = rw (finished-received (p .reader) (s .valid .reader)) at (reader-leaves ended (finished-kept (p .reader) (s .valid .reader))) in
+      let a = rw (finished-received (p .reader) (s .valid .reader)) at (reader-leaves p s ended (finished-kept (p .reader) (s .valid .reader))) in
       (a .0 ∙ progress-same (view p) (some []) (received-view ∙ e), a .1, a .2)
   closed-leaves (some (b ∷ bs)) e = frame-leaves _ (judgeable _ (rw e) (verdict-small (b ∷ bs)))
 
@@ -328,11 +329,23 @@ module _ (image : List ℕ) (each : Each Byte image) (p : Parts) (s : Sound p) w
   pushed-leaves : (b : ℕ) → b < 256
       → Leaves p (Receive.partsWith p (LineReader.pushed (p .reader) b) (Receive.innerOf p)) (Requests.receiving (view p) (Requests.more (view p .received) b))
   pushed-leaves b small =
-      let a = reader-leaves (LineReader.pushed (p .reader) b) (pushed-kept (p .reader) b (s .valid .reader) small) in
+      let a = reader-leaves p s (LineReader.pushed (p .reader) b) (pushed-kept (p .reader) b (s .valid .reader) small) in
       let more = pushed-received (p .reader) b (s .valid .reader) ∙ ap (λ r. Requests.more r b) (sym received-view) in
       (a .0 ∙ ap (Requests.receiving (view p)) more, a .1, a .2)
 
-pub feed-leaves : Feeds
+pub feed-leaves : (image : List ℕ) (p : Parts) (b : ℕ) → Each Byte image → Sound p → b < 256
+    → Leaves p (Receive.feed image p b) (Requests.byte image (view p) b)
 unfolding Receive.feed Requests.byte
 feed-leaves image p b each s small =
     cond-both (λ q t. Leaves p q t) (eqb b 0) (λ _. zero-leaves image each p s) (λ _. pushed-leaves image each p s b small)
+
+-- ---- Many
+
+pub fed-leaves : (image : List ℕ) (p : Parts) (bs : List ℕ) → Each Byte image → Sound p → Each Byte bs
+    → Leaves p (Receive.fed image p bs) (Requests.stream image (view p) bs)
+unfolding Receive.fed Requests.stream
+fed-leaves image p [] i s h = (refl, s, lengths-same)
+fed-leaves image p (b ∷ bs) i s h =
+    let f = feed-leaves image p b i s (h .0) in
+    let g = fed-leaves image (Receive.feed image p b) bs i (f .1) (h .1) in
+    (g .0 ∙ ap (λ x. Requests.stream image x bs) (f .0), g .1, lengths-then (f .2) (g .2))

@@ -330,6 +330,13 @@ finished-kept s v =
     let p = finish-leaves s (r .0) in
     record { valid = ready-valid (LineReader.finish s .state) (omega arith, omega arith); long = p .0; bytes = finished-each s }
 
+-- a start of the reader
+pub started-kept : (s : List ℕ) → LineReader.state-length ≤ length s → ReaderKept s (LineReader.counted 0 s)
+started-kept s h =
+    let l = length-counted 0 s (omega arith) in
+    let c = count-counted 0 s (omega arith) (omega arith) in
+    record { valid = ready-valid (LineReader.counted 0 s) (omega arith, omega arith); long = l; bytes = counted-each 0 s }
+
 -- the request that a 00 brings, where the state holds bytes
 pub finished-typed : (s : List ℕ) (m : Message) → Each Byte s → verdictSince (receivedOf s) ≡ some (good m) → Requestable m
 unfolding receivedOf

@@ -1,76 +1,39 @@
 -- The registers after a flag or a record was set, or the start acknowledged, and the view of them.
 -- Assumes nothing.
-use mathlib.Core.Path.{_≡_, ap, _∙_}
+use mathlib.Core.Path.{_≡_, _∙_}
 use mathlib.Core.Bool.{Bool, true}
-use mathlib.Core.List.{List, [], _∷_, _++_}
+use mathlib.Core.List.{List, [], _∷_}
 use mathlib.Core.Option.{Option, some}
-use Prim.Native.Nat.{ℕ, _+_, _-_, _^_, _≤_, _<_, min}
-use native.Mathlib.Nat.{add-zero}
+use Prim.Native.Nat.{ℕ, _+_, _-_, _≤_, _<_, min}
 use native.Mathlib.Omega.{arith}
 use lib.Dec.{eqb}
 use lib.ListN.{length, take, length-take}
-use lib.Seq.{take-length}
 use Rattle.octets.specs.Bytes.{Byte, Each, number, numberAt, bytes, overlay}
-use Rattle.octets.proofs.Conditions.{cond-by}
 use Rattle.octets.proofs.Each.{each-take}
-use Rattle.octets.proofs.Numbers.{number-bytes}
-use Rattle.octets.proofs.Overlay.{overlay-inside, overlay-part}
+use Rattle.octets.proofs.Overlay.{overlay-inside}
 use Rattle.octets.proofs.SameBytes.{Same, same-before, same-after, same-within, number-same, stored-long, stored-number, stored-after}
 use Rattle.supervisor.specs.Limits
 use Rattle.supervisor.specs.Layout
 use Rattle.supervisor.specs.State.{Recorded, State, state}
-use Rattle.supervisor.specs.Local
 use Rattle.supervisor.specs.Calls
 use Rattle.supervisor.proofs.ValidLaws.{RegistersValid}
 use Rattle.requests.specs.Requests
 use Rattle.requests.specs.Receive
+use Rattle.requests.proofs.KeptLaws.{entry, length-entry, recorded-before, recorded-after, recorded-held, recorded-code, recorded-whole, recorded-rest, clear-small}
 use Rattle.supervisor.proofs.KeptRegisters.{Kept}
 use Rattle.supervisor_claims.specs.View.{recordedOf, view}
 use Rattle.supervisor_claims.specs.Meant.{withRegisters}
 use Rattle.supervisor_claims.specs.PartLaws.{Like, like-put, like-stored, each-number}
 use Rattle.supervisor_claims.specs.RegisterLaws.{recorded-same, retained-same, alerts-same, kept-view}
 
--- ---- a record's bytes: that there is one, its code, the length of its rest, the rest's first bytes
+-- ---- the view of a record that was put
 
-abbrev recordBytes : ℕ → List ℕ → List ℕ
-recordBytes code rest = bytes 1 1 ++ (bytes 2 code ++ (bytes 2 (length rest) ++ take Limits.most-kept rest))
-
-length-record : (code : ℕ) (rest : List ℕ) → length (recordBytes code rest) ≡ Layout.record-kept-place + min Limits.most-kept (length rest)
-unfolding bytes
-length-record code rest = omega (arith, length-take Limits.most-kept rest)
-
-module _ (r : List ℕ) (at code : ℕ) (rest : List ℕ) (room : at ≤ length r) where
-  put-held : Layout.recordHeld (Receive.withRecord r at code rest) at ≡ 1
-  unfolding Receive.withRecord bytes
-  put-held = ap number (rw add-zero at (overlay-part at 0 1 (recordBytes code rest) r room (omega arith))) ∙ number-bytes 1 1 (omega arith)
-
-  put-code : code < 65536 → Layout.recordCode (Receive.withRecord r at code rest) at ≡ code
-  unfolding Receive.withRecord bytes
-  put-code h = ap number (overlay-part at 1 2 (recordBytes code rest) r room (omega arith)) ∙ number-bytes 2 code (omega arith)
-
-  put-whole : length rest < 65536 → Layout.recordWhole (Receive.withRecord r at code rest) at ≡ length rest
-  unfolding Receive.withRecord bytes
-  put-whole h = ap number (overlay-part at 3 2 (recordBytes code rest) r room (omega arith)) ∙ number-bytes 2 (length rest) (omega arith)
-
-  put-record : code < 65536 → length rest < 65536 → recordedOf (Receive.withRecord r at code rest) at ≡ some (Requests.recorded code rest)
-  unfolding Receive.withRecord bytes recordedOf Requests.recorded
-  put-record h l =
-      let kept = take Limits.most-kept rest in
-      let n : min (length rest) Limits.most-kept ≡ length kept = omega (arith, length-take Limits.most-kept rest) in
-      rw (
-        put-held,
-        put-code h,
-        put-whole l,
-        n,
-        overlay-part at 5 (length kept) (recordBytes code rest) r room (omega arith),
-        take-length,
-      )
-
--- ---- a bit cleared
-
-pub clear-small : (n k : ℕ) → Requests.clearBit n k ≤ n
-unfolding Requests.clearBit
-clear-small n k = cond-by (λ m. m ≤ n) (eqb (Local.bit n k) 1) (n - 2 ^ k) n (λ e. omega arith) (λ e. omega arith)
+put-record : (r : List ℕ) (at code : ℕ) (rest : List ℕ) → at + Layout.record-length ≤ length r → code < 65536 → length rest < 65536
+    → recordedOf (Receive.withRecord r at code rest) at ≡ some (Requests.recorded code rest)
+unfolding recordedOf Requests.recorded
+put-record r at code rest room h l =
+    let n : min (length rest) Limits.most-kept ≡ length (take Limits.most-kept rest) = omega (arith, length-take Limits.most-kept rest) in
+    rw (recorded-held r at code rest room, recorded-code r at code rest room h, recorded-whole r at code rest room l, n, recorded-rest r at code rest room)
 
 -- ---- the view of registers that have other flags or records
 
@@ -151,18 +114,16 @@ module _ (p : Calls.Parts) (w : RegistersValid (p .registers)) where
     telling = Receive.withRecord (p .registers) at code rest
 
     record-before : Same Layout.status-place at (p .registers) telling
-    unfolding Receive.withRecord
-    record-before = before at (recordBytes code rest) (omega (arith, length-record code rest))
+    record-before = recorded-before (p .registers) at code rest (omega arith) (omega arith)
 
     record-after : Same (at + Layout.record-length) Layout.registers-length (p .registers) telling
-    unfolding Receive.withRecord
-    record-after = let n = length-record code rest in same-within (after at (recordBytes code rest) (omega arith)) (omega arith)
+    record-after = recorded-after (p .registers) at code rest (omega arith) (omega arith)
 
     record-view : view (withRegisters p telling)
         ≡ noted (view p) (view p .reboot-asked) (view p .power-off-asked) (recordedOf telling Layout.boot-failure-place) (recordedOf telling Layout.panic-place)
     unfolding view Receive.withRecord
     record-view =
-        put-view at (recordBytes code rest) (omega (arith, length-record code rest))
+        put-view at (entry code rest) (omega (arith, length-entry code rest))
         ∙ rw (
           number-same record-before 1 Layout.reboot-place (omega arith),
           number-same record-before 1 Layout.power-off-place (omega arith),
@@ -171,7 +132,7 @@ module _ (p : Calls.Parts) (w : RegistersValid (p .registers)) where
     pub record-like : Each Byte rest → Like (p .registers) telling
     unfolding Receive.withRecord
     record-like e =
-        like-put at (recordBytes code rest) (p .registers) (omega (arith, length-record code rest))
+        like-put at (entry code rest) (p .registers) (omega (arith, length-entry code rest))
         (λ _. each-number 1 1 _ (each-number 2 code _ (each-number 2 (length rest) _ (each-take Byte Limits.most-kept rest e))))
 
   module _ (code : ℕ) (rest : List ℕ) (small : code < 65536) (short : length rest < 65536) where

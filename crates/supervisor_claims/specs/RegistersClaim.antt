@@ -91,7 +91,7 @@ module _ (p : Calls.Parts) (v : Valid p) where
         registers-left v (kept-valid kept w (omega arith) (rw count (alerts-valid after n (omega arith) (w .rest .alerts)))),
       )
 
-  pub options-meant : (options : ℕ) → options < 18446744073709551616
+  pub options-meant : (options : ℕ) → options < 2 ^ 64
       → Does p (Calls.settingOptions (p .registers) options) (Local.setOptions (view p) options)
   unfolding Calls.settingOptions Local.setOptions
   options-meant options h =

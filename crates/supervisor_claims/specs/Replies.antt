@@ -1,47 +1,62 @@
--- A stream received byte by byte, everything taken after each byte: the bytes taken are the frames of the replies, in order.
+-- A stream received byte by byte, everything taken after each byte, in any rooms: the bytes taken are the frames of the replies, in order.
 -- Assumes nothing.
 use mathlib.Core.Path.{_≡_, refl, ap, _∙_}
 use mathlib.Core.Bool.{true}
 use mathlib.Core.List.{List, [], _∷_, _++_}
-use mathlib.Core.Option.{Option}
 use Prim.Native.Nat.{ℕ, _+_, _-_, _≤_, _<_}
 use native.Mathlib.Omega.{arith}
 use lib.Dec.{leb}
 use lib.ListN.{length, drop, length-take}
 use lib.ListN as ListN
-use borrow.Author.Tests.{le-leb}
-use Rattle.octets.specs.Bytes.{Each, Byte, overlay}
+use Rattle.octets.specs.Bytes.{Each, Byte}
 use Rattle.octets.proofs.Overlay.{overlay-inside}
 use Rattle.line_claims.specs.Pieces.{split, nonEmpty}
 use Rattle.supervisor.specs.Limits.{most-pending}
 use Rattle.supervisor.specs.Layout
-use Rattle.supervisor.specs.State.{State, fresh}
+use Rattle.supervisor.specs.State.{fresh}
 use Rattle.supervisor.specs.Local
 use Rattle.supervisor.specs.Valid.{validOutbox}
 use Rattle.supervisor.specs.Calls.{Parts}
 use Rattle.supervisor.proofs.ValidLaws.{outbox-valid}
-use Rattle.requests.specs.Receive.{Ended}
 use Rattle.requests.specs.Requests
 use Rattle.supervisor_claims.specs.View.{pendingOf, factoryOf, view}
 use Rattle.supervisor_claims.specs.Sound.{Bytes, Sound}
 use Rattle.supervisor_claims.specs.Histories
-use Rattle.supervisor_claims.specs.Histories.{Typed, enoughOfAll, Answer, refused, done, stepped, moved, found, asserted, asked, recorded, Lent, Made, enough, made, meant, meantMade, Told, told}
-use Rattle.supervisor_claims.specs.Locality.{enough-of-all}
+use Rattle.supervisor_claims.specs.Histories.{Typed, Answer, refused, done, stepped, moved, found, asserted, asked, recorded}
+use Rattle.supervisor_claims.specs.Histories.{enoughOfAll, Lent, Made, enough, made, meant, meantMade, Told, told}
 use Rattle.supervisor_claims.specs.CallClaims.{Meets}
 use Rattle.supervisor_claims.specs.TakenAll.{larger-room, allTaken, afterAll, turn, session, replies, replies-taken}
-use Rattle.supervisor_claims.specs.Demand2.{one-call}
-use Rattle.supervisor_claims.specs.History.{started}
+use Rattle.supervisor_claims.specs.History.{started, one-call}
 
--- each byte is received, and then what is pending is taken in a room
-abbrev received : Lent → List ℕ → ℕ → Made
-received l image b = record { lent = l; call = Histories.receive image (b ∷ []) }
+-- a turn: a byte is received, and then what is pending is taken in a room; each of the two calls is lent its own bytes of the parts
+pub record Turn : Type 0 where
+  pub byte : ℕ
+  pub receiving : Lent
+  pub taking : Lent
+  pub room : List ℕ
 
-abbrev takenIn : Lent → List ℕ → Made
-takenIn l room = record { lent = l; call = Histories.take room }
+-- each call is lent enough, and the room, which holds any bytes, has place for all that may be pending
+pub record Ample (t : Turn) : Type 0 where
+  pub byte : t .byte < 256
+  pub receiving : enoughOfAll (t .receiving) ≡ true
+  pub taking : leb Layout.outbox-length (t .taking .outbox) ≡ true
+  pub room : Each Byte (t .room)
+  pub long : most-pending ≤ length (t .room)
 
-unfoldable pub byteByByte : Lent → List ℕ → List ℕ → List ℕ → List Made
-byteByByte l image room [] = []
-byteByByte l image room (b ∷ bs) = received l image b ∷ (takenIn l room ∷ byteByByte l image room bs)
+abbrev received : List ℕ → Turn → Made
+received image t = record { lent = t .receiving; call = Histories.receive image (t .byte ∷ []) }
+
+abbrev takenIn : Turn → Made
+takenIn t = record { lent = t .taking; call = Histories.take (t .room) }
+
+unfoldable pub byteByByte : List ℕ → List Turn → List Made
+byteByByte image [] = []
+byteByByte image (t ∷ ts) = received image t ∷ (takenIn t ∷ byteByByte image ts)
+
+-- the stream that is received
+unfoldable pub streamOf : List Turn → List ℕ
+streamOf [] = []
+streamOf (t ∷ ts) = t .byte ∷ streamOf ts
 
 -- the bytes that a call moved
 abbrev movedBytes : Answer → List ℕ → List ℕ
@@ -69,43 +84,43 @@ view-pending-short : (p : Parts) → Sound p → length (view p .pending) ≤ mo
 unfolding view
 view-pending-short p s = pending-short (p .outbox) (s .valid .outbox)
 
--- calls that are lent enough, and a room for all that may be pending
-module _ (l : Lent) (all : enoughOfAll l ≡ true) (image room : List ℕ) (each : Each Byte image) (bytes : Each Byte room) (long : most-pending ≤ length room) where
-  outbox-enough : leb Layout.outbox-length (l .outbox) ≡ true
-  outbox-enough = le-leb _ _ (enough-of-all l all .outbox)
+module _ (image : List ℕ) (each : Each Byte image) where
+  module _ (p : Parts) (s : Sound p) (t : Turn) (a : Ample t) where
+    -- a byte is received
+    received-meant : Meets p (made p (received image t)) (Histories.means done [] (Requests.byte image (view p) (t .byte)))
+    unfolding meantMade enough meant Requests.stream
+    received-meant = rw (a .receiving) at (one-call p (received image t) s (each, (a .byte, tt)))
 
-  -- a byte is received
-  received-meant : (p : Parts) → Sound p → (b : ℕ) → b < 256 → Meets p (made p (received l image b)) (Histories.means done [] (Requests.byte image (view p) b))
-  unfolding meantMade enough meant Requests.stream
-  received-meant p s b small = rw all at (one-call p (received l image b) s (each, (small, tt)))
+    -- and all is taken
+    take-meant : let d = made p (takenIn t) in (movedBytes (d .answer) (d .out) ≡ allTaken (view p)) × (view (d .parts) ≡ afterAll (view p)) × Sound (d .parts)
+    unfolding meantMade enough meant
+    take-meant =
+        let room = t .room in
+        let c = rw (a .taking) at (one-call p (takenIn t) s (a .room)) in
+        let big = larger-room (view p) (length room) (omega (arith, view-pending-short p s, a .long)) in (
+          rw (c .answer, c .out) (overlay-inside 0 (Local.taken (view p) (length room)) room (omega arith)) ∙ big .0,
+          c .leaves .0 ∙ big .1,
+          c .leaves .1,
+        )
 
-  -- and all is taken
-  take-meant : (p : Parts) → Sound p → let d = made p (takenIn l room) in
-      (movedBytes (d .answer) (d .out) ≡ allTaken (view p)) × (view (d .parts) ≡ afterAll (view p)) × Sound (d .parts)
-  unfolding meantMade enough meant
-  take-meant p s =
-      let c = rw outbox-enough at (one-call p (takenIn l room) s bytes) in
-      let big = larger-room (view p) (length room) (omega (arith, view-pending-short p s)) in (
-        rw (c .answer, c .out) (overlay-inside 0 (Local.taken (view p) (length room)) room (omega arith)) ∙ big .0,
-        c .leaves .0 ∙ big .1,
-        c .leaves .1,
-      )
-
-  session-taken : (p : Parts) → Sound p → (bs : List ℕ) → Each Byte bs → takenBytes (told p (byteByByte l image room bs)) ≡ session image (view p) bs .taken
-  unfolding byteByByte told takenBytes session turn
+  session-taken : (p : Parts) → Sound p → (ts : List Turn) → Each Ample ts → takenBytes (told p (byteByByte image ts)) ≡ session image (view p) (streamOf ts) .taken
+  unfolding byteByByte streamOf told takenBytes session turn
   session-taken p s [] h = refl
-  session-taken p s (b ∷ bs) h =
-      let r = received-meant p s b (h .0) in
-      let q = made p (received l image b) .parts in
-      let t = take-meant q (r .leaves .1) in
-      let rest = session-taken (made q (takenIn l room) .parts) (t .2) bs (h .1) in
-      rw (r .answer, t .0, rest, t .1, r .leaves .0)
+  session-taken p s (t ∷ ts) h =
+      let r = received-meant p s t (h .0) in
+      let q = made p (received image t) .parts in
+      let k = take-meant q (r .leaves .1) t (h .0) in
+      let rest = session-taken (made q (takenIn t) .parts) (k .2) ts (h .1) in
+      rw (r .answer, k .0, rest, k .1, r .leaves .0)
 
   -- from a start on any bytes
-  pub replies-in-order : (p : Parts) → Bytes p → (k : Lent) (d : List ℕ) → Typed (Histories.start d) → made p (record { lent = k; call = Histories.start d }) .answer ≡ done
-      → (bs : List ℕ) → Each Byte bs
-      → takenBytes (told (made p (record { lent = k; call = Histories.start d }) .parts) (byteByByte l image room bs)) ≡ replies image (fresh (factoryOf d)) (nonEmpty (split bs .closed))
+  pub replies-in-order : (p : Parts) → Bytes p → (l : Lent) (d : List ℕ) → Typed (Histories.start d)
+      → made p (record { lent = l; call = Histories.start d }) .answer ≡ done → (ts : List Turn) → Each Ample ts
+      → let q = made p (record { lent = l; call = Histories.start d }) .parts in
+      takenBytes (told q (byteByByte image ts)) ≡ replies image (fresh (factoryOf d)) (nonEmpty (split (streamOf ts) .closed))
   unfolding fresh
-  replies-in-order p b k d typed h bs e =
-      let f = started p b k d typed h in
-      session-taken _ (f .1) bs e ∙ ap (λ s. session image s bs .taken) (f .0) ∙ replies-taken image (fresh (factoryOf d)) bs refl refl refl
+  replies-in-order p b l d typed h ts e =
+      let f = started p b l d typed h in
+      session-taken _ (f .1) ts e
+      ∙ ap (λ s. session image s (streamOf ts) .taken) (f .0)
+      ∙ replies-taken image (fresh (factoryOf d)) (streamOf ts) refl refl refl

@@ -1,55 +1,36 @@
 -- The settings store after a key set: what is stored, what stays, and the result, as the meaning has them.
 -- Assumes nothing.
-use mathlib.Core.Path.{_≡_, refl, ap, _∙_}
+use mathlib.Core.Path.{_≡_, refl}
 use mathlib.Core.Bool.{Bool, true, false, cond}
-use mathlib.Core.List.{List, _++_}
+use mathlib.Core.List.{List}
 use mathlib.Core.Option.{some}
 use Prim.Native.Nat.{ℕ, _+_, _≤_, _<_}
-use native.Mathlib.Nat.{add-zero}
 use native.Mathlib.Omega.{arith}
 use lib.Dec.{ltb, eqb}
 use lib.ListN.{length}
-use lib.Seq.{take-length}
 use borrow.Author.Tests.{ltb-false}
-use Rattle.octets.specs.Bytes.{Byte, Each, number, bytes}
+use Rattle.octets.specs.Bytes.{Byte, Each}
 use Rattle.octets.proofs.Conditions.{cond-both}
-use Rattle.octets.proofs.Numbers.{number-bytes}
-use Rattle.octets.proofs.Overlay.{overlay-part}
-use Rattle.octets.proofs.SameBytes.{Same, same-before, same-after, number-same}
+use Rattle.octets.proofs.SameBytes.{Same, number-same}
 use Rattle.supervisor.specs.Limits
 use Rattle.supervisor.specs.Layout
 use Rattle.supervisor.specs.State.{Settings}
 use Rattle.supervisor.proofs.ValidLaws.{SettingValid, SettingsValid}
 use Rattle.requests.specs.Requests
 use Rattle.requests.specs.Receive
+use Rattle.requests.proofs.KeptLaws.{settingBytes, length-setting, setting-before, setting-after, setting-held, setting-size, setting-value}
 use Rattle.supervisor_claims.specs.View.{settingOf, settingsOf}
 use Rattle.supervisor_claims.specs.PartLaws.{Like, like-itself, like-put, each-number}
 
--- ---- a value's bytes: that there is one, its length, the value
+-- ---- the view of a value that was put
 
-abbrev valueBytes : List ℕ → List ℕ
-valueBytes v = bytes 1 1 ++ (bytes 2 (length v) ++ v)
-
-length-value : (v : List ℕ) → length (valueBytes v) ≡ Layout.setting-value-place + length v
-unfolding bytes
-length-value v = omega arith
-
-module _ (s : List ℕ) (at : ℕ) (v : List ℕ) (room : at ≤ length s) (short : length v < 65536) where
-  put-held : Layout.settingHeld (Receive.withValue s at v) at ≡ 1
-  unfolding Receive.withValue bytes
-  put-held = ap number (rw add-zero at (overlay-part at 0 1 (valueBytes v) s room (omega arith))) ∙ number-bytes 1 1 (omega arith)
-
-  put-length : Layout.settingLength (Receive.withValue s at v) at ≡ length v
-  unfolding Receive.withValue bytes
-  put-length = ap number (overlay-part at 1 2 (valueBytes v) s room (omega arith)) ∙ number-bytes 2 (length v) (omega arith)
-
-  put-setting : settingOf (Receive.withValue s at v) at ≡ some v
-  unfolding Receive.withValue bytes settingOf
-  put-setting = rw (put-held, put-length, overlay-part at 3 (length v) (valueBytes v) s room (omega arith), take-length)
+put-setting : (s v : List ℕ) (at : ℕ) → at + (Layout.setting-value-place + length v) ≤ length s → length v < 65536 → settingOf (Receive.withValue s at v) at ≡ some v
+unfolding settingOf
+put-setting s v at room short = rw (setting-held s v at room, setting-size s v at room short, setting-value s v at room)
 
 -- ---- the other settings
 
-setting-same : {from to : ℕ} {s t : List ℕ} → Same from to s t → (at most : ℕ) → SettingValid s at most
+pub setting-same : {from to : ℕ} {s t : List ℕ} → Same from to s t → (at most : ℕ) → SettingValid s at most
     → (from ≤ at) × (at + Layout.setting-value-place + most ≤ to) → settingOf t at ≡ settingOf s at
 unfolding settingOf
 setting-same {s} same at most v h =
@@ -59,16 +40,12 @@ setting-same {s} same at most v h =
       same .runs (at + Layout.setting-value-place) (Layout.settingLength s at) (omega arith),
     )
 
-module _ (s : List ℕ) (at : ℕ) (v : List ℕ) (room : at ≤ length s) {bt most : ℕ} (valid : SettingValid s bt most) where
+module _ (s v : List ℕ) (at : ℕ) (room : at + (Layout.setting-value-place + length v) ≤ length s) {bt most : ℕ} (valid : SettingValid s bt most) where
   before-value : bt + Layout.setting-value-place + most ≤ at → settingOf (Receive.withValue s at v) bt ≡ settingOf s bt
-  unfolding Receive.withValue
-  before-value h = setting-same (same-before {from = bt} at (valueBytes v) s room h) bt most valid (omega arith)
+  before-value h = setting-same (setting-before s v at room {from = bt} h) bt most valid (omega arith)
 
-  after-value : at + Layout.setting-value-place + length v ≤ bt → settingOf (Receive.withValue s at v) bt ≡ settingOf s bt
-  unfolding Receive.withValue
-  after-value h =
-      setting-same (same-after {from = bt} {to = bt + Layout.setting-value-place + most} at (valueBytes v) s room (omega (arith, length-value v))) bt most valid
-      (omega arith)
+  after-value : at + (Layout.setting-value-place + length v) ≤ bt → settingOf (Receive.withValue s at v) bt ≡ settingOf s bt
+  after-value h = setting-same (setting-after s v at room {to = bt + Layout.setting-value-place + most} h) bt most valid (omega arith)
 
 -- ---- what a store does and answers is what the meaning has
 
@@ -98,7 +75,7 @@ module _ (s v : List ℕ) (w : SettingsValid s) (each : Each Byte v) where
         settings = e l;
         result = refl;
         small = omega arith;
-        like = like-put at (valueBytes v) s (omega (arith, length-value v)) (λ _. each-number 1 1 _ (each-number 2 (length v) v each));
+        like = like-put at (settingBytes v) s (omega (arith, length-setting v)) (λ _. each-number 1 1 _ (each-number 2 (length v) v each));
       })
 
   abbrev one : (t u : Bool) → Settings
@@ -119,23 +96,23 @@ module _ (s v : List ℕ) (w : SettingsValid s) (each : Each Byte v) where
   stored-one true u =
       stored-at Layout.key-3-place Limits.longest-key-3 (one true u) (omega arith) (λ l.
       rw (
-        put-setting s Layout.key-3-place v (omega arith) (omega arith),
-        after-value s Layout.key-3-place v (omega arith) (w .key-4) (omega arith),
-        after-value s Layout.key-3-place v (omega arith) (w .key-5) (omega arith),
+        put-setting s v Layout.key-3-place (omega arith) (omega arith),
+        after-value s v Layout.key-3-place (omega arith) (w .key-4) (omega arith),
+        after-value s v Layout.key-3-place (omega arith) (w .key-5) (omega arith),
       ))
   stored-one false true =
       stored-at Layout.key-4-place Limits.longest-key-4 (one false true) (omega arith) (λ l.
       rw (
-        before-value s Layout.key-4-place v (omega arith) (w .key-3) (omega arith),
-        put-setting s Layout.key-4-place v (omega arith) (omega arith),
-        after-value s Layout.key-4-place v (omega arith) (w .key-5) (omega arith),
+        before-value s v Layout.key-4-place (omega arith) (w .key-3) (omega arith),
+        put-setting s v Layout.key-4-place (omega arith) (omega arith),
+        after-value s v Layout.key-4-place (omega arith) (w .key-5) (omega arith),
       ))
   stored-one false false =
       stored-at Layout.key-5-place Limits.longest-key-5 (one false false) (omega arith) (λ l.
       rw (
-        before-value s Layout.key-5-place v (omega arith) (w .key-3) (omega arith),
-        before-value s Layout.key-5-place v (omega arith) (w .key-4) (omega arith),
-        put-setting s Layout.key-5-place v (omega arith) (omega arith),
+        before-value s v Layout.key-5-place (omega arith) (w .key-3) (omega arith),
+        before-value s v Layout.key-5-place (omega arith) (w .key-4) (omega arith),
+        put-setting s v Layout.key-5-place (omega arith) (omega arith),
       ))
 
   pub storing-stored : (key : ℕ) → Stores s (Receive.storing s key v) (Requests.stored (settingsOf s) key v)

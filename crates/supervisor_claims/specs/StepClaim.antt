@@ -1,5 +1,5 @@
 -- A call of step: how many bytes it reads, how the frame ends, and that the parts are left as those bytes leave them, one by one.
--- Assumes nothing: what the line reader makes of a byte are arguments of the law on the frame's end.
+-- Assumes nothing.
 use mathlib.Core.Path.{_≡_, refl, sym, ap, _∙_}
 use mathlib.Core.Bool.{true}
 use mathlib.Core.List.{List, [], _∷_}
@@ -16,7 +16,7 @@ use Rattle.supervisor.specs.Calls.{Parts}
 use Rattle.requests.specs.Requests
 use Rattle.requests.specs.Receive
 use Rattle.supervisor_claims.specs.View.{receivedOf}
-use Rattle.requests.specs.Requests.{verdictSince}
+use Rattle.supervisor_claims.specs.ReceivedClaim.{pushed-received, finished-verdict}
 use Rattle.supervisor_claims.specs.Histories.{upTo, endedMeant, frameEnds, stepped, stepAnswer}
 
 -- ---- the bytes read
@@ -78,24 +78,16 @@ ended-verdict reader LineReader.empty h = refl
 ended-verdict reader (LineReader.message version sequence command n) h = refl
 ended-verdict reader (LineReader.failed reason sequence) h = refl
 
--- what a byte that is not 00 does to the bytes received, and the verdict at a 00
-abbrev pub Pushes : Type 0
-Pushes = (s : List ℕ) (b : ℕ) → LineReader.valid s ≡ true → receivedOf (LineReader.pushed s b) ≡ Requests.more (receivedOf s) b
-
-abbrev pub Finishes : Type 0
-Finishes = (s : List ℕ) → LineReader.valid s ≡ true
-    → Receive.verdictOf (LineReader.finish s .state) (LineReader.finish s .answer) ≡ verdictSince (receivedOf s)
-
-pub step-ends : Pushes → Finishes → (piece s : List ℕ) → LineReader.valid s ≡ true → let o = LineReader.readPiece s piece in
+pub step-ends : (piece s : List ℕ) → LineReader.valid s ≡ true → let o = LineReader.readPiece s piece in
     Receive.ended (o .state) (o .answer) ≡ frameEnds (receivedOf s) piece
 unfolding LineReader.readPiece LineReader.next frameEnds Receive.ended
-step-ends pushes finishes [] s v = refl
-step-ends pushes finishes (zero ∷ bs) s v = ended-verdict _ _ (finish-ends s) ∙ ap endedMeant (finishes s v)
-step-ends pushes finishes (suc b ∷ bs) s v =
+step-ends [] s v = refl
+step-ends (zero ∷ bs) s v = ended-verdict _ _ (finish-ends s) ∙ ap endedMeant (finished-verdict s v)
+step-ends (suc b ∷ bs) s v =
     let r = valid-ready s v in
     let k = ready-pushed s (suc b) r in
     let w = ready-valid (LineReader.pushed s (suc b)) (omega arith, k .1) in
-    rw (eqb·suc-zero, ← pushes s (suc b) v) (step-ends pushes finishes bs (LineReader.pushed s (suc b)) w)
+    rw (eqb·suc-zero, ← pushed-received s (suc b) v) (step-ends bs (LineReader.pushed s (suc b)) w)
 
 -- ---- no refusal
 

@@ -2,36 +2,34 @@
 -- Assumes nothing.
 use mathlib.Core.Path.{_≡_, refl, ap, _∙_}
 use mathlib.Core.Bool.{Bool, true, false, cond, _&&_}
-use mathlib.Core.List.{List, [], _∷_, _++_}
+use mathlib.Core.List.{List, [], _∷_}
 use mathlib.Core.Option.{none, some}
-use Prim.Native.Nat.{ℕ, zero, suc, _+_, _-_, _*_, _^_, _≤_, _<_}
+use Prim.Native.Nat.{ℕ, zero, suc, _+_, _-_, _^_, _≤_, _<_}
 use native.Mathlib.Nat.{add-zero}
 use native.Mathlib.Omega.{arith}
 use lib.Dec.{leb, eqb}
-use lib.ListN.{length, take, drop, replicate}
-use lib.Seq.{take-take, drop-drop}
+use lib.ListN.{length, drop, replicate}
 use borrow.Author.Tests.{lt-leb, eq-eqb, ne-eqb}
 use Rattle.octets.specs.Bytes.{Byte, Each, number, numberAt, bytes, run, overlay}
 use Rattle.octets.proofs.Conditions.{cond-by, cond-both}
-use Rattle.octets.proofs.Numbers.{number-bytes}
-use Rattle.octets.proofs.Overlay.{length-run, overlay-part}
-use Rattle.octets.proofs.SameBytes.{Same, same-first, same-before, same-after, same-then, same-within, number-same, stored-number, stored-before, stored-after}
+use Rattle.octets.proofs.Overlay.{length-run, number-run, run-add, run-run}
+use Rattle.octets.proofs.SameBytes.{Same, same-then, same-within, number-same, stored-number, stored-before, stored-after}
+use Rattle.octets.proofs.Each.{each-run}
 use Rattle.supervisor.specs.Limits
 use Rattle.supervisor.specs.Layout
 use Rattle.supervisor.specs.State.{Alert}
 use Rattle.supervisor.specs.Valid.{validAlert}
 use Rattle.supervisor.specs.Calls
 use Rattle.supervisor.proofs.ValidLaws.{all-each, alert-valid, RegistersValid, registers-valid}
-use Rattle.requests.proofs.TakenLaws.{settled}
+use Rattle.requests.proofs.TakenLaws.{retainedBytes, length-retained, retaining-held, retaining-sequence, retaining-alert, settled}
+use Rattle.requests.proofs.KeptLaws.{taken-small, rest-length, length-rest, moved-before, moved-after, moved-run, retained-before}
 use Rattle.requests.specs.Requests
 use Rattle.requests.specs.Receive
 use Rattle.supervisor_claims.specs.View.{listed, alertOf, retainedOf, view}
 use Rattle.supervisor_claims.specs.Meant.{Valid, withRegisters}
 use Rattle.supervisor_claims.specs.ViewLaws.{length-listed, listed-same}
-use Rattle.supervisor_claims.specs.LookupClaim.{number-run, run-add}
-use Rattle.supervisor_claims.specs.PartLaws.{Like, like-itself, like-then, like-put, like-stored, each-number, each-run}
+use Rattle.supervisor_claims.specs.PartLaws.{Like, like-itself, like-then, like-put, like-stored, each-number}
 use Rattle.supervisor_claims.specs.RegisterLaws.{alertsOf, recorded-same}
-use Rattle.supervisor_claims.specs.RecordLaws.{clear-small}
 
 -- ---- the first of some values, and the others
 
@@ -69,42 +67,6 @@ alert-moved {at} {r = r} moved h =
       moved .runs Layout.alert-text-place (Layout.alertTextLength r at) (omega arith),
     )
 
--- a run of a run
-run-run : (at size j n : ℕ) (s : List ℕ) → j + n ≤ size → run j n (run at size s) ≡ run (at + j) n s
-run-run at size j n s h =
-    same-first size (drop at s) (take size (drop at s)) (take-take size size (drop at s) (omega arith)) .runs j n (omega arith) ∙ rw drop-drop
-
--- ---- the retained reply's bytes: that there is one, its sequence, its alert
-
-abbrev retainedBytes : ℕ → List ℕ → List ℕ
-retainedBytes sequence zs = bytes 1 1 ++ (bytes 8 sequence ++ zs)
-
-length-retained : (sequence : ℕ) (zs : List ℕ) → length (retainedBytes sequence zs) ≡ 9 + length zs
-unfolding bytes
-length-retained sequence zs = omega arith
-
-module _ (r : List ℕ) (sequence : ℕ) (zs : List ℕ) (room : Layout.retained-place ≤ length r) where
-  abbrev retaining : List ℕ
-  retaining = overlay Layout.retained-place (retainedBytes sequence zs) r
-
-  put-held : numberAt 1 retaining Layout.retained-place ≡ 1
-  unfolding bytes
-  put-held =
-      ap number (rw add-zero at (overlay-part Layout.retained-place 0 1 (retainedBytes sequence zs) r room (omega arith)))
-      ∙ number-bytes 1 1 (omega arith)
-
-  put-sequence : sequence < 2 ^ 64 → numberAt 8 retaining Layout.retained-sequence-place ≡ sequence
-  unfolding bytes
-  put-sequence h =
-      ap number (overlay-part Layout.retained-place 1 8 (retainedBytes sequence zs) r room (omega arith)) ∙ number-bytes 8 sequence (omega arith)
-
-  put-alert : (j n : ℕ) → j + n ≤ length zs → run (Layout.retained-alert-place + j) n retaining ≡ run j n zs
-  unfolding bytes
-  put-alert j n h =
-      let e : Layout.retained-place + (9 + j) ≡ Layout.retained-alert-place + j = omega arith in
-      let part = overlay-part Layout.retained-place (9 + j) n (retainedBytes sequence zs) r room (omega (arith, length-retained sequence zs)) in
-      rw (e, ← drop-drop j 9 (retainedBytes sequence zs)) at part
-
 -- ---- the registers of an alert request that takes an alert, or none
 
 -- the bytes of the alert that is retained: the oldest one's, or action 0 and no text
@@ -139,19 +101,15 @@ module _ (r : List ℕ) (sequence : ℕ) (w : RegistersValid r) where
       like-put Layout.retained-place (retainedBytes sequence (firstBytes r)) r (omega (arith, first-long, length-retained sequence (firstBytes r)))
       (λ b. each-number 1 1 _ (each-number 8 sequence _ (first-bytes b)))
 
-  -- how many bytes move down
-  abbrev rest : ℕ
-  rest = (Limits.most-alerts - 1) * Layout.alert-length
-
-  rest-long : length (run (Layout.alert-place 1) rest (Receive.withRetained r sequence)) ≡ rest
-  rest-long = length-run (Layout.alert-place 1) rest (Receive.withRetained r sequence) (omega (arith, retained-like .long))
+  retained-long : Layout.registers-length ≤ length (Receive.withRetained r sequence)
+  retained-long = omega (arith, retained-like .long)
 
   moved-like : Like (Receive.withRetained r sequence) (Receive.movedAlerts (Receive.withRetained r sequence))
   unfolding Receive.movedAlerts
   moved-like =
       let s = Receive.withRetained r sequence in
-      like-put Layout.alerts-place (run (Layout.alert-place 1) rest s) s (omega (arith, rest-long, retained-like .long))
-      (each-run (Layout.alert-place 1) rest s)
+      like-put Layout.alerts-place (run (Layout.alert-place 1) rest-length s) s (omega (arith, length-rest s retained-long, retained-long))
+      (each-run (Layout.alert-place 1) rest-length s)
 
   counted-like : Like r (counted r sequence)
   counted-like =
@@ -164,20 +122,8 @@ module _ (r : List ℕ) (sequence : ℕ) (w : RegistersValid r) where
 
   -- ---- what stays
 
-  retained-before : Same Layout.status-place Layout.retained-place r (Receive.withRetained r sequence)
-  unfolding Receive.withRetained
-  retained-before = same-before Layout.retained-place _ r (omega arith) (omega arith)
-
-  moved-before : Same Layout.status-place Layout.alerts-place (Receive.withRetained r sequence) (Receive.movedAlerts (Receive.withRetained r sequence))
-  unfolding Receive.movedAlerts
-  moved-before = same-before Layout.alerts-place _ _ (omega (arith, retained-like .long)) (omega arith)
-
-  moved-after : Same Layout.retained-place Layout.registers-length (Receive.withRetained r sequence) (Receive.movedAlerts (Receive.withRetained r sequence))
-  unfolding Receive.movedAlerts
-  moved-after = same-after Layout.alerts-place _ _ (omega (arith, retained-like .long)) (omega (arith, rest-long))
-
   counted-room : Layout.registers-length ≤ length (Receive.movedAlerts (Receive.withRetained r sequence))
-  counted-room = omega (arith, retained-like .long, moved-like .long)
+  counted-room = omega (arith, retained-long, moved-like .long)
 
   -- the alerts and the retained reply
   counted-after : Same Layout.alerts-place Layout.registers-length (Receive.movedAlerts (Receive.withRetained r sequence)) (counted r sequence)
@@ -190,23 +136,22 @@ module _ (r : List ℕ) (sequence : ℕ) (w : RegistersValid r) where
   -- the options, the flags and the records
   front : Same Layout.options-place Layout.alert-count-place r (Receive.withTaken r sequence)
   front =
-      same-then (same-within retained-before (omega arith))
-      (same-then (same-within moved-before (omega arith))
+      same-then (retained-before r sequence (w .long) (omega arith))
+      (same-then (moved-before (Receive.withRetained r sequence) retained-long (omega arith))
       (same-then (stored-before 1 Layout.alert-count-place _ _ (omega (arith, counted-room)) (omega arith)) (same-within taken-after (omega arith))))
 
   slots : Same Layout.alerts-place Layout.registers-length (Receive.movedAlerts (Receive.withRetained r sequence)) (Receive.withTaken r sequence)
   slots = same-then counted-after (same-within taken-after (omega arith))
 
   kept : Same Layout.retained-place Layout.registers-length (Receive.withRetained r sequence) (Receive.withTaken r sequence)
-  kept = same-then moved-after (same-within slots (omega arith))
+  kept = same-then (moved-after (Receive.withRetained r sequence) retained-long (omega arith)) (same-within slots (omega arith))
 
   -- ---- the status and the count
 
   taken-status : Layout.statusOf (Receive.withTaken r sequence) ≡ statusThen r
   unfolding Receive.withTaken
   taken-status =
-      let small : statusThen r ≤ 3
-      = cond-by (λ n. n ≤ 3) (leb (Layout.alertCount r) 1) _ _ (λ e. omega (arith, clear-small (Layout.statusOf r) 1)) (λ e. omega arith) in
+      let small = taken-small (Layout.statusOf r) (Layout.alertCount r) (w .status) in
       stored-number 8 Layout.status-place (statusThen r) (counted r sequence) (omega (arith, counted-like .long)) (omega arith)
 
   taken-count : Layout.alertCount (Receive.withTaken r sequence) ≡ Layout.alertCount r - 1
@@ -220,19 +165,13 @@ module _ (r : List ℕ) (sequence : ℕ) (w : RegistersValid r) where
   valid-at i h = alert-valid r i (all-each (validAlert r) _ (w .rest .alerts) i h) .size
 
   moved-down : (i : ℕ) → i + 1 < Limits.most-alerts → Moved Layout.alert-length (Layout.alert-place (suc i)) (Layout.alert-place i) r (Receive.withTaken r sequence)
-  unfolding Receive.movedAlerts
   moved-down i h = record {
     runs = λ j n k.
-        let s = Receive.withRetained r sequence in
-        let d = i * Layout.alert-length + j in
-        let e : Layout.alerts-place + d ≡ Layout.alert-place i + j = omega arith in
-        let f : Layout.alert-place 1 + d ≡ Layout.alert-place (suc i) + j = omega arith in
-        let part = overlay-part Layout.alerts-place d n (run (Layout.alert-place 1) rest s) s (omega (arith, retained-like .long)) (omega (arith, rest-long)) in
-        let inside = run-run (Layout.alert-place 1) rest d n s (omega arith) in
+        let e : i + 1 ≡ suc i = omega arith in
+        let before : Same 0 Layout.retained-place r (Receive.withRetained r sequence) = retained-before r sequence (w .long) (omega arith) in
         slots .runs (Layout.alert-place i + j) n (omega arith)
-        ∙ rw e at part
-        ∙ rw f at inside
-        ∙ retained-before .runs (Layout.alert-place (suc i) + j) n (omega arith);
+        ∙ rw e at (moved-run (Receive.withRetained r sequence) retained-long i j n (omega arith) k)
+        ∙ before .runs (Layout.alert-place (suc i) + j) n (omega arith);
   }
 
   taken-waiting : alertsOf (Receive.withTaken r sequence) (Layout.alertCount r - 1) ≡ Requests.others (alertsOf r (Layout.alertCount r))
@@ -246,7 +185,7 @@ module _ (r : List ℕ) (sequence : ℕ) (w : RegistersValid r) where
   retained-run : (j n : ℕ) → j + n ≤ length (firstBytes r) → run (Layout.retained-alert-place + j) n (Receive.withTaken r sequence) ≡ run j n (firstBytes r)
   unfolding Receive.withRetained
   retained-run j n h =
-      kept .runs (Layout.retained-alert-place + j) n (omega (arith, first-long)) ∙ put-alert r sequence (firstBytes r) (omega arith) j n h
+      kept .runs (Layout.retained-alert-place + j) n (omega (arith, first-long)) ∙ retaining-alert r sequence (firstBytes r) (omega arith) j n h
 
   none-taken : Layout.alertCount r ≡ 0 → alertOf (Receive.withTaken r sequence) Layout.retained-alert-place ≡ Requests.oldest []
   unfolding alertOf number Requests.oldest
@@ -277,8 +216,8 @@ module _ (r : List ℕ) (sequence : ℕ) (w : RegistersValid r) where
   taken-retained h =
       let zs = firstBytes r in
       rw (
-        number-same kept 1 Layout.retained-place (omega arith) ∙ put-held r sequence zs (omega arith),
-        number-same kept 8 Layout.retained-sequence-place (omega arith) ∙ put-sequence r sequence zs (omega arith) h,
+        number-same kept 1 Layout.retained-place (omega arith) ∙ retaining-held r sequence zs (omega arith),
+        number-same kept 8 Layout.retained-sequence-place (omega arith) ∙ retaining-sequence r sequence zs (omega arith) h,
         oldest-taken (Layout.alertCount r) refl,
       )
 

@@ -1,14 +1,13 @@
 -- The view: document 01's state as the lent parts hold it.
 -- Assumes nothing: these are definitions.
-use mathlib.Core.Bool.{Bool, cond}
+use mathlib.Core.Bool.{cond}
 use mathlib.Core.List.{List, [], _∷_, _++_}
 use mathlib.Core.Option.{Option, none, some}
-use Prim.Native.Nat.{ℕ, zero, suc, _+_, _-_, min}
+use Prim.Native.Nat.{ℕ, zero, suc, _+_, _-_}
 use lib.Dec.{ltb, eqb}
 use Rattle.octets.specs.Bytes.{run, numberAt}
 use Rattle.line.specs.Limits as LineLimits
 use Rattle.line.specs.Reader as LineReader
-use Rattle.supervisor.specs.Limits
 use Rattle.supervisor.specs.Layout
 use Rattle.supervisor.specs.State.{Item, Factory, Settings, Recorded, Alert, Retained, State}
 use Rattle.supervisor.specs.Calls.{Parts, keptOf}

@@ -5,7 +5,7 @@ use denote.Ref.{now}
 use native.Mathlib.Omega.{arith}
 use lib.ListN.{length-set}
 use Rattle.octets.specs.Bytes.{bytes}
-use Rattle.octets.proofs.Overlay.{written-put, put-bytes-not}
+use Rattle.octets.proofs.Overlay.{pair-put, put-bytes-not}
 use Rattle.octets.proofs.write_u16.Statement.{statement}
 use Rattle.octets.proofs.write_u16.Tie as tie
 
@@ -13,7 +13,7 @@ returns-3 : tie.Need-returns-3
 unfolding bytes
 returns-3 c =
     let a = c .before .before .args in
-    written-put (bytes 2 (a .v)) (now (a .s)) (a .at) (search needs)
+    pair-put (a .at) _ _ (now (a .s)) (search needs)
 
 pub write-u16-spec : {M : Type 1} → statement M
 write-u16-spec =

@@ -5,8 +5,8 @@ use native.Mathlib.Omega.{arith}
 use denote.Ref.{now}
 use lib.ListN.{length}
 use borrow.Author.Needs.{needs}
+use Rattle.octets.proofs.Numbers.{one-byte}
 use Rattle.requests.specs.Receive.{valueBytes}
-use Rattle.supervisor.proofs.AlertLaws.{one-byte}
 use Rattle.supervisor.proofs.KeyLaws.{value-short}
 use Rattle.requests.proofs.answers.send_value.Statement.{statement}
 use Rattle.requests.proofs.answers.send_value.Tie as tie

@@ -31,7 +31,7 @@ turn-requires c κs = c .before .before .before .before .before .before .loop .i
 
 add-at : tie.Need-add-at Inv-loop μ-loop
 add-at c =
-    let called = c .before .before .before .before .before .before .before .before .before in
+    let called = c .before .before .before .before .before .before .before .before in
     let told = called .before .before .before .before .before .before in
     let u = turn-used (told .before .loop .inv) (told .loop-test .taken) (called .turn .ensures .0) in
     let start = told .before .before .before .before .before .before .before .before .before .before .before .before .before .before .before in
@@ -39,14 +39,14 @@ add-at c =
 
 loop-less : tie.Need-loop-less Inv-loop μ-loop
 loop-less c =
-    let called = c .before .before .before .before .before .before .before .before .before in
+    let called = c .before .before .before .before .before .before .before .before in
     let told = called .before .before .before .before .before .before in
     let u = turn-used (told .before .loop .inv) (told .loop-test .taken) (called .turn .ensures .0) in
     omega arith
 
 loop-again : tie.Need-loop-again Inv-loop μ-loop
 loop-again c =
-    let called = c .before .before .before .before .before .before .before .before .before in
+    let called = c .before .before .before .before .before .before .before .before in
     let told = called .before .before .before .before .before .before in
     went (told .before .loop .inv) (told .loop-test .taken) (called .turn .ensures .0) (called .turn .ensures .1) (search needs) (search needs) (search needs) (search needs)
 

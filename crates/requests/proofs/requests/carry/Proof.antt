@@ -25,13 +25,13 @@ abbrev lent : tie.Start → Inner
 lent c = inner (now (c .args .outbox)) (now (c .args .settings)) (now (c .args .registers))
 
 abbrev carriedBy : tie.Start → Inner
-carriedBy c = carriedInner (now (c .args .image)) (now (c .args .factory)) (lent c) (c .args .sequence) (c .args .command) (now (c .args .«data»))
+carriedBy c = carriedInner (now (c .args .image)) (now (c .args .factory)) (lent c) (c .args .number .0) (c .args .command) (now (c .args .«data»))
 
 both : (c : tie.After-byte-at) {j : Inner} → j ≡ carriedBy (c .before .before .before .before .before .before .before) → (j ≡ carriedBy (c .before .before .before .before .before .before .before)) × (validInner j ≡ true)
 both c =
     let start = c .before .before .before .before .before .before .before in
     let a = start .args in
-    carried-both (now (a .image)) (now (a .factory)) (lent start) (a .sequence) (a .command) (now (a .«data»))
+    carried-both (now (a .image)) (now (a .factory)) (lent start) (a .number .0) (a .command) (now (a .«data»))
     (start .pre .1 .0) (start .pre .1 .1 .0) (start .pre .1 .1 .1 .0) (c .byte-at .ensures)
 
 slice-write-registers : tie.Need-slice-write-registers

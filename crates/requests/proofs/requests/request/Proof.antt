@@ -26,30 +26,40 @@ by-fail c reason sequence =
     let a = c .args in
     judged-failure (now (a .image)) (now (a .factory)) (now (a .outbox)) (now (a .settings)) (now (a .registers)) reason sequence (c .pre .1 .1 .0)
 
+abbrev start : tie.After-reply-to → tie.Start
+start c = c .before .before .before .before .before .before .before
+
 returns : tie.Need-returns
 returns c =
     let told = c .before .before .before .before in
-    by-fail (told .before .before .before .before .before .before .before .before) 5 (some _) (other-version _ _ _ _ (told .if1 .taken)) (reply-number _ _ (told .before .reply-to .ensures)) (c .before .before .fail .ensures)
+    let numbered = told .before in
+    by-fail (start numbered) 5 (some _) (other-version _ _ _ _ (told .if1 .taken)) (reply-number _ _ (numbered .reply-to .ensures)) (c .before .before .fail .ensures)
 
 returns-2 : tie.Need-returns-2
 returns-2 c =
     let told = c .before .before .before .before in
-    by-fail (told .before .before .before .before .before .before .before .before .before) 6 (some _) (top-bit-set _ _ _ _ (told .before .if1 .left) (told .if2 .taken)) (reply-number _ _ (told .before .before .reply-to .ensures)) (c .before .before .fail2 .ensures)
+    let first = told .before .before in
+    by-fail (start (first .before)) 6 (some _) (top-bit-set _ _ _ _ (first .if1 .left) (told .if2 .taken)) (reply-number _ _ (first .before .reply-to .ensures)) (c .before .before .fail2 .ensures)
 
 returns-3 : tie.Need-returns-3
 returns-3 c =
     let told = c .before .before .before .before in
-    by-fail (told .before .before .before .before .before .before .before .before .before .before .before) 3 none (command-unknown _ _ _ _ (told .before .before .before .if1 .left) (told .before .before .if2 .left) (refused _ _ (told .before .is-known .ensures) (told .if3 .taken))) refl (c .before .before .fail3 .ensures)
+    let second = told .before .before in
+    let first = second .before .before in
+    by-fail (start (first .before)) 3 none (command-unknown _ _ _ _ (first .if1 .left) (second .if2 .left) (refused _ _ (told .before .is-known .ensures) (told .if3 .taken))) refl (c .before .before .fail3 .ensures)
 
 returns-4 : tie.Need-returns-4
 returns-4 c =
     let told = c .before .before .before .before in
-    by-fail (told .before .before .before .before .before .before .before .before .before .before .before .before .before) 7 (some _) (length-wrong _ _ _ _ (told .before .before .before .before .before .if1 .left) (told .before .before .before .before .if2 .left) (passed _ _ (told .before .before .before .is-known .ensures) (told .before .before .if3 .left)) (refused _ _ (told .before .length-is-allowed .ensures) (told .if4 .taken))) (reply-number _ _ (told .before .before .before .before .before .before .reply-to .ensures)) (c .before .before .fail4 .ensures)
+    let third = told .before .before in
+    let second = third .before .before in
+    let first = second .before .before in
+    by-fail (start (first .before)) 7 (some _) (length-wrong _ _ _ _ (first .if1 .left) (second .if2 .left) (passed _ _ (third .before .is-known .ensures) (third .if3 .left)) (refused _ _ (told .before .length-is-allowed .ensures) (told .if4 .taken))) (reply-number _ _ (first .before .reply-to .ensures)) (c .before .before .fail4 .ensures)
 
 carry-requires : tie.Need-carry-requires
 carry-requires c κs =
     let told = c .before .before .before in
-    let p = told .before .before .before .before .before .before .before .before .before .before .before .before .before .pre in
+    let p = start (told .before .before .before .before .before .before .before) .pre in
     (p .0, (p .1 .0, (p .1 .1 .0, (p .1 .1 .1, passed _ _ (told .before .length-is-allowed .ensures) (told .if4 .left)))))
 
 returns-5 : tie.Need-returns-5
@@ -57,9 +67,12 @@ unfolding endedSaid
 returns-5 c =
     let called = c .before .before .before .before .before .before in
     let told = called .before .before .before .before in
-    let a = told .before .before .before .before .before .before .before .before .before .before .before .before .before .args in
-    judged-good (now (a .image)) (now (a .factory)) (inner (now (a .outbox)) (now (a .settings)) (now (a .registers))) (a .version) (a .sequence) (a .command) (now (a .«data»))
-    (passed-all _ _ _ _ (told .before .before .before .before .before .if1 .left) (told .before .before .before .before .if2 .left) (passed _ _ (told .before .before .before .is-known .ensures) (told .before .before .if3 .left))
+    let third = told .before .before in
+    let second = third .before .before in
+    let first = second .before .before in
+    let a = start (first .before) .args in
+    judged-good (now (a .image)) (now (a .factory)) (inner (now (a .outbox)) (now (a .settings)) (now (a .registers))) (a .version) (a .number .0) (a .command) (now (a .«data»))
+    (passed-all _ _ _ _ (first .if1 .left) (second .if2 .left) (passed _ _ (third .before .is-known .ensures) (third .if3 .left))
     (passed _ _ (told .before .length-is-allowed .ensures) (told .if4 .left)))
     (called .carry .ensures)
 

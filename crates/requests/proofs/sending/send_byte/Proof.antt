@@ -2,7 +2,7 @@
 -- Assumes nothing.
 use native.Mathlib.Omega.{arith}
 use borrow.Author.Needs.{needs}
-use Rattle.supervisor.proofs.AlertLaws.{one-byte}
+use Rattle.octets.proofs.Numbers.{one-byte}
 use Rattle.requests.proofs.sending.send_byte.Statement.{statement}
 use Rattle.requests.proofs.sending.send_byte.Tie as tie
 

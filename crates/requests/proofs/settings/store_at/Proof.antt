@@ -1,6 +1,6 @@
 -- `requests::settings::store_at` meets its contract.
 -- Assumes nothing.
-use mathlib.Core.Path.{refl, _∙_}
+use mathlib.Core.Path.{_∙_}
 use borrow.Author.Needs.{needs}
 use lib.ListN.{length-set}
 use Rattle.requests.proofs.RecordLaws.{value-long, value-put}

@@ -1,0 +1,49 @@
+//! Defines the C functions as `include/oatcastle.h` declares them.
+//! Assumes that every pointer is to as many bytes or numbers as the length behind it says.
+
+extern "C" {
+    pub(crate) fn oatcastle_line_start(state: *mut u8, state_length: usize) -> u32;
+    pub(crate) fn oatcastle_line_read(
+        state: *mut u8, state_length: usize, piece: *const u8, piece_length: usize, answer: *mut u64, answer_count: usize,
+    ) -> u32;
+    pub(crate) fn oatcastle_line_data(state: *const u8, state_length: usize, length: u64, room: *mut u8, room_length: usize) -> u32;
+    pub(crate) fn oatcastle_line_tail(state: *const u8, state_length: usize, answer: *mut u64, answer_count: usize) -> u32;
+    pub(crate) fn oatcastle_line_write(
+        version: u32, sequence: u64, command: u8, head: *const u8, head_length: usize, rest: *const u8, rest_length: usize,
+        out: *mut u8, out_length: usize, answer: *mut u64, answer_count: usize,
+    ) -> u32;
+    pub(crate) fn oatcastle_line_checksum(body: *const u8, body_length: usize, answer: *mut u64, answer_count: usize) -> u32;
+    pub(crate) fn oatcastle_start(
+        data: *const u8, reader: *mut u8, reader_length: usize, outbox: *mut u8, outbox_length: usize,
+        factory: *mut u8, factory_length: usize, settings: *mut u8, settings_length: usize,
+        registers: *mut u8, registers_length: usize,
+    ) -> u32;
+    pub(crate) fn oatcastle_receive(
+        image: *const u8, image_length: usize, piece: *const u8, piece_length: usize, reader: *mut u8, reader_length: usize,
+        outbox: *mut u8, outbox_length: usize, factory: *const u8, factory_length: usize,
+        settings: *mut u8, settings_length: usize, registers: *mut u8, registers_length: usize,
+    ) -> u32;
+    pub(crate) fn oatcastle_step(
+        image: *const u8, image_length: usize, piece: *const u8, piece_length: usize, reader: *mut u8, reader_length: usize,
+        outbox: *mut u8, outbox_length: usize, factory: *const u8, factory_length: usize,
+        settings: *mut u8, settings_length: usize, registers: *mut u8, registers_length: usize,
+        answer: *mut u64, answer_count: usize,
+    ) -> u32;
+    pub(crate) fn oatcastle_take(
+        outbox: *mut u8, outbox_length: usize, room: *mut u8, room_length: usize, answer: *mut u64, answer_count: usize,
+    ) -> u32;
+    pub(crate) fn oatcastle_post(registers: *mut u8, registers_length: usize, action: u8, text: *const u8, text_length: usize) -> u32;
+    pub(crate) fn oatcastle_set_options(registers: *mut u8, registers_length: usize, options: u64) -> u32;
+    pub(crate) fn oatcastle_lookup(
+        factory: *const u8, factory_length: usize, settings: *const u8, settings_length: usize, key: u8, maxresponse: u16,
+        room: *mut u8, room_length: usize, answer: *mut u64, answer_count: usize,
+    ) -> u32;
+    pub(crate) fn oatcastle_signal(registers: *const u8, registers_length: usize, answer: *mut u64, answer_count: usize) -> u32;
+    pub(crate) fn oatcastle_flags(registers: *const u8, registers_length: usize, answer: *mut u64, answer_count: usize) -> u32;
+    pub(crate) fn oatcastle_boot_failure(
+        registers: *const u8, registers_length: usize, room: *mut u8, room_length: usize, answer: *mut u64, answer_count: usize,
+    ) -> u32;
+    pub(crate) fn oatcastle_panic(
+        registers: *const u8, registers_length: usize, room: *mut u8, room_length: usize, answer: *mut u64, answer_count: usize,
+    ) -> u32;
+}

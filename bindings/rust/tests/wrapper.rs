@@ -1,0 +1,136 @@
+// Defines tests of the safe wrapper: each method once with its answer, and the refusals that its types leave possible.
+// Assumes the static library is linked.
+
+use oatcastle::{
+    write_frame, Bsu, Failure, Flags, Found, ItemResult, LineReader, Options, ReadEnd, Reason, Record, Refusal, StartData, Step,
+    StepEnd, Supervisor, Tail, LONGEST_FRAME,
+};
+use std::num::NonZeroU8;
+
+const ONE: NonZeroU8 = NonZeroU8::MIN;
+
+fn request(sequence: u64, command: u8, data: &[u8]) -> Vec<u8> {
+    write_frame(1, sequence, command, data, &[], &mut [0; LONGEST_FRAME]).unwrap().to_vec()
+}
+
+/// Version, sequence, command and data of the one message in these bytes.
+fn message(bytes: &[u8]) -> (u32, u64, u8, Vec<u8>) {
+    let mut reader = LineReader::start().unwrap();
+    let read = reader.read(bytes).unwrap();
+    assert_eq!(read.used, bytes.len());
+    let ReadEnd::Message(message) = read.end else { panic!("no message") };
+    let mut room = [0; 4104];
+    (message.version(), message.sequence(), message.command(), message.data(&mut room).unwrap().to_vec())
+}
+
+fn reply(supervisor: &mut Supervisor, image: &[u8], frame: &[u8]) -> (u8, Vec<u8>) {
+    supervisor.receive(image, frame).unwrap();
+    let mut room = [0; 5000];
+    let (version, sequence, command, data) = message(supervisor.take(&mut room).unwrap());
+    assert_eq!((version, sequence >> 63), (1, 1));
+    (command, data)
+}
+
+#[test]
+fn start_data_come_back() {
+    let mut data = StartData::new(Bsu::B);
+    data.identity(*b"model-12345", 7, *b"serial-0001").mac([1, 2, 3, 4, 5, 6], 8, 9).hash([5; 32]);
+    data.image_id(b"image").unwrap().item(ItemResult::Found, [6; 32], 4, b"data").unwrap();
+    data.item(ItemResult::Absent, [7; 32], 5, b"kept back").unwrap();
+    let mut supervisor = Supervisor::start(&data).unwrap();
+    assert_eq!(reply(&mut supervisor, &[], &request(1, 3, &[])), (3, vec![0x42]));
+    assert_eq!(reply(&mut supervisor, &[], &request(2, 4, &[])), (4, b"model-12345\x07\0\0\0serial-0001".to_vec()));
+    assert_eq!(reply(&mut supervisor, &[], &request(3, 5, &[])), (5, vec![1, 2, 3, 4, 5, 6, 8, 0, 9]));
+    let item = [&[0][..], &[6; 32], &[4], b"data"].concat();
+    assert_eq!(reply(&mut supervisor, &[], &request(4, 0x0f, &[0, 0, 0, 0])), (0x0b, item));
+    let item = [&[2][..], &[7; 32], &[5]].concat();
+    assert_eq!(reply(&mut supervisor, &[], &request(5, 0x0f, &[1, 0, 0, 0])), (0x0b, item));
+    let asked = [&[5; 32][..], &4u64.to_le_bytes()].concat();
+    assert_eq!(reply(&mut supervisor, b"an image", &request(6, 0x0d, &asked)), (9, b"mage".to_vec()));
+    let mut room = [0; 64];
+    assert_eq!(supervisor.lookup(1, 64, &mut room), Ok(Found::Value(b"image")));
+    assert_eq!(supervisor.lookup(2, 8, &mut room), Ok(Found::Value(&[2, 0, 0, 0, 0, 0, 0, 0])));
+}
+
+#[test]
+fn start_data_have_bounds() {
+    let mut data = StartData::new(Bsu::A);
+    assert!(data.image_id(&[1; 64]).is_ok());
+    assert_eq!(data.image_id(&[1; 65]).err(), Some(Refusal::BadStart));
+    assert_eq!(data.item(ItemResult::Found, [0; 32], 0, &[0; 65]).err(), Some(Refusal::BadStart));
+    for _ in 0..16 {
+        assert!(data.item(ItemResult::Failed, [0; 32], 0, &[0; 64]).is_ok());
+    }
+    assert_eq!(data.item(ItemResult::Found, [0; 32], 0, &[]).err(), Some(Refusal::BadStart));
+    assert!(Supervisor::start(&data).is_ok());
+}
+
+#[test]
+fn local_calls() {
+    let mut supervisor = Supervisor::start(&StartData::new(Bsu::A)).unwrap();
+    let mut room = [0; 512];
+    assert_eq!(supervisor.signal(), Ok(true));
+    assert_eq!(supervisor.flags(), Ok(Flags { reboot: false, power_off: false }));
+    assert_eq!(supervisor.boot_failure(&mut room), Ok(None));
+    assert_eq!(supervisor.panic(&mut room), Ok(None));
+    assert_eq!(supervisor.lookup(0, 3, &mut room), Ok(Found::TooLong));
+    assert_eq!(supervisor.lookup(0, 4, &mut room[..3]), Err(Refusal::NoRoom));
+    assert_eq!(supervisor.lookup(0, 4, &mut room), Ok(Found::Value(b"pong")));
+    assert_eq!(supervisor.lookup(3, 4, &mut room), Ok(Found::NoValue));
+    assert_eq!(supervisor.lookup(6, 4, &mut room), Ok(Found::BadKey));
+    supervisor.receive(&[], &request(1, 1, &[])).unwrap();
+    supervisor.receive(&[], &request(1, 6, b"\x09why")).unwrap();
+    supervisor.receive(&[], &request(1, 7, b"\x34\x12how")).unwrap();
+    assert_eq!(supervisor.flags(), Ok(Flags { reboot: true, power_off: false }));
+    assert_eq!(supervisor.boot_failure(&mut room), Ok(Some(Record { code: 9, length: 3, kept: b"why" })));
+    assert_eq!(supervisor.panic(&mut room), Ok(Some(Record { code: 0x1234, length: 3, kept: b"how" })));
+    assert_eq!(supervisor.panic(&mut []), Err(Refusal::NoRoom));
+    assert_eq!(Options::of(512), Err(Refusal::BadValue));
+    supervisor.set_options(Options::NONE.with::<8>().with::<0>()).unwrap();
+    assert_eq!(reply(&mut supervisor, &[], &request(2, 8, &[])), (6, [&1u64.to_le_bytes()[..], &257u64.to_le_bytes()].concat()));
+    supervisor.restart(&StartData::new(Bsu::A)).unwrap();
+    assert_eq!(supervisor.panic(&mut room), Ok(None));
+}
+
+#[test]
+fn alerts() {
+    let mut supervisor = Supervisor::start(&StartData::new(Bsu::A)).unwrap();
+    assert_eq!(supervisor.post(ONE, &[0; 257]), Err(Refusal::TooLong));
+    for number in 0..8 {
+        supervisor.post(ONE, &[number]).unwrap();
+    }
+    assert_eq!(supervisor.post(ONE, &[8]), Err(Refusal::AlertsFull));
+    assert_eq!(reply(&mut supervisor, &[], &request(1, 0x0a, &[])), (7, vec![1, 0]));
+    assert_eq!(reply(&mut supervisor, &[], &request(1, 0x0a, &[])), (7, vec![1, 0]));
+    assert_eq!(reply(&mut supervisor, &[], &request(2, 0x0a, &[])), (7, vec![1, 1]));
+}
+
+#[test]
+fn steps() {
+    let mut supervisor = Supervisor::start(&StartData::new(Bsu::A)).unwrap();
+    assert_eq!(supervisor.step(&[], &[2]), Ok(Step { used: 1, end: StepEnd::More }));
+    assert_eq!(supervisor.step(&[], &[0, 0]), Ok(Step { used: 1, end: StepEnd::Failure(Reason::Form) }));
+    assert_eq!(supervisor.step(&[], &[0]), Ok(Step { used: 1, end: StepEnd::Empty }));
+    let frame = request(1, 8, &[]);
+    assert_eq!(supervisor.step(&[], &frame), Ok(Step { used: frame.len(), end: StepEnd::Request }));
+}
+
+#[test]
+fn line() {
+    let mut reader = LineReader::start().unwrap();
+    let frame = request(9, 0x55, &[3; 300]);
+    assert_eq!(message(&frame), (1, 9, 0x55, vec![3; 300]));
+    assert!(matches!(reader.read(&frame[..40]).unwrap().end, ReadEnd::More));
+    assert_eq!(reader.tail(), Ok(Tail::Bytes(40)));
+    assert!(matches!(reader.read(&[1; 4200]).unwrap().end, ReadEnd::More));
+    assert_eq!(reader.tail(), Ok(Tail::TooLong));
+    let ReadEnd::Failure(failure) = reader.read(&[0]).unwrap().end else { panic!("no failure") };
+    assert_eq!(failure, Failure { reason: Reason::Form, sequence: None });
+    assert!(matches!(reader.read(&[0, 0]).unwrap().end, ReadEnd::Empty));
+    let mut damaged = request(9, 0x55, &[3; 5]);
+    damaged[18] ^= 1;
+    let ReadEnd::Failure(failure) = reader.read(&damaged).unwrap().end else { panic!("no failure") };
+    assert_eq!(failure, Failure { reason: Reason::Checksum, sequence: Some(9) });
+    assert_eq!(write_frame(1, 1, 1, &[0; 4000], &[0; 105], &mut [0; LONGEST_FRAME]), Err(Refusal::TooLong));
+    assert_eq!(write_frame(1, 1, 1, &[], &[], &mut [0; 20]), Err(Refusal::NoRoom));
+}

@@ -1,0 +1,162 @@
+// Prints answers, each with one space in front; failures and refusals go by the numbers of document 01.
+// Assumes nothing: output that cannot be written is lost.
+use crate::bytes::least;
+use crate::output::REFUSED;
+use crate::output::TOO_LONG;
+use crate::output::bytes;
+use crate::output::digest;
+use crate::output::number;
+use crate::output::refused;
+use crate::output::word;
+use requests::receive::Outcome;
+use requests::receive::Received;
+use requests::receive::Stepped;
+use supervisor::alerts::Posted;
+use supervisor::keys::Found;
+use supervisor::options::OptionsSet;
+use supervisor::outbox::Taken;
+use supervisor::registers::Asked;
+use supervisor::registers::Entry;
+use supervisor::registers::FlagsRead;
+use supervisor::registers::Recorded;
+use supervisor::registers::SignalRead;
+use supervisor::start::Started;
+
+const FULL: u64 = 10;
+
+const BAD_DATA: u64 = 11;
+
+const BAD_CHOICE: u64 = 13;
+
+pub(crate) fn started(a: Started) {
+    match a {
+        Started::Done => word(b" started"),
+        Started::Refused => refused(REFUSED),
+        Started::BadData => refused(BAD_DATA),
+    }
+}
+
+pub(crate) fn received(a: Received) {
+    match a {
+        Received::Done => word(b" received"),
+        Received::Refused => refused(REFUSED),
+    }
+}
+
+// How many bytes a step used, and how it ended.
+pub(crate) fn stepped(a: Stepped) {
+    number(a.used as u64);
+    let outcome = a.outcome;
+    match outcome {
+        Outcome::Refused => refused(REFUSED),
+        Outcome::More => word(b" more"),
+        Outcome::Empty => word(b" empty"),
+        Outcome::Request => word(b" request"),
+        Outcome::Failure(reason) => {
+            word(b" failure");
+            number(reason as u64);
+        }
+    }
+}
+
+// What take moved into the room, and the digest of the room.
+pub(crate) fn taken(a: Taken, room: &[u8]) {
+    match a {
+        Taken::Refused => refused(REFUSED),
+        Taken::Moved(n) => {
+            word(b" took");
+            let end = least(n, room.len());
+            bytes(&room[0..end]);
+        }
+    }
+    digest(room);
+}
+
+pub(crate) fn posted(a: Posted) {
+    match a {
+        Posted::Done => word(b" posted"),
+        Posted::Refused => refused(REFUSED),
+        Posted::BadAction => refused(BAD_CHOICE),
+        Posted::TooLong => refused(TOO_LONG),
+        Posted::Full => refused(FULL),
+    }
+}
+
+pub(crate) fn options(a: OptionsSet) {
+    match a {
+        OptionsSet::Done => word(b" set"),
+        OptionsSet::Refused => refused(REFUSED),
+        OptionsSet::BadOption => refused(BAD_CHOICE),
+    }
+}
+
+// The result of a lookup, and the part handed out.
+pub(crate) fn found(a: Found, value: &[u8]) {
+    match a {
+        Found::Refused => refused(REFUSED),
+        Found::Value(_) => word(b" result 0"),
+        Found::BadKey => word(b" result 1"),
+        Found::NoValue => word(b" result 2"),
+        Found::TooLong => word(b" result 3"),
+    }
+    bytes(value);
+}
+
+pub(crate) fn signal(a: SignalRead) {
+    match a {
+        SignalRead::Refused => refused(REFUSED),
+        SignalRead::Asserted => word(b" asserted"),
+        SignalRead::Clear => word(b" clear"),
+    }
+}
+
+pub(crate) fn flags(a: FlagsRead) {
+    match a {
+        FlagsRead::Refused => refused(REFUSED),
+        FlagsRead::Read(asked) => two_flags(asked),
+    }
+}
+
+fn two_flags(asked: Asked) {
+    word(b" flags");
+    flag(asked.reboot);
+    flag(asked.power_off);
+}
+
+fn flag(set: bool) {
+    if set {
+        number(1);
+    } else {
+        number(0);
+    }
+}
+
+// A record, and the part handed out.
+pub(crate) fn recorded(a: Recorded, kept: &[u8]) {
+    match a {
+        Recorded::Refused => refused(REFUSED),
+        Recorded::Nothing => word(b" none"),
+        Recorded::Found(e) => entry(e),
+    }
+    bytes(kept);
+}
+
+fn entry(e: Entry) {
+    word(b" record");
+    number(e.code as u64);
+    number(e.whole as u64);
+    number(e.kept as u64);
+}
+
+pub(crate) fn compared(same: bool) {
+    if same {
+        word(b" same");
+    } else {
+        word(b" changed");
+    }
+}
+
+pub(crate) fn stores_compared(same: bool) {
+    word(b" stores");
+    compared(same);
+}

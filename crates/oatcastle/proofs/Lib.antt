@@ -1,0 +1,6 @@
+-- Laws of the C interface's definitions, which the proofs of its functions cite.
+-- Assumes nothing.
+mod AnswerLaws
+mod LineLaws
+mod SupervisorLaws
+mod ReceiveCallLaws

@@ -1,0 +1,130 @@
+-- Laws of the line layer's calls in the C interface.
+-- Assumes nothing.
+use mathlib.Core.Path.{_≡_, refl}
+use mathlib.Core.Bool.{Bool, true, false, cond}
+use mathlib.Core.List.{List, [], _∷_}
+use mathlib.Core.Option.{none, some}
+use Prim.Native.Nat.{ℕ, _≤_, _<_}
+use borrow.Author.Tests.{lt-ltb, le-ltb}
+use lib.Dec.{ltb, eqb}
+use lib.ListN.{length}
+use Rattle.octets.proofs.Conditions.{cond-by}
+use Rattle.line.specs.Limits.{longest-data, longest-form}
+use Rattle.line.specs.Message.{Message}
+use Rattle.line.specs.Judge.{Verdict, failure, good, judge}
+use Rattle.line.specs.Reader as LineReader
+use Rattle.line.specs.Reader.{verdictSaid, settle, finish, next, readPiece, reading, tailOf, kept, count, valid}
+use Rattle.line.specs.Frame.{frame}
+use Rattle.line.specs.Writer as LineWriter
+use Rattle.line.specs.Writer.{said, sending, writing}
+use Rattle.line.specs.declared.reader.Reading.{Reading}
+use Rattle.line.specs.declared.writer.Written.{Written}
+use Rattle.oatcastle.specs.Answers.{outcome, telling, answering}
+use Rattle.oatcastle.specs.LineCalls.{readTold, lineReadCall, writeTold, lineWriteCall}
+use Rattle.oatcastle.proofs.AnswerLaws.{Says, Leaves, Tells, tells-says, tells-leaves, answering-short, answering-told}
+
+-- ---- The state is valid where the tail is not refused
+
+abbrev heard : LineReader.TailSaid → Bool
+heard (LineReader.TailSaid.refused n) = false
+heard (LineReader.unfinished n) = true
+heard LineReader.longer = true
+
+heard-by : (v l : Bool) (n m : ℕ) → heard (cond v (cond l LineReader.longer (LineReader.unfinished n)) (LineReader.TailSaid.refused m)) ≡ v
+heard-by true true n m = refl
+heard-by true false n m = refl
+heard-by false l n m = refl
+
+pub tail-heard : (s : List ℕ) → heard (tailOf s) ≡ valid s
+unfolding tailOf
+tail-heard s = heard-by (valid s) (ltb longest-form (count s)) (count s) 12
+
+-- ---- Read: a valid state is not refused
+
+-- an answer that is no refusal
+abbrev pub Spoken : LineReader.Said → Type 0
+Spoken (LineReader.refused n) = ⊥
+Spoken LineReader.more = Unit {0}
+Spoken LineReader.empty = Unit {0}
+Spoken (LineReader.message version sequence command n) = Unit {0}
+Spoken (LineReader.failed reason sequence) = Unit {0}
+
+spoken-verdict : (v : Verdict) → Spoken (verdictSaid v)
+unfolding verdictSaid
+spoken-verdict (failure reason sequence) = tt
+spoken-verdict (good m) = tt
+
+abbrev Ended : LineReader.Settled → Type 0
+Ended o = Spoken (o .answer)
+
+spoken-finish : (s : List ℕ) → Spoken (finish s .answer)
+unfolding finish settle
+spoken-finish s =
+    cond-by Ended (eqb (count s) 0) _ _ (λ _. tt) (λ _.
+    cond-by Ended (ltb longest-form (count s)) _ _ (λ _. tt) (λ _. spoken-verdict (judge (kept s))))
+
+pub spoken : (s piece : List ℕ) → Spoken (readPiece s piece .answer)
+unfolding readPiece next
+spoken s [] = tt
+spoken s (b ∷ bs) = cond-by (λ (o : LineReader.Outcome). Spoken (o .answer)) (eqb b 0) _ _ (λ _. spoken-finish s) (λ _. spoken (LineReader.pushed s b) bs)
+
+told-read : (used : ℕ) (a : LineReader.Said) → Spoken a → Tells 7 (readTold used a)
+unfolding readTold
+told-read used (LineReader.refused n) p = absurd p
+told-read used LineReader.more p = refl
+told-read used LineReader.empty p = refl
+told-read used (LineReader.message version sequence command n) p = refl
+told-read used (LineReader.failed reason none) p = refl
+told-read used (LineReader.failed reason (some sequence)) p = refl
+
+module _ (s piece answer : List ℕ) where
+  pub read-refused : valid s ≡ false → outcome 12 (s, answer) ≡ lineReadCall s piece answer
+  unfolding lineReadCall reading readTold answering
+  read-refused v = rw v
+
+  module _ (v : valid s ≡ true) where
+    tells : (used : ℕ) → Tells 7 (readTold used (reading s piece .answer))
+    unfolding reading
+    tells used = rw v (told-read used (readPiece s piece .answer) (spoken s piece))
+
+    pub read-short : length answer < 7 → outcome 8 (s, answer) ≡ lineReadCall s piece answer
+    unfolding lineReadCall
+    read-short h =
+        let o = reading s piece in
+        let said = readTold (o .used) (o .answer) in
+        answering-short s (o .state) answer said (tells-says 7 said (tells (o .used))) h
+
+    pub read-told : (read : Reading) {r : ℕ} {after told : List ℕ} → 7 ≤ length answer → LineReader.outcome read after ≡ reading s piece
+        → outcome r told ≡ telling (readTold (read .used) (LineReader.said (read .answer))) answer
+        → outcome r (after, told) ≡ lineReadCall s piece answer
+    unfolding lineReadCall
+    read-told read {after} h e f =
+        let said = readTold (read .used) (LineReader.said (read .answer)) in
+        rw (← e) (answering-told s after answer said (tells-leaves 7 s after said (rw (← e) at (tells (read .used)))) h f)
+
+-- ---- Write
+
+module _ (m : Message) (out answer : List ℕ) where
+  pub write-long : longest-data < length (m .payload) → outcome 9 (out, answer) ≡ lineWriteCall m out answer
+  unfolding lineWriteCall writing writeTold answering
+  write-long h = rw (lt-ltb longest-data (length (m .payload)) h)
+
+  -- what the writer's call says and leaves
+  abbrev Settles : LineWriter.Outcome → Type 0
+  Settles o = Says 1 (writeTold (o .answer)) × Leaves 1 out (o .out) (writeTold (o .answer))
+
+  module _ (l : length (m .payload) ≤ longest-data) where
+    settles : Settles (writing m out)
+    unfolding writing sending writeTold
+    settles =
+        rw (le-ltb longest-data (length (m .payload)) l)
+        (cond-by Settles (ltb (length out) (length (frame m))) _ _ (λ _. (refl, refl)) (λ _. (refl, refl)))
+
+    pub write-short : length answer < 1 → outcome 8 (out, answer) ≡ lineWriteCall m out answer
+    unfolding lineWriteCall
+    write-short h = answering-short out (writing m out .out) answer (writeTold (writing m out .answer)) (settles .0) h
+
+    pub write-told : (w : Written) {r : ℕ} {after told : List ℕ} → 1 ≤ length answer → LineWriter.outcome w after ≡ writing m out
+        → outcome r told ≡ telling (writeTold (said w)) answer → outcome r (after, told) ≡ lineWriteCall m out answer
+    unfolding lineWriteCall
+    write-told w {after} h e f = rw (← e) (answering-told out after answer (writeTold (said w)) (rw (← e) at settles .1) h f)

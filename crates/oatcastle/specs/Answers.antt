@@ -1,0 +1,48 @@
+-- What a call of the C interface returns and leaves: 0 or the table's number (document 01, "When a call says no"), and what it was lent.
+-- Assumes nothing: these are definitions.
+use mathlib.Core.Bool.{cond}
+use mathlib.Core.List.{List}
+use mathlib.Core.Option.{Option, none, some}
+use Prim.Native.Nat.{ℕ}
+use lib.Dec.{ltb}
+use lib.ListN.{length}
+use Rattle.octets.specs.Bytes.{overlay}
+
+-- the most numbers that a call answers
+abbrev pub most-numbers : ℕ
+most-numbers = 7
+
+-- the number that a call returns, and what it leaves of what it was lent
+pub record Outcome (A : Type 0) : Type 0 where
+  pub number : ℕ
+  pub left : A
+
+abbrev pub outcome : {A : Type 0} → ℕ → A → Outcome A
+outcome n left = record { number = n; left = left }
+
+-- 0 where a call is carried out, else the table's number
+abbrev pub numbered : Option ℕ → ℕ
+numbered none = 0
+numbered (some n) = n
+
+-- what a call says: the table's number of a refusal, or what it hands out
+pub data Said : Type 0 where
+  refused : ℕ → Said
+  given : List ℕ → Said
+
+-- what is handed out stands at the start of a lent list, or 8 where that is shorter; a refused call leaves the list
+unfoldable pub telling : Said → List ℕ → Outcome (List ℕ)
+telling (refused n) lent = outcome n lent
+telling (given xs) lent = cond (ltb (length lent) (length xs)) (outcome 8 lent) (outcome 0 (overlay 0 xs lent))
+
+-- numbers to an answer, where a call changes what else it was lent; a refused call leaves that too
+unfoldable pub answering : {A : Type 0} → Said → A → A → List ℕ → Outcome (A × List ℕ)
+answering (refused n) before after answer = outcome n (before, answer)
+answering (given ns) before after answer =
+    cond (ltb (length answer) (length ns)) (outcome 8 (before, answer)) (outcome 0 (after, overlay 0 ns answer))
+
+-- bytes to a room and numbers to an answer
+unfoldable pub handing : Said → List ℕ → List ℕ → List ℕ → Outcome (List ℕ × List ℕ)
+handing (refused n) bs room answer = outcome n (room, answer)
+handing (given ns) bs room answer =
+    cond (ltb (length room) (length bs)) (outcome 8 (room, answer)) (answering (given ns) room (overlay 0 bs room) answer)

@@ -1,0 +1,6 @@
+-- Definitions of what the calls of the C interface return and leave.
+-- Assumes nothing.
+pub mod Answers
+pub mod LineCalls
+pub mod SupervisorCalls
+pub mod ReceiveCalls

@@ -1,0 +1,37 @@
+-- The calls that receive in the C interface: the number that each returns, and what it leaves of what it is lent.
+-- Assumes nothing: these are definitions.
+use mathlib.Core.List.{List, [], _∷_}
+use mathlib.Core.Option.{Option, none, some}
+use Prim.Native.Nat.{ℕ}
+use Rattle.supervisor.specs.Calls.{Parts}
+use Rattle.requests.specs.Receive
+use Rattle.oatcastle.specs.Answers.{Outcome, outcome, numbered, Said, refused, given, answering}
+
+-- ---- Receive
+
+abbrev pub receiveDone : Receive.Receipt → Outcome Parts
+receiveDone o = outcome (numbered (o .refusal)) (o .parts)
+
+unfoldable pub receiveCall : List ℕ → Parts → List ℕ → Outcome Parts
+receiveCall image p piece = receiveDone (Receive.receiving image p piece)
+
+-- ---- Step: used, kind, reason
+-- kind 0: more bytes are wanted; 1: an empty frame; 2: a request; 3: a failure, with its reason
+
+unfoldable pub stepTold : ℕ → Receive.Ended → Said
+stepTold used (Receive.Ended.refused n) = refused n
+stepTold used Receive.Ended.more = given (used ∷ 0 ∷ 0 ∷ [])
+stepTold used Receive.Ended.empty = given (used ∷ 1 ∷ 0 ∷ [])
+stepTold used Receive.request = given (used ∷ 2 ∷ 0 ∷ [])
+stepTold used (Receive.Ended.failed reason) = given (used ∷ 3 ∷ reason ∷ [])
+
+abbrev pub stepAnswered : Receive.StepDone → Parts → List ℕ → Outcome (Parts × List ℕ)
+stepAnswered o p answer = answering (stepTold (o .used) (o .ended)) p (o .parts) answer
+
+unfoldable pub stepCall : List ℕ → Parts → List ℕ → List ℕ → Outcome (Parts × List ℕ)
+stepCall image p piece answer = stepAnswered (Receive.stepping image p piece) p answer
+
+-- the number of a call with too short an answer: a refusal's own, else 8
+abbrev pub shortNumber : Option ℕ → ℕ
+shortNumber none = 8
+shortNumber (some n) = n

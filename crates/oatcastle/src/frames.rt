@@ -1,0 +1,163 @@
+// The line layer's calls: the reader, the writer and the checksum.
+// Assumes nothing: no exported function has a `requires`.
+use crate::telling::tell;
+use crate::telling::tell_bytes;
+use line::reader::Answer;
+use line::reader::Handed;
+use line::reader::Started;
+use line::reader::Unfinished;
+use line::writer::Written;
+ghost use mathlib.Core.Path.{_≡_};
+ghost use Rattle.line.specs.Reader.{said, valid};
+ghost use Rattle.line.specs.Writer as LineWriter;
+ghost use Rattle.line.specs.Writer.{messageOf};
+ghost use Rattle.oatcastle.specs.Answers.{outcome, telling};
+ghost use Rattle.oatcastle.specs.LineCalls.{lineStartCall, readTold, lineReadCall, lineDataCall, lineTailCall, writeTold, lineWriteCall, lineChecksumCall};
+
+// How many numbers `oatcastle_line_read` answers.
+const READ_NUMBERS: usize = 7;
+
+// The most bytes of data that a message has.
+const LONGEST_DATA: usize = 4104;
+
+// Begins a fresh reader in a state of any contents.
+#[no_mangle]
+pub extern "C" fn oatcastle_line_start(state: &mut [u8]) -> u32
+    ensures { λ r. ⌜ outcome r (now (state .exit)) ≡ lineStartCall (now (state .entry)) ⌝ }
+{
+    let started = line::reader::start(state);
+    match started {
+        Started::Done => 0,
+        Started::Refused => 12,
+    }
+}
+
+// Reads a piece to its end, or up to and with its first 00.
+#[no_mangle]
+pub extern "C" fn oatcastle_line_read(state: &mut [u8], piece: &[u8], answer: &mut [u64]) -> u32
+    ensures { λ r. ⌜ outcome r (now (state .exit), now (answer .exit)) ≡ lineReadCall (now (state .entry)) (now (piece .entry)) (now (answer .entry)) ⌝ }
+{
+    if !is_valid(state) {
+        return 12;
+    }
+    if answer.len() < READ_NUMBERS {
+        return 8;
+    }
+    let read = line::reader::read(state, piece);
+    let said = read.answer;
+    tell_reading(answer, read.used as u64, said)
+}
+
+// Whether the state passes the tests for 12.
+fn is_valid(state: &[u8]) -> bool
+    ensures { λ r. ⌜ r ≡ valid (now (state .entry)) ⌝ }
+{
+    let tail = line::reader::tail(state);
+    match tail {
+        Unfinished::Refused => false,
+        Unfinished::Bytes(_) => true,
+        Unfinished::Longer => true,
+    }
+}
+
+// The numbers of the reader's answer.
+fn tell_reading(answer: &mut [u64], used: u64, read: Answer) -> u32
+    ensures { λ r. ⌜ outcome r (now (answer .exit)) ≡ telling (readTold used (said read)) (now (answer .entry)) ⌝ }
+{
+    match read {
+        Answer::Refused => 12,
+        Answer::More => tell(answer, [used, 0, 0, 0, 0, 0, 0], READ_NUMBERS),
+        Answer::Empty => tell(answer, [used, 1, 0, 0, 0, 0, 0], READ_NUMBERS),
+        Answer::Message(h) => tell(
+            answer,
+            [
+                used,
+                2,
+                0,
+                h.version as u64,
+                h.sequence,
+                h.command as u64,
+                h.length as u64,
+            ],
+            READ_NUMBERS,
+        ),
+        Answer::BadForm => tell(answer, [used, 3, 1, 0, 0, 0, 0], READ_NUMBERS),
+        Answer::BadLength => tell(answer, [used, 3, 3, 0, 0, 0, 0], READ_NUMBERS),
+        Answer::BadChecksum(sequence) => {
+            tell(answer, [used, 3, 2, 0, sequence, 0, 0], READ_NUMBERS)
+        }
+        Answer::BadMagic(sequence) => tell(answer, [used, 3, 4, 0, sequence, 0, 0], READ_NUMBERS),
+    }
+}
+
+// Copies the data of the message that was just handed out with this length.
+#[no_mangle]
+pub extern "C" fn oatcastle_line_data(state: &[u8], length: u64, room: &mut [u8]) -> u32
+    ensures { λ r. ⌜ outcome r (now (room .exit)) ≡ lineDataCall (now (state .entry)) length (now (room .entry)) ⌝ }
+{
+    let given = line::reader::message_data_given(state, length as usize);
+    match given {
+        Handed::Refused => 12,
+        Handed::TooLong => 9,
+        Handed::Given => tell_bytes(line::reader::message_data(state, length as usize), room),
+    }
+}
+
+// How many bytes of an unfinished frame have come.
+#[no_mangle]
+pub extern "C" fn oatcastle_line_tail(state: &[u8], answer: &mut [u64]) -> u32
+    ensures { λ r. ⌜ outcome r (now (answer .exit)) ≡ lineTailCall (now (state .entry)) (now (answer .entry)) ⌝ }
+{
+    let tail = line::reader::tail(state);
+    match tail {
+        Unfinished::Refused => 12,
+        Unfinished::Bytes(n) => tell(answer, [0, n as u64, 0, 0, 0, 0, 0], 2),
+        Unfinished::Longer => tell(answer, [1, 0, 0, 0, 0, 0, 0], 2),
+    }
+}
+
+// Writes the frame of a message whose data are head and then rest.
+#[no_mangle]
+pub extern "C" fn oatcastle_line_write(
+    version: u32,
+    sequence: u64,
+    command: u8,
+    head: &[u8],
+    rest: &[u8],
+    out: &mut [u8],
+    answer: &mut [u64],
+) -> u32
+    ensures { λ r. ⌜ outcome r (now (out .exit), now (answer .exit)) ≡ lineWriteCall (messageOf version sequence command (now (head .entry)) (now (rest .entry))) (now (out .entry)) (now (answer .entry)) ⌝ }
+{
+    if LONGEST_DATA < head.len() {
+        return 9;
+    }
+    if LONGEST_DATA - head.len() < rest.len() {
+        return 9;
+    }
+    if answer.len() < 1 {
+        return 8;
+    }
+    let written = line::writer::write(version, sequence, command, head, rest, out);
+    tell_written(answer, written)
+}
+
+// The number of the writer's answer.
+fn tell_written(answer: &mut [u64], written: Written) -> u32
+    ensures { λ r. ⌜ outcome r (now (answer .exit)) ≡ telling (writeTold (LineWriter.said written)) (now (answer .entry)) ⌝ }
+{
+    match written {
+        Written::Done(n) => tell(answer, [n as u64, 0, 0, 0, 0, 0, 0], 1),
+        Written::NoRoom => 8,
+        Written::TooLong => 9,
+    }
+}
+
+// The checksum of a message's body.
+#[no_mangle]
+pub extern "C" fn oatcastle_line_checksum(body: &[u8], answer: &mut [u64]) -> u32
+    ensures { λ r. ⌜ outcome r (now (answer .exit)) ≡ lineChecksumCall (now (body .entry)) (now (answer .entry)) ⌝ }
+{
+    let sum = line::sums::checksum(body) as u64;
+    tell(answer, [sum, 0, 0, 0, 0, 0, 0], 1)
+}

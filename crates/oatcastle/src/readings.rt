@@ -1,0 +1,119 @@
+// The supervisor's calls that read: a key's value, the line signal, the two flags, the two records.
+// Assumes nothing: no exported function has a `requires`.
+use crate::telling::hand;
+use crate::telling::tell;
+use supervisor::keys;
+use supervisor::keys::Found;
+use supervisor::registers::FlagsRead;
+use supervisor::registers::Kind;
+use supervisor::registers::Recorded;
+use supervisor::registers::SignalRead;
+ghost use mathlib.Core.Path.{_≡_};
+ghost use Rattle.supervisor.specs.Calls.{lookupSaid, recordSaid};
+ghost use Rattle.supervisor.specs.declared.registers.Kind.the-variants.{BootFailure, Panic};
+ghost use Rattle.oatcastle.specs.Answers.{outcome, handing};
+ghost use Rattle.oatcastle.specs.SupervisorCalls.{lookupTold, lookupCall, signalCall, flagsCall, recordTold, recordCall};
+
+// Looks a key up and copies its value.
+#[no_mangle]
+pub extern "C" fn oatcastle_lookup<'a>(
+    factory: &'a [u8],
+    settings: &'a [u8],
+    key: u8,
+    maxresponse: u16,
+    room: &mut [u8],
+    answer: &mut [u64],
+) -> u32
+    ensures { λ r. ⌜ outcome r (now (room .exit), now (answer .exit)) ≡ lookupCall (now (factory .entry)) (now (settings .entry)) key maxresponse (now (room .entry)) (now (answer .entry)) ⌝ }
+{
+    let value = keys::lookup(factory, settings, key, maxresponse);
+    let found = keys::lookup_result(factory, settings, key, maxresponse);
+    hand_value(value, found, room, answer)
+}
+
+// A value, and the numbers of a lookup's answer.
+fn hand_value(value: &[u8], found: Found, room: &mut [u8], answer: &mut [u64]) -> u32
+    ensures { λ r. ⌜ outcome r (now (room .exit), now (answer .exit)) ≡ handing (lookupTold (lookupSaid found)) (now (value .entry)) (now (room .entry)) (now (answer .entry)) ⌝ }
+{
+    match found {
+        Found::Refused => 12,
+        Found::Value(n) => hand(value, room, [0, n as u64, 0, 0, 0, 0, 0], 2, answer),
+        Found::BadKey => hand(value, room, [1, 0, 0, 0, 0, 0, 0], 2, answer),
+        Found::NoValue => hand(value, room, [2, 0, 0, 0, 0, 0, 0], 2, answer),
+        Found::TooLong => hand(value, room, [3, 0, 0, 0, 0, 0, 0], 2, answer),
+    }
+}
+
+// The line signal.
+#[no_mangle]
+pub extern "C" fn oatcastle_signal(registers: &[u8], answer: &mut [u64]) -> u32
+    ensures { λ r. ⌜ outcome r (now (answer .exit)) ≡ signalCall (now (registers .entry)) (now (answer .entry)) ⌝ }
+{
+    let read = supervisor::registers::signal(registers);
+    match read {
+        SignalRead::Refused => 12,
+        SignalRead::Asserted => tell(answer, [1, 0, 0, 0, 0, 0, 0], 1),
+        SignalRead::Clear => tell(answer, [0, 0, 0, 0, 0, 0, 0], 1),
+    }
+}
+
+// Whether a reboot and power off were asked for.
+#[no_mangle]
+pub extern "C" fn oatcastle_flags(registers: &[u8], answer: &mut [u64]) -> u32
+    ensures { λ r. ⌜ outcome r (now (answer .exit)) ≡ flagsCall (now (registers .entry)) (now (answer .entry)) ⌝ }
+{
+    let read = supervisor::registers::flags(registers);
+    match read {
+        FlagsRead::Refused => 12,
+        FlagsRead::Read(asked) => tell(
+            answer,
+            [asked.reboot as u64, asked.power_off as u64, 0, 0, 0, 0, 0],
+            2,
+        ),
+    }
+}
+
+// The record of a boot failure, and its kept bytes.
+#[no_mangle]
+pub extern "C" fn oatcastle_boot_failure(
+    registers: &[u8],
+    room: &mut [u8],
+    answer: &mut [u64],
+) -> u32
+    ensures { λ r. ⌜ outcome r (now (room .exit), now (answer .exit)) ≡ recordCall (now (registers .entry)) BootFailure (now (room .entry)) (now (answer .entry)) ⌝ }
+{
+    read_record(registers, Kind::BootFailure, room, answer)
+}
+
+// The record of a panic, and its kept bytes.
+#[no_mangle]
+pub extern "C" fn oatcastle_panic(registers: &[u8], room: &mut [u8], answer: &mut [u64]) -> u32
+    ensures { λ r. ⌜ outcome r (now (room .exit), now (answer .exit)) ≡ recordCall (now (registers .entry)) Panic (now (room .entry)) (now (answer .entry)) ⌝ }
+{
+    read_record(registers, Kind::Panic, room, answer)
+}
+
+fn read_record(registers: &[u8], kind: Kind, room: &mut [u8], answer: &mut [u64]) -> u32
+    ensures { λ r. ⌜ outcome r (now (room .exit), now (answer .exit)) ≡ recordCall (now (registers .entry)) kind (now (room .entry)) (now (answer .entry)) ⌝ }
+{
+    let kept = supervisor::registers::record_bytes(registers, kind);
+    let found = supervisor::registers::record(registers, kind);
+    hand_record(kept, found, room, answer)
+}
+
+// Kept bytes, and the numbers of a record.
+fn hand_record(kept: &[u8], found: Recorded, room: &mut [u8], answer: &mut [u64]) -> u32
+    ensures { λ r. ⌜ outcome r (now (room .exit), now (answer .exit)) ≡ handing (recordTold (recordSaid found)) (now (kept .entry)) (now (room .entry)) (now (answer .entry)) ⌝ }
+{
+    match found {
+        Recorded::Refused => 12,
+        Recorded::Nothing => hand(kept, room, [0, 0, 0, 0, 0, 0, 0], 4, answer),
+        Recorded::Found(e) => hand(
+            kept,
+            room,
+            [1, e.code as u64, e.whole as u64, e.kept as u64, 0, 0, 0],
+            4,
+            answer,
+        ),
+    }
+}

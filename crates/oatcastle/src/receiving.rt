@@ -1,0 +1,105 @@
+// The supervisor's calls that receive.
+// Assumes nothing: no exported function has a `requires`.
+use crate::telling::tell;
+use requests::receive::Outcome;
+use requests::receive::Received;
+ghost use mathlib.Core.Path.{_≡_};
+ghost use Rattle.supervisor.specs.Calls.{parts};
+ghost use Rattle.requests.specs.Receive.{endedSaid, receiptSaid};
+ghost use Rattle.oatcastle.specs.Answers.{outcome, telling};
+ghost use Rattle.oatcastle.specs.ReceiveCalls.{receiveCall, stepTold, stepCall, shortNumber};
+
+// How many numbers `oatcastle_step` answers.
+const STEP_NUMBERS: usize = 3;
+
+// Reads a whole piece and carries out each request in it.
+#[no_mangle]
+pub extern "C" fn oatcastle_receive(
+    image: &[u8],
+    piece: &[u8],
+    reader: &mut [u8],
+    outbox: &mut [u8],
+    factory: &[u8],
+    settings: &mut [u8],
+    registers: &mut [u8],
+) -> u32
+    ensures { λ r. ⌜ outcome r (parts (now (reader .exit)) (now (outbox .exit)) (now (factory .entry)) (now (settings .exit)) (now (registers .exit))) ≡ receiveCall (now (image .entry)) (parts (now (reader .entry)) (now (outbox .entry)) (now (factory .entry)) (now (settings .entry)) (now (registers .entry))) (now (piece .entry)) ⌝ }
+{
+    let received = requests::receive::receive(
+        image,
+        piece,
+        reader,
+        outbox,
+        factory,
+        settings,
+        registers,
+    );
+    match received {
+        Received::Done => 0,
+        Received::Refused => 12,
+    }
+}
+
+// Reads a piece up to and with its first 00, or to its end, and carries out the request that ends there.
+// With too short an answer an empty piece is received, which changes nothing and tells whether the parts pass the tests for 12.
+#[no_mangle]
+pub extern "C" fn oatcastle_step(
+    image: &[u8],
+    piece: &[u8],
+    reader: &mut [u8],
+    outbox: &mut [u8],
+    factory: &[u8],
+    settings: &mut [u8],
+    registers: &mut [u8],
+    answer: &mut [u64],
+) -> u32
+    ensures { λ r. ⌜ outcome r (parts (now (reader .exit)) (now (outbox .exit)) (now (factory .entry)) (now (settings .exit)) (now (registers .exit)), now (answer .exit)) ≡ stepCall (now (image .entry)) (parts (now (reader .entry)) (now (outbox .entry)) (now (factory .entry)) (now (settings .entry)) (now (registers .entry))) (now (piece .entry)) (now (answer .entry)) ⌝ }
+{
+    if answer.len() < STEP_NUMBERS {
+        let received = requests::receive::receive(
+            image,
+            &piece[0..0],
+            reader,
+            outbox,
+            factory,
+            settings,
+            registers,
+        );
+        return short_number(received);
+    }
+    let stepped = requests::receive::step(
+        image,
+        piece,
+        reader,
+        outbox,
+        factory,
+        settings,
+        registers,
+    );
+    let ended = stepped.outcome;
+    tell_step(answer, stepped.used as u64, ended)
+}
+
+fn short_number(received: Received) -> u32
+    ensures { λ r. ⌜ r ≡ shortNumber (receiptSaid received) ⌝ }
+{
+    match received {
+        Received::Done => 8,
+        Received::Refused => 12,
+    }
+}
+
+// The numbers of a step's answer.
+fn tell_step(answer: &mut [u64], used: u64, ended: Outcome) -> u32
+    ensures { λ r. ⌜ outcome r (now (answer .exit)) ≡ telling (stepTold used (endedSaid ended)) (now (answer .entry)) ⌝ }
+{
+    match ended {
+        Outcome::Refused => 12,
+        Outcome::More => tell(answer, [used, 0, 0, 0, 0, 0, 0], STEP_NUMBERS),
+        Outcome::Empty => tell(answer, [used, 1, 0, 0, 0, 0, 0], STEP_NUMBERS),
+        Outcome::Request => tell(answer, [used, 2, 0, 0, 0, 0, 0], STEP_NUMBERS),
+        Outcome::Failure(reason) => {
+            tell(answer, [used, 3, reason as u64, 0, 0, 0, 0], STEP_NUMBERS)
+        }
+    }
+}

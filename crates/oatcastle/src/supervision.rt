@@ -1,0 +1,91 @@
+// The supervisor's calls that change what they are lent: start, take, post an alert, set options.
+// Assumes nothing: no exported function has a `requires`.
+use crate::telling::tell;
+use supervisor::alerts::Posted;
+use supervisor::layout;
+use supervisor::options::OptionsSet;
+use supervisor::outbox::Taken;
+use supervisor::start::Started;
+ghost use mathlib.Core.Path.{_≡_};
+ghost use Rattle.supervisor.specs.Calls.{parts, startSaid, takeSaid};
+ghost use Rattle.oatcastle.specs.Answers.{outcome, numbered, telling};
+ghost use Rattle.oatcastle.specs.SupervisorCalls.{startCall, takeTold, takeCall, postCall, optionsCall};
+
+// Begins the supervisor with start data.
+#[no_mangle]
+pub extern "C" fn oatcastle_start(
+    data: &[u8; layout::START_LENGTH],
+    reader: &mut [u8],
+    outbox: &mut [u8],
+    factory: &mut [u8],
+    settings: &mut [u8],
+    registers: &mut [u8],
+) -> u32
+    ensures { λ r. ⌜ outcome r (parts (now (reader .exit)) (now (outbox .exit)) (now (factory .exit)) (now (settings .exit)) (now (registers .exit))) ≡ startCall (now («data» .entry)) (parts (now (reader .entry)) (now (outbox .entry)) (now (factory .entry)) (now (settings .entry)) (now (registers .entry))) ⌝ }
+{
+    let started = supervisor::start::start(data, reader, outbox, factory, settings, registers);
+    start_number(started)
+}
+
+fn start_number(started: Started) -> u32
+    ensures { λ r. ⌜ r ≡ numbered (startSaid started) ⌝ }
+{
+    match started {
+        Started::Done => 0,
+        Started::Refused => 12,
+        Started::BadData => 11,
+    }
+}
+
+// Moves the smaller of the room and the bytes pending.
+#[no_mangle]
+pub extern "C" fn oatcastle_take(outbox: &mut [u8], room: &mut [u8], answer: &mut [u64]) -> u32
+    ensures { λ r. ⌜ outcome r ((now (outbox .exit), now (room .exit)), now (answer .exit)) ≡ takeCall (now (outbox .entry)) (now (room .entry)) (now (answer .entry)) ⌝ }
+{
+    if !supervisor::valid::outbox_is_valid(outbox) {
+        return 12;
+    }
+    if answer.len() < 1 {
+        return 8;
+    }
+    let taken = supervisor::outbox::take(outbox, room);
+    tell_taken(answer, taken)
+}
+
+// The number of a take's answer.
+fn tell_taken(answer: &mut [u64], taken: Taken) -> u32
+    ensures { λ r. ⌜ outcome r (now (answer .exit)) ≡ telling (takeTold (takeSaid taken)) (now (answer .entry)) ⌝ }
+{
+    match taken {
+        Taken::Moved(n) => tell(answer, [n as u64, 0, 0, 0, 0, 0, 0], 1),
+        Taken::Refused => 12,
+    }
+}
+
+// Posts an alert.
+#[no_mangle]
+pub extern "C" fn oatcastle_post(registers: &mut [u8], action: u8, text: &[u8]) -> u32
+    ensures { λ r. ⌜ outcome r (now (registers .exit)) ≡ postCall (now (registers .entry)) action (now (text .entry)) ⌝ }
+{
+    let posted = supervisor::alerts::post(registers, action, text);
+    match posted {
+        Posted::Done => 0,
+        Posted::Refused => 12,
+        Posted::BadAction => 13,
+        Posted::TooLong => 9,
+        Posted::Full => 10,
+    }
+}
+
+// Sets the options.
+#[no_mangle]
+pub extern "C" fn oatcastle_set_options(registers: &mut [u8], options: u64) -> u32
+    ensures { λ r. ⌜ outcome r (now (registers .exit)) ≡ optionsCall (now (registers .entry)) options ⌝ }
+{
+    let set = supervisor::options::set_options(registers, options);
+    match set {
+        OptionsSet::Done => 0,
+        OptionsSet::Refused => 12,
+        OptionsSet::BadOption => 13,
+    }
+}

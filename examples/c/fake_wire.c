@@ -1,0 +1,59 @@
+/* Feeds the status request of sample L12 to a supervisor, byte by byte, and prints the reply's bytes as hex in one line.
+ * Assumes the static library of the crate `oatcastle`. */
+#include <stdio.h>
+
+#include "oatcastle.h"
+
+static const uint8_t request[] = {
+    0x06, 0xcc, 0x19, 0xde, 0x01, 0x01, 0x01, 0x01, 0x02, 0x01, 0x01,
+    0x01, 0x01, 0x01, 0x01, 0x01, 0x04, 0x08, 0xcf, 0x66, 0x00,
+};
+
+/* The supervisor's parts: the caller owns them. */
+static uint8_t reader[OATCASTLE_READER_LENGTH];
+static uint8_t outbox[OATCASTLE_OUTBOX_LENGTH];
+static uint8_t factory[OATCASTLE_FACTORY_LENGTH];
+static uint8_t settings[OATCASTLE_SETTINGS_LENGTH];
+static uint8_t registers[OATCASTLE_REGISTERS_LENGTH];
+
+/* Start data: BSU 0x41, everything else 0, no items. */
+static const uint8_t start_data[OATCASTLE_START_LENGTH] = {0x41};
+
+/* No image: its length is 0, but a pointer is never NULL. */
+static const uint8_t image[1];
+
+/* Prints what is pending; returns a refusal's number, or 0. */
+static uint32_t send_pending(const char **gap)
+{
+    uint8_t room[16];
+    uint64_t moved[OATCASTLE_TAKE_NUMBERS];
+
+    do {
+        uint32_t no = oatcastle_take(outbox, sizeof outbox, room, sizeof room, moved, OATCASTLE_TAKE_NUMBERS);
+        if (no != OATCASTLE_DONE)
+            return no;
+        for (size_t i = 0; i < moved[0]; i++) {
+            printf("%s%02x", *gap, room[i]);
+            *gap = " ";
+        }
+    } while (moved[0] == sizeof room);
+    return OATCASTLE_DONE;
+}
+
+int main(void)
+{
+    const char *gap = "";
+    uint32_t no = oatcastle_start(start_data, reader, sizeof reader, outbox, sizeof outbox, factory, sizeof factory, settings, sizeof settings, registers, sizeof registers);
+
+    for (size_t i = 0; no == OATCASTLE_DONE && i < sizeof request; i++) {
+        no = oatcastle_receive(image, 0, &request[i], 1, reader, sizeof reader, outbox, sizeof outbox, factory, sizeof factory, settings, sizeof settings, registers, sizeof registers);
+        if (no == OATCASTLE_DONE)
+            no = send_pending(&gap);
+    }
+    printf("\n");
+    if (no != OATCASTLE_DONE) {
+        fprintf(stderr, "refused: %u\n", (unsigned)no);
+        return 1;
+    }
+    return 0;
+}

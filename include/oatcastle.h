@@ -1,0 +1,220 @@
+/* Oatcastle: the wire code of a home router's supervisor, as a C library (liboatcastle.a; `rt staticlib oatcastle` makes it).
+ *
+ * Plain C99; usable from C++. x86-64 Linux.
+ *
+ * What every call has in common
+ *
+ *   Result    0: the call was carried out. Any other number is a refusal, one of OATCASTLE_NO_ROOM to OATCASTLE_BAD_VALUE
+ *             below; which numbers a call can return stands with it. Where several apply, the first of 12, 13, 9, 11, 10, 8
+ *             is returned. A refused call leaves every byte and every number that it was lent as it was.
+ *   Memory    The caller owns all memory; the library allocates nothing, keeps no pointer after a call and has no state of
+ *             its own. All state lies in the parts that the caller lends: a reader, an outbox, a factory store, a settings
+ *             store and registers for a supervisor, or a reader alone for the line layer. Nobody but these calls writes a
+ *             part between its start and its last use.
+ *   Slices    A lent run of bytes is a pointer and a length. The pointer is valid for the length, and not NULL even where
+ *             the length is 0. A part may be longer than its published length: bytes past it are neither read nor written.
+ *   Overlap   No two runs that are lent to one call overlap, unless the call writes neither of them.
+ *   Threads   Calls that are lent a common part are made one at a time. Calls with no part in common may run at once.
+ *   answer    A lent list of 64-bit numbers, aligned as uint64_t is. The call puts its numbers at the start, as many as the
+ *             constant OATCASTLE_..._NUMBERS says; those past them stay. A number that a call does not use is 0.
+ *             A shorter answer is refused as 8.
+ *   room      A lent run for bytes that are copied out. They stand at its start; those past them stay. A room that is
+ *             shorter than the bytes is refused as 8; the limits below say how much room is always enough.
+ *
+ * Numbers inside the lent parts and the start data are little-endian.
+ */
+#ifndef OATCASTLE_H
+#define OATCASTLE_H
+
+#include <stddef.h>
+#include <stdint.h>
+
+#ifdef __cplusplus
+extern "C" {
+#endif
+
+/* ---- Refusals */
+
+#define OATCASTLE_DONE 0u
+#define OATCASTLE_NO_ROOM 8u        /* a room or an answer is too short */
+#define OATCASTLE_TOO_LONG 9u       /* data of a message above 4,104 bytes, or an alert above 256 */
+#define OATCASTLE_ALERTS_FULL 10u   /* 8 alerts wait */
+#define OATCASTLE_BAD_START 11u     /* start data: see oatcastle_start */
+#define OATCASTLE_BAD_STATE 12u     /* a part is below its published length, or a field holds a value outside docs/STATE.md */
+#define OATCASTLE_BAD_VALUE 13u     /* an option bit above 8, or alert action 0 */
+
+/* ---- Published lengths of the lent parts, in bytes */
+
+#define OATCASTLE_READER_LENGTH 4142    /* the line layer's reader; also the `state` of the oatcastle_line_ calls */
+#define OATCASTLE_OUTBOX_LENGTH 4147
+#define OATCASTLE_FACTORY_LENGTH 1729
+#define OATCASTLE_SETTINGS_LENGTH 5385
+#define OATCASTLE_REGISTERS_LENGTH 3393
+
+/* ---- Limits */
+
+#define OATCASTLE_LONGEST_DATA 4104     /* data of a message */
+#define OATCASTLE_LONGEST_FRAME 4141    /* a frame with its 00 */
+#define OATCASTLE_LONGEST_VALUE 4096    /* a key's value */
+#define OATCASTLE_LONGEST_ALERT 256
+#define OATCASTLE_MOST_KEPT 512         /* kept bytes of a record */
+#define OATCASTLE_MOST_PENDING 4142     /* bytes pending: a frame, and a 00 ahead of it */
+#define OATCASTLE_MOST_ALERTS 8         /* alerts that wait */
+#define OATCASTLE_MOST_ITEMS 16         /* inventory items */
+
+/* ---- How many numbers each call answers */
+
+#define OATCASTLE_LINE_READ_NUMBERS 7
+#define OATCASTLE_LINE_TAIL_NUMBERS 2
+#define OATCASTLE_LINE_WRITE_NUMBERS 1
+#define OATCASTLE_STEP_NUMBERS 3
+#define OATCASTLE_TAKE_NUMBERS 1
+#define OATCASTLE_LOOKUP_NUMBERS 2
+#define OATCASTLE_SIGNAL_NUMBERS 1
+#define OATCASTLE_FLAGS_NUMBERS 2
+#define OATCASTLE_RECORD_NUMBERS 4
+
+/* ---- How a piece ended: the kind in the answers of oatcastle_line_read and oatcastle_step */
+
+#define OATCASTLE_MORE 0u       /* the piece was read to its end; it has no 00 */
+#define OATCASTLE_EMPTY 1u      /* its first 00 ended an empty frame */
+#define OATCASTLE_MESSAGE 2u    /* its first 00 ended a message; for oatcastle_step a request, which is carried out */
+#define OATCASTLE_FAILURE 3u    /* its first 00 ended a frame that failed a test; the reason is one of these */
+
+#define OATCASTLE_REASON_FORM 1u        /* too many bytes before the 00, or no COBS form */
+#define OATCASTLE_REASON_CHECKSUM 2u
+#define OATCASTLE_REASON_LENGTH 3u      /* the message's length; or, from oatcastle_step alone, an unknown command */
+#define OATCASTLE_REASON_MAGIC 4u
+#define OATCASTLE_REASON_VERSION 5u     /* this and those below come from oatcastle_step alone */
+#define OATCASTLE_REASON_SEQUENCE 6u    /* the top bit of the sequence is set already */
+#define OATCASTLE_REASON_DATA 7u        /* the data have the wrong length for the command */
+
+/* ---- The start data: 1,721 bytes, one field after the other, no padding. A place is a byte offset. */
+
+#define OATCASTLE_START_LENGTH 1721
+
+#define OATCASTLE_START_BSU 0               /* 1 byte: 0x41 or 0x42 */
+#define OATCASTLE_START_MODEL 1             /* 11 bytes */
+#define OATCASTLE_START_REVISION 12         /* 4 bytes */
+#define OATCASTLE_START_SERIAL 16           /* 11 bytes */
+#define OATCASTLE_START_MAC_BASE 27         /* 6 bytes */
+#define OATCASTLE_START_MAC_COUNT 33        /* 2 bytes */
+#define OATCASTLE_START_MAC_STRIDE 35       /* 1 byte */
+#define OATCASTLE_START_IMAGE_HASH 36       /* 32 bytes */
+#define OATCASTLE_START_IMAGE_ID_LENGTH 68  /* 1 byte: 0 to 64 */
+#define OATCASTLE_START_IMAGE_ID 69         /* 64 bytes, of which the first IMAGE_ID_LENGTH count */
+#define OATCASTLE_START_ITEMS 133           /* 16 inventory items of OATCASTLE_ITEM_LENGTH bytes, of which the first ITEM_COUNT count */
+#define OATCASTLE_START_ITEM_COUNT 1717     /* 4 bytes: 0 to 16 */
+
+#define OATCASTLE_ITEM_LENGTH 99
+#define OATCASTLE_ITEM_RESULT 0             /* in an item; 1 byte: 0, 2 or 3, the result of its inventory reply; data go out with 0 alone */
+#define OATCASTLE_ITEM_NAME 1               /* 32 bytes */
+#define OATCASTLE_ITEM_TYPE 33              /* 1 byte */
+#define OATCASTLE_ITEM_DATA_LENGTH 34       /* 1 byte: 0 to 64 */
+#define OATCASTLE_ITEM_DATA 35              /* 64 bytes, of which the first DATA_LENGTH count */
+
+/* ==== The line layer: frames of messages. `state` is a reader's part, OATCASTLE_READER_LENGTH bytes. */
+
+/* Begins a fresh reader in a state of any contents.
+ * 0; 12: the state is too short. */
+uint32_t oatcastle_line_start(uint8_t *state, size_t state_length);
+
+/* Reads a piece of the received stream to its end, or up to and with its first 00.
+ * answer[0]  how many bytes of the piece were read; hand in the rest with the next call
+ * answer[1]  OATCASTLE_MORE, OATCASTLE_EMPTY, OATCASTLE_MESSAGE or OATCASTLE_FAILURE
+ * answer[2]  a failure's reason, 1 to 4
+ * answer[3]  a message's version
+ * answer[4]  a message's sequence; for a failure with reason 2 or 4 the sequence that its frame has
+ * answer[5]  a message's command
+ * answer[6]  how many bytes of data a message has; oatcastle_line_data hands them out
+ * 0; 12; 8: the answer is too short. */
+uint32_t oatcastle_line_read(uint8_t *state, size_t state_length, const uint8_t *piece, size_t piece_length, uint64_t *answer, size_t answer_count);
+
+/* Copies to the room the data of the message that the last call of oatcastle_line_read handed out; `length` is its answer[6].
+ * 0; 12; 9: length above 4,104; 8: the room is shorter than length. */
+uint32_t oatcastle_line_data(const uint8_t *state, size_t state_length, uint64_t length, uint8_t *room, size_t room_length);
+
+/* What has come of a frame since the last 00.
+ * answer[0]  1 if it is longer than the form of any message, else 0
+ * answer[1]  how many bytes of it have come; 0 if longer
+ * 0; 12; 8: the answer is too short. */
+uint32_t oatcastle_line_tail(const uint8_t *state, size_t state_length, uint64_t *answer, size_t answer_count);
+
+/* Writes the frame of a message whose data are head and then rest, with its 00, to the start of out; bytes of out past it stay.
+ * answer[0]  the frame's length
+ * 0; 9: head and rest have more than 4,104 bytes together; 8: out or the answer is too short. */
+uint32_t oatcastle_line_write(uint32_t version, uint64_t sequence, uint8_t command, const uint8_t *head, size_t head_length, const uint8_t *rest, size_t rest_length, uint8_t *out, size_t out_length, uint64_t *answer, size_t answer_count);
+
+/* The checksum of a message's body.
+ * answer[0]  the checksum, 0 to 65,278
+ * 0; 8: the answer is too short. */
+uint32_t oatcastle_line_checksum(const uint8_t *body, size_t body_length, uint64_t *answer, size_t answer_count);
+
+/* ==== The supervisor: five lent parts. */
+
+/* Begins the supervisor in parts of any contents, with start data of OATCASTLE_START_LENGTH bytes.
+ * A further start begins anew, and forgets also whether a 00 is owed on the wire.
+ * 0; 12: a part is too short; 11: over 16 items, an item's data over 64 bytes, a result not 0, 2 or 3, an image ID over 64 bytes,
+ * or a BSU that is not 0x41 or 0x42. */
+uint32_t oatcastle_start(const uint8_t data[OATCASTLE_START_LENGTH], uint8_t *reader, size_t reader_length, uint8_t *outbox, size_t outbox_length, uint8_t *factory, size_t factory_length, uint8_t *settings, size_t settings_length, uint8_t *registers, size_t registers_length);
+
+/* Reads a whole piece of the received stream and carries out each request in it. An image block request is
+ * answered from the image lent with the call that brings its frame's 00, if it names the hash of the start data. Each frame that is not empty replaces the
+ * pending reply, so take the replies (oatcastle_take) as often as the other side waits for them, or use oatcastle_step.
+ * 0; 12. */
+uint32_t oatcastle_receive(const uint8_t *image, size_t image_length, const uint8_t *piece, size_t piece_length, uint8_t *reader, size_t reader_length, uint8_t *outbox, size_t outbox_length, const uint8_t *factory, size_t factory_length, uint8_t *settings, size_t settings_length, uint8_t *registers, size_t registers_length);
+
+/* The same up to and with the piece's first 00, or to its end.
+ * answer[0]  how many bytes of the piece were read; hand in the rest with the next call
+ * answer[1]  OATCASTLE_MORE, OATCASTLE_EMPTY, OATCASTLE_MESSAGE (a request) or OATCASTLE_FAILURE
+ * answer[2]  a failure's reason, 1 to 7; the reply that tells it is pending
+ * 0; 12; 8: the answer is too short. */
+uint32_t oatcastle_step(const uint8_t *image, size_t image_length, const uint8_t *piece, size_t piece_length, uint8_t *reader, size_t reader_length, uint8_t *outbox, size_t outbox_length, const uint8_t *factory, size_t factory_length, uint8_t *settings, size_t settings_length, uint8_t *registers, size_t registers_length, uint64_t *answer, size_t answer_count);
+
+/* Takes bytes to send: moves the smaller of the room and the bytes pending to the start of the room.
+ * answer[0]  how many bytes were moved; fewer than the room: nothing more is pending. A room of OATCASTLE_MOST_PENDING takes all at once
+ * 0; 12; 8: the answer is too short (a room is never too short). */
+uint32_t oatcastle_take(uint8_t *outbox, size_t outbox_length, uint8_t *room, size_t room_length, uint64_t *answer, size_t answer_count);
+
+/* Posts an alert: an action from 1 to 255 and at most 256 bytes of text.
+ * 0; 12; 13: action 0; 9: more than 256 bytes; 10: 8 alerts wait. */
+uint32_t oatcastle_post(uint8_t *registers, size_t registers_length, uint8_t action, const uint8_t *text, size_t text_length);
+
+/* Sets the startup options.
+ * 0; 12; 13: a bit above 8 is set. */
+uint32_t oatcastle_set_options(uint8_t *registers, size_t registers_length, uint64_t options);
+
+/* Looks a key up and copies its value to the room. Key 0 is "pong", 1 the image ID (at most 64 bytes), 2 the inventory's count and
+ * version (8 bytes), 3 (at most 256 bytes), 4 (4,096) and 5, the list of withdrawn keys (1,024), are what was stored.
+ * answer[0]  0: found; 1: no such key; 2: the key has no value; 3: the value is longer than maxresponse
+ * answer[1]  how many bytes the value has; 0 unless it was found
+ * 0; 12; 8: the answer is too short, or the room is shorter than the value. */
+uint32_t oatcastle_lookup(const uint8_t *factory, size_t factory_length, const uint8_t *settings, size_t settings_length, uint8_t key, uint16_t maxresponse, uint8_t *room, size_t room_length, uint64_t *answer, size_t answer_count);
+
+/* The line signal.
+ * answer[0]  1 if it is asserted, which it is while the status is not 0; else 0
+ * 0; 12; 8: the answer is too short. */
+uint32_t oatcastle_signal(const uint8_t *registers, size_t registers_length, uint64_t *answer, size_t answer_count);
+
+/* The two flags.
+ * answer[0]  1 if a reboot was asked for, else 0
+ * answer[1]  1 if power off was asked for, else 0
+ * 0; 12; 8: the answer is too short. */
+uint32_t oatcastle_flags(const uint8_t *registers, size_t registers_length, uint64_t *answer, size_t answer_count);
+
+/* The record of the last boot failure; its kept bytes are copied to the room.
+ * answer[0]  1 if there is one, else 0; then the other numbers are 0 too
+ * answer[1]  its reason
+ * answer[2]  how many bytes came behind the reason
+ * answer[3]  how many of them are kept: the first 512 at most
+ * 0; 12; 8: the answer is too short, or the room is shorter than the kept bytes. */
+uint32_t oatcastle_boot_failure(const uint8_t *registers, size_t registers_length, uint8_t *room, size_t room_length, uint64_t *answer, size_t answer_count);
+
+/* The same for the last panic; answer[1] is its cause. */
+uint32_t oatcastle_panic(const uint8_t *registers, size_t registers_length, uint8_t *room, size_t room_length, uint64_t *answer, size_t answer_count);
+
+#ifdef __cplusplus
+}
+#endif
+
+#endif

@@ -1,0 +1,22 @@
+#!/usr/bin/env python3
+"""The cases of the program cases: those of tests/line_cases.py, then those of tests/supervisor_cases.py.
+
+usage: tests/cases.py input | expected | check
+
+input:    the program's standard input; a line % ends the line layer's cases (an empty line would end either layer's)
+expected: what it must write, with the same line between the two layers' cases
+check:    compares both with crates/cases/stdin and crates/cases/stdout"""
+import sys
+
+sys.dont_write_bytecode = True
+import line_cases
+import supervisor_cases
+from common import compared, serve
+
+
+def texts():
+    return tuple(b'%\n'.join(pair) for pair in zip(line_cases.texts(), supervisor_cases.texts()))
+
+
+if __name__ == '__main__':
+    serve(__doc__, input=lambda: texts()[0], expected=lambda: texts()[1], check=lambda: compared('cases', *texts()))

@@ -1,0 +1,137 @@
+// Defines the calls with their arguments, the lengths lent with one, and what the model says of one.
+// Assumes the parts of docs/STATE.md and the C interface's counts of numbers.
+
+use crate::state::{FACTORY, LINE, NAMES, OUTBOX, READER, REGISTERS, SETTINGS, START_LENGTH};
+use std::fmt;
+
+/// An image of the pool, and how much of it is lent.
+#[derive(Clone, Copy)]
+pub struct Image {
+    pub which: usize,
+    pub length: usize,
+}
+
+#[derive(Clone)]
+pub enum Call {
+    LineStart { part: usize },
+    LineRead { part: usize, piece: Vec<u8> },
+    LineData { part: usize, length: u64 },
+    LineTail { part: usize },
+    LineWrite { version: u32, sequence: u64, command: u8, head: Vec<u8>, rest: Vec<u8> },
+    Start { data: Box<[u8; START_LENGTH]> },
+    Receive { image: Image, piece: Vec<u8> },
+    Step { image: Image, piece: Vec<u8> },
+    Take,
+    Post { action: u8, text: Vec<u8> },
+    SetOptions { options: u64 },
+    Lookup { key: u8, most: u16 },
+    Signal,
+    Flags,
+    BootFailure,
+    Panic,
+}
+
+impl Call {
+    pub fn parts(&self) -> &'static [usize] {
+        match self {
+            Call::LineStart { part: LINE } | Call::LineRead { part: LINE, .. } => &[LINE],
+            Call::LineData { part: LINE, .. } | Call::LineTail { part: LINE } => &[LINE],
+            Call::LineStart { .. } | Call::LineRead { .. } | Call::LineData { .. } | Call::LineTail { .. } => &[READER],
+            Call::LineWrite { .. } => &[],
+            Call::Start { .. } | Call::Receive { .. } | Call::Step { .. } => &[READER, OUTBOX, FACTORY, SETTINGS, REGISTERS],
+            Call::Take => &[OUTBOX],
+            Call::Lookup { .. } => &[FACTORY, SETTINGS],
+            _ => &[REGISTERS],
+        }
+    }
+
+    pub fn starts(&self) -> bool {
+        matches!(self, Call::LineStart { .. } | Call::Start { .. })
+    }
+
+    /// How many numbers the answer has.
+    pub fn answers(&self) -> usize {
+        match self {
+            Call::LineRead { .. } => 7,
+            Call::LineTail { .. } | Call::Lookup { .. } | Call::Flags => 2,
+            Call::Step { .. } => 3,
+            Call::LineWrite { .. } | Call::Take | Call::Signal => 1,
+            Call::BootFailure | Call::Panic => 4,
+            _ => 0,
+        }
+    }
+}
+
+impl fmt::Display for Call {
+    fn fmt(&self, out: &mut fmt::Formatter) -> fmt::Result {
+        let image = |image: &Image| format!("image {} of {} bytes", image.which, image.length);
+        match self {
+            Call::LineStart { part } => write!(out, "oatcastle_line_start({})", NAMES[*part]),
+            Call::LineRead { part, piece } => write!(out, "oatcastle_line_read({}, piece {})", NAMES[*part], hex(piece)),
+            Call::LineData { part, length } => write!(out, "oatcastle_line_data({}, {length})", NAMES[*part]),
+            Call::LineTail { part } => write!(out, "oatcastle_line_tail({})", NAMES[*part]),
+            Call::LineWrite { version, sequence, command, head, rest } => {
+                write!(out, "oatcastle_line_write({version}, {sequence:#x}, {command:#x}, head {}, rest {})", hex(head), hex(rest))
+            }
+            Call::Start { data } => write!(out, "oatcastle_start({})", hex(&data[..])),
+            Call::Receive { image: lent, piece } => write!(out, "oatcastle_receive({}, piece {})", image(lent), hex(piece)),
+            Call::Step { image: lent, piece } => write!(out, "oatcastle_step({}, piece {})", image(lent), hex(piece)),
+            Call::Take => write!(out, "oatcastle_take"),
+            Call::Post { action, text } => write!(out, "oatcastle_post({action}, {})", hex(text)),
+            Call::SetOptions { options } => write!(out, "oatcastle_set_options({options:#x})"),
+            Call::Lookup { key, most } => write!(out, "oatcastle_lookup(key {key}, maxresponse {most})"),
+            Call::Signal => write!(out, "oatcastle_signal"),
+            Call::Flags => write!(out, "oatcastle_flags"),
+            Call::BootFailure => write!(out, "oatcastle_boot_failure"),
+            Call::Panic => write!(out, "oatcastle_panic"),
+        }
+    }
+}
+
+/// The lengths lent with a call.
+#[derive(Clone, Copy, Debug)]
+pub struct Lent {
+    pub parts: [usize; 6],
+    pub room: usize,
+    pub answer: usize,
+}
+
+/// What the model says of a call.
+#[derive(Default)]
+pub struct Outcome {
+    pub code: u32,
+    pub answer: Vec<u64>,
+    pub room: Vec<u8>,
+    /// Parts that may differ afterwards; their meaning is compared, the bytes of all others.
+    pub changed: [bool; 6],
+    /// The published bytes of a part, where they are settled one by one.
+    pub exact: Vec<(usize, Vec<u8>)>,
+}
+
+pub fn refused(code: u32) -> Outcome {
+    Outcome { code, ..Outcome::default() }
+}
+
+pub fn hex(bytes: &[u8]) -> String {
+    let mut text = format!("[{}]", bytes.len());
+    for byte in bytes.iter().take(96) {
+        text += &format!(" {byte:02x}");
+    }
+    if bytes.len() > 96 {
+        text += " ...";
+    }
+    text
+}
+
+pub fn same(what: &str, model: &[u8], library: &[u8]) -> Result<(), String> {
+    if model == library {
+        return Ok(());
+    }
+    let place = model.iter().zip(library).position(|(a, b)| a != b).unwrap_or(model.len().min(library.len()));
+    let from = place.saturating_sub(8);
+    Err(format!(
+        "{what}, first at place {place}\n  model   from {from}: {}\n  library from {from}: {}",
+        hex(model.get(from..).unwrap_or(&[])),
+        hex(library.get(from..).unwrap_or(&[]))
+    ))
+}

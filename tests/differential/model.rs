@@ -1,0 +1,663 @@
+// Defines document 01 as ordinary Rust over typed state: checksum, COBS, the tests for reading, requests, replies and local calls.
+// Assumes nothing but document 01 and RFD 316; a fault number changes one rule, so that the comparison itself can be tested.
+
+use std::collections::VecDeque;
+use std::sync::atomic::{AtomicUsize, Ordering};
+
+pub const MAGIC: u32 = 0x01DE_19CC;
+pub const LONGEST_FORM: usize = 4140;
+pub const SHORTEST_MESSAGE: usize = 19;
+pub const LONGEST_MESSAGE: usize = 4123;
+pub const LONGEST_DATA: usize = 4104;
+pub const TOP_BIT: u64 = 1 << 63;
+
+macro_rules! faults {
+    ($($name:ident: $words:literal,)*) => {
+        /// One rule of the model that can be made wrong.
+        #[derive(Clone, Copy, PartialEq, Eq)]
+        pub enum Fault { $($name),* }
+        /// Every fault with its words; its number is its place, counted from 1.
+        pub const FAULTS: &[(Fault, &str)] = &[$((Fault::$name, $words)),*];
+    };
+}
+
+faults! {
+    SumsMod256: "the checksum's sums are taken mod 256",
+    FfAsZero: "a checksum byte ff matches 00",
+    ZeroAfterFullGroup: "a full group is read as if a zero followed",
+    CodeAfterFullGroup: "the writer ends a full group with a code byte 01",
+    LastOneRefused: "a last 01 after a full group is reason 1",
+    LongestForm: "4,141 bytes before the 00 are let through",
+    LongFrameReason: "an overlong frame is answered as reason 3",
+    ShortMessage: "a message of 18 bytes passes the length test",
+    MagicBeforeChecksum: "magic is tested ahead of the checksum",
+    TopBitBeforeVersion: "the sequence's top bit is tested ahead of the version",
+    UnknownNamed: "an unknown command is answered with the request's sequence",
+    NoSeparator: "no 00 goes out after half an old reply",
+    SeparatorAlways: "a 00 goes out ahead of every reply",
+    EmptyDiscards: "an empty frame discards what is unsent",
+    SilentKeeps: "a request without a reply keeps what is unsent",
+    AlertCopyDropped: "any request drops the retained alert reply",
+    AlertBitKept: "status bit 1 stays when no alert waits",
+    ResendTakes: "a resent alert request takes the next alert",
+    AckClearsBoth: "start acknowledged clears all status bits",
+    PanicSilent: "a panic earns no reply",
+    RecordKeeps511: "a record keeps 511 bytes",
+    RecordLengthKept: "a record's length is that of the kept bytes",
+    BootFailuresKept: "a newer boot failure does not replace the older",
+    Block4095: "an image block has at most 4,095 bytes",
+    HashIgnored: "the image's hash is not compared",
+    OffsetTruncated: "an image offset is taken mod 2 to the 32",
+    Key3At257: "key 3 takes 257 bytes",
+    Key5At4096: "key 5 takes 4,096 bytes",
+    EmptyIsNone: "a stored empty value is no value",
+    MostIsBelow: "a value as long as maxresponse is too long",
+    ReadOnlyAfterLength: "setting a read-only key with a long value gives 3",
+    ItemDataKept: "an item with result 2 carries its data",
+    ItemIndexLast: "the index equal to the count gives the last item",
+    OptionBit9: "option bit 9 is let through",
+    ActionAfterLength: "a long alert with action 0 is refused as 9",
+    FullBeforeLong: "a long alert while 8 wait is refused as 10",
+    NineAlerts: "a ninth alert is let through",
+    SignalBit0: "the line signal follows bit 0 alone",
+    TwelveLast: "8 is tested ahead of 12",
+    ItemsPastCount: "start tests items past their count",
+    StartKeepsFlag: "start keeps that a byte was taken and non-zero",
+    TakeOneLess: "take leaves the last pending byte",
+    TakeFlagAny: "any taken byte counts as non-zero",
+}
+
+static FAULT: AtomicUsize = AtomicUsize::new(0);
+
+/// Makes the rule of this number wrong; 0 makes none.
+pub fn break_rule(number: usize) {
+    FAULT.store(number, Ordering::Relaxed);
+}
+
+pub fn broken(fault: Fault) -> bool {
+    let number = FAULT.load(Ordering::Relaxed);
+    number != 0 && FAULTS[number - 1].0 == fault
+}
+
+// The line layer
+
+pub fn checksum(body: &[u8]) -> u16 {
+    let modulus = if broken(Fault::SumsMod256) { 256 } else { 255 };
+    let (mut first, mut second) = (0u32, 0u32);
+    for &byte in body {
+        first = (first + u32::from(byte)) % modulus;
+        second = (second + first) % modulus;
+    }
+    (second * 256 + first) as u16
+}
+
+pub fn cobs(bytes: &[u8]) -> Vec<u8> {
+    let mut form = Vec::with_capacity(bytes.len() + bytes.len() / 254 + 1);
+    let mut rest = bytes;
+    loop {
+        let run = rest.iter().take(254).take_while(|&&byte| byte != 0).count();
+        form.push(run as u8 + 1);
+        form.extend_from_slice(&rest[..run]);
+        rest = &rest[run..];
+        if run < 254 {
+            if rest.is_empty() {
+                return form;
+            }
+            rest = &rest[1..];
+        } else if rest.is_empty() {
+            if broken(Fault::CodeAfterFullGroup) {
+                form.push(1);
+            }
+            return form;
+        }
+    }
+}
+
+pub fn uncobs(form: &[u8]) -> Option<Vec<u8>> {
+    let mut bytes = Vec::with_capacity(form.len());
+    let mut place = 0;
+    while place < form.len() {
+        let code = usize::from(form[place]);
+        if code == 0 {
+            return None;
+        }
+        if broken(Fault::LastOneRefused) && code == 1 && place + 1 == form.len() && place >= 255 && form[place - 255] == 255 {
+            return None;
+        }
+        let group = form.get(place + 1..place + code)?;
+        bytes.extend_from_slice(group);
+        place += code;
+        if place < form.len() && (code < 255 || broken(Fault::ZeroAfterFullGroup)) {
+            bytes.push(0);
+        }
+    }
+    Some(bytes)
+}
+
+/// A message with any magic, without its checksum.
+pub fn body(magic: u32, version: u32, sequence: u64, command: u8, data: &[u8]) -> Vec<u8> {
+    let mut bytes = Vec::with_capacity(LONGEST_MESSAGE);
+    bytes.extend_from_slice(&magic.to_le_bytes());
+    bytes.extend_from_slice(&version.to_le_bytes());
+    bytes.extend_from_slice(&sequence.to_le_bytes());
+    bytes.push(command);
+    bytes.extend_from_slice(data);
+    bytes
+}
+
+pub fn frame(version: u32, sequence: u64, command: u8, data: &[u8]) -> Vec<u8> {
+    let mut message = body(MAGIC, version, sequence, command, data);
+    let sums = checksum(&message);
+    message.extend_from_slice(&sums.to_le_bytes());
+    let mut form = cobs(&message);
+    form.push(0);
+    form
+}
+
+#[derive(Clone, Debug, PartialEq, Eq)]
+pub struct Message {
+    pub version: u32,
+    pub sequence: u64,
+    pub command: u8,
+    pub data: Vec<u8>,
+}
+
+/// A reason, and the request's sequence where the reply carries it.
+#[derive(Clone, Copy, Debug, PartialEq, Eq)]
+pub struct Failure {
+    pub reason: u8,
+    pub sequence: Option<u64>,
+}
+
+fn number(bytes: &[u8]) -> u64 {
+    bytes.iter().rev().fold(0, |high, &byte| high << 8 | u64::from(byte))
+}
+
+fn same_sums(held: u16, sums: u16) -> bool {
+    if broken(Fault::FfAsZero) {
+        held % 256 % 255 == sums % 256 % 255 && held / 256 % 255 == sums / 256 % 255
+    } else {
+        held == sums
+    }
+}
+
+/// The line layer's tests of a frame that is not empty.
+pub fn judge(form: &[u8], long: bool) -> Result<Message, Failure> {
+    let nameless = |reason| Failure { reason, sequence: None };
+    if long {
+        return Err(nameless(if broken(Fault::LongFrameReason) { 3 } else { 1 }));
+    }
+    let bytes = uncobs(form).ok_or(nameless(1))?;
+    let shortest = if broken(Fault::ShortMessage) { 18 } else { SHORTEST_MESSAGE };
+    if bytes.len() < shortest || bytes.len() > LONGEST_MESSAGE {
+        return Err(nameless(3));
+    }
+    let (ahead, sums) = bytes.split_at(bytes.len() - 2);
+    let sequence = number(&bytes[8..16]);
+    let named = |reason| Failure { reason, sequence: Some(sequence) };
+    let magic_differs = number(&bytes[..4]) != u64::from(MAGIC);
+    if broken(Fault::MagicBeforeChecksum) && magic_differs {
+        return Err(named(4));
+    }
+    if !same_sums(number(sums) as u16, checksum(ahead)) {
+        return Err(named(2));
+    }
+    if magic_differs {
+        return Err(named(4));
+    }
+    Ok(Message {
+        version: number(&bytes[4..8]) as u32,
+        sequence,
+        command: ahead.get(16).copied().unwrap_or(0),
+        data: ahead.get(17..).unwrap_or(&[]).to_vec(),
+    })
+}
+
+/// The bytes since the last 00, or that they are more than 4,140.
+#[derive(Clone, Debug, PartialEq, Eq, Default)]
+pub struct Reader {
+    pub bytes: Vec<u8>,
+    pub long: bool,
+}
+
+pub enum Ended {
+    More,
+    Empty,
+    Message(Message),
+    Failure(Failure),
+}
+
+impl Reader {
+    /// Reads up to the piece's end or its first 00; gives how many bytes were read.
+    pub fn read(&mut self, piece: &[u8]) -> (usize, Ended) {
+        let stop = piece.iter().position(|&byte| byte == 0);
+        let new = &piece[..stop.unwrap_or(piece.len())];
+        let limit = if broken(Fault::LongestForm) { LONGEST_FORM + 1 } else { LONGEST_FORM };
+        if self.long || self.bytes.len() + new.len() > limit {
+            self.long = true;
+            self.bytes.clear();
+        } else {
+            self.bytes.extend_from_slice(new);
+        }
+        if stop.is_none() {
+            return (piece.len(), Ended::More);
+        }
+        let done = std::mem::take(self);
+        let ended = if done.bytes.is_empty() && !done.long {
+            Ended::Empty
+        } else {
+            match judge(&done.bytes, done.long) {
+                Ok(message) => Ended::Message(message),
+                Err(failure) => Ended::Failure(failure),
+            }
+        };
+        (new.len() + 1, ended)
+    }
+}
+
+// The supervisor
+
+#[derive(Clone, Debug, PartialEq, Eq)]
+pub struct Item {
+    pub result: u8,
+    pub name: [u8; 32],
+    pub kind: u8,
+    pub data: Vec<u8>,
+}
+
+#[derive(Clone, Debug, PartialEq, Eq)]
+pub struct Factory {
+    pub bsu: u8,
+    pub model: [u8; 11],
+    pub revision: u32,
+    pub serial: [u8; 11],
+    pub base: [u8; 6],
+    pub count: u16,
+    pub stride: u8,
+    pub hash: [u8; 32],
+    pub image_id: Vec<u8>,
+    pub items: Vec<Item>,
+}
+
+#[derive(Clone, Debug, PartialEq, Eq, Default)]
+pub struct Outbox {
+    pub pending: Vec<u8>,
+    pub last_non_zero: bool,
+}
+
+impl Outbox {
+    /// The bytes that go out for a room of this length.
+    pub fn take(&mut self, room: usize) -> Vec<u8> {
+        let less = usize::from(broken(Fault::TakeOneLess) && self.pending.len() > 1);
+        let moved = room.min(self.pending.len() - less);
+        let out: Vec<u8> = self.pending.drain(..moved).collect();
+        if let Some(&last) = out.last() {
+            self.last_non_zero = last != 0 || broken(Fault::TakeFlagAny);
+        }
+        out
+    }
+
+    fn replace(&mut self, reply: Option<Vec<u8>>) {
+        let mut pending = Vec::new();
+        if self.last_non_zero && !broken(Fault::NoSeparator) || broken(Fault::SeparatorAlways) {
+            pending.push(0);
+        }
+        pending.extend(reply.unwrap_or_default());
+        self.pending = pending;
+    }
+}
+
+#[derive(Clone, Debug, PartialEq, Eq)]
+pub struct Record {
+    pub code: u16,
+    pub length: usize,
+    pub kept: Vec<u8>,
+}
+
+#[derive(Clone, Debug, PartialEq, Eq)]
+pub struct Alert {
+    pub action: u8,
+    pub text: Vec<u8>,
+}
+
+#[derive(Clone, Debug, PartialEq, Eq)]
+pub struct Registers {
+    pub status: u64,
+    pub options: u64,
+    pub reboot: bool,
+    pub power_off: bool,
+    pub boot_failure: Option<Record>,
+    pub panic: Option<Record>,
+    pub alerts: VecDeque<Alert>,
+    pub retained: Option<(u64, Alert)>,
+}
+
+impl Registers {
+    pub fn fresh() -> Registers {
+        Registers {
+            status: 1,
+            options: 0,
+            reboot: false,
+            power_off: false,
+            boot_failure: None,
+            panic: None,
+            alerts: VecDeque::new(),
+            retained: None,
+        }
+    }
+
+    pub fn signal(&self) -> bool {
+        if broken(Fault::SignalBit0) {
+            self.status & 1 != 0
+        } else {
+            self.status != 0
+        }
+    }
+
+    pub fn post(&mut self, action: u8, text: &[u8]) -> Result<(), u32> {
+        let long = text.len() > 256;
+        let most = if broken(Fault::NineAlerts) { 9 } else { 8 };
+        let full = self.alerts.len() >= most;
+        if broken(Fault::ActionAfterLength) && long {
+            return Err(9);
+        }
+        if action == 0 {
+            return Err(13);
+        }
+        if broken(Fault::FullBeforeLong) && full {
+            return Err(10);
+        }
+        if long {
+            return Err(9);
+        }
+        if full {
+            return Err(10);
+        }
+        self.alerts.push_back(Alert { action, text: text.to_vec() });
+        self.status |= 2;
+        Ok(())
+    }
+
+    pub fn set_options(&mut self, options: u64) -> Result<(), u32> {
+        let highest = if broken(Fault::OptionBit9) { 9 } else { 8 };
+        if options >> (highest + 1) != 0 {
+            return Err(13);
+        }
+        self.options = options;
+        Ok(())
+    }
+
+    fn next_alert(&mut self, sequence: u64) -> Alert {
+        if let Some((held, alert)) = &self.retained {
+            if *held == sequence && !broken(Fault::ResendTakes) {
+                return alert.clone();
+            }
+        }
+        let alert = self.alerts.pop_front().unwrap_or(Alert { action: 0, text: Vec::new() });
+        self.retained = Some((sequence, alert.clone()));
+        if self.alerts.is_empty() && !broken(Fault::AlertBitKept) {
+            self.status &= !2;
+        }
+        alert
+    }
+}
+
+fn record(code: u16, rest: &[u8]) -> Record {
+    let most = if broken(Fault::RecordKeeps511) { 511 } else { 512 };
+    let kept = rest[..rest.len().min(most)].to_vec();
+    Record { code, length: if broken(Fault::RecordLengthKept) { kept.len() } else { rest.len() }, kept }
+}
+
+pub type Settings = [Option<Vec<u8>>; 3];
+
+/// Key lookup: the result, and the value where it is 0.
+pub fn lookup(factory: &Factory, settings: &Settings, key: u8, most: u16) -> (u8, Vec<u8>) {
+    let value = match key {
+        0 => Some(b"pong".to_vec()),
+        1 => Some(factory.image_id.clone()),
+        2 => {
+            let mut both = (factory.items.len() as u32).to_le_bytes().to_vec();
+            both.extend_from_slice(&0u32.to_le_bytes());
+            Some(both)
+        }
+        3..=5 => settings[usize::from(key) - 3].clone(),
+        _ => return (1, Vec::new()),
+    };
+    let limit = usize::from(most);
+    match value {
+        None => (2, Vec::new()),
+        Some(value) if value.is_empty() && key >= 3 && broken(Fault::EmptyIsNone) => (2, value),
+        Some(value) if value.len() > limit || broken(Fault::MostIsBelow) && value.len() == limit => (3, Vec::new()),
+        Some(value) => (0, value),
+    }
+}
+
+fn set_key(settings: &mut Settings, key: u8, value: &[u8]) -> u8 {
+    let most = match key {
+        0..=2 if broken(Fault::ReadOnlyAfterLength) && value.len() > 1024 => return 3,
+        0..=2 => return 2,
+        3 => 256 + usize::from(broken(Fault::Key3At257)),
+        4 => 4096,
+        5 => if broken(Fault::Key5At4096) { 4096 } else { 1024 },
+        _ => return 1,
+    };
+    if value.len() > most {
+        return 3;
+    }
+    settings[usize::from(key) - 3] = Some(value.to_vec());
+    0
+}
+
+#[derive(Clone, Debug)]
+pub struct Supervisor {
+    pub reader: Reader,
+    pub outbox: Outbox,
+    pub factory: Factory,
+    pub settings: Settings,
+    pub registers: Registers,
+}
+
+/// What the frames of a call may have changed, and how often each reason and each command came.
+pub struct Touched {
+    pub outbox: bool,
+    pub settings: bool,
+    pub registers: bool,
+    pub reasons: [u64; 8],
+    pub commands: [u64; 17],
+}
+
+impl Touched {
+    pub fn none() -> Touched {
+        Touched { outbox: false, settings: false, registers: false, reasons: [0; 8], commands: [0; 17] }
+    }
+}
+
+impl Supervisor {
+    pub fn start(factory: Factory, before: &Outbox) -> Supervisor {
+        Supervisor {
+            reader: Reader::default(),
+            outbox: Outbox { pending: Vec::new(), last_non_zero: before.last_non_zero && broken(Fault::StartKeepsFlag) },
+            factory,
+            settings: [None, None, None],
+            registers: Registers::fresh(),
+        }
+    }
+
+    /// Reads up to the piece's end or its first 00: bytes read, kind (0 more, 1 empty, 2 request, 3 failure), reason.
+    pub fn step(&mut self, image: &[u8], piece: &[u8], touched: &mut Touched) -> (usize, u8, u8) {
+        let (used, ended) = self.reader.read(piece);
+        let answer = match ended {
+            Ended::More => return (used, 0, 0),
+            Ended::Empty => {
+                if broken(Fault::EmptyDiscards) {
+                    self.outbox.replace(None);
+                    touched.outbox = true;
+                }
+                return (used, 1, 0);
+            }
+            Ended::Message(message) => self.request(&message, image, touched).map(|reply| (message.sequence, reply)),
+            Ended::Failure(failure) => Err(failure),
+        };
+        touched.outbox = true;
+        match answer {
+            Ok((sequence, reply)) => {
+                if reply.is_some() || !broken(Fault::SilentKeeps) {
+                    self.outbox.replace(reply.map(|(command, data)| frame(1, sequence | TOP_BIT, command, &data)));
+                }
+                (used, 2, 0)
+            }
+            Err(failure) => {
+                touched.reasons[usize::from(failure.reason)] += 1;
+                let sequence = failure.sequence.map_or(u64::MAX, |sequence| sequence | TOP_BIT);
+                self.outbox.replace(Some(frame(1, sequence, 2, &[failure.reason])));
+                (used, 3, failure.reason)
+            }
+        }
+    }
+
+    pub fn receive(&mut self, image: &[u8], piece: &[u8], touched: &mut Touched) {
+        let mut rest = piece;
+        while !rest.is_empty() {
+            let (used, _, _) = self.step(image, rest, touched);
+            rest = &rest[used..];
+        }
+    }
+
+    /// The supervisor's tests, then what the request does; a reply is a command and its data.
+    fn request(&mut self, message: &Message, image: &[u8], touched: &mut Touched) -> Result<Option<(u8, Vec<u8>)>, Failure> {
+        let named = |reason| Failure { reason, sequence: Some(message.sequence) };
+        let top = message.sequence & TOP_BIT != 0;
+        if broken(Fault::TopBitBeforeVersion) && top {
+            return Err(named(6));
+        }
+        if message.version != 1 {
+            return Err(named(5));
+        }
+        if top {
+            return Err(named(6));
+        }
+        let data = &message.data[..];
+        let length_right = match message.command {
+            0x01..=0x05 | 0x08..=0x0a => data.is_empty(),
+            0x06 | 0x10 => !data.is_empty(),
+            0x07 => data.len() >= 2,
+            0x0d => data.len() == 40,
+            0x0e => data.len() == 3,
+            0x0f => data.len() == 4,
+            _ if broken(Fault::UnknownNamed) => return Err(named(3)),
+            _ => return Err(Failure { reason: 3, sequence: None }),
+        };
+        if !length_right {
+            return Err(named(7));
+        }
+        touched.commands[usize::from(message.command)] += 1;
+        if broken(Fault::AlertCopyDropped) && message.command != 0x0a {
+            self.registers.retained = None;
+            touched.registers = true;
+        }
+        let registers = &mut self.registers;
+        let factory = &self.factory;
+        Ok(match message.command {
+            0x01 => {
+                touched.registers = true;
+                registers.reboot = true;
+                None
+            }
+            0x02 => {
+                touched.registers = true;
+                registers.power_off = true;
+                None
+            }
+            0x03 => Some((0x03, vec![factory.bsu])),
+            0x04 => {
+                let mut reply = factory.model.to_vec();
+                reply.extend_from_slice(&factory.revision.to_le_bytes());
+                reply.extend_from_slice(&factory.serial);
+                Some((0x04, reply))
+            }
+            0x05 => {
+                let mut reply = factory.base.to_vec();
+                reply.extend_from_slice(&factory.count.to_le_bytes());
+                reply.push(factory.stride);
+                Some((0x05, reply))
+            }
+            0x06 => {
+                touched.registers = true;
+                if !(broken(Fault::BootFailuresKept) && registers.boot_failure.is_some()) {
+                    registers.boot_failure = Some(record(u16::from(data[0]), &data[1..]));
+                }
+                None
+            }
+            0x07 => {
+                touched.registers = true;
+                registers.panic = Some(record(number(&data[..2]) as u16, &data[2..]));
+                if broken(Fault::PanicSilent) { None } else { Some((0x01, Vec::new())) }
+            }
+            0x08 => {
+                let mut reply = registers.status.to_le_bytes().to_vec();
+                reply.extend_from_slice(&registers.options.to_le_bytes());
+                Some((0x06, reply))
+            }
+            0x09 => {
+                touched.registers = true;
+                registers.status &= if broken(Fault::AckClearsBoth) { 0 } else { !1 };
+                Some((0x01, Vec::new()))
+            }
+            0x0a => {
+                touched.registers = true;
+                let alert = registers.next_alert(message.sequence);
+                let mut reply = vec![alert.action];
+                reply.extend_from_slice(&alert.text);
+                Some((0x07, reply))
+            }
+            0x0d => {
+                let mut offset = number(&data[32..]);
+                if broken(Fault::OffsetTruncated) {
+                    offset &= 0xffff_ffff;
+                }
+                let ours = data[..32] == factory.hash || broken(Fault::HashIgnored);
+                let most = if broken(Fault::Block4095) { 4095 } else { 4096 };
+                let block = if ours && offset < image.len() as u64 {
+                    let tail = &image[offset as usize..];
+                    tail[..tail.len().min(most)].to_vec()
+                } else {
+                    Vec::new()
+                };
+                Some((0x09, block))
+            }
+            0x0e => {
+                let (result, value) = lookup(factory, &self.settings, data[0], number(&data[1..]) as u16);
+                let mut reply = vec![result];
+                reply.extend_from_slice(&value);
+                Some((0x0a, reply))
+            }
+            0x0f => {
+                let mut index = number(data) as usize;
+                if broken(Fault::ItemIndexLast) && index == factory.items.len() && index > 0 {
+                    index -= 1;
+                }
+                let mut reply = Vec::new();
+                match factory.items.get(index) {
+                    None => {
+                        reply.push(1);
+                        reply.extend_from_slice(&[0; 33]);
+                    }
+                    Some(item) => {
+                        reply.push(item.result);
+                        reply.extend_from_slice(&item.name);
+                        reply.push(item.kind);
+                        if item.result == 0 || broken(Fault::ItemDataKept) {
+                            reply.extend_from_slice(&item.data);
+                        }
+                    }
+                }
+                Some((0x0b, reply))
+            }
+            _ => {
+                let result = set_key(&mut self.settings, data[0], &data[1..]);
+                touched.settings |= result == 0;
+                Some((0x0c, vec![result]))
+            }
+        })
+    }
+}

@@ -1,0 +1,203 @@
+// Defines the lent parts as docs/STATE.md lists them: lengths, fields with their allowed values, and the typed state that valid bytes mean.
+// Assumes docs/STATE.md alone.
+
+use crate::model::{broken, Alert, Factory, Fault, Item, Outbox, Reader, Record, Registers, Settings};
+
+/// The parts: a line reader's of its own, then the supervisor's five.
+pub const LINE: usize = 0;
+pub const READER: usize = 1;
+pub const OUTBOX: usize = 2;
+pub const FACTORY: usize = 3;
+pub const SETTINGS: usize = 4;
+pub const REGISTERS: usize = 5;
+pub const NAMES: [&str; 6] = ["line state", "reader", "outbox", "factory", "settings", "registers"];
+pub const LENGTHS: [usize; 6] = [4142, 4142, 4147, 1729, 5385, 3393];
+pub const START_LENGTH: usize = 1721;
+pub const DATA_PLACE: usize = 19;
+pub const KEYS: [(usize, usize); 3] = [(0, 256), (259, 4096), (4358, 1024)];
+
+pub enum Allowed {
+    UpTo(u64),
+    Between(u64, u64),
+    OneOf(&'static [u64]),
+}
+
+pub struct Field {
+    pub place: usize,
+    pub width: usize,
+    pub allowed: Allowed,
+}
+
+impl Field {
+    pub fn value(&self, bytes: &[u8]) -> u64 {
+        number(bytes, self.place, self.width)
+    }
+
+    /// The highest number that the field's width holds.
+    pub fn most(&self) -> u64 {
+        u64::MAX >> (64 - 8 * self.width)
+    }
+
+    /// A number next to the allowed ones.
+    pub fn past(&self) -> u64 {
+        match self.allowed {
+            Allowed::UpTo(most) => most + 1,
+            Allowed::Between(least, _) => least - 1,
+            Allowed::OneOf(values) => values[values.len() - 1] + 1,
+        }
+    }
+
+    pub fn allows(&self, value: u64) -> bool {
+        match self.allowed {
+            Allowed::UpTo(most) => value <= most,
+            Allowed::Between(least, most) => least <= value && value <= most,
+            Allowed::OneOf(values) => values.contains(&value),
+        }
+    }
+}
+
+pub fn number(bytes: &[u8], place: usize, width: usize) -> u64 {
+    bytes[place..place + width].iter().rev().fold(0, |high, &byte| high << 8 | u64::from(byte))
+}
+
+pub fn put(bytes: &mut [u8], place: usize, width: usize, value: u64) {
+    bytes[place..place + width].copy_from_slice(&value.to_le_bytes()[..width]);
+}
+
+fn start_fields(bytes: &[u8]) -> Vec<Field> {
+    let mut fields = vec![
+        Field { place: 0, width: 1, allowed: Allowed::OneOf(&[0x41, 0x42]) },
+        Field { place: 68, width: 1, allowed: Allowed::UpTo(64) },
+        Field { place: 1717, width: 4, allowed: Allowed::UpTo(16) },
+    ];
+    let counted = if broken(Fault::ItemsPastCount) { 16 } else { number(bytes, 1717, 4).min(16) as usize };
+    for item in 0..counted {
+        fields.push(Field { place: 133 + 99 * item, width: 1, allowed: Allowed::OneOf(&[0, 2, 3]) });
+        fields.push(Field { place: 167 + 99 * item, width: 1, allowed: Allowed::UpTo(64) });
+    }
+    fields
+}
+
+/// The fields of a part that 12 tests; the bytes have at least the published length.
+pub fn fields(part: usize, bytes: &[u8]) -> Vec<Field> {
+    let flag = |place| Field { place, width: 1, allowed: Allowed::UpTo(1) };
+    let up_to = |place, width, most| Field { place, width, allowed: Allowed::UpTo(most) };
+    match part {
+        LINE | READER => vec![up_to(0, 2, 4141)],
+        OUTBOX => vec![up_to(0, 2, number(bytes, 2, 2)), up_to(2, 2, 4142), flag(4)],
+        FACTORY => {
+            let mut fields = start_fields(bytes);
+            fields.push(Field { place: 1721, width: 4, allowed: Allowed::OneOf(&[0]) });
+            fields.push(Field { place: 1725, width: 4, allowed: Allowed::OneOf(&[0x676e_6f70]) });
+            fields
+        }
+        SETTINGS => KEYS.iter().flat_map(|&(place, most)| [flag(place), up_to(place + 1, 2, most as u64)]).collect(),
+        _ => {
+            let mut fields = vec![
+                up_to(0, 8, 3),
+                up_to(8, 8, 511),
+                flag(16),
+                flag(17),
+                flag(18),
+                up_to(19, 2, 255),
+                up_to(21, 2, 4103),
+                flag(535),
+                up_to(538, 2, 4102),
+                up_to(1052, 1, 8),
+                flag(3125),
+                up_to(3134, 2, 256),
+            ];
+            for alert in 0..number(bytes, 1052, 1).min(8) as usize {
+                fields.push(up_to(1053 + 259 * alert, 2, 256));
+                fields.push(Field { place: 1055 + 259 * alert, width: 1, allowed: Allowed::Between(1, 255) });
+            }
+            fields
+        }
+    }
+}
+
+/// Whether no call but a start refuses this part as 12.
+pub fn valid(part: usize, bytes: &[u8]) -> bool {
+    bytes.len() >= LENGTHS[part] && fields(part, bytes).iter().all(|field| field.allows(field.value(bytes)))
+}
+
+/// Whether start takes these start data.
+pub fn valid_start(data: &[u8]) -> bool {
+    start_fields(data).iter().all(|field| field.allows(field.value(data)))
+}
+
+// What valid bytes mean
+
+fn array<const N: usize>(bytes: &[u8], place: usize) -> [u8; N] {
+    bytes[place..place + N].try_into().unwrap()
+}
+
+fn run(bytes: &[u8], place: usize, length: u64) -> Vec<u8> {
+    bytes[place..place + length as usize].to_vec()
+}
+
+pub fn reader(bytes: &[u8]) -> Reader {
+    match number(bytes, 0, 2) {
+        4141 => Reader { bytes: Vec::new(), long: true },
+        count => Reader { bytes: run(bytes, 2, count), long: false },
+    }
+}
+
+pub fn outbox(bytes: &[u8]) -> Outbox {
+    let (begin, end) = (number(bytes, 0, 2), number(bytes, 2, 2));
+    Outbox { pending: run(bytes, 5 + begin as usize, end - begin), last_non_zero: bytes[4] == 1 }
+}
+
+pub fn factory(bytes: &[u8]) -> Factory {
+    let item = |i: usize| {
+        let place = 133 + 99 * i;
+        Item {
+            result: bytes[place],
+            name: array(bytes, place + 1),
+            kind: bytes[place + 33],
+            data: run(bytes, place + 35, u64::from(bytes[place + 34])),
+        }
+    };
+    Factory {
+        bsu: bytes[0],
+        model: array(bytes, 1),
+        revision: number(bytes, 12, 4) as u32,
+        serial: array(bytes, 16),
+        base: array(bytes, 27),
+        count: number(bytes, 33, 2) as u16,
+        stride: bytes[35],
+        hash: array(bytes, 36),
+        image_id: run(bytes, 69, u64::from(bytes[68])),
+        items: (0..number(bytes, 1717, 4) as usize).map(item).collect(),
+    }
+}
+
+pub fn settings(bytes: &[u8]) -> Settings {
+    KEYS.map(|(place, _)| (bytes[place] == 1).then(|| run(bytes, place + 3, number(bytes, place + 1, 2))))
+}
+
+fn record(bytes: &[u8], place: usize) -> Option<Record> {
+    let length = number(bytes, place + 3, 2);
+    (bytes[place] == 1).then(|| Record {
+        code: number(bytes, place + 1, 2) as u16,
+        length: length as usize,
+        kept: run(bytes, place + 5, length.min(512)),
+    })
+}
+
+fn alert(bytes: &[u8], place: usize) -> Alert {
+    Alert { action: bytes[place + 2], text: run(bytes, place + 3, number(bytes, place, 2)) }
+}
+
+pub fn registers(bytes: &[u8]) -> Registers {
+    Registers {
+        status: number(bytes, 0, 8),
+        options: number(bytes, 8, 8),
+        reboot: bytes[16] == 1,
+        power_off: bytes[17] == 1,
+        boot_failure: record(bytes, 18),
+        panic: record(bytes, 535),
+        alerts: (0..usize::from(bytes[1052])).map(|i| alert(bytes, 1053 + 259 * i)).collect(),
+        retained: (bytes[3125] == 1).then(|| (number(bytes, 3126, 8), alert(bytes, 3134))),
+    }
+}

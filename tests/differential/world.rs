@@ -1,0 +1,521 @@
+// Defines one call on both sides and the comparison of all that it answers, writes and leaves.
+// Assumes document 01 for the answers, docs/STATE.md for the lent bytes, and the linked library.
+
+use crate::calls::{hex, refused, same, Call, Lent, Outcome};
+use crate::library::*;
+use crate::model::{self, broken, Ended, Fault, Reader, Record, Supervisor, Touched, LONGEST_DATA};
+use crate::random::Random;
+use crate::state::{self, DATA_PLACE, FACTORY, LENGTHS, LINE, NAMES, OUTBOX, READER, REGISTERS, SETTINGS, START_LENGTH};
+use std::collections::HashSet;
+use std::fmt;
+
+/// Bytes behind each part, and behind a room or an answer.
+pub const TAIL: usize = 24;
+const GUARD: usize = 16;
+/// The fields of docs/STATE.md with forbidden values: 1 in a line reader's part (two of them), 3, 37, 6 and 28 in the others.
+pub const FIELDS: usize = 2 + 3 + 37 + 6 + 28;
+
+/// Both sides: the library's lent parts, and the model.
+pub struct World {
+    pub random: Random,
+    pub parts: [Vec<u8>; 6],
+    pub before: [Vec<u8>; 6],
+    pub line: Reader,
+    pub supervisor: Supervisor,
+    /// Data of the message that a line read has just handed out, for the line state and for the reader.
+    pub handed: [Option<Vec<u8>>; 2],
+    pub wires: [Vec<u8>; 2],
+    pub images: Vec<Vec<u8>>,
+    pub pristine: Vec<Vec<u8>>,
+    pub tally: Tally,
+    pub trace: bool,
+}
+
+/// What a run has called, met and compared.
+#[derive(Default)]
+pub struct Tally {
+    pub calls: u64,
+    pub fed: u64,
+    /// Bytes of numbers, answers and rooms.
+    pub said: u64,
+    /// Bytes of lent parts and of what is lent for reading.
+    pub lent: u64,
+    /// Bytes of parts that were compared by what they mean.
+    pub meant: u64,
+    pub refusals: [u64; 14],
+    pub reasons: [u64; 8],
+    pub commands: [u64; 17],
+    pub fields: HashSet<(usize, usize)>,
+}
+
+impl Tally {
+    /// What has not come up: refusal numbers, reasons, commands.
+    pub fn missing(&self) -> String {
+        let mut missing = String::new();
+        for number in [8, 9, 10, 11, 12, 13] {
+            if self.refusals[number] == 0 {
+                missing += &format!(" refusal {number}");
+            }
+        }
+        for reason in 1..=7 {
+            if self.reasons[reason] == 0 {
+                missing += &format!(" reason {reason}");
+            }
+        }
+        for command in (1..=16).filter(|&command| command != 0x0b && command != 0x0c) {
+            if self.commands[command] == 0 {
+                missing += &format!(" command {command:#04x}");
+            }
+        }
+        if self.fields.len() < FIELDS {
+            missing += &format!(" {} fields", FIELDS - self.fields.len());
+        }
+        missing
+    }
+}
+
+impl World {
+    pub fn new(seed: u64, trace: bool) -> World {
+        let mut random = Random(seed);
+        let images: Vec<Vec<u8>> = [0, 1, 4095, 4096, 4097, 8192, 9000, 20000]
+            .iter()
+            .enumerate()
+            .map(|(i, &length)| random.bytes_of(i % 6, length))
+            .collect();
+        let parts = LENGTHS.map(|length| {
+            let mut bytes = vec![0; length + TAIL];
+            random.fill(&mut bytes);
+            bytes
+        });
+        let mut data = [0; START_LENGTH];
+        data[0] = 0x41;
+        let supervisor = Supervisor::start(state::factory(&data), &model::Outbox::default());
+        World {
+            random,
+            before: parts.clone(),
+            parts,
+            line: Reader::default(),
+            supervisor,
+            handed: [None, None],
+            wires: [Vec::new(), Vec::new()],
+            pristine: images.clone(),
+            images,
+            tally: Tally::default(),
+            trace,
+        }
+    }
+
+    fn line_reader(&mut self, part: usize) -> &mut Reader {
+        if part == LINE { &mut self.line } else { &mut self.supervisor.reader }
+    }
+
+    fn record(&self, call: &Call) -> Option<&Record> {
+        let registers = &self.supervisor.registers;
+        if matches!(call, Call::Panic) { registers.panic.as_ref() } else { registers.boot_failure.as_ref() }
+    }
+
+    /// The bytes of room that the call needs.
+    fn need(&self, call: &Call) -> usize {
+        match call {
+            Call::LineData { length, .. } => (*length).min(5000) as usize,
+            Call::LineWrite { version, sequence, command, head, rest } => {
+                model::frame(*version, *sequence, *command, &[&head[..], &rest[..]].concat()).len()
+            }
+            Call::Lookup { key, most } => model::lookup(&self.supervisor.factory, &self.supervisor.settings, *key, *most).1.len(),
+            Call::BootFailure | Call::Panic => self.record(call).map_or(0, |record| record.kept.len()),
+            _ => 0,
+        }
+    }
+
+    /// Lengths to lend: mostly enough, at times one too short.
+    pub fn lend(&mut self, call: &Call) -> Lent {
+        let need = self.need(call);
+        let random = &mut self.random;
+        let mut parts = LENGTHS.map(|length| length + random.below(TAIL + 1));
+        if random.percent(4) && !call.parts().is_empty() {
+            let part = random.pick(call.parts());
+            parts[part] = match random.below(3) {
+                0 => LENGTHS[part] - 1,
+                1 => random.below(8),
+                _ => random.below(LENGTHS[part]),
+            };
+        }
+        let mut answer = call.answers() + random.below(3);
+        if random.percent(4) && call.answers() > 0 {
+            answer = random.below(call.answers());
+        }
+        let pending = self.supervisor.outbox.pending.len();
+        let room = match call {
+            Call::Take => match random.below(10) {
+                0 => 0,
+                1..=3 => 1,
+                4 => random.below(40),
+                5 => pending,
+                6 => pending.saturating_sub(1),
+                7 => random.below(pending + 1),
+                8 => pending + 1,
+                _ => 5000,
+            },
+            _ => match random.below(20) {
+                0 => need,
+                1 => need.saturating_sub(1),
+                2 => random.below(need + 1),
+                3 => need + 5000,
+                _ => need + random.below(20),
+            },
+        };
+        Lent { parts, room, answer }
+    }
+
+    /// What document 01 says of the call; the model's state moves on unless it is refused.
+    fn expect(&mut self, call: &Call, lent: &Lent) -> Outcome {
+        let short_answer = lent.answer < call.answers();
+        if broken(Fault::TwelveLast) && short_answer {
+            return refused(8);
+        }
+        for &part in call.parts() {
+            let bytes = &self.parts[part][..lent.parts[part]];
+            if bytes.len() < LENGTHS[part] || !call.starts() && !state::valid(part, bytes) {
+                return refused(12);
+            }
+        }
+        let mut outcome = Outcome::default();
+        match call {
+            Call::LineStart { part } => {
+                *self.line_reader(*part) = Reader::default();
+                self.handed[*part] = None;
+                outcome.changed[*part] = true;
+                outcome.exact.push((*part, self.line_started(*part)));
+            }
+            Call::LineRead { part, piece } => {
+                if short_answer {
+                    return refused(8);
+                }
+                let (used, ended) = self.line_reader(*part).read(piece);
+                self.handed[*part] = None;
+                let said = match ended {
+                    Ended::More => [0; 6],
+                    Ended::Empty => [1, 0, 0, 0, 0, 0],
+                    Ended::Message(message) => {
+                        let length = message.data.len() as u64;
+                        self.handed[*part] = Some(message.data);
+                        [2, 0, u64::from(message.version), message.sequence, u64::from(message.command), length]
+                    }
+                    Ended::Failure(failure) => [3, u64::from(failure.reason), 0, failure.sequence.unwrap_or(0), 0, 0],
+                };
+                outcome.answer.push(used as u64);
+                outcome.answer.extend_from_slice(&said);
+                outcome.changed[*part] = !piece.is_empty();
+            }
+            Call::LineData { part, length } => {
+                if *length > LONGEST_DATA as u64 {
+                    return refused(9);
+                }
+                let length = *length as usize;
+                if lent.room < length {
+                    return refused(8);
+                }
+                outcome.room = self.parts[*part][DATA_PLACE..DATA_PLACE + length].to_vec();
+                if let Some(data) = &self.handed[*part] {
+                    let same = length.min(data.len());
+                    outcome.room[..same].copy_from_slice(&data[..same]);
+                }
+            }
+            Call::LineTail { part } => {
+                if short_answer {
+                    return refused(8);
+                }
+                let reader = self.line_reader(*part);
+                outcome.answer = vec![u64::from(reader.long), reader.bytes.len() as u64];
+            }
+            Call::LineWrite { version, sequence, command, head, rest } => {
+                let data = [&head[..], &rest[..]].concat();
+                if data.len() > LONGEST_DATA {
+                    return refused(9);
+                }
+                let frame = model::frame(*version, *sequence, *command, &data);
+                if short_answer || lent.room < frame.len() {
+                    return refused(8);
+                }
+                outcome.answer = vec![frame.len() as u64];
+                outcome.room = frame;
+            }
+            Call::Start { data } => {
+                if !state::valid_start(&data[..]) {
+                    return refused(11);
+                }
+                self.supervisor = Supervisor::start(state::factory(&data[..]), &self.supervisor.outbox);
+                self.handed[READER] = None;
+                outcome.changed = [false, true, true, true, true, true];
+                let mut factory = data.to_vec();
+                factory.extend_from_slice(&[0, 0, 0, 0]);
+                factory.extend_from_slice(b"pong");
+                let mut registers = vec![0; LENGTHS[REGISTERS]];
+                registers[0] = 1;
+                let mut outbox = vec![0; LENGTHS[OUTBOX]];
+                outbox[4] = u8::from(self.supervisor.outbox.last_non_zero);
+                outcome.exact = vec![
+                    (READER, self.line_started(READER)),
+                    (OUTBOX, outbox),
+                    (FACTORY, factory),
+                    (SETTINGS, vec![0; LENGTHS[SETTINGS]]),
+                    (REGISTERS, registers),
+                ];
+            }
+            Call::Receive { image, piece } | Call::Step { image, piece } => {
+                if short_answer {
+                    return refused(8);
+                }
+                let image = &self.pristine[image.which][..image.length];
+                let mut touched = Touched::none();
+                if matches!(call, Call::Step { .. }) {
+                    let (used, kind, reason) = self.supervisor.step(image, piece, &mut touched);
+                    outcome.answer = vec![used as u64, u64::from(kind), u64::from(reason)];
+                } else {
+                    self.supervisor.receive(image, piece, &mut touched);
+                }
+                for (sum, times) in self.tally.reasons.iter_mut().zip(touched.reasons) {
+                    *sum += times;
+                }
+                for (sum, times) in self.tally.commands.iter_mut().zip(touched.commands) {
+                    *sum += times;
+                }
+                self.handed[READER] = None;
+                outcome.changed = [false, !piece.is_empty(), touched.outbox, false, touched.settings, touched.registers];
+            }
+            Call::Take => {
+                if short_answer {
+                    return refused(8);
+                }
+                outcome.room = self.supervisor.outbox.take(lent.room);
+                outcome.answer = vec![outcome.room.len() as u64];
+                outcome.changed[OUTBOX] = !outcome.room.is_empty();
+            }
+            Call::Post { action, text } => {
+                if let Err(code) = self.supervisor.registers.post(*action, text) {
+                    return refused(code);
+                }
+                outcome.changed[REGISTERS] = true;
+            }
+            Call::SetOptions { options } => {
+                if let Err(code) = self.supervisor.registers.set_options(*options) {
+                    return refused(code);
+                }
+                outcome.changed[REGISTERS] = true;
+                let mut registers = self.parts[REGISTERS][..LENGTHS[REGISTERS]].to_vec();
+                state::put(&mut registers, 8, 8, *options);
+                outcome.exact.push((REGISTERS, registers));
+            }
+            Call::Lookup { key, most } => {
+                let (result, value) = model::lookup(&self.supervisor.factory, &self.supervisor.settings, *key, *most);
+                if short_answer || lent.room < value.len() {
+                    return refused(8);
+                }
+                outcome.answer = vec![u64::from(result), value.len() as u64];
+                outcome.room = value;
+            }
+            Call::Signal => {
+                if short_answer {
+                    return refused(8);
+                }
+                outcome.answer = vec![u64::from(self.supervisor.registers.signal())];
+            }
+            Call::Flags => {
+                if short_answer {
+                    return refused(8);
+                }
+                let registers = &self.supervisor.registers;
+                outcome.answer = vec![u64::from(registers.reboot), u64::from(registers.power_off)];
+            }
+            Call::BootFailure | Call::Panic => {
+                let record = self.record(call).cloned();
+                let kept = record.as_ref().map_or(0, |record| record.kept.len());
+                if short_answer || lent.room < kept {
+                    return refused(8);
+                }
+                outcome.answer = vec![0; 4];
+                if let Some(record) = record {
+                    outcome.answer = vec![1, u64::from(record.code), record.length as u64, kept as u64];
+                    outcome.room = record.kept;
+                }
+            }
+        }
+        outcome
+    }
+
+    /// A line reader's part just after its start.
+    fn line_started(&self, part: usize) -> Vec<u8> {
+        let mut bytes = self.parts[part][..LENGTHS[part]].to_vec();
+        state::put(&mut bytes, 0, 2, 0);
+        bytes
+    }
+
+    fn library(&mut self, call: &Call, lent: &Lent, room: &mut [u8], answer: &mut [u64]) -> u32 {
+        let [line, reader, outbox, factory, settings, registers] = &mut self.parts;
+        let [line_n, reader_n, outbox_n, factory_n, settings_n, registers_n] = lent.parts;
+        let (room_n, answer_n) = (lent.room, lent.answer);
+        let (room, answer) = (room.as_mut_ptr(), answer.as_mut_ptr());
+        let images = &self.images;
+        let mut either = |part: usize| {
+            if part == LINE { (line.as_mut_ptr(), line_n) } else { (reader.as_mut_ptr(), reader_n) }
+        };
+        // Every pointer is to the bytes of a live vector at least as long as the length passed with it.
+        unsafe {
+            match call {
+                Call::LineStart { part } => {
+                    let (state, n) = either(*part);
+                    oatcastle_line_start(state, n)
+                }
+                Call::LineRead { part, piece } => {
+                    let (state, n) = either(*part);
+                    oatcastle_line_read(state, n, piece.as_ptr(), piece.len(), answer, answer_n)
+                }
+                Call::LineData { part, length } => {
+                    let (state, n) = either(*part);
+                    oatcastle_line_data(state, n, *length, room, room_n)
+                }
+                Call::LineTail { part } => {
+                    let (state, n) = either(*part);
+                    oatcastle_line_tail(state, n, answer, answer_n)
+                }
+                Call::LineWrite { version, sequence, command, head, rest } => oatcastle_line_write(
+                    *version, *sequence, *command, head.as_ptr(), head.len(), rest.as_ptr(), rest.len(), room, room_n, answer, answer_n,
+                ),
+                Call::Start { data } => oatcastle_start(
+                    data.as_ptr(), reader.as_mut_ptr(), reader_n, outbox.as_mut_ptr(), outbox_n, factory.as_mut_ptr(), factory_n,
+                    settings.as_mut_ptr(), settings_n, registers.as_mut_ptr(), registers_n,
+                ),
+                Call::Receive { image, piece } => oatcastle_receive(
+                    images[image.which].as_ptr(), image.length, piece.as_ptr(), piece.len(), reader.as_mut_ptr(), reader_n,
+                    outbox.as_mut_ptr(), outbox_n, factory.as_ptr(), factory_n, settings.as_mut_ptr(), settings_n,
+                    registers.as_mut_ptr(), registers_n,
+                ),
+                Call::Step { image, piece } => oatcastle_step(
+                    images[image.which].as_ptr(), image.length, piece.as_ptr(), piece.len(), reader.as_mut_ptr(), reader_n,
+                    outbox.as_mut_ptr(), outbox_n, factory.as_ptr(), factory_n, settings.as_mut_ptr(), settings_n,
+                    registers.as_mut_ptr(), registers_n, answer, answer_n,
+                ),
+                Call::Take => oatcastle_take(outbox.as_mut_ptr(), outbox_n, room, room_n, answer, answer_n),
+                Call::Post { action, text } => {
+                    oatcastle_post(registers.as_mut_ptr(), registers_n, *action, text.as_ptr(), text.len())
+                }
+                Call::SetOptions { options } => oatcastle_set_options(registers.as_mut_ptr(), registers_n, *options),
+                Call::Lookup { key, most } => oatcastle_lookup(
+                    factory.as_ptr(), factory_n, settings.as_ptr(), settings_n, *key, *most, room, room_n, answer, answer_n,
+                ),
+                Call::Signal => oatcastle_signal(registers.as_ptr(), registers_n, answer, answer_n),
+                Call::Flags => oatcastle_flags(registers.as_ptr(), registers_n, answer, answer_n),
+                Call::BootFailure => oatcastle_boot_failure(registers.as_ptr(), registers_n, room, room_n, answer, answer_n),
+                Call::Panic => oatcastle_panic(registers.as_ptr(), registers_n, room, room_n, answer, answer_n),
+            }
+        }
+    }
+
+    fn same(&mut self, what: &str, model: &[u8], library: &[u8]) -> Result<(), String> {
+        self.tally.lent += library.len() as u64;
+        same(what, model, library)
+    }
+
+    fn same_meaning<T: PartialEq + fmt::Debug>(&mut self, part: usize, model: &T, library: &T) -> Result<(), String> {
+        self.tally.meant += LENGTHS[part] as u64;
+        if model == library {
+            return Ok(());
+        }
+        Err(format!("what the {} holds\n  model   {model:?}\n  library {library:?}", NAMES[part]))
+    }
+
+    /// One call on both sides.
+    pub fn call(&mut self, call: &Call, lent: &Lent) -> Result<Outcome, String> {
+        if self.trace {
+            println!("call {}: {call}; lent {lent:?}", self.tally.calls + 1);
+        }
+        self.compare(call, lent).map_err(|difference| format!("call {}: {call}\n  lent {lent:?}\n  {difference}", self.tally.calls))
+    }
+
+    fn compare(&mut self, call: &Call, lent: &Lent) -> Result<Outcome, String> {
+        let mut room = vec![0; lent.room + GUARD];
+        self.random.fill(&mut room);
+        let mut answer: Vec<u64> = (0..lent.answer + GUARD / 8).map(|_| self.random.next()).collect();
+        for (before, part) in self.before.iter_mut().zip(&self.parts) {
+            before.copy_from_slice(part);
+        }
+        let mut room_expected = room.clone();
+        let mut answer_expected = answer.clone();
+        let expected = self.expect(call, lent);
+        if expected.code == 0 {
+            room_expected[..expected.room.len()].copy_from_slice(&expected.room);
+            answer_expected[..expected.answer.len()].copy_from_slice(&expected.answer);
+        }
+        // The library gets its own copy of what it may only read.
+        let given = call.clone();
+        let code = self.library(&given, lent, &mut room, &mut answer);
+        self.tally.calls += 1;
+        self.tally.said += 4;
+        if let Some(times) = self.tally.refusals.get_mut(code as usize) {
+            *times += 1;
+        }
+        if code != expected.code {
+            return Err(format!("the call's number\n  model   {}\n  library {code}", expected.code));
+        }
+        self.tally.said += 8 * answer.len() as u64 + room.len() as u64;
+        if answer != answer_expected {
+            return Err(format!("the answer\n  model   {answer_expected:x?}\n  library {answer:x?}"));
+        }
+        same("the room", &room_expected, &room)?;
+        self.inputs(call, &given)?;
+        let before = std::mem::take(&mut self.before);
+        let parts = std::mem::take(&mut self.parts);
+        let compared = self.same_parts(&expected, &before, &parts);
+        self.before = before;
+        self.parts = parts;
+        compared.map(|()| expected)
+    }
+
+    fn same_parts(&mut self, expected: &Outcome, before: &[Vec<u8>; 6], parts: &[Vec<u8>; 6]) -> Result<(), String> {
+        for part in LINE..=REGISTERS {
+            let bytes = &parts[part][..];
+            if !expected.changed[part] {
+                self.same(NAMES[part], &before[part], bytes)?;
+                continue;
+            }
+            let (published, past) = bytes.split_at(LENGTHS[part]);
+            self.same(&format!("past the {}", NAMES[part]), &before[part][LENGTHS[part]..], past)?;
+            if !state::valid(part, published) {
+                return Err(format!("the {} holds a value outside docs/STATE.md\n  library {}", NAMES[part], hex(published)));
+            }
+            let supervisor = &self.supervisor;
+            match part {
+                LINE => self.same_meaning(part, &self.line.clone(), &state::reader(published))?,
+                READER => self.same_meaning(part, &supervisor.reader.clone(), &state::reader(published))?,
+                OUTBOX => self.same_meaning(part, &supervisor.outbox.clone(), &state::outbox(published))?,
+                FACTORY => self.same_meaning(part, &supervisor.factory.clone(), &state::factory(published))?,
+                SETTINGS => self.same_meaning(part, &supervisor.settings.clone(), &state::settings(published))?,
+                _ => self.same_meaning(part, &supervisor.registers.clone(), &state::registers(published))?,
+            }
+        }
+        for (part, model) in &expected.exact {
+            self.same(NAMES[*part], model, &parts[*part][..LENGTHS[*part]])?;
+        }
+        Ok(())
+    }
+
+    /// What was lent for reading alone stays.
+    fn inputs(&mut self, call: &Call, given: &Call) -> Result<(), String> {
+        match (call, given) {
+            (Call::LineRead { piece: a, .. }, Call::LineRead { piece: b, .. })
+            | (Call::Post { text: a, .. }, Call::Post { text: b, .. }) => self.same("what was lent for reading", a, b),
+            (Call::Receive { image, piece: a }, Call::Receive { piece: b, .. })
+            | (Call::Step { image, piece: a }, Call::Step { piece: b, .. }) => {
+                self.same("the piece", a, b)?;
+                let (model, library) = (self.pristine[image.which].clone(), self.images[image.which].clone());
+                self.same("the image", &model[..image.length], &library[..image.length])
+            }
+            (Call::LineWrite { head: a, rest: c, .. }, Call::LineWrite { head: b, rest: d, .. }) => {
+                self.same("the head", a, b)?;
+                self.same("the rest", c, d)
+            }
+            (Call::Start { data: a }, Call::Start { data: b }) => self.same("the start data", &a[..], &b[..]),
+            _ => Ok(()),
+        }
+    }
+}
