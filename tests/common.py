@@ -1,4 +1,5 @@
-"""What the programs of this folder share: the texts of cases, the command line, and the comparison with a crate's files."""
+"""What the programs of this folder share: the texts of cases, the command line, and the comparison with a crate's files.
+Assumes that each stands in this folder, and the crates beside it."""
 import os
 import sys
 
