@@ -5,23 +5,35 @@ use mathlib.Core.List.{List, [], _∷_, _++_, map}
 use mathlib.Core.Option.{Option, none, some}
 use Prim.Native.Nat.{ℕ}
 use lib.Dec.{ltb}
-use lib.ListN.{length, take, drop}
+use lib.ListN.{length, take}
 use Rattle.line.specs.Message.{Message}
 use Rattle.line.specs.Judge.{Verdict, failure, good, judge}
 use Rattle.line.specs.Limits.{longest-form}
 use Rattle.line.specs.Reader.{TailSaid, unfinished, longer}
-use Rattle.line.specs.Reader.{Said, refused, more, empty, message, failed, verdictSaid, Outcome, reading, Start, starting, dataOf}
+use Rattle.line.specs.Reader.{Said, refused, more, empty, message, failed, verdictSaid, state-length, Outcome, reading, Start, starting, dataOf}
+use Rattle.line_claims.specs.Loans.{Loan, lentPart, backPart}
 
--- a call that is given a piece to read: it is lent the first bytes of the state, so many of them or all. What else a call might get that is
--- too little of the state is refused likewise, and nothing changes
+-- a call that is given a piece to read: what it is lent of the state, and the piece
 pub record Read : Type 0 where
-  pub lent : ℕ
+  pub lent : Loan
   pub piece : List ℕ
 
--- a call of the reader; a start is lent the first bytes of the state likewise
+-- a call of the reader; a start is lent what it is lent of the state likewise
 pub data Call : Type 0 where
   read : Read → Call
-  start : ℕ → Call
+  start : Loan → Call
+
+-- what a call is lent
+abbrev pub loanOf : Call → Loan
+loanOf (read c) = c .lent
+loanOf (start lent) = lent
+
+-- the bytes of the state that are lent, and the state when they have come back
+abbrev pub lentState : Loan → List ℕ → List ℕ
+lentState l s = lentPart state-length l s
+
+abbrev pub back : Loan → List ℕ → List ℕ → List ℕ
+back l s part = backPart state-length l s part
 
 -- the message that an answer hands out, with its data as the state at the call's return holds them
 unfoldable pub handed : Said → List ℕ → List Message
@@ -59,10 +71,6 @@ pub record Reader : Type 0 where
 unfoldable pub fresh : List ℕ → Reader
 fresh s = record { messages = []; failures = []; answered = []; bytes = []; state = s }
 
--- what is left of a state whose first bytes were lent
-abbrev pub back : ℕ → List ℕ → List ℕ → List ℕ
-back lent s part = part ++ drop lent s
-
 -- the reader after an answer: the bytes lent at the call's return, the bytes that it read, and the whole state
 abbrev pub extended : Reader → Said → List ℕ → List ℕ → List ℕ → Reader
 extended r answer part bs s = record {
@@ -79,19 +87,19 @@ afterOutcome r c o = extended r (o .answer) (o .state) (take (o .used) (c .piece
 
 -- a call that is given a piece does what the promise of `read` cites
 unfoldable pub afterRead : Reader → Read → Reader
-afterRead r c = afterOutcome r c (reading (take (c .lent) (r .state)) (c .piece))
+afterRead r c = afterOutcome r c (reading (lentState (c .lent) (r .state)) (c .piece))
 
 -- a start that is refused changes nothing; any other begins another fresh reader
 unfoldable pub restarted : Reader → List ℕ → Option ℕ → Reader
 restarted r s none = fresh s
 restarted r s (some number) = r
 
-unfoldable pub afterStart : Reader → ℕ → Start → Reader
+unfoldable pub afterStart : Reader → Loan → Start → Reader
 afterStart r lent t = restarted r (back lent (r .state) (t .state)) (t .refusal)
 
 unfoldable pub after : Reader → Call → Reader
 after r (read c) = afterRead r c
-after r (start lent) = afterStart r lent (starting (take lent (r .state)))
+after r (start lent) = afterStart r lent (starting (lentState lent (r .state)))
 
 unfoldable pub afterAll : Reader → List Call → Reader
 afterAll r [] = r

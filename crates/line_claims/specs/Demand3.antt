@@ -1,15 +1,15 @@
 -- Demand 3 in the paper's order: what a call reads, when it is refused, and that what the writer put out is what the reader hands out.
--- `one-meaning`, `hands-out`, `any-stream`, `any-tail`, `cut` and `checksum-claim` are passed on from their files. Assumes nothing.
+-- `any-run`, `one-meaning`, `hands-out`, `any-stream`, `any-tail`, `cut` and `checksum-claim` are passed on from their files. Assumes nothing.
 use mathlib.Core.Path.{_≡_, refl, sym, ap, _∙_}
 use mathlib.Core.Bool.{Bool, true, false, cond}
-use mathlib.Core.List.{List, [], _∷_}
+use mathlib.Core.List.{List, [], _∷_, append-nil}
 use mathlib.Core.Logic.{_⊎_, inl, inr, _↔_}
 use mathlib.Core.Option.{Option, none, some}
 use Prim.Native.Nat.{ℕ, zero, suc, _+_, _≤_, _<_}
 use native.Mathlib.Omega.{arith}
 use lib.Dec.{leb, ltb, eqb, eqb·suc-zero}
-use lib.ListN.{length, take, drop, getD, length-take, take-append-drop}
-use borrow.Author.Tests.{le-leb, le-ltb}
+use lib.ListN.{length, getD}
+use borrow.Author.Tests.{le-leb, lt-leb, le-ltb}
 use Rattle.octets.proofs.Conditions.{cond-by}
 use Rattle.line.specs.Limits.{longest-data, longest-form}
 use Rattle.line.specs.Message.{Message, InRange}
@@ -21,7 +21,11 @@ use Rattle.line.specs.Writer
 use Rattle.line.proofs.State.{valid-ready}
 use Rattle.line.proofs.Lent.{valid-append}
 use Rattle.line_claims.specs.CobsClaims.{frame-fits}
-use Rattle.line_claims.specs.Calls.{Call, Reader, afterAll, begun}
+use Rattle.line_claims.specs.Loans.{Loan, enoughPart}
+use Rattle.line_claims.specs.LoanLaws.{back-same, lent-long, lent-short, front}
+use Rattle.line_claims.specs.Calls.{Call, read, start, loanOf, lentState, handed, reasons, answers, Reader, afterRead, afterOutcome}
+use Rattle.line_claims.specs.Calls.{restarted, afterStart, after, afterAll, begun}
+pub use Rattle.line_claims.specs.LoanLaws.{any-run}
 pub use Rattle.line_claims.specs.WireClaim.{one-meaning}
 pub use Rattle.line_claims.specs.WriterClaim.{Sent, sent-wire, written-frame, one-meaning-sent}
 pub use Rattle.line_claims.specs.ReaderClaim.{any-stream, any-messages, any-failures, any-tail, hands-out, stays-valid, cut}
@@ -117,14 +121,35 @@ valid-answers part v = record {
   starts = rw (le-leb state-length (length part) (valid-ready part v .0));
 }
 
+-- every call says 12 of this part of a state, reads nothing, and leaves it
+pub record AllRefused (part : List ℕ) : Type 0 where
+  pub reads : (piece : List ℕ) → reading part piece ≡ record { used = 0; answer = refused 12; state = part }
+  pub tails : tailOf part ≡ TailSaid.refused 12
+  pub hands : (n : ℕ) → dataRefusal part n ≡ some 12
+  pub starts : starting part ≡ record { refusal = some 12; state = part }
+
+-- too little of any state, from any place on
+pub too-little-12 : (s : List ℕ) (l : Loan) → enoughPart state-length l ≡ false → AllRefused (lentState l s)
+unfolding valid tailOf dataRefusal starting
+too-little-12 s l e =
+    let short = lt-leb state-length (length (lentState l s)) (lent-short state-length s l (omega arith) e) in
+    record { reads = λ piece. refused-nothing (lentState l s) piece (rw short); tails = rw short; hands = λ n. rw short; starts = rw short }
+
+-- and nothing changes
+pub too-little-nothing : (r : Reader) (c : Call) → enoughPart state-length (loanOf c) ≡ false → after r c ≡ r
+unfolding after afterRead afterOutcome afterStart restarted handed reasons answers
+too-little-nothing r (read c) e = rw (too-little-12 (r .state) (c .lent) e .reads (c .piece)) (simp (append-nil, back-same))
+too-little-nothing r (start l) e = rw (too-little-12 (r .state) l e .starts)
+
 module _ (room : List ℕ) (enough : state-length ≤ length room) (cs : List Call) where
   -- a call that is lent enough of what the layer's own calls left is never refused as 12
-  pub never-12 : (lent : ℕ) → state-length ≤ lent → NotRefused (take lent (afterAll (begun room) cs .state))
-  never-12 lent h =
+  pub never-12 : (l : Loan) → enoughPart state-length l ≡ true → NotRefused (lentState l (afterAll (begun room) cs .state))
+  never-12 l e =
       let s = afterAll (begun room) cs .state in
-      let r = valid-ready s (stays-valid room enough cs) in
-      let l : state-length ≤ length (take lent s) = simp length-take (omega arith) in
-      valid-answers (take lent s) (sym (valid-append (take lent s) (drop lent s) l) ∙ rw (take-append-drop lent s) (stays-valid room enough cs))
+      let v = stays-valid room enough cs in
+      let f = front state-length l s e in
+      let h = lent-long state-length s l e (valid-ready s v .0) in
+      valid-answers (lentState l s) (sym (valid-append (lentState l s) (f .rest) h) ∙ rw (f .whole) v)
 
   -- ---- What was written is what is handed out
 

@@ -8,6 +8,8 @@ pub mod JudgeClaim
 pub mod WireClaim
 pub mod ChecksumClaim
 pub mod WriterClaim
+pub mod Loans
+pub mod LoanLaws
 pub mod Calls
 pub mod Streams
 pub mod ReaderClaim

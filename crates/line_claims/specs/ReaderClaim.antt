@@ -7,7 +7,7 @@ use mathlib.Core.Option.{Option, none, some}
 use Prim.Native.Nat.{ℕ, zero, suc, _≤_, _<_}
 use native.Mathlib.Omega.{arith}
 use lib.Dec.{leb, ltb, eqb}
-use lib.ListN.{length, take, drop, length-append}
+use lib.ListN.{length, length-append}
 use borrow.Author.Tests.{leb-true, le-leb, ltb-true, ltb-false, le-ltb, lt-ltb}
 use Rattle.octets.specs.Bytes.{Each, overlay}
 use Rattle.line.specs.Limits.{longest-form}
@@ -26,7 +26,8 @@ use Rattle.line.proofs.Held.{held-form, held-over, held-count, data-unpacked, f
 use Rattle.line_claims.specs.JudgeClaim.{judge-of-message}
 use Rattle.line_claims.specs.Pieces.{split, nonEmpty, split-close, split-more, nonEmpty-append}
 use Rattle.line_claims.specs.WireClaim.{form, wire-forms, wire-range}
-use Rattle.line_claims.specs.Calls.{Read, Call, read, start, handed, reasons, answers, Reader, fresh, back}
+use Rattle.line_claims.specs.LoanLaws.{lent-enough, front}
+use Rattle.line_claims.specs.Calls.{Read, Call, read, start, lentState, back, handed, reasons, answers, Reader, fresh}
 use Rattle.line_claims.specs.Calls.{restarted, afterStart, after, afterAll, afterReads, begun}
 use Rattle.line_claims.specs.Calls.{tailMeant, frameSaid, gathered, goodOf, reasonOf, goodMessages, failureReasons}
 use Rattle.line_claims.specs.Streams.{afterByte, stream, stream-read, bytesRead, call-stream, reads-stream}
@@ -178,12 +179,14 @@ call-follows : (r : Reader) (c : Call) → Follows r → Follows (after r c)
 unfolding after afterStart starting restarted
 call-follows r (read c) f = rw (call-stream r c) (stream-follows (bytesRead r c) r f)
 call-follows r (start lent) f =
-    let t = take lent (r .state) in
-    let u = drop lent (r .state) in
+    let t = lentState lent (r .state) in
     cond-by (λ (x : Start). Follows (restarted r (back lent (r .state) (x .state)) (x .refusal))) (leb state-length (length t)) _ _
     (λ e.
-    let c = cleared t (leb-true state-length (length t) e) in
-    fresh-follows (counted 0 t ++ u) (simp length-append (omega arith)) (count-append (counted 0 t) u (c .0) ∙ c .1))
+    let l = leb-true state-length (length t) e in
+    let c = cleared t l in
+    let b = front state-length lent (r .state) (lent-enough state-length (r .state) lent (omega arith) l) in
+    let u = b .rest in
+    rw (b .back) (fresh-follows (counted 0 t ++ u) (simp length-append (omega arith)) (count-append (counted 0 t) u (c .0) ∙ c .1)))
     (λ e. f)
 
 calls-follow : (cs : List Call) (r : Reader) → Follows r → Follows (afterAll r cs)

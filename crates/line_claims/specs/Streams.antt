@@ -5,14 +5,15 @@ use mathlib.Core.List.{List, [], _∷_, _++_, append-nil}
 use Prim.Native.Nat.{ℕ, zero, suc, _≤_}
 use native.Mathlib.Omega.{arith}
 use lib.Dec.{eqb·suc-zero}
-use lib.ListN.{length, take, drop, take-append-drop}
+use lib.ListN.{length, take}
 use lib.Seq.{append-snoc}
 use Rattle.line.specs.Reader.{Said, refused, more, empty, message, failed, state-length, valid, pushed, finish, Outcome, next, readPiece, reading}
 use Rattle.octets.proofs.Conditions.{cond-by}
 use Rattle.line.proofs.State.{Ready, valid-ready, ready-pushed}
 use Rattle.line.proofs.Lent.{dataOf-append, pushed-append, finish-append}
 use Rattle.line.proofs.Held.{finish-leaves}
-use Rattle.line_claims.specs.Calls.{Read, handed, reasons, answers, Reader, extended, afterOutcome, afterRead, after, afterAll, afterReads}
+use Rattle.line_claims.specs.LoanLaws.{back-same, lent-enough, front}
+use Rattle.line_claims.specs.Calls.{Read, lentState, handed, reasons, answers, Reader, extended, afterOutcome, afterRead, after, afterAll, afterReads}
 
 -- a reader after one byte
 unfoldable pub afterByte : Reader → ℕ → Reader
@@ -74,17 +75,19 @@ piece-stream (suc b ∷ bs) r t u h e =
 
 -- the bytes that a call reads
 abbrev pub bytesRead : Reader → Read → List ℕ
-bytesRead r c = take (reading (take (c .lent) (r .state)) (c .piece) .used) (c .piece)
+bytesRead r c = take (reading (lentState (c .lent) (r .state)) (c .piece) .used) (c .piece)
 
--- a call on any part of the state, refused or not
+-- a call, whatever it is lent of the state, refused or not
 pub call-stream : (r : Reader) (c : Read) → afterRead r c ≡ stream r (bytesRead r c)
 unfolding afterRead afterOutcome reading stream handed reasons answers
 call-stream r c =
-    let t = take (c .lent) (r .state) in
-    let back = drop (c .lent) (r .state) in
+    let t = lentState (c .lent) (r .state) in
     cond-by (λ o. afterOutcome r c o ≡ stream r (take (o .used) (c .piece))) (valid t) _ _
-    (λ e. piece-stream (c .piece) r t back (valid-ready t e) (sym (take-append-drop (c .lent) (r .state))))
-    (λ e. simp (append-nil, take-append-drop))
+    (λ e.
+    let h = valid-ready t e in
+    let f = front state-length (c .lent) (r .state) (lent-enough state-length (r .state) (c .lent) (omega arith) (h .0)) in
+    rw (f .back) (piece-stream (c .piece) r t (f .rest) h (sym (f .whole))))
+    (λ e. simp (append-nil, back-same))
 
 -- ---- calls
 

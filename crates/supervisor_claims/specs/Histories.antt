@@ -2,15 +2,16 @@
 -- Assumes nothing: these are definitions.
 use mathlib.Core.Path.{_≡_}
 use mathlib.Core.Bool.{Bool, cond, _&&_}
-use mathlib.Core.List.{List, [], _∷_, _++_}
+use mathlib.Core.List.{List, [], _∷_}
 use mathlib.Core.Option.{Option, none, some}
 use Prim.Native.Nat.{ℕ, suc, _^_, _<_}
-use lib.Dec.{leb, eqb}
+use lib.Dec.{eqb}
 use lib.ListN as ListN
-use lib.ListN.{length, drop}
+use lib.ListN.{length}
 use Rattle.octets.specs.Bytes.{Each, Byte, overlay}
 use Rattle.line.specs.Judge.{Verdict}
 use Rattle.line.specs.Reader as LineReader
+use Rattle.line_claims.specs.Loans.{Loan, lentPart, backPart, enoughPart}
 use Rattle.supervisor.specs.Layout
 use Rattle.supervisor.specs.State.{Recorded, State}
 use Rattle.supervisor.specs.Local
@@ -181,46 +182,56 @@ meant s (readRecord k) = recordMeans s (recordOf s k)
 
 -- ---- Calls that are lent some of the parts' bytes
 
--- how many bytes of each part; a call that does not take a part leaves it
+-- what is lent of each part; a call that does not take a part leaves it
 pub record Lent : Type 0 where
-  pub reader : ℕ
-  pub outbox : ℕ
-  pub factory : ℕ
-  pub settings : ℕ
-  pub registers : ℕ
+  pub reader : Loan
+  pub outbox : Loan
+  pub factory : Loan
+  pub settings : Loan
+  pub registers : Loan
 
--- the parts as lent: the first bytes of each, so many of them or all
+-- the parts as lent
 abbrev pub lentOf : Lent → Parts → Parts
 lentOf l p =
-    parts (ListN.take (l .reader) (p .reader)) (ListN.take (l .outbox) (p .outbox)) (ListN.take (l .factory) (p .factory))
-    (ListN.take (l .settings) (p .settings)) (ListN.take (l .registers) (p .registers))
+    parts (lentPart LineReader.state-length (l .reader) (p .reader)) (lentPart Layout.outbox-length (l .outbox) (p .outbox))
+    (lentPart Layout.factory-length (l .factory) (p .factory)) (lentPart Layout.settings-length (l .settings) (p .settings))
+    (lentPart Layout.registers-length (l .registers) (p .registers))
 
--- the parts whose first bytes were lent and came back as q
+-- the parts whose bytes lent came back as q
 abbrev pub givenBack : Lent → Parts → Parts → Parts
 givenBack l p q =
-    parts (q .reader ++ drop (l .reader) (p .reader)) (q .outbox ++ drop (l .outbox) (p .outbox)) (q .factory ++ drop (l .factory) (p .factory))
-    (q .settings ++ drop (l .settings) (p .settings)) (q .registers ++ drop (l .registers) (p .registers))
+    parts (backPart LineReader.state-length (l .reader) (p .reader) (q .reader)) (backPart Layout.outbox-length (l .outbox) (p .outbox) (q .outbox))
+    (backPart Layout.factory-length (l .factory) (p .factory) (q .factory)) (backPart Layout.settings-length (l .settings) (p .settings) (q .settings))
+    (backPart Layout.registers-length (l .registers) (p .registers) (q .registers))
+
+-- whether the published length of a part is lent
+abbrev pub enoughReader : Lent → Bool
+enoughReader l = enoughPart LineReader.state-length (l .reader)
+
+abbrev pub enoughOutbox : Lent → Bool
+enoughOutbox l = enoughPart Layout.outbox-length (l .outbox)
+
+abbrev pub enoughStores : Lent → Bool
+enoughStores l = enoughPart Layout.factory-length (l .factory) && enoughPart Layout.settings-length (l .settings)
+
+abbrev pub enoughRegisters : Lent → Bool
+enoughRegisters l = enoughPart Layout.registers-length (l .registers)
 
 abbrev pub enoughOfAll : Lent → Bool
-enoughOfAll l =
-    leb LineReader.state-length (l .reader)
-    && (leb Layout.outbox-length (l .outbox)
-    && (leb Layout.factory-length (l .factory)
-    && (leb Layout.settings-length (l .settings)
-    && leb Layout.registers-length (l .registers))))
+enoughOfAll l = enoughReader l && (enoughOutbox l && (enoughStores l && enoughRegisters l))
 
--- whether a call is lent the published length of each part that it takes
+-- and of each part that a call takes
 unfoldable pub enough : Call → Lent → Bool
 enough (start d) l = enoughOfAll l
 enough (receive image piece) l = enoughOfAll l
 enough (step image piece) l = enoughOfAll l
-enough (take room) l = leb Layout.outbox-length (l .outbox)
-enough (post action text) l = leb Layout.registers-length (l .registers)
-enough (setOptions options) l = leb Layout.registers-length (l .registers)
-enough (lookup key most) l = leb Layout.factory-length (l .factory) && leb Layout.settings-length (l .settings)
-enough signal l = leb Layout.registers-length (l .registers)
-enough flags l = leb Layout.registers-length (l .registers)
-enough (readRecord k) l = leb Layout.registers-length (l .registers)
+enough (take room) l = enoughOutbox l
+enough (post action text) l = enoughRegisters l
+enough (setOptions options) l = enoughRegisters l
+enough (lookup key most) l = enoughStores l
+enough signal l = enoughRegisters l
+enough flags l = enoughRegisters l
+enough (readRecord k) l = enoughRegisters l
 
 pub record Made : Type 0 where
   pub lent : Lent

@@ -202,8 +202,8 @@ module _ (p : Parts) (b : Bytes p) (l : Lent) (d : List ℕ) (typed : Typed (His
 
 -- ---- the claim
 
--- a start that is accepted, on any bytes, then any calls, each lent any number of each part's bytes: every answer, all that is written outside
--- the state, and the state that is left are document 01's
+-- a start that is accepted, on any bytes, then any calls, whatever each is lent of each part: every answer, all that is written outside the
+-- state, and the state that is left are document 01's
 pub history : (p : Parts) → Bytes p → (l : Lent) (d : List ℕ) → Typed (Histories.start d)
     → made p (record { lent = l; call = Histories.start d }) .answer ≡ done → (ms : List Made) → AllTyped ms
     → let q = made p (record { lent = l; call = Histories.start d }) .parts in

@@ -2,12 +2,9 @@
 -- Assumes nothing.
 use mathlib.Core.Path.{_≡_, refl, sym, _∙_}
 use mathlib.Core.Bool.{Bool, true, false, false≢true, and-eq-true-iff, _&&_}
-use mathlib.Core.List.{List}
-use Prim.Native.Nat.{ℕ, _≤_}
-use lib.Dec.{leb}
-use lib.ListN as ListN
-use lib.ListN.{length, take-append-drop}
-use borrow.Author.Tests.{leb-true, le-leb}
+use native.Mathlib.Omega.{arith}
+use Rattle.line_claims.specs.LoanLaws
+use Rattle.line_claims.specs.LoanLaws.{back-same}
 use Rattle.supervisor.specs.Layout
 use Rattle.supervisor.specs.Valid.{validOutbox, validFactory, validSettings, validRegisters}
 use Rattle.supervisor.specs.Calls
@@ -19,10 +16,10 @@ use Rattle.requests.proofs.KeptLaws.{inner-valid, valid-inner}
 use Rattle.requests.proofs.TurnLaws
 use Rattle.supervisor_claims.specs.Meant.{Valid}
 use Rattle.supervisor_claims.specs.Histories
-use Rattle.supervisor_claims.specs.Histories.{Call, Lent, Made, didBy, did, lentOf, enoughOfAll, enough, untouched, made}
+use Rattle.supervisor_claims.specs.Histories.{Call, Lent, Made, didBy, did, lentOf, enoughOutbox, enoughStores, enoughRegisters, enoughOfAll, enough, untouched, made}
 use Rattle.supervisor_claims.specs.Refusals.{fit, refused-12}
 use Rattle.supervisor_claims.specs.Sound.{valid-roomy}
-use Rattle.supervisor_claims.specs.Locality.{EnoughOfAll, enough-of-all, all-enough, lent-enough, lent-most, back-lent}
+use Rattle.supervisor_claims.specs.Locality.{EnoughOfAll, wholeOf, whole-of-all, enough-of-all, all-enough, lent-enough, back-lent}
 
 -- ---- valid parts, by the test and by the record
 
@@ -45,78 +42,76 @@ fails a b e f = sym (untrue a (λ t. false≢true (sym e ∙ f t)))
 
 -- what a call is lent of the parts
 module _ (l : Lent) (p : Parts) where
-  short : (n m : ℕ) (s : List ℕ) → n ≤ length (ListN.take m s) → leb n m ≡ true
-  short n m s h = le-leb n m (lent-most n m s h)
+  enough-outbox : validOutbox (lentOf l p .outbox) ≡ true → enoughOutbox l ≡ true
+  enough-outbox v = LoanLaws.lent-enough Layout.outbox-length (p .outbox) (l .outbox) (omega arith) (outbox-valid _ v .long)
 
-  short-outbox : leb Layout.outbox-length (l .outbox) ≡ false → validOutbox (lentOf l p .outbox) ≡ false
-  short-outbox e = fails _ _ e (λ v. short Layout.outbox-length (l .outbox) (p .outbox) (outbox-valid _ v .long))
+  enough-registers : validRegisters (lentOf l p .registers) ≡ true → enoughRegisters l ≡ true
+  enough-registers v = LoanLaws.lent-enough Layout.registers-length (p .registers) (l .registers) (omega arith) (registers-valid _ v .long)
 
-  short-registers : leb Layout.registers-length (l .registers) ≡ false → validRegisters (lentOf l p .registers) ≡ false
-  short-registers e = fails _ _ e (λ v. short Layout.registers-length (l .registers) (p .registers) (registers-valid _ v .long))
-
-  short-stores : (leb Layout.factory-length (l .factory) && leb Layout.settings-length (l .settings)) ≡ false
-      → (validFactory (lentOf l p .factory) && validSettings (lentOf l p .settings)) ≡ false
-  short-stores e =
-      fails _ _ e (λ v.
+  enough-stores : (validFactory (lentOf l p .factory) && validSettings (lentOf l p .settings)) ≡ true → enoughStores l ≡ true
+  enough-stores v =
       let w = and-eq-true-iff _ _ .0 v in
       and-eq-true-iff _ _ .1 (
-        short Layout.factory-length (l .factory) (p .factory) (factory-valid _ (w .0) .long),
-        short Layout.settings-length (l .settings) (p .settings) (settings-valid _ (w .1) .long),
-      ))
+        LoanLaws.lent-enough Layout.factory-length (p .factory) (l .factory) (omega arith) (factory-valid _ (w .0) .long),
+        LoanLaws.lent-enough Layout.settings-length (p .settings) (l .settings) (omega arith) (settings-valid _ (w .1) .long),
+      )
 
-  short-room : enoughOfAll l ≡ false → Calls.roomy (lentOf l p) ≡ false
-  short-room e = fails _ _ e (λ v. all-enough l (lent-enough l p (roomy-is (lentOf l p) v)))
+  enough-room : Calls.roomy (lentOf l p) ≡ true → enoughOfAll l ≡ true
+  enough-room v = all-enough l (lent-enough l p (roomy-is (lentOf l p) v))
 
-  short-parts : enoughOfAll l ≡ false → Receive.validParts (lentOf l p) ≡ false
-  short-parts e = fails _ _ e (λ v. all-enough l (lent-enough l p (valid-roomy (parts-valid (lentOf l p) v))))
+  enough-parts : Receive.validParts (lentOf l p) ≡ true → enoughOfAll l ≡ true
+  enough-parts v = all-enough l (lent-enough l p (valid-roomy (parts-valid (lentOf l p) v)))
 
-  -- what a call is lent is not as 12 asks
-  short-fit : (c : Call) → enough c l ≡ false → fit (lentOf l p) c ≡ false
+  -- where it is as 12 asks, it is enough
+  fit-enough : (c : Call) → fit (lentOf l p) c ≡ true → enough c l ≡ true
   unfolding fit enough
-  short-fit (Histories.start d) e = short-room e
-  short-fit (Histories.receive image piece) e = short-parts e
-  short-fit (Histories.step image piece) e = short-parts e
-  short-fit (Histories.take room) e = short-outbox e
-  short-fit (Histories.post action text) e = short-registers e
-  short-fit (Histories.setOptions options) e = short-registers e
-  short-fit (Histories.lookup key most) e = short-stores e
-  short-fit Histories.signal e = short-registers e
-  short-fit Histories.flags e = short-registers e
-  short-fit (Histories.readRecord k) e = short-registers e
+  fit-enough (Histories.start d) v = enough-room v
+  fit-enough (Histories.receive image piece) v = enough-parts v
+  fit-enough (Histories.step image piece) v = enough-parts v
+  fit-enough (Histories.take room) v = enough-outbox v
+  fit-enough (Histories.post action text) v = enough-registers v
+  fit-enough (Histories.setOptions options) v = enough-registers v
+  fit-enough (Histories.lookup key most) v = enough-stores v
+  fit-enough Histories.signal v = enough-registers v
+  fit-enough Histories.flags v = enough-registers v
+  fit-enough (Histories.readRecord k) v = enough-registers v
 
 -- on any parts
 pub made-12 : (p : Parts) (m : Made) → enough (m .call) (m .lent) ≡ false → made p m ≡ didBy (Histories.refused 12) (untouched (m .call)) p
 unfolding made
-made-12 p m e = rw (refused-12 (lentOf (m .lent) p) (m .call) (short-fit (m .lent) p (m .call) e), back-lent (m .lent) p)
+made-12 p m e =
+    let q = lentOf (m .lent) p in
+    let f = fails (fit q (m .call)) _ e (fit-enough (m .lent) p (m .call)) in
+    rw (refused-12 q (m .call) f, back-lent (m .lent) p)
 
 -- ---- enough of what a call takes
 
 -- as lent of the outbox, the registers or the two stores, and all of the other parts
 abbrev ofOutbox : Lent → Parts → Lent
 ofOutbox l p = record {
-  reader = length (p .reader);
+  reader = wholeOf p .reader;
   outbox = l .outbox;
-  factory = length (p .factory);
-  settings = length (p .settings);
-  registers = length (p .registers);
+  factory = wholeOf p .factory;
+  settings = wholeOf p .settings;
+  registers = wholeOf p .registers;
 }
 
 abbrev ofRegisters : Lent → Parts → Lent
 ofRegisters l p = record {
-  reader = length (p .reader);
-  outbox = length (p .outbox);
-  factory = length (p .factory);
-  settings = length (p .settings);
+  reader = wholeOf p .reader;
+  outbox = wholeOf p .outbox;
+  factory = wholeOf p .factory;
+  settings = wholeOf p .settings;
   registers = l .registers;
 }
 
 abbrev ofStores : Lent → Parts → Lent
 ofStores l p = record {
-  reader = length (p .reader);
-  outbox = length (p .outbox);
+  reader = wholeOf p .reader;
+  outbox = wholeOf p .outbox;
   factory = l .factory;
   settings = l .settings;
-  registers = length (p .registers);
+  registers = wholeOf p .registers;
 }
 
 -- as lent, and all of the parts that a call does not take
@@ -133,16 +128,19 @@ widened Histories.flags l p = ofRegisters l p
 widened (Histories.readRecord k) l p = ofRegisters l p
 
 module _ (l : Lent) (p : Parts) (r : Roomy p) where
-  outbox-enough : leb Layout.outbox-length (l .outbox) ≡ true → EnoughOfAll (ofOutbox l p)
-  outbox-enough e = record { reader = r .reader; outbox = leb-true _ _ e; factory = r .factory; settings = r .settings; registers = r .registers }
+  whole : EnoughOfAll (wholeOf p)
+  whole = whole-of-all p r
 
-  registers-enough : leb Layout.registers-length (l .registers) ≡ true → EnoughOfAll (ofRegisters l p)
-  registers-enough e = record { reader = r .reader; outbox = r .outbox; factory = r .factory; settings = r .settings; registers = leb-true _ _ e }
+  outbox-enough : enoughOutbox l ≡ true → EnoughOfAll (ofOutbox l p)
+  outbox-enough e = record { reader = whole .reader; outbox = e; factory = whole .factory; settings = whole .settings; registers = whole .registers }
 
-  stores-enough : (leb Layout.factory-length (l .factory) && leb Layout.settings-length (l .settings)) ≡ true → EnoughOfAll (ofStores l p)
+  registers-enough : enoughRegisters l ≡ true → EnoughOfAll (ofRegisters l p)
+  registers-enough e = record { reader = whole .reader; outbox = whole .outbox; factory = whole .factory; settings = whole .settings; registers = e }
+
+  stores-enough : enoughStores l ≡ true → EnoughOfAll (ofStores l p)
   stores-enough e =
       let h = and-eq-true-iff _ _ .0 e in
-      record { reader = r .reader; outbox = r .outbox; factory = leb-true _ _ (h .0); settings = leb-true _ _ (h .1); registers = r .registers }
+      record { reader = whole .reader; outbox = whole .outbox; factory = h .0; settings = h .1; registers = whole .registers }
 
   pub widened-enough : (c : Call) → enough c l ≡ true → EnoughOfAll (widened c l p)
   unfolding enough
@@ -163,10 +161,10 @@ unfolding made did
 widened-same p (Histories.start d) l = refl
 widened-same p (Histories.receive image piece) l = refl
 widened-same p (Histories.step image piece) l = refl
-widened-same p (Histories.take room) l = simp take-append-drop
-widened-same p (Histories.post action text) l = simp take-append-drop
-widened-same p (Histories.setOptions options) l = simp take-append-drop
-widened-same p (Histories.lookup key most) l = simp take-append-drop
-widened-same p Histories.signal l = simp take-append-drop
-widened-same p Histories.flags l = simp take-append-drop
-widened-same p (Histories.readRecord k) l = simp take-append-drop
+widened-same p (Histories.take room) l = simp back-same
+widened-same p (Histories.post action text) l = simp back-same
+widened-same p (Histories.setOptions options) l = simp back-same
+widened-same p (Histories.lookup key most) l = simp back-same
+widened-same p Histories.signal l = simp back-same
+widened-same p Histories.flags l = simp back-same
+widened-same p (Histories.readRecord k) l = simp back-same

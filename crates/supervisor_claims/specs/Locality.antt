@@ -1,29 +1,30 @@
 -- The view and what 12 asks read the published bytes alone: parts of which some bytes are lent, and parts with bytes behind them.
 -- Assumes nothing.
 use mathlib.Core.Path.{_≡_, refl, ap, _∙_}
-use mathlib.Core.Bool.{true}
-use mathlib.Core.List.{List, _++_}
+use mathlib.Core.Bool.{true, and-eq-true-iff}
+use mathlib.Core.List.{List}
 use mathlib.Core.Option.{some}
 use Prim.Native.Nat.{ℕ, _+_, _-_, _≤_}
 use native.Mathlib.Omega.{arith}
 use lib.Dec.{ltb}
-use lib.ListN.{length, take, length-append, length-take, take-append-drop}
-use lib.Seq.{take-take, take-append-le, length-front}
-use borrow.Author.Tests.{ltb-false, le-leb}
+use lib.ListN.{length, take, length-take}
+use borrow.Author.Tests.{ltb-false}
 use Rattle.octets.specs.Bytes.{Byte}
-use Rattle.octets.proofs.Each.{each-append, each-take, each-drop}
 use Rattle.octets.proofs.Conditions.{cond-both}
 use Rattle.octets.proofs.SameBytes.{Same, same-first, same-within, number-same}
 use Rattle.line.specs.Limits as LineLimits
 use Rattle.line.specs.Reader as LineReader
 use Rattle.line.proofs.State.{Ready, valid-ready, ready-valid}
+use Rattle.line_claims.specs.Loans.{first, enoughPart}
+use Rattle.line_claims.specs.LoanLaws
+use Rattle.line_claims.specs.LoanLaws.{back-same, back-length, lent-each, back-each, whole-enough, lent-first, back-first}
 use Rattle.supervisor.specs.Limits
 use Rattle.supervisor.specs.Layout
 use Rattle.supervisor.specs.State.{State}
 use Rattle.supervisor.specs.Valid.{validOutbox, validFactory, validSettings, validRegisters}
 use Rattle.supervisor.specs.Calls
 use Rattle.supervisor.specs.Calls.{Parts}
-use Rattle.supervisor.proofs.StartLaws.{Roomy, all-long, is-roomy}
+use Rattle.supervisor.proofs.StartLaws.{Roomy, is-roomy}
 use Rattle.supervisor.proofs.ValidLaws.{OutboxValid, FactoryValid, SettingsValid, RegistersValid}
 use Rattle.supervisor.proofs.ValidLaws.{outbox-valid, valid-outbox, factory-valid, valid-factory, settings-valid, valid-settings, registers-valid}
 use Rattle.supervisor.proofs.ValidLaws.{start-good, good-start}
@@ -35,7 +36,7 @@ use Rattle.supervisor_claims.specs.GoodStart.{good-bad}
 use Rattle.supervisor_claims.specs.SettingLaws.{setting-same}
 use Rattle.supervisor_claims.specs.RegisterLaws.{recorded-same, retained-same, alerts-same}
 use Rattle.supervisor_claims.specs.Meant.{Valid}
-use Rattle.supervisor_claims.specs.Histories.{Lent, lentOf, givenBack, enoughOfAll}
+use Rattle.supervisor_claims.specs.Histories.{Lent, lentOf, givenBack, enoughReader, enoughOutbox, enoughStores, enoughOfAll}
 use Rattle.supervisor_claims.specs.Sound.{Bytes, Sound, Lengths, Leaves, valid-roomy}
 
 -- ---- the line reader's part
@@ -171,137 +172,150 @@ module _ {p q : Parts} (a : Alike p q) (v : Valid p) where
         number-same same-outbox 1 Layout.outbox-owing-place (omega arith),
       )
 
-  pub valid-alike : Roomy q → Valid q
-  valid-alike r = record {
-    reader = reader-alike same-reader (valid-ready (p .reader) (v .reader)) (r .reader);
-    outbox = outbox-alike same-outbox (outbox-valid (p .outbox) (v .outbox)) (r .outbox);
-    factory = factory-alike same-factory (factory-valid (p .factory) (v .factory)) (r .factory);
-    settings = settings-alike same-settings (settings-valid (p .settings) (v .settings)) (r .settings);
-    registers = registers-alike same-registers (registers-valid (p .registers) (v .registers)) (r .registers);
-  }
+  roomy-alike : Roomy q
+  roomy-alike =
+      let r = valid-roomy v in
+      record {
+        reader = first-long _ (p .reader) (q .reader) (a .reader) (r .reader);
+        outbox = first-long _ (p .outbox) (q .outbox) (a .outbox) (r .outbox);
+        factory = first-long _ (p .factory) (q .factory) (a .factory) (r .factory);
+        settings = first-long _ (p .settings) (q .settings) (a .settings) (r .settings);
+        registers = first-long _ (p .registers) (q .registers) (a .registers) (r .registers);
+      }
+    where
+      first-long : (n : ℕ) (s t : List ℕ) → take n t ≡ take n s → n ≤ length s → n ≤ length t
+      first-long n s t e h = omega (arith, length-take n s, length-take n t, ap length e)
+
+  pub valid-alike : Valid q
+  valid-alike =
+      let r = roomy-alike in
+      record {
+        reader = reader-alike same-reader (valid-ready (p .reader) (v .reader)) (r .reader);
+        outbox = outbox-alike same-outbox (outbox-valid (p .outbox) (v .outbox)) (r .outbox);
+        factory = factory-alike same-factory (factory-valid (p .factory) (v .factory)) (r .factory);
+        settings = settings-alike same-settings (settings-valid (p .settings) (v .settings)) (r .settings);
+        registers = registers-alike same-registers (registers-valid (p .registers) (v .registers)) (r .registers);
+      }
 
 -- ---- parts of which some bytes are lent
 
 -- the published length of each part is lent
 pub record EnoughOfAll (l : Lent) : Type 0 where
-  pub reader : LineReader.state-length ≤ l .reader
-  pub outbox : Layout.outbox-length ≤ l .outbox
-  pub factory : Layout.factory-length ≤ l .factory
-  pub settings : Layout.settings-length ≤ l .settings
-  pub registers : Layout.registers-length ≤ l .registers
+  pub reader : enoughPart LineReader.state-length (l .reader) ≡ true
+  pub outbox : enoughPart Layout.outbox-length (l .outbox) ≡ true
+  pub factory : enoughPart Layout.factory-length (l .factory) ≡ true
+  pub settings : enoughPart Layout.settings-length (l .settings) ≡ true
+  pub registers : enoughPart Layout.registers-length (l .registers) ≡ true
 
 pub enough-of-all : (l : Lent) → enoughOfAll l ≡ true → EnoughOfAll l
-enough-of-all l e = omega (arith, all-long (l .reader) (l .outbox) (l .factory) (l .settings) (l .registers) e)
+enough-of-all l e =
+    let r = and-eq-true-iff (enoughReader l) _ .0 e in
+    let o = and-eq-true-iff (enoughOutbox l) _ .0 (r .1) in
+    let s = and-eq-true-iff (enoughStores l) _ .0 (o .1) in
+    let f = and-eq-true-iff (enoughPart Layout.factory-length (l .factory)) _ .0 (s .0) in
+    record { reader = r .0; outbox = o .0; factory = f .0; settings = f .1; registers = s .1 }
 
 pub all-enough : (l : Lent) → EnoughOfAll l → enoughOfAll l ≡ true
-all-enough l e = rw (le-leb _ _ (e .reader), le-leb _ _ (e .outbox), le-leb _ _ (e .factory), le-leb _ _ (e .settings), le-leb _ _ (e .registers))
+all-enough l e = rw (e .reader, e .outbox, e .factory, e .settings, e .registers)
+
+-- all bytes of each part
+abbrev pub wholeOf : Parts → Lent
+wholeOf p = record {
+  reader = first (length (p .reader));
+  outbox = first (length (p .outbox));
+  factory = first (length (p .factory));
+  settings = first (length (p .settings));
+  registers = first (length (p .registers));
+}
+
+pub whole-of-all : (p : Parts) → Roomy p → EnoughOfAll (wholeOf p)
+whole-of-all p r = record {
+  reader = whole-enough _ (p .reader) (r .reader);
+  outbox = whole-enough _ (p .outbox) (r .outbox);
+  factory = whole-enough _ (p .factory) (r .factory);
+  settings = whole-enough _ (p .settings) (r .settings);
+  registers = whole-enough _ (p .registers) (r .registers);
+}
 
 -- valid parts have room for a start
 pub valid-room : {p : Parts} → Valid p → Calls.roomy p ≡ true
 valid-room {p} v = is-roomy p (valid-roomy v)
 
--- so many bytes are there where so many are lent, and no more than are lent
-lent-long : (n m : ℕ) (s : List ℕ) → n ≤ m → n ≤ length s → n ≤ length (take m s)
-lent-long n m s h k = omega (arith, length-take m s)
-
-pub lent-most : (n m : ℕ) (s : List ℕ) → n ≤ length (take m s) → n ≤ m
-lent-most n m s h = omega (arith, length-take m s)
-
 module _ (l : Lent) (p : Parts) where
   pub lent-enough : Roomy (lentOf l p) → EnoughOfAll l
   lent-enough r = record {
-    reader = lent-most _ _ (p .reader) (r .reader);
-    outbox = lent-most _ _ (p .outbox) (r .outbox);
-    factory = lent-most _ _ (p .factory) (r .factory);
-    settings = lent-most _ _ (p .settings) (r .settings);
-    registers = lent-most _ _ (p .registers) (r .registers);
+    reader = LoanLaws.lent-enough LineReader.state-length (p .reader) (l .reader) (omega arith) (r .reader);
+    outbox = LoanLaws.lent-enough Layout.outbox-length (p .outbox) (l .outbox) (omega arith) (r .outbox);
+    factory = LoanLaws.lent-enough Layout.factory-length (p .factory) (l .factory) (omega arith) (r .factory);
+    settings = LoanLaws.lent-enough Layout.settings-length (p .settings) (l .settings) (omega arith) (r .settings);
+    registers = LoanLaws.lent-enough Layout.registers-length (p .registers) (l .registers) (omega arith) (r .registers);
   }
 
   pub lent-bytes : Bytes p → Bytes (lentOf l p)
   lent-bytes b = record {
-    reader = each-take Byte (l .reader) (p .reader) (b .reader);
-    outbox = each-take Byte (l .outbox) (p .outbox) (b .outbox);
-    factory = each-take Byte (l .factory) (p .factory) (b .factory);
-    settings = each-take Byte (l .settings) (p .settings) (b .settings);
-    registers = each-take Byte (l .registers) (p .registers) (b .registers);
+    reader = lent-each _ (p .reader) Byte (l .reader) (b .reader);
+    outbox = lent-each _ (p .outbox) Byte (l .outbox) (b .outbox);
+    factory = lent-each _ (p .factory) Byte (l .factory) (b .factory);
+    settings = lent-each _ (p .settings) Byte (l .settings) (b .settings);
+    registers = lent-each _ (p .registers) Byte (l .registers) (b .registers);
   }
 
   module _ (e : EnoughOfAll l) where
-    lent-roomy : Roomy p → Roomy (lentOf l p)
-    lent-roomy r = record {
-      reader = lent-long _ _ (p .reader) (e .reader) (r .reader);
-      outbox = lent-long _ _ (p .outbox) (e .outbox) (r .outbox);
-      factory = lent-long _ _ (p .factory) (e .factory) (r .factory);
-      settings = lent-long _ _ (p .settings) (e .settings) (r .settings);
-      registers = lent-long _ _ (p .registers) (e .registers) (r .registers);
-    }
-
     lent-alike : Alike p (lentOf l p)
     lent-alike = record {
-      reader = take-take LineReader.state-length (l .reader) (p .reader) (e .reader);
-      outbox = take-take Layout.outbox-length (l .outbox) (p .outbox) (e .outbox);
-      factory = take-take Layout.factory-length (l .factory) (p .factory) (e .factory);
-      settings = take-take Layout.settings-length (l .settings) (p .settings) (e .settings);
-      registers = take-take Layout.registers-length (l .registers) (p .registers) (e .registers);
+      reader = lent-first _ (p .reader) (l .reader) (e .reader);
+      outbox = lent-first _ (p .outbox) (l .outbox) (e .outbox);
+      factory = lent-first _ (p .factory) (l .factory) (e .factory);
+      settings = lent-first _ (p .settings) (l .settings) (e .settings);
+      registers = lent-first _ (p .registers) (l .registers) (e .registers);
     }
 
     -- enough of sound parts holds the same state
     pub lent-sound : Sound p → Sound (lentOf l p)
-    lent-sound s = record { valid = valid-alike lent-alike (s .valid) (lent-roomy (valid-roomy (s .valid))); bytes = lent-bytes (s .bytes) }
+    lent-sound s = record { valid = valid-alike lent-alike (s .valid); bytes = lent-bytes (s .bytes) }
 
     pub lent-view : Valid p → view (lentOf l p) ≡ view p
     lent-view v = view-alike lent-alike v
 
   -- what comes back unchanged
   pub back-lent : givenBack l p (lentOf l p) ≡ p
-  back-lent = simp take-append-drop
+  back-lent = simp back-same
 
-  -- parts as they come back, with the bytes that were not lent behind them
+  -- parts as they come back
   module _ (q : Parts) where
-    back-roomy : Roomy q → Roomy (givenBack l p q)
-    back-roomy r = record {
-      reader = longer (q .reader) _ (r .reader);
-      outbox = longer (q .outbox) _ (r .outbox);
-      factory = longer (q .factory) _ (r .factory);
-      settings = longer (q .settings) _ (r .settings);
-      registers = longer (q .registers) _ (r .registers);
-    }
-      where
-        longer : {n : ℕ} (s u : List ℕ) → n ≤ length s → n ≤ length (s ++ u)
-        longer s u h = omega (arith, length-append s u)
-
-    back-alike : Roomy q → Alike q (givenBack l p q)
-    back-alike r = record {
-      reader = take-append-le _ (q .reader) _ (r .reader);
-      outbox = take-append-le _ (q .outbox) _ (r .outbox);
-      factory = take-append-le _ (q .factory) _ (r .factory);
-      settings = take-append-le _ (q .settings) _ (r .settings);
-      registers = take-append-le _ (q .registers) _ (r .registers);
+    -- where enough was lent, with the bytes that were not lent behind them
+    back-alike : EnoughOfAll l → Roomy q → Alike q (givenBack l p q)
+    back-alike e r = record {
+      reader = back-first _ (p .reader) (l .reader) (q .reader) (e .reader) (r .reader);
+      outbox = back-first _ (p .outbox) (l .outbox) (q .outbox) (e .outbox) (r .outbox);
+      factory = back-first _ (p .factory) (l .factory) (q .factory) (e .factory) (r .factory);
+      settings = back-first _ (p .settings) (l .settings) (q .settings) (e .settings) (r .settings);
+      registers = back-first _ (p .registers) (l .registers) (q .registers) (e .registers) (r .registers);
     }
 
     back-bytes : Bytes p → Bytes q → Bytes (givenBack l p q)
     back-bytes b c = record {
-      reader = each-append Byte (q .reader) _ (c .reader) (each-drop Byte (l .reader) (p .reader) (b .reader));
-      outbox = each-append Byte (q .outbox) _ (c .outbox) (each-drop Byte (l .outbox) (p .outbox) (b .outbox));
-      factory = each-append Byte (q .factory) _ (c .factory) (each-drop Byte (l .factory) (p .factory) (b .factory));
-      settings = each-append Byte (q .settings) _ (c .settings) (each-drop Byte (l .settings) (p .settings) (b .settings));
-      registers = each-append Byte (q .registers) _ (c .registers) (each-drop Byte (l .registers) (p .registers) (b .registers));
+      reader = back-each _ (p .reader) Byte (l .reader) (q .reader) (b .reader) (c .reader);
+      outbox = back-each _ (p .outbox) Byte (l .outbox) (q .outbox) (b .outbox) (c .outbox);
+      factory = back-each _ (p .factory) Byte (l .factory) (q .factory) (b .factory) (c .factory);
+      settings = back-each _ (p .settings) Byte (l .settings) (q .settings) (b .settings) (c .settings);
+      registers = back-each _ (p .registers) Byte (l .registers) (q .registers) (b .registers) (c .registers);
     }
 
     back-lengths : Lengths (lentOf l p) q → Lengths p (givenBack l p q)
     back-lengths n = record {
-      reader = length-front (p .reader) (q .reader) (l .reader) (n .reader);
-      outbox = length-front (p .outbox) (q .outbox) (l .outbox) (n .outbox);
-      factory = length-front (p .factory) (q .factory) (l .factory) (n .factory);
-      settings = length-front (p .settings) (q .settings) (l .settings) (n .settings);
-      registers = length-front (p .registers) (q .registers) (l .registers) (n .registers);
+      reader = back-length _ (p .reader) (l .reader) (q .reader) (n .reader);
+      outbox = back-length _ (p .outbox) (l .outbox) (q .outbox) (n .outbox);
+      factory = back-length _ (p .factory) (l .factory) (q .factory) (n .factory);
+      settings = back-length _ (p .settings) (l .settings) (q .settings) (n .settings);
+      registers = back-length _ (p .registers) (l .registers) (q .registers) (n .registers);
     }
 
+    -- parts that hold a state have their published lengths, so enough was lent
     pub back-leaves : {s : State} → Bytes p → Leaves (lentOf l p) q s → Leaves p (givenBack l p q) s
     back-leaves b k =
         let v = k .1 .valid in
-        let r = valid-roomy v in (
-          view-alike (back-alike r) v ∙ k .0,
-          record { valid = valid-alike (back-alike r) v (back-roomy r); bytes = back-bytes b (k .1 .bytes) },
-          back-lengths (k .2),
-        )
+        let r = valid-roomy v in
+        let n = k .2 in
+        let a = back-alike (lent-enough (omega (arith, n, r))) r in
+        (view-alike a v ∙ k .0, record { valid = valid-alike a v; bytes = back-bytes b (k .1 .bytes) }, back-lengths n)

@@ -4,19 +4,22 @@ use mathlib.Core.Path.{_≡_, refl, _∙_}
 use mathlib.Core.Bool.{true}
 use mathlib.Core.List.{List, [], _∷_}
 use Prim.Native.Nat.{ℕ, zero, suc, _≤_}
+use native.Mathlib.Omega.{arith}
 use lib.Dec.{leb, eqb·suc-zero}
-use lib.ListN.{length, take, take-append-drop}
+use lib.ListN.{length}
 use borrow.Author.Tests.{leb-true}
 use Rattle.octets.specs.Bytes.{Each, Byte}
 use Rattle.octets.proofs.Conditions.{cond-by}
 use Rattle.line.specs.Reader as LineReader
 use Rattle.line.proofs.State.{valid-ready}
+use Rattle.line_claims.specs.Loans.{Loan, enoughPart}
+use Rattle.line_claims.specs.LoanLaws.{back-same, lent-enough}
 use Rattle.line_claims.specs.Calls as LineCalls
 use Rattle.supervisor.specs.Calls.{Parts}
 use Rattle.supervisor_claims.specs.Meant.{withReader}
 use Rattle.supervisor_claims.specs.Histories.{Lent, lentOf, givenBack}
 use Rattle.supervisor_claims.specs.Sound.{Sound, Lengths, lengths-same, lengths-then, valid-roomy}
-use Rattle.supervisor_claims.specs.Locality.{EnoughOfAll, lent-most, lent-sound, back-leaves}
+use Rattle.supervisor_claims.specs.Locality.{EnoughOfAll, wholeOf, whole-of-all, lent-sound, back-leaves}
 use Rattle.supervisor_claims.specs.ReceivedClaim.{ReaderKept, pushed-kept, finished-kept, started-kept}
 use Rattle.supervisor_claims.specs.ReceiveClaim.{reader-leaves}
 
@@ -44,25 +47,20 @@ module _ (p : Parts) (s : Sound p) where
   stays : Stays p p
   stays = (s, lengths-same)
 
-  -- the first bytes of the reader's part were lent, and came back as t
-  back-stays : (n : ℕ) (t : List ℕ) → LineReader.state-length ≤ n → ReaderKept (take n (p .reader)) t
+  -- what was lent of the reader's part came back as t
+  back-stays : (n : Loan) (t : List ℕ) → enoughPart LineReader.state-length n ≡ true → ReaderKept (LineCalls.lentState n (p .reader)) t
       → Stays p (withReader p (LineCalls.back n (p .reader) t))
   back-stays n t h k =
-      let r = valid-roomy (s .valid) in
-      let l : Lent = record {
-        reader = n;
-        outbox = length (p .outbox);
-        factory = length (p .factory);
-        settings = length (p .settings);
-        registers = length (p .registers);
-      } in
-      let e : EnoughOfAll l = record { reader = h; outbox = r .outbox; factory = r .factory; settings = r .settings; registers = r .registers } in
+      let w = wholeOf p in
+      let l : Lent = record { reader = n; outbox = w .outbox; factory = w .factory; settings = w .settings; registers = w .registers } in
+      let a = whole-of-all p (valid-roomy (s .valid)) in
+      let e : EnoughOfAll l = record { reader = h; outbox = a .outbox; factory = a .factory; settings = a .settings; registers = a .registers } in
       let b = back-leaves l p (withReader (lentOf l p) t) (s .bytes) (reader-leaves (lentOf l p) (lent-sound l p e s) t k) in
-      let same : givenBack l p (withReader (lentOf l p) t) ≡ withReader p (LineCalls.back n (p .reader) t) = simp take-append-drop in
+      let same : givenBack l p (withReader (lentOf l p) t) ≡ withReader p (LineCalls.back n (p .reader) t) = simp back-same in
       (rw same at (b .1), rw same at (b .2))
 
-  refused-stays : (n : ℕ) → Stays p (withReader p (LineCalls.back n (p .reader) (take n (p .reader))))
-  refused-stays n = rw take-append-drop stays
+  refused-stays : (n : Loan) → Stays p (withReader p (LineCalls.back n (p .reader) (LineCalls.lentState n (p .reader))))
+  refused-stays n = rw back-same stays
 
 -- the piece of a call holds bytes
 abbrev pub PieceBytes : LineCalls.Call → Type 0
@@ -73,18 +71,20 @@ module _ (p : Parts) (r : LineCalls.Reader) (s : Sound (withReader p (r .state))
   abbrev Left : LineCalls.Reader → Type 0
   Left x = Stays (withReader p (r .state)) (withReader p (x .state))
 
+  long : (n : Loan) → LineReader.state-length ≤ length (LineCalls.lentState n (r .state)) → enoughPart LineReader.state-length n ≡ true
+  long n h = lent-enough LineReader.state-length (r .state) n (omega arith) h
+
   call-stays : (c : LineCalls.Call) → PieceBytes c → Left (LineCalls.after r c)
   unfolding LineCalls.after LineCalls.afterRead LineCalls.afterOutcome LineCalls.afterStart LineCalls.restarted LineCalls.fresh LineReader.reading LineReader.starting
   call-stays (LineCalls.read c) h =
-      let n = c .lent in
-      let t = take n (r .state) in
+      let t = LineCalls.lentState (c .lent) (r .state) in
       cond-by (λ o. Left (LineCalls.afterOutcome r c o)) (LineReader.valid t) _ _
-      (λ v. back-stays _ s n _ (lent-most LineReader.state-length n (r .state) (valid-ready t v .0)) (read-kept (c .piece) t v h))
-      (λ v. refused-stays _ s n)
+      (λ v. back-stays _ s (c .lent) _ (long (c .lent) (valid-ready t v .0)) (read-kept (c .piece) t v h))
+      (λ v. refused-stays _ s (c .lent))
   call-stays (LineCalls.start n) h =
-      let t = take n (r .state) in
+      let t = LineCalls.lentState n (r .state) in
       cond-by (λ a. Left (LineCalls.afterStart r n a)) (leb LineReader.state-length (length t)) _ _
-      (λ e. let l = leb-true LineReader.state-length (length t) e in back-stays _ s n _ (lent-most LineReader.state-length n (r .state) l) (started-kept t l))
+      (λ e. let l = leb-true LineReader.state-length (length t) e in back-stays _ s n _ (long n l) (started-kept t l))
       (λ e. stays _ s)
 
 -- ---- many
@@ -98,7 +98,7 @@ calls-stay (c ∷ cs) p r s h =
     let l = calls-stay cs p (LineCalls.after r c) (k .0) (h .1) in
     (l .0, lengths-then (k .1) (l .1))
 
--- any calls of the line layer's reader, each lent any number of the part's bytes
+-- any calls of the line layer's reader, whatever each is lent of the part
 pub reader-calls-sound : (p : Parts) → Sound p → (cs : List LineCalls.Call) → Each PieceBytes cs
     → let q = withReader p (LineCalls.afterAll (LineCalls.fresh (p .reader)) cs .state) in Sound q × Lengths p q
 unfolding LineCalls.fresh

@@ -5,7 +5,6 @@ use mathlib.Core.Bool.{true}
 use mathlib.Core.List.{List, [], _∷_, _++_}
 use Prim.Native.Nat.{ℕ, _+_, _-_, _≤_, _<_}
 use native.Mathlib.Omega.{arith}
-use lib.Dec.{leb}
 use lib.ListN.{length, drop, length-take}
 use lib.ListN as ListN
 use Rattle.octets.specs.Bytes.{Each, Byte}
@@ -23,7 +22,7 @@ use Rattle.supervisor_claims.specs.View.{pendingOf, factoryOf, view}
 use Rattle.supervisor_claims.specs.Sound.{Bytes, Sound}
 use Rattle.supervisor_claims.specs.Histories
 use Rattle.supervisor_claims.specs.Histories.{Typed, Answer, refused, done, stepped, moved, found, asserted, asked, recorded}
-use Rattle.supervisor_claims.specs.Histories.{enoughOfAll, Lent, Made, enough, made, meant, meantMade, Told, told}
+use Rattle.supervisor_claims.specs.Histories.{enoughOutbox, enoughOfAll, Lent, Made, enough, made, meant, meantMade, Told, told}
 use Rattle.supervisor_claims.specs.CallClaims.{Meets}
 use Rattle.supervisor_claims.specs.TakenAll.{larger-room, allTaken, afterAll, turn, session, replies, replies-taken}
 use Rattle.supervisor_claims.specs.History.{started, one-call}
@@ -39,7 +38,7 @@ pub record Turn : Type 0 where
 pub record Ample (t : Turn) : Type 0 where
   pub byte : t .byte < 256
   pub receiving : enoughOfAll (t .receiving) ≡ true
-  pub taking : leb Layout.outbox-length (t .taking .outbox) ≡ true
+  pub taking : enoughOutbox (t .taking) ≡ true
   pub room : Each Byte (t .room)
   pub long : most-pending ≤ length (t .room)
 
