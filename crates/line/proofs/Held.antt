@@ -10,7 +10,7 @@ use native.Mathlib.Omega.{arith}
 use lib.Dec.{ltb, eqb}
 use lib.ListN.{length, take, length-drop, length-take}
 use lib.Seq.{length-take-le}
-use borrow.Author.Tests.{le-ltb, ltb-true, ltb-false}
+use borrow.Author.Tests.{eq-eqb, ne-eqb, lt-ltb, le-ltb, ltb-true, ltb-false}
 use Rattle.octets.specs.Bytes.{run, overlay, number}
 use Rattle.octets.proofs.Conditions.{cond-by}
 use Rattle.octets.proofs.Overlay.{run-take, length-overlay, overlay-inside, overlay-part, overlay-before}
@@ -18,10 +18,25 @@ use Rattle.line.specs.Limits.{header-length, checksum-length, shortest-m
 use Rattle.line.specs.Judge.{wrongLength, payloadOf}
 use Rattle.line.specs.Cobs.{uncobs}
 use Rattle.line.specs.Reader.{frame-place, state-length, overlong, count, counted, kept, pushes}
-use Rattle.line.specs.Reader.{failed, Settled, settled, unpacked, settle, finish, dataRefusal, partOf, dataOf}
+use Rattle.line.specs.Reader.{empty, failed, Settled, settled, unpacked, settle, finish, dataRefusal, partOf, dataOf}
 use Rattle.line.proofs.State.{Ready, ready-valid, length-counted, count-counted, run-counted, pushes-fit, pushes-some}
-use Rattle.line.proofs.Judging.{finish-over, finish-form}
 use Rattle.line.proofs.Lent.{fit-length}
+
+-- ---- the 00 of a frame
+
+module _ (s : List ℕ) where
+  pub finish-empty : count s ≡ 0 → settled empty (counted 0 s) ≡ finish s
+  unfolding finish
+  finish-empty e = rw (eq-eqb (count s) 0 e)
+
+  pub finish-over : longest-form < count s → settled (failed 1 none) (counted 0 s) ≡ finish s
+  unfolding finish
+  finish-over h = rw (ne-eqb (count s) 0 (λ e. omega arith), lt-ltb longest-form (count s) h)
+
+  pub finish-form : (count s ≡ 0 → ⊥) → count s ≤ longest-form → frame-place ≤ length s
+      → settle (run frame-place (count s) (counted 0 s)) (counted 0 s) ≡ finish s
+  unfolding finish kept
+  finish-form n h l = rw (ne-eqb (count s) 0 n, le-ltb longest-form (count s) h, run-counted 0 s l (count s))
 
 -- ---- what a 00 gives behind the bytes t, where s keeps none of a frame
 

@@ -18,11 +18,10 @@ use Rattle.line.specs.Message.{magic}
 use Rattle.line.specs.Judge.{bodyOf, checksumOf, magicOf, versionOf, sequenceOf, commandOf, payloadOf, fields, judgeFields, wrongLength, judgeLength, judgeForm, judge}
 use Rattle.line.specs.Cobs.{uncobs}
 use Rattle.line.specs.Decoding.{measured, plain}
-use Rattle.line.specs.Reader.{frame-place, state-length, count, counted, kept, Said, empty, failed, message, verdictSaid, settled, unpacked, settle, finish}
+use Rattle.line.specs.Reader.{frame-place, state-length, Said, failed, message, verdictSaid, settled, unpacked, settle}
 use Rattle.line.specs.declared.cobs.Measured.{Measured}
 use Rattle.line.specs.declared.cobs.Measured.the-variants.{Bad, Length}
 use Rattle.line.proofs.Decoding.{measured-bad, measured-length}
-use Rattle.line.proofs.State.{run-counted}
 
 -- the part of a state that holds a decoded message of k bytes, as the code makes it
 pub length-part : (s : List ℕ) (k : ℕ) → frame-place + k ≤ length s → length (run frame-place (frame-place + k - frame-place) s) ≡ k
@@ -98,19 +97,3 @@ module _ (form s : List ℕ) (l : length form ≤ longest-form) where
           let w = settle-message (plain form) (p .0) (rw (p .1, le-ltb k shortest-message h, le-ltb longest-message k j)) in
           let o = rw (p .1) at (overlay-inside frame-place (plain form) s i) in
           cc
-
--- ---- the 00 of a frame
-
-module _ (s : List ℕ) where
-  pub finish-empty : count s ≡ 0 → settled empty (counted 0 s) ≡ finish s
-  unfolding finish
-  finish-empty e = rw (eq-eqb (count s) 0 e)
-
-  pub finish-over : longest-form < count s → settled (failed 1 none) (counted 0 s) ≡ finish s
-  unfolding finish
-  finish-over h = rw (ne-eqb (count s) 0 (λ e. omega arith), lt-ltb longest-form (count s) h)
-
-  pub finish-form : (count s ≡ 0 → ⊥) → count s ≤ longest-form → frame-place ≤ length s
-      → settle (run frame-place (count s) (counted 0 s)) (counted 0 s) ≡ finish s
-  unfolding finish kept
-  finish-form n h l = rw (ne-eqb (count s) 0 n, le-ltb longest-form (count s) h, run-counted 0 s l (count s))

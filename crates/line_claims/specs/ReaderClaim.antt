@@ -20,9 +20,8 @@ use Rattle.line.specs.Reader.{Said, empty, verdictSaid, state-length, frame-pla
 use Rattle.line.specs.Reader.{overlong, unpacked, Settled, settle, finish, Start, starting, unfinished, longer, tailOf}
 use Rattle.octets.proofs.Conditions.{cond-by}
 use Rattle.line.proofs.State.{Ready, ready-valid, length-counted, count-counted, pushes-append, ready-pushes}
-use Rattle.line.proofs.Judging.{finish-empty}
 use Rattle.line.proofs.Lent.{count-append}
-use Rattle.line.proofs.Held.{held-form, held-over, held-count, data-unpacked, finish-leaves}
+use Rattle.line.proofs.Held.{finish-empty, held-form, held-over, held-count, data-unpacked, finish-leaves}
 use Rattle.line_claims.specs.JudgeClaim.{judge-of-message}
 use Rattle.line_claims.specs.Pieces.{split, nonEmpty, split-close, split-more, nonEmpty-append}
 use Rattle.line_claims.specs.WireClaim.{form, wire-forms, wire-range}

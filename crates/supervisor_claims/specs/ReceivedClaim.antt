@@ -12,20 +12,19 @@ use lib.ListN.{length, length-take, length-drop}
 use borrow.Author.Tests.{ltb-true, ltb-false, lt-ltb, le-ltb, leb-false, eqb-true, eqb-false}
 use Rattle.octets.specs.Bytes.{Byte, Each, bytes, run, overlay}
 use Rattle.octets.proofs.Conditions.{cond-by}
-use Rattle.octets.proofs.Each.{each-append, each-take, each-drop}
+use Rattle.octets.proofs.Each.{each-take, each-drop}
 use Rattle.octets.proofs.Numbers.{bytes-each}
 use Rattle.octets.proofs.Overlay.{run-more, length-run, length-overlay, overlay-before, overlay-getD-inside, overlay-each}
 use Rattle.line.specs.Limits.{header-length, checksum-length, longest-data, longest-form}
 use Rattle.line.specs.Checksum.{checksum}
 use Rattle.line.specs.Message.{magic, Message}
-use Rattle.line.specs.Cobs.{full-code, zeros, uncobs}
-use Rattle.line.specs.Decoding.{measured, plainGroup, plain}
+use Rattle.line.specs.Cobs.{uncobs}
 use Rattle.line.specs.Judge.{Verdict, failure, good, bodyOf, checksumOf, magicOf, payloadOf, fields, wrongLength, judgeFields, judgeLength, judgeForm, judge}
 use Rattle.line.specs.Reader as LineReader
-use Rattle.line.proofs.Decoding.{measured-length}
 use Rattle.line.proofs.State.{Ready, valid-ready, ready-valid, length-counted, count-counted, run-counted, ready-pushed}
 use Rattle.line.proofs.Lent.{fit-length}
 use Rattle.line.proofs.Held.{data-unpacked, finish-leaves}
+use Rattle.line_claims.specs.CobsClaims.{uncobs-each}
 use Rattle.requests.specs.Requests.{known, lengthAllowed, tested, testedWhere, verdict, more}
 use Rattle.requests.specs.Receive.{verdictOf}
 use Rattle.requests.specs.Requests.{verdictSince}
@@ -167,25 +166,6 @@ finished-verdict s v =
     positive (suc n) f = omega arith
 
 -- ---- a message that the whole table finds good
-
-plain-each : (left : ℕ) (z : Bool) (bs : List ℕ) → Each Byte bs → Each Byte (plainGroup left z bs)
-unfolding plainGroup
-plain-each zero z [] h = tt
-plain-each (suc left) z [] h = tt
-plain-each (suc left) z (b ∷ bs) h = (h .0, plain-each left z bs (h .1))
-plain-each zero z (c ∷ cs) h = each-append Byte (zeros z) _ (zero-each z) (plain-each (c - 1) (ltb c full-code) cs (h .1))
-  where
-    zero-each : (z : Bool) → Each Byte (zeros z)
-    zero-each true = (omega arith, tt)
-    zero-each false = tt
-
--- what bytes decode to are bytes
-uncobs-each : (form xs : List ℕ) → Each Byte form → uncobs form ≡ some xs → Each Byte xs
-unfolding measured plain
-uncobs-each form xs h e =
-    let p = measured-length form (length xs) (rw e) in
-    let q : xs ≡ plain form = cc in
-    rw q (plain-each 0 false form h)
 
 never : {A : Type 0} {reason : ℕ} {sequence : Option ℕ} {m : Message} → failure reason sequence ≡ good m → A
 never p = let z : _≡_ {A = ℕ} 0 1 = cc in absurd (omega arith)

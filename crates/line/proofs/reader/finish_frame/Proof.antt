@@ -6,7 +6,7 @@ use native.Mathlib.Omega.{arith}
 use borrow.Author.Needs.{needs}
 use denote.Ref.{now}
 use Rattle.line.specs.Reader.{said, empty, failed, settled}
-use Rattle.line.proofs.Judging.{finish-empty, finish-over, finish-form}
+use Rattle.line.proofs.Held.{finish-empty, finish-over, finish-form}
 use Rattle.line.proofs.reader.finish_frame.Statement.{statement}
 use Rattle.line.proofs.reader.finish_frame.Tie as tie
 
