@@ -4,6 +4,8 @@ use mathlib.Core.Path.{_≡_, refl}
 use mathlib.Core.List.{List, [], _∷_, _++_}
 use Prim.Native.Nat.{ℕ, zero, suc, _≤_}
 use native.Mathlib.Omega.{arith}
+use lib.ListN.{length, drop}
+use lib.Seq.{drop-append-seam}
 use Rattle.octets.specs.Bytes.{Each}
 
 -- the pieces that end at a zero, without it, in order, and what stands after the last zero
@@ -70,3 +72,32 @@ unfolding nonEmpty
 nonEmpty-append [] qs = refl
 nonEmpty-append ([] ∷ ps) qs = nonEmpty-append ps qs
 nonEmpty-append ((b ∷ bs) ∷ ps) qs = rw (nonEmpty-append ps qs)
+
+-- ---- joined pieces
+
+ahead-join : (b : ℕ) (ps : List (List ℕ)) (rest more : List ℕ) → let z = ahead (suc b) ps rest in let x = split (rest ++ more) in
+    ahead (suc b) (ps ++ x .closed) (x .rest) ≡ record { closed = z .closed ++ split (z .rest ++ more) .closed; rest = split (z .rest ++ more) .rest }
+unfolding split
+ahead-join b [] rest more = refl
+ahead-join b (p ∷ ps) rest more = refl
+
+-- more bytes: the pieces before stay, and what stood after the last zero goes on
+pub split-join : (w more : List ℕ) → let x = split (split w .rest ++ more) in
+    split (w ++ more) ≡ record { closed = split w .closed ++ x .closed; rest = x .rest }
+unfolding split
+split-join [] more = refl
+split-join (zero ∷ w) more = rw (split-join w more)
+split-join (suc b ∷ w) more = rw (split-join w more) (ahead-join b (split w .closed) (split w .rest) more)
+
+-- of the joined bytes, the pieces whose zero is one of the bytes that came behind w
+unfoldable pub closedBy : List ℕ → List ℕ → List (List ℕ)
+closedBy w more = drop (length (split w .closed)) (split (w ++ more) .closed)
+
+-- the first of them began with what stood after the last zero
+pub closed-rest : (w more : List ℕ) → closedBy w more ≡ split (split w .rest ++ more) .closed
+unfolding closedBy
+closed-rest w more = rw (split-join w more) (drop-append-seam (split w .closed) (split (split w .rest ++ more) .closed))
+
+-- each piece of the joined bytes is closed once, in order
+pub closed-join : (w more : List ℕ) → split (w ++ more) .closed ≡ split w .closed ++ closedBy w more
+closed-join w more = rw (closed-rest w more, split-join w more)

@@ -2,18 +2,25 @@
 -- Assumes nothing.
 use mathlib.Core.Path.{_≡_}
 use mathlib.Core.Bool.{true}
-use mathlib.Core.List.{List}
+use mathlib.Core.List.{List, []}
 use Prim.Native.Nat.{ℕ}
+use Rattle.supervisor.specs.State.{fresh}
 use Rattle.supervisor.specs.Calls.{Parts}
 use Rattle.octets.specs.Bytes.{Each}
 use Rattle.line_claims.specs.Calls as LineCalls
+use Rattle.line_claims.specs.Pieces.{split, nonEmpty}
+use Rattle.supervisor_claims.specs.View.{factoryOf, view}
 use Rattle.supervisor_claims.specs.Meant.{withReader}
-use Rattle.supervisor_claims.specs.Sound.{Bytes, Sound}
+use Rattle.supervisor_claims.specs.Sound.{Bytes, Sound, Lengths}
 use Rattle.supervisor_claims.specs.Histories
-use Rattle.supervisor_claims.specs.Histories.{Typed, refused, done, Lent, Made, enough, made, left, AllTyped}
+use Rattle.supervisor_claims.specs.Histories.{Typed, refused, done, Lent, Made, enough, made, told, left, AllTyped}
+use Rattle.supervisor_claims.specs.FrameHistory.{joinedAll, toldByFrames, leftByFrames, carriedFrames}
+use Rattle.supervisor_claims.specs.FramesClaim.{by-frames}
 -- any list of calls from a start that is accepted, on any bytes: every answer, all that is written outside the state, and the state that is
 -- left are document 01's, whatever is lent; one call among them; a refused call changes nothing; a stream in two calls or in one
 pub use Rattle.supervisor_claims.specs.History.{history, one-call, never-12, earns-no-12, refused-holds, refused-made, cut}
+-- after any calls, the frames carried out or answered since the last accepted start are those of the joined bytes: each once, in order
+pub use Rattle.supervisor_claims.specs.FramesClaim.{each-once}
 -- step receives the bytes up to and with the first 00; with the bytes left it is receive
 pub use Rattle.supervisor_claims.specs.History.{step-receives, step-then-receive, steps-receive}
 -- 12 exactly where a part that a call takes is not as 12 asks, and so where too little of one is lent; then nothing changes
@@ -26,6 +33,25 @@ pub use Rattle.supervisor_claims.specs.Progress.{received-since, in-orde
 pub use Rattle.supervisor_claims.specs.ReaderCalls.{PieceBytes, reader-calls-sound}
 -- a stream received byte by byte, all taken after each byte: the frames of the replies, in order
 pub use Rattle.supervisor_claims.specs.Replies.{replies-in-order}
+
+-- Demand 2 in one statement. A start that is accepted, on any bytes, then any calls, whatever each is lent. The bytes received since the last accepted start
+-- are joined (`joinedAll`). At each call, in order: a receive or step takes, in order, those frames of the joined bytes that are not empty and whose 00 it
+-- brings, and carries out each valid request, with the image lent to it, and answers every other with its numbered failure; a local call does what document 01
+-- has of it; a call that is lent too little is refused as 12 and does nothing. Every answer and all that is written outside the state (`toldByFrames`), and the
+-- state that is left (`leftByFrames`), are those got so. The frames so taken since the last accepted start (`carriedFrames`) are all those of the joined bytes
+-- that are not empty, each exactly once and in order.
+pub history-frames : (p : Parts) → Bytes p → (l : Lent) (d : List ℕ) → Typed (Histories.start d)
+    → made p (record { lent = l; call = Histories.start d }) .answer ≡ done → (ms : List Made) → AllTyped ms
+    → let q = made p (record { lent = l; call = Histories.start d }) .parts in
+    (told q ms ≡ toldByFrames [] (fresh (factoryOf d)) ms)
+    × (view (left q ms) ≡ leftByFrames [] (fresh (factoryOf d)) ms)
+    × (carriedFrames [] [] ms ≡ nonEmpty (split (joinedAll [] ms) .closed))
+    × Sound (left q ms)
+    × Lengths p (left q ms)
+history-frames p b l d typed h ms t =
+    let k = history p b l d typed h ms t in
+    let f = by-frames (factoryOf d) ms in
+    (rw (f .0) (k .0), rw (f .1) (k .1), each-once ms, k .2, k .3)
 
 -- no state that is reached is refused as 12
 pub no-12 : (p : Parts) → Bytes p → (l : Lent) (d : List ℕ) → Typed (Histories.start d)

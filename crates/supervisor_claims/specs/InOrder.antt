@@ -163,11 +163,11 @@ empty-ignored image s ((b ∷ bs) ∷ fs) = empty-ignored image (judged image s 
 unfoldable pub tailOf : List ℕ → Option (List ℕ)
 tailOf bs = cond (ltb longest-form (length bs)) none (some bs)
 
-tail-over : (bs : List ℕ) → longest-form < length bs → tailOf bs ≡ none
+pub tail-over : (bs : List ℕ) → longest-form < length bs → tailOf bs ≡ none
 unfolding tailOf
 tail-over bs h = rw (lt-ltb longest-form (length bs) h)
 
-tail-within : (bs : List ℕ) → length bs ≤ longest-form → tailOf bs ≡ some bs
+pub tail-within : (bs : List ℕ) → length bs ≤ longest-form → tailOf bs ≡ some bs
 unfolding tailOf
 tail-within bs h = rw (le-ltb longest-form (length bs) h)
 
@@ -186,7 +186,7 @@ more-tail bs b = by (ltb longest-form (length bs)) (ltb (length bs) longest-form
     by false false e f = rw (tail-within bs (ltb-false _ _ e), f, tail-over (bs ++ (b ∷ [])) (omega (arith, long, ltb-false (length bs) longest-form f)))
 
 -- more bytes than a form has
-verdict-over : (bs : List ℕ) → longest-form < length bs → verdict bs ≡ failure 1 none
+pub verdict-over : (bs : List ℕ) → longest-form < length bs → verdict bs ≡ failure 1 none
 unfolding verdict judge
 verdict-over bs h = rw (lt-ltb longest-form (length bs) h)
 

@@ -23,6 +23,8 @@ pub mod StepClaim
 pub mod Refusals
 pub mod InOrder
 pub mod Progress
+pub mod FrameHistory
+pub mod FramesClaim
 pub mod TakenAll
 pub mod Sound
 pub mod Locality

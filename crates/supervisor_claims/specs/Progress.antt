@@ -76,7 +76,7 @@ module _ (p : List ℕ) (s : State) (h : Since p s) where
   recorded none = h
   recorded (some x) = h
 
-  called : (c : Call) → Since (behind p c) (meant s c .state)
+  pub called : (c : Call) → Since (behind p c) (meant s c .state)
   unfolding behind meant fresh tailOf Local.start Local.afterTake Local.post Local.posted Local.setOptions Local.withOptions
   called (Histories.start d) =
       cond-both (λ (x : Local.Done) q. Since q (doneMeans s x .state)) (Local.badStart (factoryOf d)) (λ e. h) (λ e. record { received = refl; nonzero = tt })

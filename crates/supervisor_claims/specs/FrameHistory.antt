@@ -1,0 +1,115 @@
+-- Calls of a supervisor by the frames of the bytes that it received: each frame is carried out or answered at the call that brings its 00.
+-- Assumes nothing: these are definitions.
+use mathlib.Core.Bool.{Bool, false, cond, not, _&&_}
+use mathlib.Core.List.{List, [], _∷_, _++_}
+use Prim.Native.Nat.{ℕ}
+use lib.ListN as ListN
+use lib.ListN.{length}
+use Rattle.line_claims.specs.Pieces.{split, nonEmpty, closedBy}
+use Rattle.supervisor.specs.State.{State}
+use Rattle.supervisor.specs.Local
+use Rattle.requests.specs.Requests.{receiving, verdict}
+use Rattle.requests.specs.Receive
+use Rattle.requests.specs.Receive.{Ended}
+use Rattle.supervisor_claims.specs.View.{factoryOf}
+use Rattle.supervisor_claims.specs.Histories
+use Rattle.supervisor_claims.specs.Histories.{Call, refused, done, stepped, Means, means, upTo, meant, Made, enough, untouched, Told}
+use Rattle.supervisor_claims.specs.InOrder.{allFramed, tailOf}
+
+-- ---- The received bytes
+
+-- the bytes that a call reads: a receive its piece, a step its piece up to and with the first 00, any other call none
+unfoldable pub reads : Call → List ℕ
+reads (Histories.start d) = []
+reads (Histories.receive image piece) = piece
+reads (Histories.step image piece) = ListN.take (upTo piece) piece
+reads (Histories.take room) = []
+reads (Histories.post action text) = []
+reads (Histories.setOptions options) = []
+reads (Histories.lookup key most) = []
+reads Histories.signal = []
+reads Histories.flags = []
+reads (Histories.readRecord k) = []
+
+-- whether a call is a start with start data that are accepted
+unfoldable pub starts : Call → Bool
+starts (Histories.start d) = not (Local.badStart (factoryOf d))
+starts (Histories.receive image piece) = false
+starts (Histories.step image piece) = false
+starts (Histories.take room) = false
+starts (Histories.post action text) = false
+starts (Histories.setOptions options) = false
+starts (Histories.lookup key most) = false
+starts Histories.signal = false
+starts Histories.flags = false
+starts (Histories.readRecord k) = false
+
+-- a call that is lent too little reads nothing and starts nothing
+unfoldable pub receivedBy : Made → List ℕ
+receivedBy m = cond (enough (m .call) (m .lent)) (reads (m .call)) []
+
+unfoldable pub startsAnew : Made → Bool
+startsAnew m = enough (m .call) (m .lent) && starts (m .call)
+
+-- all bytes received since the last accepted start, joined: w before a call, and so after it
+unfoldable pub joined : List ℕ → Made → List ℕ
+joined w m = cond (startsAnew m) [] (w ++ receivedBy m)
+
+unfoldable pub joinedAll : List ℕ → List Made → List ℕ
+joinedAll w [] = w
+joinedAll w (m ∷ ms) = joinedAll (joined w m) ms
+
+-- ---- Their frames
+
+-- the frames that are not empty among those whose 00 stands in bytes that came behind w
+unfoldable pub framesBy : List ℕ → List ℕ → List (List ℕ)
+framesBy w bs = nonEmpty (closedBy w bs)
+
+-- those frames in order, with the image lent: a valid request is carried out, any other frame earns its numbered failure (`judged`);
+-- the bytes behind the last 00 are the receive progress
+unfoldable pub carriedOut : List ℕ → List ℕ → State → List ℕ → State
+carriedOut image w s bs = receiving (allFramed image s (framesBy w bs)) (tailOf (split (w ++ bs) .rest))
+
+-- how the frame ended whose 00 a step read: there is one at most
+unfoldable pub endedBy : List (List ℕ) → Ended
+endedBy [] = Ended.more
+endedBy ([] ∷ fs) = Ended.empty
+endedBy ((b ∷ bs) ∷ fs) = Receive.endedBy (verdict (b ∷ bs))
+
+-- ---- One call
+
+-- a call on the state s, where the bytes w came before: a local call is as document 01 has it
+unfoldable pub carriedCall : List ℕ → State → Call → Means
+carriedCall w s (Histories.start d) = meant s (Histories.start d)
+carriedCall w s (Histories.receive image piece) = means done [] (carriedOut image w s piece)
+carriedCall w s (Histories.step image piece) =
+    let bs = reads (Histories.step image piece) in
+    means (stepped (length bs) (endedBy (closedBy w bs))) [] (carriedOut image w s bs)
+carriedCall w s (Histories.take room) = meant s (Histories.take room)
+carriedCall w s (Histories.post action text) = meant s (Histories.post action text)
+carriedCall w s (Histories.setOptions options) = meant s (Histories.setOptions options)
+carriedCall w s (Histories.lookup key most) = meant s (Histories.lookup key most)
+carriedCall w s Histories.signal = meant s Histories.signal
+carriedCall w s Histories.flags = meant s Histories.flags
+carriedCall w s (Histories.readRecord k) = meant s (Histories.readRecord k)
+
+-- 12, and nothing changes, where too little is lent
+unfoldable pub carriedMade : List ℕ → State → Made → Means
+carriedMade w s m = cond (enough (m .call) (m .lent)) (carriedCall w s (m .call)) (means (refused 12) (untouched (m .call)) s)
+
+-- ---- Lists of calls
+
+-- each call's answer and what it wrote in the caller's room or handed out
+unfoldable pub toldByFrames : List ℕ → State → List Made → List Told
+toldByFrames w s [] = []
+toldByFrames w s (m ∷ ms) = let c = carriedMade w s m in (record { answer = c .answer; out = c .out }) ∷ toldByFrames (joined w m) (c .state) ms
+
+-- the state that they leave
+unfoldable pub leftByFrames : List ℕ → State → List Made → State
+leftByFrames w s [] = s
+leftByFrames w s (m ∷ ms) = leftByFrames (joined w m) (carriedMade w s m .state) ms
+
+-- the frames that were carried out or answered since the last accepted start, call after call: fs before, and so after the calls
+unfoldable pub carriedFrames : List ℕ → List (List ℕ) → List Made → List (List ℕ)
+carriedFrames w fs [] = fs
+carriedFrames w fs (m ∷ ms) = carriedFrames (joined w m) (cond (startsAnew m) [] (fs ++ framesBy w (receivedBy m))) ms
