@@ -1,14 +1,15 @@
 -- Laws of a loan: what is lent and comes back, whatever the loan, and what a loan of the published length is.
 -- Assumes nothing.
 use mathlib.Core.Path.{_≡_, refl, sym, _∙_}
-use mathlib.Core.Bool.{true, false, false≢true}
-use mathlib.Core.List.{List, _++_}
+use mathlib.Core.Bool.{Bool, true, false, false≢true}
+use mathlib.Core.List.{List, [], _∷_, _++_, append-nil}
 use Prim.Native.Nat.{ℕ, _+_, _≤_, _<_}
 use native.Mathlib.Nat.{lt-of-not-le}
 use native.Mathlib.Omega.{arith}
-use lib.ListN.{length, take, drop, length-append, length-take, take-append-drop}
-use lib.Seq.{drop-drop, take-take, take-append-le, length-front}
-use borrow.Author.Tests.{leb-true, le-leb}
+use lib.Dec.{leb}
+use lib.ListN.{length, take, drop, length-append, length-take, take-append-drop, drop-of-length-le}
+use lib.Seq.{take-nil, drop-nil, drop-drop, take-take, take-all, take-at, drop-at, take-append-le, length-take-le, length-front}
+use borrow.Author.Tests.{leb-true, leb-false, le-leb}
 use Rattle.octets.specs.Bytes.{Each, run}
 use Rattle.octets.proofs.Each.{each-append, each-take, each-drop}
 use Rattle.line_claims.specs.Loans.{Loan, first, within, fewer, lentPart, backPart, enoughPart}
@@ -49,6 +50,66 @@ module _ (published : ℕ) (s : List ℕ) where
   back-each P (first n) t h k = each-append P t (drop n s) k (each-drop P n s h)
   back-each P (within at n) t h k =
       each-append P (take at s) _ (each-take P at s h) (each-append P t _ k (each-drop P (at + fewer published n) s h))
+
+-- ---- lent again in the same way
+
+-- what is put in front of the bytes behind the first n, n of them or all there were, is the first n
+front-again : (n : ℕ) (s t : List ℕ) → length t ≡ length (take n s) → (take n (t ++ drop n s) ≡ t) × (drop n (t ++ drop n s) ≡ drop n s)
+front-again n s t e = by (leb n (length s)) refl
+  where
+    by : (b : Bool) → leb n (length s) ≡ b → (take n (t ++ drop n s) ≡ t) × (drop n (t ++ drop n s) ≡ drop n s)
+    by true f =
+        let h : length t ≡ n = omega (arith, length-take n s, leb-true n (length s) f) in
+        (take-at t (drop n s) n h, drop-at t (drop n s) n h)
+    by false f =
+        let h : length s ≤ n = omega (arith, leb-false n (length s) f) in
+        let k : length t ≤ n = omega (arith, length-take n s) in
+        rw (drop-of-length-le s h, append-nil) (take-all n t k, drop-of-length-le t k)
+
+-- behind the bytes up to a place
+rest-again : (at : ℕ) (s t : List ℕ) → (length s ≤ at → t ≡ []) → (take at (take at s ++ t) ≡ take at s) × (drop at (take at s ++ t) ≡ t)
+rest-again at s t e = by (leb at (length s)) refl
+  where
+    by : (b : Bool) → leb at (length s) ≡ b → (take at (take at s ++ t) ≡ take at s) × (drop at (take at s ++ t) ≡ t)
+    by true f =
+        let h = length-take-le at s (leb-true at (length s) f) in
+        (take-at (take at s) t at h, drop-at (take at s) t at h)
+    by false f =
+        let h : length s ≤ at = omega (arith, leb-false at (length s) f) in
+        rw (e h, append-nil, take-all at s h) (take-all at s h, drop-of-length-le s h)
+
+-- a run that came back as t
+within-rest : (at m : ℕ) (s t : List ℕ) → length t ≡ length (run at m s) → let w = take at s ++ (t ++ drop (at + m) s) in
+    (take at w ≡ take at s) × (drop at w ≡ t ++ drop m (drop at s))
+within-rest at m s t e = rw (← drop-drop m at s) (rest-again at s (t ++ drop m (drop at s)) none)
+  where
+    empty : (xs : List ℕ) → length xs ≡ 0 → xs ≡ []
+    empty [] q = refl
+    empty (x ∷ xs) q = absurd (omega arith)
+
+    none : length s ≤ at → t ++ drop m (drop at s) ≡ []
+    none h =
+        let k : drop at s ≡ [] = drop-of-length-le s h in
+        let z : t ≡ [] = empty t (e ∙ rw (k, take-nil m)) in
+        rw (z, k, drop-nil m)
+
+module _ (published : ℕ) (s : List ℕ) where
+  -- what came back is lent, and what comes back then takes its place
+  pub lent-again : (l : Loan) (t : List ℕ) → length t ≡ length (lentPart published l s) → lentPart published l (backPart published l s t) ≡ t
+  unfolding lentPart backPart
+  lent-again (first n) t e = front-again n s t e .0
+  lent-again (within at n) t e =
+      let m = fewer published n in
+      rw (within-rest at m s t e .1) (front-again m (drop at s) t e .0)
+
+  pub back-again : (l : Loan) (t u : List ℕ) → length t ≡ length (lentPart published l s)
+      → backPart published l (backPart published l s t) u ≡ backPart published l s u
+  unfolding lentPart backPart
+  back-again (first n) t u e = rw (front-again n s t e .1)
+  back-again (within at n) t u e =
+      let m = fewer published n in
+      let r = within-rest at m s t e in
+      rw (← drop-drop m at (take at s ++ (t ++ drop (at + m) s)), r .0, r .1, front-again m (drop at s) t e .1, drop-drop m at s)
 
 -- ---- the published length
 

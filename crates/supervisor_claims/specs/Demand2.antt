@@ -19,6 +19,8 @@ use Rattle.supervisor_claims.specs.FramesClaim.{by-frames}
 -- any list of calls from a start that is accepted, on any bytes: every answer, all that is written outside the state, and the state that is
 -- left are document 01's, whatever is lent; one call among them; a refused call changes nothing; a stream in two calls or in one
 pub use Rattle.supervisor_claims.specs.History.{history, one-call, never-12, earns-no-12, refused-holds, refused-made, cut}
+-- and in any two lists of pieces: the same bytes in every part, and all calls done or all refused as 12
+pub use Rattle.supervisor_claims.specs.Cuts.{receives, AllAnswer, AllDone, AllRefused, pieces-whole, cut-any}
 -- after any calls, the frames carried out or answered since the last accepted start are those of the joined bytes: each once, in order
 pub use Rattle.supervisor_claims.specs.FramesClaim.{each-once}
 -- step receives the bytes up to and with the first 00; with the bytes left it is receive

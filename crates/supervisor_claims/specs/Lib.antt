@@ -32,6 +32,8 @@ pub mod LentCalls
 pub mod ReceiveClaim
 pub mod CallClaims
 pub mod History
+pub mod LentAgain
+pub mod Cuts
 pub mod ReaderCalls
 pub mod Replies
 pub mod Demand2

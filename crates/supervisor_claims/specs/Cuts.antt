@@ -1,0 +1,134 @@
+-- The cut law over any cuts: a stream received in any two lists of pieces, with one image and one loan, leaves the same bytes in every part.
+-- Assumes nothing.
+use mathlib.Core.Path.{_≡_, refl, sym, ap, _∙_}
+use mathlib.Core.Bool.{Bool, true, false}
+use mathlib.Core.List.{List, [], _∷_, _++_, flatten}
+use mathlib.Core.Logic.{_⊎_, inl, inr}
+use Prim.Native.Nat.{ℕ}
+use Rattle.octets.specs.Bytes.{Each, Byte}
+use Rattle.supervisor.specs.Calls.{Parts}
+use Rattle.requests.specs.Receive
+use Rattle.supervisor_claims.specs.Histories
+use Rattle.supervisor_claims.specs.Histories.{Answer, refused, done, Did, did, Lent, lentOf, Made, made, Told, told, left}
+use Rattle.supervisor_claims.specs.Sound.{Bytes, Lengths, lengths-same}
+use Rattle.supervisor_claims.specs.Locality.{lent-bytes, back-lent, back-leaves}
+use Rattle.supervisor_claims.specs.LentCalls.{parts-valid}
+use Rattle.supervisor_claims.specs.LentAgain.{lent-again, back-again}
+use Rattle.supervisor_claims.specs.ReceiveClaim.{fed-leaves}
+use Rattle.supervisor_claims.specs.History.{refused-made, cut}
+
+-- every call answers so, and hands nothing out
+abbrev pub AllAnswer : Answer → List Told → Type 0
+AllAnswer a = Each (λ (t : Told). t ≡ record { answer = a; out = [] })
+
+module _ (image : List ℕ) (l : Lent) where
+  -- a piece of the stream, received with the image and the loan
+  abbrev pub received : List ℕ → Made
+  received piece = record { lent = l; call = Histories.receive image piece }
+
+  -- pieces, one after the other
+  unfoldable pub receives : List (List ℕ) → List Made
+  receives [] = []
+  receives (piece ∷ pieces) = received piece ∷ receives pieces
+
+  -- every call is done; or every call is refused as 12, and no part has changed
+  abbrev pub AllDone : Parts → List (List ℕ) → Type 0
+  AllDone p pieces = AllAnswer done (told p (receives pieces))
+
+  abbrev pub AllRefused : Parts → List (List ℕ) → Type 0
+  AllRefused p pieces = AllAnswer (refused 12) (told p (receives pieces)) × (left p (receives pieces) ≡ p)
+
+-- done, or refused as 12
+abbrev doneWhere : Bool → Answer
+doneWhere true = done
+doneWhere false = refused 12
+
+-- what a call answered and handed out
+abbrev toldBy : Did → Told
+toldBy d = record { answer = d .answer; out = d .out }
+
+module _ (image : List ℕ) (i : Each Byte image) (l : Lent) where
+  -- ---- one piece, on any parts
+
+  abbrev receiving : List ℕ → Made
+  receiving = received image l
+
+  module _ (p : Parts) (b : Bytes p) where
+    -- the parts that are lent keep their lengths, and all parts hold bytes
+    received-keeps : (piece : List ℕ) → Each Byte piece
+        → Lengths (lentOf l p) (did (lentOf l p) (Histories.receive image piece) .parts) × Bytes (made p (receiving piece) .parts)
+    unfolding made did Receive.receiving
+    received-keeps piece h = by (Receive.validParts (lentOf l p)) refl
+      where
+        by : (t : Bool) → Receive.validParts (lentOf l p) ≡ t
+            → Lengths (lentOf l p) (did (lentOf l p) (Histories.receive image piece) .parts) × Bytes (made p (receiving piece) .parts)
+        by true e =
+            let f = fed-leaves image (lentOf l p) piece i (record { valid = parts-valid (lentOf l p) e; bytes = lent-bytes l p b }) h in
+            rw e (f .2, back-leaves l p _ b f .1 .bytes)
+        by false e = rw (e, back-lent l p) (lengths-same, b)
+
+    -- and another behind it
+    cut-made : (u v : List ℕ) → Each Byte u → made p (receiving (u ++ v)) ≡ made (made p (receiving u) .parts) (receiving v)
+    unfolding made
+    cut-made u v h =
+        let q = did (lentOf l p) (Histories.receive image u) .parts in
+        let n = received-keeps u h .0 in
+        rw (lent-again l p q n, cut image (lentOf l p) u v (lent-bytes l p b) i h, back-again l p q n (did q (Histories.receive image v) .parts))
+
+    -- a piece of no bytes changes nothing
+    none-received : made p (receiving []) .parts ≡ p
+    unfolding made did Receive.receiving Receive.fed
+    none-received = by (Receive.validParts (lentOf l p)) refl
+      where
+        by : (t : Bool) → Receive.validParts (lentOf l p) ≡ t → made p (receiving []) .parts ≡ p
+        by true e = rw (e, back-lent l p)
+        by false e = rw (e, back-lent l p)
+
+    -- whatever its bytes are, it is done where the parts that are lent are as 12 asks
+    told-so : (piece : List ℕ) → toldBy (made p (receiving piece)) ≡ record { answer = doneWhere (Receive.validParts (lentOf l p)); out = [] }
+    unfolding made did Receive.receiving
+    told-so piece = by (Receive.validParts (lentOf l p)) refl
+      where
+        by : (t : Bool) → Receive.validParts (lentOf l p) ≡ t → toldBy (made p (receiving piece)) ≡ record { answer = doneWhere t; out = [] }
+        by true e = rw e
+        by false e = rw e
+
+    answer-so : (piece : List ℕ) → made p (receiving piece) .answer ≡ doneWhere (Receive.validParts (lentOf l p))
+    answer-so piece = ap (λ (t : Told). t .answer) (told-so piece)
+
+  -- ---- pieces are the whole
+
+  -- what the calls leave, and what each answers, is what one call with all the bytes leaves and answers
+  pub pieces-whole : (p : Parts) → Bytes p → (pieces : List (List ℕ)) → Each (Each Byte) pieces
+      → let whole = made p (receiving (flatten pieces)) in
+      (left p (receives image l pieces) ≡ whole .parts) × AllAnswer (whole .answer) (told p (receives image l pieces))
+  unfolding receives left told flatten
+  pieces-whole p b [] h = (sym (none-received p b), tt)
+  pieces-whole p b (u ∷ pieces) h =
+      let c = cut-made p b u (flatten pieces) (h .0) in
+      let k = pieces-whole (made p (receiving u) .parts) (received-keeps p b u (h .0) .1) pieces (h .1) in
+      let a = answer-so p b (u ++ flatten pieces) in
+      (k .0 ∙ ap (λ (d : Did). d .parts) (sym c), (told-so p b u ∙ rw a, rw c (k .1)))
+
+  -- ---- any two cuts
+
+  -- the same bytes in any two lists of pieces, received with nothing in between, on any parts
+  pub cut-any : (p : Parts) → Bytes p → (ps qs : List (List ℕ)) → Each (Each Byte) ps → Each (Each Byte) qs → flatten ps ≡ flatten qs
+      → (left p (receives image l ps) ≡ left p (receives image l qs))
+      × ((AllDone image l p ps × AllDone image l p qs) ⊎ (AllRefused image l p ps × AllRefused image l p qs))
+  cut-any p b ps qs h k e = (x .0 ∙ sym (y .0), by (Receive.validParts (lentOf l p)) (answer-so p b (flatten qs)))
+    where
+      whole : Did
+      whole = made p (receiving (flatten qs))
+
+      x : (left p (receives image l ps) ≡ whole .parts) × AllAnswer (whole .answer) (told p (receives image l ps))
+      x = rw e at (pieces-whole p b ps h)
+
+      y : (left p (receives image l qs) ≡ whole .parts) × AllAnswer (whole .answer) (told p (receives image l qs))
+      y = pieces-whole p b qs k
+
+      by : (t : Bool) → whole .answer ≡ doneWhere t → (AllDone image l p ps × AllDone image l p qs) ⊎ (AllRefused image l p ps × AllRefused image l p qs)
+      by true a = inl (rw a at (x .1), rw a at (y .1))
+      by false a =
+          let z = refused-made p (receiving (flatten qs)) 12 a .0 in
+          inr ((rw a at (x .1), x .0 ∙ z), (rw a at (y .1), y .0 ∙ z))
