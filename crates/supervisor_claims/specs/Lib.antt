@@ -34,6 +34,9 @@ pub mod CallClaims
 pub mod History
 pub mod LentAgain
 pub mod Cuts
+pub mod LastSet
+pub mod LastSetLaws
+pub mod WithdrawnKeys
 pub mod ReaderCalls
 pub mod Replies
 pub mod Demand2

@@ -1,0 +1,327 @@
+-- A settings key holds the value of its last successful set among the requests that were carried out.
+-- Assumes nothing.
+use mathlib.Core.Path.{_≡_, refl, sym, ap, _∙_}
+use mathlib.Core.Bool.{Bool, true, false, cond, not, and-eq-true-iff, _&&_, _||_}
+use mathlib.Core.Logic.{_⊎_, inl, inr}
+use mathlib.Core.List.{List, [], _∷_, _++_, append-nil}
+use mathlib.Core.Option.{Option, none, some}
+use Prim.Native.Nat.{ℕ, _+_, _^_, _≤_}
+use native.Mathlib.Nat.{add-zero}
+use native.Mathlib.Omega.{arith}
+use lib.Dec.{leb, ltb, eqb}
+use lib.ListN as ListN
+use lib.ListN.{length, drop}
+use borrow.Author.Tests.{eqb-true, eqb-false, leb-true, ltb-false, not-false}
+use Rattle.octets.specs.Bytes.{number, numberAt}
+use Rattle.octets.proofs.Conditions.{cond-by, cond-both}
+use Rattle.line.specs.Message.{Message}
+use Rattle.line.specs.Judge.{Verdict, failure, good, judge}
+use Rattle.line_claims.specs.Pieces.{split, nonEmpty, nonEmpty-append, closedBy, closed-join}
+use Rattle.supervisor.specs.Limits
+use Rattle.supervisor.specs.State.{Factory, Settings, Recorded, Retained, State, fresh}
+use Rattle.supervisor.specs.Local
+use Rattle.supervisor.specs.Local.{valueOf}
+use Rattle.requests.specs.Requests
+use Rattle.requests.specs.Requests.{Carried, known, tested, testedWhere, verdict, carried, stored, judged, sent}
+use Rattle.supervisor_claims.specs.InOrder.{judged-is, framed, allFramed}
+use Rattle.supervisor_claims.specs.View.{factoryOf}
+use Rattle.supervisor_claims.specs.Histories
+use Rattle.supervisor_claims.specs.Histories.{Call, doneMeans, recordMeans, upTo, meant, Made, enough}
+use Rattle.supervisor_claims.specs.FrameHistory.{reads, starts, receivedBy, startsAnew, joined, joinedAll, framesBy}
+use Rattle.supervisor_claims.specs.FrameHistory.{carriedOut, carriedCall, carriedMade, leftByFrames}
+use Rattle.supervisor_claims.specs.LastSet.{SettingsKey, three, four, five, request, requestsIn, requestsOf, valueFor, setBy, orElse, lastSet}
+
+-- ---- the last of several
+
+or-else-assoc : (a b c : Option (List ℕ)) → orElse (orElse a b) c ≡ orElse a (orElse b c)
+or-else-assoc none b c = refl
+or-else-assoc (some v) b c = refl
+
+pub last-append : (k : ℕ) (ms ns : List Message) → lastSet k (ms ++ ns) ≡ orElse (lastSet k ns) (lastSet k ms)
+unfolding lastSet
+last-append k [] ns = by (lastSet k ns)
+  where
+    by : (o : Option (List ℕ)) → o ≡ orElse o none
+    by none = refl
+    by (some v) = refl
+last-append k (m ∷ ms) ns = rw (last-append k ms ns) (or-else-assoc (lastSet k ns) (lastSet k ms) (setBy k m))
+
+request-append : (v : Verdict) (ms ns : List Message) → request v (ms ++ ns) ≡ request v ms ++ ns
+request-append (failure reason sequence) ms ns = refl
+request-append (good m) ms ns = refl
+
+pub requests-append : (fs gs : List (List ℕ)) → requestsIn (fs ++ gs) ≡ requestsIn fs ++ requestsIn gs
+unfolding requestsIn
+requests-append [] gs = refl
+requests-append (f ∷ fs) gs = rw (requests-append fs gs) (request-append (verdict f) (requestsIn fs) (requestsIn gs))
+
+-- ---- a valid request has a listed command
+
+abbrev Listed : Verdict → Type 0
+Listed (failure reason sequence) = Unit {0}
+Listed (good m) = known (m .command) ≡ true
+
+tested-listed : (m : Message) → Listed (tested m)
+unfolding tested
+tested-listed m =
+    cond-by Listed (not (eqb (m .version) 1)) _ _ (λ e. tt) (λ e.
+    cond-by Listed (leb (2 ^ 63) (m .sequence)) _ _ (λ f. tt) (λ f.
+    cond-by Listed (not (known (m .command))) _ _ (λ g. tt) (λ g.
+    cond-by Listed (not (Requests.lengthAllowed (m .command) (length (m .payload)))) _ _ (λ h. tt) (λ h. not-false _ g))))
+
+where-listed : (v : Verdict) → Listed (testedWhere v)
+where-listed (failure reason sequence) = tt
+where-listed (good m) = tested-listed m
+
+verdict-listed : (f : List ℕ) → Listed (verdict f)
+unfolding verdict
+verdict-listed f = where-listed (judge f)
+
+-- ---- a request that is no key set
+
+-- the commands are listed in two ranges
+in-ranges : (a b x y : Bool) → ((a && b) || (x && y)) ≡ true → ((a ≡ true) × (b ≡ true)) ⊎ ((x ≡ true) × (y ≡ true))
+in-ranges true true x y e = inl (refl, refl)
+in-ranges true false x y e = inr (and-eq-true-iff x y .0 e)
+in-ranges false b x y e = inr (and-eq-true-iff x y .0 e)
+
+-- a number that is none of the next three, or five
+past-three : (a c : ℕ) → a ≤ c → eqb c a ≡ false → eqb c (a + 1) ≡ false → eqb c (a + 2) ≡ false → a + 3 ≤ c
+past-three a c h e f g = omega (arith, eqb-false)
+
+past-five : (a c : ℕ) → a ≤ c → eqb c a ≡ false → eqb c (a + 1) ≡ false → eqb c (a + 2) ≡ false → eqb c (a + 3) ≡ false → eqb c (a + 4) ≡ false → a + 5 ≤ c
+past-five a c h e f g i j = let k = past-three a c h e f g in omega (arith, eqb-false c (a + 3) i, eqb-false c (a + 4) j)
+
+-- one that is none of the others is a key set
+listed-set : (c : ℕ) → known c ≡ true
+    → eqb c 0x01 ≡ false → eqb c 0x02 ≡ false → eqb c 0x03 ≡ false → eqb c 0x04 ≡ false → eqb c 0x05 ≡ false → eqb c 0x06 ≡ false → eqb c 0x07 ≡ false
+    → eqb c 0x08 ≡ false → eqb c 0x09 ≡ false → eqb c 0x0a ≡ false → eqb c 0x0d ≡ false → eqb c 0x0e ≡ false → eqb c 0x0f ≡ false → c ≡ 0x10
+unfolding known
+listed-set c k e1 e2 e3 e4 e5 e6 e7 e8 e9 e10 e13 e14 e15 = by (in-ranges _ _ _ _ k)
+  where
+    by : ((leb 0x01 c ≡ true) × (leb c 0x0a ≡ true)) ⊎ ((leb 0x0d c ≡ true) × (leb c 0x10 ≡ true)) → c ≡ 0x10
+    by (inl r) =
+        let h = past-five 0x06 c (past-five 0x01 c (leb-true _ _ (r .0)) e1 e2 e3 e4 e5) e6 e7 e8 e9 e10 in
+        omega (arith, leb-true c 0x0a (r .1))
+    by (inr r) =
+        let h = past-three 0x0d c (leb-true _ _ (r .0)) e13 e14 e15 in
+        omega (arith, leb-true c 0x10 (r .1))
+
+-- the settings are as before
+record Kept (s : State) (c : Carried) : Type 0 where
+  settings : c .state .settings ≡ s .settings
+
+alert-kept : (s : State) (sequence : ℕ) (r : Option Retained) → Kept s (Requests.alertAsked s sequence r)
+unfolding Requests.alertAsked Requests.alertTaken
+alert-kept s sequence none = record { settings = refl }
+alert-kept s sequence (some r) = cond-by (Kept s) (eqb (r .sequence) sequence) _ _ (λ e. record { settings = refl }) (λ e. record { settings = refl })
+
+module _ (image : List ℕ) (s : State) (m : Message) where
+  other-kept : known (m .command) ≡ true → eqb (m .command) 0x10 ≡ false → Kept s (carried image s m)
+  unfolding carried Requests.reboot Requests.powerOff Requests.bootFailure Requests.panicked Requests.startAcknowledged
+  other-kept h n =
+      let c = m .command in
+      cond-by (Kept s) (eqb c 0x01) _ _ (λ e. record { settings = refl }) (λ e1.
+      cond-by (Kept s) (eqb c 0x02) _ _ (λ e. record { settings = refl }) (λ e2.
+      cond-by (Kept s) (eqb c 0x03) _ _ (λ e. record { settings = refl }) (λ e3.
+      cond-by (Kept s) (eqb c 0x04) _ _ (λ e. record { settings = refl }) (λ e4.
+      cond-by (Kept s) (eqb c 0x05) _ _ (λ e. record { settings = refl }) (λ e5.
+      cond-by (Kept s) (eqb c 0x06) _ _ (λ e. record { settings = refl }) (λ e6.
+      cond-by (Kept s) (eqb c 0x07) _ _ (λ e. record { settings = refl }) (λ e7.
+      cond-by (Kept s) (eqb c 0x08) _ _ (λ e. record { settings = refl }) (λ e8.
+      cond-by (Kept s) (eqb c 0x09) _ _ (λ e. record { settings = refl }) (λ e9.
+      cond-by (Kept s) (eqb c 0x0a) _ _ (λ e. alert-kept s (m .sequence) (s .retained)) (λ e10.
+      cond-by (Kept s) (eqb c 0x0d) _ _ (λ e. record { settings = refl }) (λ e13.
+      cond-by (Kept s) (eqb c 0x0e) _ _ (λ e. record { settings = refl }) (λ e14.
+      cond-by (Kept s) (eqb c 0x0f) _ _ (λ e. record { settings = refl }) (λ e15.
+      absurd (eqb-false c 0x10 n (listed-set c h e1 e2 e3 e4 e5 e6 e7 e8 e9 e10 e13 e14 e15)))))))))))))))
+
+  -- a key set stores
+  set-stored : eqb (m .command) 0x10 ≡ true → carried image s m .state .settings ≡ stored (s .settings) (numberAt 1 (m .payload) 0) (drop 1 (m .payload)) .settings
+  unfolding carried Requests.keySet
+  set-stored e = rw (eqb-true (m .command) 0x10 e)
+
+-- ---- what a set stores
+
+-- the value of a settings key
+unfoldable pub held : Settings → ℕ → Option (List ℕ)
+held z k = cond (eqb k 3) (z .key-3) (cond (eqb k 4) (z .key-4) (z .key-5))
+
+pub value-held : (s : State) {k : ℕ} → SettingsKey k → valueOf s k ≡ held (s .settings) k
+unfolding valueOf held
+value-held s three = refl
+value-held s four = refl
+value-held s five = refl
+
+module _ (z : Settings) (v : List ℕ) where
+  -- under the key itself
+  same-key : {k : ℕ} → SettingsKey k
+      → held (stored z k v .settings) k ≡ orElse (cond (ltb (Requests.longest k) (length v)) none (some v)) (held z k)
+  unfolding held stored Requests.withSetting
+  same-key three = cond-both (λ (x : Requests.Stored) o. x .settings .key-3 ≡ orElse o (z .key-3)) (ltb _ (length v)) (λ e. refl) (λ e. refl)
+  same-key four = cond-both (λ (x : Requests.Stored) o. x .settings .key-4 ≡ orElse o (z .key-4)) (ltb _ (length v)) (λ e. refl) (λ e. refl)
+  same-key five = cond-both (λ (x : Requests.Stored) o. x .settings .key-5 ≡ orElse o (z .key-5)) (ltb _ (length v)) (λ e. refl) (λ e. refl)
+
+  -- it is successful where its reply's result is 0
+  abbrev Successful : Option (List ℕ) → Requests.Stored → Type 0
+  Successful o x = o ≡ cond (eqb (x .result) 0) (some v) none
+
+  pub set-successful : {k : ℕ} → SettingsKey k → valueFor k (k ∷ v) ≡ cond (eqb (stored z k v .result) 0) (some v) none
+  unfolding stored valueFor
+  set-successful three = cond-both Successful (ltb _ (length v)) (λ e. refl) (λ e. refl)
+  set-successful four = cond-both Successful (ltb _ (length v)) (λ e. refl) (λ e. refl)
+  set-successful five = cond-both Successful (ltb _ (length v)) (λ e. refl) (λ e. refl)
+
+  -- under another key
+  module _ (key : ℕ) where
+    other-setting : {k : ℕ} → SettingsKey k → eqb key k ≡ false → key ≤ Limits.highest-key → 3 ≤ key → held (Requests.withSetting z key v) k ≡ held z k
+    unfolding held Requests.withSetting
+    other-setting three e most least = rw e (cond-by (λ (x : Settings). x .key-3 ≡ z .key-3) (eqb key 4) _ _ (λ f. refl) (λ f. refl))
+    other-setting four e most least = rw e (cond-by (λ (x : Settings). x .key-4 ≡ z .key-4) (eqb key 3) _ _ (λ f. refl) (λ f. refl))
+    other-setting five e most least =
+        cond-by (λ (x : Settings). x .key-5 ≡ z .key-5) (eqb key 3) _ _ (λ f. refl) (λ f.
+        cond-by (λ (x : Settings). x .key-5 ≡ z .key-5) (eqb key 4) _ _ (λ g. refl) (λ g.
+        absurd (omega (arith, eqb-false))))
+
+    other-key : {k : ℕ} → SettingsKey k → eqb key k ≡ false → held (stored z key v .settings) k ≡ held z k
+    unfolding stored
+    other-key {k} h e =
+        let P : Requests.Stored → Type 0 = λ x. held (x .settings) k ≡ held z k in
+        cond-by P (ltb Limits.highest-key key) _ _ (λ f. refl) (λ f.
+        cond-by P (ltb key 3) _ _ (λ g. refl) (λ g.
+        cond-by P (ltb (Requests.longest key) (length v)) _ _ (λ i. refl) (λ i.
+        other-setting h e (ltb-false _ _ f) (ltb-false _ _ g))))
+
+    stored-held : {k : ℕ} → SettingsKey k → held (stored z key v .settings) k ≡ orElse (valueFor k (key ∷ v)) (held z k)
+    unfolding valueFor
+    stored-held {k} h = by (eqb key k) refl
+      where
+        by : (t : Bool) → eqb key k ≡ t → held (stored z key v .settings) k ≡ orElse (valueFor k (key ∷ v)) (held z k)
+        by true e = rw (e, eqb-true key k e) (same-key h)
+        by false e = rw e (other-key h e)
+
+-- a key set's data
+data-held : (z : Settings) (bs : List ℕ) {k : ℕ} → SettingsKey k
+    → held (stored z (numberAt 1 bs 0) (drop 1 bs) .settings) k ≡ orElse (valueFor k bs) (held z k)
+unfolding number stored valueFor
+data-held z [] h = refl
+data-held z (key ∷ v) h = rw add-zero (stored-held z v key h)
+
+-- ---- requests and frames
+
+module _ (image : List ℕ) {k : ℕ} (h : SettingsKey k) where
+  request-held : (s : State) (m : Message) → known (m .command) ≡ true
+      → held (carried image s m .state .settings) k ≡ orElse (setBy k m) (held (s .settings) k)
+  unfolding setBy
+  request-held s m listed = by (eqb (m .command) 0x10) refl
+    where
+      by : (t : Bool) → eqb (m .command) 0x10 ≡ t
+          → held (carried image s m .state .settings) k ≡ orElse (setBy k m) (held (s .settings) k)
+      by true e = rw (e, set-stored image s m e) (data-held (s .settings) (m .payload) h)
+      by false e = rw (e, other-kept image s m listed e .settings)
+
+  judged-held : (s : State) (v : Verdict) → Listed v
+      → held (judged image s v .settings) k ≡ orElse (lastSet k (request v [])) (held (s .settings) k)
+  unfolding judged sent lastSet
+  judged-held s (failure reason sequence) listed = refl
+  judged-held s (good m) listed = request-held s m listed
+
+  pub frames-held : (fs : List (List ℕ)) (s : State) → let gs = nonEmpty fs in
+      held (allFramed image s gs .settings) k ≡ orElse (lastSet k (requestsIn gs)) (held (s .settings) k)
+  unfolding nonEmpty allFramed framed requestsIn lastSet
+  frames-held [] s = refl
+  frames-held ([] ∷ fs) s = frames-held fs s
+  frames-held ((b ∷ bs) ∷ fs) s =
+      let v = verdict (b ∷ bs) in
+      let r = requestsIn (nonEmpty fs) in
+      let x = lastSet k (request v []) in
+      let y = held (s .settings) k in
+      let z : lastSet k (request v r) ≡ orElse (lastSet k r) x = rw (request-append v [] r) (last-append k (request v []) r) in
+      frames-held fs (judged image s v) ∙ rw (judged-held s v (verdict-listed (b ∷ bs)), z) (sym (or-else-assoc (lastSet k r) x y))
+
+-- ---- received bytes and calls
+
+-- owing is as before
+pub frames-owing : (image : List ℕ) (fs : List (List ℕ)) (s : State) → allFramed image s fs .owing ≡ s .owing
+unfolding allFramed framed
+frames-owing image [] s = refl
+frames-owing image ([] ∷ fs) s = frames-owing image fs s
+frames-owing image ((b ∷ bs) ∷ fs) s =
+    let v = verdict (b ∷ bs) in
+    frames-owing image fs (judged image s v) ∙ ap (λ (x : State). x .owing) (judged-is image s v)
+
+-- key k holds the value of its last successful set among the requests of the bytes w
+abbrev pub Holds : ℕ → List ℕ → State → Type 0
+Holds k w s = held (s .settings) k ≡ lastSet k (requestsOf w)
+
+module _ {k : ℕ} (h : SettingsKey k) where
+  -- none was set yet
+  pub fresh-holds : (f : Factory) → Holds k [] (fresh f)
+  unfolding fresh held split nonEmpty requestsOf requestsIn lastSet
+  fresh-holds f = by h
+    where
+      by : {j : ℕ} → SettingsKey j → held (fresh f .settings) j ≡ none
+      by three = refl
+      by four = refl
+      by five = refl
+
+  module _ (w : List ℕ) (s : State) (x : Holds k w s) where
+    pub frames-hold : (image bs : List ℕ) → Holds k (w ++ bs) (allFramed image s (framesBy w bs))
+    unfolding framesBy requestsOf
+    frames-hold image bs =
+        let fs = nonEmpty (split w .closed) in
+        let gs = nonEmpty (closedBy w bs) in
+        frames-held image h (closedBy w bs) s
+        ∙ rw (
+          x,
+          closed-join w bs,
+          nonEmpty-append (split w .closed) (closedBy w bs),
+          requests-append fs gs,
+          last-append k (requestsIn fs) (requestsIn gs),
+        )
+
+    -- a local call reads nothing, and the settings stay
+    unread : Holds k (w ++ []) s
+    unread = rw append-nil x
+
+    abbrev DoneHolds : Local.Done → Type 0
+    DoneHolds y = Holds k (w ++ []) (doneMeans s y .state)
+
+    record-holds : (y : Option Recorded) → Holds k (w ++ []) (recordMeans s y .state)
+    record-holds none = unread
+    record-holds (some y) = unread
+
+    call-holds : (c : Call) → Holds k (cond (starts c) [] (w ++ reads c)) (carriedCall w s c .state)
+    unfolding starts reads carriedCall carriedOut meant
+        Local.start Local.afterTake Local.post Local.posted Local.setOptions Local.withOptions
+    call-holds (Histories.start d) = by (Local.badStart (factoryOf d))
+      where
+        by : (bad : Bool) → Holds k (cond (not bad) [] (w ++ [])) (doneMeans s (cond bad (Local.refused 11) (Local.left (fresh (factoryOf d)))) .state)
+        by true = unread
+        by false = fresh-holds (factoryOf d)
+    call-holds (Histories.receive image piece) = frames-hold image piece
+    call-holds (Histories.step image piece) = frames-hold image (ListN.take (upTo piece) piece)
+    call-holds (Histories.take room) = unread
+    call-holds (Histories.post action text) =
+        cond-by DoneHolds (eqb action 0) _ _ (λ e. unread) (λ e.
+        cond-by DoneHolds (ltb Limits.longest-alert (length text)) _ _ (λ f. unread) (λ f.
+        cond-by DoneHolds (ltb (length (s .waiting)) Limits.most-alerts) _ _ (λ g. unread) (λ g. unread)))
+    call-holds (Histories.setOptions options) =
+        cond-by DoneHolds (Local.optionsAllowed options) _ _ (λ e. unread) (λ e. unread)
+    call-holds (Histories.lookup key most) = unread
+    call-holds Histories.signal = unread
+    call-holds Histories.flags = unread
+    call-holds (Histories.readRecord r) = record-holds (Histories.recordOf s r)
+
+    made-holds : (m : Made) → Holds k (joined w m) (carriedMade w s m .state)
+    unfolding joined startsAnew receivedBy carriedMade
+    made-holds m = by (enough (m .call) (m .lent)) refl
+      where
+        by : (t : Bool) → enough (m .call) (m .lent) ≡ t → Holds k (joined w m) (carriedMade w s m .state)
+        by true e = rw e (call-holds (m .call))
+        by false e = rw e unread
+
+  pub calls-hold : (ms : List Made) (w : List ℕ) (s : State) → Holds k w s → Holds k (joinedAll w ms) (leftByFrames w s ms)
+  unfolding joinedAll leftByFrames
+  calls-hold [] w s x = x
+  calls-hold (m ∷ ms) w s x = calls-hold ms (joined w m) (carriedMade w s m .state) (made-holds w s x m)

@@ -1,0 +1,133 @@
+-- A lookup of the withdrawn-key list, or of another settings key, answers the value of the last successful set of it since the start.
+-- Assumes nothing.
+use mathlib.Core.Path.{_≡_, refl, ap, _∙_}
+use mathlib.Core.Bool.{true}
+use mathlib.Core.List.{List, [], _∷_, _++_}
+use Prim.Native.Nat.{ℕ, _≤_, _<_}
+use native.Mathlib.Omega.{arith}
+use lib.ListN.{length}
+use borrow.Author.Tests.{le-ltb}
+use Rattle.octets.specs.Bytes.{number, bytes, numberAt}
+use Rattle.octets.proofs.Numbers.{number-bytes}
+use Rattle.line.specs.Message.{Message}
+use Rattle.line.specs.Judge
+use Rattle.line.specs.Judge.{good}
+use Rattle.line.specs.Cobs
+use Rattle.line_claims.specs.Pieces.{split}
+use Rattle.supervisor.specs.Limits
+use Rattle.supervisor.specs.State.{State, fresh}
+use Rattle.supervisor.specs.Local
+use Rattle.supervisor.specs.Calls.{Parts}
+use Rattle.requests.specs.Requests.{verdict, carried, stream, owed, replyOf, replyFrame}
+use Rattle.supervisor_claims.specs.View.{factoryOf, view}
+use Rattle.supervisor_claims.specs.Sound.{Bytes}
+use Rattle.supervisor_claims.specs.Histories
+use Rattle.supervisor_claims.specs.Histories.{Typed, done, found, Lent, Made, enough, meant, meantMade, made, left, leftMeant, AllTyped}
+use Rattle.supervisor_claims.specs.InOrder.{framed, allFramed, request-carried}
+use Rattle.supervisor_claims.specs.Progress.{Since}
+use Rattle.supervisor_claims.specs.FrameHistory.{framesBy, joinedAll}
+use Rattle.supervisor_claims.specs.FramesClaim.{stream-closes, by-frames}
+use Rattle.supervisor_claims.specs.LastSet.{SettingsKey, three, four, five, requestsOf, lastSet, lookupOf, lookupReply}
+use Rattle.supervisor_claims.specs.LastSetLaws.{value-held, frames-owing, Holds, fresh-holds, frames-hold, calls-hold}
+use Rattle.supervisor_claims.specs.History.{history, one-call}
+
+-- ---- a lookup carried out
+
+within-highest : {k : ℕ} → SettingsKey k → k ≤ Limits.highest-key
+within-highest three = omega arith
+within-highest four = omega arith
+within-highest five = omega arith
+
+-- key and maxresponse in a lookup's data
+lookup-data : (k most : ℕ) → k < 256 → most < 65536 → let bs = bytes 1 k ++ bytes 2 most in (numberAt 1 bs 0 ≡ k) × (numberAt 2 bs 1 ≡ most)
+unfolding number bytes
+lookup-data k most h i = (number-bytes 1 k (omega arith), number-bytes 2 most (omega arith))
+
+found-value : (s : State) (most : ℕ) {k : ℕ} → SettingsKey k → Local.lookup s k most ≡ Local.fitted most (Local.valueOf s k)
+unfolding Local.lookup
+found-value s most {k} h = rw (le-ltb Limits.highest-key k (within-highest h))
+
+-- the reply's frame
+reply-found : (image : List ℕ) (s : State) (n most : ℕ) {k : ℕ} → SettingsKey k → most < 65536
+    → replyFrame (replyOf n (carried image s (lookupOf n k most) .reply)) ≡ lookupReply n most (Local.valueOf s k)
+unfolding carried replyOf replyFrame lookupReply
+reply-found image s n most {k} h i =
+    let m = within-highest h in
+    let e = lookup-data k most (omega arith) i in
+    rw (e .0, e .1, found-value s most h)
+
+-- an empty frame is no request
+empty-none : (m : Message) → verdict [] ≡ good m → ⊥
+unfolding verdict Judge.judge Judge.judgeForm Judge.judgeLength Cobs.uncobs Cobs.groupBytes
+empty-none m e = let z : _≡_ {A = ℕ} 0 1 = cc in omega arith
+
+framed-pending : (image : List ℕ) (s : State) (f : List ℕ) (m : Message) → verdict f ≡ good m
+    → framed image s f .pending ≡ owed (s .owing) ++ replyFrame (replyOf (m .sequence) (carried image s m .reply))
+framed-pending image s [] m e = absurd (empty-none m e)
+framed-pending image s (b ∷ bs) m e = ap (λ (x : State). x .pending) (request-carried image s b bs m e)
+
+-- the 00 of a lookup behind the bytes w and bs, where key k holds its last set among the requests of w
+stream-answers : {k : ℕ} (h : SettingsKey k) (w : List ℕ) (s : State) → Since (split w .rest) s → Holds k w s
+    → (image bs : List ℕ) (n most : ℕ) → most < 65536 → verdict (split (w ++ bs) .rest) ≡ good (lookupOf n k most)
+    → stream image s (bs ++ (0 ∷ [])) .pending ≡ owed (s .owing) ++ lookupReply n most (lastSet k (requestsOf (w ++ bs)))
+stream-answers h w s since holds image bs n most i e =
+    let a = allFramed image s (framesBy w bs) in
+    ap (λ (x : State). x .pending) (stream-closes w s since image bs)
+    ∙ framed-pending image a (split (w ++ bs) .rest) (lookupOf n _ most) e
+    ∙ rw (reply-found image a n most h i, value-held a h, frames-hold h w s holds image bs, frames-owing image (framesBy w bs) s)
+
+-- ---- the claims: a start that is accepted, on any bytes, then any calls
+
+-- the parts that a start leaves, and calls after it
+abbrev pub reached : Parts → Lent → List ℕ → List Made → Parts
+reached p l d ms = left (made p (record { lent = l; call = Histories.start d }) .parts) ms
+
+module _ (p : Parts) (b : Bytes p) (l : Lent) (d : List ℕ) (typed : Typed (Histories.start d))
+    (accepted : made p (record { lent = l; call = Histories.start d }) .answer ≡ done) (ms : List Made) (t : AllTyped ms) where
+  abbrev state : State
+  state = leftMeant (fresh (factoryOf d)) ms
+
+  state-holds : {k : ℕ} (h : SettingsKey k) → Holds k (joinedAll [] ms) state
+  state-holds h =
+      let f = factoryOf d in
+      rw (by-frames f ms .1) at (calls-hold h ms [] (fresh f) (fresh-holds h f))
+
+  -- a settings key has the value of its last successful set in the bytes received since the last accepted start, and none where there is none
+  pub value-last-set : {k : ℕ} → SettingsKey k → Local.valueOf (view (reached p l d ms)) k ≡ lastSet k (requestsOf (joinedAll [] ms))
+  value-last-set h = rw (history p b l d typed accepted ms t .1) (value-held state h ∙ state-holds h)
+
+  -- A lookup over the wire: the bytes bs and a 00 are received, and the frame that this 00 closes is the lookup. The requests before it are those of all bytes
+  -- received before that 00. Then its reply is pending, behind a 00 where one is owed. Cutting the stream elsewhere changes nothing (`cut-any`), and a step is
+  -- a receive up to the first 00 (`step-receives`), so that a receive whose piece ends with that 00 stands for any.
+  pub last-set : {k : ℕ} → SettingsKey k → (n most : ℕ) → most < 65536 → (j : Lent) (image bs : List ℕ)
+      → let call = Histories.receive image (bs ++ (0 ∷ [])) in Typed call → enough call j ≡ true
+      → let w = joinedAll [] ms ++ bs in verdict (split w .rest) ≡ good (lookupOf n k most)
+      → let q = reached p l d ms in let r = made q (record { lent = j; call = call }) in
+      (r .answer ≡ done) × (view (r .parts) .pending ≡ owed (view q .owing) ++ lookupReply n most (lastSet k (requestsOf w)))
+  unfolding meantMade meant
+  last-set h n most i j image bs c e v =
+      let hist = history p b l d typed accepted ms t in
+      let call = Histories.receive image (bs ++ (0 ∷ [])) in
+      let meets = rw e at (one-call (reached p l d ms) (record { lent = j; call = call }) (hist .2) c) in
+      let x = stream-answers h (joinedAll [] ms) state (by-frames (factoryOf d) ms .2) (state-holds h) image bs n most i v in
+      (meets .answer, ap (λ (y : State). y .pending) (meets .leaves .0) ∙ rw (hist .1) x)
+
+  -- the same for key 5, the withdrawn-key list
+  pub withdrawn-list-answered : (n most : ℕ) → most < 65536 → (j : Lent) (image bs : List ℕ)
+      → let call = Histories.receive image (bs ++ (0 ∷ [])) in Typed call → enough call j ≡ true
+      → let w = joinedAll [] ms ++ bs in verdict (split w .rest) ≡ good (lookupOf n 5 most)
+      → let q = reached p l d ms in let r = made q (record { lent = j; call = call }) in
+      (r .answer ≡ done) × (view (r .parts) .pending ≡ owed (view q .owing) ++ lookupReply n most (lastSet 5 (requestsOf w)))
+  withdrawn-list-answered n most = last-set five n most
+
+  -- a lookup by the local call: the same results
+  pub lookup-last-set : {k : ℕ} → SettingsKey k → (most : ℕ) → most < 65536 → (j : Lent) → enough (Histories.lookup k most) j ≡ true
+      → let r = made (reached p l d ms) (record { lent = j; call = Histories.lookup k most }) in
+      let f = Local.fitted most (lastSet k (requestsOf (joinedAll [] ms))) in
+      (r .answer ≡ found (f .result) (length (f .value))) × (r .out ≡ f .value)
+  unfolding meantMade meant
+  lookup-last-set {k} h most i j e =
+      let m = within-highest h in
+      let q = reached p l d ms in
+      let meets = rw e at (one-call q (record { lent = j; call = Histories.lookup k most }) (history p b l d typed accepted ms t .2) (omega arith, i)) in
+      rw (meets .answer, meets .out, found-value (view q) most h, value-last-set h) (refl, refl)
