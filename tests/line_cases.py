@@ -216,6 +216,13 @@ L12 = bytes.fromhex('06cc19de01010101020101010101010104' + '08cf6600')
 assert L12 == stuffed(message(1, 1, 8, b'')) + b'\0'
 
 
+def body_with(apart, place, pair):
+    """The longest body, all 5a but for two bytes so far apart."""
+    changed = bytearray(b'\x5a' * 4121)
+    changed[place], changed[place + apart] = pair
+    return bytes(changed)
+
+
 def cases():
     for name, text in (('L1', b'abcde'), ('L2', b'abcdef'), ('L3', b'abcdefgh'), ('L4', b''), ('L5 00', b'\0'), ('L5 ff', b'\xff')):
         yield Case(name).add(text).checksum()
@@ -263,6 +270,17 @@ def cases():
                 yield Case(f'checksum with {kind} byte ff').add(stuffed(b + bad.to_bytes(2, 'little')) + b'\0').read()
         if len(seen) == 2:
             break
+    # the checksums before and after two bytes of the longest body are changed, from its first place on and up to its last
+    for apart, before, after, missed in ((255, (1, 0), (0, 1), True), (254, (1, 0), (0, 1), False),
+                                         (85, (0x5a, 0x5a), (0x5d, 0x57), True), (85, (0x5a, 0x5a), (0x5b, 0x59), False)):
+        for place in (0, 4120 - apart):
+            old, new = (body_with(apart, place, pair) for pair in (before, after))
+            assert (fletcher(old) == fletcher(new)) == missed
+            yield Case(f'{bytes(before).hex()} and {bytes(after).hex()} at {place} and {place + apart}').add(old).checksum().add(new).checksum()
+    # so a reader takes such a message for a sound one, or not
+    for apart in (255, 254):
+        old, new = (body(1, 7, 0x10, body_with(apart, 0, pair)[:4104]) for pair in ((1, 0), (0, 1)))
+        yield Case(f'01 and 00 exchanged {apart} apart').add(stuffed(new + fletcher(old).to_bytes(2, 'little')) + b'\0').read()
     b = body(1, 5, 8, b'')
     yield Case('checksum swapped').add(stuffed(b + fletcher(b).to_bytes(2, 'big')) + b'\0').read()
     yield Case('magic differs').add(stuffed(message(1, 0x8000000000000005, 8, b'', MAGIC + 1)) + b'\0').read()

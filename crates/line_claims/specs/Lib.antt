@@ -6,6 +6,9 @@ pub mod Pieces
 pub mod CobsClaims
 pub mod JudgeClaim
 pub mod WireClaim
+pub mod Changes
+pub mod ApartClaim
+pub mod DistanceClaim
 pub mod ChecksumClaim
 pub mod WriterClaim
 pub mod Loans
