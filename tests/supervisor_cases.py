@@ -146,6 +146,7 @@ class Supervisor:
         number = lambda a, e: int.from_bytes(data[a:e], 'little')
         if command in (1, 2):
             self.flags[command - 1] = 1
+            self.retained = None
             return None
         if command == 3:
             return 3, bytes([start.bsu])
@@ -586,13 +587,20 @@ def alerts():
         c.post(i + 1)
     yield c.mark().post(0).post(0, nonzero(257)).post(1, nonzero(257)).post(1).same()
     c = Case('a resent alert request', Start()).post(1, b'first').post(2, b'second').ask(10, b'', 5).mark().ask(10, b'', 5).stores_same()
-    c.ask(8, b'', 6).ask(1, b'', 7).mark().receive(b'\2\0').take().ask(10, b'x', 5).ask(10, b'', 5).stores_same().ask(10, b'', 8).ask(10, b'', 8)
+    c.ask(8, b'', 6).ask(3, b'', 7).mark().receive(b'\2\0').take().ask(10, b'x', 5).ask(10, b'', 5).stores_same().ask(10, b'', 8).ask(10, b'', 8)
     yield c.ask(10, b'', 5).ask(10, b'', 8).post(3, b'third').ask(10, b'', 8).ask(8).ask(10, b'', 5)
     yield Case('a resent alert request, the reply half taken', Start()).post(1, b'first').send(10, b'', 5).take(7).mark().send(10, b'', 5).stores_same().take().ask(8)
     yield Case('a resent alert request that found none', Start()).ask(10, b'', 5).post(1, b'first').ask(10, b'', 5).ask(8).ask(10, b'', 6).ask(8)
     yield Case('sequence 0 before any alert request', Start()).post(1, b'first').ask(10, b'', 0).ask(10, b'', 0).ask(10, b'', 1)
     yield Case('the highest sequence', Start()).post(1, b'first').ask(10, b'', TOP - 1).ask(10, b'', TOP - 1).ask(10, b'', ONES)
     yield Case('start forgets the retained reply', Start()).post(1, b'first').post(2).ask(10, b'', 5).start(Start()).ask(10, b'', 5).post(3).ask(10, b'', 5).ask(10, b'', 6)
+    for command, name in ((1, 'reboot'), (2, 'power off')):
+        c = Case(f'{name} drops the retained reply', Start()).post(1, b'before').post(2, b'after').post(3, b'later').ask(10, b'', 1).mark().ask(command, b'', 2)
+        yield c.changed().signal().ask(8).ask(10, b'', 1).ask(10, b'', 1).ask(8).flags().ask(10, b'', 3).ask(8)
+        yield Case(f'{name} where none waits', Start()).post(1, b'before').ask(10, b'', 1).ask(command, b'', 2).ask(10, b'', 1).ask(8)
+        c = Case(f'{name} that is not valid keeps the retained reply', Start()).post(1, b'before').post(2, b'after').ask(10, b'', 1).mark()
+        yield c.ask(command, b'\0', 2).ask(command, b'', TOP | 2).receive(framed(2, command, b'', version=2)).take().stores_same().ask(10, b'', 1)
+        yield Case(f'{name} with nothing retained', Start()).post(1, b'waits').ask(command, b'', 1).ask(10, b'', 1).ask(10, b'', 1)
     c = Case('room freed by a taken alert', Start())
     for i in range(30):
         c.post(i + 1, nonzero(i * 8))

@@ -38,6 +38,8 @@ faults! {
     EmptyDiscards: "an empty frame discards what is unsent",
     SilentKeeps: "a request without a reply keeps what is unsent",
     AlertCopyDropped: "any request drops the retained alert reply",
+    RebootKeepsCopy: "reboot and power off keep the retained alert reply",
+    RebootDropsAlerts: "reboot and power off drop the alerts that wait",
     AlertBitKept: "status bit 1 stays when no alert waits",
     ResendTakes: "a resent alert request takes the next alert",
     AckClearsBoth: "start acknowledged clears all status bits",
@@ -551,6 +553,14 @@ impl Supervisor {
             return Err(named(7));
         }
         touched.commands[usize::from(message.command)] += 1;
+        if matches!(message.command, 0x01 | 0x02) {
+            if !broken(Fault::RebootKeepsCopy) {
+                self.registers.retained = None;
+            }
+            if broken(Fault::RebootDropsAlerts) {
+                self.registers.alerts.clear();
+            }
+        }
         if broken(Fault::AlertCopyDropped) && message.command != 0x0a {
             self.registers.retained = None;
             touched.registers = true;

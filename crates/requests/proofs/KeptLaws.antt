@@ -2,7 +2,7 @@
 -- Assumes nothing.
 use mathlib.Core.Path.{_≡_, refl, ap, _∙_}
 use mathlib.Core.Logic.{_⊎_, inl, inr}
-use mathlib.Core.Bool.{Bool, true, cond, and-eq-true-iff}
+use mathlib.Core.Bool.{Bool, true, false, cond, and-eq-true-iff}
 use mathlib.Core.List.{List, [], _∷_, _++_}
 use Prim.Native.Nat.{ℕ, suc, _+_, _-_, _*_, _^_, _≤_, _<_}
 use native.Mathlib.Nat.{add-zero}
@@ -98,34 +98,49 @@ middle-valid v long before after flags failure panic =
     groups-valid (omega arith) (numbers-kept before v (omega arith)) flags failure panic (waiting-kept after v (omega arith)) (retained-kept after v (omega arith))
 
 module _ (r : List ℕ) (v : validRegisters r ≡ true) where
-  -- a flag
-  flag-valid : (at : ℕ) → (Layout.reboot-place ≤ at) × (at < Layout.boot-failure-place) → FlagsValid (overlay at (bytes 1 1) r)
-      → validRegisters (overlay at (1 ∷ []) r) ≡ true
-  flag-valid at h flags =
+  -- a flag's byte, whichever flag is set
+  flag-small : (at i : ℕ) → at < length r → numberAt 1 r i ≤ 1 → numberAt 1 (overlay at (bytes 1 1) r) i ≤ 1
+  flag-small at i room h = by (ltb i at) (ltb at i) refl refl
+    where
+      by : (below above : Bool) → ltb i at ≡ below → ltb at i ≡ above → numberAt 1 (overlay at (bytes 1 1) r) i ≤ 1
+      by true above e f =
+          let l = ltb-true i at e in
+          let same : Same 0 at r (overlay at (bytes 1 1) r) = stored-before 1 at 1 r (omega arith) (omega arith) in
+          rw (number-same same 1 i (omega arith)) h
+      by false true e f =
+          let l = ltb-true at i f in
+          let same : Same (at + 1) (i + 1) r (overlay at (bytes 1 1) r) = stored-after 1 at 1 r (omega arith) (omega arith) in
+          rw (number-same same 1 i (omega arith)) h
+      by false false e f =
+          let j : i ≡ at = omega (arith, ltb-false i at e, ltb-false at i f) in
+          let set = stored-number 1 at 1 r (omega arith) (omega arith) in
+          rw (j, set) (omega arith)
+
+  -- a flag that is set
+  pub flag-valid : (at : ℕ) → (Layout.reboot-place ≤ at) × (at ≤ Layout.power-off-place) → validRegisters (overlay at (1 ∷ []) r) ≡ true
+  flag-valid at h =
       let w = registers-valid r v in
       let after : Same Layout.boot-failure-place Layout.registers-length r (overlay at (bytes 1 1) r)
       = stored-after 1 at 1 r (omega arith) (omega arith) in
+      let small : (i : ℕ) → numberAt 1 r i ≤ 1 → numberAt 1 (overlay at (bytes 1 1) r) i ≤ 1 = λ i. flag-small at i (omega arith) in
       rw (one-byte 1 (omega arith)) at
-      (middle-valid w (stored-long 1 at 1 r (omega arith)) (stored-before 1 at 1 r (omega arith) (omega arith)) (same-within after (omega arith)) flags
-      (failure-kept after w (omega arith)) (panic-kept after w (omega arith)))
+      (middle-valid w (stored-long 1 at 1 r (omega arith)) (stored-before 1 at 1 r (omega arith) (omega arith)) (same-within after (omega arith))
+      (small Layout.reboot-place (w .reboot), small Layout.power-off-place (w .power-off)) (failure-kept after w (omega arith)) (panic-kept after w (omega arith)))
 
-  pub reboot-valid : validRegisters (overlay Layout.reboot-place (1 ∷ []) r) ≡ true
-  reboot-valid =
+  -- no reply retained
+  dropped-valid : validRegisters (overlay Layout.retained-place (0 ∷ []) r) ≡ true
+  dropped-valid =
       let w = registers-valid r v in
-      let at = Layout.reboot-place in
-      let set = stored-number 1 at 1 r (omega arith) (omega arith) in
-      let after : Same Layout.power-off-place Layout.registers-length r (overlay at (bytes 1 1) r) = stored-after 1 at 1 r (omega arith) (omega arith) in
-      let other = number-same after 1 Layout.power-off-place (omega arith) in
-      flag-valid at (omega arith) (omega arith)
-
-  pub power-off-valid : validRegisters (overlay Layout.power-off-place (1 ∷ []) r) ≡ true
-  power-off-valid =
-      let w = registers-valid r v in
-      let at = Layout.power-off-place in
-      let set = stored-number 1 at 1 r (omega arith) (omega arith) in
-      let before : Same 0 at r (overlay at (bytes 1 1) r) = stored-before 1 at 1 r (omega arith) (omega arith) in
-      let other = number-same before 1 Layout.reboot-place (omega arith) in
-      flag-valid at (omega arith) (omega arith)
+      let at = Layout.retained-place in
+      let s = overlay at (bytes 1 0) r in
+      let before : Same 0 at r s = stored-before 1 at 0 r (omega arith) (omega arith) in
+      let after : Same (at + 1) Layout.registers-length r s = stored-after 1 at 0 r (omega arith) (omega arith) in
+      let set = stored-number 1 at 0 r (omega arith) (omega arith) in
+      let text = number-same after 2 Layout.retained-alert-place (omega arith) in
+      let long = stored-long 1 at 0 r (omega arith) in
+      rw (one-byte 0 (omega arith)) at
+      (groups-valid (omega arith) (numbers-kept before w (omega arith)) (flags-kept before w (omega arith)) (failure-kept before w (omega arith))
+      (panic-kept before w (omega arith)) (waiting-kept before w (omega arith)) (omega arith))
 
   -- a status without a bit above 1
   pub status-valid : (n : ℕ) → n ≤ 3 → validRegisters (overlay Layout.status-place (bytes 8 n) r) ≡ true
@@ -144,6 +159,11 @@ module _ (r : List ℕ) (v : validRegisters r ≡ true) where
         retained = same-within after (omega arith);
       })
       w (omega arith) (waiting .alerts)
+
+pub asked-valid : (r : List ℕ) → validRegisters r ≡ true → (at : ℕ) → (Layout.reboot-place ≤ at) × (at ≤ Layout.power-off-place)
+    → validRegisters (Receive.askedFor r at) ≡ true
+unfolding Receive.askedFor
+asked-valid r v at h = dropped-valid (overlay at (1 ∷ []) r) (flag-valid r v at h)
 
 -- ---- a record
 
@@ -515,8 +535,8 @@ unfolding Receive.carriedInner Receive.keySetAnswered Receive.alertAnswered
 carried-valid image f i sequence command d g v short byte =
     let w = inner-valid i v in
     let r = i .registers in
-    cond-by Good (eqb command 0x01) _ _ (λ _. silently-valid i _ v (reboot-valid r (w .registers))) (λ _.
-    cond-by Good (eqb command 0x02) _ _ (λ _. silently-valid i _ v (power-off-valid r (w .registers))) (λ _.
+    cond-by Good (eqb command 0x01) _ _ (λ _. silently-valid i _ v (asked-valid r (w .registers) Layout.reboot-place (omega arith))) (λ _.
+    cond-by Good (eqb command 0x02) _ _ (λ _. silently-valid i _ v (asked-valid r (w .registers) Layout.power-off-place (omega arith))) (λ _.
     cond-by Good (eqb command 0x06) _ _ (λ _.
     silently-valid i _ v (boot-failure-valid r (numberAt 1 d 0) (drop 1 d) (w .registers) byte (omega (arith, length-drop 1 d)))) (λ _.
     cond-by Good (eqb command 0x10) _ _ (λ _.

@@ -57,6 +57,10 @@ acknowledged i reply r = inner (sentBox (replyBytes reply 0x01 []) (i .outbox)) 
 unfoldable pub silently : Inner → List ℕ → Inner
 silently i r = inner (sentBox [] (i .outbox)) (i .settings) r
 
+-- a reboot or a power-off asked for, by the place of its flag: the flag is set, and no reply is retained
+unfoldable pub askedFor : List ℕ → ℕ → List ℕ
+askedFor r flag = overlay Layout.retained-place (0 ∷ []) (overlay flag (1 ∷ []) r)
+
 -- a record, with its code and its rest
 unfoldable pub withRecord : List ℕ → ℕ → ℕ → List ℕ → List ℕ
 withRecord r at code rest =
@@ -166,8 +170,8 @@ askedBytes image f s r reply command d =
 
 unfoldable pub carriedInner : List ℕ → List ℕ → Inner → ℕ → ℕ → List ℕ → Inner
 carriedInner image f i sequence command d =
-    cond (eqb command 0x01) (silently i (overlay Layout.reboot-place (1 ∷ []) (i .registers)))
-    (cond (eqb command 0x02) (silently i (overlay Layout.power-off-place (1 ∷ []) (i .registers)))
+    cond (eqb command 0x01) (silently i (askedFor (i .registers) Layout.reboot-place))
+    (cond (eqb command 0x02) (silently i (askedFor (i .registers) Layout.power-off-place))
     (cond (eqb command 0x06) (silently i (withRecord (i .registers) Layout.boot-failure-place (numberAt 1 d 0) (drop 1 d)))
     (cond (eqb command 0x10) (let k = keySetAnswered (i .outbox) (i .settings) (topSet sequence) d in inner (k .outbox) (k .settings) (i .registers))
     (cond (eqb command 0x0a)

@@ -87,16 +87,16 @@ recorded code rest = record { code = code; whole = length rest; kept = take most
 unfoldable pub clearBit : ℕ → ℕ → ℕ
 clearBit n k = cond (eqb (bit n k) 1) (n - 2 ^ k) n
 
--- 0x01, 0x02: counted as asked for, no reply
+-- 0x01, 0x02: counted as asked for, the retained alert reply is dropped, no reply; alerts that wait stay (document 02, item 1)
 unfoldable pub reboot : State → Carried
 reboot s =
     silent (state (s .status) (s .options) true (s .power-off-asked) (s .boot-failure) (s .panic) (s .factory) (s .settings)
-    (s .waiting) (s .retained) (s .received) (s .pending) (s .owing))
+    (s .waiting) none (s .received) (s .pending) (s .owing))
 
 unfoldable pub powerOff : State → Carried
 powerOff s =
     silent (state (s .status) (s .options) (s .reboot-asked) true (s .boot-failure) (s .panic) (s .factory) (s .settings)
-    (s .waiting) (s .retained) (s .received) (s .pending) (s .owing))
+    (s .waiting) none (s .received) (s .pending) (s .owing))
 
 -- 0x06: reason u8, rest free; recorded, no reply
 unfoldable pub bootFailure : State → List ℕ → Carried

@@ -1,4 +1,4 @@
-// What a request changes in the registers but for alerts: a record, status bit 0.
+// What a request changes in the registers but for the alerts that wait: a flag, a record, status bit 0.
 // Assumes registers of their published length, as each `requires` says.
 use supervisor::layout;
 ghost use mathlib.Core.Path.{_≡_};
@@ -6,9 +6,19 @@ ghost use Prim.Native.Nat.{min, _≤_};
 ghost use lib.ListN.{length, drop};
 ghost use Rattle.octets.specs.Bytes.{bytes, overlay};
 ghost use Rattle.line.specs.Limits.{longest-data};
-ghost use Rattle.supervisor.specs.Layout.{registers-length, status-place, statusOf, panic-place};
+ghost use Rattle.supervisor.specs.Layout.{registers-length, status-place, statusOf, power-off-place, panic-place};
 ghost use Rattle.requests.specs.Requests.{clearBit};
-ghost use Rattle.requests.specs.Receive.{withRecord};
+ghost use Rattle.requests.specs.Receive.{askedFor, withRecord};
+
+// A reboot or a power-off is asked for, by the place of its flag; the retained alert reply is dropped.
+pub(crate) fn ask_for(registers: &mut [u8], flag: usize)
+    requires { ⌜ flag ≤ power-off-place ⌝ }
+    requires { ⌜ registers-length ≤ length (now registers) ⌝ }
+    ensures { λ _. ⌜ now (registers .exit) ≡ askedFor (now (registers .entry)) flag ⌝ }
+{
+    registers[flag] = 1;
+    registers[layout::RETAINED_PLACE] = 0;
+}
 
 // A record of a code and of the data from a place on: at most 512 bytes of them are kept.
 pub(crate) fn set_record(registers: &mut [u8], at: usize, code: u16, data: &[u8], from: usize)

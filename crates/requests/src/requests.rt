@@ -3,6 +3,7 @@
 use crate::alert::alert;
 use crate::answers::ask;
 use crate::receive::Outcome;
+use crate::records::ask_for;
 use crate::records::clear_start;
 use crate::records::set_record;
 use crate::sending::acknowledge;
@@ -134,12 +135,12 @@ fn carry(
 {
     let reason = octets::byte_at(data, 0);
     if command == 0x01 {
-        registers[layout::REBOOT_PLACE] = 1;
+        ask_for(registers, layout::REBOOT_PLACE);
         send_none(outbox);
         return;
     }
     if command == 0x02 {
-        registers[layout::POWER_OFF_PLACE] = 1;
+        ask_for(registers, layout::POWER_OFF_PLACE);
         send_none(outbox);
         return;
     }

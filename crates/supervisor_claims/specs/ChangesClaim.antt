@@ -22,7 +22,7 @@ use Rattle.supervisor_claims.specs.View.{view}
 use Rattle.supervisor_claims.specs.Meant.{Valid, withRegisters}
 use Rattle.supervisor_claims.specs.PartLaws.{Like, like-itself}
 use Rattle.supervisor_claims.specs.SettingLaws.{storing-stored}
-use Rattle.supervisor_claims.specs.RecordLaws.{reboot-view, power-off-view, flag-like, boot-failure-view, panic-view, record-like, acknowledged-view, acknowledged-like}
+use Rattle.supervisor_claims.specs.RecordLaws.{reboot-view, power-off-view, asked-like, boot-failure-view, panic-view, record-like, acknowledged-view, acknowledged-like}
 use Rattle.supervisor_claims.specs.TakenLaws.{alert-asked, alert-reply}
 
 -- the commands that change registers or settings
@@ -63,14 +63,12 @@ module _ (p : Calls.Parts) (v : Valid p) (each : Each Byte (p .registers)) (imag
   reboot-does : m .command ≡ 0x01 → Carries p image m
   unfolding Receive.carriedInner Receive.silently Requests.carried Requests.reboot Requests.replyOf Requests.replyFrame
   reboot-does e =
-      let w = registers-valid (p .registers) (v .registers) in
-      rw e (registers-changed (reboot-view p w) refl (flag-like p w Layout.reboot-place (omega arith)))
+      rw e (registers-changed (reboot-view p (v .registers)) refl (asked-like p (v .registers) Layout.reboot-place (omega arith)))
 
   power-off-does : m .command ≡ 0x02 → Carries p image m
   unfolding Receive.carriedInner Receive.silently Requests.carried Requests.powerOff Requests.replyOf Requests.replyFrame
   power-off-does e =
-      let w = registers-valid (p .registers) (v .registers) in
-      rw e (registers-changed (power-off-view p w) refl (flag-like p w Layout.power-off-place (omega arith)))
+      rw e (registers-changed (power-off-view p (v .registers)) refl (asked-like p (v .registers) Layout.power-off-place (omega arith)))
 
   boot-failure-does : m .command ≡ 0x06 → Carries p image m
   unfolding Receive.carriedInner Receive.silently Requests.carried Requests.bootFailure Requests.replyOf Requests.replyFrame

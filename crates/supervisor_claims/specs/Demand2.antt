@@ -34,6 +34,8 @@ pub use Rattle.supervisor_claims.specs.LentCalls.{made-12}
 -- a stream is its frames, carried out or answered in order, once each, then the tail: on a fresh state, in the middle of a frame, after any calls
 pub use Rattle.supervisor_claims.specs.InOrder.{in-order, in-order-behind, in-order-frames, request-carried, failure-only-pending}
 pub use Rattle.supervisor_claims.specs.Progress.{received-since, in-order-after}
+-- of valid requests, only an alert request replaces the retained alert reply; reboot and power off drop it, and the next alert request takes a fresh alert
+pub use Rattle.supervisor_claims.specs.RetainedClaim.{retained-stays, reboot-forgets, power-off-forgets, fresh-alert}
 -- the line layer's own calls on the reader's part leave sound parts, which earn no 12
 pub use Rattle.supervisor_claims.specs.ReaderCalls.{PieceBytes, reader-calls-sound}
 -- a stream received byte by byte, all taken after each byte: the frames of the replies, in order

@@ -9,6 +9,7 @@ pub mod TakeClaim
 pub mod RegisterLaws
 pub mod PostLaws
 pub mod RegistersClaim
+pub mod RetainedClaim
 pub mod LookupClaim
 pub mod PartLaws
 pub mod SettingLaws

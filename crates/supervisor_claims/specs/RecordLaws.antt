@@ -1,29 +1,30 @@
 -- The registers after a flag or a record was set, or the start acknowledged, and the view of them.
 -- Assumes nothing.
-use mathlib.Core.Path.{_≡_, _∙_}
+use mathlib.Core.Path.{_≡_, ap, _∙_}
 use mathlib.Core.Bool.{Bool, true}
 use mathlib.Core.List.{List, [], _∷_}
-use mathlib.Core.Option.{Option, some}
+use mathlib.Core.Option.{Option, none, some}
 use Prim.Native.Nat.{ℕ, _+_, _-_, _≤_, _<_, min}
 use native.Mathlib.Omega.{arith}
 use lib.Dec.{eqb}
 use lib.ListN.{length, take, length-take}
 use Rattle.octets.specs.Bytes.{Byte, Each, number, numberAt, bytes, overlay}
 use Rattle.octets.proofs.Each.{each-take}
-use Rattle.octets.proofs.Overlay.{overlay-inside}
+use Rattle.octets.proofs.Overlay.{length-overlay, overlay-inside}
 use Rattle.octets.proofs.SameBytes.{Same, same-before, same-after, same-within, number-same, stored-long, stored-number, stored-after}
 use Rattle.supervisor.specs.Limits
 use Rattle.supervisor.specs.Layout
 use Rattle.supervisor.specs.State.{Recorded, State, state}
+use Rattle.supervisor.specs.Valid.{validRegisters}
 use Rattle.supervisor.specs.Calls
-use Rattle.supervisor.proofs.ValidLaws.{RegistersValid}
+use Rattle.supervisor.proofs.ValidLaws.{RegistersValid, registers-valid}
 use Rattle.requests.specs.Requests
 use Rattle.requests.specs.Receive
-use Rattle.requests.proofs.KeptLaws.{entry, length-entry, recorded-before, recorded-after, recorded-held, recorded-code, recorded-whole, recorded-rest, clear-small}
+use Rattle.requests.proofs.KeptLaws.{flag-valid, entry, length-entry, recorded-before, recorded-after, recorded-held, recorded-code, recorded-whole, recorded-rest, clear-small}
 use Rattle.supervisor.proofs.KeptRegisters.{Kept}
-use Rattle.supervisor_claims.specs.View.{recordedOf, view}
+use Rattle.supervisor_claims.specs.View.{recordedOf, retainedOf, view}
 use Rattle.supervisor_claims.specs.Meant.{withRegisters}
-use Rattle.supervisor_claims.specs.PartLaws.{Like, like-put, like-stored, each-number}
+use Rattle.supervisor_claims.specs.PartLaws.{Like, like-then, like-put, like-stored, each-number}
 use Rattle.supervisor_claims.specs.RegisterLaws.{recorded-same, retained-same, alerts-same, kept-view}
 
 -- ---- the view of a record that was put
@@ -90,23 +91,69 @@ module _ (p : Calls.Parts) (w : RegistersValid (p .registers)) where
         put-view at (1 ∷ []) (omega arith)
         ∙ rw (recorded-same behind Layout.boot-failure-place (omega arith), recorded-same behind Layout.panic-place (omega arith))
 
-    pub flag-like : Like (p .registers) asked
-    flag-like = like-put at (1 ∷ []) (p .registers) (omega arith) (λ _. (omega arith, tt))
+-- ---- a reboot or a power-off asked for: a flag, and no retained reply
 
-  pub reboot-view : view (withRegisters p (overlay Layout.reboot-place (1 ∷ []) (p .registers))) ≡ Requests.reboot (view p) .state
+-- the state with no retained reply
+abbrev forgotten : State → State
+forgotten s =
+    state (s .status) (s .options) (s .reboot-asked) (s .power-off-asked) (s .boot-failure) (s .panic) (s .factory) (s .settings) (s .waiting) none
+    (s .received) (s .pending) (s .owing)
+
+forgotten-view : (p : Calls.Parts) → RegistersValid (p .registers)
+    → view (withRegisters p (overlay Layout.retained-place (0 ∷ []) (p .registers))) ≡ forgotten (view p)
+unfolding view retainedOf number
+forgotten-view p w =
+    let r = p .registers in
+    let at = Layout.retained-place in
+    let before : Same Layout.status-place at r (overlay at (0 ∷ []) r) = same-before at (0 ∷ []) r (omega arith) (omega arith) in
+    rw (
+      number-same before 8 Layout.status-place (omega arith),
+      number-same before 8 Layout.options-place (omega arith),
+      number-same before 1 Layout.reboot-place (omega arith),
+      number-same before 1 Layout.power-off-place (omega arith),
+      recorded-same before Layout.boot-failure-place (omega arith),
+      recorded-same before Layout.panic-place (omega arith),
+      number-same before 1 Layout.alert-count-place (omega arith),
+      alerts-same before (Layout.alertCount r) (omega arith) (w .rest .alerts),
+      overlay-inside at (0 ∷ []) r (omega arith),
+    )
+
+module _ (p : Calls.Parts) (v : validRegisters (p .registers) ≡ true) where
+  abbrev w : RegistersValid (p .registers)
+  w = registers-valid (p .registers) v
+
+  module _ (at : ℕ) (h : (Layout.reboot-place ≤ at) × (at ≤ Layout.power-off-place)) where
+    -- whichever of the two flags stands at the place
+    asked-view : view (withRegisters p (Receive.askedFor (p .registers) at))
+        ≡ forgotten (noted (view p) (flag (asked p w at h) Layout.reboot-place) (flag (asked p w at h) Layout.power-off-place) (view p .boot-failure) (view p .panic))
+    unfolding Receive.askedFor
+    asked-view =
+        forgotten-view (withRegisters p (asked p w at h)) (registers-valid (asked p w at h) (flag-valid (p .registers) v at h))
+        ∙ ap forgotten (flag-view p w at h)
+
+    pub asked-like : Like (p .registers) (Receive.askedFor (p .registers) at)
+    unfolding Receive.askedFor
+    asked-like =
+        let long = w .long in
+        let same = length-overlay at (1 ∷ []) (p .registers) (omega arith) in
+        like-then (like-put at (1 ∷ []) (p .registers) (omega arith) (λ _. (omega arith, tt)))
+        (like-put Layout.retained-place (0 ∷ []) (asked p w at h) (omega arith) (λ _. (omega arith, tt)))
+
+  pub reboot-view : view (withRegisters p (Receive.askedFor (p .registers) Layout.reboot-place)) ≡ Requests.reboot (view p) .state
   unfolding view Requests.reboot
   reboot-view =
       let at = Layout.reboot-place in
-      flag-view at (omega arith)
-      ∙ rw (flag-put at (omega arith), number-same (after at (1 ∷ []) (omega arith)) 1 Layout.power-off-place (omega arith))
+      asked-view at (omega arith)
+      ∙ rw (flag-put p w at (omega arith), number-same (after p w at (1 ∷ []) (omega arith)) 1 Layout.power-off-place (omega arith))
 
-  pub power-off-view : view (withRegisters p (overlay Layout.power-off-place (1 ∷ []) (p .registers))) ≡ Requests.powerOff (view p) .state
+  pub power-off-view : view (withRegisters p (Receive.askedFor (p .registers) Layout.power-off-place)) ≡ Requests.powerOff (view p) .state
   unfolding view Requests.powerOff
   power-off-view =
       let at = Layout.power-off-place in
-      flag-view at (omega arith)
-      ∙ rw (flag-put at (omega arith), number-same (before at (1 ∷ []) (omega arith)) 1 Layout.reboot-place (omega arith))
+      asked-view at (omega arith)
+      ∙ rw (flag-put p w at (omega arith), number-same (before p w at (1 ∷ []) (omega arith)) 1 Layout.reboot-place (omega arith))
 
+module _ (p : Calls.Parts) (w : RegistersValid (p .registers)) where
   -- ---- a record
 
   module _ (at code : ℕ) (rest : List ℕ) (h : (Layout.boot-failure-place ≤ at) × (at ≤ Layout.panic-place)) where
@@ -123,7 +170,7 @@ module _ (p : Calls.Parts) (w : RegistersValid (p .registers)) where
         ≡ noted (view p) (view p .reboot-asked) (view p .power-off-asked) (recordedOf telling Layout.boot-failure-place) (recordedOf telling Layout.panic-place)
     unfolding view Receive.withRecord
     record-view =
-        put-view at (entry code rest) (omega (arith, length-entry code rest))
+        put-view p w at (entry code rest) (omega (arith, length-entry code rest))
         ∙ rw (
           number-same record-before 1 Layout.reboot-place (omega arith),
           number-same record-before 1 Layout.power-off-place (omega arith),

@@ -3,12 +3,10 @@
 use mathlib.Core.Path.{_≡_}
 use mathlib.Core.Bool.{true}
 use Prim.Native.Nat.{_≤_}
-use native.Mathlib.Omega.{arith}
 use denote.Ref.{now}
 use lib.ListN.{length}
 use borrow.Author.Needs.{needs}
 use borrow.Author.Tests.{ne-eqb}
-use Rattle.octets.proofs.Overlay.{overlay-one}
 use Rattle.supervisor.specs.Layout.{registers-length}
 use Rattle.supervisor.proofs.ValidLaws.{registers-valid}
 use Rattle.requests.specs.Receive.{Inner, inner, carriedInner, validInner}
@@ -34,29 +32,27 @@ both c =
     carried-both (now (a .image)) (now (a .factory)) (lent start) (a .number .0) (a .command) (now (a .«data»))
     (start .pre .1 .0) (start .pre .1 .1 .0) (start .pre .1 .1 .1 .0) (c .byte-at .ensures)
 
-slice-write-registers : tie.Need-slice-write-registers
-slice-write-registers c = let l = registers-long (c .before .before .before .before .before .before .before .before) in search needs
+ask-for-requires : tie.Need-ask-for-requires
+ask-for-requires c κs = let l = registers-long (c .before .before .before .before .before .before .before .before .before) in search needs
 
 returns : tie.Need-returns
 unfolding carriedInner
 returns c =
-    let told = c .before .before .before .before in
+    let called = c .before .before .before .before .before .before in
+    let told = called .before .before in
     let first = told .before in
-    let start = first .before .before .before .before .before .before .before in
-    let l = registers-long start in
-    both first (rw (told .if1 .taken) (silently-by (lent start) _ (c .before .before .send-none .ensures) (overlay-one 16 1 (now (start .args .registers)) (omega arith))))
+    both first (rw (told .if1 .taken) (silently-by (lent (first .before .before .before .before .before .before .before)) _ (c .before .before .send-none .ensures) (called .ask-for .ensures)))
 
-slice-write-registers-2 : tie.Need-slice-write-registers-2
-slice-write-registers-2 c = let l = registers-long (c .before .before .before .before .before .before .before .before .before) in search needs
+ask-for-requires-2 : tie.Need-ask-for-requires-2
+ask-for-requires-2 c κs = let l = registers-long (c .before .before .before .before .before .before .before .before .before .before) in search needs
 
 returns-2 : tie.Need-returns-2
 unfolding carriedInner
 returns-2 c =
-    let told = c .before .before .before .before in
+    let called = c .before .before .before .before .before .before in
+    let told = called .before .before in
     let first = told .before .before in
-    let start = first .before .before .before .before .before .before .before in
-    let l = registers-long start in
-    both first (rw (told .if2 .taken) (silently-by (lent start) _ (c .before .before .send-none2 .ensures) (overlay-one 17 1 (now (start .args .registers)) (omega arith))))
+    both first (rw (told .if2 .taken) (silently-by (lent (first .before .before .before .before .before .before .before)) _ (c .before .before .send-none2 .ensures) (called .ask-for2 .ensures)))
 
 set-record-requires : tie.Need-set-record-requires
 set-record-requires c κs =
@@ -92,7 +88,7 @@ pub carry-spec : {M : Type 1} → statement M
 carry-spec =
     tie.close
     (tie.spec
-    (λ c κs. search needs) slice-write-registers (λ c κs. search needs) (λ c. search needs) (λ c. search needs) returns
-    slice-write-registers-2 (λ c κs. search needs) (λ c. search needs) (λ c. search needs) returns-2 (λ c. search needs)
+    (λ c κs. search needs) ask-for-requires (λ c κs. search needs) (λ c. search needs) (λ c. search needs) returns
+    ask-for-requires-2 (λ c κs. search needs) (λ c. search needs) (λ c. search needs) returns-2 (λ c. search needs)
     set-record-requires (λ c κs. search needs) (λ c. search needs) (λ c. search needs) returns-3 carry-with-reply-requires
     (λ c. search needs) (λ c. search needs) (λ c. search needs) returns-4)
