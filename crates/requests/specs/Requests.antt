@@ -12,7 +12,8 @@ use Rattle.line.specs.Message.{Message}
 use Rattle.line.specs.Frame.{frame}
 use Rattle.line.specs.Judge.{Verdict, failure, good, judge}
 use Rattle.supervisor.specs.Limits.{highest-key, longest-key-3, longest-key-4, longest-key-5, most-kept, longest-block}
-use Rattle.supervisor.specs.State.{Item, Factory, Settings, Recorded, Alert, Retained, State, state}
+use Rattle.supervisor.specs.State.{Item, Factory, Settings, Recorded, Alert, Retained, State}
+use Rattle.supervisor.specs.State.{withStatus, withReboot, withPowerOff, withBootFailure, withPanic, withSettings, withWaiting, withRetained, withReceived, withPending}
 use Rattle.supervisor.specs.Number.{topSet}
 use Rattle.supervisor.specs.Local.{bit, lookup}
 
@@ -89,32 +90,22 @@ clearBit n k = cond (eqb (bit n k) 1) (n - 2 ^ k) n
 
 -- 0x01, 0x02: counted as asked for, the retained alert reply is dropped, no reply; alerts that wait stay (document 02, item 1)
 unfoldable pub reboot : State → Carried
-reboot s =
-    silent (state (s .status) (s .options) true (s .power-off-asked) (s .boot-failure) (s .panic) (s .factory) (s .settings)
-    (s .waiting) none (s .received) (s .pending) (s .owing))
+reboot s = silent (withRetained (withReboot s true) none)
 
 unfoldable pub powerOff : State → Carried
-powerOff s =
-    silent (state (s .status) (s .options) (s .reboot-asked) true (s .boot-failure) (s .panic) (s .factory) (s .settings)
-    (s .waiting) none (s .received) (s .pending) (s .owing))
+powerOff s = silent (withRetained (withPowerOff s true) none)
 
 -- 0x06: reason u8, rest free; recorded, no reply
 unfoldable pub bootFailure : State → List ℕ → Carried
-bootFailure s bs =
-    silent (state (s .status) (s .options) (s .reboot-asked) (s .power-off-asked) (some (recorded (numberAt 1 bs 0) (drop 1 bs))) (s .panic)
-    (s .factory) (s .settings) (s .waiting) (s .retained) (s .received) (s .pending) (s .owing))
+bootFailure s bs = silent (withBootFailure s (some (recorded (numberAt 1 bs 0) (drop 1 bs))))
 
 -- 0x07: cause u16, rest free; recorded; acknowledged
 unfoldable pub panicked : State → List ℕ → Carried
-panicked s bs =
-    replied (state (s .status) (s .options) (s .reboot-asked) (s .power-off-asked) (s .boot-failure) (some (recorded (numberAt 2 bs 0) (drop 2 bs)))
-    (s .factory) (s .settings) (s .waiting) (s .retained) (s .received) (s .pending) (s .owing)) 0x01 []
+panicked s bs = replied (withPanic s (some (recorded (numberAt 2 bs 0) (drop 2 bs)))) 0x01 []
 
 -- 0x09: clears status bit 0; acknowledged
 unfoldable pub startAcknowledged : State → Carried
-startAcknowledged s =
-    replied (state (clearBit (s .status) 0) (s .options) (s .reboot-asked) (s .power-off-asked) (s .boot-failure) (s .panic)
-    (s .factory) (s .settings) (s .waiting) (s .retained) (s .received) (s .pending) (s .owing)) 0x01 []
+startAcknowledged s = replied (withStatus s (clearBit (s .status) 0)) 0x01 []
 
 -- 0x0a: the retained reply again where it has the request's sequence; else the oldest alert, or action 0 and no data, which is then retained, and
 -- status bit 1 is cleared if none waits
@@ -134,9 +125,9 @@ statusAfter status (a ∷ rest) = status
 
 unfoldable pub alertTaken : State → ℕ → Carried
 alertTaken s sequence =
-    replied (state (statusAfter (s .status) (others (s .waiting))) (s .options) (s .reboot-asked) (s .power-off-asked) (s .boot-failure) (s .panic)
-    (s .factory) (s .settings) (others (s .waiting)) (some (record { sequence = sequence; alert = oldest (s .waiting) })) (s .received) (s .pending) (s .owing))
-    0x07 (alertData (oldest (s .waiting)))
+    let rest = others (s .waiting) in
+    let kept : Retained = record { sequence = sequence; alert = oldest (s .waiting) } in
+    replied (withRetained (withWaiting (withStatus s (statusAfter (s .status) rest)) rest) (some kept)) 0x07 (alertData (oldest (s .waiting)))
 
 unfoldable pub alertAsked : State → ℕ → Option Retained → Carried
 alertAsked s sequence none = alertTaken s sequence
@@ -183,8 +174,7 @@ stored s key v =
 unfoldable pub keySet : State → List ℕ → Carried
 keySet s bs =
     let t = stored (s .settings) (numberAt 1 bs 0) (drop 1 bs) in
-    replied (state (s .status) (s .options) (s .reboot-asked) (s .power-off-asked) (s .boot-failure) (s .panic)
-    (s .factory) (t .settings) (s .waiting) (s .retained) (s .received) (s .pending) (s .owing)) 0x0c (t .result ∷ [])
+    replied (withSettings s (t .settings)) 0x0c (t .result ∷ [])
 
 -- a valid request
 unfoldable pub carried : List ℕ → State → Message → Carried
@@ -215,9 +205,7 @@ replyFrame none = []
 replyFrame (some r) = frame (record { version = 1; sequence = r .sequence; command = r .command; payload = r .payload })
 
 unfoldable pub sent : State → Option Reply → State
-sent s reply =
-    state (s .status) (s .options) (s .reboot-asked) (s .power-off-asked) (s .boot-failure) (s .panic) (s .factory) (s .settings)
-    (s .waiting) (s .retained) (s .received) (owed (s .owing) ++ replyFrame reply) (s .owing)
+sent s reply = withPending s (owed (s .owing) ++ replyFrame reply)
 
 -- the reply to a valid request carries its sequence with the top bit set
 unfoldable pub replyOf : ℕ → Option (ℕ × List ℕ) → Option Reply
@@ -225,11 +213,6 @@ replyOf sequence none = none
 replyOf sequence (some r) = some (record { sequence = topSet sequence; command = r .0; payload = r .1 })
 
 -- ---- One received byte
-
-abbrev pub receiving : State → Option (List ℕ) → State
-receiving s received =
-    state (s .status) (s .options) (s .reboot-asked) (s .power-off-asked) (s .boot-failure) (s .panic) (s .factory) (s .settings)
-    (s .waiting) (s .retained) received (s .pending) (s .owing)
 
 -- a frame by the table's verdict on it: a valid request is carried out; a failure changes nothing but the receive progress and the pending reply
 unfoldable pub judged : List ℕ → State → Verdict → State
@@ -244,7 +227,7 @@ verdictSince (some (b ∷ bs)) = some (verdict (b ∷ bs))
 
 abbrev pub closedBy : List ℕ → State → Option Verdict → State
 closedBy image s none = s
-closedBy image s (some v) = judged image (receiving s (some [])) v
+closedBy image s (some v) = judged image (withReceived s (some [])) v
 
 -- the 00 behind these bytes
 unfoldable pub closed : List ℕ → State → Option (List ℕ) → State
@@ -256,7 +239,7 @@ more none b = none
 more (some bs) b = cond (ltb (length bs) longest-form) (some (bs ++ (b ∷ []))) none
 
 unfoldable pub byte : List ℕ → State → ℕ → State
-byte image s b = cond (eqb b 0) (closed image s (s .received)) (receiving s (more (s .received) b))
+byte image s b = cond (eqb b 0) (closed image s (s .received)) (withReceived s (more (s .received) b))
 
 -- a received stream
 unfoldable pub stream : List ℕ → State → List ℕ → State

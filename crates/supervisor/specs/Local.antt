@@ -8,7 +8,7 @@ use lib.Dec.{leb, ltb, eqb}
 use lib.ListN.{length, take, drop, getD}
 use Rattle.octets.specs.Bytes.{bytes}
 use Rattle.supervisor.specs.Limits.{most-items, longest-item-data, longest-image-id, highest-key, most-alerts, longest-alert, highest-option}
-use Rattle.supervisor.specs.State.{Item, Factory, State, state, fresh}
+use Rattle.supervisor.specs.State.{Item, Factory, State, withStatus, withOptions, withWaiting, withPending, withOwing, fresh}
 
 -- ---- Start data: refused as 11
 
@@ -86,9 +86,7 @@ lookup s key most = cond (ltb highest-key key) (without 1) (fitted most (valueOf
 -- ---- Alerts, options and sending: the state afterwards
 
 unfoldable pub posted : State → ℕ → List ℕ → State
-posted s action text =
-    state (setBit (s .status) 1) (s .options) (s .reboot-asked) (s .power-off-asked) (s .boot-failure) (s .panic) (s .factory) (s .settings)
-    (s .waiting ++ ((record { action = action; text = text }) ∷ [])) (s .retained) (s .received) (s .pending) (s .owing)
+posted s action text = withWaiting (withStatus s (setBit (s .status) 1)) (s .waiting ++ ((record { action = action; text = text }) ∷ []))
 
 -- tests 13, 9, 10
 unfoldable pub post : State → ℕ → List ℕ → Done
@@ -96,11 +94,6 @@ post s action text =
     cond (eqb action 0) (refused 13)
     (cond (ltb longest-alert (length text)) (refused 9)
     (cond (ltb (length (s .waiting)) most-alerts) (left (posted s action text)) (refused 10)))
-
-unfoldable pub withOptions : State → ℕ → State
-withOptions s options =
-    state (s .status) options (s .reboot-asked) (s .power-off-asked) (s .boot-failure) (s .panic) (s .factory) (s .settings)
-    (s .waiting) (s .retained) (s .received) (s .pending) (s .owing)
 
 -- test 13
 unfoldable pub setOptions : State → ℕ → Done
@@ -116,9 +109,7 @@ unfoldable pub taken : State → ℕ → List ℕ
 taken s room = take room (s .pending)
 
 unfoldable pub afterTake : State → ℕ → State
-afterTake s room =
-    state (s .status) (s .options) (s .reboot-asked) (s .power-off-asked) (s .boot-failure) (s .panic) (s .factory) (s .settings)
-    (s .waiting) (s .retained) (s .received) (drop room (s .pending)) (lastNonZero (s .owing) (taken s room))
+afterTake s room = withOwing (withPending s (drop room (s .pending))) (lastNonZero (s .owing) (taken s room))
 
 -- ---- The line signal
 

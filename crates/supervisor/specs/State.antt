@@ -64,25 +64,225 @@ pub record State : Type 0 where
   -- a byte has been taken and the last was non-zero
   pub owing : Bool
 
--- a state by its fields, in their order
-abbrev pub state : ℕ → ℕ → Bool → Bool → Option Recorded → Option Recorded → Factory → Settings → List Alert → Option Retained
-    → Option (List ℕ) → List ℕ → Bool → State
-state status options reboot power-off boot-failure panic factory settings waiting retained received pending owing = record {
+-- a state with another value of one field
+abbrev pub withStatus : State → ℕ → State
+withStatus s status = record {
   status = status;
+  options = s .options;
+  reboot-asked = s .reboot-asked;
+  power-off-asked = s .power-off-asked;
+  boot-failure = s .boot-failure;
+  panic = s .panic;
+  factory = s .factory;
+  settings = s .settings;
+  waiting = s .waiting;
+  retained = s .retained;
+  received = s .received;
+  pending = s .pending;
+  owing = s .owing;
+}
+
+abbrev pub withOptions : State → ℕ → State
+withOptions s options = record {
+  status = s .status;
   options = options;
-  reboot-asked = reboot;
-  power-off-asked = power-off;
-  boot-failure = boot-failure;
-  panic = panic;
-  factory = factory;
+  reboot-asked = s .reboot-asked;
+  power-off-asked = s .power-off-asked;
+  boot-failure = s .boot-failure;
+  panic = s .panic;
+  factory = s .factory;
+  settings = s .settings;
+  waiting = s .waiting;
+  retained = s .retained;
+  received = s .received;
+  pending = s .pending;
+  owing = s .owing;
+}
+
+abbrev pub withReboot : State → Bool → State
+withReboot s asked = record {
+  status = s .status;
+  options = s .options;
+  reboot-asked = asked;
+  power-off-asked = s .power-off-asked;
+  boot-failure = s .boot-failure;
+  panic = s .panic;
+  factory = s .factory;
+  settings = s .settings;
+  waiting = s .waiting;
+  retained = s .retained;
+  received = s .received;
+  pending = s .pending;
+  owing = s .owing;
+}
+
+abbrev pub withPowerOff : State → Bool → State
+withPowerOff s asked = record {
+  status = s .status;
+  options = s .options;
+  reboot-asked = s .reboot-asked;
+  power-off-asked = asked;
+  boot-failure = s .boot-failure;
+  panic = s .panic;
+  factory = s .factory;
+  settings = s .settings;
+  waiting = s .waiting;
+  retained = s .retained;
+  received = s .received;
+  pending = s .pending;
+  owing = s .owing;
+}
+
+abbrev pub withBootFailure : State → Option Recorded → State
+withBootFailure s entry = record {
+  status = s .status;
+  options = s .options;
+  reboot-asked = s .reboot-asked;
+  power-off-asked = s .power-off-asked;
+  boot-failure = entry;
+  panic = s .panic;
+  factory = s .factory;
+  settings = s .settings;
+  waiting = s .waiting;
+  retained = s .retained;
+  received = s .received;
+  pending = s .pending;
+  owing = s .owing;
+}
+
+abbrev pub withPanic : State → Option Recorded → State
+withPanic s entry = record {
+  status = s .status;
+  options = s .options;
+  reboot-asked = s .reboot-asked;
+  power-off-asked = s .power-off-asked;
+  boot-failure = s .boot-failure;
+  panic = entry;
+  factory = s .factory;
+  settings = s .settings;
+  waiting = s .waiting;
+  retained = s .retained;
+  received = s .received;
+  pending = s .pending;
+  owing = s .owing;
+}
+
+abbrev pub withSettings : State → Settings → State
+withSettings s settings = record {
+  status = s .status;
+  options = s .options;
+  reboot-asked = s .reboot-asked;
+  power-off-asked = s .power-off-asked;
+  boot-failure = s .boot-failure;
+  panic = s .panic;
+  factory = s .factory;
   settings = settings;
-  waiting = waiting;
-  retained = retained;
-  received = received;
-  pending = pending;
+  waiting = s .waiting;
+  retained = s .retained;
+  received = s .received;
+  pending = s .pending;
+  owing = s .owing;
+}
+
+abbrev pub withWaiting : State → List Alert → State
+withWaiting s alerts = record {
+  status = s .status;
+  options = s .options;
+  reboot-asked = s .reboot-asked;
+  power-off-asked = s .power-off-asked;
+  boot-failure = s .boot-failure;
+  panic = s .panic;
+  factory = s .factory;
+  settings = s .settings;
+  waiting = alerts;
+  retained = s .retained;
+  received = s .received;
+  pending = s .pending;
+  owing = s .owing;
+}
+
+abbrev pub withRetained : State → Option Retained → State
+withRetained s reply = record {
+  status = s .status;
+  options = s .options;
+  reboot-asked = s .reboot-asked;
+  power-off-asked = s .power-off-asked;
+  boot-failure = s .boot-failure;
+  panic = s .panic;
+  factory = s .factory;
+  settings = s .settings;
+  waiting = s .waiting;
+  retained = reply;
+  received = s .received;
+  pending = s .pending;
+  owing = s .owing;
+}
+
+abbrev pub withReceived : State → Option (List ℕ) → State
+withReceived s bytes = record {
+  status = s .status;
+  options = s .options;
+  reboot-asked = s .reboot-asked;
+  power-off-asked = s .power-off-asked;
+  boot-failure = s .boot-failure;
+  panic = s .panic;
+  factory = s .factory;
+  settings = s .settings;
+  waiting = s .waiting;
+  retained = s .retained;
+  received = bytes;
+  pending = s .pending;
+  owing = s .owing;
+}
+
+abbrev pub withPending : State → List ℕ → State
+withPending s bytes = record {
+  status = s .status;
+  options = s .options;
+  reboot-asked = s .reboot-asked;
+  power-off-asked = s .power-off-asked;
+  boot-failure = s .boot-failure;
+  panic = s .panic;
+  factory = s .factory;
+  settings = s .settings;
+  waiting = s .waiting;
+  retained = s .retained;
+  received = s .received;
+  pending = bytes;
+  owing = s .owing;
+}
+
+abbrev pub withOwing : State → Bool → State
+withOwing s owing = record {
+  status = s .status;
+  options = s .options;
+  reboot-asked = s .reboot-asked;
+  power-off-asked = s .power-off-asked;
+  boot-failure = s .boot-failure;
+  panic = s .panic;
+  factory = s .factory;
+  settings = s .settings;
+  waiting = s .waiting;
+  retained = s .retained;
+  received = s .received;
+  pending = s .pending;
   owing = owing;
 }
 
 -- the state that start leaves
 unfoldable pub fresh : Factory → State
-fresh f = state 1 0 false false none none f (record { key-3 = none; key-4 = none; key-5 = none }) [] none (some []) [] false
+fresh f = record {
+  status = 1;
+  options = 0;
+  reboot-asked = false;
+  power-off-asked = false;
+  boot-failure = none;
+  panic = none;
+  factory = f;
+  settings = record { key-3 = none; key-4 = none; key-5 = none };
+  waiting = [];
+  retained = none;
+  received = some [];
+  pending = [];
+  owing = false;
+}

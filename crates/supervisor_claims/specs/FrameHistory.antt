@@ -6,9 +6,9 @@ use Prim.Native.Nat.{ℕ}
 use lib.ListN as ListN
 use lib.ListN.{length}
 use Rattle.line_claims.specs.Pieces.{split, nonEmpty, closedBy}
-use Rattle.supervisor.specs.State.{State}
+use Rattle.supervisor.specs.State.{State, withReceived}
 use Rattle.supervisor.specs.Local
-use Rattle.requests.specs.Requests.{receiving, verdict}
+use Rattle.requests.specs.Requests.{verdict}
 use Rattle.requests.specs.Receive
 use Rattle.requests.specs.Receive.{Ended}
 use Rattle.supervisor_claims.specs.View.{factoryOf}
@@ -68,7 +68,7 @@ framesBy w bs = nonEmpty (closedBy w bs)
 -- those frames in order, with the image lent: a valid request is carried out, any other frame earns its numbered failure (`judged`);
 -- the bytes behind the last 00 are the receive progress
 unfoldable pub carriedOut : List ℕ → List ℕ → State → List ℕ → State
-carriedOut image w s bs = receiving (allFramed image s (framesBy w bs)) (tailOf (split (w ++ bs) .rest))
+carriedOut image w s bs = withReceived (allFramed image s (framesBy w bs)) (tailOf (split (w ++ bs) .rest))
 
 -- how the frame ended whose 00 a step read: there is one at most
 unfoldable pub endedBy : List (List ℕ) → Ended

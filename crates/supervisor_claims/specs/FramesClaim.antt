@@ -15,9 +15,9 @@ use Rattle.octets.specs.Bytes.{Each}
 use Rattle.octets.proofs.Each.{each-append}
 use Rattle.line.specs.Limits.{longest-form}
 use Rattle.line_claims.specs.Pieces.{split, nonEmpty, split-at, split-none, nonEmpty-append, split-join, closedBy, closed-rest, closed-join}
-use Rattle.supervisor.specs.State.{Factory, State, fresh}
+use Rattle.supervisor.specs.State.{Factory, State, fresh, withReceived}
 use Rattle.supervisor.specs.Local
-use Rattle.requests.specs.Requests.{receiving, byte, stream, verdictSince}
+use Rattle.requests.specs.Requests.{byte, stream, verdictSince}
 use Rattle.supervisor_claims.specs.View.{factoryOf}
 use Rattle.supervisor_claims.specs.Histories
 use Rattle.supervisor_claims.specs.Histories.{Call, upTo, endedMeant, frameEnds, meant, Made, enough, meantMade, toldMeant, leftMeant}
@@ -67,7 +67,7 @@ module _ (w : List ℕ) (s : State) (h : Since (split w .rest) s) where
 
   -- the 00 behind bytes: their frames, and then the one that it closes
   pub stream-closes : (image bs : List ℕ)
-      → stream image s (bs ++ (0 ∷ [])) ≡ receiving (framed image (allFramed image s (framesBy w bs)) (split (w ++ bs) .rest)) (some [])
+      → stream image s (bs ++ (0 ∷ [])) ≡ withReceived (framed image (allFramed image s (framesBy w bs)) (split (w ++ bs) .rest)) (some [])
   unfolding carriedOut stream byte
   stream-closes image bs =
       stream-append image s bs (0 ∷ [])

@@ -15,10 +15,10 @@ use Rattle.octets.proofs.Conditions.{cond-both}
 use Rattle.line.specs.Limits.{longest-form}
 use Rattle.line.specs.Message.{Message}
 use Rattle.line.specs.Judge.{Verdict, failure, good, judge}
-use Rattle.supervisor.specs.State.{Retained, State, state}
+use Rattle.supervisor.specs.State.{Retained, State, withReceived, withPending, withOwing}
 use Rattle.supervisor.specs.Local.{lookup, valueOf}
 use Rattle.requests.specs.Requests
-use Rattle.requests.specs.Requests.{Reply, Carried, verdict, carried, receiving, judged, closed, more, byte, stream, owed, replyFrame, sent, replyOf, failedOf}
+use Rattle.requests.specs.Requests.{Reply, Carried, verdict, carried, judged, closed, more, byte, stream, owed, replyFrame, sent, replyOf, failedOf}
 use Rattle.line_claims.specs.Pieces.{split, nonEmpty, split-none, split-close, split-more}
 
 -- the stream in cuts
@@ -31,13 +31,7 @@ stream-append image s (b ∷ bs) cs = stream-append image (byte image s b) bs cs
 
 -- a state with these as given
 abbrev pub lined : State → Option (List ℕ) → List ℕ → Bool → State
-lined s received pending owing =
-    state (s .status) (s .options) (s .reboot-asked) (s .power-off-asked) (s .boot-failure) (s .panic) (s .factory) (s .settings)
-    (s .waiting) (s .retained) received pending owing
-
--- a state with other pending bytes
-abbrev pub withPending : State → List ℕ → State
-withPending s pending = lined s (s .received) pending (s .owing)
+lined s received pending owing = withOwing (withPending (withReceived s received) pending) owing
 
 -- c is what d is, with these as given
 pub record Lined (received : Option (List ℕ)) (pending : List ℕ) (owing : Bool) (c d : Carried) : Type 0 where
@@ -113,9 +107,9 @@ module _ (image : List ℕ) (s : State) where
   judged-received v = ap (λ (x : State). x .received) (judged-is v)
 
 pub judged-receiving : (image : List ℕ) (s : State) (r : Option (List ℕ)) (v : Verdict)
-    → judged image (receiving s r) v ≡ receiving (judged image s v) r
+    → judged image (withReceived s r) v ≡ withReceived (judged image s v) r
 judged-receiving image s r v =
-    rw (judged-is image (receiving s r) v, judged-is image s v)
+    rw (judged-is image (withReceived s r) v, judged-is image s v)
     (rw (done-lined image s r (s .pending) (s .owing) v, reply-lined image s r (s .pending) (s .owing) v))
 
 -- ---- frames
@@ -192,13 +186,13 @@ verdict-over bs h = rw (lt-ltb longest-form (length bs) h)
 
 module _ (image : List ℕ) (s : State) where
   -- the 00 behind bytes
-  pub closed-framed : (bs : List ℕ) → closed image (receiving s (tailOf bs)) (tailOf bs) ≡ receiving (framed image s bs) (some [])
+  pub closed-framed : (bs : List ℕ) → closed image (withReceived s (tailOf bs)) (tailOf bs) ≡ withReceived (framed image s bs) (some [])
   unfolding closed framed
   closed-framed [] = rw (tail-within [] (omega arith))
   closed-framed (b ∷ bs) = by (ltb longest-form (length (b ∷ bs))) refl
     where
       by : (over : Bool) → ltb longest-form (length (b ∷ bs)) ≡ over
-          → closed image (receiving s (tailOf (b ∷ bs))) (tailOf (b ∷ bs)) ≡ receiving (judged image s (verdict (b ∷ bs))) (some [])
+          → closed image (withReceived s (tailOf (b ∷ bs))) (tailOf (b ∷ bs)) ≡ withReceived (judged image s (verdict (b ∷ bs))) (some [])
       by true e =
           let h = ltb-true longest-form (length (b ∷ bs)) e in
           rw (tail-over (b ∷ bs) h, verdict-over (b ∷ bs) h) (judged-receiving image s (some []) (failure 1 none))
@@ -207,7 +201,7 @@ module _ (image : List ℕ) (s : State) where
 module _ (image : List ℕ) (s : State) where
   -- the state after bytes: their frames, then the tail
   abbrev pub following : List ℕ → State
-  following bs = receiving (allFramed image s (split bs .closed)) (tailOf (split bs .rest))
+  following bs = withReceived (allFramed image s (split bs .closed)) (tailOf (split bs .rest))
 
   byte-following : (bs : List ℕ) (b : ℕ) → byte image (following bs) b ≡ following (bs ++ (b ∷ []))
   unfolding byte allFramed
@@ -223,7 +217,7 @@ module _ (image : List ℕ) (s : State) where
 
 -- in the middle of a frame, of which the bytes p have come
 pub in-order-behind : (image : List ℕ) (s : State) (p bs : List ℕ) → Each (λ b. 1 ≤ b) p → s .received ≡ tailOf p
-    → stream image s bs ≡ receiving (allFramed image s (split (p ++ bs) .closed)) (tailOf (split (p ++ bs) .rest))
+    → stream image s bs ≡ withReceived (allFramed image s (split (p ++ bs) .closed)) (tailOf (split (p ++ bs) .rest))
 unfolding allFramed
 in-order-behind image s p bs h e =
     let z : s ≡ following image s p = rw (split-none p h, ← e) in
@@ -231,10 +225,10 @@ in-order-behind image s p bs h e =
 
 -- in order, once each: the frames that the stream's 00 close, then the unfinished tail
 pub in-order : (image : List ℕ) (s : State) (bs : List ℕ) → s .received ≡ some []
-    → stream image s bs ≡ receiving (allFramed image s (split bs .closed)) (tailOf (split bs .rest))
+    → stream image s bs ≡ withReceived (allFramed image s (split bs .closed)) (tailOf (split bs .rest))
 in-order image s bs e = in-order-behind image s [] bs tt (rw (tail-within [] (omega arith)) e)
 
 -- of the frames, those that are not empty
 pub in-order-frames : (image : List ℕ) (s : State) (bs : List ℕ) → s .received ≡ some []
-    → stream image s bs ≡ receiving (allFramed image s (nonEmpty (split bs .closed))) (tailOf (split bs .rest))
+    → stream image s bs ≡ withReceived (allFramed image s (nonEmpty (split bs .closed))) (tailOf (split bs .rest))
 in-order-frames image s bs e = rw (← empty-ignored image s (split bs .closed)) (in-order image s bs e)

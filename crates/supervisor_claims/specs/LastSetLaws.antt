@@ -293,7 +293,7 @@ module _ {k : ℕ} (h : SettingsKey k) where
 
     call-holds : (c : Call) → Holds k (cond (starts c) [] (w ++ reads c)) (carriedCall w s c .state)
     unfolding starts reads carriedCall carriedOut meant
-        Local.start Local.afterTake Local.post Local.posted Local.setOptions Local.withOptions
+        Local.start Local.afterTake Local.post Local.posted Local.setOptions
     call-holds (Histories.start d) = by (Local.badStart (factoryOf d))
       where
         by : (bad : Bool) → Holds k (cond (not bad) [] (w ++ [])) (doneMeans s (cond bad (Local.refused 11) (Local.left (fresh (factoryOf d)))) .state)

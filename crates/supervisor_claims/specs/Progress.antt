@@ -13,9 +13,9 @@ use Rattle.octets.specs.Bytes.{Each}
 use Rattle.octets.proofs.Conditions.{cond-by, cond-both}
 use Rattle.line_claims.specs.Pieces.{split, ahead}
 use Rattle.supervisor.specs.Limits
-use Rattle.supervisor.specs.State.{Factory, Recorded, State, fresh}
+use Rattle.supervisor.specs.State.{Factory, Recorded, State, fresh, withReceived}
 use Rattle.supervisor.specs.Local
-use Rattle.requests.specs.Requests.{receiving, stream}
+use Rattle.requests.specs.Requests.{stream}
 use Rattle.supervisor_claims.specs.View.{factoryOf}
 use Rattle.supervisor_claims.specs.Histories
 use Rattle.supervisor_claims.specs.Histories.{Call, Made, enough, Means, doneMeans, recordMeans, meant, meantMade, leftMeant, upTo}
@@ -77,7 +77,7 @@ module _ (p : List ℕ) (s : State) (h : Since p s) where
   recorded (some x) = h
 
   pub called : (c : Call) → Since (behind p c) (meant s c .state)
-  unfolding behind meant fresh tailOf Local.start Local.afterTake Local.post Local.posted Local.setOptions Local.withOptions
+  unfolding behind meant fresh tailOf Local.start Local.afterTake Local.post Local.posted Local.setOptions
   called (Histories.start d) =
       cond-both (λ (x : Local.Done) q. Since q (doneMeans s x .state)) (Local.badStart (factoryOf d)) (λ e. h) (λ e. record { received = refl; nonzero = tt })
   called (Histories.receive image piece) = streamed image piece
@@ -112,5 +112,5 @@ module _ (f : Factory) (ms : List Made) where
 
   -- a stream behind them: the frames that its 00 close, of which the first began in the calls before, in order, once each, then the unfinished tail
   pub in-order-after : (image bs : List ℕ) → let s = leftMeant (fresh f) ms in
-      stream image s bs ≡ receiving (allFramed image s (split (since [] ms ++ bs) .closed)) (tailOf (split (since [] ms ++ bs) .rest))
+      stream image s bs ≡ withReceived (allFramed image s (split (since [] ms ++ bs) .closed)) (tailOf (split (since [] ms ++ bs) .rest))
   in-order-after image bs = in-order-behind image (leftMeant (fresh f) ms) (since [] ms) bs (received-since .1) (received-since .0)

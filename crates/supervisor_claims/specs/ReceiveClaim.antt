@@ -20,7 +20,7 @@ use Rattle.line.specs.Judge.{Verdict, failure, good, bodyOf, checksumOf, magicO
 use Rattle.line.specs.Reader as LineReader
 use Rattle.supervisor.specs.Layout
 use Rattle.supervisor.specs.Number.{topSet}
-use Rattle.supervisor.specs.State.{State}
+use Rattle.supervisor.specs.State.{State, withReceived}
 use Rattle.supervisor.specs.Calls.{Parts}
 use Rattle.supervisor.proofs.ValidLaws.{settings-valid}
 use Rattle.requests.specs.Requests
@@ -269,12 +269,12 @@ verdict-small form = where-small _ (fails (ltb longest-form (length form)) 1 _ _
 
 -- ---- One byte
 
-progress-same : (s : State) (r : Option (List ℕ)) → s .received ≡ r → Requests.receiving s r ≡ s
-progress-same s r e = ap (Requests.receiving s) (sym e)
+progress-same : (s : State) (r : Option (List ℕ)) → s .received ≡ r → withReceived s r ≡ s
+progress-same s r e = ap (withReceived s) (sym e)
 
 module _ (p : Parts) (s : Sound p) where
   -- another state of the reader
-  pub reader-leaves : (t : List ℕ) → ReaderKept (p .reader) t → Leaves p (withReader p t) (Requests.receiving (view p) (receivedOf t))
+  pub reader-leaves : (t : List ℕ) → ReaderKept (p .reader) t → Leaves p (withReader p t) (withReceived (view p) (receivedOf t))
   unfolding view
   reader-leaves t k = (
     refl,
@@ -301,7 +301,7 @@ module _ (image : List ℕ) (each : Each Byte image) (p : Parts) (s : Sound p) w
 
   -- a frame that is not empty
   frame-leaves : (v : Verdict) → Judgeable v
-      → Leaves p (Receive.partsWith p ended (Receive.innerBy image (p .factory) (Receive.innerOf p) v)) (Requests.judged image (Requests.receiving (view p) (some [])) v)
+      → Leaves p (Receive.partsWith p ended (Receive.innerBy image (p .factory) (Receive.innerOf p) v)) (Requests.judged image (withReceived (view p) (some [])) v)
   frame-leaves v j =
       let a = rw (finished-received (p .reader) (s .valid .reader)) at (reader-leaves p s ended (finished-kept (p .reader) (s .valid .reader))) in
       let b = judged-leaves image each _ (a .1) v j in
@@ -327,11 +327,11 @@ module _ (image : List ℕ) (each : Each Byte image) (p : Parts) (s : Sound p) w
 
   -- a byte that is not 00
   pushed-leaves : (b : ℕ) → b < 256
-      → Leaves p (Receive.partsWith p (LineReader.pushed (p .reader) b) (Receive.innerOf p)) (Requests.receiving (view p) (Requests.more (view p .received) b))
+      → Leaves p (Receive.partsWith p (LineReader.pushed (p .reader) b) (Receive.innerOf p)) (withReceived (view p) (Requests.more (view p .received) b))
   pushed-leaves b small =
       let a = reader-leaves p s (LineReader.pushed (p .reader) b) (pushed-kept (p .reader) b (s .valid .reader) small) in
       let more = pushed-received (p .reader) b (s .valid .reader) ∙ ap (λ r. Requests.more r b) (sym received-view) in
-      (a .0 ∙ ap (Requests.receiving (view p)) more, a .1, a .2)
+      (a .0 ∙ ap (withReceived (view p)) more, a .1, a .2)
 
 pub feed-leaves : (image : List ℕ) (p : Parts) (b : ℕ) → Each Byte image → Sound p → b < 256
     → Leaves p (Receive.feed image p b) (Requests.byte image (view p) b)

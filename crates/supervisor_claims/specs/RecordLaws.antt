@@ -14,7 +14,7 @@ use Rattle.octets.proofs.Overlay.{length-overlay, overlay-inside}
 use Rattle.octets.proofs.SameBytes.{Same, same-before, same-after, same-within, number-same, stored-long, stored-number, stored-after}
 use Rattle.supervisor.specs.Limits
 use Rattle.supervisor.specs.Layout
-use Rattle.supervisor.specs.State.{Recorded, State, state}
+use Rattle.supervisor.specs.State.{Recorded, State, withReboot, withPowerOff, withBootFailure, withPanic, withRetained}
 use Rattle.supervisor.specs.Valid.{validRegisters}
 use Rattle.supervisor.specs.Calls
 use Rattle.supervisor.proofs.ValidLaws.{RegistersValid, registers-valid}
@@ -40,9 +40,7 @@ put-record r at code rest room h l =
 
 -- the state with other flags and records
 abbrev pub noted : State → Bool → Bool → Option Recorded → Option Recorded → State
-noted s reboot power-off boot-failure panic =
-    state (s .status) (s .options) reboot power-off boot-failure panic (s .factory) (s .settings) (s .waiting) (s .retained)
-    (s .received) (s .pending) (s .owing)
+noted s reboot power-off boot-failure panic = withPanic (withBootFailure (withPowerOff (withReboot s reboot) power-off) boot-failure) panic
 
 abbrev flag : List ℕ → ℕ → Bool
 flag r at = eqb (numberAt 1 r at) 1
@@ -95,9 +93,7 @@ module _ (p : Calls.Parts) (w : RegistersValid (p .registers)) where
 
 -- the state with no retained reply
 abbrev forgotten : State → State
-forgotten s =
-    state (s .status) (s .options) (s .reboot-asked) (s .power-off-asked) (s .boot-failure) (s .panic) (s .factory) (s .settings) (s .waiting) none
-    (s .received) (s .pending) (s .owing)
+forgotten s = withRetained s none
 
 forgotten-view : (p : Calls.Parts) → RegistersValid (p .registers)
     → view (withRegisters p (overlay Layout.retained-place (0 ∷ []) (p .registers))) ≡ forgotten (view p)

@@ -7,7 +7,7 @@ use Prim.Native.Nat.{ℕ, _+_, _≤_}
 use native.Mathlib.Omega.{arith}
 use Rattle.supervisor.specs.Limits
 use Rattle.supervisor.specs.Layout
-use Rattle.supervisor.specs.State.{Alert, State}
+use Rattle.supervisor.specs.State.{Alert, State, withStatus, withOptions, withWaiting}
 use Rattle.supervisor.specs.Valid.{validAlert, validAlerts, validRegisters}
 use Rattle.supervisor.specs.Calls
 use Rattle.supervisor.proofs.ValidLaws.{all-each, alert-valid, RegistersValid}
@@ -62,21 +62,7 @@ module _ {from to : ℕ} {r s : List ℕ} (same : Same from to r s) where
 
 -- the state with another status, other options and other alerts that wait
 abbrev pub changed : State → ℕ → ℕ → List Alert → State
-changed s status options waiting = record {
-  status = status;
-  options = options;
-  reboot-asked = s .reboot-asked;
-  power-off-asked = s .power-off-asked;
-  boot-failure = s .boot-failure;
-  panic = s .panic;
-  factory = s .factory;
-  settings = s .settings;
-  waiting = waiting;
-  retained = s .retained;
-  received = s .received;
-  pending = s .pending;
-  owing = s .owing;
-}
+changed s status options waiting = withWaiting (withOptions (withStatus s status) options) waiting
 
 pub kept-view : (p : Calls.Parts) {s : List ℕ} → Kept (p .registers) s → RegistersValid (p .registers)
     → view (withRegisters p s) ≡ changed (view p) (Layout.statusOf s) (Layout.optionsOf s) (alertsOf s (Layout.alertCount s))

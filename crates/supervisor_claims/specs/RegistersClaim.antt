@@ -16,6 +16,7 @@ use Rattle.octets.proofs.Conditions.{cond-both}
 use Rattle.octets.proofs.Overlay.{length-run}
 use Rattle.supervisor.specs.Limits
 use Rattle.supervisor.specs.Layout
+use Rattle.supervisor.specs.State.{withOptions}
 use Rattle.supervisor.specs.Local
 use Rattle.supervisor.specs.Calls
 use Rattle.supervisor.specs.declared.registers.Kind.{Kind}
@@ -68,8 +69,8 @@ module _ (p : Calls.Parts) (v : Valid p) where
   -- ---- set options
 
   set : (options : ℕ) → options ≤ 511 → let s = overlay Layout.options-place (bytes 8 options) (p .registers) in
-      Does p (Calls.registered none s) (Local.left (Local.withOptions (view p) options))
-  unfolding view Local.withOptions
+      Does p (Calls.registered none s) (Local.left (withOptions (view p) options))
+  unfolding view
   set options small =
       let r = p .registers in
       let w = registers-valid r (v .registers) in

@@ -12,9 +12,9 @@ use lib.Seq.{take-all, append-snoc, getD-at}
 use Rattle.line.specs.Message.{Message, message}
 use Rattle.line.specs.Cobs.{cobs}
 use Rattle.line.specs.Frame.{frame}
-use Rattle.supervisor.specs.State.{State}
+use Rattle.supervisor.specs.State.{State, withReceived}
 use Rattle.supervisor.specs.Local.{lastNonZero, taken, afterTake}
-use Rattle.requests.specs.Requests.{Reply, verdict, receiving, judged, closed, byte, owed, replyFrame}
+use Rattle.requests.specs.Requests.{Reply, verdict, judged, closed, byte, owed, replyFrame}
 use Rattle.line_claims.specs.Pieces.{split, nonEmpty, split-close, split-more, nonEmpty-append}
 use Rattle.supervisor_claims.specs.InOrder.{lined, doneBy, replyBy, done-lined, judged-is, framed, tailOf, more-tail, closed-framed}
 
@@ -134,31 +134,31 @@ reply-last (some r) = frame-last (record { version = 1; sequence = r .sequence; 
 took-is : (s : State) → tookAll s ≡ record { taken = s .pending; state = lined s (s .received) [] (lastNonZero (s .owing) (s .pending)) }
 took-is s = rw (all-taken s, after-all s)
 
-quiet-taken : (s : State) (r : Option (List ℕ)) → Quiet s → tookAll (receiving s r) ≡ record { taken = []; state = receiving s r }
+quiet-taken : (s : State) (r : Option (List ℕ)) → Quiet s → tookAll (withReceived s r) ≡ record { taken = []; state = withReceived s r }
 unfolding lastNonZero
-quiet-taken s r q = took-is (receiving s r) ∙ rw (q .pending, q .owing)
+quiet-taken s r q = took-is (withReceived s r) ∙ rw (q .pending, q .owing)
 
 reply-taken : (s : State) (r : Option (List ℕ)) (owing : Bool) (reply : Option Reply) → Quiet s → owing ≡ false
-    → tookAll (lined s r (owed owing ++ replyFrame reply) owing) ≡ record { taken = replyFrame reply; state = receiving s r }
+    → tookAll (lined s r (owed owing ++ replyFrame reply) owing) ≡ record { taken = replyFrame reply; state = withReceived s r }
 reply-taken s r owing reply q e = rw e (took-is (lined s r (replyFrame reply) false) ∙ rw (reply-last reply, q .pending, q .owing))
 
 module _ (image : List ℕ) (s : State) (q : Quiet s) where
   judged-taken : (r : Option (List ℕ)) (f : List ℕ)
-      → tookAll (receiving (judged image s (verdict f)) r) ≡ record { taken = replyFrame (replyTo image s f); state = receiving (afterFrame image s f) r }
+      → tookAll (withReceived (judged image s (verdict f)) r) ≡ record { taken = replyFrame (replyTo image s f); state = withReceived (afterFrame image s f) r }
   unfolding afterFrame replyTo
   judged-taken r f =
-      ap (λ (x : State). tookAll (receiving x r)) (judged-is image s (verdict f))
+      ap (λ (x : State). tookAll (withReceived x r)) (judged-is image s (verdict f))
       ∙ reply-taken (afterFrame image s f) r (s .owing) (replyTo image s f) (frame-quiet image s f q) (q .owing)
 
   -- a 00 behind bytes
-  turn-close : (bs : List ℕ) → turn image (receiving s (tailOf bs)) 0
-      ≡ record { taken = replies image s (nonEmpty (bs ∷ [])); state = receiving (afterFrames image s (nonEmpty (bs ∷ []))) (some []) }
+  turn-close : (bs : List ℕ) → turn image (withReceived s (tailOf bs)) 0
+      ≡ record { taken = replies image s (nonEmpty (bs ∷ [])); state = withReceived (afterFrames image s (nonEmpty (bs ∷ []))) (some []) }
   unfolding turn byte framed replies afterFrames nonEmpty
   turn-close [] = ap tookAll (closed-framed image s []) ∙ quiet-taken s (some []) q
   turn-close (b ∷ bs) = ap tookAll (closed-framed image s (b ∷ bs)) ∙ rw append-nil (judged-taken (some []) (b ∷ bs))
 
   -- any other byte
-  turn-more : (bs : List ℕ) (b : ℕ) → turn image (receiving s (tailOf bs)) (suc b) ≡ record { taken = []; state = receiving s (tailOf (bs ++ (suc b ∷ []))) }
+  turn-more : (bs : List ℕ) (b : ℕ) → turn image (withReceived s (tailOf bs)) (suc b) ≡ record { taken = []; state = withReceived s (tailOf (bs ++ (suc b ∷ []))) }
   unfolding turn byte
   turn-more bs b = rw (eqb·suc-zero, more-tail bs (suc b)) (quiet-taken s (tailOf (bs ++ (suc b ∷ []))) q)
 
@@ -169,7 +169,7 @@ module _ (image : List ℕ) (s : State) (q : Quiet s) where
   abbrev repliedTo : List ℕ → Session
   repliedTo bs = record {
     taken = replies image s (nonEmpty (split bs .closed));
-    state = receiving (afterFrames image s (nonEmpty (split bs .closed))) (tailOf (split bs .rest));
+    state = withReceived (afterFrames image s (nonEmpty (split bs .closed))) (tailOf (split bs .rest));
   }
 
   abbrev joined : Session → Session → Session
@@ -200,16 +200,16 @@ module _ (image : List ℕ) (s : State) (q : Quiet s) where
 module _ (image : List ℕ) (s : State) (bs : List ℕ) (idle : s .received ≡ some []) (pending : s .pending ≡ []) (owing : s .owing ≡ false) where
   all-replied : session image s bs ≡ record {
     taken = replies image s (nonEmpty (split bs .closed));
-    state = receiving (afterFrames image s (nonEmpty (split bs .closed))) (tailOf (split bs .rest));
+    state = withReceived (afterFrames image s (nonEmpty (split bs .closed))) (tailOf (split bs .rest));
   }
   unfolding replies afterFrames nonEmpty split tailOf
   all-replied =
       let q : Quiet s = record { pending = pending; owing = owing } in
-      let z : s ≡ receiving s (some []) = rw (← idle) in
+      let z : s ≡ withReceived s (some []) = rw (← idle) in
       ap (λ (x : State). session image x bs) z ∙ session-replied image s q bs []
 
   pub replies-taken : session image s bs .taken ≡ replies image s (nonEmpty (split bs .closed))
   replies-taken = ap (λ (x : Session). x .taken) all-replied
 
-  pub session-leaves : session image s bs .state ≡ receiving (afterFrames image s (nonEmpty (split bs .closed))) (tailOf (split bs .rest))
+  pub session-leaves : session image s bs .state ≡ withReceived (afterFrames image s (nonEmpty (split bs .closed))) (tailOf (split bs .rest))
   session-leaves = ap (λ (x : Session). x .state) all-replied
