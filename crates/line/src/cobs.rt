@@ -128,7 +128,7 @@ pub(crate) fn decode(s: &mut [u8], n: usize)
         octets::move_down(s, i, o, k);
         o += k;
         i += k;
-        zero = c <= LONGEST_GROUP;
+        zero = c <= LONGEST_GROUP; // put ahead of the next group
     }
 }
 
