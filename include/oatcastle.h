@@ -4,7 +4,7 @@
  *
  * What every call has in common
  *
- *   Result    0: the call was carried out. Any other number is a refusal, one of OATCASTLE_NO_ROOM to OATCASTLE_BAD_VALUE
+ *   Result    0: the call was carried out. Any other number is a refusal, one of OATCASTLE_NO_ROOM to OATCASTLE_PLAN_PASSES
  *             below; which numbers a call can return stands with it. Where several apply, the first of 12, 13, 9, 11, 10, 8
  *             is returned. A refused call leaves every byte and every number that it was lent as it was.
  *   Memory    The caller owns all memory; the library allocates nothing, keeps no pointer after a call and has no state of
@@ -42,6 +42,7 @@ extern "C" {
 #define OATCASTLE_BAD_START 11u     /* start data: see oatcastle_start */
 #define OATCASTLE_BAD_STATE 12u     /* a part is below its published length, or a field holds a value outside docs/STATE.md */
 #define OATCASTLE_BAD_VALUE 13u     /* an option bit above 8, or alert action 0 */
+#define OATCASTLE_PLAN_PASSES 16u   /* the last counted address of a plan passes ff:ff:ff:ff:ff:ff */
 
 /* ---- Published lengths of the lent parts, in bytes */
 
@@ -61,6 +62,12 @@ extern "C" {
 #define OATCASTLE_MOST_PENDING 4142     /* bytes pending: a frame, and a 00 ahead of it */
 #define OATCASTLE_MOST_ALERTS 8         /* alerts that wait */
 #define OATCASTLE_MOST_ITEMS 16         /* inventory items */
+
+/* ---- The address plan */
+
+#define OATCASTLE_ADDRESS_LENGTH 6      /* bytes of an address, the most significant first */
+#define OATCASTLE_ADDRESS_ROWS 8        /* addresses that oatcastle_addresses gives */
+#define OATCASTLE_ADDRESSES_LENGTH 48   /* bytes of these */
 
 /* ---- How many numbers each call answers */
 
@@ -212,6 +219,17 @@ uint32_t oatcastle_boot_failure(const uint8_t *registers, size_t registers_lengt
 
 /* The same for the last panic; answer[1] is its cause. */
 uint32_t oatcastle_panic(const uint8_t *registers, size_t registers_length, uint8_t *room, size_t room_length, uint64_t *answer, size_t answer_count);
+
+/* ==== The address plan: base, count and stride. No state. */
+
+/* Copies the first eight addresses to the room, one row of OATCASTLE_ADDRESS_LENGTH bytes after the other: row i is base plus i
+ * times stride, the most significant byte first. Rows past the count are zero; all are where oatcastle_plan answers 16.
+ * 0; 8: the room is shorter than OATCASTLE_ADDRESSES_LENGTH. */
+uint32_t oatcastle_addresses(const uint8_t base[OATCASTLE_ADDRESS_LENGTH], uint16_t count, uint8_t stride, uint8_t *room, size_t room_length);
+
+/* Whether every counted address, base plus (count - 1) times stride the last of them, is at most ff:ff:ff:ff:ff:ff; a plan that counts none always fits.
+ * 0; 16: the last counted address passes that. */
+uint32_t oatcastle_plan(const uint8_t base[OATCASTLE_ADDRESS_LENGTH], uint16_t count, uint8_t stride);
 
 #ifdef __cplusplus
 }

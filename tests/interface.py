@@ -58,11 +58,11 @@ def functions(text, form, kinds):
 
 
 def constants(*paths):
-    """The `const` numbers of some Rattle files, worked out in their order; a path of another module is cut to its last word."""
+    """The `const` numbers of some Rattle files, worked out in their order; a path of another module is cut to its last word, and a cast is left out."""
     known = {}
     for path in paths:
         for name, value in re.findall(r'const (\w+): \w+ =\s+([^;]+);', read(path)):
-            known[name] = eval(re.sub(r'\b\w+::', '', value).replace('/', '//'), {}, known)
+            known[name] = eval(re.sub(r'\b\w+::| as \w+', '', value).replace('/', '//'), {}, known)
     return known
 
 
@@ -78,6 +78,7 @@ def lengths(known):
                                                   'LONGEST_ALERT', 'MOST_KEPT', 'MOST_PENDING', 'MOST_ALERTS', 'MOST_ITEMS', 'ITEM_LENGTH')})
     wanted.update({'READER_LENGTH': known['STATE_LENGTH'], 'LONGEST_FRAME': known['LONGEST_FORM'] + 1, 'LONGEST_VALUE': known['LONGEST_KEY_4'],
                    'ITEM_DATA_LENGTH': known['ITEM_DATA_LENGTH_PLACE'], 'ITEM_DATA': known['ITEM_DATA_PLACE']})
+    wanted.update({'ADDRESS_LENGTH': known['ADDRESS_LENGTH'], 'ADDRESS_ROWS': known['ROWS'], 'ADDRESSES_LENGTH': known['ADDRESS_LENGTH'] * known['ROWS']})
     return wanted
 
 
@@ -90,7 +91,7 @@ def main():
     faults = [f'{name}: {where} has {other.get(name)}, the crate {exported.get(name)}'
               for where, other in (('the header', declared), ('raw.rs', bound))
               for name in sorted(exported.keys() | other.keys()) if exported.get(name) != other.get(name)]
-    known = constants('crates/line/src/limits.rt', 'crates/line/src/reader.rt', 'crates/supervisor/src/layout.rt')
+    known = constants('crates/line/src/limits.rt', 'crates/line/src/reader.rt', 'crates/supervisor/src/layout.rt', 'crates/addresses/src/lib.rt')
     defined = {name: int(value) for name, value in re.findall(r'#define OATCASTLE_(\w+) (\d+)\b', header)}
     wanted = lengths(known)
     faults += [f'OATCASTLE_{name}: the header has {defined.get(name)}, the crates {value}' for name, value in wanted.items() if defined.get(name) != value]

@@ -1,6 +1,7 @@
 // Defines the calls with their arguments, the lengths lent with one, and what the model says of one.
 // Assumes the parts of docs/STATE.md and the C interface's counts of numbers.
 
+use crate::plans::Plan;
 use crate::state::{FACTORY, LINE, NAMES, OUTBOX, READER, REGISTERS, SETTINGS, START_LENGTH};
 use std::fmt;
 
@@ -29,6 +30,8 @@ pub enum Call {
     Flags,
     BootFailure,
     Panic,
+    Addresses { plan: Plan },
+    PlanFits { plan: Plan },
 }
 
 impl Call {
@@ -37,7 +40,7 @@ impl Call {
             Call::LineStart { part: LINE } | Call::LineRead { part: LINE, .. } => &[LINE],
             Call::LineData { part: LINE, .. } | Call::LineTail { part: LINE } => &[LINE],
             Call::LineStart { .. } | Call::LineRead { .. } | Call::LineData { .. } | Call::LineTail { .. } => &[READER],
-            Call::LineWrite { .. } => &[],
+            Call::LineWrite { .. } | Call::Addresses { .. } | Call::PlanFits { .. } => &[],
             Call::Start { .. } | Call::Receive { .. } | Call::Step { .. } => &[READER, OUTBOX, FACTORY, SETTINGS, REGISTERS],
             Call::Take => &[OUTBOX],
             Call::Lookup { .. } => &[FACTORY, SETTINGS],
@@ -84,6 +87,8 @@ impl fmt::Display for Call {
             Call::Flags => write!(out, "oatcastle_flags"),
             Call::BootFailure => write!(out, "oatcastle_boot_failure"),
             Call::Panic => write!(out, "oatcastle_panic"),
+            Call::Addresses { plan } => write!(out, "oatcastle_addresses({plan})"),
+            Call::PlanFits { plan } => write!(out, "oatcastle_plan({plan})"),
         }
     }
 }

@@ -3,13 +3,14 @@
 
 use crate::calls::{Call, Image, Lent};
 use crate::model::{self, Supervisor};
+use crate::plans::Plan;
 use crate::random::Random;
 use crate::state::{self, Allowed, FACTORY, LENGTHS, LINE, READER, REGISTERS};
 use crate::traffic;
 use crate::world::{World, TAIL};
 
 /// Kinds of calls other than the two that start.
-const KINDS: usize = 14;
+const KINDS: usize = 16;
 
 impl World {
     fn image(&mut self) -> Image {
@@ -136,7 +137,9 @@ impl World {
             10 => Call::Signal,
             11 => Call::Flags,
             12 => Call::BootFailure,
-            _ => Call::Panic,
+            13 => Call::Panic,
+            14 => Call::Addresses { plan: Plan::random(random) },
+            _ => Call::PlanFits { plan: Plan::random(random) },
         }
     }
 

@@ -6,6 +6,7 @@ mod history;
 #[path = "../../bindings/rust/src/raw.rs"]
 mod library;
 mod model;
+mod plans;
 mod random;
 mod state;
 mod traffic;

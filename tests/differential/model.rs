@@ -67,6 +67,14 @@ faults! {
     StartKeepsFlag: "start keeps that a byte was taken and non-zero",
     TakeOneLess: "take leaves the last pending byte",
     TakeFlagAny: "any taken byte counts as non-zero",
+    PlanEightRows: "an address plan is tested over its eight rows alone",
+    PlanOneFurther: "an address plan is tested one address past its last",
+    PlanHighestPasses: "an address plan that ends at ff:ff:ff:ff:ff:ff passes",
+    PlanNonePasses: "an address plan that counts no address can pass",
+    PlanPastCount: "rows of an address plan past its count are kept",
+    PlanRowsKept: "an address plan that passes keeps its rows",
+    PlanCarryOneByte: "the stride of an address plan carries into one byte alone",
+    PlanLowestFirst: "rows of an address plan have the lowest byte first",
 }
 
 static FAULT: AtomicUsize = AtomicUsize::new(0);

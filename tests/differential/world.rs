@@ -4,6 +4,7 @@
 use crate::calls::{hex, refused, same, Call, Lent, Outcome};
 use crate::library::*;
 use crate::model::{self, broken, Ended, Fault, Reader, Record, Supervisor, Touched, LONGEST_DATA};
+use crate::plans::ROWS_LENGTH;
 use crate::random::Random;
 use crate::state::{self, DATA_PLACE, FACTORY, LENGTHS, LINE, NAMES, OUTBOX, READER, REGISTERS, SETTINGS, START_LENGTH};
 use std::collections::HashSet;
@@ -42,7 +43,7 @@ pub struct Tally {
     pub lent: u64,
     /// Bytes of parts that were compared by what they mean.
     pub meant: u64,
-    pub refusals: [u64; 14],
+    pub refusals: [u64; 17],
     pub reasons: [u64; 8],
     pub commands: [u64; 17],
     pub fields: HashSet<(usize, usize)>,
@@ -52,7 +53,7 @@ impl Tally {
     /// What has not come up: refusal numbers, reasons, commands.
     pub fn missing(&self) -> String {
         let mut missing = String::new();
-        for number in [8, 9, 10, 11, 12, 13] {
+        for number in [8, 9, 10, 11, 12, 13, 16] {
             if self.refusals[number] == 0 {
                 missing += &format!(" refusal {number}");
             }
@@ -123,6 +124,7 @@ impl World {
             }
             Call::Lookup { key, most } => model::lookup(&self.supervisor.factory, &self.supervisor.settings, *key, *most).1.len(),
             Call::BootFailure | Call::Panic => self.record(call).map_or(0, |record| record.kept.len()),
+            Call::Addresses { .. } => ROWS_LENGTH,
             _ => 0,
         }
     }
@@ -339,6 +341,17 @@ impl World {
                     outcome.room = record.kept;
                 }
             }
+            Call::Addresses { plan } => {
+                if lent.room < ROWS_LENGTH {
+                    return refused(8);
+                }
+                outcome.room = plan.rows();
+            }
+            Call::PlanFits { plan } => {
+                if plan.passes() {
+                    return refused(16);
+                }
+            }
         }
         outcome
     }
@@ -407,6 +420,8 @@ impl World {
                 Call::Flags => oatcastle_flags(registers.as_ptr(), registers_n, answer, answer_n),
                 Call::BootFailure => oatcastle_boot_failure(registers.as_ptr(), registers_n, room, room_n, answer, answer_n),
                 Call::Panic => oatcastle_panic(registers.as_ptr(), registers_n, room, room_n, answer, answer_n),
+                Call::Addresses { plan } => oatcastle_addresses(plan.base.as_ptr(), plan.count, plan.stride, room, room_n),
+                Call::PlanFits { plan } => oatcastle_plan(plan.base.as_ptr(), plan.count, plan.stride),
             }
         }
     }
@@ -513,6 +528,9 @@ impl World {
             (Call::LineWrite { head: a, rest: c, .. }, Call::LineWrite { head: b, rest: d, .. }) => {
                 self.same("the head", a, b)?;
                 self.same("the rest", c, d)
+            }
+            (Call::Addresses { plan: a }, Call::Addresses { plan: b }) | (Call::PlanFits { plan: a }, Call::PlanFits { plan: b }) => {
+                self.same("the base", &a.base, &b.base)
             }
             (Call::Start { data: a }, Call::Start { data: b }) => self.same("the start data", &a[..], &b[..]),
             _ => Ok(()),

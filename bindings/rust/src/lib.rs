@@ -4,11 +4,13 @@
 #![deny(unsafe_op_in_unsafe_fn)]
 
 mod line;
+mod plan;
 mod raw;
 mod start;
 mod supervisor;
 
 pub use line::{checksum, write_frame, Failure, LineReader, Message, Read, ReadEnd, Tail, LONGEST_FRAME};
+pub use plan::{AddressPlan, ADDRESS_LENGTH, ADDRESS_ROWS};
 pub use start::{Bsu, ItemResult, StartData};
 pub use supervisor::{Flags, Found, Options, Record, Step, StepEnd, Supervisor};
 
@@ -28,6 +30,8 @@ pub enum Refusal {
     BadState = 12,
     /// An option bit above 8, or alert action 0.
     BadValue = 13,
+    /// The last counted address of a plan passes ff:ff:ff:ff:ff:ff.
+    PlanPasses = 16,
 }
 
 impl Refusal {
@@ -86,6 +90,7 @@ fn said(number: u32) -> Result<(), Refusal> {
         11 => Refusal::BadStart,
         12 => Refusal::BadState,
         13 => Refusal::BadValue,
+        16 => Refusal::PlanPasses,
         _ => unreachable!("no number of the refusal table"),
     })
 }

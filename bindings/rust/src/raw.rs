@@ -46,4 +46,6 @@ extern "C" {
     pub(crate) fn oatcastle_panic(
         registers: *const u8, registers_length: usize, room: *mut u8, room_length: usize, answer: *mut u64, answer_count: usize,
     ) -> u32;
+    pub(crate) fn oatcastle_addresses(base: *const u8, count: u16, stride: u8, room: *mut u8, room_length: usize) -> u32;
+    pub(crate) fn oatcastle_plan(base: *const u8, count: u16, stride: u8) -> u32;
 }

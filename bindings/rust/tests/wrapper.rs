@@ -2,8 +2,8 @@
 // Assumes the static library is linked.
 
 use oatcastle::{
-    write_frame, Bsu, Failure, Flags, Found, ItemResult, LineReader, Options, ReadEnd, Reason, Record, Refusal, StartData, Step,
-    StepEnd, Supervisor, Tail, LONGEST_FRAME,
+    write_frame, AddressPlan, Bsu, Failure, Flags, Found, ItemResult, LineReader, Options, ReadEnd, Reason, Record, Refusal,
+    StartData, Step, StepEnd, Supervisor, Tail, LONGEST_FRAME,
 };
 use std::num::NonZeroU8;
 
@@ -133,4 +133,20 @@ fn line() {
     assert_eq!(failure, Failure { reason: Reason::Checksum, sequence: Some(9) });
     assert_eq!(write_frame(1, 1, 1, &[0; 4000], &[0; 105], &mut [0; LONGEST_FRAME]), Err(Refusal::TooLong));
     assert_eq!(write_frame(1, 1, 1, &[], &[], &mut [0; 20]), Err(Refusal::NoRoom));
+}
+
+#[test]
+fn address_plans() {
+    let plan = AddressPlan { base: [0x02, 0, 0, 0, 0xff, 0xfe], count: 3, stride: 1 };
+    let mut rows = [[0; 6]; 8];
+    rows[..3].copy_from_slice(&[[2, 0, 0, 0, 0xff, 0xfe], [2, 0, 0, 0, 0xff, 0xff], [2, 0, 0, 1, 0, 0]]);
+    assert_eq!((plan.addresses(), plan.fits()), (Ok(rows), Ok(())));
+    let last = AddressPlan { base: [0xff; 6], count: 1, stride: 255 };
+    rows = [[0; 6]; 8];
+    rows[0] = [0xff; 6];
+    assert_eq!((last.addresses(), last.fits()), (Ok(rows), Ok(())));
+    let past = AddressPlan { count: 2, ..last };
+    assert_eq!((past.addresses(), past.fits()), (Ok([[0; 6]; 8]), Err(Refusal::PlanPasses)));
+    let none = AddressPlan { count: 0, ..last };
+    assert_eq!((none.addresses(), none.fits()), (Ok([[0; 6]; 8]), Ok(())));
 }

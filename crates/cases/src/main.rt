@@ -1,5 +1,6 @@
-// Runs the cases of tests/cases.py, read from standard input: the line layer's, then the supervisor's.
+// Runs the cases of tests/cases.py, read from standard input: the line layer's, the address plan's, then the supervisor's.
 // Assumes nothing: a line is at most LINE_ROOM bytes, and what is out of range is passed over.
+mod address_cases;
 mod bytes;
 mod case;
 mod line_cases;
@@ -18,6 +19,8 @@ const LINE_ROOM: usize = 128;
 fn main() {
     let mut line = [0u8; LINE_ROOM];
     line_cases::run_all(&mut line);
+    output::word(b"%\n");
+    address_cases::run_all(&mut line);
     output::word(b"%\n");
     supervisor_cases::run_all(&mut line);
 }

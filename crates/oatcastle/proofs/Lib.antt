@@ -4,3 +4,4 @@ mod AnswerLaws
 mod LineLaws
 mod SupervisorLaws
 mod ReceiveCallLaws
+mod AddressLaws

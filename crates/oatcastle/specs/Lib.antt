@@ -4,3 +4,4 @@ pub mod Answers
 pub mod LineCalls
 pub mod SupervisorCalls
 pub mod ReceiveCalls
+pub mod AddressCalls

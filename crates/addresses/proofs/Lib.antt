@@ -1,0 +1,5 @@
+-- The laws of the address plan, which the proofs of its functions cite.
+-- Assumes nothing.
+pub mod Carry
+pub mod Number
+pub mod Plans

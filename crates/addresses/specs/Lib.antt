@@ -1,0 +1,3 @@
+-- The definitions of the address plan.
+-- Assumes nothing.
+pub mod Addresses
