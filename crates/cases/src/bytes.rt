@@ -9,6 +9,12 @@ pub(crate) fn least(a: usize, b: usize) -> usize
     if a < b { a } else { b }
 }
 
+// The first n bytes, or all.
+pub(crate) fn first<'a>(s: &'a mut [u8], n: usize) -> &'a mut [u8] {
+    let end = least(n, s.len());
+    &mut s[0..end]
+}
+
 // One byte from a place up to another.
 pub(crate) fn fill(s: &mut [u8], from: usize, to: usize, byte: u8) {
     if s.len() < to {
@@ -19,6 +25,20 @@ pub(crate) fn fill(s: &mut [u8], from: usize, to: usize, byte: u8) {
         s[i] = byte;
         i += 1;
     }
+}
+
+// How many bytes the piece has after a command that adds to it, and 0 after any other.
+pub(crate) fn longer(line: &[u8], key: u8, piece: &mut [u8], n: usize) -> usize {
+    if key == b'+' {
+        return add(text::fields(line), piece, n);
+    }
+    if key == b'*' {
+        return add_alike(line, piece, n);
+    }
+    if key == b'<' {
+        return add_again(line, piece, n);
+    }
+    0
 }
 
 // The bytes of hex pairs behind the piece's n bytes; how many it has then.
@@ -67,22 +87,10 @@ pub(crate) fn add_again(line: &[u8], piece: &mut [u8], n: usize) -> usize {
     if back == 0 {
         return n;
     }
-    repeat(piece, n - back, n, n + times);
+    let mut k = 0;
+    while k < times {
+        piece[n + k] = piece[n + k - back];
+        k += 1;
+    }
     n + times
-}
-
-// The bytes from a place on, again from a later place up to an end.
-fn repeat(s: &mut [u8], from: usize, at: usize, end: usize) {
-    if s.len() < end {
-        return;
-    }
-    if at < from {
-        return;
-    }
-    let back = at - from;
-    let mut i = at;
-    while i < end {
-        s[i] = s[i - back];
-        i += 1;
-    }
 }

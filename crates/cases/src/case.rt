@@ -1,8 +1,7 @@
-// A case: what its caller lends and notes, and the caller's own bytes.
+// A case: the caller's own bytes, and the parts that it lends.
 // Assumes nothing.
-use crate::bytes::fill;
-use crate::output;
 use crate::output::digest_of;
+use crate::output::digest_on;
 use supervisor::layout;
 
 // How many bytes each part has past its published length.
@@ -18,31 +17,34 @@ pub(crate) const SETTINGS_ROOM: usize = layout::SETTINGS_LENGTH + SPARE;
 
 pub(crate) const REGISTERS_ROOM: usize = layout::REGISTERS_LENGTH + SPARE;
 
-// The caller's own bytes: the start data, the digest noted of each part, the image, the piece, and the room that it lends to take.
-const READER_NOTE: usize = layout::START_LENGTH;
-
-const OUTBOX_NOTE: usize = READER_NOTE + 4;
-
-const FACTORY_NOTE: usize = OUTBOX_NOTE + 4;
-
-const SETTINGS_NOTE: usize = FACTORY_NOTE + 4;
-
-const REGISTERS_NOTE: usize = SETTINGS_NOTE + 4;
-
-pub(crate) const IMAGE_PLACE: usize = REGISTERS_NOTE + 4;
-
-pub(crate) const PIECE_PLACE: usize = IMAGE_PLACE + 8320;
-
-pub(crate) const ROOM_PLACE: usize = PIECE_PLACE + 8320;
-
-pub(crate) const OWN_ROOM: usize = ROOM_PLACE + 4200;
+pub(crate) const PIECE_ROOM: usize = 8320;
 
 const PART_FILL: u8 = 0xa5;
 
-// How many bytes the piece and the image have, and how many of each part are lent.
-pub(crate) struct Case {
-    pub piece: usize,
-    pub image: usize,
+// The start data; the piece and the image, and how many bytes each has; the digests noted of the reader and the outbox, and of the stores and
+// the registers.
+pub(crate) struct Own {
+    pub data: [u8; layout::START_LENGTH],
+    pub piece: [u8; PIECE_ROOM],
+    pub piece_count: usize,
+    pub image: [u8; PIECE_ROOM],
+    pub image_count: usize,
+    pub others_noted: u32,
+    pub stores_noted: u32,
+}
+
+// The parts, how many bytes of each are lent, and how many bytes the last step used.
+pub(crate) struct Parts {
+    pub reader: [u8; READER_ROOM],
+    pub outbox: [u8; OUTBOX_ROOM],
+    pub factory: [u8; FACTORY_ROOM],
+    pub settings: [u8; SETTINGS_ROOM],
+    pub registers: [u8; REGISTERS_ROOM],
+    pub lent: Lent,
+    pub used: usize,
+}
+
+pub(crate) struct Lent {
     pub reader: usize,
     pub outbox: usize,
     pub factory: usize,
@@ -50,49 +52,48 @@ pub(crate) struct Case {
     pub registers: usize,
 }
 
-// No piece, no image, every part lent whole.
-pub(crate) fn fresh() -> Case {
-    Case {
-        piece: 0,
-        image: 0,
-        reader: READER_ROOM,
-        outbox: OUTBOX_ROOM,
-        factory: FACTORY_ROOM,
-        settings: SETTINGS_ROOM,
-        registers: REGISTERS_ROOM,
+// Start data and notes of zeros, no piece, no image.
+pub(crate) fn fresh_own() -> Own {
+    Own {
+        data: [0; layout::START_LENGTH],
+        piece: [0; PIECE_ROOM],
+        piece_count: 0,
+        image: [0; PIECE_ROOM],
+        image_count: 0,
+        others_noted: 0,
+        stores_noted: 0,
     }
 }
 
-// The case at a command: a fresh one where the command begins it.
-pub(crate) fn at(key: u8, now: Case) -> Case {
-    if key == b'=' {
-        return fresh();
+// Parts of known contents, lent whole.
+pub(crate) fn fresh_parts() -> Parts {
+    Parts {
+        reader: [PART_FILL; READER_ROOM],
+        outbox: [PART_FILL; OUTBOX_ROOM],
+        factory: [PART_FILL; FACTORY_ROOM],
+        settings: [PART_FILL; SETTINGS_ROOM],
+        registers: [PART_FILL; REGISTERS_ROOM],
+        lent: Lent {
+            reader: READER_ROOM,
+            outbox: OUTBOX_ROOM,
+            factory: FACTORY_ROOM,
+            settings: SETTINGS_ROOM,
+            registers: REGISTERS_ROOM,
+        },
+        used: 0,
     }
-    now
-}
-
-// The case's name, parts of known contents, and start data and notes of zeros.
-pub(crate) fn begin(
-    line: &[u8],
-    own: &mut [u8],
-    reader: &mut [u8],
-    outbox: &mut [u8],
-    factory: &mut [u8],
-    settings: &mut [u8],
-    registers: &mut [u8],
-) {
-    output::name(line);
-    fill(own, 0, IMAGE_PLACE, 0);
-    fill(reader, 0, reader.len(), PART_FILL);
-    fill(outbox, 0, outbox.len(), PART_FILL);
-    fill(factory, 0, factory.len(), PART_FILL);
-    fill(settings, 0, settings.len(), PART_FILL);
-    fill(registers, 0, registers.len(), PART_FILL);
 }
 
 // So many bytes of a part are lent from now on.
-pub(crate) fn lend(now: Case, part: usize, n: usize) -> Case {
-    let mut next = now;
+pub(crate) fn lend(parts: Parts, part: usize, n: usize) -> Parts {
+    let mut next = parts;
+    let lent = now_lent(parts.lent, part, n);
+    next.lent = lent;
+    next
+}
+
+fn now_lent(lent: Lent, part: usize, n: usize) -> Lent {
+    let mut next = lent;
     if part == 0 {
         next.reader = n;
         return next;
@@ -113,44 +114,46 @@ pub(crate) fn lend(now: Case, part: usize, n: usize) -> Case {
     next
 }
 
-// Notes the digest of each part.
-pub(crate) fn note(
-    own: &mut [u8],
-    reader: &[u8],
-    outbox: &[u8],
-    factory: &[u8],
-    settings: &[u8],
-    registers: &[u8],
-) {
-    octets::write_u32(own, READER_NOTE, digest_of(reader));
-    octets::write_u32(own, OUTBOX_NOTE, digest_of(outbox));
-    octets::write_u32(own, FACTORY_NOTE, digest_of(factory));
-    octets::write_u32(own, SETTINGS_NOTE, digest_of(settings));
-    octets::write_u32(own, REGISTERS_NOTE, digest_of(registers));
+// Stores bytes in a part.
+pub(crate) fn store(parts: Parts, part: usize, at: usize, bytes: &[u8]) -> Parts {
+    let mut next = parts;
+    if part == 0 {
+        let mut reader = parts.reader;
+        octets::copy(bytes, 0, bytes.len(), &mut reader, at);
+        next.reader = reader;
+        return next;
+    }
+    if part == 1 {
+        let mut outbox = parts.outbox;
+        octets::copy(bytes, 0, bytes.len(), &mut outbox, at);
+        next.outbox = outbox;
+        return next;
+    }
+    if part == 2 {
+        let mut factory = parts.factory;
+        octets::copy(bytes, 0, bytes.len(), &mut factory, at);
+        next.factory = factory;
+        return next;
+    }
+    if part == 3 {
+        let mut settings = parts.settings;
+        octets::copy(bytes, 0, bytes.len(), &mut settings, at);
+        next.settings = settings;
+        return next;
+    }
+    let mut registers = parts.registers;
+    octets::copy(bytes, 0, bytes.len(), &mut registers, at);
+    next.registers = registers;
+    next
 }
 
-fn is_as_noted(own: &[u8], note: usize, part: &[u8]) -> bool {
-    digest_of(part) == octets::read_u32(own, note)
+// The digest of the reader and the outbox.
+pub(crate) fn digest_of_others(parts: Parts) -> u32 {
+    digest_on(digest_of(&parts.reader), &parts.outbox)
 }
 
-pub(crate) fn stores_are_as_noted(
-    own: &[u8],
-    factory: &[u8],
-    settings: &[u8],
-    registers: &[u8],
-) -> bool {
-    if !is_as_noted(own, FACTORY_NOTE, factory) {
-        return false;
-    }
-    if !is_as_noted(own, SETTINGS_NOTE, settings) {
-        return false;
-    }
-    is_as_noted(own, REGISTERS_NOTE, registers)
-}
-
-pub(crate) fn others_are_as_noted(own: &[u8], reader: &[u8], outbox: &[u8]) -> bool {
-    if !is_as_noted(own, READER_NOTE, reader) {
-        return false;
-    }
-    is_as_noted(own, OUTBOX_NOTE, outbox)
+// The digest of the two stores and the registers.
+pub(crate) fn digest_of_stores(parts: Parts) -> u32 {
+    let stores = digest_on(digest_of(&parts.factory), &parts.settings);
+    digest_on(stores, &parts.registers)
 }

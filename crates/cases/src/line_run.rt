@@ -1,8 +1,8 @@
-// The commands of tests/line_cases.py over a lent state, piece and output.
-// Assumes nothing: a command whose counts do not fit what is lent does nothing.
-use crate::bytes::add;
-use crate::bytes::add_alike;
-use crate::bytes::fill;
+// The commands of tests/line_cases.py over a lent state, the piece and a lent output.
+// Assumes nothing: a command whose counts do not fit does nothing.
+use crate::bytes;
+use crate::bytes::first;
+use crate::bytes::least;
 use crate::line_print;
 use crate::output;
 use crate::text;
@@ -10,120 +10,182 @@ use line::reader;
 use line::sums;
 use line::writer;
 
+const STATE_ROOM: usize = 4200;
+
+const PIECE_ROOM: usize = 8192;
+
+const OUT_ROOM: usize = 4199;
+
 const STATE_FILL: u8 = 0xa5;
 
 const OUT_FILL: u8 = 0xee;
 
-// How many bytes the piece has, and how many the last write put out.
-pub(crate) struct Counts {
-    pub piece: usize,
+// The lent state, the piece and how many bytes it has, the lent output and how many bytes the last write put out.
+pub(crate) struct Case {
+    pub state: [u8; STATE_ROOM],
+    pub piece: [u8; PIECE_ROOM],
+    pub piece_count: usize,
+    pub out: [u8; OUT_ROOM],
     pub written: usize,
 }
 
+// A state and an output of known contents, and no piece.
+pub(crate) fn fresh() -> Case {
+    Case {
+        state: [STATE_FILL; STATE_ROOM],
+        piece: [0; PIECE_ROOM],
+        piece_count: 0,
+        out: [OUT_FILL; OUT_ROOM],
+        written: 0,
+    }
+}
+
 // One line.
-pub(crate) fn command(
-    line: &[u8],
-    state: &mut [u8],
-    piece: &mut [u8],
-    out: &mut [u8],
-    counts: Counts,
-) -> Counts {
+pub(crate) fn command(line: &[u8], now: Case) -> Case {
     let key = text::key(line);
-    let n = counts.piece;
-    let written = counts.written;
     if key == b'=' {
-        begin(line, state, out);
-        return Counts {
-            piece: 0,
-            written: 0,
-        };
+        return begin(line);
+    }
+    if key == b'+' || key == b'*' {
+        return longer(line, key, now);
     }
     if key == b'w' {
-        return Counts {
-            piece: 0,
-            written: write(line, piece, n, out),
-        };
+        return write(line, now);
     }
-    if key == b'o' {
-        read_first(state, out, written);
-        return counts;
+    if key == b'r' || key == b'c' || key == b'b' || key == b'o' || key == b'k' {
+        return use_up(line, key, now);
     }
-    Counts {
-        piece: change(line, key, state, piece, n),
-        written,
+    if key == b'l' || key == b's' || key == b'i' {
+        return change(line, key, now);
     }
+    let state = now.state;
+    look(key, text::decimal(line, 1), &state);
+    now
 }
 
-// A command that changes the piece of n bytes or asks; how many the piece has then.
-fn change(line: &[u8], key: u8, state: &mut [u8], piece: &mut [u8], n: usize) -> usize {
-    if key == b'+' {
-        return add(text::fields(line), piece, n);
+// A fresh case, with its name and a reader.
+fn begin(line: &[u8]) -> Case {
+    output::name(line);
+    let mut next = fresh();
+    let mut state = next.state;
+    reader::start(&mut state);
+    next.state = state;
+    next
+}
+
+fn longer(line: &[u8], key: u8, now: Case) -> Case {
+    let mut next = now;
+    let mut piece = now.piece;
+    let n = bytes::longer(line, key, &mut piece, now.piece_count);
+    next.piece = piece;
+    next.piece_count = n;
+    next
+}
+
+// A message with the piece as its data, by the line's fields.
+fn write(line: &[u8], now: Case) -> Case {
+    let mut next = now;
+    let piece = now.piece;
+    let mut out = now.out;
+    let room = text::decimal(line, 5);
+    let data = octets::part(&piece, 0, now.piece_count);
+    let written = write_data(line, data, first(&mut out, room));
+    output::digest(&out);
+    next.out = out;
+    next.written = written;
+    next.piece_count = 0;
+    next
+}
+
+// The version, sequence and command are the line's first three fields, and how many of the data are the first part the fourth.
+fn write_data(line: &[u8], data: &[u8], out: &mut [u8]) -> usize {
+    let version = text::hex_u32(line, 1);
+    let sequence = text::hex(line, 2);
+    let command = text::hex_u8(line, 3);
+    let cut = least(text::decimal(line, 4), data.len());
+    line_print::writing(writer::write(version, sequence, command, &data[0..cut], &data[cut..], out))
+}
+
+// A command that empties the piece, or reads what was written.
+fn use_up(line: &[u8], key: u8, now: Case) -> Case {
+    let mut next = now;
+    let mut state = now.state;
+    let piece = now.piece;
+    let out = now.out;
+    if key == b'o' {
+        read_whole(&mut state, octets::part(&out, 0, now.written));
+    } else {
+        use_piece(
+            line,
+            key,
+            &mut state,
+            octets::part(&piece, 0, now.piece_count),
+        );
     }
-    if key == b'*' {
-        return add_alike(line, piece, n);
-    }
-    if piece.len() < n {
-        return 0;
-    }
+    next.state = state;
+    next.piece_count = 0;
+    next
+}
+
+fn use_piece(line: &[u8], key: u8, state: &mut [u8], piece: &[u8]) {
     if key == b'k' {
-        output::hex(sums::checksum(&piece[0..n]) as u64, 4);
-        return 0;
-    }
-    if key == b'r' {
-        read_whole(state, &piece[0..n]);
-        return 0;
-    }
-    if key == b'c' {
-        read_cut(state, &piece[0..n], count(line));
-        return 0;
+        return output::hex(sums::checksum(piece) as u64, 4);
     }
     if key == b'b' {
-        read_bytes(state, &piece[0..n]);
-        return 0;
+        return read_bytes(state, piece);
     }
-    ask(line, key, state, &piece[0..n]);
-    n
+    if key == b'c' {
+        let n = text::decimal(line, 1);
+        read_whole(state, octets::part(piece, 0, n));
+        return read_whole(state, octets::part(piece, n, piece.len()));
+    }
+    read_whole(state, piece);
 }
 
-// A command that leaves the piece.
-fn ask(line: &[u8], key: u8, state: &mut [u8], piece: &[u8]) {
+// A command that changes the state and leaves the piece.
+fn change(line: &[u8], key: u8, now: Case) -> Case {
+    let mut next = now;
+    let mut state = now.state;
+    let piece = now.piece;
+    let n = text::decimal(line, 1);
     if key == b'l' {
-        return read_lent(state, count(line), piece);
+        read_once(
+            first(&mut state, n),
+            octets::part(&piece, 0, now.piece_count),
+        );
+    } else if key == b's' {
+        line_print::starting(reader::start(first(&mut state, n)));
+    } else {
+        octets::write_u16(&mut state, 0, text::decimal_u16(line, 1));
     }
-    if key == b's' {
-        return start_lent(state, count(line));
-    }
-    if key == b'i' {
-        return octets::write_u16(state, 0, text::decimal_u16(line, 1));
-    }
+    next.state = state;
+    next
+}
+
+// A command that changes nothing.
+fn look(key: u8, n: usize, state: &[u8]) {
     if key == b't' {
         return line_print::tail(reader::tail(state));
     }
     if key == b'u' {
-        return tail_lent(state, count(line));
+        return line_print::tail(reader::tail(octets::part(state, 0, n)));
     }
     if key == b'd' {
-        return hand_out(state, count(line));
+        return hand_out(state, n);
     }
     if key == b'g' {
-        return digest_lent(state, reader::STATE_LENGTH);
+        return output::digest(octets::part(state, 0, reader::STATE_LENGTH));
     }
     if key == b'.' {
         output::word(b"\n");
     }
 }
 
-// The count in the line's first field.
-fn count(line: &[u8]) -> usize {
-    text::decimal(line, 1)
-}
-
-// A fresh case: its name, a state and an output of known contents, and a reader.
-fn begin(line: &[u8], state: &mut [u8], out: &mut [u8]) {
-    output::name(line);
-    fill(state, 0, state.len(), STATE_FILL);
-    fill(out, 0, out.len(), OUT_FILL);
-    reader::start(state);
+fn hand_out(state: &[u8], n: usize) {
+    line_print::data(
+        reader::message_data_given(state, n),
+        reader::message_data(state, n),
+    );
 }
 
 // One call of read; how many bytes it used.
@@ -150,23 +212,6 @@ fn read_whole(state: &mut [u8], piece: &[u8]) {
     }
 }
 
-// The first n bytes.
-fn read_first(state: &mut [u8], s: &[u8], n: usize) {
-    if s.len() < n {
-        return;
-    }
-    read_whole(state, &s[0..n]);
-}
-
-// The first n bytes, then the others.
-fn read_cut(state: &mut [u8], piece: &[u8], n: usize) {
-    if piece.len() < n {
-        return;
-    }
-    read_whole(state, &piece[0..n]);
-    read_whole(state, &piece[n..]);
-}
-
 // Byte by byte.
 fn read_bytes(state: &mut [u8], piece: &[u8]) {
     let mut i = 0;
@@ -174,66 +219,4 @@ fn read_bytes(state: &mut [u8], piece: &[u8]) {
         read_once(state, &piece[i..i + 1]);
         i += 1;
     }
-}
-
-// One call of read with n bytes of the state.
-fn read_lent(state: &mut [u8], n: usize, piece: &[u8]) {
-    if state.len() < n {
-        return;
-    }
-    read_once(&mut state[0..n], piece);
-}
-
-fn start_lent(state: &mut [u8], n: usize) {
-    if state.len() < n {
-        return;
-    }
-    line_print::starting(reader::start(&mut state[0..n]));
-}
-
-fn tail_lent(state: &[u8], n: usize) {
-    if state.len() < n {
-        return;
-    }
-    line_print::tail(reader::tail(&state[0..n]));
-}
-
-fn digest_lent(state: &[u8], n: usize) {
-    if state.len() < n {
-        return;
-    }
-    output::digest(&state[0..n]);
-}
-
-fn hand_out(state: &[u8], n: usize) {
-    line_print::data(
-        reader::message_data_given(state, n),
-        reader::message_data(state, n),
-    );
-}
-
-// A message with the piece's n bytes as its data, by the line's fields; how many bytes were written.
-fn write(line: &[u8], piece: &[u8], n: usize, out: &mut [u8]) -> usize {
-    let head = text::decimal(line, 4);
-    let room = text::decimal(line, 5);
-    if piece.len() < n {
-        return 0;
-    }
-    if n < head {
-        return 0;
-    }
-    if out.len() < room {
-        return 0;
-    }
-    let written = write_parts(line, &piece[0..head], &piece[head..n], &mut out[0..room]);
-    output::digest(out);
-    written
-}
-
-// The version, sequence and command are the line's first three fields.
-fn write_parts(line: &[u8], head: &[u8], rest: &[u8], out: &mut [u8]) -> usize {
-    let version = text::hex_u32(line, 1);
-    let sequence = text::hex(line, 2);
-    let command = text::hex_u8(line, 3);
-    line_print::writing(writer::write(version, sequence, command, head, rest, out))
 }

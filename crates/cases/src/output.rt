@@ -38,7 +38,12 @@ fn digest_more(d: u32, b: u8) -> u32 {
 
 // The digest of tests/line_cases.py.
 pub(crate) fn digest_of(s: &[u8]) -> u32 {
-    let mut d: u32 = 0;
+    digest_on(0, s)
+}
+
+// The digest with more bytes.
+pub(crate) fn digest_on(before: u32, s: &[u8]) -> u32 {
+    let mut d = before;
     let mut i = 0;
     while i < s.len() {
         d = digest_more(d, s[i]);

@@ -1,141 +1,146 @@
-// Receiving a piece: by one call, by two, byte by byte, or by calls of step.
-// Assumes nothing: counts that do not fit what is lent do nothing.
-use crate::bytes::least;
-use crate::case;
-use crate::case::Case;
+// The supervisor's calls that are lent all five parts: start, receive and step.
+// Assumes nothing.
+use crate::bytes::first;
+use crate::case::Own;
+use crate::case::Parts;
 use crate::supervisor_print;
 use crate::text;
 use requests::receive::receive;
 use requests::receive::step;
+use supervisor::layout;
+use supervisor::start::start;
 
-pub(crate) fn is_for(key: u8) -> bool {
-    key == b'r' || key == b'c' || key == b'b' || key == b'q'
+// One call of start.
+pub(crate) fn begin(data: [u8; layout::START_LENGTH], parts: Parts) -> Parts {
+    let mut reader = parts.reader;
+    let mut outbox = parts.outbox;
+    let mut factory = parts.factory;
+    let mut settings = parts.settings;
+    let mut registers = parts.registers;
+    let lent = parts.lent;
+    let started = start(
+        &data,
+        first(&mut reader, lent.reader),
+        first(&mut outbox, lent.outbox),
+        first(&mut factory, lent.factory),
+        first(&mut settings, lent.settings),
+        first(&mut registers, lent.registers),
+    );
+    supervisor_print::started(started);
+    Parts {
+        reader,
+        outbox,
+        factory,
+        settings,
+        registers,
+        lent,
+        used: 0,
+    }
 }
 
-// The case's piece, with its image.
-pub(crate) fn receive_by(
-    line: &[u8],
-    key: u8,
-    own: &[u8],
-    reader: &mut [u8],
-    outbox: &mut [u8],
-    factory: &[u8],
-    settings: &mut [u8],
-    registers: &mut [u8],
-    now: Case,
-) {
-    if own.len() < case::OWN_ROOM {
-        return;
+// One call of receive; its answer is printed, or passed over.
+fn receive_once(image: &[u8], piece: &[u8], parts: Parts, printed: bool) -> Parts {
+    let mut reader = parts.reader;
+    let mut outbox = parts.outbox;
+    let factory = parts.factory;
+    let mut settings = parts.settings;
+    let mut registers = parts.registers;
+    let lent = parts.lent;
+    let received = receive(
+        image,
+        piece,
+        first(&mut reader, lent.reader),
+        first(&mut outbox, lent.outbox),
+        octets::part(&factory, 0, lent.factory),
+        first(&mut settings, lent.settings),
+        first(&mut registers, lent.registers),
+    );
+    supervisor_print::received(received, printed);
+    Parts {
+        reader,
+        outbox,
+        factory,
+        settings,
+        registers,
+        lent,
+        used: 0,
     }
-    let n = least(now.piece, case::ROOM_PLACE - case::PIECE_PLACE);
-    let m = least(now.image, case::PIECE_PLACE - case::IMAGE_PLACE);
-    let image = &own[case::IMAGE_PLACE..case::IMAGE_PLACE + m];
-    let piece = &own[case::PIECE_PLACE..case::PIECE_PLACE + n];
+}
+
+// One call of step.
+fn step_once(image: &[u8], piece: &[u8], parts: Parts) -> Parts {
+    let mut reader = parts.reader;
+    let mut outbox = parts.outbox;
+    let factory = parts.factory;
+    let mut settings = parts.settings;
+    let mut registers = parts.registers;
+    let lent = parts.lent;
+    let stepped = step(
+        image,
+        piece,
+        first(&mut reader, lent.reader),
+        first(&mut outbox, lent.outbox),
+        octets::part(&factory, 0, lent.factory),
+        first(&mut settings, lent.settings),
+        first(&mut registers, lent.registers),
+    );
+    let used = stepped.used;
+    let outcome = stepped.outcome;
+    supervisor_print::stepped(used, outcome);
+    Parts {
+        reader,
+        outbox,
+        factory,
+        settings,
+        registers,
+        lent,
+        used,
+    }
+}
+
+// The piece: by one call, by two, byte by byte, or by calls of step.
+pub(crate) fn receive_by(line: &[u8], key: u8, own: Own, parts: Parts) -> Parts {
+    let image_bytes = own.image;
+    let piece_bytes = own.piece;
+    let image = octets::part(&image_bytes, 0, own.image_count);
+    let piece = octets::part(&piece_bytes, 0, own.piece_count);
     if key == b'b' {
-        return by_bytes(image, piece, reader, outbox, factory, settings, registers);
+        return by_bytes(image, piece, parts);
     }
     if key == b'q' {
-        return by_steps(image, piece, reader, outbox, factory, settings, registers);
+        return by_steps(image, piece, parts);
     }
     if key == b'r' {
-        return once(image, piece, reader, outbox, factory, settings, registers);
+        return receive_once(image, piece, parts, true);
     }
-    let cut = least(text::decimal(line, 1), n);
-    once(
-        image,
-        &piece[0..cut],
-        reader,
-        outbox,
-        factory,
-        settings,
-        registers,
-    );
-    once(
-        image,
-        &piece[cut..],
-        reader,
-        outbox,
-        factory,
-        settings,
-        registers,
-    );
-}
-
-// One call of receive.
-fn once(
-    image: &[u8],
-    piece: &[u8],
-    reader: &mut [u8],
-    outbox: &mut [u8],
-    factory: &[u8],
-    settings: &mut [u8],
-    registers: &mut [u8],
-) {
-    supervisor_print::received(receive(image, piece, reader, outbox, factory, settings, registers));
+    let n = text::decimal(line, 1);
+    let next = receive_once(image, octets::part(piece, 0, n), parts, true);
+    receive_once(image, octets::part(piece, n, piece.len()), next, true)
 }
 
 // A call of receive for each byte but the last, and one for what is left.
-fn by_bytes(
-    image: &[u8],
-    piece: &[u8],
-    reader: &mut [u8],
-    outbox: &mut [u8],
-    factory: &[u8],
-    settings: &mut [u8],
-    registers: &mut [u8],
-) {
+fn by_bytes(image: &[u8], piece: &[u8], parts: Parts) -> Parts {
+    let mut now = parts;
     let mut i = 0;
     while i + 1 < piece.len() {
-        receive(
-            image,
-            &piece[i..i + 1],
-            reader,
-            outbox,
-            factory,
-            settings,
-            registers,
-        );
+        now = receive_once(image, &piece[i..i + 1], now, false);
         i += 1;
     }
-    once(
-        image,
-        &piece[i..],
-        reader,
-        outbox,
-        factory,
-        settings,
-        registers,
-    );
+    receive_once(image, &piece[i..], now, true)
 }
 
 // Calls of step until the piece is used up, or one uses nothing.
-fn by_steps(
-    image: &[u8],
-    piece: &[u8],
-    reader: &mut [u8],
-    outbox: &mut [u8],
-    factory: &[u8],
-    settings: &mut [u8],
-    registers: &mut [u8],
-) {
+fn by_steps(image: &[u8], piece: &[u8], parts: Parts) -> Parts {
+    let mut now = parts;
     let mut at = 0;
     loop {
-        let stepped = step(
-            image,
-            &piece[at..],
-            reader,
-            outbox,
-            factory,
-            settings,
-            registers,
-        );
-        let used = stepped.used;
-        supervisor_print::stepped(stepped);
+        now = step_once(image, &piece[at..], now);
+        let used = now.used;
         if used == 0 {
-            return;
+            return now;
         }
         if piece.len() - at <= used {
-            return;
+            return now;
         }
         at += used;
     }

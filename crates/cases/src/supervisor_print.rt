@@ -10,7 +10,6 @@ use crate::output::refused;
 use crate::output::word;
 use requests::receive::Outcome;
 use requests::receive::Received;
-use requests::receive::Stepped;
 use supervisor::alerts::Posted;
 use supervisor::keys::Found;
 use supervisor::options::OptionsSet;
@@ -36,7 +35,11 @@ pub(crate) fn started(a: Started) {
     }
 }
 
-pub(crate) fn received(a: Received) {
+// What receive said, unless it is to be passed over.
+pub(crate) fn received(a: Received, printed: bool) {
+    if !printed {
+        return;
+    }
     match a {
         Received::Done => word(b" received"),
         Received::Refused => refused(REFUSED),
@@ -44,19 +47,20 @@ pub(crate) fn received(a: Received) {
 }
 
 // How many bytes a step used, and how it ended.
-pub(crate) fn stepped(a: Stepped) {
-    number(a.used as u64);
-    let outcome = a.outcome;
+pub(crate) fn stepped(used: usize, outcome: Outcome) {
+    number(used as u64);
     match outcome {
         Outcome::Refused => refused(REFUSED),
         Outcome::More => word(b" more"),
         Outcome::Empty => word(b" empty"),
         Outcome::Request => word(b" request"),
-        Outcome::Failure(reason) => {
-            word(b" failure");
-            number(reason as u64);
-        }
+        Outcome::Failure(reason) => failed(reason),
     }
+}
+
+fn failed(reason: u8) {
+    word(b" failure");
+    number(reason as u64);
 }
 
 // What take moved into the room, and the digest of the room.
@@ -94,12 +98,17 @@ pub(crate) fn options(a: OptionsSet) {
 pub(crate) fn found(a: Found, value: &[u8]) {
     match a {
         Found::Refused => refused(REFUSED),
-        Found::Value(_) => word(b" result 0"),
-        Found::BadKey => word(b" result 1"),
-        Found::NoValue => word(b" result 2"),
-        Found::TooLong => word(b" result 3"),
+        Found::Value(_) => result(0),
+        Found::BadKey => result(1),
+        Found::NoValue => result(2),
+        Found::TooLong => result(3),
     }
     bytes(value);
+}
+
+fn result(n: u64) {
+    word(b" result");
+    number(n);
 }
 
 pub(crate) fn signal(a: SignalRead) {
@@ -119,16 +128,8 @@ pub(crate) fn flags(a: FlagsRead) {
 
 fn two_flags(asked: Asked) {
     word(b" flags");
-    flag(asked.reboot);
-    flag(asked.power_off);
-}
-
-fn flag(set: bool) {
-    if set {
-        number(1);
-    } else {
-        number(0);
-    }
+    number(asked.reboot as u64);
+    number(asked.power_off as u64);
 }
 
 // A record, and the part handed out.

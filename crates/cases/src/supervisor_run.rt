@@ -1,192 +1,106 @@
-// The commands of tests/supervisor_cases.py over the lent parts and the caller's own bytes.
-// Assumes nothing: a command whose counts do not fit what is lent does nothing.
-use crate::bytes::add;
-use crate::bytes::add_again;
-use crate::bytes::add_alike;
-use crate::bytes::least;
+// The commands of tests/supervisor_cases.py over the caller's own bytes and the lent parts.
+// Assumes nothing: a command whose counts do not fit does nothing.
+use crate::bytes::longer;
 use crate::case;
-use crate::case::Case;
+use crate::case::Own;
+use crate::case::Parts;
 use crate::local;
+use crate::output;
 use crate::receiving;
 use crate::supervisor_print;
 use crate::text;
 
-// One line, with so many bytes of each part as the case lends.
-pub(crate) fn command(
-    line: &[u8],
-    own: &mut [u8],
-    reader: &mut [u8],
-    outbox: &mut [u8],
-    factory: &mut [u8],
-    settings: &mut [u8],
-    registers: &mut [u8],
-    was: Case,
-) -> Case {
+// What a command does to the parts; it calls the supervisor, stores, compares or ends the line.
+pub(crate) fn call(line: &[u8], own: Own, parts: Parts) -> Parts {
     let key = text::key(line);
-    let now = case::at(key, was);
-    let reader_end = least(now.reader, reader.len());
-    let outbox_end = least(now.outbox, outbox.len());
-    let factory_end = least(now.factory, factory.len());
-    let settings_end = least(now.settings, settings.len());
-    let registers_end = least(now.registers, registers.len());
-    call(
-        line,
-        key,
-        own,
-        &mut reader[0..reader_end],
-        &mut outbox[0..outbox_end],
-        &mut factory[0..factory_end],
-        &mut settings[0..settings_end],
-        &mut registers[0..registers_end],
-        now,
-    );
-    prepare(line, key, own, now)
-}
-
-// A command that changes what the caller lends; every other but m leaves no piece.
-fn prepare(line: &[u8], key: u8, own: &mut [u8], now: Case) -> Case {
-    if key == b'm' {
-        return now;
-    }
-    if key == b'n' {
-        return case::lend(now, text::decimal(line, 1), text::decimal(line, 2));
-    }
-    let n = now.piece;
-    let mut next = now;
-    if key == b'v' {
-        next.image = text::decimal(line, 1);
-        return next;
-    }
-    if key == b'I' {
-        next.image = n;
-    }
-    place(line, key, own, n);
-    next.piece = longer(line, key, own, n);
-    next
-}
-
-// Makes the piece's n bytes the image, or puts them into the start data.
-fn place(line: &[u8], key: u8, own: &mut [u8], n: usize) {
-    if key == b'I' {
-        return octets::move_down(own, case::PIECE_PLACE, case::IMAGE_PLACE, n);
-    }
-    if key == b'd' {
-        octets::move_down(own, case::PIECE_PLACE, text::decimal(line, 1), n);
-    }
-}
-
-// How many bytes the piece has after a command that adds to it, and 0 after any other.
-fn longer(line: &[u8], key: u8, own: &mut [u8], n: usize) -> usize {
-    if own.len() < case::OWN_ROOM {
-        return 0;
-    }
-    let piece = &mut own[case::PIECE_PLACE..case::ROOM_PLACE];
-    if key == b'+' {
-        return add(text::fields(line), piece, n);
-    }
-    if key == b'*' {
-        return add_alike(line, piece, n);
-    }
-    if key == b'<' {
-        return add_again(line, piece, n);
-    }
-    0
-}
-
-// A command that begins the case, calls the supervisor, stores, notes, compares or ends the line; for any other nothing is done.
-fn call(
-    line: &[u8],
-    key: u8,
-    own: &mut [u8],
-    reader: &mut [u8],
-    outbox: &mut [u8],
-    factory: &mut [u8],
-    settings: &mut [u8],
-    registers: &mut [u8],
-    now: Case,
-) {
-    let n = now.piece;
-    if key == b'=' {
-        return case::begin(line, own, reader, outbox, factory, settings, registers);
-    }
     if key == b'a' {
-        return local::begin(own, reader, outbox, factory, settings, registers);
+        let data = own.data;
+        return receiving::begin(data, parts);
     }
-    if key == b'i' {
-        return store(line, own, n, reader, outbox, factory, settings, registers);
+    if key == b'r' || key == b'c' || key == b'b' || key == b'q' {
+        return receiving::receive_by(line, key, own, parts);
     }
     if key == b't' {
-        return local::take_into(own, outbox, text::decimal(line, 1));
+        return local::take_into(text::decimal(line, 1), parts);
     }
     if key == b'l' {
-        return local::look_up(line, factory, settings);
-    }
-    if key == b'm' {
-        return case::note(own, reader, outbox, factory, settings, registers);
+        local::look_up(line, parts);
+        return parts;
     }
     if key == b'g' || key == b'h' {
-        return compare(key, own, reader, outbox, factory, settings, registers);
+        compare(key, own, parts);
+        return parts;
     }
-    if receiving::is_for(key) {
-        return receiving::receive_by(
-            line,
-            key,
-            own,
-            reader,
-            outbox,
-            factory,
-            settings,
-            registers,
-            now,
-        );
+    if key == b'=' || key == b'n' || key == b'i' {
+        return set(line, key, own, parts);
     }
-    local::ask(line, key, own, n, registers);
+    local::ask(line, key, own, parts)
 }
 
-// Stores the piece's n bytes in a part, by the line's fields.
-fn store(
-    line: &[u8],
-    own: &[u8],
-    n: usize,
-    reader: &mut [u8],
-    outbox: &mut [u8],
-    factory: &mut [u8],
-    settings: &mut [u8],
-    registers: &mut [u8],
-) {
+// A command that begins the case, lends or stores.
+fn set(line: &[u8], key: u8, own: Own, parts: Parts) -> Parts {
+    if key == b'=' {
+        output::name(line);
+        return case::fresh_parts();
+    }
     let part = text::decimal(line, 1);
-    let at = text::decimal(line, 2);
-    if part == 0 {
-        return octets::copy(own, case::PIECE_PLACE, n, reader, at);
+    let n = text::decimal(line, 2);
+    if key == b'n' {
+        return case::lend(parts, part, n);
     }
-    if part == 1 {
-        return octets::copy(own, case::PIECE_PLACE, n, outbox, at);
-    }
-    if part == 2 {
-        return octets::copy(own, case::PIECE_PLACE, n, factory, at);
-    }
-    if part == 3 {
-        return octets::copy(own, case::PIECE_PLACE, n, settings, at);
-    }
-    octets::copy(own, case::PIECE_PLACE, n, registers, at);
+    let piece = own.piece;
+    case::store(parts, part, n, octets::part(&piece, 0, own.piece_count))
 }
 
 // Whether the parts are as noted: all five, or for h the stores and the registers.
-fn compare(
-    key: u8,
-    own: &[u8],
-    reader: &[u8],
-    outbox: &[u8],
-    factory: &[u8],
-    settings: &[u8],
-    registers: &[u8],
-) {
-    let stores = case::stores_are_as_noted(own, factory, settings, registers);
+fn compare(key: u8, own: Own, parts: Parts) {
+    let same = case::digest_of_stores(parts) == own.stores_noted;
     if key == b'h' {
-        return supervisor_print::stores_compared(stores);
+        return supervisor_print::stores_compared(same);
     }
-    if stores {
-        return supervisor_print::compared(case::others_are_as_noted(own, reader, outbox));
+    supervisor_print::compared(same && case::digest_of_others(parts) == own.others_noted);
+}
+
+// What a command does to the caller's own bytes; every other but m, n and v leaves no piece.
+pub(crate) fn prepare(line: &[u8], own: Own, parts: Parts) -> Own {
+    let key = text::key(line);
+    let mut next = own;
+    if key == b'n' {
+        return own;
     }
-    supervisor_print::compared(false);
+    if key == b'm' {
+        next.others_noted = case::digest_of_others(parts);
+        next.stores_noted = case::digest_of_stores(parts);
+        return next;
+    }
+    if key == b'v' {
+        next.image_count = text::decimal(line, 1);
+        return next;
+    }
+    if key == b'=' {
+        return case::fresh_own();
+    }
+    place(line, key, own)
+}
+
+// Makes the piece the image, or puts it into the start data, or adds to it.
+fn place(line: &[u8], key: u8, own: Own) -> Own {
+    let mut next = own;
+    let mut piece = own.piece;
+    let n = own.piece_count;
+    next.piece_count = 0;
+    if key == b'I' {
+        next.image = piece;
+        next.image_count = n;
+        return next;
+    }
+    if key == b'd' {
+        let mut data = own.data;
+        octets::copy(&piece, 0, n, &mut data, text::decimal(line, 1));
+        next.data = data;
+        return next;
+    }
+    next.piece_count = longer(line, key, &mut piece, n);
+    next.piece = piece;
+    next
 }

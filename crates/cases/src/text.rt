@@ -25,37 +25,19 @@ const U16_VALUES: u64 = 65536;
 
 const U32_VALUES: u64 = 4294967296;
 
-enum Input {
-    End,
-    Byte(u8),
-}
-
-fn read_byte() -> Input {
-    let mut one = [0u8; 1];
-    let n = io::read_full(INPUT, &mut one);
-    if n == 0 {
-        return Input::End;
-    }
-    Input::Byte(one[0])
-}
-
 // Reads a line, without its end, into the start of room; how many bytes it has, and 0 at the end of the input.
 pub(crate) fn read_line(room: &mut [u8]) -> usize
     ensures { λ r. ⌜ r ≤ length (now (room .entry)) ⌝ }
 {
     let mut n = 0;
     while n < room.len() {
-        let next = read_byte();
-        match next {
-            Input::End => return 0,
-            Input::Byte(b) => {
-                if b == b'\n' {
-                    return n;
-                }
-                room[n] = b;
-                n += 1;
-            }
+        if io::read_full(INPUT, &mut room[n..n + 1]) == 0 {
+            return 0;
         }
+        if room[n] == b'\n' {
+            return n;
+        }
+        n += 1;
     }
     n
 }

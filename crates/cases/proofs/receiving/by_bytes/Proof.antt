@@ -1,23 +1,22 @@
--- `receiving::by_bytes` is safe and ends: what is lent keeps its length, and each turn takes a byte.
+-- `receiving::by_bytes` is safe and ends: each turn takes a byte.
 -- Assumes nothing.
 use Prim.Native.Nat.{_-_, _≤_}
-use mathlib.Core.Path.{_≡_}
 use borrow.Author.Needs.{needs}
 use lib.ListN.{length}
 use Rattle.cases.proofs.receiving.by_bytes.Statement.{statement}
 use Rattle.cases.proofs.receiving.by_bytes.Tie as tie
 
 abbrev Inv-loop : tie.InvT-loop
-Inv-loop image piece reader₀ outbox₀ factory settings₀ registers₀ i₀ reader outbox settings registers i = (i ≤ length piece) × (length reader ≡ length reader₀) × (length outbox ≡ length outbox₀) × (length settings ≡ length settings₀) × (length registers ≡ length registers₀)
+Inv-loop image piece now₀ i₀ now i = i ≤ length piece
 
 abbrev μ-loop : tie.MeasureT-loop
-μ-loop image piece reader₀ outbox₀ factory settings₀ registers₀ i₀ reader outbox settings registers i = length piece - i
+μ-loop image piece now₀ i₀ now i = length piece - i
 
 pub by-bytes-spec : {M : Type 1} → statement M
 by-bytes-spec =
     tie.close
     (tie.spec
     Inv-loop μ-loop (λ c. search needs) (λ c. search needs) (λ c. search needs) (λ c. search needs)
-    (λ c. search needs) (λ c. search needs) (λ c κs. search needs) (λ c. search needs) (λ c. search needs)
-    (λ c. search needs) (λ c. search needs) (λ c. search needs) (λ c. search needs) (λ c κs. search needs)
-    (λ c. search needs) (λ c. search needs) (λ c. search needs) (λ c. search needs) (λ c. search needs))
+    (λ c. search needs) (λ c. search needs) (λ c κs. search needs) (λ c. search needs)
+    (λ c. search needs) (λ c. search needs) (λ c. search needs) (λ c. search needs) (λ c. search needs)
+    (λ c κs. search needs) (λ c. search needs))
