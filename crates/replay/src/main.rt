@@ -10,7 +10,8 @@ const INPUT: i32 = 0;
 
 const OUTPUT: i32 = 1;
 
-const OUT_ROOM: usize = 65536;
+// What is kept before it is written, and behind it the longest output that can be pending.
+const OUT_ROOM: usize = 1024 + layout::MOST_PENDING;
 
 // More reads than any input has.
 const MOST_READS: u64 = 0xffffffffffffffff;
