@@ -1,64 +1,99 @@
 #!/usr/bin/env python3
 """Compares the C interface where it is written down: the functions of crates/oatcastle/src, include/oatcastle.h and
-bindings/rust/src/raw.rs by name, parameters and their kinds, and the header's lengths, limits and places with the crates' constants.
+bindings/rust/src/raw.rs by name, parameters' names and kinds; every #define of the header, and the wrapper's numbers, with the crates.
 Assumes the layouts of these files as `rt fmt` and their own style have them.
 
-usage: tests/interface.py"""
+usage: tests/interface.py [planted]
+
+planted: changes each #define, each parameter and each number of the wrapper in turn, in memory alone, and asks that every change be seen"""
+import functools
 import pathlib
 import re
 import sys
 
 ROOT = pathlib.Path(__file__).resolve().parent.parent
+HEADER = 'include/oatcastle.h'
+RAW = 'bindings/rust/src/raw.rs'
+WRAPPER = tuple(f'bindings/rust/src/{name}.rs' for name in ('lib', 'line', 'start', 'supervisor'))
+# The wrapper's constants, and the header's name for each.
+CONSTANTS = {'START_LENGTH': 'START_LENGTH', 'ITEMS': 'MOST_ITEMS', 'ITEM_LENGTH': 'ITEM_LENGTH', 'COUNT_PLACE': 'START_ITEM_COUNT',
+             'LONGEST_FRAME': 'LONGEST_FRAME', 'STATE_LENGTH': 'READER_LENGTH'}
+# The parts that the wrapper owns.
+PARTS = r'\n    (reader|outbox|factory|settings|registers): \[u8; (\d+)\],'
 NUMBERS = {'u8': 'u8', 'u16': 'u16', 'u32': 'u32', 'u64': 'u64', 'usize': 'u64',
            'uint8_t': 'u8', 'uint16_t': 'u16', 'uint32_t': 'u32', 'uint64_t': 'u64'}
 
 
+@functools.cache
 def read(path):
-    return (ROOT / path).read_text()
+    """A file's text, or that of every file of a folder."""
+    found = ROOT / path
+    return ''.join(f.read_text() for f in (sorted(found.iterdir()) if found.is_dir() else [found]))
 
 
-def rattle_kinds(parameter):
-    """A parameter of an exported function, as what C passes for it."""
-    kind = re.sub(r"'\w+ ", '', parameter.split(':', 1)[1].strip())
+# ---- Functions: of each the list of (name, kind) that C passes
+
+def rattle_parameters(parameter):
+    """A parameter of an exported function, as what C passes for it: a slice is a pointer and behind it its length, of numbers their count."""
+    name, kind = (part.strip() for part in parameter.split(':', 1))
+    kind = re.sub(r"'\w+ ", '', kind)
     change = 'mut ' if kind.startswith('&mut ') else 'const '
     element = re.fullmatch(r'&(?:mut )?\[(\w+)(; [\w:]+)?\]', kind)
     if not element:
-        return [NUMBERS[kind]]
-    pointer = change + NUMBERS[element.group(1)]
-    return [pointer] if element.group(2) else [pointer, 'length']
+        return [(name, NUMBERS[kind])]
+    pointer = (name, change + NUMBERS[element.group(1)])
+    return [pointer] if element.group(2) else [pointer, (name + ('_length' if element.group(1) == 'u8' else '_count'), 'length')]
 
 
-def c_kinds(parameter):
-    words = parameter.replace('*', ' * ').split()
-    if words[0] == 'size_t':
-        return 'length'
-    if '*' in words or '[' in parameter:
-        return ('const ' if words[0] == 'const' else 'mut ') + NUMBERS[words[1] if words[0] == 'const' else words[0]]
-    return NUMBERS[words[0]]
+def c_parameters(parameter):
+    kind, name = re.fullmatch(r'(.*?[\s*])(\w+)(?:\[\w+\])?', parameter, re.S).groups()
+    words = kind.replace('*', ' ').split()
+    if words == ['size_t']:
+        return [(name, 'length')]
+    number = NUMBERS[words[-1]]
+    if '*' in kind or '[' in parameter:
+        return [(name, ('const ' if words[0] == 'const' else 'mut ') + number)]
+    return [(name, number)]
 
 
-def raw_kinds(parameter):
-    kind = parameter.split(':')[1].strip()
+def raw_parameters(parameter):
+    name, kind = (part.strip() for part in parameter.split(':'))
     pointer = re.fullmatch(r'\*(mut|const) (\w+)', kind)
     if pointer:
-        return f'{pointer.group(1)} {NUMBERS[pointer.group(2)]}'
-    return 'length' if kind == 'usize' else NUMBERS[kind]
+        return [(name, f'{pointer.group(1)} {NUMBERS[pointer.group(2)]}')]
+    return [(name, 'length' if kind == 'usize' else NUMBERS[kind])]
 
 
-def parameters(text):
-    return [part.strip() for part in text.split(',') if part.strip()]
+def functions(text, form, parameters):
+    return {name: [pair for part in inside.split(',') if part.strip() for pair in parameters(part.strip())]
+            for name, inside in re.findall(form, text, re.S)}
 
 
-def functions(text, form, kinds):
-    found = {}
-    for name, inside in re.findall(form, text, re.S):
-        listed = [kinds(part) for part in parameters(inside)]
-        found[name] = [kind for part in listed for kind in (part if isinstance(part, list) else [part])]
-    return found
+@functools.cache
+def exported():
+    return functions(read('crates/oatcastle/src'), r'pub extern "C" fn (\w+)(?:<[^>]*>)?\((.*?)\) -> u32', rattle_parameters)
 
+
+def declared(texts):
+    return functions(texts[HEADER], r'\nuint32_t (\w+)\((.*?)\);', c_parameters)
+
+
+def bound(texts):
+    return functions(texts[RAW], r'fn (\w+)\((.*?)\) -> u32;', raw_parameters)
+
+
+def function_faults(texts):
+    wanted = exported()
+    for where, found in (('the header', declared(texts)), (RAW, bound(texts))):
+        for name in sorted(wanted.keys() | found.keys()):
+            if wanted.get(name) != found.get(name):
+                yield f'{name}: {where} has {found.get(name)}, the crate {wanted.get(name)}'
+
+
+# ---- Numbers
 
 def constants(*paths):
-    """The `const` numbers of some Rattle files, worked out in their order; a path of another module is cut to its last word, and a cast is left out."""
+    """The `const` numbers of some files, worked out in their order; a path of another module is cut to its last word, and a cast is left out."""
     known = {}
     for path in paths:
         for name, value in re.findall(r'const (\w+): \w+ =\s+([^;]+);', read(path)):
@@ -66,40 +101,207 @@ def constants(*paths):
     return known
 
 
-def lengths(known):
-    """The header's constant for each of the crates'."""
-    places = {'BSU': known['BSU_PLACE'], 'MODEL': known['IDENTITY_PLACE'], 'REVISION': known['IDENTITY_PLACE'] + 11,
-              'SERIAL': known['IDENTITY_PLACE'] + 15, 'MAC_BASE': known['MAC_PLACE'], 'MAC_COUNT': known['MAC_PLACE'] + 6,
-              'MAC_STRIDE': known['MAC_PLACE'] + 8, 'IMAGE_HASH': known['HASH_PLACE'], 'IMAGE_ID_LENGTH': known['IMAGE_ID_LENGTH_PLACE'],
-              'IMAGE_ID': known['IMAGE_ID_PLACE'], 'ITEMS': known['ITEMS_PLACE'], 'ITEM_COUNT': known['ITEM_COUNT_PLACE'],
-              'LENGTH': known['START_LENGTH']}
-    wanted = {f'START_{name}': place for name, place in places.items()}
-    wanted.update({name: known[name] for name in ('OUTBOX_LENGTH', 'FACTORY_LENGTH', 'SETTINGS_LENGTH', 'REGISTERS_LENGTH', 'LONGEST_DATA',
-                                                  'LONGEST_ALERT', 'MOST_KEPT', 'MOST_PENDING', 'MOST_ALERTS', 'MOST_ITEMS', 'ITEM_LENGTH')})
-    wanted.update({'READER_LENGTH': known['STATE_LENGTH'], 'LONGEST_FRAME': known['LONGEST_FORM'] + 1, 'LONGEST_VALUE': known['LONGEST_KEY_4'],
-                   'ITEM_DATA_LENGTH': known['ITEM_DATA_LENGTH_PLACE'], 'ITEM_DATA': known['ITEM_DATA_PLACE']})
-    wanted.update({'ADDRESS_LENGTH': known['ADDRESS_LENGTH'], 'ADDRESS_ROWS': known['ROWS'], 'ADDRESSES_LENGTH': known['ADDRESS_LENGTH'] * known['ROWS']})
-    return wanted
+def the_one(what, values):
+    found = set(values)
+    if len(found) != 1:
+        sys.exit(f'interface.py: {what} has {sorted(found)} in the crates, where one number was looked for')
+    return found.pop()
+
+
+def arms(text):
+    """For each variant of an enum that a `match` of the text answers with numbers: the number returned, or kind and reason of an answer."""
+    found = {}
+    for variant, number in re.findall(r'\b(\w+::\w+)(?:\(\w+\))? => (\d+),', text):
+        found.setdefault(variant, []).append(int(number))
+    for variant, kind, reason in re.findall(r'\b(\w+::\w+)(?:\(\w+\))? => \{?\s*tell\(\s*answer,\s*\[\s*used,\s*(\d+),\s*(\w+)', text):
+        found.setdefault(variant, []).append((int(kind), reason))
+    return found
+
+
+def told(text):
+    """How many numbers each definition of what a call tells gives."""
+    found = {}
+    for name, given in re.findall(r'^(\w+)[^\n]*\bgiven \(([^\n]*∷ \[\])\)', text, re.M):
+        found.setdefault(name, []).append(given.count('∷'))
+    return {name: the_one(name, counts) for name, counts in found.items()}
+
+
+def places(text, known):
+    """The place of each field that the view reads: those of the factory store, and those of an item from its start on."""
+    found = {}
+    for name, place in re.findall(r'^  ([\w-]+) = (?:numberAt \d+ f|run) (Layout\.[\w-]+|\(Layout\.[^)]*\))[^\n]*;$', text, re.M):
+        words = re.sub(r'Layout\.item-place i', '0', place.strip('()'))
+        found[name] = eval(re.sub(r'Layout\.([\w-]+)', lambda m: m.group(1).upper().replace('-', '_'), words), {}, known)
+    return found
+
+
+def refusals():
+    answered = arms(read('crates/oatcastle/src'))
+    named = {'DONE': ('Started::Done', 'Posted::Done', 'OptionsSet::Done'), 'NO_ROOM': ('Written::NoRoom',),
+             'TOO_LONG': ('Written::TooLong', 'Handed::TooLong', 'Posted::TooLong'), 'ALERTS_FULL': ('Posted::Full',),
+             'BAD_START': ('Started::BadData',), 'BAD_STATE': ('Started::Refused', 'Received::Refused', 'Answer::Refused'),
+             'BAD_VALUE': ('Posted::BadAction', 'OptionsSet::BadOption'), 'PLAN_PASSES': ('Planned::Passes',)}
+    return {name: the_one(name, (n for variant in variants for n in answered[variant])) for name, variants in named.items()}
+
+
+def kinds():
+    answered = arms(read('crates/oatcastle/src'))
+    named = {'MORE': ('Answer::More', 'Outcome::More'), 'EMPTY': ('Answer::Empty', 'Outcome::Empty'), 'MESSAGE': ('Answer::Message', 'Outcome::Request'),
+             'FAILURE': ('Answer::BadForm', 'Answer::BadLength', 'Answer::BadChecksum', 'Answer::BadMagic', 'Outcome::Failure')}
+    return {name: the_one(name, (kind for variant in variants for kind, _ in answered[variant])) for name, variants in named.items()}
+
+
+def reasons():
+    answered = arms(read('crates/oatcastle/src'))
+    tested = read('crates/requests/specs/Requests.antt')
+    found = {name: the_one(name, (int(reason) for _, reason in answered[f'Answer::Bad{name.title()}'])) for name in ('FORM', 'CHECKSUM', 'LENGTH', 'MAGIC')}
+    for name, test in (('VERSION', r'\(m \.version\) 1\)\)'), ('SEQUENCE', r'leb \(2 \^ 63\) \(m \.sequence\)\)'), ('DATA', r'lengthAllowed [^\n]*\)\)')):
+        found[name] = the_one(name, map(int, re.findall(test + r' \(failure (\d+) ', tested)))
+    return {f'REASON_{name}': number for name, number in found.items()}
+
+
+def answer_counts():
+    counted = told(read('crates/oatcastle/specs'))
+    named = {'LINE_READ': 'readTold', 'LINE_TAIL': 'tailTold', 'LINE_WRITE': 'writeTold', 'LINE_CHECKSUM': 'lineChecksumCall', 'STEP': 'stepTold',
+             'TAKE': 'takeTold', 'LOOKUP': 'lookupTold', 'SIGNAL': 'signalTold', 'FLAGS': 'flagsTold', 'RECORD': 'recordTold'}
+    return {f'{name}_NUMBERS': counted[definition] for name, definition in named.items()}
+
+
+def limits():
+    known = constants('crates/line/src/limits.rt', 'crates/line/src/reader.rt', 'crates/supervisor/src/layout.rt', 'crates/addresses/src/lib.rt')
+    found = {name: known[name] for name in ('OUTBOX_LENGTH', 'FACTORY_LENGTH', 'SETTINGS_LENGTH', 'REGISTERS_LENGTH', 'LONGEST_DATA', 'LONGEST_ALERT',
+                                            'MOST_KEPT', 'MOST_PENDING', 'MOST_ALERTS', 'MOST_ITEMS', 'START_LENGTH', 'ITEM_LENGTH')}
+    at = places(read('crates/supervisor_claims/specs/View.antt'), known)
+    start = {'MODEL': at['model'], 'REVISION': at['revision'], 'SERIAL': at['serial'], 'MAC_BASE': at['base'], 'MAC_COUNT': at['count'],
+             'MAC_STRIDE': at['stride'], 'IMAGE_HASH': at['hash'], 'IMAGE_ID': at['image-id'], 'BSU': known['BSU_PLACE'],
+             'IMAGE_ID_LENGTH': known['IMAGE_ID_LENGTH_PLACE'], 'ITEMS': known['ITEMS_PLACE'], 'ITEM_COUNT': known['ITEM_COUNT_PLACE']}
+    item = {'RESULT': at['result'], 'NAME': at['name'], 'TYPE': at['type'], 'DATA': at['payload'], 'DATA_LENGTH': known['ITEM_DATA_LENGTH_PLACE']}
+    found.update({f'START_{name}': place for name, place in start.items()})
+    found.update({f'ITEM_{name}': place for name, place in item.items()})
+    found.update({'READER_LENGTH': known['STATE_LENGTH'], 'LONGEST_FRAME': known['LONGEST_FORM'] + 1,
+                  'ADDRESS_LENGTH': known['ADDRESS_LENGTH'], 'ADDRESS_ROWS': known['ROWS'], 'ADDRESSES_LENGTH': known['ADDRESS_LENGTH'] * known['ROWS'],
+                  'LONGEST_VALUE': max(known[f'LONGEST_KEY_{key}'] for key in (3, 4, 5))})
+    return found
+
+
+@functools.cache
+def wanted_numbers():
+    """The header's constants by what the crates have: one entry for each #define."""
+    return {**refusals(), **kinds(), **reasons(), **answer_counts(), **limits()}
+
+
+def defined(texts):
+    """Every #define of the header but its guard, as its text."""
+    lines = re.findall(r'^[ \t]*#[ \t]*define[ \t]+(\w+)(?:\(.*?\))?[ \t]*(.*?)[ \t]*(?:/\*.*)?$', texts[HEADER], re.M)
+    return {name.removeprefix('OATCASTLE_'): value for name, value in lines if name != 'OATCASTLE_H'}
+
+
+def number_faults(texts):
+    wanted = wanted_numbers()
+    found = defined(texts)
+    for name in sorted(wanted.keys() | found.keys()):
+        value = re.fullmatch(r'(\d+)u?', found.get(name, ''))
+        if name not in wanted:
+            yield f'OATCASTLE_{name}: the header has it, and nothing here says what the crates have'
+        elif not value or int(value.group(1)) != wanted[name]:
+            yield f'OATCASTLE_{name}: the header has {found.get(name)}, the crates {wanted[name]}'
+
+
+def wrapper_numbers(texts):
+    """The wrapper's constants, its parts' lengths and the numbers of its two enums, by the header's names."""
+    text = ''.join(texts[path] for path in WRAPPER)
+    for name, value in re.findall(r'const (\w+): usize = (\d+);', text):
+        if name in CONSTANTS:
+            yield CONSTANTS[name], int(value)
+    for name, value in re.findall(PARTS, text):
+        yield f'{name.upper()}_LENGTH', int(value)
+    for kind, prefix in (('Refusal', ''), ('Reason', 'REASON_')):
+        listed = re.search(rf'pub enum {kind} \{{(.*?)\n\}}', text, re.S).group(1)
+        pairs = re.findall(r'^    (\w+) = (\d+),', listed, re.M) + [(b, a) for a, b in re.findall(rf'(\d+) => {kind}::(\w+),', text)]
+        for variant, value in pairs:
+            yield prefix + re.sub(r'(?<!^)(?=[A-Z])', '_', variant).upper(), int(value)
+
+
+def wrapper_faults(texts):
+    wanted = wanted_numbers()
+    for name, value in wrapper_numbers(texts):
+        if wanted.get(name) != value:
+            yield f'OATCASTLE_{name}: bindings/rust/src has {value}, the crates {wanted.get(name)}'
+
+
+def as_written():
+    return {path: read(path) for path in (HEADER, RAW, *WRAPPER)}
+
+
+def faults(texts):
+    """Where the texts by hand and the crates differ."""
+    return [*function_faults(texts), *number_faults(texts), *wrapper_faults(texts)]
+
+
+# ---- Planted changes
+
+def raised(path, text, form):
+    """Each number of a form in the text, one more."""
+    for found in re.finditer(form, text):
+        yield path, f'one more than in {found.group(0).strip()}', text[:found.start(1)] + str(int(found.group(1)) + 1) + text[found.end(1):]
+
+
+def exchanged(path, text, form, name):
+    """Each two neighbouring parameters of a function, with their names exchanged."""
+    for function in re.finditer(form, text, re.S):
+        names = list(re.finditer(name, function.group(2)))
+        for one, other in zip(names, names[1:]):
+            a, b, c, d = (function.start(2) + place for place in (*one.span(1), *other.span(1)))
+            yield path, f'{one.group(1)} and {other.group(1)} exchanged in {function.group(1)}', text[:a] + text[c:d] + text[b:c] + text[a:b] + text[d:]
+
+
+def replaced(path, text, what, old, new):
+    assert old in text, f'{path} has no {old}'
+    return path, what, text.replace(old, new, 1)
+
+
+def planted(texts):
+    """Each change: the file, what is changed, and the file's text with it."""
+    header, raw = texts[HEADER], texts[RAW]
+    yield from raised(HEADER, header, r'#define OATCASTLE_\w+ (\d+)u?')
+    yield from exchanged(HEADER, header, r'\nuint32_t (\w+)\((.*?)\);', r'(\w+)(?=(?:\[\w+\])?(?:,|$))')
+    yield from exchanged(RAW, raw, r'fn (\w+)\((.*?)\) -> u32;', r'(\w+)(?=:)')
+    yield replaced(HEADER, header, 'a #define taken out', '#define OATCASTLE_STEP_NUMBERS', '// OATCASTLE_STEP_NUMBERS')
+    yield replaced(HEADER, header, 'a #define put in', '#define OATCASTLE_DONE', '#define OATCASTLE_OTHER 1\n#define OATCASTLE_DONE')
+    yield replaced(HEADER, header, 'a #define of another form', '#define OATCASTLE_NO_ROOM 8u', '#define OATCASTLE_NO_ROOM (8u + 1u)')
+    yield replaced(HEADER, header, 'a const left out', 'const uint8_t *piece', 'uint8_t *piece')
+    yield replaced(HEADER, header, 'a wider number', 'uint16_t maxresponse', 'uint32_t maxresponse')
+    yield replaced(HEADER, header, 'a function taken out', 'uint32_t oatcastle_flags(', '// uint32_t oatcastle_flags(')
+    yield replaced(RAW, raw, 'a mut for a const', '*const', '*mut')
+    yield replaced(RAW, raw, 'a narrower number', 'sequence: u64', 'sequence: u32')
+    yield replaced(RAW, raw, 'a function by another name', 'oatcastle_panic', 'oatcastle_panics')
+    for path in WRAPPER:
+        yield from raised(path, texts[path], rf'(?:{"|".join(CONSTANTS)}): usize = (\d+);')
+        yield from raised(path, texts[path], PARTS.replace('(reader', '(?:reader'))
+    yield from raised(WRAPPER[0], texts[WRAPPER[0]], r'\n    [A-Z]\w+ = (\d+),')
+    yield from raised(WRAPPER[0], texts[WRAPPER[0]], r'\n +(\d+) => Re\w+::\w+')
+
+
+def try_planted():
+    texts = as_written()
+    changes = list(planted(texts))
+    unseen = [f'{path}: {what}' for path, what, text in changes if not faults({**texts, path: text})]
+    for line in unseen:
+        print('not seen: ' + line)
+    print(f'interface: {len(changes)} changes planted, {len(unseen)} not seen')
+    return 1 if unseen else 0
 
 
 def main():
-    header = read('include/oatcastle.h')
-    source = ''.join(path.read_text() for path in sorted((ROOT / 'crates/oatcastle/src').glob('*.rt')))
-    exported = functions(source, r'pub extern "C" fn (\w+)(?:<[^>]*>)?\((.*?)\) -> u32', rattle_kinds)
-    declared = functions(header, r'\nuint32_t (\w+)\((.*?)\);', c_kinds)
-    bound = functions(read('bindings/rust/src/raw.rs'), r'fn (\w+)\((.*?)\) -> u32;', raw_kinds)
-    faults = [f'{name}: {where} has {other.get(name)}, the crate {exported.get(name)}'
-              for where, other in (('the header', declared), ('raw.rs', bound))
-              for name in sorted(exported.keys() | other.keys()) if exported.get(name) != other.get(name)]
-    known = constants('crates/line/src/limits.rt', 'crates/line/src/reader.rt', 'crates/supervisor/src/layout.rt', 'crates/addresses/src/lib.rt')
-    defined = {name: int(value) for name, value in re.findall(r'#define OATCASTLE_(\w+) (\d+)\b', header)}
-    wanted = lengths(known)
-    faults += [f'OATCASTLE_{name}: the header has {defined.get(name)}, the crates {value}' for name, value in wanted.items() if defined.get(name) != value]
-    for fault in faults:
+    texts = as_written()
+    found = faults(texts)
+    for fault in found:
         print(fault)
-    print(f'interface: {len(exported)} functions and {len(wanted)} constants compared, {len(faults)} differ')
-    return 1 if faults or not exported else 0
+    print(f'interface: {len(exported())} functions, {len(wanted_numbers())} constants and {len(list(wrapper_numbers(texts)))} numbers of the wrapper compared, {len(found)} differ')
+    return 1 if found or not exported() else 0
 
 
 if __name__ == '__main__':
-    sys.exit(main())
+    if sys.argv[1:] not in ([], ['planted']):
+        sys.exit(__doc__)
+    sys.exit(try_planted() if sys.argv[1:] else main())
