@@ -1,6 +1,7 @@
 // Defines the benchmark: the static library through the crate `oatcastle` against ordinary Rust, in one process, as ratios of time.
 // Assumes a quiet machine; both sides' outputs are compared before anything is timed. Writes CSV to standard output.
 
+mod link;
 mod ordinary;
 
 use oatcastle::{checksum, write_frame, Bsu, LineReader, ReadEnd, StartData, Supervisor, LONGEST_FRAME};
@@ -177,6 +178,8 @@ fn main() {
         serving("key 4 set to 4096 zeros", &[], 0x10, &set_zeros),
         serving("status request", &[], 0x08, &[]),
         summing("checksum of 4121 bytes", &body),
+        link::reading("root-of-trust message of 512 bytes", oatcastle::rot::Type::SinkRequest, &random[..512]),
+        link::reading("root-of-trust echo of 512 bytes", oatcastle::rot::Type::EchoRequest, &random[..512]),
     ];
     println!("case,bytes,library ns,ordinary ns,ratio");
     for case in &mut cases {

@@ -4,9 +4,9 @@
  *
  * What every call has in common
  *
- *   Result    0: the call was carried out. Any other number is a refusal, one of OATCASTLE_NO_ROOM to OATCASTLE_PLAN_PASSES
+ *   Result    0: the call was carried out. Any other number is a refusal, one of OATCASTLE_NO_ROOM to OATCASTLE_ROT_BAD_TYPE
  *             below; which numbers a call can return stands with it. Where several apply, the first of 12, 13, 9, 11, 10, 8
- *             is returned. A refused call leaves every byte and every number that it was lent as it was.
+ *             is returned; the oatcastle_rot_ calls have an order of their own, which stands with them. A refused call leaves every byte and every number that it was lent as it was.
  *   Memory    The caller owns all memory; the library allocates nothing, keeps no pointer after a call and has no state of
  *             its own. All state lies in the parts that the caller lends: a reader, an outbox, a factory store, a settings
  *             store and registers for a supervisor, or a reader alone for the line layer. Nobody but these calls writes a
@@ -44,6 +44,14 @@ extern "C" {
 #define OATCASTLE_BAD_VALUE 13u     /* an option bit above 8, or alert action 0 */
 #define OATCASTLE_PLAN_PASSES 16u   /* the last counted address of a plan passes ff:ff:ff:ff:ff:ff */
 
+#define OATCASTLE_ROT_NO_INPUT 20u      /* these come from the oatcastle_rot_ calls alone */
+#define OATCASTLE_ROT_BAD_PROTOCOL 21u  /* neither 0 nor 1 */
+#define OATCASTLE_ROT_SHORT_HEADER 22u  /* fewer than 8 bytes */
+#define OATCASTLE_ROT_TOO_LONG 23u      /* a payload length over 512 */
+#define OATCASTLE_ROT_CUT_SHORT 24u     /* fewer bytes of payload than the header says */
+#define OATCASTLE_ROT_BAD_CRC 25u
+#define OATCASTLE_ROT_BAD_TYPE 26u      /* not 1 to 9 */
+
 /* ---- Published lengths of the lent parts, in bytes */
 
 #define OATCASTLE_READER_LENGTH 4142    /* the line layer's reader; also the `state` of the oatcastle_line_ calls */
@@ -69,6 +77,10 @@ extern "C" {
 #define OATCASTLE_ADDRESS_ROWS 8        /* addresses that oatcastle_addresses gives */
 #define OATCASTLE_ADDRESSES_LENGTH 48   /* bytes of these */
 
+#define OATCASTLE_ROT_HEADER_LENGTH 8       /* a root-of-trust message ahead of its payload */
+#define OATCASTLE_ROT_LONGEST_PAYLOAD 512   /* its payload */
+#define OATCASTLE_ROT_LONGEST_MESSAGE 520   /* the whole of it */
+
 /* ---- How many numbers each call answers */
 
 #define OATCASTLE_LINE_READ_NUMBERS 7
@@ -81,6 +93,9 @@ extern "C" {
 #define OATCASTLE_SIGNAL_NUMBERS 1
 #define OATCASTLE_FLAGS_NUMBERS 2
 #define OATCASTLE_RECORD_NUMBERS 4
+#define OATCASTLE_ROT_READ_NUMBERS 3
+#define OATCASTLE_ROT_WRITE_NUMBERS 1
+#define OATCASTLE_ROT_CRC_NUMBERS 1
 
 /* ---- How a piece ended: the kind in the answers of oatcastle_line_read and oatcastle_step */
 
@@ -96,6 +111,22 @@ extern "C" {
 #define OATCASTLE_REASON_VERSION 5u     /* this and those below come from oatcastle_step alone */
 #define OATCASTLE_REASON_SEQUENCE 6u    /* the top bit of the sequence is set already */
 #define OATCASTLE_REASON_DATA 7u        /* the data have the wrong length for the command */
+
+/* ---- The root-of-trust link: the kind in the answer of oatcastle_rot_read, and the types */
+
+#define OATCASTLE_ROT_NOTHING 0u    /* protocol 0: nothing was sent */
+#define OATCASTLE_ROT_MESSAGE 1u    /* a message is handed out */
+#define OATCASTLE_ROT_ECHOED 2u     /* an echo request is answered */
+
+#define OATCASTLE_ROT_ERROR_RESPONSE 1u
+#define OATCASTLE_ROT_ECHO_REQUEST 2u
+#define OATCASTLE_ROT_ECHO_RESPONSE 3u
+#define OATCASTLE_ROT_STATUS_REQUEST 4u
+#define OATCASTLE_ROT_STATUS_RESPONSE 5u
+#define OATCASTLE_ROT_SPROCKETS_REQUEST 6u
+#define OATCASTLE_ROT_SPROCKETS_RESPONSE 7u
+#define OATCASTLE_ROT_SINK_REQUEST 8u
+#define OATCASTLE_ROT_SINK_RESPONSE 9u
 
 /* ---- The start data: 1,721 bytes, one field after the other, no padding. A place is a byte offset. */
 
@@ -231,6 +262,30 @@ uint32_t oatcastle_addresses(const uint8_t base[OATCASTLE_ADDRESS_LENGTH], uint1
 /* Whether every counted address, base plus (count - 1) times stride the last of them, is at most ff:ff:ff:ff:ff:ff; a plan that counts none always fits.
  * 0; 16: the last counted address passes that. */
 uint32_t oatcastle_plan(const uint8_t base[OATCASTLE_ADDRESS_LENGTH], uint16_t count, uint8_t stride);
+
+/* ==== The root-of-trust link: messages of version 1 over SPI. There is no state. */
+
+/* Reads what came: one message, from the first byte on; bytes past its payload are ignored. An echo request is answered: the echo response goes
+ * to the start of out. Any other message is handed out, and out stays. The payload lies in the input, behind OATCASTLE_ROT_HEADER_LENGTH bytes.
+ * answer[0]  OATCASTLE_ROT_NOTHING, OATCASTLE_ROT_MESSAGE or OATCASTLE_ROT_ECHOED
+ * answer[1]  a message's type, 1 to 9 but not 2; else 0
+ * answer[2]  how many bytes a message's payload has, or the echo response in out; else 0
+ * 0; else the first of 20, 21, 22, 23, 24, 25, 26, 8: out is too short for the echo response, or the answer is too short. */
+uint32_t oatcastle_rot_read(const uint8_t *input, size_t input_length, uint8_t *out, size_t out_length, uint64_t *answer, size_t answer_count);
+
+/* Copies to the room the payload of the message that oatcastle_rot_read hands out; nothing where it hands out none.
+ * 0; 8: the room is shorter than the payload. */
+uint32_t oatcastle_rot_payload(const uint8_t *input, size_t input_length, uint8_t *room, size_t room_length);
+
+/* Writes a message to the start of out; bytes of out past it stay.
+ * answer[0]  the message's length
+ * 0; else the first of 23: more than 512 bytes of payload; 26: a type that is not 1 to 9; 8: out or the answer is too short. */
+uint32_t oatcastle_rot_write(uint8_t kind, const uint8_t *payload, size_t payload_length, uint8_t *out, size_t out_length, uint64_t *answer, size_t answer_count);
+
+/* The CRC of some bytes: polynomial 04c11db7, top bit first, start 0, complemented at the end.
+ * answer[0]  the CRC, 0 to 4,294,967,295
+ * 0; 8: the answer is too short. */
+uint32_t oatcastle_rot_crc(const uint8_t *bytes, size_t bytes_length, uint64_t *answer, size_t answer_count);
 
 #ifdef __cplusplus
 }

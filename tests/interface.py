@@ -14,10 +14,13 @@ import sys
 ROOT = pathlib.Path(__file__).resolve().parent.parent
 HEADER = 'include/oatcastle.h'
 RAW = 'bindings/rust/src/raw.rs'
-WRAPPER = tuple(f'bindings/rust/src/{name}.rs' for name in ('lib', 'line', 'start', 'supervisor'))
+WRAPPER = tuple(f'bindings/rust/src/{name}.rs' for name in ('lib', 'line', 'rot', 'start', 'supervisor'))
 # The wrapper's constants, and the header's name for each.
 CONSTANTS = {'START_LENGTH': 'START_LENGTH', 'ITEMS': 'MOST_ITEMS', 'ITEM_LENGTH': 'ITEM_LENGTH', 'COUNT_PLACE': 'START_ITEM_COUNT',
-             'LONGEST_FRAME': 'LONGEST_FRAME', 'STATE_LENGTH': 'READER_LENGTH'}
+             'LONGEST_FRAME': 'LONGEST_FRAME', 'STATE_LENGTH': 'READER_LENGTH', 'HEADER_LENGTH': 'ROT_HEADER_LENGTH',
+             'LONGEST_PAYLOAD': 'ROT_LONGEST_PAYLOAD', 'LONGEST_MESSAGE': 'ROT_LONGEST_MESSAGE'}
+# The wrapper's name for one of the link's refusals that another call has too.
+LINK_REFUSALS = {'PAYLOAD_TOO_LONG': 'ROT_TOO_LONG'}
 # The parts that the wrapper owns.
 PARTS = r'\n    (reader|outbox|factory|settings|registers): \[u8; (\d+)\],'
 NUMBERS = {'u8': 'u8', 'u16': 'u16', 'u32': 'u32', 'u64': 'u64', 'usize': 'u64',
@@ -29,6 +32,12 @@ def read(path):
     """A file's text, or that of every file of a folder."""
     found = ROOT / path
     return ''.join(f.read_text() for f in (sorted(found.iterdir()) if found.is_dir() else [found]))
+
+
+@functools.cache
+def library(link):
+    """The code of crates/oatcastle: the root-of-trust link's file, or all others."""
+    return ''.join(f.read_text() for f in sorted((ROOT / 'crates/oatcastle/src').iterdir()) if (f.name == 'rot_link.rt') == link)
 
 
 # ---- Functions: of each the list of (name, kind) that C passes
@@ -136,7 +145,7 @@ def places(text, known):
 
 
 def refusals():
-    answered = arms(read('crates/oatcastle/src'))
+    answered = arms(library(link=False))
     named = {'DONE': ('Started::Done', 'Posted::Done', 'OptionsSet::Done'), 'NO_ROOM': ('Written::NoRoom',),
              'TOO_LONG': ('Written::TooLong', 'Handed::TooLong', 'Posted::TooLong'), 'ALERTS_FULL': ('Posted::Full',),
              'BAD_START': ('Started::BadData',), 'BAD_STATE': ('Started::Refused', 'Received::Refused', 'Answer::Refused'),
@@ -145,14 +154,14 @@ def refusals():
 
 
 def kinds():
-    answered = arms(read('crates/oatcastle/src'))
+    answered = arms(library(link=False))
     named = {'MORE': ('Answer::More', 'Outcome::More'), 'EMPTY': ('Answer::Empty', 'Outcome::Empty'), 'MESSAGE': ('Answer::Message', 'Outcome::Request'),
              'FAILURE': ('Answer::BadForm', 'Answer::BadLength', 'Answer::BadChecksum', 'Answer::BadMagic', 'Outcome::Failure')}
     return {name: the_one(name, (kind for variant in variants for kind, _ in answered[variant])) for name, variants in named.items()}
 
 
 def reasons():
-    answered = arms(read('crates/oatcastle/src'))
+    answered = arms(library(link=False))
     tested = read('crates/requests/specs/Requests.antt')
     found = {name: the_one(name, (int(reason) for _, reason in answered[f'Answer::Bad{name.title()}'])) for name in ('FORM', 'CHECKSUM', 'LENGTH', 'MAGIC')}
     for name, test in (('VERSION', r'\(m \.version\) 1\)\)'), ('SEQUENCE', r'leb \(2 \^ 63\) \(m \.sequence\)\)'), ('DATA', r'lengthAllowed [^\n]*\)\)')):
@@ -160,10 +169,28 @@ def reasons():
     return {f'REASON_{name}': number for name, number in found.items()}
 
 
+def root_of_trust():
+    """The link's refusals, kinds of answer, message types and lengths."""
+    text = library(link=True)
+    named = {'NO_INPUT': 'NoInput', 'BAD_PROTOCOL': 'BadProtocol', 'SHORT_HEADER': 'ShortHeader', 'TOO_LONG': 'TooLong', 'CUT_SHORT': 'CutShort',
+             'BAD_CRC': 'BadCrc', 'BAD_TYPE': 'BadType'}
+    found = {name: the_one(name, arms(text)[f'Refusal::{variant}']) for name, variant in named.items()}
+    told_kinds = {variant: int(kind) for variant, kind in re.findall(r'Answer::(\w+)(?:\(\w+\))? => tell\(\s*answer,\s*\[(\d+),', text)}
+    found.update({name: told_kinds[name.title()] for name in ('NOTHING', 'MESSAGE', 'ECHOED')})
+    known = constants('crates/rot/src/limits.rt')
+    found.update({'HEADER_LENGTH': known['HEADER_LENGTH'], 'LONGEST_PAYLOAD': known['LONGEST_PAYLOAD'],
+                  'LONGEST_MESSAGE': known['HEADER_LENGTH'] + known['LONGEST_PAYLOAD']})
+    # source document 003's types in its order, of which the crate names those that its code goes by
+    types = ('ERROR_RESPONSE', 'ECHO_REQUEST', 'ECHO_RESPONSE', 'STATUS_REQUEST', 'STATUS_RESPONSE', 'SPROCKETS_REQUEST', 'SPROCKETS_RESPONSE', 'SINK_REQUEST',
+             'SINK_RESPONSE')
+    found.update({name: known.get(name, known['ERROR_RESPONSE'] + i) for i, name in enumerate(types)})
+    return {f'ROT_{name}': number for name, number in found.items()}
+
+
 def answer_counts():
     counted = told(read('crates/oatcastle/specs'))
     named = {'LINE_READ': 'readTold', 'LINE_TAIL': 'tailTold', 'LINE_WRITE': 'writeTold', 'LINE_CHECKSUM': 'lineChecksumCall', 'STEP': 'stepTold',
-             'TAKE': 'takeTold', 'LOOKUP': 'lookupTold', 'SIGNAL': 'signalTold', 'FLAGS': 'flagsTold', 'RECORD': 'recordTold'}
+             'TAKE': 'takeTold', 'ROT_WRITE': 'rotWriteTold', 'ROT_READ': 'rotReadTold', 'ROT_CRC': 'rotCrcCall', 'LOOKUP': 'lookupTold', 'SIGNAL': 'signalTold', 'FLAGS': 'flagsTold', 'RECORD': 'recordTold'}
     return {f'{name}_NUMBERS': counted[definition] for name, definition in named.items()}
 
 
@@ -187,7 +214,7 @@ def limits():
 @functools.cache
 def wanted_numbers():
     """The header's constants by what the crates have: one entry for each #define."""
-    return {**refusals(), **kinds(), **reasons(), **answer_counts(), **limits()}
+    return {**refusals(), **kinds(), **reasons(), **answer_counts(), **root_of_trust(), **limits()}
 
 
 def defined(texts):
@@ -215,11 +242,12 @@ def wrapper_numbers(texts):
             yield CONSTANTS[name], int(value)
     for name, value in re.findall(PARTS, text):
         yield f'{name.upper()}_LENGTH', int(value)
-    for kind, prefix in (('Refusal', ''), ('Reason', 'REASON_')):
+    for kind, prefix in (('Refusal', ''), ('Reason', 'REASON_'), ('Type', 'ROT_')):
         listed = re.search(rf'pub enum {kind} \{{(.*?)\n\}}', text, re.S).group(1)
         pairs = re.findall(r'^    (\w+) = (\d+),', listed, re.M) + [(b, a) for a, b in re.findall(rf'(\d+) => {kind}::(\w+),', text)]
         for variant, value in pairs:
-            yield prefix + re.sub(r'(?<!^)(?=[A-Z])', '_', variant).upper(), int(value)
+            name = prefix + re.sub(r'(?<!^)(?=[A-Z])', '_', variant).upper()
+            yield LINK_REFUSALS.get(name, name if name in wanted_numbers() else f'ROT_{name}'), int(value)
 
 
 def wrapper_faults(texts):

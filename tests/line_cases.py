@@ -3,7 +3,7 @@
 
 usage: tests/line_cases.py input | expected
 
-input:    the first part of the program's standard input, one command a line
+input:    the second part of the program's standard input, one command a line
 expected: what it must write there, from the model of document 01 below
 tests/cases.py puts them ahead of the supervisor's.
 

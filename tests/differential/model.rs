@@ -75,6 +75,13 @@ faults! {
     PlanRowsKept: "an address plan that passes keeps its rows",
     PlanCarryOneByte: "the stride of an address plan carries into one byte alone",
     PlanLowestFirst: "rows of an address plan have the lowest byte first",
+    CrcLowBitFirst: "the root-of-trust CRC takes the low bit first",
+    CrcNotComplemented: "the root-of-trust CRC is not complemented",
+    CrcOverRest: "the root-of-trust CRC is taken over bytes past the payload too",
+    EchoUnderRequestCrc: "the echo's answer carries the request's CRC",
+    HeaderBeforeProtocol: "22 is tested ahead of 21",
+    TypeBeforeCrc: "26 is tested ahead of 25",
+    Payload513: "a payload of 513 bytes is let through",
 }
 
 static FAULT: AtomicUsize = AtomicUsize::new(0);

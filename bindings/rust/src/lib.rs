@@ -6,6 +6,7 @@
 mod line;
 mod plan;
 mod raw;
+pub mod rot;
 mod start;
 mod supervisor;
 
@@ -32,6 +33,20 @@ pub enum Refusal {
     BadValue = 13,
     /// The last counted address of a plan passes ff:ff:ff:ff:ff:ff.
     PlanPasses = 16,
+    /// Root-of-trust link: no input.
+    NoInput = 20,
+    /// Root-of-trust link: a protocol that is neither 0 nor 1.
+    BadProtocol = 21,
+    /// Root-of-trust link: fewer than 8 bytes.
+    ShortHeader = 22,
+    /// Root-of-trust link: a payload length over 512.
+    PayloadTooLong = 23,
+    /// Root-of-trust link: fewer bytes of payload than the header says.
+    CutShort = 24,
+    /// Root-of-trust link: a wrong CRC.
+    BadCrc = 25,
+    /// Root-of-trust link: a type that is not 1 to 9.
+    BadType = 26,
 }
 
 impl Refusal {
@@ -91,6 +106,13 @@ fn said(number: u32) -> Result<(), Refusal> {
         12 => Refusal::BadState,
         13 => Refusal::BadValue,
         16 => Refusal::PlanPasses,
+        20 => Refusal::NoInput,
+        21 => Refusal::BadProtocol,
+        22 => Refusal::ShortHeader,
+        23 => Refusal::PayloadTooLong,
+        24 => Refusal::CutShort,
+        25 => Refusal::BadCrc,
+        26 => Refusal::BadType,
         _ => unreachable!("no number of the refusal table"),
     })
 }

@@ -48,4 +48,12 @@ extern "C" {
     ) -> u32;
     pub(crate) fn oatcastle_addresses(base: *const u8, count: u16, stride: u8, room: *mut u8, room_length: usize) -> u32;
     pub(crate) fn oatcastle_plan(base: *const u8, count: u16, stride: u8) -> u32;
+    pub(crate) fn oatcastle_rot_read(
+        input: *const u8, input_length: usize, out: *mut u8, out_length: usize, answer: *mut u64, answer_count: usize,
+    ) -> u32;
+    pub(crate) fn oatcastle_rot_payload(input: *const u8, input_length: usize, room: *mut u8, room_length: usize) -> u32;
+    pub(crate) fn oatcastle_rot_write(
+        kind: u8, payload: *const u8, payload_length: usize, out: *mut u8, out_length: usize, answer: *mut u64, answer_count: usize,
+    ) -> u32;
+    pub(crate) fn oatcastle_rot_crc(bytes: *const u8, bytes_length: usize, answer: *mut u64, answer_count: usize) -> u32;
 }

@@ -150,3 +150,33 @@ fn address_plans() {
     let none = AddressPlan { count: 0, ..last };
     assert_eq!((none.addresses(), none.fits()), (Ok([[0; 6]; 8]), Ok(())));
 }
+
+#[test]
+fn root_of_trust() {
+    use oatcastle::rot::{copy_payload, crc, read, write, Received, Type, LONGEST_MESSAGE, LONGEST_PAYLOAD};
+    let asked = [1, 2, 1, 0, 35, 236, 249, 41, 9];
+    let answered = [0x01, 0x03, 0x01, 0x00, 0x94, 0x76, 0x94, 0xf5, 0x09];
+    assert_eq!(crc(&[1, 2, 1, 0, 9]), Ok(0x29f9ec23));
+    let mut out = [0; LONGEST_MESSAGE];
+    assert_eq!(write(Type::EchoRequest, &[9], &mut out), Ok(&asked[..]));
+    assert_eq!(read(&asked, &mut out), Ok(Received::Echoed(&answered)));
+    assert_eq!(read(&asked, &mut [0; 8]), Err(Refusal::NoRoom));
+    let longer = [&answered[..], &[0, 7]].concat();
+    assert_eq!(read(&longer, &mut []), Ok(Received::Message { kind: Type::EchoResponse, payload: &[9] }));
+    let mut room = [0; 2];
+    assert_eq!(copy_payload(&longer, &mut room), Ok(()));
+    assert_eq!(room, [9, 0]);
+    assert_eq!(copy_payload(&longer, &mut []), Err(Refusal::NoRoom));
+    assert_eq!(read(&[0, 5], &mut []), Ok(Received::Nothing));
+    assert_eq!(write(Type::SinkRequest, &[0; LONGEST_PAYLOAD + 1], &mut out), Err(Refusal::PayloadTooLong));
+    let longest = write(Type::SinkRequest, &[7; LONGEST_PAYLOAD], &mut out).unwrap().to_vec();
+    assert_eq!(read(&longest, &mut []), Ok(Received::Message { kind: Type::SinkRequest, payload: &[7; LONGEST_PAYLOAD] }));
+    assert_eq!(read(&longest[..519], &mut []), Err(Refusal::CutShort));
+    assert_eq!(read(&[], &mut []), Err(Refusal::NoInput));
+    assert_eq!(read(&[5], &mut []), Err(Refusal::BadProtocol));
+    assert_eq!(read(&asked[..7], &mut []), Err(Refusal::ShortHeader));
+    assert_eq!(read(&[1, 2, 1, 2, 0, 0, 0, 0], &mut []), Err(Refusal::PayloadTooLong));
+    assert_eq!(read(&[1, 0, 0, 0, 0, 0, 0, 0], &mut []), Err(Refusal::BadCrc));
+    let unlisted = [&[1, 10, 0, 0][..], &crc(&[1, 10, 0, 0]).unwrap().to_le_bytes()].concat();
+    assert_eq!(read(&unlisted, &mut []), Err(Refusal::BadType));
+}

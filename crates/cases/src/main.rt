@@ -1,4 +1,4 @@
-// Runs the cases of tests/cases.py, read from standard input: the line layer's, the address plan's, then the supervisor's.
+// Runs the cases of tests/cases.py, read from standard input: the root-of-trust link's, the line layer's, the address plan's, then the supervisor's.
 // Assumes nothing: a line is at most LINE_ROOM bytes, and what is out of range is passed over.
 mod address_cases;
 mod bytes;
@@ -9,6 +9,9 @@ mod line_run;
 mod local;
 mod output;
 mod receiving;
+mod rot_cases;
+mod rot_print;
+mod rot_run;
 mod supervisor_cases;
 mod supervisor_print;
 mod supervisor_run;
@@ -18,6 +21,8 @@ const LINE_ROOM: usize = 128;
 
 fn main() {
     let mut line = [0u8; LINE_ROOM];
+    rot_cases::run_all(&mut line);
+    output::word(b"%\n");
     line_cases::run_all(&mut line);
     output::word(b"%\n");
     address_cases::run_all(&mut line);

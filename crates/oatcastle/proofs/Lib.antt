@@ -5,3 +5,4 @@ mod LineLaws
 mod SupervisorLaws
 mod ReceiveCallLaws
 mod AddressLaws
+mod RotLaws

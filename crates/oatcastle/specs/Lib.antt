@@ -5,3 +5,4 @@ pub mod LineCalls
 pub mod SupervisorCalls
 pub mod ReceiveCalls
 pub mod AddressCalls
+pub mod RotCalls

@@ -1,8 +1,9 @@
-// The C interface: line layer and supervisor as functions on numbers and lent slices. include/oatcastle.h is its header.
+// The C interface: line layer, supervisor and root-of-trust link as functions on numbers and lent slices. include/oatcastle.h is its header.
 // No function here that others can call has a `requires`; each promise settles the number returned and everything lent.
 pub mod frames;
 pub mod plans;
 pub mod readings;
 pub mod receiving;
+pub mod rot_link;
 pub mod supervision;
 mod telling;

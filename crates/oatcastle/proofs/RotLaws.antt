@@ -1,0 +1,123 @@
+-- Laws of the root-of-trust link's calls in the C interface.
+-- Assumes nothing.
+use mathlib.Core.Path.{_≡_, refl, ap}
+use mathlib.Core.List.{List}
+use Prim.Native.Nat.{ℕ, _≤_, _<_}
+use native.Mathlib.Omega.{arith}
+use borrow.Author.Tests.{lt-ltb}
+use lib.Dec.{eqb, ltb}
+use lib.ListN.{length}
+use Rattle.octets.specs.Bytes.{overlay}
+use Rattle.octets.proofs.Conditions.{cond-by, cond-both}
+use Rattle.rot.specs.Limits.{header-length, longest-payload}
+use Rattle.rot.specs.Message.{echo-request, listed, Message, message, echoed}
+use Rattle.rot.specs.Answers as RotAnswers
+use Rattle.rot.specs.Answers.{sending}
+use Rattle.rot.specs.Reading as RotReading
+use Rattle.rot.specs.Reading.{Judged, failure, unsent, good, judge, served, reading}
+use Rattle.rot.specs.Writing as RotWriting
+use Rattle.rot.specs.Writing.{writing}
+use Rattle.rot.specs.declared.reader.Answer.{Answer}
+use Rattle.rot.specs.declared.writer.Written.{Written}
+use Rattle.rot.proofs.Message.{length-message}
+use Rattle.oatcastle.specs.Answers.{outcome, Said, refused, telling, answering}
+use Rattle.oatcastle.specs.RotCalls.{shortNumber, rotReadTold, rotReadAnswered, rotReadCall, rotWriteTold, rotWriteAnswered, rotWriteCall}
+use Rattle.oatcastle.proofs.AnswerLaws.{Says, Leaves, Tells, tells-says, tells-leaves, answering-short, answering-told}
+
+-- ---- bytes sent to a room, told as k numbers
+
+module _ (k : ℕ) (told : RotAnswers.Said → Said) (bs : List ℕ) (no : told (RotAnswers.refused 8) ≡ refused 8) (yes : Tells k (told (RotAnswers.wrote (length bs)))) where
+  says-sent : (out : List ℕ) → Says k (told (sending bs out .answer))
+  unfolding sending
+  says-sent out =
+      cond-by (λ (o : RotAnswers.Outcome). Says k (told (o .answer))) (ltb (length out) (length bs)) _ _
+      (λ _. rw no refl) (λ _. tells-says k (told (RotAnswers.wrote (length bs))) yes)
+
+  leaves-sent : (out : List ℕ) → Leaves k out (sending bs out .out) (told (sending bs out .answer))
+  unfolding sending
+  leaves-sent out =
+      cond-by (λ (o : RotAnswers.Outcome). Leaves k out (o .out) (told (o .answer))) (ltb (length out) (length bs)) _ _
+      (λ _. rw no refl) (λ _. tells-leaves k out (overlay 0 bs out) (told (RotAnswers.wrote (length bs))) yes)
+
+-- a room with no place for a message
+sent-nowhere : (m : Message) (z : List ℕ) → length z < header-length → sending (message m) z ≡ RotAnswers.outcome (RotAnswers.refused 8) z
+unfolding sending
+sent-nowhere m z h = rw (lt-ltb (length z) (length (message m)) (rw (length-message m) (omega arith)))
+
+-- ---- Read
+
+module _ (answer : List ℕ) where
+  served-short : (m : Message) (z out : List ℕ) → length z < header-length → length answer < 3
+      → outcome (shortNumber (served m z .answer)) (out, answer) ≡ rotReadAnswered (served m out) out answer
+  unfolding served shortNumber rotReadTold
+  served-short m z out h l =
+      cond-both (λ (x y : RotAnswers.Outcome). outcome (shortNumber (x .answer)) (out, answer) ≡ rotReadAnswered y out answer) (eqb (m .type) echo-request)
+      (λ _. rw (sent-nowhere (echoed m) z h)
+      (answering-short out _ answer _ (says-sent 3 rotReadTold (message (echoed m)) refl refl out) l))
+      (λ _. answering-short out out answer (rotReadTold (RotAnswers.handed (m .type) (length (m .payload)))) refl l)
+
+  judged-short : (j : Judged) (z out : List ℕ) → length z < header-length → length answer < 3
+      → outcome (shortNumber (RotReading.answering j z .answer)) (out, answer) ≡ rotReadAnswered (RotReading.answering j out) out answer
+  unfolding RotReading.answering shortNumber rotReadTold answering
+  judged-short (failure n) z out h l = refl
+  judged-short unsent z out h l = answering-short out out answer (rotReadTold RotAnswers.nothing) refl l
+  judged-short (good m) z out h l = served-short m z out h l
+
+  pub read-short : (t : Answer) (input z out : List ℕ) {r : ℕ} {y : List ℕ} → length z < header-length → length answer < 3
+      → RotAnswers.outcome (RotReading.said t) y ≡ reading input z → r ≡ shortNumber (RotReading.said t)
+      → outcome r (out, answer) ≡ rotReadCall input out answer
+  unfolding reading rotReadCall
+  read-short t input z out h l e f =
+      rw (f, ap (λ (o : RotAnswers.Outcome). o .answer) e) (judged-short (judge input) z out h l)
+
+served-leaves : (m : Message) (out : List ℕ) → Leaves 3 out (served m out .out) (rotReadTold (served m out .answer))
+unfolding served rotReadTold
+served-leaves m out =
+    cond-by (λ (o : RotAnswers.Outcome). Leaves 3 out (o .out) (rotReadTold (o .answer))) (eqb (m .type) echo-request) _ _
+    (λ _. leaves-sent 3 rotReadTold (message (echoed m)) refl refl out) (λ _. refl)
+
+judged-leaves : (j : Judged) (out : List ℕ) → Leaves 3 out (RotReading.answering j out .out) (rotReadTold (RotReading.answering j out .answer))
+unfolding RotReading.answering rotReadTold
+judged-leaves (failure n) out = refl
+judged-leaves unsent out = refl
+judged-leaves (good m) out = served-leaves m out
+
+read-leaves : (input out : List ℕ) → Leaves 3 out (reading input out .out) (rotReadTold (reading input out .answer))
+unfolding reading
+read-leaves input out = judged-leaves (judge input) out
+
+pub read-told : (t : Answer) (input out answer : List ℕ) {r : ℕ} {after told : List ℕ} → 3 ≤ length answer
+    → RotAnswers.outcome (RotReading.said t) after ≡ reading input out → outcome r told ≡ telling (rotReadTold (RotReading.said t)) answer
+    → outcome r (after, told) ≡ rotReadCall input out answer
+unfolding rotReadCall
+read-told t input out answer {after} h e f =
+    rw (← e) (answering-told out after answer (rotReadTold (RotReading.said t)) (rw (← e) at (read-leaves input out)) h f)
+
+-- ---- Write
+
+module _ (m : Message) (out answer : List ℕ) where
+  write-leaves : Leaves 1 out (writing m out .out) (rotWriteTold (writing m out .answer))
+  unfolding writing rotWriteTold
+  write-leaves =
+      let P : RotAnswers.Outcome → Type 0 = λ o. Leaves 1 out (o .out) (rotWriteTold (o .answer)) in
+      cond-by P (ltb longest-payload (length (m .payload))) _ _ (λ _. refl) (λ _.
+      cond-by P (listed (m .type)) _ _ (λ _. leaves-sent 1 rotWriteTold (message m) refl refl out) (λ _. refl))
+
+  pub write-told : (w : Written) {r : ℕ} {after told : List ℕ} → 1 ≤ length answer
+      → RotAnswers.outcome (RotWriting.said w) after ≡ writing m out → outcome r told ≡ telling (rotWriteTold (RotWriting.said w)) answer
+      → outcome r (after, told) ≡ rotWriteCall m out answer
+  unfolding rotWriteCall
+  write-told w {after} h e f =
+      rw (← e) (answering-told out after answer (rotWriteTold (RotWriting.said w)) (rw (← e) at write-leaves) h f)
+
+  pub write-short : (w : Written) (z : List ℕ) {r : ℕ} {y : List ℕ} → length z < header-length → length answer < 1
+      → RotAnswers.outcome (RotWriting.said w) y ≡ writing m z → r ≡ shortNumber (RotWriting.said w)
+      → outcome r (out, answer) ≡ rotWriteCall m out answer
+  unfolding writing shortNumber rotWriteTold answering rotWriteCall
+  write-short w z h l e f =
+      let P : RotAnswers.Outcome → RotAnswers.Outcome → Type 0 = λ x y. outcome (shortNumber (x .answer)) (out, answer) ≡ rotWriteAnswered y out answer in
+      rw (f, ap (λ (o : RotAnswers.Outcome). o .answer) e)
+      (cond-both P (ltb longest-payload (length (m .payload))) (λ _. refl) (λ _.
+      cond-both P (listed (m .type))
+      (λ _. rw (sent-nowhere m z h) (answering-short out (sending (message m) out .out) answer (rotWriteTold (sending (message m) out .answer)) (says-sent 1 rotWriteTold (message m) refl refl out) l))
+      (λ _. refl)))

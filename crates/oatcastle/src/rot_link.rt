@@ -1,0 +1,130 @@
+// The root-of-trust link's calls: the reader, the payload, the writer and the CRC.
+// Assumes nothing: no exported function has a `requires`.
+use crate::telling::tell;
+use crate::telling::tell_bytes;
+use rot::reader::Answer;
+use rot::refusals::Refusal;
+use rot::writer::Written;
+ghost use mathlib.Core.Path.{_≡_};
+ghost use Rattle.rot.specs.Answers.{numberOf};
+ghost use Rattle.rot.specs.Reading as RotReading;
+ghost use Rattle.rot.specs.Writing as RotWriting;
+ghost use Rattle.rot.specs.Writing.{messageOf};
+ghost use Rattle.oatcastle.specs.Answers.{outcome, telling};
+ghost use Rattle.oatcastle.specs.RotCalls.{shortNumber, rotReadTold, rotReadCall, rotPayloadCall, rotWriteTold, rotWriteCall, rotCrcCall};
+
+// How many numbers `oatcastle_rot_read` answers.
+const ROT_READ_NUMBERS: usize = 3;
+
+// A room with no place for a message.
+const NO_ROOM: usize = 1;
+
+// Reads what came over the link. With too short an answer it is read with no room for the echo's answer.
+#[no_mangle]
+pub extern "C" fn oatcastle_rot_read(input: &[u8], out: &mut [u8], answer: &mut [u64]) -> u32
+    ensures { λ r. ⌜ outcome r (now (out .exit), now (answer .exit)) ≡ rotReadCall (now (input .entry)) (now (out .entry)) (now (answer .entry)) ⌝ }
+{
+    if answer.len() < ROT_READ_NUMBERS {
+        let mut none = [0u8; NO_ROOM];
+        return short_read(rot::reader::read(input, &mut none));
+    }
+    let read = rot::reader::read(input, out);
+    tell_read(answer, read)
+}
+
+// Copies the payload of the message that `oatcastle_rot_read` hands out.
+#[no_mangle]
+pub extern "C" fn oatcastle_rot_payload(input: &[u8], room: &mut [u8]) -> u32
+    ensures { λ r. ⌜ outcome r (now (room .exit)) ≡ rotPayloadCall (now (input .entry)) (now (room .entry)) ⌝ }
+{
+    tell_bytes(rot::reader::payload(input), room)
+}
+
+// Writes a message of version 1. With too short an answer it is written to no room.
+#[no_mangle]
+pub extern "C" fn oatcastle_rot_write(
+    kind: u8,
+    payload: &[u8],
+    out: &mut [u8],
+    answer: &mut [u64],
+) -> u32
+    ensures { λ r. ⌜ outcome r (now (out .exit), now (answer .exit)) ≡ rotWriteCall (messageOf kind (now (payload .entry))) (now (out .entry)) (now (answer .entry)) ⌝ }
+{
+    if answer.len() < 1 {
+        let mut none = [0u8; NO_ROOM];
+        return short_written(rot::writer::write(kind, payload, &mut none));
+    }
+    let written = rot::writer::write(kind, payload, out);
+    tell_sent(answer, written)
+}
+
+// The CRC of some bytes.
+#[no_mangle]
+pub extern "C" fn oatcastle_rot_crc(bytes: &[u8], answer: &mut [u64]) -> u32
+    ensures { λ r. ⌜ outcome r (now (answer .exit)) ≡ rotCrcCall (now («bytes» .entry)) (now (answer .entry)) ⌝ }
+{
+    let sum = rot::crc::crc(bytes) as u64;
+    tell(answer, [sum, 0, 0, 0, 0, 0, 0], 1)
+}
+
+// The numbers of the reader's answer.
+fn tell_read(answer: &mut [u64], read: Answer) -> u32
+    ensures { λ r. ⌜ outcome r (now (answer .exit)) ≡ telling (rotReadTold (RotReading.said read)) (now (answer .entry)) ⌝ }
+{
+    match read {
+        Answer::Refused(why) => number(why),
+        Answer::Nothing => tell(answer, [0, 0, 0, 0, 0, 0, 0], ROT_READ_NUMBERS),
+        Answer::Message(head) => tell(
+            answer,
+            [1, head.kind as u64, head.length as u64, 0, 0, 0, 0],
+            ROT_READ_NUMBERS,
+        ),
+        Answer::Echoed(n) => tell(answer, [2, 0, n as u64, 0, 0, 0, 0], ROT_READ_NUMBERS),
+    }
+}
+
+// The number of the writer's answer.
+fn tell_sent(answer: &mut [u64], written: Written) -> u32
+    ensures { λ r. ⌜ outcome r (now (answer .exit)) ≡ telling (rotWriteTold (RotWriting.said written)) (now (answer .entry)) ⌝ }
+{
+    match written {
+        Written::Done(n) => tell(answer, [n as u64, 0, 0, 0, 0, 0, 0], 1),
+        Written::Refused(why) => number(why),
+    }
+}
+
+// A refusal's own number, and 8 for any other answer.
+fn short_read(read: Answer) -> u32
+    ensures { λ r. ⌜ r ≡ shortNumber (RotReading.said read) ⌝ }
+{
+    match read {
+        Answer::Refused(why) => number(why),
+        Answer::Nothing => 8,
+        Answer::Message(_) => 8,
+        Answer::Echoed(_) => 8,
+    }
+}
+
+fn short_written(written: Written) -> u32
+    ensures { λ r. ⌜ r ≡ shortNumber (RotWriting.said written) ⌝ }
+{
+    match written {
+        Written::Done(_) => 8,
+        Written::Refused(why) => number(why),
+    }
+}
+
+fn number(why: Refusal) -> u32
+    ensures { λ r. ⌜ r ≡ numberOf why ⌝ }
+{
+    match why {
+        Refusal::NoRoom => 8,
+        Refusal::NoInput => 20,
+        Refusal::BadProtocol => 21,
+        Refusal::ShortHeader => 22,
+        Refusal::TooLong => 23,
+        Refusal::CutShort => 24,
+        Refusal::BadCrc => 25,
+        Refusal::BadType => 26,
+    }
+}

@@ -1,0 +1,29 @@
+-- `rot::reader::judge_message` meets its contract.
+-- Assumes nothing.
+use borrow.Author.Needs.{needs}
+use Rattle.rot.specs.Answers.{numberOf}
+use Rattle.rot.specs.Reading.{judgedAs}
+use Rattle.rot.proofs.Judging.{bad-crc, bad-type, accepted}
+use Rattle.rot.proofs.reader.judge_message.Statement.{statement}
+use Rattle.rot.proofs.reader.judge_message.Tie as tie
+
+returns : tie.Need-returns
+unfolding numberOf judgedAs
+returns c =
+    let asked = c .before in
+    bad-crc _ (asked .before .has-its-crc .ensures) (asked .before .before .read-u8 .ensures) (asked .is-listed .ensures) (c .if1 .taken)
+
+returns-2 : tie.Need-returns-2
+unfolding numberOf judgedAs
+returns-2 c =
+    let asked = c .before .before in
+    bad-type _ (asked .before .has-its-crc .ensures) (asked .before .before .read-u8 .ensures) (asked .is-listed .ensures) (c .before .if1 .left) (c .if2 .taken)
+
+returns-3 : tie.Need-returns-3
+unfolding judgedAs
+returns-3 c =
+    let asked = c .before .before in
+    accepted _ (asked .before .has-its-crc .ensures) (asked .before .before .read-u8 .ensures) (asked .is-listed .ensures) (c .before .if1 .left) (c .if2 .left)
+
+pub judge-message-spec : {M : Type 1} → statement M
+judge-message-spec = tie.close (tie.spec (λ c κs. search needs) (λ c κs. search needs) (λ c κs. search needs) returns returns-2 returns-3)
