@@ -1,39 +1,57 @@
-// Defines the root-of-trust link's rows: the library's reader against the same in ordinary Rust with a table.
+// Defines the root-of-trust link's rows: the library's reader against the same in Rust, with a table and with eight tables.
 // Assumes document 02's item 7.
 
-use crate::Case;
+use crate::{Action, Case};
 use oatcastle::rot::{self, Received, Type, LONGEST_MESSAGE};
 use std::hint::black_box;
 
-const TABLE: [u32; 256] = table();
+type Crc = fn([&[u8]; 2]) -> u32;
 
-const fn table() -> [u32; 256] {
-    let mut entries = [0; 256];
+const TABLES: [[u32; 256]; 8] = tables();
+
+/// What a byte comes to, and what it comes to with 1 to 7 further zeros behind it.
+const fn tables() -> [[u32; 256]; 8] {
+    let mut entries = [[0; 256]; 8];
     let mut byte = 0;
     while byte < 256 {
         let mut register = (byte as u32) << 24;
         let mut shifts = 0;
-        while shifts < 8 {
+        while shifts < 64 {
             register = if register >> 31 == 1 { register << 1 ^ 0x04c1_1db7 } else { register << 1 };
             shifts += 1;
+            if shifts % 8 == 0 {
+                entries[shifts / 8 - 1][byte] = register;
+            }
         }
-        entries[byte] = register;
         byte += 1;
     }
     entries
 }
 
-fn crc(parts: [&[u8]; 2]) -> u32 {
+fn by_byte(register: u32, byte: u8) -> u32 {
+    TABLES[0][usize::from((register >> 24) as u8 ^ byte)] ^ register << 8
+}
+
+fn ordinary(parts: [&[u8]; 2]) -> u32 {
+    !parts.into_iter().flatten().fold(0, |register, &byte| by_byte(register, byte))
+}
+
+fn strong(parts: [&[u8]; 2]) -> u32 {
     let mut register = 0u32;
     for part in parts {
-        for &byte in part {
-            register = TABLE[usize::from((register >> 24) as u8 ^ byte)] ^ register << 8;
+        let blocks = part.chunks_exact(8);
+        let rest = blocks.remainder();
+        for block in blocks {
+            let first = (register ^ u32::from_be_bytes([block[0], block[1], block[2], block[3]])).to_be_bytes();
+            let bytes = [first[0], first[1], first[2], first[3], block[4], block[5], block[6], block[7]];
+            register = (0..8).fold(0, |sum, i| sum ^ TABLES[7 - i][usize::from(bytes[i])]);
         }
+        register = rest.iter().fold(register, |register, &byte| by_byte(register, byte));
     }
     !register
 }
 
-fn write<'o>(kind: u8, payload: &[u8], out: &'o mut [u8]) -> Result<&'o [u8], u32> {
+fn write<'o>(crc: Crc, kind: u8, payload: &[u8], out: &'o mut [u8]) -> Result<&'o [u8], u32> {
     if payload.len() > 512 {
         return Err(23);
     }
@@ -56,7 +74,7 @@ enum Read<'i, 'o> {
     Echoed(&'o [u8]),
 }
 
-fn read<'i, 'o>(input: &'i [u8], out: &'o mut [u8]) -> Result<Read<'i, 'o>, u32> {
+fn read<'i, 'o>(crc: Crc, input: &'i [u8], out: &'o mut [u8]) -> Result<Read<'i, 'o>, u32> {
     match input.first() {
         None => return Err(20),
         Some(0) => return Ok(Read::Nothing),
@@ -75,7 +93,7 @@ fn read<'i, 'o>(input: &'i [u8], out: &'o mut [u8]) -> Result<Read<'i, 'o>, u32>
         return Err(25);
     }
     match input[1] {
-        2 => Ok(Read::Echoed(write(3, payload, out)?)),
+        2 => Ok(Read::Echoed(write(crc, 3, payload, out)?)),
         kind @ 1..=9 => Ok(Read::Message(kind, payload)),
         _ => Err(26),
     }
@@ -83,23 +101,34 @@ fn read<'i, 'o>(input: &'i [u8], out: &'o mut [u8]) -> Result<Read<'i, 'o>, u32>
 
 /// A message read once: handed out, or an echo request and answered.
 pub fn reading<'a>(name: &'static str, kind: Type, payload: &[u8]) -> Case<'a> {
-    let (mut out, mut other_out) = ([0; LONGEST_MESSAGE], [0; LONGEST_MESSAGE]);
+    let mut out = [0; LONGEST_MESSAGE];
     let message = rot::write(kind, payload, &mut out).expect("the message fits").to_vec();
-    assert_eq!(write(kind.number(), payload, &mut other_out), Ok(&message[..]));
-    match (rot::read(&message, &mut out), read(&message, &mut other_out)) {
+    let sides = [reading_by(ordinary, &message), reading_by(strong, &message)];
+    let [ordinary, strong] = sides;
+    for crc in [self::ordinary as Crc, self::strong] {
+        compared(crc, kind, payload, &message);
+    }
+    let bytes = message.len();
+    let library = Box::new(move || {
+        black_box(rot::read(black_box(&message), &mut out).ok());
+    });
+    Case { name, bytes, sides: [library, ordinary, strong] }
+}
+
+fn reading_by<'a>(crc: Crc, message: &[u8]) -> Action<'a> {
+    let (message, mut out) = (message.to_vec(), [0; LONGEST_MESSAGE]);
+    Box::new(move || {
+        black_box(read(crc, black_box(&message), &mut out).ok());
+    })
+}
+
+/// The yardstick writes and reads what the library does.
+fn compared(crc: Crc, kind: Type, payload: &[u8], message: &[u8]) {
+    let (mut out, mut other_out) = ([0; LONGEST_MESSAGE], [0; LONGEST_MESSAGE]);
+    assert_eq!(write(crc, kind.number(), payload, &mut other_out), Ok(message));
+    match (rot::read(message, &mut out), read(crc, message, &mut other_out)) {
         (Ok(Received::Echoed(ours)), Ok(Read::Echoed(other))) => assert_eq!(ours, other),
         (Ok(Received::Message { kind, payload: ours }), Ok(Read::Message(number, other))) => assert_eq!((kind.number(), ours), (number, other)),
         _ => panic!("no message"),
-    }
-    let copy = message.clone();
-    Case {
-        name,
-        bytes: message.len(),
-        library: Box::new(move || {
-            black_box(rot::read(black_box(&message), &mut out).ok());
-        }),
-        ordinary: Box::new(move || {
-            black_box(read(black_box(&copy), &mut other_out).ok());
-        }),
     }
 }

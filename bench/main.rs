@@ -1,25 +1,36 @@
-// Defines the benchmark: the static library through the crate `oatcastle` against ordinary Rust, in one process, as ratios of time.
-// Assumes a quiet machine; both sides' outputs are compared before anything is timed. Writes CSV to standard output.
+// Defines the benchmark: the static library through the crate `oatcastle` against two yardsticks in Rust, in one process, as ratios of time.
+// Assumes a quiet machine; the yardsticks' outputs are compared with the library's before anything is timed. Writes CSV to standard output.
 
+mod compare;
 mod link;
 mod ordinary;
+#[path = "../tests/differential/random.rs"]
+#[allow(dead_code)]
+mod random;
+mod receiver;
+mod strong;
 
 use oatcastle::{checksum, write_frame, Bsu, LineReader, ReadEnd, StartData, Supervisor, LONGEST_FRAME};
+use ordinary::Ordinary;
+use receiver::Yardstick;
 use std::hint::black_box;
 use std::time::Instant;
+use strong::Strong;
 
 const ROUNDS: usize = 201;
 const ROUND_NANOSECONDS: f64 = 5e5;
 const HASH: [u8; 32] = [7; 32];
 
+type Action<'a> = Box<dyn FnMut() + 'a>;
+
+/// One case, by the library, by `ordinary` and by `strong`.
 struct Case<'a> {
     name: &'static str,
     bytes: usize,
-    library: Box<dyn FnMut() + 'a>,
-    ordinary: Box<dyn FnMut() + 'a>,
+    sides: [Action<'a>; 3],
 }
 
-fn time(action: &mut dyn FnMut(), times: usize) -> f64 {
+fn time(action: &mut Action, times: usize) -> f64 {
     let begin = Instant::now();
     for _ in 0..times {
         action();
@@ -27,25 +38,23 @@ fn time(action: &mut dyn FnMut(), times: usize) -> f64 {
     begin.elapsed().as_nanos() as f64 / times as f64
 }
 
-fn times(action: &mut dyn FnMut()) -> usize {
+fn times(action: &mut Action) -> usize {
     let once = time(action, 20).max(1.0);
     ((ROUND_NANOSECONDS / once) as usize).max(5)
 }
 
-fn least(values: &[f64]) -> f64 {
-    values.iter().copied().fold(f64::INFINITY, f64::min)
-}
-
-/// The least time of all rounds, in which the two sides take turns.
+/// The least time of all rounds, in which the sides take turns.
 fn measure(case: &mut Case) {
-    let (library_times, ordinary_times) = (times(&mut case.library), times(&mut case.ordinary));
-    let (mut library, mut ordinary) = (Vec::new(), Vec::new());
+    let counts: Vec<usize> = case.sides.iter_mut().map(times).collect();
+    let mut least = [f64::INFINITY; 3];
     for _ in 0..ROUNDS {
-        library.push(time(&mut case.library, library_times));
-        ordinary.push(time(&mut case.ordinary, ordinary_times));
+        for side in 0..3 {
+            least[side] = least[side].min(time(&mut case.sides[side], counts[side]));
+        }
     }
-    let (one, other) = (least(&library), least(&ordinary));
-    println!("{},{},{one:.0},{other:.0},{:.2}", case.name, case.bytes, one / other);
+    let [library, ordinary, strong] = least;
+    print!("{},{},{library:.0},", case.name, case.bytes);
+    println!("{ordinary:.0},{:.2},{strong:.0},{:.2}", library / ordinary, library / strong);
 }
 
 /// Bytes that look random, always the same.
@@ -59,104 +68,94 @@ fn noise(length: usize) -> Vec<u8> {
         .collect()
 }
 
-fn frame(sequence: u64, command: u8, data: &[u8]) -> Vec<u8> {
-    let mut ours = [0; LONGEST_FRAME];
-    let mut other = [0; LONGEST_FRAME];
-    let length = ordinary::write(1, sequence, command, data, &[], &mut other).expect("the frame fits");
-    let frame = write_frame(1, sequence, command, data, &[], &mut ours).expect("the frame fits");
-    assert_eq!(frame, &other[..length]);
-    frame.to_vec()
+fn frame(command: u8, data: &[u8]) -> Vec<u8> {
+    let mut out = [0; LONGEST_FRAME];
+    write_frame(1, 1, command, data, &[], &mut out).expect("the frame fits").to_vec()
 }
 
 fn reading<'a>(name: &'static str, data: &[u8]) -> Case<'a> {
-    let frame = frame(1, 0x55, data);
-    let bytes = frame.len();
-    let copy = frame.clone();
+    let frame = frame(0x55, data);
     let mut reader = LineReader::start().expect("the state is long enough");
-    let mut other = ordinary::Reader::new();
-    {
-        let read = reader.read(&frame).expect("the state is valid");
-        let ReadEnd::Message(message) = read.end else { panic!("no message") };
-        let mut room = [0; 4104];
-        assert_eq!(message.data(&mut room).expect("the room is long enough"), data);
-        let (_, end) = other.read(&frame);
-        assert_eq!(end, ordinary::End::Message { version: 1, sequence: 1, command: 0x55, length: data.len() });
-        assert_eq!(other.data(data.len()), data);
-    }
-    Case {
-        name,
-        bytes,
-        library: Box::new(move || {
-            black_box(reader.read(black_box(&frame)).map(|read| read.used).ok());
-        }),
-        ordinary: Box::new(move || {
-            black_box(other.read(black_box(&copy)));
-        }),
-    }
+    assert!(matches!(reader.read(&frame).map(|read| read.end), Ok(ReadEnd::Message(_))));
+    let copy = frame.clone();
+    let library = Box::new(move || {
+        black_box(reader.read(black_box(&copy)).map(|read| read.used).ok());
+    });
+    Case { name, bytes: frame.len(), sides: [library, reading_by::<Ordinary>(&frame), reading_by::<Strong>(&frame)] }
+}
+
+fn reading_by<'a, Y: Yardstick + 'a>(frame: &[u8]) -> Action<'a> {
+    let mut reader = receiver::Reader::<Y>::new();
+    let frame = frame.to_vec();
+    Box::new(move || {
+        black_box(reader.read(black_box(&frame)));
+    })
 }
 
 fn writing<'a>(name: &'static str, data: &'a [u8]) -> Case<'a> {
-    let bytes = frame(1, 0x55, data).len();
-    let (mut out, mut other) = ([0; LONGEST_FRAME], [0; LONGEST_FRAME]);
-    Case {
-        name,
-        bytes,
-        library: Box::new(move || {
-            black_box(write_frame(1, 1, 0x55, black_box(data), &[], &mut out).map(<[u8]>::len).ok());
-        }),
-        ordinary: Box::new(move || {
-            black_box(ordinary::write(1, 1, 0x55, black_box(data), &[], &mut other).ok());
-        }),
-    }
+    let mut out = [0; LONGEST_FRAME];
+    let library = Box::new(move || {
+        black_box(write_frame(1, 1, 0x55, black_box(data), &[], &mut out).map(<[u8]>::len).ok());
+    });
+    let bytes = frame(0x55, data).len();
+    Case { name, bytes, sides: [library, writing_by::<Ordinary>(data), writing_by::<Strong>(data)] }
+}
+
+fn writing_by<'a, Y: Yardstick>(data: &'a [u8]) -> Action<'a> {
+    let mut out = [0; LONGEST_FRAME];
+    Box::new(move || {
+        black_box(receiver::write::<Y>(1, 1, 0x55, black_box(data), &[], &mut out).ok());
+    })
 }
 
 fn summing<'a>(name: &'static str, body: &'a [u8]) -> Case<'a> {
-    assert_eq!(checksum(body), Ok(ordinary::checksum(body)));
-    Case {
-        name,
-        bytes: body.len(),
-        library: Box::new(move || {
-            black_box(checksum(black_box(body)).ok());
-        }),
-        ordinary: Box::new(move || {
-            black_box(ordinary::checksum(black_box(body)));
-        }),
-    }
+    let library = Box::new(move || {
+        black_box(checksum(black_box(body)).ok());
+    });
+    Case { name, bytes: body.len(), sides: [library, summing_by::<Ordinary>(body), summing_by::<Strong>(body)] }
+}
+
+fn summing_by<'a, Y: Yardstick>(body: &'a [u8]) -> Action<'a> {
+    Box::new(move || {
+        black_box(Y::checksum(black_box(body)));
+    })
 }
 
 /// A request received whole and its reply taken whole.
 fn serving<'a>(name: &'static str, image: &'a [u8], command: u8, data: &[u8]) -> Case<'a> {
-    let request = frame(1, command, data);
-    let copy = request.clone();
+    let request = frame(command, data);
     let mut start = StartData::new(Bsu::A);
     start.hash(HASH);
     let mut supervisor = Supervisor::start(&start).expect("the start data are allowed");
-    let mut other = ordinary::Supervisor::new(HASH);
-    let (mut room, mut other_room) = ([0; 5000], [0; 5000]);
+    let mut room = [0; 5000];
     supervisor.receive(image, &request).expect("the state is valid");
-    other.receive(image, &request);
-    let reply = supervisor.take(&mut room).expect("the state is valid");
-    let taken = other.take(&mut other_room);
-    assert_eq!(reply, &other_room[..taken]);
-    if command == 0x10 {
-        assert_eq!(other.key_4(), Some(&data[1..]));
-    }
-    let bytes = request.len() + taken;
-    Case {
-        name,
-        bytes,
-        library: Box::new(move || {
-            black_box(supervisor.receive(black_box(image), black_box(&request)).ok());
-            black_box(supervisor.take(&mut room).map(<[u8]>::len).ok());
-        }),
-        ordinary: Box::new(move || {
-            other.receive(black_box(image), black_box(&copy));
-            black_box(other.take(&mut other_room));
-        }),
-    }
+    let reply = supervisor.take(&mut room).expect("the state is valid").to_vec();
+    let sides = [serving_by::<Ordinary>(image, &request, &reply), serving_by::<Strong>(image, &request, &reply)];
+    let [ordinary, strong] = sides;
+    let bytes = request.len() + reply.len();
+    let library = Box::new(move || {
+        black_box(supervisor.receive(black_box(image), black_box(&request)).ok());
+        black_box(supervisor.take(&mut room).map(<[u8]>::len).ok());
+    });
+    Case { name, bytes, sides: [library, ordinary, strong] }
+}
+
+fn serving_by<'a, Y: Yardstick + 'a>(image: &'a [u8], request: &[u8], reply: &[u8]) -> Action<'a> {
+    let mut supervisor = receiver::Supervisor::<Y>::new(HASH);
+    let mut room = [0; 5000];
+    supervisor.receive(image, request);
+    let taken = supervisor.take(&mut room);
+    assert_eq!(reply, &room[..taken]);
+    let request = request.to_vec();
+    Box::new(move || {
+        supervisor.receive(black_box(image), black_box(&request));
+        black_box(supervisor.take(&mut room));
+    })
 }
 
 fn main() {
+    compare::compare::<Ordinary>();
+    compare::compare::<Strong>();
     let random = noise(4104);
     let zeros = vec![0; 4104];
     let image = noise(3 * 4096);
@@ -181,7 +180,7 @@ fn main() {
         link::reading("root-of-trust message of 512 bytes", oatcastle::rot::Type::SinkRequest, &random[..512]),
         link::reading("root-of-trust echo of 512 bytes", oatcastle::rot::Type::EchoRequest, &random[..512]),
     ];
-    println!("case,bytes,library ns,ordinary ns,ratio");
+    println!("case,bytes,library ns,ordinary ns,ratio to ordinary,strong ns,ratio to strong");
     for case in &mut cases {
         measure(case);
     }

@@ -1,245 +1,75 @@
-// Defines the reader, the checksum, the writer and the measured requests in ordinary safe Rust, for comparing speed.
-// Assumes document 01; of the supervisor's requests only those that the benchmark sends are here.
+// Defines the yardstick `ordinary`: plain safe Rust, a remainder for each byte, bytes written and kept one by one.
+// Assumes document 01.
 
-const MAGIC: u32 = 0x01DE_19CC;
-const LONGEST_FORM: usize = 4140;
-const LONGEST_MESSAGE: usize = 4123;
-const LONGEST_DATA: usize = 4104;
-const TOP_BIT: u64 = 1 << 63;
+use crate::receiver::{Frame, Yardstick};
 
-pub fn checksum(body: &[u8]) -> u16 {
-    let (mut first, mut second) = (0u16, 0u16);
-    for &byte in body {
-        first = (first + u16::from(byte)) % 255;
-        second = (second + first) % 255;
-    }
-    second * 256 + first
-}
+pub enum Ordinary {}
 
-/// Writes the form and its 00; gives the length, or nothing where it does not fit.
-fn encode(message: &[u8], out: &mut [u8]) -> Option<usize> {
-    let mut code = 0;
-    let mut next = 1;
-    for (place, &byte) in message.iter().enumerate() {
-        if byte != 0 {
-            *out.get_mut(next)? = byte;
-            next += 1;
+impl Yardstick for Ordinary {
+    const NAME: &'static str = "ordinary";
+
+    fn checksum(body: &[u8]) -> u16 {
+        let (mut first, mut second) = (0u16, 0u16);
+        for &byte in body {
+            first = (first + u16::from(byte)) % 255;
+            second = (second + first) % 255;
         }
-        if byte == 0 || next - code == 255 {
-            *out.get_mut(code)? = (next - code) as u8;
-            if byte != 0 && place + 1 == message.len() {
-                *out.get_mut(next)? = 0;
-                return Some(next + 1);
+        second * 256 + first
+    }
+
+    fn encode(message: &[u8], out: &mut [u8]) -> Option<usize> {
+        let mut code = 0;
+        let mut next = 1;
+        for (place, &byte) in message.iter().enumerate() {
+            if byte != 0 {
+                *out.get_mut(next)? = byte;
+                next += 1;
             }
-            code = next;
-            next += 1;
+            if byte == 0 || next - code == 255 {
+                *out.get_mut(code)? = (next - code) as u8;
+                if byte != 0 && place + 1 == message.len() {
+                    *out.get_mut(next)? = 0;
+                    return Some(next + 1);
+                }
+                code = next;
+                next += 1;
+            }
         }
+        *out.get_mut(code)? = (next - code) as u8;
+        *out.get_mut(next)? = 0;
+        Some(next + 1)
     }
-    *out.get_mut(code)? = (next - code) as u8;
-    *out.get_mut(next)? = 0;
-    Some(next + 1)
-}
 
-/// Decodes a form in place; gives the length of what it means.
-fn decode(form: &mut [u8]) -> Option<usize> {
-    let (mut from, mut to) = (0, 0);
-    while from < form.len() {
-        let code = usize::from(form[from]);
-        if code == 0 || from + code > form.len() {
-            return None;
+    fn decode(form: &mut [u8]) -> Option<usize> {
+        let (mut from, mut to) = (0, 0);
+        while from < form.len() {
+            let code = usize::from(form[from]);
+            if code == 0 || from + code > form.len() {
+                return None;
+            }
+            form.copy_within(from + 1..from + code, to);
+            from += code;
+            to += code - 1;
+            if code < 255 && from < form.len() {
+                form[to] = 0;
+                to += 1;
+            }
         }
-        form.copy_within(from + 1..from + code, to);
-        from += code;
-        to += code - 1;
-        if code < 255 && from < form.len() {
-            form[to] = 0;
-            to += 1;
-        }
-    }
-    Some(to)
-}
-
-pub fn write(version: u32, sequence: u64, command: u8, head: &[u8], rest: &[u8], out: &mut [u8]) -> Result<usize, u32> {
-    let data = head.len() + rest.len();
-    if data > LONGEST_DATA {
-        return Err(9);
-    }
-    let mut message = [0; LONGEST_MESSAGE];
-    message[..4].copy_from_slice(&MAGIC.to_le_bytes());
-    message[4..8].copy_from_slice(&version.to_le_bytes());
-    message[8..16].copy_from_slice(&sequence.to_le_bytes());
-    message[16] = command;
-    message[17..17 + head.len()].copy_from_slice(head);
-    message[17 + head.len()..17 + data].copy_from_slice(rest);
-    let sums = checksum(&message[..17 + data]);
-    message[17 + data..19 + data].copy_from_slice(&sums.to_le_bytes());
-    encode(&message[..19 + data], out).ok_or(8)
-}
-
-pub struct Reader {
-    bytes: [u8; LONGEST_FORM],
-    count: usize,
-    long: bool,
-}
-
-#[derive(Debug, PartialEq, Eq)]
-pub enum End {
-    More,
-    Empty,
-    Message { version: u32, sequence: u64, command: u8, length: usize },
-    Failure { reason: u8, sequence: Option<u64> },
-}
-
-impl Reader {
-    pub fn new() -> Reader {
-        Reader { bytes: [0; LONGEST_FORM], count: 0, long: false }
+        Some(to)
     }
 
-    /// Reads up to the piece's end or its first 00.
-    pub fn read(&mut self, piece: &[u8]) -> (usize, End) {
+    fn gather(frame: &mut Frame, piece: &[u8]) -> Option<usize> {
         for (place, &byte) in piece.iter().enumerate() {
             if byte == 0 {
-                return (place + 1, self.end());
+                return Some(place);
             }
-            if self.count == LONGEST_FORM {
-                self.long = true;
+            if frame.count == frame.bytes.len() {
+                frame.long = true;
             } else {
-                self.bytes[self.count] = byte;
-                self.count += 1;
+                frame.bytes[frame.count] = byte;
+                frame.count += 1;
             }
         }
-        (piece.len(), End::More)
-    }
-
-    fn end(&mut self) -> End {
-        let (count, long) = (self.count, self.long);
-        self.count = 0;
-        self.long = false;
-        if count == 0 {
-            return End::Empty;
-        }
-        let length = if long { None } else { decode(&mut self.bytes[..count]) };
-        let Some(length) = length else { return End::Failure { reason: 1, sequence: None } };
-        if !(19..=LONGEST_MESSAGE).contains(&length) {
-            return End::Failure { reason: 3, sequence: None };
-        }
-        let (body, sums) = self.bytes[..length].split_at(length - 2);
-        let sequence = u64::from_le_bytes(body[8..16].try_into().unwrap());
-        if u16::from_le_bytes(sums.try_into().unwrap()) != checksum(body) {
-            return End::Failure { reason: 2, sequence: Some(sequence) };
-        }
-        if body[..4] != MAGIC.to_le_bytes() {
-            return End::Failure { reason: 4, sequence: Some(sequence) };
-        }
-        let version = u32::from_le_bytes(body[4..8].try_into().unwrap());
-        End::Message { version, sequence, command: body[16], length: length - 19 }
-    }
-
-    pub fn data(&self, length: usize) -> &[u8] {
-        &self.bytes[17..17 + length]
-    }
-}
-
-pub struct Supervisor {
-    reader: Reader,
-    outbox: [u8; 4142],
-    begin: usize,
-    end: usize,
-    last_non_zero: bool,
-    hash: [u8; 32],
-    status: u64,
-    options: u64,
-    key_4: [u8; 4096],
-    key_4_length: Option<usize>,
-}
-
-impl Supervisor {
-    pub fn new(hash: [u8; 32]) -> Supervisor {
-        Supervisor {
-            reader: Reader::new(),
-            outbox: [0; 4142],
-            begin: 0,
-            end: 0,
-            last_non_zero: false,
-            hash,
-            status: 1,
-            options: 0,
-            key_4: [0; 4096],
-            key_4_length: None,
-        }
-    }
-
-    pub fn receive(&mut self, image: &[u8], piece: &[u8]) {
-        let mut rest = piece;
-        while !rest.is_empty() {
-            let (used, end) = self.reader.read(rest);
-            rest = &rest[used..];
-            match end {
-                End::More | End::Empty => {}
-                End::Failure { reason, sequence } => self.reply(sequence.unwrap_or(u64::MAX) | TOP_BIT, 2, &[reason], &[]),
-                End::Message { version, sequence, command, length } => self.request(image, version, sequence, command, length),
-            }
-        }
-    }
-
-    fn reply(&mut self, sequence: u64, command: u8, head: &[u8], rest: &[u8]) {
-        let from = usize::from(self.last_non_zero);
-        self.outbox[0] = 0;
-        self.begin = 0;
-        self.end = from + write(1, sequence, command, head, rest, &mut self.outbox[from..]).unwrap_or(0);
-    }
-
-    fn request(&mut self, image: &[u8], version: u32, sequence: u64, command: u8, length: usize) {
-        let number = sequence | TOP_BIT;
-        if version != 1 {
-            return self.reply(number, 2, &[5], &[]);
-        }
-        if sequence & TOP_BIT != 0 {
-            return self.reply(number, 2, &[6], &[]);
-        }
-        match (command, length) {
-            (0x08, 0) => {
-                let (status, options) = (self.status.to_le_bytes(), self.options.to_le_bytes());
-                self.reply(number, 0x06, &status, &options);
-            }
-            (0x0d, 40) => {
-                let data = self.reader.data(40);
-                let offset = u64::from_le_bytes(data[32..].try_into().unwrap());
-                let ours = data[..32] == self.hash && offset < image.len() as u64;
-                let tail = if ours { &image[offset as usize..] } else { &[] };
-                self.reply(number, 0x09, &tail[..tail.len().min(4096)], &[]);
-            }
-            (0x10, 1..) => {
-                let data = self.reader.data(length);
-                let value = &data[1..];
-                let result = match data[0] {
-                    0..=2 => 2,
-                    4 if value.len() > 4096 => 3,
-                    4 => {
-                        self.key_4[..value.len()].copy_from_slice(value);
-                        self.key_4_length = Some(value.len());
-                        0
-                    }
-                    _ => 1,
-                };
-                self.reply(number, 0x0c, &[result], &[]);
-            }
-            (0x08 | 0x0d | 0x10, _) => self.reply(number, 2, &[7], &[]),
-            _ => self.reply(u64::MAX, 2, &[3], &[]),
-        }
-    }
-
-    pub fn take(&mut self, room: &mut [u8]) -> usize {
-        let moved = room.len().min(self.end - self.begin);
-        room[..moved].copy_from_slice(&self.outbox[self.begin..self.begin + moved]);
-        self.begin += moved;
-        if moved > 0 {
-            self.last_non_zero = room[moved - 1] != 0;
-        }
-        moved
-    }
-
-    pub fn key_4(&self) -> Option<&[u8]> {
-        self.key_4_length.map(|length| &self.key_4[..length])
+        None
     }
 }
