@@ -223,9 +223,17 @@ def body_with(apart, place, pair):
     return bytes(changed)
 
 
+def block_cases():
+    """Checksums around one block of 256 bytes and two, and of the longest body; bytes ff make the largest sums."""
+    for n in (0, 1, 255, 256, 257, 511, 512, 513, 4121):
+        for kind, data in (('all ff', b'\xff' * n), ('fe, then ff', (b'\xfe' + b'\xff' * n)[:n]), ('counting', nonzero(n))):
+            yield Case(f'checksum of {n} bytes, {kind}').add(data).checksum()
+
+
 def cases():
     for name, text in (('L1', b'abcde'), ('L2', b'abcdef'), ('L3', b'abcdefgh'), ('L4', b''), ('L5 00', b'\0'), ('L5 ff', b'\xff')):
         yield Case(name).add(text).checksum()
+    yield from block_cases()
     yield Case('L10').add([2, 0]).read()
     yield Case('L11').add([1, 0]).read()
     yield Case('L12').add(L12).read().unfinished()

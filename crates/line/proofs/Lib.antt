@@ -1,6 +1,7 @@
 -- Laws of the line layer's definitions, which the proofs of its functions and the claims cite.
 -- Assumes nothing.
 pub mod Checksum
+pub mod Columns
 pub mod Message
 pub mod FrameLength
 pub mod Runs

@@ -1,4 +1,4 @@
--- The meaning of the line layer in document 01's order, Limits to Judge; what the code's own contracts cite, Runs and Decoding;
+-- The meaning of the line layer in document 01's order, Limits to Judge; what the code's own contracts cite, Columns, Runs and Decoding;
 -- and what each public call answers and leaves, Reader and Writer. Assumes nothing.
 pub mod Limits
 pub mod Checksum
@@ -6,6 +6,7 @@ pub mod Message
 pub mod Cobs
 pub mod Frame
 pub mod Judge
+pub mod Columns
 pub mod Runs
 pub mod Decoding
 pub mod Reader

@@ -1,30 +1,139 @@
-// The checksum of a message's body.
-// Assumes nothing: no function here has a `requires`.
+// The checksum of a message's body. Each sum's remainder is taken once for each block, and a block is summed by columns, which
+// the processor can add side by side. Assumes nothing: no public function has a `requires`.
 ghost use mathlib.Core.Path.{_≡_};
-ghost use Prim.Native.Nat.{_<_};
-ghost use lib.ListN.{take};
-ghost use Rattle.line.specs.Checksum.{checksum};
+ghost use Prim.Native.Nat.{_+_, _≤_, _<_};
+ghost use lib.ListN.{length, take, drop};
+ghost use Rattle.octets.specs.Bytes.{run};
+ghost use Rattle.line.specs.Checksum.{sums as sumsOf, checksum};
+ghost use Rattle.line.specs.Columns.{columns, block-length, total, weighted, added, AtMost, Addable};
 
-fn wide(b: u8) -> u32
+const COLUMNS: usize = 16;
+
+// After 22 rows of ff the second sum of a column is 64,515; one row more, and it no longer fits.
+const ROWS: usize = 16;
+
+const BLOCK: usize = ROWS * COLUMNS;
+
+// The two sums.
+struct Sums {
+    first: u32,
+    second: u32,
+}
+
+fn byte(b: u8) -> u16
     ensures { λ r. ⌜ (r ≡ b) × (r < 256) ⌝ }
 {
-    b as u32
+    b as u16
+}
+
+fn wide(x: u16) -> u32
+    ensures { λ r. ⌜ (r ≡ x) × (r < 65536) ⌝ }
+{
+    x as u32
+}
+
+// The row of bytes from a place on.
+fn row(body: &[u8], at: usize) -> [u16; COLUMNS]
+    requires { ⌜ at + columns ≤ length (now body) ⌝ }
+    ensures { λ r. ⌜ (r ≡ run at columns (now (body .entry))) × (length r ≡ columns) × AtMost 255 r ⌝ }
+{
+    let mut row = [0u16; COLUMNS];
+    let mut i = 0;
+    while i < COLUMNS {
+        row[i] = byte(body[at + i]);
+        i += 1;
+    }
+    row
+}
+
+// Adds a row to the columns' sums.
+fn add(sums: &mut [u16; COLUMNS], row: &[u16; COLUMNS])
+    requires { ⌜ Addable (now sums) (now row) ⌝ }
+    ensures { λ r. ⌜ now (sums .exit) ≡ added (now (row .entry)) (now (sums .entry)) ⌝ }
+{
+    let mut i = 0;
+    while i < COLUMNS {
+        sums[i] = sums[i] + row[i];
+        i += 1;
+    }
+}
+
+// The two sums of a row, without remainders.
+fn row_sums(row: &[u16; COLUMNS]) -> Sums
+    requires { ⌜ length (now row) ≡ columns ⌝ }
+    ensures { λ r. ⌜ (r .first ≡ total (now (row .entry))) × (r .second ≡ weighted (now (row .entry))) ⌝ }
+    ensures { λ r. ⌜ (r .first < 1048576) × (r .second < 16777216) ⌝ }
+{
+    let mut sum: u32 = 0;
+    let mut weighted: u32 = 0;
+    let mut i = 0;
+    while i < COLUMNS {
+        sum += wide(row[i]);
+        weighted += sum;
+        i += 1;
+    }
+    Sums {
+        first: sum,
+        second: weighted,
+    }
+}
+
+// The sums behind the block from a place on: each remainder is taken once.
+fn block(body: &[u8], at: usize, sums: Sums) -> Sums
+    requires { ⌜ at + block-length ≤ length (now body) ⌝ }
+    requires { ⌜ (sums .first < 255) × (sums .second < 255) ⌝ }
+    ensures { λ r. ⌜ (r .first < 255) × (r .second < 255) × (sumsOf (r .first) (r .second) (drop (at + block-length) (now (body .entry))) ≡ sumsOf (sums .first) (sums .second) (drop at (now (body .entry)))) ⌝ }
+{
+    let mut firsts = [0u16; COLUMNS];
+    let mut seconds = [0u16; COLUMNS];
+    let mut i = 0;
+    while i < ROWS {
+        let bytes = row(body, at + i * COLUMNS);
+        add(&mut firsts, &bytes);
+        add(&mut seconds, &firsts);
+        i += 1;
+    }
+    let one = row_sums(&firsts);
+    let two = row_sums(&seconds);
+    let added = two.first * COLUMNS as u32 + one.second - one.first * COLUMNS as u32;
+    Sums {
+        first: (sums.first + one.first) % 255,
+        second: (sums.second + sums.first * BLOCK as u32 + added) % 255,
+    }
+}
+
+// The checksum that the sums come to over the bytes from a place on, fewer than a block: each remainder is taken once.
+fn rest(body: &[u8], at: usize, sums: Sums) -> u16
+    requires { ⌜ (at ≤ length (now body)) × (length (now body) < at + block-length) ⌝ }
+    requires { ⌜ (sums .first < 255) × (sums .second < 255) ⌝ }
+    ensures { λ r. ⌜ r ≡ sumsOf (sums .first) (sums .second) (drop at (now (body .entry))) ⌝ }
+{
+    let mut first = sums.first;
+    let mut second = sums.second;
+    let mut i = at;
+    while i < body.len() {
+        let b = wide(byte(body[i]));
+        first += b;
+        second += first;
+        i += 1;
+    }
+    (second % 255 * 256 + first % 255) as u16
 }
 
 // The checksum of a body.
 pub fn checksum(body: &[u8]) -> u16
     ensures { λ r. ⌜ r ≡ checksum (now (body .entry)) ⌝ }
 {
-    let mut first: u32 = 0;
-    let mut second: u32 = 0;
-    let mut i = 0;
-    while i < body.len() {
-        let byte = wide(body[i]);
-        first = (first + byte) % 255;
-        second = (second + first) % 255;
-        i += 1;
+    let mut sums = Sums {
+        first: 0,
+        second: 0,
+    };
+    let mut at = 0;
+    while BLOCK <= body.len() - at {
+        sums = block(body, at, sums);
+        at += BLOCK;
     }
-    (second * 256 + first) as u16
+    rest(body, at, sums)
 }
 
 // The checksum of the first n bytes of s, or of all where there are fewer.

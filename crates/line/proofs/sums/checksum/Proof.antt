@@ -1,30 +1,28 @@
 -- `line::sums::checksum` meets its contract. The loop keeps what the sums come to over the bytes that are left.
 -- Assumes nothing.
-use mathlib.Core.Path.{_≡_, refl}
+use mathlib.Core.Path.{_≡_, refl, _∙_}
 use Prim.Native.Nat.{_-_, _≤_, _<_}
+use native.Mathlib.Omega.{arith}
 use borrow.Author.Needs.{needs}
 use lib.ListN.{length, drop}
-use Rattle.line.specs.Checksum.{sums, checksum}
-use Rattle.line.proofs.Checksum.{sums-step, sums-end}
+use Rattle.line.specs.Checksum.{sums as sumsOf, checksum}
 use Rattle.line.proofs.sums.checksum.Statement.{statement}
 use Rattle.line.proofs.sums.checksum.Tie as tie
 
 abbrev Inv-loop : tie.InvT-loop
-Inv-loop body first₀ second₀ i₀ first second i =
-    (i ≤ length body) × (first < 255) × (second < 255) × (sums first second (drop i body) ≡ checksum body)
+Inv-loop body sums₀ at₀ sums at =
+    (at ≤ length body) × (sums .first < 255) × (sums .second < 255) × (sumsOf (sums .first) (sums .second) (drop at body) ≡ checksum body)
 
 abbrev μ-loop : tie.MeasureT-loop
-μ-loop body first₀ second₀ i₀ first second i = length body - i
+μ-loop body sums₀ at₀ sums at = length body - at
 
 loop-holds : tie.Need-loop-holds Inv-loop μ-loop
 unfolding checksum
-loop-holds c = (search needs, search needs, search needs, refl)
+loop-holds c = (search needs, omega arith, omega arith, refl)
 
 pub checksum-spec : {M : Type 1} → statement M
 checksum-spec =
     tie.close
     (tie.spec Inv-loop μ-loop loop-holds (λ c. search needs) (λ c κs. search needs) (λ c. search needs) (λ c. search needs)
-    (λ c. search needs) (λ c. search needs)
-    (λ c. (search needs, search needs, search needs, sums-step _ _ _ _ _ (c .before .before .loop-test .taken) (c .wide .ensures .0) (c .before .before .before .loop .inv .3)))
-    (λ c. search needs) (λ c. search needs) (λ c. search needs)
-    (λ c. sums-end _ _ _ _ (c .loop-test .left) (c .before .loop .inv .3)))
+    (λ c. (search needs, c .block .ensures .0, c .block .ensures .1, c .block .ensures .2 ∙ c .before .before .loop .inv .3))
+    (λ c κs. search needs) (λ c. c .rest .ensures ∙ c .before .before .loop .inv .3))

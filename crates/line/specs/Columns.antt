@@ -1,0 +1,39 @@
+-- A block's two sums without remainders, by bytes and by columns: what the contracts of the checksum's inner functions cite.
+-- Assumes nothing: these are definitions.
+use mathlib.Core.Path.{_≡_}
+use mathlib.Core.List.{List, [], _∷_}
+use Prim.Native.Nat.{ℕ, suc, _+_, _*_, _≤_, _<_}
+use lib.ListN.{length, getD}
+
+-- a block is rows of bytes below each other
+abbrev pub columns : ℕ
+columns = 16
+
+abbrev pub rows : ℕ
+rows = 16
+
+abbrev pub block-length : ℕ
+block-length = rows * columns
+
+-- what bytes add to the first sum
+unfoldable pub total : List ℕ → ℕ
+total [] = 0
+total (x ∷ xs) = x + total xs
+
+-- what bytes add to the second sum where the first is 0 ahead of them: each as often as there are bytes from it to the end
+unfoldable pub weighted : List ℕ → ℕ
+weighted [] = 0
+weighted (x ∷ xs) = suc (length xs) * x + weighted xs
+
+-- a row added to the columns' sums
+unfoldable pub added : List ℕ → List ℕ → List ℕ
+added [] sums = sums
+added (x ∷ xs) [] = []
+added (x ∷ xs) (sum ∷ sums) = (sum + x) ∷ added xs sums
+
+abbrev pub AtMost : ℕ → List ℕ → Type 0
+AtMost most xs = (k : ℕ) → getD xs k 0 ≤ most
+
+-- a row can be added to the columns' sums: no sum of 16 bits overflows
+abbrev pub Addable : List ℕ → List ℕ → Type 0
+Addable sums xs = (length sums ≡ columns) × (length xs ≡ columns) × ((k : ℕ) → getD sums k 0 + getD xs k 0 < 65536)
