@@ -67,6 +67,9 @@ impl Yardstick for Strong {
             if code == 0 || from + code > form.len() {
                 return None;
             }
+            if code == 255 && form[from + code..] == [1] {
+                return None;
+            }
             form.copy_within(from + 1..from + code, to);
             from += code;
             to += code - 1;

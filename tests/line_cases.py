@@ -70,13 +70,17 @@ def stuffed(data):
 
 
 def unstuffed(form):
-    """The bytes of a form, or None where a code byte runs past the end."""
+    """The bytes of a form, or None where a code byte runs past the end or a last 01 stands after a full group."""
     out = bytearray()
     at = 0
+    full = False
     while at < len(form):
         code = form[at]
         if code == 0 or at + code > len(form):
             return None
+        if full and form[at:] == b'\1':
+            return None
+        full = code == 255
         out += form[at + 1:at + code]
         at += code
         if code < 255 and at < len(form):
@@ -230,6 +234,26 @@ def block_cases():
             yield Case(f'checksum of {n} bytes, {kind}').add(data).checksum()
 
 
+def last_ones():
+    """Forms with a 01 at or near their end, each with its name."""
+    group = b'\xff' + nonzero(254)
+    yield 'full group alone', group
+    yield 'full group and a last 01', group + b'\1'
+    yield 'full group, 01 and a last 01', group + b'\1\1'
+    yield 'full group, 02 and its byte 01', group + b'\2\1'
+    yield 'full group that ends with the byte 01', b'\xff' + nonzero(253) + b'\1'
+    yield 'two full groups and a last 01', group + group + b'\1'
+    yield 'sixteen full groups and a last 01', 16 * group + b'\1'
+    yield 'group of 253 bytes and a last 01', b'\xfe' + nonzero(253) + b'\1'
+    yield 'group of 253 bytes, full group and a last 01', b'\xfe' + nonzero(253) + group + b'\1'
+    yield 'full group, group of one byte and a last 01', group + b'\2\7\1'
+    yield 'bytes ff in a group of 253 bytes and a last 01', b'\xfe' + b'\xff' * 253 + b'\1'
+    # 4,138 bytes are above 4,123, which is reason 3 where the form does not end so
+    yield '4140 bytes that mean 4138 and a last 01', b'\1' * 3884 + group + b'\1'
+    yield '4140 bytes that mean 4139, the last group full', b'\1' * 3885 + group
+    yield '4141 bytes and a last 01 among them', b'\1' * 3885 + group + b'\1'
+
+
 def cases():
     for name, text in (('L1', b'abcde'), ('L2', b'abcdef'), ('L3', b'abcdefgh'), ('L4', b''), ('L5 00', b'\0'), ('L5 ff', b'\xff')):
         yield Case(name).add(text).checksum()
@@ -264,6 +288,10 @@ def cases():
     yield Case('full group at the end').add(stuffed(full) + b'\0').read()
     yield Case('full group at the end and a last 01').add(stuffed(full) + b'\1\0').read()
     yield Case('full group at the end and a last 02').add(stuffed(full) + b'\2\0').read()
+    # only a 01 that is the last byte and follows a full group is refused; the others fail later tests
+    for name, form in last_ones():
+        yield Case(name).add(form + b'\0').read()
+        yield Case(f'{name}, byte by byte').add(form + b'\0' + L12).read('b')
     yield Case('full group cut by one byte').add(stuffed(full)[:-1] + b'\0').read()
     # checksums with a byte 00, and ff in its place
     seen = set()

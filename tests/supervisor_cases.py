@@ -38,7 +38,7 @@ import sys
 sys.dont_write_bytecode = True
 import common
 import line_cases
-from line_cases import L12, MAGIC, body, digest, fletcher, message, nonzero, stuffed, verdict
+from line_cases import L12, MAGIC, body, digest, fletcher, last_ones, message, nonzero, stuffed, verdict
 
 TOP = 1 << 63
 ONES = (1 << 64) - 1
@@ -493,7 +493,10 @@ def failures():
                             c.receive(stuffed(b + little(fletcher(b) ^ damage, 2)) + b'\0').take()
     yield c.stores_same()
     c = Case('a failed frame changes no more than the pending reply', FULL).post(3, b'text').ask(0x10, b'\3value').ask(10).mark()
-    for frame in (b'\2', b'\1', framed(9, 1)[:-3] + b'\1\1', framed(9, 1, b'', 2)[:-1], framed(TOP, 1)[:-1], framed(9, 0x0b)[:-1], framed(9, 1, b'x')[:-1], b'\1' * 4141):
+    # a panic record whose form ends with a full group, and a last 01
+    panic = framed(0x0102030405060708, 7, nonzero(243))[:-1]
+    assert panic[-255] == 255 and 0 not in panic
+    for frame in (b'\2', b'\1', panic + b'\1', framed(9, 1)[:-3] + b'\1\1', framed(9, 1, b'', 2)[:-1], framed(TOP, 1)[:-1], framed(9, 0x0b)[:-1], framed(9, 1, b'x')[:-1], b'\1' * 4141):
         c.receive(frame + b'\0').take()
     yield c.stores_same().ask(10, b'', 2)
 
@@ -516,6 +519,10 @@ def lengths():
     long = message(1, 7, 6, bytes(4105))
     assert len(long) == 4124 and len(stuffed(long)) <= 4140
     yield Case('message of 4124 bytes', Start()).receive(stuffed(long) + b'\0').take().record(0)
+    for name, form in last_ones():
+        yield Case(name, Start()).receive(form + b'\0').take().receive(L12).take()
+    frame = framed(0x0102030405060708, 7, nonzero(243))
+    yield Case('panic that ends with a full group, with a last 01 and without', Start()).receive(frame[:-1] + b'\1\0').take().record(1).receive(frame).take().record(1)
 
 
 def keys():

@@ -1,5 +1,5 @@
-// Defines document 01 as ordinary Rust over typed state: checksum, COBS, the tests for reading, requests, replies and local calls.
-// Assumes nothing but document 01 and RFD 316; a fault number changes one rule, so that the comparison itself can be tested.
+// Defines document 01, as document 02 amends it, as ordinary Rust over typed state: checksum, COBS, the tests for reading, requests, replies and local calls.
+// Assumes nothing but these documents and RFD 316; a fault number changes one rule, so that the comparison itself can be tested.
 
 use std::collections::VecDeque;
 use std::sync::atomic::{AtomicUsize, Ordering};
@@ -26,7 +26,7 @@ faults! {
     FfAsZero: "a checksum byte ff matches 00",
     ZeroAfterFullGroup: "a full group is read as if a zero followed",
     CodeAfterFullGroup: "the writer ends a full group with a code byte 01",
-    LastOneRefused: "a last 01 after a full group is reason 1",
+    LastOneAccepted: "a last 01 after a full group is let through",
     LongestForm: "4,141 bytes before the 00 are let through",
     LongFrameReason: "an overlong frame is answered as reason 3",
     ShortMessage: "a message of 18 bytes passes the length test",
@@ -133,14 +133,16 @@ pub fn cobs(bytes: &[u8]) -> Vec<u8> {
 pub fn uncobs(form: &[u8]) -> Option<Vec<u8>> {
     let mut bytes = Vec::with_capacity(form.len());
     let mut place = 0;
+    let mut full = false;
     while place < form.len() {
         let code = usize::from(form[place]);
         if code == 0 {
             return None;
         }
-        if broken(Fault::LastOneRefused) && code == 1 && place + 1 == form.len() && place >= 255 && form[place - 255] == 255 {
+        if full && form[place..] == [1] && !broken(Fault::LastOneAccepted) {
             return None;
         }
+        full = code == 255;
         let group = form.get(place + 1..place + code)?;
         bytes.extend_from_slice(group);
         place += code;

@@ -60,7 +60,7 @@ impl Refusal {
 #[derive(Clone, Copy, Debug, PartialEq, Eq)]
 #[repr(u8)]
 pub enum Reason {
-    /// More than 4,140 bytes before the 00, or a code byte that runs past the frame's end.
+    /// More than 4,140 bytes before the 00, a code byte that runs past the frame's end, or a last 01 after a full group.
     Form = 1,
     /// The checksum differs.
     Checksum = 2,

@@ -1,7 +1,7 @@
 -- The laws of decoding a COBS form: what its measured length says of it, and what one group of it gives.
 -- Assumes nothing.
 use mathlib.Core.Path.{_≡_, refl, sym, ap, _∙_}
-use mathlib.Core.Bool.{Bool, true, false, cond}
+use mathlib.Core.Bool.{Bool, true, false, cond, _||_, and-true, and-false, or-true}
 use mathlib.Core.List.{List, [], _∷_, _++_}
 use mathlib.Core.Option.{Option, none, some, Option·map}
 use Prim.Native.Nat.{ℕ, zero, suc, _+_, _-_, _≤_, _<_}
@@ -11,9 +11,10 @@ use lib.Dec.{eqb, leb, ltb, leb·suc-suc}
 use lib.ListN.{length, take, drop, getD, length-append, drop-of-length-le}
 use lib.Seq.{slice, slice-cons, length-slice, length-take-le, drop-drop}
 use borrow.Author.Tests.{eq-eqb, ne-eqb}
+use Rattle.octets.specs.Bytes.{equal}
 use Rattle.line.specs.declared.cobs.Measured.{Measured}
 use Rattle.line.specs.declared.cobs.Measured.the-variants.{Bad, Length}
-use Rattle.line.specs.Cobs.{zeros, groupBytes, uncobs}
+use Rattle.line.specs.Cobs.{zeros, lastOneAfterFull, groupBytes, uncobs}
 use Rattle.line.specs.Decoding.{bit, measured, plainGroup, plain}
 
 -- ---- the plain bytes are what a form decodes to, and no longer than the form
@@ -41,7 +42,7 @@ gives-end (suc left) z = tt
 gives-plain : (left : ℕ) (z : Bool) (bs : List ℕ) → Gives (groupBytes left z bs) (plainGroup left z bs)
 unfolding groupBytes plainGroup
 gives-plain left z [] = gives-end left z
-gives-plain zero z (c ∷ cs) = gives-unless (eqb c 0) _ _ (gives-map (zeros z) _ _ (gives-plain (c - 1) (ltb c 255) cs))
+gives-plain zero z (c ∷ cs) = gives-unless (eqb c 0 || lastOneAfterFull c cs) _ _ (gives-map (zeros z) _ _ (gives-plain (c - 1) (ltb c 255) cs))
 gives-plain (suc left) z (b ∷ bs) = gives-map (b ∷ []) _ _ (gives-plain left z bs)
 
 bad-none : (r : Option (List ℕ)) → Bad ≡ measured r → r ≡ none
@@ -130,10 +131,22 @@ code-zero : (z : Bool) (c : ℕ) (cs : List ℕ) → c ≡ 0 → groupBytes 0 z 
 unfolding groupBytes
 code-zero z c cs e = rw (eq-eqb c 0 e)
 
-code-other : (z : Bool) (c : ℕ) (cs : List ℕ) → (c ≡ 0 → ⊥)
+code-short : (z : Bool) (c : ℕ) (cs : List ℕ) → length cs < c - 1 → groupBytes 0 z (c ∷ cs) ≡ none
+unfolding groupBytes
+code-short z c cs h = rw (short-none (c - 1) (ltb c 255) cs h) (either (eqb c 0 || lastOneAfterFull c cs))
+  where
+    either : (t : Bool) → cond {A = Option (List ℕ)} t none none ≡ none
+    either true = refl
+    either false = refl
+
+code-last : (z : Bool) (c : ℕ) (cs : List ℕ) → lastOneAfterFull c cs ≡ true → groupBytes 0 z (c ∷ cs) ≡ none
+unfolding groupBytes
+code-last z c cs e = rw (e, or-true)
+
+code-other : (z : Bool) (c : ℕ) (cs : List ℕ) → (c ≡ 0 → ⊥) → lastOneAfterFull c cs ≡ false
     → groupBytes 0 z (c ∷ cs) ≡ Option·map (λ xs. zeros z ++ xs) (groupBytes (c - 1) (ltb c 255) cs)
 unfolding groupBytes
-code-other z c cs e = rw (ne-eqb c 0 e)
+code-other z c cs e l = rw (ne-eqb c 0 e, l)
 
 -- the group at a place of the first n bytes of s
 module _ (s : List ℕ) (n i : ℕ) where
@@ -160,19 +173,24 @@ module _ (s : List ℕ) (n i : ℕ) where
       unfolding counted
       counted-zero f = rw (at-code, code-zero z c (slice (i + 1) n s) f)
 
-      pub counted-short : (c ≡ 0 → ⊥) → n - i < c → Bad ≡ Counted
+      pub counted-short : n - i < c → Bad ≡ Counted
       unfolding counted
-      counted-short f l =
+      counted-short l =
           let m = length-slice (i + 1) n s k in
-          rw (at-code, code-other z c (slice (i + 1) n s) f, short-none (c - 1) (ltb c 255) (slice (i + 1) n s) (omega arith))
+          rw (at-code, code-short z c (slice (i + 1) n s) (omega arith))
 
-      pub counted-group : (c ≡ 0 → ⊥) → c ≤ n - i → Counted ≡ counted (o + bit z + (c - 1)) (groupBytes 0 (leb c 254) (slice (i + c) n s))
-      counted-group f l =
+      pub counted-last : true ≡ lastOneAfterFull c (slice (i + 1) n s) → Bad ≡ Counted
+      unfolding counted
+      counted-last f = rw (at-code, code-last z c (slice (i + 1) n s) (sym f))
+
+      pub counted-group : (c ≡ 0 → ⊥) → c ≤ n - i → false ≡ lastOneAfterFull c (slice (i + 1) n s)
+          → Counted ≡ counted (o + bit z + (c - 1)) (groupBytes 0 (leb c 254) (slice (i + c) n s))
+      counted-group f l g =
           let m = length-slice (i + 1) n s k in
           let p : i + 1 + (c - 1) ≡ i + c = omega arith in
           rw (
             at-code,
-            code-other z c (slice (i + 1) n s) f,
+            code-other z c (slice (i + 1) n s) f (sym g),
             counted-map o (zeros z),
             length-zeros,
             counted-run (c - 1) (o + bit z) (ltb c 255) (slice (i + 1) n s) (omega arith),
@@ -180,3 +198,38 @@ module _ (s : List ℕ) (n i : ℕ) where
             p,
             holds-test,
           )
+
+-- ---- a last 01 after a full group
+
+-- a list compared with one byte
+equal-one : (b v : ℕ) → equal (b ∷ []) (v ∷ []) ≡ eqb b v
+unfolding equal
+equal-one b v = and-true (eqb b v)
+
+equal-not-one : (xs : List ℕ) (v : ℕ) → (length xs ≡ 1 → ⊥) → equal xs (v ∷ []) ≡ false
+unfolding equal
+equal-not-one [] v h = refl
+equal-not-one (x ∷ []) v h = absurd (h refl)
+equal-not-one (x ∷ y ∷ ys) v h = and-false (eqb x v)
+
+-- after the group with the code byte c at i, in the first n bytes of s
+module _ (s : List ℕ) (n i c : ℕ) where
+  pub last-below : c ≤ 254 → false ≡ lastOneAfterFull c (slice (i + 1) n s)
+  last-below h = rw (ne-eqb c 255 (λ e. omega arith))
+
+  module _ (h : 254 < c) (l : c < 256) (k : n ≤ length s) where
+    last-behind : lastOneAfterFull c (slice (i + 1) n s) ≡ equal (slice (i + c) n s) (1 ∷ [])
+    last-behind =
+        let p : i + 1 + 254 ≡ i + c = omega arith in
+        rw (eq-eqb c 255 (omega arith), drop-drop, p)
+
+    pub last-others : (n - i - c ≡ 1 → ⊥) → false ≡ lastOneAfterFull c (slice (i + 1) n s)
+    last-others f =
+        let m = length-slice (i + c) n s k in
+        sym (last-behind ∙ equal-not-one (slice (i + c) n s) 1 (λ e. f (omega arith)))
+
+    pub last-byte : n - i - c ≡ 1 → eqb (getD s (i + c) 0) 1 ≡ lastOneAfterFull c (slice (i + 1) n s)
+    last-byte e =
+        let p = slice-past s n (i + c + 1) (omega arith) k in
+        let q : slice (i + c) n s ≡ getD s (i + c) 0 ∷ [] = slice-next s n (i + c) (omega arith) k ∙ rw p in
+        sym (last-behind ∙ rw (q, equal-one))

@@ -1,10 +1,12 @@
--- Consistent Overhead Byte Stuffing, writing and reading (document 01, "The message on the wire").
+-- Consistent Overhead Byte Stuffing, writing and reading (document 01, "The message on the wire", as document 02's item 6 amends it).
 -- Assumes nothing: these are definitions.
-use mathlib.Core.Bool.{Bool, true, false, cond}
+use mathlib.Core.Bool.{Bool, true, false, cond, _&&_, _||_}
 use mathlib.Core.List.{List, [], _∷_, _++_}
 use mathlib.Core.Option.{Option, none, some, Option·map}
 use Prim.Native.Nat.{ℕ, zero, suc, pred, _-_}
 use lib.Dec.{eqb, ltb}
+use lib.ListN.{drop}
+use Rattle.octets.specs.Bytes.{equal}
 use Rattle.line.specs.Limits.{longest-group}
 
 -- the code byte of a full group, which no zero follows
@@ -49,13 +51,19 @@ cobs xs = coded (groups places-left xs)
 abbrev pub zeros : Bool → List ℕ
 zeros holds = cond holds (0 ∷ []) []
 
+-- whether these bytes, which follow a code byte c, are its full group and a last 01
+abbrev pub lastOneAfterFull : ℕ → List ℕ → Bool
+lastOneAfterFull c cs = eqb c full-code && equal (drop longest-group cs) (0x01 ∷ [])
+
 -- `left` bytes of a group are to come, and `holds` says whether a zero follows the group, unless the frame ends there.
--- A code byte below ff is followed by a zero after its bytes, ff by none. A code byte that runs past the end fails.
+-- A code byte below ff is followed by a zero after its bytes, ff by none. A code byte that runs past the end fails, and so does
+-- a last 01 after a full group.
 unfoldable pub groupBytes : ℕ → Bool → List ℕ → Option (List ℕ)
 groupBytes zero holds [] = some []
 groupBytes (suc left) holds [] = none
 groupBytes (suc left) holds (b ∷ bs) = Option·map (λ xs. b ∷ xs) (groupBytes left holds bs)
-groupBytes zero holds (c ∷ cs) = cond (eqb c 0) none (Option·map (λ xs. zeros holds ++ xs) (groupBytes (c - 1) (ltb c full-code) cs))
+groupBytes zero holds (c ∷ cs) =
+    cond (eqb c 0 || lastOneAfterFull c cs) none (Option·map (λ xs. zeros holds ++ xs) (groupBytes (c - 1) (ltb c full-code) cs))
 
 -- the bytes of a COBS form, unless it is none
 unfoldable pub uncobs : List ℕ → Option (List ℕ)

@@ -59,7 +59,7 @@ wrongLength xs = ltb (length xs) shortest-message || ltb longest-message (length
 unfoldable pub judgeLength : List ℕ → Verdict
 judgeLength xs = cond (wrongLength xs) (failure 3 none) (judgeFields xs)
 
--- reason 1: a code byte runs past the end
+-- reason 1: a code byte runs past the end, or a last 01 stands after a full group
 unfoldable pub judgeForm : Option (List ℕ) → Verdict
 judgeForm none = failure 1 none
 judgeForm (some xs) = judgeLength xs

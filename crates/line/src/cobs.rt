@@ -5,11 +5,12 @@ use crate::scan::least;
 use crate::scan::nonzero_run;
 ghost use mathlib.Core.Path.{_≡_};
 ghost use mathlib.Core.Bool.{true, false, cond};
-ghost use Prim.Native.Nat.{_≤_, _<_, _-_};
+ghost use Prim.Native.Nat.{_+_, _-_, _≤_, _<_};
 ghost use lib.ListN.{length, take, set};
+ghost use lib.Seq.{slice};
 ghost use Rattle.octets.specs.Bytes.{overlay};
 ghost use Rattle.line.specs.Limits.{longest-message};
-ghost use Rattle.line.specs.Cobs.{cobs, uncobs};
+ghost use Rattle.line.specs.Cobs.{cobs, lastOneAfterFull, uncobs};
 ghost use Rattle.line.specs.Decoding.{measured, plain, bit};
 
 // The length of the COBS form of the first n bytes of s.
@@ -87,6 +88,23 @@ fn put_held(s: &mut [u8], o: usize, zero: bool)
     }
 }
 
+// Whether the group with the code byte c at i is full and only a 01 follows it in the first n bytes of s.
+fn last_one_after_full(s: &[u8], n: usize, i: usize, c: usize) -> bool
+    requires { ⌜ n ≤ length (now s) ⌝ }
+    requires { ⌜ i < n ⌝ }
+    requires { ⌜ c ≤ n - i ⌝ }
+    requires { ⌜ c < 256 ⌝ }
+    ensures { λ r. ⌜ r ≡ lastOneAfterFull c (slice (i + 1) n (now (s .entry))) ⌝ }
+{
+    if c <= LONGEST_GROUP {
+        return false;
+    }
+    if n - i - c != 1 {
+        return false;
+    }
+    s[i + c] == 1
+}
+
 // The length that the first n bytes of s decode to, unless they are no COBS form.
 pub(crate) fn decoded_length(s: &[u8], n: usize) -> Measured
     requires { ⌜ n ≤ length (now s) ⌝ }
@@ -101,6 +119,9 @@ pub(crate) fn decoded_length(s: &[u8], n: usize) -> Measured
             return Measured::Bad;
         }
         if n - i < c {
+            return Measured::Bad;
+        }
+        if last_one_after_full(s, n, i, c) {
             return Measured::Bad;
         }
         o += held(zero);

@@ -1,25 +1,50 @@
 -- What COBS keeps of a list: reading its form gives it back, the form has no zero byte, bytes are read from bytes, and the form's length is bounded.
 -- Assumes nothing.
 use mathlib.Core.Path.{_≡_, refl}
-use mathlib.Core.Bool.{Bool, true, false}
+use mathlib.Core.Bool.{Bool, true, false, _&&_, _||_}
 use mathlib.Core.Option.{Option, none, some, Option·map}
 use mathlib.Core.List.{List, [], _∷_, _++_}
 use Prim.Native.Nat.{ℕ, zero, suc, _+_, _-_, _≤_}
 use native.Mathlib.Omega.{arith}
 use native.Mathlib.Nat.{add-zero}
 use native.Mathlib.Numerals.{sub-one}
-use borrow.Author.Tests.{lt-ltb, le-ltb}
-use lib.ListN.{length}
-use lib.Dec.{eqb, ltb, eqb·suc-zero}
-use Rattle.octets.specs.Bytes.{Byte, Each}
+use borrow.Author.Tests.{lt-ltb, le-ltb, eqb-true}
+use lib.ListN.{length, drop}
+use lib.Dec.{eqb, ltb, eqb·suc-suc, eqb·suc-zero}
+use Rattle.octets.specs.Bytes.{Byte, Each, equal}
 use Rattle.octets.proofs.Conditions.{cond-by}
 use Rattle.octets.proofs.Each.{each-append}
-use Rattle.line.specs.Limits.{longest-form}
+use Rattle.line.specs.Limits.{longest-group, longest-form}
 use Rattle.line.specs.Message.{Message, InRange, message}
 use Rattle.line.specs.Frame.{frame}
-use Rattle.line.specs.Cobs.{full-code, places-left, groups, cobs, zeros, groupBytes, uncobs}
+use Rattle.line.specs.Cobs.{full-code, places-left, coded, groups, cobs, zeros, lastOneAfterFull, groupBytes, uncobs}
 use Rattle.line.proofs.FrameLength
 pub use Rattle.line.proofs.FrameLength.{overhead}
+
+-- ---- no last 01 is written after a full group
+
+-- a message that has a byte is not written as 01
+more-than-01 : (x : ℕ) (xs : List ℕ) → equal (coded (groups places-left (x ∷ xs))) (1 ∷ []) ≡ false
+unfolding groups equal
+more-than-01 zero xs = refl
+more-than-01 (suc b) xs = rw (eqb·suc-suc, eqb·suc-zero)
+
+-- what follows a full group
+after-full : (xs : List ℕ) (room : ℕ) → groups room xs .count ≡ suc room → equal (drop (suc room) (groups room xs .after)) (1 ∷ []) ≡ false
+unfolding groups equal
+after-full [] room e = absurd (omega arith)
+after-full (zero ∷ xs) room e = absurd (omega arith)
+after-full (suc b ∷ []) zero e = refl
+after-full (suc b ∷ x ∷ xs) zero e = more-than-01 x xs
+after-full (suc b ∷ xs) (suc room) e = after-full xs room (omega arith)
+
+no-last-one : (xs : List ℕ) → lastOneAfterFull (suc (groups places-left xs .count)) (groups places-left xs .after) ≡ false
+no-last-one xs = go (eqb (suc (groups places-left xs .count)) full-code) refl
+  where
+    go : (t : Bool) → eqb (suc (groups places-left xs .count)) full-code ≡ t
+        → (t && equal (drop longest-group (groups places-left xs .after)) (1 ∷ [])) ≡ false
+    go true e = let f = eqb-true (suc (groups places-left xs .count)) full-code e in after-full xs places-left (omega arith)
+    go false e = refl
 
 -- ---- reading gives the list back
 
@@ -28,15 +53,16 @@ groups-read : (xs : List ℕ) (room done n : ℕ) → room + done ≡ places-lef
     → groupBytes (groups room xs .count) (ltb (suc n) full-code) (groups room xs .after) ≡ some xs
 unfolding groups groupBytes
 groups-read [] room done n h e = refl
-groups-read (zero ∷ xs) room done n h e = rw (eqb·suc-zero, sub-one, groups-read xs places-left 0 _ refl (add-zero _), lt-ltb (suc n) full-code (omega arith))
+groups-read (zero ∷ xs) room done n h e =
+    rw (eqb·suc-zero, no-last-one xs, sub-one, groups-read xs places-left 0 _ refl (add-zero _), lt-ltb (suc n) full-code (omega arith))
 groups-read (suc b ∷ []) zero done n h e = refl
 groups-read (suc b ∷ x ∷ xs) zero done n h e =
-    rw (eqb·suc-zero, sub-one, groups-read (x ∷ xs) places-left 0 _ refl (add-zero _), le-ltb (suc n) full-code (omega arith))
+    rw (eqb·suc-zero, no-last-one (x ∷ xs), sub-one, groups-read (x ∷ xs) places-left 0 _ refl (add-zero _), le-ltb (suc n) full-code (omega arith))
 groups-read (suc b ∷ xs) (suc room) done n h e = rw (groups-read xs room (suc done) n (omega arith) (omega arith))
 
 pub round-trip : (xs : List ℕ) → uncobs (cobs xs) ≡ some xs
 unfolding uncobs cobs groupBytes
-round-trip xs = rw (eqb·suc-zero, sub-one, groups-read xs places-left 0 _ refl (add-zero _))
+round-trip xs = rw (eqb·suc-zero, no-last-one xs, sub-one, groups-read xs places-left 0 _ refl (add-zero _))
 
 -- ---- no zero
 
@@ -56,8 +82,12 @@ module _ (P Q : ℕ → Type 0) (code : (n : ℕ) → n ≤ 254 → P (suc n)) (
   unfolding cobs
   cobs-each xs q = let r = groups-each xs 253 (omega arith) q in (code _ (omega arith), r .1)
 
-pub no-zero : (xs : List ℕ) → Each Byte xs → Each (λ b. (1 ≤ b) × (b ≤ 255)) (cobs xs)
-no-zero = cobs-each (λ b. (1 ≤ b) × (b ≤ 255)) Byte (λ n h. omega arith) (λ b h. omega arith)
+-- a byte 1 to 255
+abbrev pub NonZero : ℕ → Type 0
+NonZero b = (1 ≤ b) × (b ≤ 255)
+
+pub no-zero : (xs : List ℕ) → Each Byte xs → Each NonZero (cobs xs)
+no-zero = cobs-each NonZero Byte (λ n h. omega arith) (λ b h. omega arith)
 
 -- of any list, bytes or not
 pub above-zero : (xs : List ℕ) → Each (λ b. 1 ≤ b) (cobs xs)
@@ -89,7 +119,7 @@ module _ (P : ℕ → Type 0) (of-zero : P 0) where
   group-each [] (suc left) holds h = tt
   group-each (b ∷ bs) (suc left) holds h = then-each (λ xs. b ∷ xs) (λ xs k. (h .0, k)) (groupBytes left holds bs) (group-each bs left holds (h .1))
   group-each (c ∷ cs) zero holds h =
-      cond-by EachRead (eqb c 0) _ _ (λ e. tt) (λ e.
+      cond-by EachRead (eqb c 0 || lastOneAfterFull c cs) _ _ (λ e. tt) (λ e.
       then-each (λ xs. zeros holds ++ xs) (λ xs k. each-append P (zeros holds) xs (zeros-each holds) k)
       (groupBytes (c - 1) (ltb c full-code) cs) (group-each cs (c - 1) (ltb c full-code) (h .1)))
 

@@ -1,5 +1,6 @@
 -- Demand 3 in the paper's order: what a call reads, when it is refused, and that what the writer put out is what the reader hands out.
--- `any-run`, `one-meaning`, `hands-out`, `any-stream`, `any-tail`, `cut` and the checksum's claims are passed on from their files. Assumes nothing.
+-- `any-run`, `one-meaning`, `hands-out`, `any-stream`, `any-tail`, `cut`, the checksum's claims and those of document 02's item 6, `one-spelling`, `good-frame`,
+-- `handed-frames`, `handed-wire` and `answers-tell`, are passed on from their files. Assumes nothing.
 use mathlib.Core.Path.{_≡_, refl, sym, ap, _∙_}
 use mathlib.Core.Bool.{Bool, true, false, cond}
 use mathlib.Core.List.{List, [], _∷_, append-nil}
@@ -29,6 +30,8 @@ pub use Rattle.line_claims.specs.LoanLaws.{any-run}
 pub use Rattle.line_claims.specs.WireClaim.{one-meaning}
 pub use Rattle.line_claims.specs.WriterClaim.{Sent, sent-wire, written-frame, one-meaning-sent}
 pub use Rattle.line_claims.specs.ReaderClaim.{any-stream, any-messages, any-failures, any-tail, hands-out, stays-valid, cut}
+pub use Rattle.line_claims.specs.SpellingClaim.{read-written, one-spelling, good-frame}
+pub use Rattle.line_claims.specs.FrameClaim.{goodFrames, handed-frames, handed-wire, toldBytes, answers-tell}
 pub use Rattle.line_claims.specs.Changes.{Multiple, change, changes, summed, placed, checksum-changes}
 pub use Rattle.line_claims.specs.ApartClaim.{DifferApart, changeAt, Missed, checksum-apart, checksum-255-apart, opposite-255-apart, exchanged-255-apart}
 pub use Rattle.line_claims.specs.DistanceClaim.{DividesOne, Factors, checksum-distance}

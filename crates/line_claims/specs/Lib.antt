@@ -5,6 +5,7 @@ pub mod MessageLaws
 pub mod Pieces
 pub mod CobsClaims
 pub mod JudgeClaim
+pub mod SpellingClaim
 pub mod WireClaim
 pub mod Changes
 pub mod ApartClaim
@@ -16,4 +17,5 @@ pub mod LoanLaws
 pub mod Calls
 pub mod Streams
 pub mod ReaderClaim
+pub mod FrameClaim
 pub mod Demand3

@@ -1,6 +1,6 @@
--- A list split at its zeros, with the laws of one byte or piece more.
+-- A list split at its zeros, with the laws of one byte or piece more, and the list put together again.
 -- Assumes nothing.
-use mathlib.Core.Path.{_≡_, refl}
+use mathlib.Core.Path.{_≡_, refl, _∙_}
 use mathlib.Core.List.{List, [], _∷_, _++_}
 use Prim.Native.Nat.{ℕ, zero, suc, _≤_}
 use native.Mathlib.Omega.{arith}
@@ -101,3 +101,34 @@ closed-rest w more = rw (split-join w more) (drop-append-seam (split w .closed) 
 -- each piece of the joined bytes is closed once, in order
 pub closed-join : (w more : List ℕ) → split (w ++ more) .closed ≡ split w .closed ++ closedBy w more
 closed-join w more = rw (closed-rest w more, split-join w more)
+
+-- ---- the list again
+
+-- each piece with its zero
+unfoldable pub withZeros : List (List ℕ) → List ℕ
+withZeros [] = []
+withZeros (p ∷ ps) = p ++ 0 ∷ withZeros ps
+
+ahead-whole : (b : ℕ) (ps : List (List ℕ)) (rest : List ℕ) → let z = ahead b ps rest in withZeros (z .closed) ++ z .rest ≡ b ∷ (withZeros ps ++ rest)
+unfolding withZeros
+ahead-whole b [] rest = refl
+ahead-whole b (p ∷ ps) rest = refl
+
+pub split-whole : (w : List ℕ) → withZeros (split w .closed) ++ split w .rest ≡ w
+unfolding split withZeros
+split-whole [] = refl
+split-whole (zero ∷ w) = rw (split-whole w)
+split-whole (suc b ∷ w) = ahead-whole (suc b) (split w .closed) (split w .rest) ∙ rw (split-whole w)
+
+-- Q holds of each element of a piece if it holds of each element above 0 that has P
+module _ (P Q : ℕ → Type 0) (kept : (b : ℕ) → P (suc b) → Q (suc b)) where
+  ahead-each : (b : ℕ) (ps : List (List ℕ)) (rest : List ℕ) → Q b → Each (Each Q) ps → Each Q rest
+      → Each (Each Q) (ahead b ps rest .closed) × Each Q (ahead b ps rest .rest)
+  ahead-each b [] rest q h k = (tt, (q, k))
+  ahead-each b (p ∷ ps) rest q h k = (((q, h .0), h .1), k)
+
+  pub split-each : (w : List ℕ) → Each P w → Each (Each Q) (split w .closed) × Each Q (split w .rest)
+  unfolding split
+  split-each [] h = (tt, tt)
+  split-each (zero ∷ w) h = let r = split-each w (h .1) in ((tt, r .0), r .1)
+  split-each (suc b ∷ w) h = let r = split-each w (h .1) in ahead-each (suc b) (split w .closed) (split w .rest) (kept b (h .0)) (r .0) (r .1)

@@ -5,7 +5,7 @@ use mathlib.Core.List.{List, [], _∷_, _++_, map}
 use mathlib.Core.Option.{Option, none, some}
 use Prim.Native.Nat.{ℕ}
 use lib.ListN.{replicate}
-use Rattle.octets.specs.Bytes.{number, bytes}
+use Rattle.octets.specs.Bytes.{number, bytes, equal}
 use Rattle.line.specs.Checksum.{sums, checksum}
 use Rattle.line.specs.Message.{Message, body, message}
 use Rattle.line.specs.Cobs.{groups, cobs, groupBytes, uncobs}
@@ -64,15 +64,19 @@ samples =
     ∷ form (replicate 255 7 ++ 0 ∷ []) (0xff ∷ replicate 254 7 ++ 0x02 ∷ 7 ∷ 0x01 ∷ [])
     ∷ form (replicate 508 7) (0xff ∷ replicate 254 7 ++ 0xff ∷ replicate 254 7)
     ∷ form (replicate 508 7 ++ 0 ∷ []) (0xff ∷ replicate 254 7 ++ 0xff ∷ replicate 254 7 ++ 0x01 ∷ 0x01 ∷ [])
-    -- read back: no zero follows a full group, a last 01 after one is accepted and adds nothing, and a last 02 runs past the end
+    -- read back: no zero follows a full group, a last 01 after one fails (document 02's item 6), and a last 02 runs past the end
     ∷ decoded (0xff ∷ replicate 254 7) (some (replicate 254 7))
-    ∷ decoded (0xff ∷ replicate 254 7 ++ 0x01 ∷ []) (some (replicate 254 7))
+    ∷ decoded (0xff ∷ replicate 254 7 ++ 0x01 ∷ []) none
+    ∷ decoded (0xff ∷ replicate 254 7 ++ 0xff ∷ replicate 254 7) (some (replicate 508 7))
+    ∷ decoded (0xff ∷ replicate 254 7 ++ 0xff ∷ replicate 254 7 ++ 0x01 ∷ []) none
+    ∷ decoded (0x01 ∷ 0xff ∷ replicate 254 7 ++ 0x01 ∷ []) none
     ∷ decoded (0xff ∷ replicate 254 7 ++ 0x01 ∷ 0x01 ∷ []) (some (replicate 254 7 ++ 0 ∷ []))
     ∷ decoded (0xff ∷ replicate 254 7 ++ 0x02 ∷ 7 ∷ []) (some (replicate 255 7))
     ∷ decoded (0xfe ∷ replicate 253 7 ++ 0x01 ∷ []) (some (replicate 253 7 ++ 0 ∷ []))
+    ∷ read (0xff ∷ replicate 254 7 ++ 0x01 ∷ []) (failure 1 none)
     ∷ read (0xff ∷ replicate 254 7 ++ 0x02 ∷ []) (failure 1 none)
     ∷ []
 
 pub samples-hold : map meant samples ≡ samples
-unfolding meant samples status-request number bytes sums checksum body message groups cobs groupBytes uncobs frame fields judgeFields judgeLength judgeForm judge
+unfolding meant samples status-request number bytes equal sums checksum body message groups cobs groupBytes uncobs frame fields judgeFields judgeLength judgeForm judge
 samples-hold = refl

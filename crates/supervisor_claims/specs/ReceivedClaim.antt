@@ -1,30 +1,32 @@
 -- The line reader's part of the view: what a byte and a 00 do to the bytes since the last 00, the verdict on them, and what stays.
 -- Assumes nothing.
-use mathlib.Core.Path.{_≡_, refl, sym, ap}
+use mathlib.Core.Path.{_≡_, refl, sym}
 use mathlib.Core.Bool.{Bool, true, false, cond, not}
 use mathlib.Core.List.{List, [], _∷_, _++_}
 use mathlib.Core.Option.{Option, none, some}
-use Prim.Native.Nat.{ℕ, zero, suc, _+_, _-_, _^_, _≤_, _<_}
+use Prim.Native.Nat.{ℕ, zero, suc, _+_, _^_, _≤_, _<_}
 use native.Mathlib.Nat.{add-zero}
 use native.Mathlib.Omega.{arith}
 use lib.Dec.{leb, ltb, eqb}
-use lib.ListN.{length, length-take, length-drop}
+use lib.ListN.{length}
 use borrow.Author.Tests.{ltb-true, ltb-false, lt-ltb, le-ltb, leb-false, eqb-true, eqb-false}
 use Rattle.octets.specs.Bytes.{Byte, Each, bytes, run, overlay}
 use Rattle.octets.proofs.Conditions.{cond-by}
 use Rattle.octets.proofs.Each.{each-take, each-drop}
 use Rattle.octets.proofs.Numbers.{bytes-each}
 use Rattle.octets.proofs.Overlay.{run-more, length-run, length-overlay, overlay-before, overlay-getD-inside, overlay-each}
-use Rattle.line.specs.Limits.{header-length, checksum-length, longest-data, longest-form}
+use Rattle.line.specs.Limits.{longest-data, longest-form}
 use Rattle.line.specs.Checksum.{checksum}
-use Rattle.line.specs.Message.{magic, Message}
+use Rattle.line.specs.Message.{magic, Message, InRange}
 use Rattle.line.specs.Cobs.{uncobs}
-use Rattle.line.specs.Judge.{Verdict, failure, good, bodyOf, checksumOf, magicOf, payloadOf, fields, wrongLength, judgeFields, judgeLength, judgeForm, judge}
+use Rattle.line.specs.Judge.{Verdict, failure, good, bodyOf, checksumOf, magicOf, fields, wrongLength, judgeFields, judgeLength, judgeForm, judge}
 use Rattle.line.specs.Reader as LineReader
 use Rattle.line.proofs.State.{Ready, valid-ready, ready-valid, length-counted, count-counted, run-counted, ready-pushed}
 use Rattle.line.proofs.Lent.{fit-length}
 use Rattle.line.proofs.Held.{data-unpacked, finish-leaves}
 use Rattle.line_claims.specs.CobsClaims.{uncobs-each}
+use Rattle.line_claims.specs.MessageLaws.{fields-range}
+use Rattle.line_claims.specs.JudgeClaim.{never, judge-good}
 use Rattle.requests.specs.Requests.{known, lengthAllowed, tested, testedWhere, verdict, more}
 use Rattle.requests.specs.Receive.{verdictOf}
 use Rattle.requests.specs.Requests.{verdictSince}
@@ -167,32 +169,6 @@ finished-verdict s v =
 
 -- ---- a message that the whole table finds good
 
-never : {A : Type 0} {reason : ℕ} {sequence : Option ℕ} {m : Message} → failure reason sequence ≡ good m → A
-never p = let z : _≡_ {A = ℕ} 0 1 = cc in absurd (omega arith)
-
--- what the line layer finds good
-record Good (form : List ℕ) (m : Message) : Type 0 where
-  xs : List ℕ
-  decoded : uncobs form ≡ some xs
-  fits : wrongLength xs ≡ false
-  is : m ≡ fields xs
-
-judge-good : (form : List ℕ) (m : Message) → judge form ≡ good m → Good form m
-unfolding judge judgeForm judgeLength judgeFields
-judge-good form m =
-    cond-by (λ v. v ≡ good m → Good form m) (ltb longest-form (length form)) _ _ (λ e p. never p) (λ e. by-form (uncobs form) refl)
-  where
-    by-fields : (xs : List ℕ) → uncobs form ≡ some xs → wrongLength xs ≡ false → judgeFields xs ≡ good m → Good form m
-    by-fields xs d w =
-        cond-by (λ v. v ≡ good m → Good form m) (eqb (checksumOf xs) (checksum (bodyOf xs))) _ _
-        (λ e. cond-by (λ v. v ≡ good m → Good form m) (eqb (magicOf xs) magic) _ _
-        (λ f p. record { xs = xs; decoded = d; fits = w; is = cc }) (λ f p. never p))
-        (λ e p. never p)
-
-    by-form : (o : Option (List ℕ)) → uncobs form ≡ o → judgeForm o ≡ good m → Good form m
-    by-form none d = λ p. never p
-    by-form (some xs) d = cond-by (λ v. v ≡ good m → Good form m) (wrongLength xs) _ _ (λ e p. never p) (λ e. by-fields xs d e)
-
 -- what the table asks of a request: its sequence's top bit is not set, its command is known, and its data are bytes, as many as the command takes
 pub record Requestable (m : Message) : Type 0 where
   pub version : m .version ≡ 1
@@ -232,9 +208,6 @@ tested-good l m =
     not-false true e = refl
     not-false false e = cc
 
-payload-each : (xs : List ℕ) → Each Byte xs → Each Byte (payloadOf xs)
-payload-each xs h = each-drop Byte header-length (bodyOf xs) (each-take Byte (length xs - checksum-length) xs h)
-
 pub good-typed : (form : List ℕ) (m : Message) → Each Byte form → verdict form ≡ good m → Requestable m
 unfolding verdict fields
 good-typed form m b = by (judge form) refl
@@ -242,18 +215,15 @@ good-typed form m b = by (judge form) refl
     typed : (l : Message) → judge form ≡ good l → Tested l m → Requestable m
     typed l j t =
         let g = judge-good form l j in
-        let size = fit-length (g .xs) (g .fits) in
-        let d = payload-each (g .xs) (uncobs-each form (g .xs) b (g .decoded)) in
-        let e : payloadOf (g .xs) ≡ l .payload = ap (λ (x : Message). x .payload) (sym (g .is)) in
-        let n : length (payloadOf (g .xs)) ≤ longest-data = simp (length-drop, length-take) (omega arith) in
+        let r : InRange l = rw (g .is) (fields-range (g .xs) (uncobs-each form (g .xs) b (g .decoded)) (fit-length (g .xs) (g .fits) .1)) in
         rw (← t .same)
         (record {
           version = t .version;
           sequence = t .sequence;
           command = t .command;
           allowed = t .allowed;
-          fits = rw e at n;
-          payload = rw e at d;
+          fits = r .fits;
+          payload = r .typed .payload;
         })
 
     by : (v : Verdict) → judge form ≡ v → testedWhere v ≡ good m → Requestable m

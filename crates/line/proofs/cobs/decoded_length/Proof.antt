@@ -9,7 +9,7 @@ use borrow.Author.Needs.{needs}
 use denote.Ref.{now}
 use Rattle.line.specs.Cobs.{uncobs}
 use Rattle.line.specs.Decoding.{bit, measured}
-use Rattle.line.proofs.Decoding.{bit-most, Counted, counted-start, counted-zero, counted-short, counted-group, counted-end}
+use Rattle.line.proofs.Decoding.{bit-most, Counted, counted-start, counted-zero, counted-short, counted-last, counted-group, counted-end}
 use Rattle.line.proofs.cobs.decoded_length.Statement.{statement}
 use Rattle.line.proofs.cobs.decoded_length.Tie as tie
 
@@ -40,25 +40,38 @@ returns-2 c =
     let start = at-loop .before .before in
     counted-short (now (start .args .s)) (start .args .n) (turn .i) (turn .zero) (turn .o) (c .before .before .wide .result)
     (c .before .before .before .before .loop-test .taken) (start .pre) (c .before .before .wide .ensures .0)
-    (c .before .if1 .left) (c .if2 .taken)
+    (c .if2 .taken)
+    ∙ sym (turn .inv .2)
+
+-- a last 01 after a full group
+returns-3 : tie.Need-returns-3 Inv-loop μ-loop
+returns-3 c =
+    let at-call = c .before in
+    let at-wide = at-call .before .before .before in
+    let at-loop = at-wide .before .before .before in
+    let turn = at-loop .loop in
+    let start = at-loop .before .before in
+    counted-last (now (start .args .s)) (start .args .n) (turn .i) (turn .zero) (turn .o) (at-wide .wide .result)
+    (at-wide .before .before .loop-test .taken) (start .pre) (at-wide .wide .ensures .0) (sym (c .if3 .taken) ∙ at-call .last-one-after-full .ensures)
     ∙ sym (turn .inv .2)
 
 loop-again : tie.Need-loop-again Inv-loop μ-loop
 loop-again c =
-    let messageOf = c .before .before .before .wide in
-    let at-loop = c .before .before .before .before .before .before in
+    let at-call = c .before .before in
+    let at-wide = at-call .before .before .before in
+    let at-loop = at-wide .before .before .before in
     let turn = at-loop .loop in
     let start = at-loop .before .before in (
       search needs,
-      omega (arith, bit-most (leb (messageOf .result) 254)),
-      cc (counted-group (now (start .args .s)) (start .args .n) (turn .i) (turn .zero) (turn .o) (messageOf .result)
-          (c .before .before .before .before .before .loop-test .taken) (start .pre) (messageOf .ensures .0)
-          (c .before .before .if1 .left) (c .before .if2 .left)),
+      omega (arith, bit-most (leb (at-wide .wide .result) 254)),
+      cc (counted-group (now (start .args .s)) (start .args .n) (turn .i) (turn .zero) (turn .o) (at-wide .wide .result)
+          (at-wide .before .before .loop-test .taken) (start .pre) (at-wide .wide .ensures .0)
+          (at-call .before .before .if1 .left) (at-call .before .if2 .left) (sym (c .before .if3 .left) ∙ at-call .last-one-after-full .ensures)),
     )
 
 -- the end, at the end of a group
-returns-3 : tie.Need-returns-3 Inv-loop μ-loop
-returns-3 c =
+returns-4 : tie.Need-returns-4 Inv-loop μ-loop
+returns-4 c =
     let at-loop = c .before in
     let turn = at-loop .loop in
     let start = at-loop .before .before in
@@ -71,4 +84,5 @@ decoded-length-spec =
     tie.close
     (tie.spec
     Inv-loop μ-loop loop-holds (λ c. search needs) (λ c κs. search needs) returns (λ c. search needs) returns-2 (λ c κs. search needs)
-    (λ c. search needs) (λ c. search needs) (λ c. search needs) (λ c. search needs) (λ c. search needs) loop-again returns-3)
+    returns-3 (λ c κs. search needs)
+    (λ c. search needs) (λ c. search needs) (λ c. search needs) (λ c. search needs) (λ c. search needs) loop-again returns-4)

@@ -1,0 +1,114 @@
+-- Claims over calls of a line reader: a frame that is handed out as a message is that message's frame, so that the answers tell the bytes that were read.
+-- Assumes nothing.
+use mathlib.Core.Path.{_≡_, refl, sym, ap, _∙_}
+use mathlib.Core.List.{List, [], _∷_, _++_, map, map-append, append-assoc}
+use Prim.Native.Nat.{ℕ, _≤_}
+use native.Mathlib.Omega.{arith}
+use lib.ListN.{length}
+use Rattle.octets.specs.Bytes.{Byte, Each}
+use Rattle.line.specs.Message.{Message}
+use Rattle.line.specs.Frame.{frame, Wire, over, idle, sent}
+use Rattle.line.specs.Judge.{Verdict, failure, good, judge}
+use Rattle.line.specs.Reader.{Said, refused, more, empty, message, failed, verdictSaid, state-length}
+use Rattle.line_claims.specs.Pieces.{split, nonEmpty, withZeros, split-each, split-whole}
+use Rattle.line_claims.specs.CobsClaims.{NonZero}
+use Rattle.line_claims.specs.SpellingClaim.{good-form, good-frame}
+use Rattle.line_claims.specs.Calls.{Call, afterAll, begun, frameSaid, gathered, goodOf, reasonOf, goodMessages, failureReasons}
+use Rattle.line_claims.specs.ReaderClaim.{any-stream, any-messages, any-failures}
+
+-- ---- pieces of bytes 1 to 255
+
+-- a piece with its 00, where the tests find it good
+abbrev pub frameOf : List ℕ → Verdict → List (List ℕ)
+frameOf p (failure reason sequence) = []
+frameOf p (good m) = (p ++ 0 ∷ []) ∷ []
+
+-- those of these pieces, in order
+unfoldable pub goodFrames : List (List ℕ) → List (List ℕ)
+goodFrames [] = []
+goodFrames (p ∷ ps) = frameOf p (judge p) ++ goodFrames ps
+
+frame-of : (p : List ℕ) → Each NonZero p → (v : Verdict) → judge p ≡ v → frameOf p v ≡ map frame (goodOf v)
+frame-of p n (failure reason sequence) e = refl
+frame-of p n (good m) e = rw (good-frame p m n e)
+
+good-frames : (ps : List (List ℕ)) → Each (Each NonZero) ps → goodFrames (nonEmpty ps) ≡ map frame (goodMessages (nonEmpty ps))
+unfolding goodFrames nonEmpty gathered
+good-frames [] n = refl
+good-frames ([] ∷ ps) n = good-frames ps (n .1)
+good-frames ((b ∷ bs) ∷ ps) n = rw (map-append, frame-of (b ∷ bs) (n .0) (judge (b ∷ bs)) refl, good-frames ps (n .1))
+
+-- a frame ahead of the others, where it is good
+frame-ahead : (p : List ℕ) (m : Message) (w : List ℕ) → Each NonZero p → judge p ≡ good m → p ++ 0 ∷ w ≡ frame m ++ w
+frame-ahead p m w n e = sym (append-assoc p (0 ∷ []) w) ∙ rw (good-frame p m n e)
+
+-- where none fails, the first is good
+module _ (p : List ℕ) (rs : List ℕ) (P : Verdict → Type 0) where
+  first-good : reasonOf (judge p) ++ rs ≡ [] → ((m : Message) → judge p ≡ good m → rs ≡ [] → P (good m)) → P (judge p)
+  first-good = by (judge p) refl
+    where
+      by : (v : Verdict) → judge p ≡ v → reasonOf v ++ rs ≡ [] → ((m : Message) → judge p ≡ good m → rs ≡ [] → P (good m)) → P v
+      by (failure reason sequence) j e h = let z : _≡_ {A = ℕ} 0 1 = cc in absurd (omega arith)
+      by (good m) j e h = h m j e
+
+-- wire bytes, where none fails
+pieces-wire : (ps : List (List ℕ)) → Each (Each NonZero) ps → failureReasons (nonEmpty ps) ≡ [] → Wire (goodMessages (nonEmpty ps)) (withZeros ps)
+unfolding withZeros nonEmpty gathered
+pieces-wire [] n e = over
+pieces-wire ([] ∷ ps) n e = idle (pieces-wire ps (n .1) e)
+pieces-wire ((b ∷ bs) ∷ ps) n e =
+    first-good (b ∷ bs) (failureReasons (nonEmpty ps)) (λ v. Wire (goodOf v ++ goodMessages (nonEmpty ps)) ((b ∷ bs) ++ 0 ∷ withZeros ps)) e
+    (λ m j f. rw (frame-ahead (b ∷ bs) m (withZeros ps) (n .0) j) (sent (good-form (b ∷ bs) m (n .0) j .1) (pieces-wire ps (n .1) f)))
+
+-- the bytes that answers to a 00 tell, with the messages that they handed out: a 00 for an empty frame, and a message's frame; a failure tells none
+unfoldable pub toldBytes : List Said → List Message → List ℕ
+toldBytes [] ms = []
+toldBytes (empty ∷ said) ms = 0 ∷ toldBytes said ms
+toldBytes (message version sequence command n ∷ said) [] = []
+toldBytes (message version sequence command n ∷ said) (m ∷ ms) = frame m ++ toldBytes said ms
+toldBytes (failed reason sequence ∷ said) ms = []
+toldBytes (refused number ∷ said) ms = []
+toldBytes (more ∷ said) ms = []
+
+pieces-told : (ps : List (List ℕ)) → Each (Each NonZero) ps → failureReasons (nonEmpty ps) ≡ []
+    → withZeros ps ≡ toldBytes (map frameSaid ps) (goodMessages (nonEmpty ps))
+unfolding withZeros nonEmpty gathered toldBytes frameSaid verdictSaid
+pieces-told [] n e = refl
+pieces-told ([] ∷ ps) n e = rw (← pieces-told ps (n .1) e)
+pieces-told ((b ∷ bs) ∷ ps) n e =
+    first-good (b ∷ bs) (failureReasons (nonEmpty ps))
+    (λ v. (b ∷ bs) ++ 0 ∷ withZeros ps ≡ toldBytes (verdictSaid v ∷ map frameSaid ps) (goodOf v ++ goodMessages (nonEmpty ps))) e
+    (λ m j f. frame-ahead (b ∷ bs) m (withZeros ps) (n .0) j ∙ ap (λ (w : List ℕ). frame m ++ w) (pieces-told ps (n .1) f))
+
+-- ---- the claims
+
+module _ (room : List ℕ) (enough : state-length ≤ length room) (cs : List Call) (each : Each Byte (afterAll (begun room) cs .bytes)) where
+  -- the bytes before each 00, in order
+  abbrev pieces : List (List ℕ)
+  pieces = split (afterAll (begun room) cs .bytes) .closed
+
+  pieces-each : Each (Each NonZero) pieces
+  pieces-each = split-each Byte NonZero (λ b h. omega arith) (afterAll (begun room) cs .bytes) each .0
+
+  none-failed : afterAll (begun room) cs .failures ≡ [] → failureReasons (nonEmpty pieces) ≡ []
+  none-failed e = sym (any-failures room enough cs) ∙ e
+
+  -- the frames that the reader handed out as messages are exactly those messages' frames, in order
+  pub handed-frames : goodFrames (nonEmpty pieces) ≡ map frame (afterAll (begun room) cs .messages)
+  handed-frames = good-frames pieces pieces-each ∙ rw (any-messages room enough cs)
+
+  -- where it reported no failure, it read wire bytes of the messages that it handed out, and then the unfinished tail
+  pub handed-wire : afterAll (begun room) cs .failures ≡ []
+      → Wire (afterAll (begun room) cs .messages) (withZeros pieces)
+      × (afterAll (begun room) cs .bytes ≡ withZeros pieces ++ split (afterAll (begun room) cs .bytes) .rest)
+  handed-wire e = (
+    rw (any-messages room enough cs) (pieces-wire pieces pieces-each (none-failed e)),
+    sym (split-whole (afterAll (begun room) cs .bytes)),
+  )
+
+  -- and its answers determine those bytes, up to the tail
+  pub answers-tell : afterAll (begun room) cs .failures ≡ []
+      → afterAll (begun room) cs .bytes ≡ toldBytes (afterAll (begun room) cs .answered) (afterAll (begun room) cs .messages) ++ split (afterAll (begun room) cs .bytes) .rest
+  answers-tell e =
+      rw (any-stream room enough cs, any-messages room enough cs, ← pieces-told pieces pieces-each (none-failed e))
+      (sym (split-whole (afterAll (begun room) cs .bytes)))
