@@ -30,6 +30,7 @@ use Rattle.supervisor.proofs.ValidLaws.{outbox-valid, registers-valid}
 use Rattle.requests.specs.Receive
 use Rattle.supervisor_claims.specs.View.{factoryOf, view}
 use Rattle.supervisor_claims.specs.ViewLaws.{length-clear}
+use Rattle.supervisor_claims.specs.ByPart.{Part}
 use Rattle.supervisor_claims.specs.Meant.{Does, Reads, RecordedAs, withRegisters}
 use Rattle.supervisor_claims.specs.Histories
 use Rattle.supervisor_claims.specs.Histories.{Call, Typed, Did, didBy, did, refusal, Means, means, doneMeans, recordMeans, meant, upTo, frameEnds}
@@ -38,8 +39,7 @@ use Rattle.supervisor_claims.specs.TakeClaim.{take-meant}
 use Rattle.supervisor_claims.specs.PostLaws.{allowed, posted-kept}
 use Rattle.supervisor_claims.specs.RegistersClaim.{post-meant, options-meant, signal-meant, flags-meant, boot-failure-meant, panic-meant}
 use Rattle.supervisor_claims.specs.LookupClaim.{lookup-meant}
-use Rattle.supervisor_claims.specs.Sound.{Bytes, Sound, Lengths, lengths-same, Leaves}
-use Rattle.supervisor_claims.specs.Locality.{valid-room}
+use Rattle.supervisor_claims.specs.Sound.{Bytes, Sound, Lengths, lengths-same, sound-with, valid-room, Leaves}
 use Rattle.supervisor_claims.specs.LentCalls.{valid-parts}
 use Rattle.supervisor_claims.specs.StepClaim.{step-used, step-fed, step-ends, turned-stepped}
 use Rattle.supervisor_claims.specs.ReceiveClaim.{fed-leaves}
@@ -140,21 +140,13 @@ module _ (p : Parts) (s : Sound p) where
   take-keeps room =
       rw (s .valid .outbox) (taken-keeps (Calls.takenBytes (p .outbox) room) (p .outbox) (outbox-valid (p .outbox) (s .valid .outbox) .long) (s .bytes .outbox))
 
-  take-meets : (room : List ℕ) → Meets p (did p (Histories.take room)) (meant (view p) (Histories.take room))
+  take-meets : (room : List ℕ) → Meets p (did p (Histories.local (Histories.take room))) (meant (view p) (Histories.local (Histories.take room)))
   unfolding did meant
   take-meets room =
       let t = take-meant p (s .valid) room in
       let k = take-keeps room in
-      let b = s .bytes in
-      record {
-        answer = ap Histories.takeAnswer (t .0);
-        out = t .1;
-        leaves = (
-          t .2,
-          record { valid = t .3; bytes = record { reader = b .reader; outbox = k .0; factory = b .factory; settings = b .settings; registers = b .registers } },
-          record { reader = refl; outbox = k .1; factory = refl; settings = refl; registers = refl },
-        );
-      }
+      let w = sound-with p Part.outbox _ s (t .3 .outbox) (k .0) (k .1) in
+      record { answer = ap Histories.takeAnswer (t .0); out = t .1; leaves = (t .2, w .0, w .1) }
 
   -- ---- the calls that change the registers
 
@@ -162,16 +154,8 @@ module _ (p : Parts) (s : Sound p) where
       → Meets p (didBy (refusal (c .refusal)) [] (withRegisters p (c .registers))) (doneMeans (view p) x)
   registers-meets c (Local.refused n) e k = rw e (same refl refl)
   registers-meets c (Local.left x) e k =
-      let b = s .bytes in
-      record {
-        answer = ap refusal (e .0);
-        out = refl;
-        leaves = (
-          e .1,
-          record { valid = e .2; bytes = record { reader = b .reader; outbox = b .outbox; factory = b .factory; settings = b .settings; registers = k .0 } },
-          record { reader = refl; outbox = refl; factory = refl; settings = refl; registers = k .1 },
-        );
-      }
+      let w = sound-with p Part.registers _ s (e .2 .registers) (k .0) (k .1) in
+      record { answer = ap refusal (e .0); out = refl; leaves = (e .1, w .0, w .1) }
 
   abbrev KeepsRegisters : Calls.Registered → Type 0
   KeepsRegisters c = Keeps (p .registers) (c .registers)
@@ -188,7 +172,7 @@ module _ (p : Parts) (s : Sound p) where
       (overlay-each Byte _ _ _ (each-append Byte (bytes 2 (length text)) _ (bytes-each 2 _) (each-append Byte (bytes 1 action) text (bytes-each 1 action) b))
       (s .bytes .registers)))
 
-  post-keeps : (action : ℕ) (text : List ℕ) → Typed (Histories.post action text) → KeepsRegisters (Calls.posting (p .registers) action text)
+  post-keeps : (action : ℕ) (text : List ℕ) → Typed (Histories.local (Histories.post action text)) → KeepsRegisters (Calls.posting (p .registers) action text)
   unfolding Calls.posting
   post-keeps action text typed =
       rw (s .valid .registers)
@@ -210,33 +194,7 @@ module _ (p : Parts) (s : Sound p) where
       ))
       (λ e. unchanged))
 
-  post-meets : (action : ℕ) (text : List ℕ) → Typed (Histories.post action text)
-      → Meets p (did p (Histories.post action text)) (meant (view p) (Histories.post action text))
-  unfolding did meant
-  post-meets action text typed =
-      registers-meets (Calls.posting (p .registers) action text) (Local.post (view p) action text) (post-meant p (s .valid) action text (typed .0)) (post-keeps action text typed)
-
-  options-meets : (options : ℕ) → Typed (Histories.setOptions options)
-      → Meets p (did p (Histories.setOptions options)) (meant (view p) (Histories.setOptions options))
-  unfolding did meant
-  options-meets options typed =
-      registers-meets (Calls.settingOptions (p .registers) options) (Local.setOptions (view p) options) (options-meant p (s .valid) options typed) (options-keeps options)
-
   -- ---- the calls that read
-
-  lookup-meets : (key most : ℕ) → Meets p (did p (Histories.lookup key most)) (meant (view p) (Histories.lookup key most))
-  unfolding did meant
-  lookup-meets key most =
-      let l = lookup-meant p (s .valid) (s .bytes .factory) key most in
-      same (ap Histories.lookupAnswer (l .0)) (l .1)
-
-  signal-meets : Meets p (did p Histories.signal) (meant (view p) Histories.signal)
-  unfolding did meant
-  signal-meets = same (ap Histories.signalAnswer (signal-meant p (s .valid))) refl
-
-  flags-meets : Meets p (did p Histories.flags) (meant (view p) Histories.flags)
-  unfolding did meant
-  flags-meets = same (ap Histories.flagsAnswer (flags-meant p (s .valid))) refl
 
   -- of what is read
   reads-meets : (r : Option Calls.Read) (bs : List ℕ) (x : Option Recorded) → Reads r bs x
@@ -246,7 +204,7 @@ module _ (p : Parts) (s : Sound p) where
   reads-meets (some r) bs none e = absurd e
   reads-meets (some r) bs (some x) e = same (rw (← (e .0), ← (e .1), ← (e .2))) (e .3)
 
-  record-meets : (k : Kind) → Meets p (did p (Histories.readRecord k)) (meant (view p) (Histories.readRecord k))
+  record-meets : (k : Kind) → Meets p (did p (Histories.local (Histories.readRecord k))) (meant (view p) (Histories.local (Histories.readRecord k)))
   unfolding did meant
   record-meets k = go (Histories.recordOf (view p) k) (kinds k)
     where
@@ -255,7 +213,7 @@ module _ (p : Parts) (s : Sound p) where
       kinds kind.Panic = panic-meant p (s .valid)
 
       go : (x : Option Recorded) → RecordedAs p k x
-          → Meets p (didBy (Histories.recordAnswer (Calls.recordOf (p .registers) k)) (Calls.recordBytes (p .registers) k) p) (recordMeans (view p) x)
+          → Meets p (didBy (Histories.readAnswer Histories.recorded (Calls.recordOf (p .registers) k)) (Calls.recordBytes (p .registers) k) p) (recordMeans (view p) x)
       go x e = rw (e .1) (reads-meets (e .0) _ x (e .2))
 
 -- ---- the calls that receive
@@ -294,13 +252,20 @@ module _ (p : Parts) (s : Sound p) where
   -- ---- every call
 
   pub call-meets : (c : Call) → Typed c → Meets p (did p c) (meant (view p) c)
+  unfolding did meant
   call-meets (Histories.start d) typed = start-meets p s d typed
   call-meets (Histories.receive image piece) typed = receive-meets image piece typed
   call-meets (Histories.step image piece) typed = step-meets image piece typed
-  call-meets (Histories.take room) typed = take-meets p s room
-  call-meets (Histories.post action text) typed = post-meets p s action text typed
-  call-meets (Histories.setOptions options) typed = options-meets p s options typed
-  call-meets (Histories.lookup key most) typed = lookup-meets p s key most
-  call-meets Histories.signal typed = signal-meets p s
-  call-meets Histories.flags typed = flags-meets p s
-  call-meets (Histories.readRecord k) typed = record-meets p s k
+  call-meets (Histories.local (Histories.take room)) typed = take-meets p s room
+  call-meets (Histories.local (Histories.post action text)) typed =
+      registers-meets p s (Calls.posting (p .registers) action text) (Local.post (view p) action text) (post-meant p (s .valid) action text (typed .0))
+      (post-keeps p s action text typed)
+  call-meets (Histories.local (Histories.setOptions options)) typed =
+      registers-meets p s (Calls.settingOptions (p .registers) options) (Local.setOptions (view p) options) (options-meant p (s .valid) options typed)
+      (options-keeps p s options)
+  call-meets (Histories.local (Histories.lookup key most)) typed =
+      let l = lookup-meant p (s .valid) (s .bytes .factory) key most in
+      same p s (ap Histories.lookupAnswer (l .0)) (l .1)
+  call-meets (Histories.local Histories.signal) typed = same p s (ap (Histories.readAnswer Histories.asserted) (signal-meant p (s .valid))) refl
+  call-meets (Histories.local Histories.flags) typed = same p s (ap (Histories.readAnswer Histories.flagsAsked) (flags-meant p (s .valid))) refl
+  call-meets (Histories.local (Histories.readRecord k)) typed = record-meets p s k

@@ -11,9 +11,8 @@ use Rattle.requests.specs.Receive
 use Rattle.supervisor_claims.specs.Histories
 use Rattle.supervisor_claims.specs.Histories.{Answer, refused, done, Did, did, Lent, lentOf, Made, made, Told, told, left}
 use Rattle.supervisor_claims.specs.Sound.{Bytes, Lengths, lengths-same}
-use Rattle.supervisor_claims.specs.Locality.{lent-bytes, back-lent, back-leaves}
+use Rattle.supervisor_claims.specs.Locality.{lent-bytes, back-lent, back-leaves, lent-again, back-again}
 use Rattle.supervisor_claims.specs.LentCalls.{parts-valid}
-use Rattle.supervisor_claims.specs.LentAgain.{lent-again, back-again}
 use Rattle.supervisor_claims.specs.ReceiveClaim.{fed-leaves}
 use Rattle.supervisor_claims.specs.History.{refused-made, cut}
 

@@ -18,7 +18,7 @@ use Rattle.supervisor_claims.specs.FrameHistory.{joinedAll, toldByFrames
 use Rattle.supervisor_claims.specs.FramesClaim.{by-frames}
 -- any list of calls from a start that is accepted, on any bytes: every answer, all that is written outside the state, and the state that is
 -- left are document 01's, whatever is lent; one call among them; a refused call changes nothing; a stream in two calls or in one
-pub use Rattle.supervisor_claims.specs.History.{history, one-call, never-12, earns-no-12, refused-holds, refused-made, cut}
+pub use Rattle.supervisor_claims.specs.History.{history, one-call, never-12, earns-no-12, refused-made, cut}
 -- and in any two lists of pieces: the same bytes in every part, and all calls done or all refused as 12
 pub use Rattle.supervisor_claims.specs.Cuts.{receives, AllAnswer, AllDone, AllRefused, pieces-whole, cut-any}
 -- after any calls, the frames carried out or answered since the last accepted start are those of the joined bytes: each once, in order
@@ -29,11 +29,11 @@ pub use Rattle.supervisor_claims.specs.LastSetLaws.{set-successful}
 -- step receives the bytes up to and with the first 00; with the bytes left it is receive
 pub use Rattle.supervisor_claims.specs.History.{step-receives, step-then-receive, steps-receive}
 -- 12 exactly where a part that a call takes is not as 12 asks, and so where too little of one is lent; then nothing changes
-pub use Rattle.supervisor_claims.specs.Refusals.{refused-12, refused-exactly}
+pub use Rattle.supervisor_claims.specs.Refusals.{refused-12, refused-exactly, refused-holds}
 pub use Rattle.supervisor_claims.specs.LentCalls.{made-12}
 -- a stream is its frames, carried out or answered in order, once each, then the tail: on a fresh state, in the middle of a frame, after any calls
 pub use Rattle.supervisor_claims.specs.InOrder.{in-order, in-order-behind, in-order-frames, request-carried, failure-only-pending}
-pub use Rattle.supervisor_claims.specs.Progress.{received-since, in-order-after}
+pub use Rattle.supervisor_claims.specs.FramesClaim.{received-since, in-order-after}
 -- of valid requests, only an alert request replaces the retained alert reply; reboot and power off drop it, and the next alert request takes a fresh alert
 pub use Rattle.supervisor_claims.specs.RetainedClaim.{retained-stays, reboot-forgets, power-off-forgets, fresh-alert}
 -- the line layer's own calls on the reader's part leave sound parts, which earn no 12

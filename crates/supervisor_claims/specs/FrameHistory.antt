@@ -23,26 +23,14 @@ unfoldable pub reads : Call → List ℕ
 reads (Histories.start d) = []
 reads (Histories.receive image piece) = piece
 reads (Histories.step image piece) = ListN.take (upTo piece) piece
-reads (Histories.take room) = []
-reads (Histories.post action text) = []
-reads (Histories.setOptions options) = []
-reads (Histories.lookup key most) = []
-reads Histories.signal = []
-reads Histories.flags = []
-reads (Histories.readRecord k) = []
+reads (Histories.local c) = []
 
 -- whether a call is a start with start data that are accepted
 unfoldable pub starts : Call → Bool
 starts (Histories.start d) = not (Local.badStart (factoryOf d))
 starts (Histories.receive image piece) = false
 starts (Histories.step image piece) = false
-starts (Histories.take room) = false
-starts (Histories.post action text) = false
-starts (Histories.setOptions options) = false
-starts (Histories.lookup key most) = false
-starts Histories.signal = false
-starts Histories.flags = false
-starts (Histories.readRecord k) = false
+starts (Histories.local c) = false
 
 -- a call that is lent too little reads nothing and starts nothing
 unfoldable pub receivedBy : Made → List ℕ
@@ -85,13 +73,7 @@ carriedCall w s (Histories.receive image piece) = means done [] (carriedOut imag
 carriedCall w s (Histories.step image piece) =
     let bs = reads (Histories.step image piece) in
     means (stepped (length bs) (endedBy (closedBy w bs))) [] (carriedOut image w s bs)
-carriedCall w s (Histories.take room) = meant s (Histories.take room)
-carriedCall w s (Histories.post action text) = meant s (Histories.post action text)
-carriedCall w s (Histories.setOptions options) = meant s (Histories.setOptions options)
-carriedCall w s (Histories.lookup key most) = meant s (Histories.lookup key most)
-carriedCall w s Histories.signal = meant s Histories.signal
-carriedCall w s Histories.flags = meant s Histories.flags
-carriedCall w s (Histories.readRecord k) = meant s (Histories.readRecord k)
+carriedCall w s (Histories.local c) = meant s (Histories.local c)
 
 -- 12, and nothing changes, where too little is lent
 unfoldable pub carriedMade : List ℕ → State → Made → Means

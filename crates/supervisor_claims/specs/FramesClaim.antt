@@ -1,7 +1,7 @@
 -- What the paper has of calls, byte by byte, is what the frames of the received bytes make of them; each frame is carried out or answered once, in order.
 -- Assumes nothing.
 use mathlib.Core.Path.{_≡_, refl, ap, sym, _∙_}
-use mathlib.Core.Bool.{Bool, true, false, cond, not}
+use mathlib.Core.Bool.{Bool, true, false, cond}
 use mathlib.Core.List.{List, [], _∷_, _++_, append-nil}
 use mathlib.Core.Option.{some}
 use Prim.Native.Nat.{ℕ, zero, suc, _≤_}
@@ -16,15 +16,13 @@ use Rattle.octets.proofs.Each.{each-append}
 use Rattle.line.specs.Limits.{longest-form}
 use Rattle.line_claims.specs.Pieces.{split, nonEmpty, split-at, split-none, nonEmpty-append, split-join, closedBy, closed-rest, closed-join}
 use Rattle.supervisor.specs.State.{Factory, State, fresh, withReceived}
-use Rattle.supervisor.specs.Local
 use Rattle.requests.specs.Requests.{byte, stream, verdictSince}
-use Rattle.supervisor_claims.specs.View.{factoryOf}
 use Rattle.supervisor_claims.specs.Histories
 use Rattle.supervisor_claims.specs.Histories.{Call, upTo, endedMeant, frameEnds, meant, Made, enough, meantMade, toldMeant, leftMeant}
 use Rattle.supervisor_claims.specs.InOrder.{framed, allFramed, tailOf, tail-over, tail-within, verdict-over, more-tail}
 use Rattle.supervisor_claims.specs.InOrder.{stream-append, empty-ignored, closed-framed, in-order-behind}
-use Rattle.supervisor_claims.specs.Progress.{Since, behind, called}
-use Rattle.supervisor_claims.specs.FrameHistory.{reads, starts, receivedBy, startsAnew, joined, joinedAll, framesBy, endedBy}
+use Rattle.supervisor_claims.specs.Progress.{Since, called}
+use Rattle.supervisor_claims.specs.FrameHistory.{reads, receivedBy, startsAnew, joined, joinedAll, framesBy, endedBy}
 use Rattle.supervisor_claims.specs.FrameHistory.{carriedOut, carriedCall, carriedMade, toldByFrames, leftByFrames, carriedFrames}
 
 -- ---- a step
@@ -80,31 +78,7 @@ module _ (w : List ℕ) (s : State) (h : Since (split w .rest) s) where
   call-carried (Histories.step image piece) =
       let bs = ListN.take (upTo piece) piece in
       rw (stream-carried image bs, length-upTo piece, closed-rest w bs, h .received, ends-frame (split w .rest) piece (h .nonzero))
-  call-carried (Histories.take room) = refl
-  call-carried (Histories.post action text) = refl
-  call-carried (Histories.setOptions options) = refl
-  call-carried (Histories.lookup key most) = refl
-  call-carried Histories.signal = refl
-  call-carried Histories.flags = refl
-  call-carried (Histories.readRecord k) = refl
-
--- what stands behind the last 00 after a call that is lent enough
-behind-joined : (w : List ℕ) (c : Call) → behind (split w .rest) c ≡ split (cond (starts c) [] (w ++ reads c)) .rest
-unfolding behind starts reads split
-behind-joined w (Histories.start d) = by (Local.badStart (factoryOf d))
-  where
-    by : (bad : Bool) → cond bad (split w .rest) [] ≡ split (cond (not bad) [] (w ++ [])) .rest
-    by true = rw append-nil
-    by false = refl
-behind-joined w (Histories.receive image piece) = rw (split-join w piece)
-behind-joined w (Histories.step image piece) = rw (split-join w (ListN.take (upTo piece) piece))
-behind-joined w (Histories.take room) = rw append-nil
-behind-joined w (Histories.post action text) = rw append-nil
-behind-joined w (Histories.setOptions options) = rw append-nil
-behind-joined w (Histories.lookup key most) = rw append-nil
-behind-joined w Histories.signal = rw append-nil
-behind-joined w Histories.flags = rw append-nil
-behind-joined w (Histories.readRecord k) = rw append-nil
+  call-carried (Histories.local c) = refl
 
 -- whatever is lent
 made-carried : (w : List ℕ) (s : State) → Since (split w .rest) s → (m : Made)
@@ -114,7 +88,7 @@ made-carried w s h m = by (enough (m .call) (m .lent)) refl
   where
     by : (t : Bool) → enough (m .call) (m .lent) ≡ t
         → (carriedMade w s m ≡ meantMade s m) × Since (split (joined w m) .rest) (meantMade s m .state)
-    by true e = rw e (call-carried w s h (m .call), rw (behind-joined w (m .call)) at (called (split w .rest) s h (m .call)))
+    by true e = rw e (call-carried w s h (m .call), called w s h (m .call))
     by false e = rw (e, append-nil) (refl, h)
 
 -- ---- lists of calls
@@ -137,6 +111,16 @@ pub by-frames : (f : Factory) (ms : List Made)
     × Since (split (joinedAll [] ms) .rest) (leftMeant (fresh f) ms)
 unfolding fresh tailOf split
 by-frames f ms = frames-follow ms [] (fresh f) (record { received = refl; nonzero = tt })
+
+-- after any calls on a fresh state, the receive progress is what stands behind the last 00 of the joined bytes
+pub received-since : (f : Factory) (ms : List Made) → let p = split (joinedAll [] ms) .rest in
+    (leftMeant (fresh f) ms .received ≡ tailOf p) × Each (λ b. 1 ≤ b) p
+received-since f ms = let h = by-frames f ms .2 in (h .received, h .nonzero)
+
+-- a stream behind them: the frames that its 00 close, of which the first began in the calls before, in order, once each, then the unfinished tail
+pub in-order-after : (f : Factory) (ms : List Made) (image bs : List ℕ) → let s = leftMeant (fresh f) ms in let p = split (joinedAll [] ms) .rest in
+    stream image s bs ≡ withReceived (allFramed image s (split (p ++ bs) .closed)) (tailOf (split (p ++ bs) .rest))
+in-order-after f ms image bs = let h = received-since f ms in in-order-behind image (leftMeant (fresh f) ms) (split (joinedAll [] ms) .rest) bs (h .1) (h .0)
 
 -- ---- each frame once
 

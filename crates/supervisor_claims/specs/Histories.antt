@@ -1,7 +1,7 @@
 -- Calls of a supervisor, one after the other: what each answers and leaves by the promises, and what document 01 has of it.
 -- Assumes nothing: these are definitions.
 use mathlib.Core.Path.{_≡_}
-use mathlib.Core.Bool.{Bool, cond, _&&_}
+use mathlib.Core.Bool.{Bool, true, cond, not, _||_}
 use mathlib.Core.List.{List, [], _∷_}
 use mathlib.Core.Option.{Option, none, some}
 use Prim.Native.Nat.{ℕ, suc, _^_, _<_}
@@ -10,53 +10,57 @@ use lib.ListN as ListN
 use lib.ListN.{length}
 use Rattle.octets.specs.Bytes.{Each, Byte, overlay}
 use Rattle.line.specs.Judge.{Verdict}
-use Rattle.line.specs.Reader as LineReader
 use Rattle.line_claims.specs.Loans.{Loan, lentPart, backPart, enoughPart}
 use Rattle.supervisor.specs.Layout
 use Rattle.supervisor.specs.State.{Recorded, State}
 use Rattle.supervisor.specs.Local
 use Rattle.supervisor.specs.Calls
-use Rattle.supervisor.specs.Calls.{Parts, parts}
+use Rattle.supervisor.specs.Calls.{Parts}
 use Rattle.supervisor.specs.declared.registers.Kind.{Kind}
 use Rattle.supervisor.specs.declared.registers.Kind.the-variants as kind
 use Rattle.requests.specs.Requests
 use Rattle.requests.specs.Receive
 use Rattle.requests.specs.Receive.{Ended}
+use Rattle.supervisor_claims.specs.ByPart.{Part, is, published, part, partsBy, everyPart}
 use Rattle.supervisor_claims.specs.View.{factoryOf}
 use Rattle.supervisor_claims.specs.Meant.{withOutbox, withRegisters}
 
 -- ---- Calls and answers
 
--- a public call and its arguments; a lookup and a record are each read by two calls, whose answers stand together here
+-- a local call and its arguments; a lookup and a record are each read by two calls, whose answers stand together here
+pub data LocalCall : Type 0 where
+  -- the room lent
+  take : List ℕ → LocalCall
+  -- action and text
+  post : ℕ → List ℕ → LocalCall
+  setOptions : ℕ → LocalCall
+  -- key and maxresponse
+  lookup : ℕ → ℕ → LocalCall
+  signal : LocalCall
+  flags : LocalCall
+  readRecord : Kind → LocalCall
+
+-- a public call and its arguments
 pub data Call : Type 0 where
   -- start data
   start : List ℕ → Call
   -- an image and a piece of the received stream
   receive : List ℕ → List ℕ → Call
   step : List ℕ → List ℕ → Call
-  -- the room lent
-  take : List ℕ → Call
-  -- action and text
-  post : ℕ → List ℕ → Call
-  setOptions : ℕ → Call
-  -- key and maxresponse
-  lookup : ℕ → ℕ → Call
-  signal : Call
-  flags : Call
-  readRecord : Kind → Call
+  local : LocalCall → Call
 
 -- the arguments have the types that the calls give them
 abbrev pub Typed : Call → Type 0
 Typed (start d) = (length d ≡ Layout.start-length) × Each Byte d
 Typed (receive image piece) = Each Byte image × Each Byte piece
 Typed (step image piece) = Each Byte image × Each Byte piece
-Typed (take room) = Each Byte room
-Typed (post action text) = (action < 256) × Each Byte text
-Typed (setOptions options) = options < 2 ^ 64
-Typed (lookup key most) = (key < 256) × (most < 65536)
-Typed signal = Unit {0}
-Typed flags = Unit {0}
-Typed (readRecord k) = Unit {0}
+Typed (local (take room)) = Each Byte room
+Typed (local (post action text)) = (action < 256) × Each Byte text
+Typed (local (setOptions options)) = options < 2 ^ 64
+Typed (local (lookup key most)) = (key < 256) × (most < 65536)
+Typed (local signal) = Unit {0}
+Typed (local flags) = Unit {0}
+Typed (local (readRecord k)) = Unit {0}
 
 pub data Answer : Type 0 where
   -- the table's number
@@ -103,30 +107,26 @@ abbrev pub lookupAnswer : Calls.LookupSaid → Answer
 lookupAnswer (Calls.LookupSaid.result n k) = found n k
 lookupAnswer (Calls.LookupSaid.refused n) = refused n
 
-abbrev pub signalAnswer : Calls.ReadSaid Bool → Answer
-signalAnswer (Calls.ReadSaid.is b) = asserted b
-signalAnswer (Calls.ReadSaid.refused n) = refused n
+-- what was read
+abbrev pub readAnswer : {A : Type 0} → (A → Answer) → Calls.ReadSaid A → Answer
+readAnswer answer (Calls.ReadSaid.is x) = answer x
+readAnswer answer (Calls.ReadSaid.refused n) = refused n
 
-abbrev pub flagsAnswer : Calls.ReadSaid (Bool × Bool) → Answer
-flagsAnswer (Calls.ReadSaid.is b) = asked (b .0) (b .1)
-flagsAnswer (Calls.ReadSaid.refused n) = refused n
-
-abbrev pub recordAnswer : Calls.ReadSaid (Option Calls.Read) → Answer
-recordAnswer (Calls.ReadSaid.is r) = recorded r
-recordAnswer (Calls.ReadSaid.refused n) = refused n
+abbrev pub flagsAsked : Bool × Bool → Answer
+flagsAsked b = asked (b .0) (b .1)
 
 unfoldable pub did : Parts → Call → Did
 did p (start d) = let t = Calls.starting d p in didBy (refusal (t .refusal)) [] (t .parts)
 did p (receive image piece) = let r = Receive.receiving image p piece in didBy (refusal (r .refusal)) [] (r .parts)
 did p (step image piece) = let r = Receive.stepping image p piece in didBy (stepAnswer (r .used) (r .ended)) [] (r .parts)
-did p (take room) = let t = Calls.taking (p .outbox) room in didBy (takeAnswer (t .said)) (t .room) (withOutbox p (t .outbox))
-did p (post action text) = let c = Calls.posting (p .registers) action text in didBy (refusal (c .refusal)) [] (withRegisters p (c .registers))
-did p (setOptions options) = let c = Calls.settingOptions (p .registers) options in didBy (refusal (c .refusal)) [] (withRegisters p (c .registers))
-did p (lookup key most) =
+did p (local (take room)) = let t = Calls.taking (p .outbox) room in didBy (takeAnswer (t .said)) (t .room) (withOutbox p (t .outbox))
+did p (local (post action text)) = let c = Calls.posting (p .registers) action text in didBy (refusal (c .refusal)) [] (withRegisters p (c .registers))
+did p (local (setOptions options)) = let c = Calls.settingOptions (p .registers) options in didBy (refusal (c .refusal)) [] (withRegisters p (c .registers))
+did p (local (lookup key most)) =
     didBy (lookupAnswer (Calls.lookupResult (p .factory) (p .settings) key most)) (Calls.lookupValue (p .factory) (p .settings) key most) p
-did p signal = didBy (signalAnswer (Calls.signalOf (p .registers))) [] p
-did p flags = didBy (flagsAnswer (Calls.flagsOf (p .registers))) [] p
-did p (readRecord k) = didBy (recordAnswer (Calls.recordOf (p .registers) k)) (Calls.recordBytes (p .registers) k) p
+did p (local signal) = didBy (readAnswer asserted (Calls.signalOf (p .registers))) [] p
+did p (local flags) = didBy (readAnswer flagsAsked (Calls.flagsOf (p .registers))) [] p
+did p (local (readRecord k)) = didBy (readAnswer recorded (Calls.recordOf (p .registers) k)) (Calls.recordBytes (p .registers) k) p
 
 -- ---- By document 01
 
@@ -170,68 +170,57 @@ meant s (start d) = doneMeans s (Local.start (factoryOf d))
 meant s (receive image piece) = means done [] (Requests.stream image s piece)
 meant s (step image piece) =
     means (stepped (upTo piece) (frameEnds (s .received) piece)) [] (Requests.stream image s (ListN.take (upTo piece) piece))
-meant s (take room) =
+meant s (local (take room)) =
     let bs = Local.taken s (length room) in
     means (moved (length bs)) (overlay 0 bs room) (Local.afterTake s (length room))
-meant s (post action text) = doneMeans s (Local.post s action text)
-meant s (setOptions options) = doneMeans s (Local.setOptions s options)
-meant s (lookup key most) = let f = Local.lookup s key most in means (found (f .result) (length (f .value))) (f .value) s
-meant s signal = means (asserted (Local.asserted s)) [] s
-meant s flags = means (asked (s .reboot-asked) (s .power-off-asked)) [] s
-meant s (readRecord k) = recordMeans s (recordOf s k)
+meant s (local (post action text)) = doneMeans s (Local.post s action text)
+meant s (local (setOptions options)) = doneMeans s (Local.setOptions s options)
+meant s (local (lookup key most)) = let f = Local.lookup s key most in means (found (f .result) (length (f .value))) (f .value) s
+meant s (local signal) = means (asserted (Local.asserted s)) [] s
+meant s (local flags) = means (asked (s .reboot-asked) (s .power-off-asked)) [] s
+meant s (local (readRecord k)) = recordMeans s (recordOf s k)
 
 -- ---- Calls that are lent some of the parts' bytes
 
 -- what is lent of each part; a call that does not take a part leaves it
-pub record Lent : Type 0 where
-  pub reader : Loan
-  pub outbox : Loan
-  pub factory : Loan
-  pub settings : Loan
-  pub registers : Loan
+abbrev pub Lent : Type 0
+Lent = Part → Loan
 
 -- the parts as lent
+abbrev pub lentBy : Lent → Parts → Part → List ℕ
+lentBy l p i = lentPart (published i) (l i) (part p i)
+
 abbrev pub lentOf : Lent → Parts → Parts
-lentOf l p =
-    parts (lentPart LineReader.state-length (l .reader) (p .reader)) (lentPart Layout.outbox-length (l .outbox) (p .outbox))
-    (lentPart Layout.factory-length (l .factory) (p .factory)) (lentPart Layout.settings-length (l .settings) (p .settings))
-    (lentPart Layout.registers-length (l .registers) (p .registers))
+lentOf l p = partsBy (lentBy l p)
 
 -- the parts whose bytes lent came back as q
+abbrev pub backBy : Lent → Parts → Parts → Part → List ℕ
+backBy l p q i = backPart (published i) (l i) (part p i) (part q i)
+
 abbrev pub givenBack : Lent → Parts → Parts → Parts
-givenBack l p q =
-    parts (backPart LineReader.state-length (l .reader) (p .reader) (q .reader)) (backPart Layout.outbox-length (l .outbox) (p .outbox) (q .outbox))
-    (backPart Layout.factory-length (l .factory) (p .factory) (q .factory)) (backPart Layout.settings-length (l .settings) (p .settings) (q .settings))
-    (backPart Layout.registers-length (l .registers) (p .registers) (q .registers))
+givenBack l p q = partsBy (backBy l p q)
 
--- whether the published length of a part is lent
-abbrev pub enoughReader : Lent → Bool
-enoughReader l = enoughPart LineReader.state-length (l .reader)
+-- ---- The parts that a call takes
 
-abbrev pub enoughOutbox : Lent → Bool
-enoughOutbox l = enoughPart Layout.outbox-length (l .outbox)
+abbrev pub takes : Call → Part → Bool
+takes (start d) i = true
+takes (receive image piece) i = true
+takes (step image piece) i = true
+takes (local (take room)) i = is Part.outbox i
+takes (local (post action text)) i = is Part.registers i
+takes (local (setOptions options)) i = is Part.registers i
+takes (local (lookup key most)) i = is Part.factory i || is Part.settings i
+takes (local signal) i = is Part.registers i
+takes (local flags) i = is Part.registers i
+takes (local (readRecord k)) i = is Part.registers i
 
-abbrev pub enoughStores : Lent → Bool
-enoughStores l = enoughPart Layout.factory-length (l .factory) && enoughPart Layout.settings-length (l .settings)
+-- a test that every part passes which a call takes
+abbrev pub ofTaken : Call → (Part → Bool) → Bool
+ofTaken c f = everyPart (λ i. not (takes c i) || f i)
 
-abbrev pub enoughRegisters : Lent → Bool
-enoughRegisters l = enoughPart Layout.registers-length (l .registers)
-
-abbrev pub enoughOfAll : Lent → Bool
-enoughOfAll l = enoughReader l && (enoughOutbox l && (enoughStores l && enoughRegisters l))
-
--- and of each part that a call takes
+-- the published length of each part that a call takes is lent
 unfoldable pub enough : Call → Lent → Bool
-enough (start d) l = enoughOfAll l
-enough (receive image piece) l = enoughOfAll l
-enough (step image piece) l = enoughOfAll l
-enough (take room) l = enoughOutbox l
-enough (post action text) l = enoughRegisters l
-enough (setOptions options) l = enoughRegisters l
-enough (lookup key most) l = enoughStores l
-enough signal l = enoughRegisters l
-enough flags l = enoughRegisters l
-enough (readRecord k) l = enoughRegisters l
+enough c l = ofTaken c (λ i. enoughPart (published i) (l i))
 
 pub record Made : Type 0 where
   pub lent : Lent
@@ -242,13 +231,13 @@ abbrev pub untouched : Call → List ℕ
 untouched (start d) = []
 untouched (receive image piece) = []
 untouched (step image piece) = []
-untouched (take room) = room
-untouched (post action text) = []
-untouched (setOptions options) = []
-untouched (lookup key most) = []
-untouched signal = []
-untouched flags = []
-untouched (readRecord k) = []
+untouched (local (take room)) = room
+untouched (local (post action text)) = []
+untouched (local (setOptions options)) = []
+untouched (local (lookup key most)) = []
+untouched (local signal) = []
+untouched (local flags) = []
+untouched (local (readRecord k)) = []
 
 unfoldable pub made : Parts → Made → Did
 made p m = let d = did (lentOf (m .lent) p) (m .call) in didBy (d .answer) (d .out) (givenBack (m .lent) p (d .parts))

@@ -1,107 +1,37 @@
 -- Demand 2's claim over lists of calls: what each answers, writes and leaves is document 01's, whatever is lent; refusals; the cut law; step.
 -- Assumes nothing.
 use mathlib.Core.Path.{_≡_, refl, sym, ap, subst, _∙_}
-use mathlib.Core.Bool.{Bool, true, false, _&&_}
+use mathlib.Core.Bool.{Bool, true, false}
 use mathlib.Core.List.{List, [], _∷_, _++_}
-use mathlib.Core.Option.{Option, none, some}
 use Prim.Native.Nat.{ℕ, zero, suc, _+_, _-_, _≤_}
 use native.Mathlib.Omega.{arith}
-use lib.Dec.{ltb, eqb}
+use lib.Dec.{eqb}
 use lib.ListN.{length, take, drop, take-append-drop, length-drop}
 use Rattle.octets.specs.Bytes.{Each, Byte}
-use Rattle.octets.proofs.Conditions.{cond-by, cond-both}
+use Rattle.octets.proofs.Conditions.{cond-by}
 use Rattle.octets.proofs.Each.{each-take, each-drop}
-use Rattle.supervisor.specs.Limits
-use Rattle.supervisor.specs.Layout
-use Rattle.supervisor.specs.State.{Recorded, State, fresh}
+use Rattle.supervisor.specs.State.{State, fresh}
 use Rattle.supervisor.specs.Local
-use Rattle.supervisor.specs.Valid.{goodStart, validOutbox, validFactory, validSettings, validRegisters}
 use Rattle.supervisor.specs.Calls
 use Rattle.supervisor.specs.Calls.{Parts}
 use Rattle.requests.specs.Receive
 use Rattle.supervisor_claims.specs.View.{factoryOf, view}
-use Rattle.supervisor_claims.specs.Meant.{withOutbox, withRegisters}
 use Rattle.supervisor_claims.specs.Histories
-use Rattle.supervisor_claims.specs.Histories.{Call, Typed, refused, done, Did, didBy, did, refusal, doneMeans, recordMeans, meant, upTo}
-use Rattle.supervisor_claims.specs.Histories.{Lent, lentOf, enough, Made, untouched, made, meantMade, told, left, toldMeant, leftMeant, AllTyped}
-use Rattle.supervisor_claims.specs.Refusals.{fit, refused-12, WhereRefused, found-held, Not12}
+use Rattle.supervisor_claims.specs.Histories.{Call, Typed, refused, done, Did, did, doneMeans, meant, upTo}
+use Rattle.supervisor_claims.specs.Histories.{Lent, lentOf, takes, enough, Made, untouched, made, meantMade, told, left, toldMeant, leftMeant, AllTyped}
+use Rattle.supervisor_claims.specs.Refusals.{fit, refused-12, refused-holds, WhereRefused, Not12}
+use Rattle.supervisor_claims.specs.Progress.{local-stays}
 use Rattle.supervisor_claims.specs.StartClaim.{start-refused}
-use Rattle.supervisor_claims.specs.Sound.{Bytes, Sound, Lengths, lengths-same, lengths-then, valid-roomy, Leaves}
-use Rattle.supervisor_claims.specs.Locality.{lent-bytes, lent-sound, lent-view, back-lent, back-leaves}
-use Rattle.supervisor_claims.specs.LentCalls.{parts-valid, valid-parts, made-12, widened, widened-enough, widened-same}
-use Rattle.supervisor_claims.specs.StepClaim.{step-fed, turned-stepped}
+use Rattle.supervisor_claims.specs.Sound.{Bytes, Sound, Lengths, lengths-same, lengths-then, valid-long, Leaves}
+use Rattle.supervisor_claims.specs.Locality.{widened, lent-bytes, lent-sound, lent-view, back-lent, back-leaves}
+use Rattle.supervisor_claims.specs.LentCalls.{parts-valid, valid-parts, made-12, widened-enough, widened-same}
+use Rattle.supervisor_claims.specs.StepClaim.{step-fed}
 use Rattle.supervisor_claims.specs.ReceiveClaim.{fed-leaves}
 use Rattle.supervisor_claims.specs.CallClaims.{Meets, start-leaves, call-meets}
 
 -- ---- refusals change nothing
 
--- nothing has changed where it is
-abbrev Held : Parts → Call → Did → Type 0
-Held p c d = WhereRefused (d .answer) (λ n. (d .parts ≡ p) × (d .out ≡ untouched c))
-
-module _ (p : Parts) where
-  abbrev HeldRegisters : Call → Calls.Registered → Type 0
-  HeldRegisters c r = Held p c (didBy (refusal (r .refusal)) [] (withRegisters p (r .registers)))
-
-  held : (c : Call) → Held p c (did p c)
-  unfolding did Calls.starting Receive.receiving Receive.stepping Calls.taking Calls.posting Calls.settingOptions
-      Calls.lookupResult Calls.lookupValue Calls.signalOf Calls.flagsOf Calls.recordOf Calls.recordBytes
-  held (Histories.start d) =
-      cond-by P (Calls.roomy p) _ _ (λ e. cond-by P (goodStart d) _ _ (λ f. tt) (λ f. (refl, refl))) (λ e. (refl, refl))
-    where
-      P : Calls.Start → Type 0
-      P t = Held p (Histories.start d) (didBy (refusal (t .refusal)) [] (t .parts))
-  held (Histories.receive image piece) = cond-by P (Receive.validParts p) _ _ (λ e. tt) (λ e. (refl, refl))
-    where
-      P : Receive.Receipt → Type 0
-      P r = Held p (Histories.receive image piece) (didBy (refusal (r .refusal)) [] (r .parts))
-  held (Histories.step image piece) = cond-by P (Receive.validParts p) _ _ (λ e. rw (turned-stepped image p piece) tt) (λ e. (refl, refl))
-    where
-      P : Receive.StepDone → Type 0
-      P r = Held p (Histories.step image piece) (didBy (Histories.stepAnswer (r .used) (r .ended)) [] (r .parts))
-  held (Histories.take room) = cond-by P (validOutbox (p .outbox)) _ _ (λ e. tt) (λ e. (refl, refl))
-    where
-      P : Calls.Take → Type 0
-      P t = Held p (Histories.take room) (didBy (Histories.takeAnswer (t .said)) (t .room) (withOutbox p (t .outbox)))
-  held (Histories.post action text) =
-      cond-by P (validRegisters (p .registers)) _ _
-      (λ e. cond-by P (eqb action 0) _ _ (λ f. (refl, refl)) (λ f.
-      cond-by P (ltb Limits.longest-alert (length text)) _ _ (λ g. (refl, refl)) (λ g.
-      cond-by P (ltb (Layout.alertCount (p .registers)) Limits.most-alerts) _ _ (λ h. tt) (λ h. (refl, refl)))))
-      (λ e. (refl, refl))
-    where
-      P : Calls.Registered → Type 0
-      P r = HeldRegisters (Histories.post action text) r
-  held (Histories.setOptions options) =
-      cond-by P (validRegisters (p .registers)) _ _ (λ e. cond-by P (Local.optionsAllowed options) _ _ (λ f. tt) (λ f. (refl, refl))) (λ e. (refl, refl))
-    where
-      P : Calls.Registered → Type 0
-      P r = HeldRegisters (Histories.setOptions options) r
-  held (Histories.lookup key most) =
-      cond-both P (validFactory (p .factory) && validSettings (p .settings))
-      (λ e. cond-both P (ltb Limits.highest-key key) (λ f. tt) (λ f. found-held _ most (p .factory) (p .settings) key))
-      (λ e. (refl, refl))
-    where
-      P : Calls.LookupSaid → List ℕ → Type 0
-      P a bs = Held p (Histories.lookup key most) (didBy (Histories.lookupAnswer a) bs p)
-  held Histories.signal = cond-by P (validRegisters (p .registers)) _ _ (λ e. tt) (λ e. (refl, refl))
-    where
-      P : Calls.ReadSaid Bool → Type 0
-      P a = Held p Histories.signal (didBy (Histories.signalAnswer a) [] p)
-  held Histories.flags = cond-by P (validRegisters (p .registers)) _ _ (λ e. tt) (λ e. (refl, refl))
-    where
-      P : Calls.ReadSaid (Bool × Bool) → Type 0
-      P a = Held p Histories.flags (didBy (Histories.flagsAnswer a) [] p)
-  held (Histories.readRecord k) = cond-both P (validRegisters (p .registers)) (λ e. tt) (λ e. (refl, refl))
-    where
-      P : Calls.ReadSaid (Option Calls.Read) → List ℕ → Type 0
-      P a bs = Held p (Histories.readRecord k) (didBy (Histories.recordAnswer a) bs p)
-
--- on any parts at all
-pub refused-holds : (p : Parts) (c : Call) (n : ℕ) → did p c .answer ≡ refused n → (did p c .parts ≡ p) × (did p c .out ≡ untouched c)
-refused-holds p c n e = rw e at (held p c)
-
--- and whatever of them is lent
+-- whatever is lent
 pub refused-made : (p : Parts) (m : Made) (n : ℕ) → made p m .answer ≡ refused n → (made p m .parts ≡ p) × (made p m .out ≡ untouched (m .call))
 unfolding made
 refused-made p m n e =
@@ -110,29 +40,12 @@ refused-made p m n e =
 
 -- ---- 12 only where too little is lent
 
-module _ (s : State) where
-  abbrev DoneNot12 : Local.Done → Type 0
-  DoneNot12 x = Not12 (doneMeans s x .answer)
-
-  record-12 : (x : Option Recorded) → Not12 (recordMeans s x .answer)
-  record-12 none = tt
-  record-12 (some x) = tt
-
-  meant-12 : (c : Call) → Not12 (meant s c .answer)
-  unfolding meant Local.start Local.post Local.setOptions
-  meant-12 (Histories.start d) = cond-by DoneNot12 (Local.badStart (factoryOf d)) _ _ (λ e f. omega (arith, f)) (λ e. tt)
-  meant-12 (Histories.receive image piece) = tt
-  meant-12 (Histories.step image piece) = tt
-  meant-12 (Histories.take room) = tt
-  meant-12 (Histories.post action text) =
-      cond-by DoneNot12 (eqb action 0) _ _ (λ e f. omega (arith, f)) (λ e.
-      cond-by DoneNot12 (ltb Limits.longest-alert (length text)) _ _ (λ g f. omega (arith, f)) (λ g.
-      cond-by DoneNot12 (ltb (length (s .waiting)) Limits.most-alerts) _ _ (λ h. tt) (λ h f. omega (arith, f))))
-  meant-12 (Histories.setOptions options) = cond-by DoneNot12 (Local.optionsAllowed options) _ _ (λ e. tt) (λ e f. omega (arith, f))
-  meant-12 (Histories.lookup key most) = tt
-  meant-12 Histories.signal = tt
-  meant-12 Histories.flags = tt
-  meant-12 (Histories.readRecord k) = record-12 (Histories.recordOf s k)
+meant-12 : (s : State) (c : Call) → Not12 (meant s c .answer)
+unfolding meant Local.start
+meant-12 s (Histories.start d) = cond-by (λ x. Not12 (doneMeans s x .answer)) (Local.badStart (factoryOf d)) _ _ (λ e f. omega (arith, f)) (λ e. tt)
+meant-12 s (Histories.receive image piece) = tt
+meant-12 s (Histories.step image piece) = tt
+meant-12 s (Histories.local c) = local-stays s c .2
 
 pub never-12 : (s : State) (m : Made) → enough (m .call) (m .lent) ≡ true → meantMade s m .answer ≡ refused 12 → ⊥
 unfolding meantMade
@@ -153,8 +66,8 @@ Follows q s ms = (told q ms ≡ toldMeant s ms) × (view (left q ms) ≡ leftMea
 enough-meets : (p : Parts) (m : Made) → Sound p → Typed (m .call) → enough (m .call) (m .lent) ≡ true
     → Meets p (made p m) (meant (view p) (m .call))
 enough-meets p m s typed e =
-    let n = widened (m .call) (m .lent) p in
-    let w = widened-enough (m .lent) p (valid-roomy (s .valid)) (m .call) e in
+    let n = widened (takes (m .call)) (m .lent) p in
+    let w = widened-enough (m .lent) p (valid-long {p = p} (s .valid)) (m .call) e in
     let k = call-meets (lentOf n p) (lent-sound n p w s) (m .call) typed in
     rw (widened-same p (m .call) (m .lent)) (back-meets n p (m .call) (s .bytes) (rw (lent-view n p w (s .valid)) at k))
 
@@ -190,7 +103,7 @@ module _ (p : Parts) (b : Bytes p) (l : Lent) (d : List ℕ) (typed : Typed (His
   -- a start that is accepted had room and start data that are not refused
   accepted : (x y : Bool) → Calls.roomy (lentOf l p) ≡ x → Local.badStart (factoryOf d) ≡ y → did (lentOf l p) (Histories.start d) .answer ≡ done
       → Leaves (lentOf l p) (did (lentOf l p) (Histories.start d) .parts) (fresh (factoryOf d))
-  unfolding did fit
+  unfolding did fit Calls.roomy
   accepted false y r e h = absurd (undone 12 (sym (ap (λ (x : Did). x .answer) (refused-12 (lentOf l p) (Histories.start d) r)) ∙ h))
   accepted true true r e h = absurd (undone 11 (rw (start-refused d (typed .0) (lentOf l p) r e) at h))
   accepted true false r e h = start-leaves d typed (lentOf l p) (lent-bytes l p b) r e .1

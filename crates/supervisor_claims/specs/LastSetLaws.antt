@@ -18,7 +18,7 @@ use Rattle.line.specs.Message.{Message}
 use Rattle.line.specs.Judge.{Verdict, failure, good, judge}
 use Rattle.line_claims.specs.Pieces.{split, nonEmpty, nonEmpty-append, closedBy, closed-join}
 use Rattle.supervisor.specs.Limits
-use Rattle.supervisor.specs.State.{Factory, Settings, Recorded, Retained, State, fresh}
+use Rattle.supervisor.specs.State.{Factory, Settings, Retained, State, fresh}
 use Rattle.supervisor.specs.Local
 use Rattle.supervisor.specs.Local.{valueOf}
 use Rattle.requests.specs.Requests
@@ -26,7 +26,8 @@ use Rattle.requests.specs.Requests.{Carried, known, tested, testedWhere, verdic
 use Rattle.supervisor_claims.specs.InOrder.{judged-is, framed, allFramed}
 use Rattle.supervisor_claims.specs.View.{factoryOf}
 use Rattle.supervisor_claims.specs.Histories
-use Rattle.supervisor_claims.specs.Histories.{Call, doneMeans, recordMeans, upTo, meant, Made, enough}
+use Rattle.supervisor_claims.specs.Histories.{Call, doneMeans, upTo, meant, Made, enough}
+use Rattle.supervisor_claims.specs.Progress.{local-stays}
 use Rattle.supervisor_claims.specs.FrameHistory.{reads, starts, receivedBy, startsAnew, joined, joinedAll, framesBy}
 use Rattle.supervisor_claims.specs.FrameHistory.{carriedOut, carriedCall, carriedMade, leftByFrames}
 use Rattle.supervisor_claims.specs.LastSet.{SettingsKey, three, four, five, request, requestsIn, requestsOf, valueFor, setBy, orElse, lastSet}
@@ -284,16 +285,8 @@ module _ {k : ℕ} (h : SettingsKey k) where
     unread : Holds k (w ++ []) s
     unread = rw append-nil x
 
-    abbrev DoneHolds : Local.Done → Type 0
-    DoneHolds y = Holds k (w ++ []) (doneMeans s y .state)
-
-    record-holds : (y : Option Recorded) → Holds k (w ++ []) (recordMeans s y .state)
-    record-holds none = unread
-    record-holds (some y) = unread
-
     call-holds : (c : Call) → Holds k (cond (starts c) [] (w ++ reads c)) (carriedCall w s c .state)
-    unfolding starts reads carriedCall carriedOut meant
-        Local.start Local.afterTake Local.post Local.posted Local.setOptions
+    unfolding starts reads carriedCall carriedOut meant Local.start
     call-holds (Histories.start d) = by (Local.badStart (factoryOf d))
       where
         by : (bad : Bool) → Holds k (cond (not bad) [] (w ++ [])) (doneMeans s (cond bad (Local.refused 11) (Local.left (fresh (factoryOf d)))) .state)
@@ -301,17 +294,7 @@ module _ {k : ℕ} (h : SettingsKey k) where
         by false = fresh-holds (factoryOf d)
     call-holds (Histories.receive image piece) = frames-hold image piece
     call-holds (Histories.step image piece) = frames-hold image (ListN.take (upTo piece) piece)
-    call-holds (Histories.take room) = unread
-    call-holds (Histories.post action text) =
-        cond-by DoneHolds (eqb action 0) _ _ (λ e. unread) (λ e.
-        cond-by DoneHolds (ltb Limits.longest-alert (length text)) _ _ (λ f. unread) (λ f.
-        cond-by DoneHolds (ltb (length (s .waiting)) Limits.most-alerts) _ _ (λ g. unread) (λ g. unread)))
-    call-holds (Histories.setOptions options) =
-        cond-by DoneHolds (Local.optionsAllowed options) _ _ (λ e. unread) (λ e. unread)
-    call-holds (Histories.lookup key most) = unread
-    call-holds Histories.signal = unread
-    call-holds Histories.flags = unread
-    call-holds (Histories.readRecord r) = record-holds (Histories.recordOf s r)
+    call-holds (Histories.local c) = rw (local-stays s c .1) unread
 
     made-holds : (m : Made) → Holds k (joined w m) (carriedMade w s m .state)
     unfolding joined startsAnew receivedBy carriedMade

@@ -1,5 +1,6 @@
 -- The claims over the supervisor: the view of its parts, each call as the meaning has it, and lists of calls.
 -- Assumes nothing.
+pub mod ByPart
 pub mod View
 pub mod Meant
 pub mod ViewLaws
@@ -23,8 +24,8 @@ pub mod ReceivedClaim
 pub mod StepClaim
 pub mod Refusals
 pub mod InOrder
-pub mod Progress
 pub mod FrameHistory
+pub mod Progress
 pub mod FramesClaim
 pub mod TakenAll
 pub mod Sound
@@ -33,7 +34,6 @@ pub mod LentCalls
 pub mod ReceiveClaim
 pub mod CallClaims
 pub mod History
-pub mod LentAgain
 pub mod Cuts
 pub mod LastSet
 pub mod LastSetLaws

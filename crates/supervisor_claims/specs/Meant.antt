@@ -1,36 +1,34 @@
 -- What the claims over local calls say of an answer: valid parts, a refusal or the state left, a record read.
--- Assumes nothing: these are definitions.
+-- Assumes nothing.
 use mathlib.Core.Path.{_≡_}
 use mathlib.Core.Bool.{true}
 use mathlib.Core.List.{List, []}
 use mathlib.Core.Option.{Option, none, some}
 use Prim.Native.Nat.{ℕ}
 use lib.ListN.{length}
-use Rattle.line.specs.Reader as LineReader
 use Rattle.supervisor.specs.State.{Recorded}
 use Rattle.supervisor.specs.Local
-use Rattle.supervisor.specs.Valid.{validOutbox, validFactory, validSettings, validRegisters}
 use Rattle.supervisor.specs.Calls
 use Rattle.supervisor.specs.declared.registers.Kind.{Kind}
+use Rattle.supervisor_claims.specs.ByPart.{Part, part, validPart, withPart, Every, every-with}
 use Rattle.supervisor_claims.specs.View.{view}
 
--- what 12 asks of all parts
-pub record Valid (p : Calls.Parts) : Type 0 where
-  pub reader : LineReader.valid (p .reader) ≡ true
-  pub outbox : validOutbox (p .outbox) ≡ true
-  pub factory : validFactory (p .factory) ≡ true
-  pub settings : validSettings (p .settings) ≡ true
-  pub registers : validRegisters (p .registers) ≡ true
+-- every part is as 12 asks
+abbrev pub Valid : Calls.Parts → Type 0
+Valid p = Every (λ i. validPart i (part p i) ≡ true)
+
+pub valid-with : (p : Calls.Parts) (i : Part) (s : List ℕ) → Valid p → validPart i s ≡ true → Valid (withPart p i s)
+valid-with = every-with (λ i s. validPart i s ≡ true)
 
 -- the parts with another reader, another outbox, or with other registers
 abbrev pub withReader : Calls.Parts → List ℕ → Calls.Parts
-withReader p r = record { reader = r; outbox = p .outbox; factory = p .factory; settings = p .settings; registers = p .registers }
+withReader p r = withPart p Part.reader r
 
 abbrev pub withOutbox : Calls.Parts → List ℕ → Calls.Parts
-withOutbox p o = record { reader = p .reader; outbox = o; factory = p .factory; settings = p .settings; registers = p .registers }
+withOutbox p o = withPart p Part.outbox o
 
 abbrev pub withRegisters : Calls.Parts → List ℕ → Calls.Parts
-withRegisters p r = record { reader = p .reader; outbox = p .outbox; factory = p .factory; settings = p .settings; registers = r }
+withRegisters p r = withPart p Part.registers r
 
 -- a refusal with nothing changed, or valid parts that hold the state
 abbrev pub Does : Calls.Parts → Calls.Registered → Local.Done → Type 0

@@ -1,8 +1,8 @@
--- The bytes since the last 00 after a list of calls: they are the receive progress, so a stream behind any calls is carried out in order.
+-- What a call leaves by document 01: the bytes since the last 00 are the receive progress; a local call leaves it and the settings.
 -- Assumes nothing.
-use mathlib.Core.Path.{_≡_, refl, ap}
-use mathlib.Core.Bool.{cond}
-use mathlib.Core.List.{List, [], _∷_, _++_}
+use mathlib.Core.Path.{_≡_, refl, ap, _∙_}
+use mathlib.Core.Bool.{Bool, true, false, cond, not}
+use mathlib.Core.List.{List, [], _∷_, _++_, append-nil}
 use mathlib.Core.Option.{Option, none, some}
 use Prim.Native.Nat.{ℕ, zero, suc, _≤_}
 use native.Mathlib.Omega.{arith}
@@ -10,38 +10,49 @@ use lib.Dec.{ltb, eqb}
 use lib.ListN.{length}
 use lib.ListN as ListN
 use Rattle.octets.specs.Bytes.{Each}
-use Rattle.octets.proofs.Conditions.{cond-by, cond-both}
-use Rattle.line_claims.specs.Pieces.{split, ahead}
+use Rattle.octets.proofs.Conditions.{cond-by}
+use Rattle.line_claims.specs.Pieces.{split, ahead, split-join}
 use Rattle.supervisor.specs.Limits
-use Rattle.supervisor.specs.State.{Factory, Recorded, State, fresh, withReceived}
+use Rattle.supervisor.specs.State.{Recorded, State, fresh}
 use Rattle.supervisor.specs.Local
 use Rattle.requests.specs.Requests.{stream}
 use Rattle.supervisor_claims.specs.View.{factoryOf}
 use Rattle.supervisor_claims.specs.Histories
-use Rattle.supervisor_claims.specs.Histories.{Call, Made, enough, Means, doneMeans, recordMeans, meant, meantMade, leftMeant, upTo}
-use Rattle.supervisor_claims.specs.InOrder.{allFramed, tailOf, in-order-behind}
+use Rattle.supervisor_claims.specs.Histories.{LocalCall, Call, Means, doneMeans, recordMeans, meant, upTo}
+use Rattle.supervisor_claims.specs.Refusals.{Not12}
+use Rattle.supervisor_claims.specs.InOrder.{tailOf, in-order-behind}
+use Rattle.supervisor_claims.specs.FrameHistory.{starts, reads}
+
+-- ---- a local call
+
+module _ (s : State) where
+  abbrev Stays : Means → Type 0
+  Stays m = (m .state .received ≡ s .received) × (m .state .settings ≡ s .settings) × Not12 (m .answer)
+
+  abbrev DoneStays : Local.Done → Type 0
+  DoneStays x = Stays (doneMeans s x)
+
+  record-stays : (x : Option Recorded) → Stays (recordMeans s x)
+  record-stays none = (refl, refl, tt)
+  record-stays (some x) = (refl, refl, tt)
+
+  -- it leaves the receive progress and the settings as they are, and is not refused as 12
+  pub local-stays : (c : LocalCall) → let m = meant s (Histories.local c) in
+      (m .state .received ≡ s .received) × (m .state .settings ≡ s .settings) × Not12 (m .answer)
+  unfolding meant Local.afterTake Local.post Local.posted Local.setOptions
+  local-stays (Histories.take room) = (refl, refl, tt)
+  local-stays (Histories.post action text) =
+      cond-by DoneStays (eqb action 0) _ _ (λ e. (refl, refl, λ n. omega (arith, n))) (λ e.
+      cond-by DoneStays (ltb Limits.longest-alert (length text)) _ _ (λ f. (refl, refl, λ n. omega (arith, n))) (λ f.
+      cond-by DoneStays (ltb (length (s .waiting)) Limits.most-alerts) _ _ (λ g. (refl, refl, tt)) (λ g. (refl, refl, λ n. omega (arith, n)))))
+  local-stays (Histories.setOptions options) =
+      cond-by DoneStays (Local.optionsAllowed options) _ _ (λ e. (refl, refl, tt)) (λ e. (refl, refl, λ n. omega (arith, n)))
+  local-stays (Histories.lookup key most) = (refl, refl, tt)
+  local-stays Histories.signal = (refl, refl, tt)
+  local-stays Histories.flags = (refl, refl, tt)
+  local-stays (Histories.readRecord k) = record-stays (Histories.recordOf s k)
 
 -- ---- the bytes since the last 00
-
--- a call that reads bytes keeps those behind the last 00; a start that is accepted begins anew
-unfoldable pub behind : List ℕ → Call → List ℕ
-behind p (Histories.start d) = cond (Local.badStart (factoryOf d)) p []
-behind p (Histories.receive image piece) = split (p ++ piece) .rest
-behind p (Histories.step image piece) = split (p ++ ListN.take (upTo piece) piece) .rest
-behind p (Histories.take room) = p
-behind p (Histories.post action text) = p
-behind p (Histories.setOptions options) = p
-behind p (Histories.lookup key most) = p
-behind p Histories.signal = p
-behind p Histories.flags = p
-behind p (Histories.readRecord k) = p
-
--- a call that is lent too little reads nothing
-unfoldable pub since : List ℕ → List Made → List ℕ
-since p [] = p
-since p (m ∷ ms) = since (cond (enough (m .call) (m .lent)) (behind p (m .call)) p) ms
-
--- ---- they are the receive progress
 
 abbrev NonZero : List ℕ → Type 0
 NonZero = Each (λ b. 1 ≤ b)
@@ -62,55 +73,27 @@ pub record Since (p : List ℕ) (s : State) : Type 0 where
   pub received : s .received ≡ tailOf p
   pub nonzero : Each (λ b. 1 ≤ b) p
 
-module _ (p : List ℕ) (s : State) (h : Since p s) where
-  streamed : (image bs : List ℕ) → Since (split (p ++ bs) .rest) (stream image s bs)
-  streamed image bs = record {
-    received = ap (λ (x : State). x .received) (in-order-behind image s p bs (h .nonzero) (h .received));
-    nonzero = rest-nonzero (p ++ bs);
-  }
+-- a call that is lent enough, where the bytes w came before
+module _ (w : List ℕ) (s : State) (h : Since (split w .rest) s) where
+  streamed : (image bs : List ℕ) → Since (split (w ++ bs) .rest) (stream image s bs)
+  streamed image bs =
+      rw (split-join w bs)
+      (record {
+        received = ap (λ (x : State). x .received) (in-order-behind image s (split w .rest) bs (h .nonzero) (h .received));
+        nonzero = rest-nonzero (split w .rest ++ bs);
+      })
 
-  abbrev Done : Local.Done → Type 0
-  Done x = Since p (doneMeans s x .state)
+  -- it reads nothing
+  unread : {t : State} → t .received ≡ s .received → Since (split (w ++ []) .rest) t
+  unread e = rw append-nil (record { received = e ∙ h .received; nonzero = h .nonzero })
 
-  recorded : (x : Option Recorded) → Since p (recordMeans s x .state)
-  recorded none = h
-  recorded (some x) = h
-
-  pub called : (c : Call) → Since (behind p c) (meant s c .state)
-  unfolding behind meant fresh tailOf Local.start Local.afterTake Local.post Local.posted Local.setOptions
-  called (Histories.start d) =
-      cond-both (λ (x : Local.Done) q. Since q (doneMeans s x .state)) (Local.badStart (factoryOf d)) (λ e. h) (λ e. record { received = refl; nonzero = tt })
+  pub called : (c : Call) → Since (split (cond (starts c) [] (w ++ reads c)) .rest) (meant s c .state)
+  unfolding starts reads meant fresh tailOf split Local.start
+  called (Histories.start d) = by (Local.badStart (factoryOf d))
+    where
+      by : (bad : Bool) → Since (split (cond (not bad) [] (w ++ [])) .rest) (doneMeans s (cond bad (Local.refused 11) (Local.left (fresh (factoryOf d)))) .state)
+      by true = unread refl
+      by false = record { received = refl; nonzero = tt }
   called (Histories.receive image piece) = streamed image piece
   called (Histories.step image piece) = streamed image (ListN.take (upTo piece) piece)
-  called (Histories.take room) = record { received = h .received; nonzero = h .nonzero }
-  called (Histories.post action text) =
-      cond-by Done (eqb action 0) _ _ (λ e. h) (λ e.
-      cond-by Done (ltb Limits.longest-alert (length text)) _ _ (λ e. h) (λ e.
-      cond-by Done (ltb (length (s .waiting)) Limits.most-alerts) _ _ (λ e. record { received = h .received; nonzero = h .nonzero }) (λ e. h)))
-  called (Histories.setOptions options) =
-      cond-by Done (Local.optionsAllowed options) _ _ (λ e. record { received = h .received; nonzero = h .nonzero }) (λ e. h)
-  called (Histories.lookup key most) = h
-  called Histories.signal = h
-  called Histories.flags = h
-  called (Histories.readRecord k) = recorded (Histories.recordOf s k)
-
-since-left : (ms : List Made) (p : List ℕ) (s : State) → Since p s → Since (since p ms) (leftMeant s ms)
-unfolding since leftMeant meantMade
-since-left [] p s h = h
-since-left (m ∷ ms) p s h =
-    since-left ms _ _ (cond-both (λ (x : Means) q. Since q (x .state)) (enough (m .call) (m .lent)) (λ e. called p s h (m .call)) (λ e. h))
-
--- ---- the claim
-
-module _ (f : Factory) (ms : List Made) where
-  -- after any calls on a fresh state
-  pub received-since : (leftMeant (fresh f) ms .received ≡ tailOf (since [] ms)) × Each (λ b. 1 ≤ b) (since [] ms)
-  unfolding fresh tailOf
-  received-since =
-      let h = since-left ms [] (fresh f) (record { received = refl; nonzero = tt }) in
-      (h .received, h .nonzero)
-
-  -- a stream behind them: the frames that its 00 close, of which the first began in the calls before, in order, once each, then the unfinished tail
-  pub in-order-after : (image bs : List ℕ) → let s = leftMeant (fresh f) ms in
-      stream image s bs ≡ withReceived (allFramed image s (split (since [] ms ++ bs) .closed)) (tailOf (split (since [] ms ++ bs) .rest))
-  in-order-after image bs = in-order-behind image (leftMeant (fresh f) ms) (since [] ms) bs (received-since .1) (received-since .0)
+  called (Histories.local c) = unread (local-stays s c .0)

@@ -16,10 +16,11 @@ use Rattle.line_claims.specs.Loans.{Loan, enoughPart}
 use Rattle.line_claims.specs.LoanLaws.{back-same, lent-enough}
 use Rattle.line_claims.specs.Calls as LineCalls
 use Rattle.supervisor.specs.Calls.{Parts}
+use Rattle.supervisor_claims.specs.ByPart.{Part, is}
 use Rattle.supervisor_claims.specs.Meant.{withReader}
-use Rattle.supervisor_claims.specs.Histories.{Lent, lentOf, givenBack}
-use Rattle.supervisor_claims.specs.Sound.{Sound, Lengths, lengths-same, lengths-then, valid-roomy}
-use Rattle.supervisor_claims.specs.Locality.{EnoughOfAll, wholeOf, whole-of-all, lent-sound, back-leaves}
+use Rattle.supervisor_claims.specs.Histories.{lentOf, givenBack}
+use Rattle.supervisor_claims.specs.Sound.{Sound, Lengths, lengths-same, lengths-then, valid-long}
+use Rattle.supervisor_claims.specs.Locality.{widened, widened-all, lent-sound, back-leaves}
 use Rattle.supervisor_claims.specs.ReceivedClaim.{ReaderKept, pushed-kept, finished-kept, started-kept}
 use Rattle.supervisor_claims.specs.ReceiveClaim.{reader-leaves}
 
@@ -51,10 +52,8 @@ module _ (p : Parts) (s : Sound p) where
   back-stays : (n : Loan) (t : List ℕ) → enoughPart LineReader.state-length n ≡ true → ReaderKept (LineCalls.lentState n (p .reader)) t
       → Stays p (withReader p (LineCalls.back n (p .reader) t))
   back-stays n t h k =
-      let w = wholeOf p in
-      let l : Lent = record { reader = n; outbox = w .outbox; factory = w .factory; settings = w .settings; registers = w .registers } in
-      let a = whole-of-all p (valid-roomy (s .valid)) in
-      let e : EnoughOfAll l = record { reader = h; outbox = a .outbox; factory = a .factory; settings = a .settings; registers = a .registers } in
+      let l = widened (is Part.reader) (λ i. n) p in
+      let e = widened-all (is Part.reader) (λ i. n) p (valid-long {p = p} (s .valid)) (record { reader = h; outbox = refl; factory = refl; settings = refl; registers = refl }) in
       let b = back-leaves l p (withReader (lentOf l p) t) (s .bytes) (reader-leaves (lentOf l p) (lent-sound l p e s) t k) in
       let same : givenBack l p (withReader (lentOf l p) t) ≡ withReader p (LineCalls.back n (p .reader) t) = simp back-same in
       (rw same at (b .1), rw same at (b .2))

@@ -28,8 +28,9 @@ use Rattle.requests.specs.Receive
 use Rattle.requests.proofs.KeptLaws.{carried-valid, alert-data-short, inner-valid, valid-inner, sent-long, sent-owing, box-valid}
 use Rattle.supervisor_claims.specs.View.{receivedOf, view}
 use Rattle.requests.specs.Requests.{verdictSince}
+use Rattle.supervisor_claims.specs.ByPart.{Part, withPart}
 use Rattle.supervisor_claims.specs.Meant.{withReader, withOutbox}
-use Rattle.supervisor_claims.specs.Sound.{Sound, lengths-same, lengths-then, Leaves}
+use Rattle.supervisor_claims.specs.Sound.{Sound, lengths-same, lengths-then, sound-with, Leaves}
 use Rattle.supervisor_claims.specs.SettingLaws.{storing-stored}
 use Rattle.supervisor_claims.specs.TakenLaws.{alert-asked, alert-reply}
 use Rattle.supervisor_claims.specs.ChangesClaim.{changing, withStores, Changed, changed-carried}
@@ -46,26 +47,9 @@ unfolding view Requests.sent
 sent-leaves p s r short each =
     let o = p .outbox in
     let v = s .valid .outbox in
-    let bs = Requests.replyFrame r in (
-      rw (sent-pending o bs v short, sent-owing o bs v short),
-      record {
-        valid = record {
-          reader = s .valid .reader;
-          outbox = box-valid o bs v short;
-          factory = s .valid .factory;
-          settings = s .valid .settings;
-          registers = s .valid .registers;
-        };
-        bytes = record {
-          reader = s .bytes .reader;
-          outbox = sent-bytes o bs v short (s .bytes .outbox) each;
-          factory = s .bytes .factory;
-          settings = s .bytes .settings;
-          registers = s .bytes .registers;
-        };
-      },
-      record { reader = refl; outbox = sent-long o bs v short; factory = refl; settings = refl; registers = refl },
-    )
+    let bs = Requests.replyFrame r in
+    let k = sound-with p Part.outbox (Receive.sentBox bs o) s (box-valid o bs v short) (sent-bytes o bs v short (s .bytes .outbox) each) (sent-long o bs v short) in
+    (rw (sent-pending o bs v short, sent-owing o bs v short), k .0, k .1)
 
 -- the frame of a reply with data that a message may have
 frame-sendable : (sequence : ℕ) (r : Option (ℕ × List ℕ)) → SendableReply r
@@ -93,22 +77,11 @@ module _ (p : Parts) (s : Sound p) (sequence : ℕ) where
   change-leaves i c ch v send =
       let w = inner-valid i v in
       let bs = frame-sendable sequence (c .reply) send in
-      let stores : Sound (withStores p i) = record {
-        valid = record { reader = s .valid .reader; outbox = s .valid .outbox; factory = s .valid .factory; settings = w .settings; registers = w .registers };
-        bytes = record {
-          reader = s .bytes .reader;
-          outbox = s .bytes .outbox;
-          factory = s .bytes .factory;
-          settings = ch .settings .bytes (s .bytes .settings);
-          registers = ch .registers .bytes (s .bytes .registers);
-        };
-      } in
-      let l = sent-leaves (withStores p i) stores (Requests.replyOf sequence (c .reply)) (bs .0) (bs .1) in
-      rw (ch .outbox, ← ch .state) (
-        l .0,
-        l .1,
-        record { reader = refl; outbox = l .2 .outbox; factory = refl; settings = ch .settings .long; registers = ch .registers .long },
-      )
+      let a = sound-with p Part.settings (i .settings) s (w .settings) (ch .settings .bytes (s .bytes .settings)) (ch .settings .long) in
+      let q = withPart p Part.settings (i .settings) in
+      let b = sound-with q Part.registers (i .registers) (a .0) (w .registers) (ch .registers .bytes (s .bytes .registers)) (ch .registers .long) in
+      let l = sent-leaves (withStores p i) (b .0) (Requests.replyOf sequence (c .reply)) (bs .0) (bs .1) in
+      rw (ch .outbox, ← ch .state) (l .0, l .1, lengths-then (lengths-then (a .1) (b .1)) (l .2))
 
   answer-leaves : (bs : List ℕ) (c : Requests.Carried) → Answers p sequence bs c
       → Leaves p (within p (Receive.inner (Receive.sentBox bs (p .outbox)) (p .settings) (p .registers))) (sentBy sequence c)
@@ -276,20 +249,9 @@ module _ (p : Parts) (s : Sound p) where
   -- another state of the reader
   pub reader-leaves : (t : List ℕ) → ReaderKept (p .reader) t → Leaves p (withReader p t) (withReceived (view p) (receivedOf t))
   unfolding view
-  reader-leaves t k = (
-    refl,
-    record {
-      valid = record { reader = k .valid; outbox = s .valid .outbox; factory = s .valid .factory; settings = s .valid .settings; registers = s .valid .registers };
-      bytes = record {
-        reader = k .bytes (s .bytes .reader);
-        outbox = s .bytes .outbox;
-        factory = s .bytes .factory;
-        settings = s .bytes .settings;
-        registers = s .bytes .registers;
-      };
-    },
-    record { reader = k .long; outbox = refl; factory = refl; settings = refl; registers = refl },
-  )
+  reader-leaves t k =
+      let w = sound-with p Part.reader t s (k .valid) (k .bytes (s .bytes .reader)) (k .long) in
+      (refl, w .0, w .1)
 
 module _ (image : List ℕ) (each : Each Byte image) (p : Parts) (s : Sound p) where
   abbrev ended : List ℕ

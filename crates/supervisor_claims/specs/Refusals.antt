@@ -1,14 +1,14 @@
--- Refusal 12: a call is refused so exactly where a part that it takes is not as 12 asks, and then nothing changes. The parts' lengths.
+-- Refusals: 12 exactly where a part that a call takes is not as 12 asks; a refused call changes nothing. The parts' lengths.
 -- Assumes nothing.
-use mathlib.Core.Path.{_≡_, refl, ap}
-use mathlib.Core.Bool.{Bool, true, false, _&&_}
-use mathlib.Core.List.{List}
+use mathlib.Core.Path.{_≡_, refl, sym, ap, _∙_}
+use mathlib.Core.Bool.{Bool, true, false, _&&_, and-true, and-false}
+use mathlib.Core.List.{List, []}
 use mathlib.Core.Logic.{_↔_}
 use Prim.Native.Nat.{ℕ, _+_, _≤_}
 use native.Mathlib.Omega.{arith}
-use lib.Dec.{ltb, eqb}
+use lib.Dec.{leb, ltb, eqb}
 use lib.ListN.{length}
-use Rattle.octets.proofs.Conditions.{cond-by}
+use Rattle.octets.proofs.Conditions.{cond-by, cond-both}
 use Rattle.line.specs.Reader as LineReader
 use Rattle.supervisor.specs.Limits
 use Rattle.supervisor.specs.Layout
@@ -17,41 +17,70 @@ use Rattle.supervisor.specs.Valid.{goodStart, validOutbox, validFactory, validS
 use Rattle.supervisor.specs.Calls
 use Rattle.supervisor.specs.Calls.{Parts}
 use Rattle.requests.specs.Receive
+use Rattle.supervisor_claims.specs.ByPart.{Part, published, part, validPart, everyPart}
+use Rattle.supervisor_claims.specs.Meant.{withRegisters}
 use Rattle.supervisor_claims.specs.Histories
-use Rattle.supervisor_claims.specs.Histories.{Call, Answer, refused, Did, didBy, did, refusal, untouched}
+use Rattle.supervisor_claims.specs.Histories.{LocalCall, Call, Answer, refused, Did, didBy, did, refusal, ofTaken, untouched}
 use Rattle.supervisor_claims.specs.StepClaim.{turned-stepped}
 
 -- all parts together have at most 65,536 bytes
 pub parts-fit : LineReader.state-length + Layout.outbox-length + Layout.factory-length + Layout.settings-length + Layout.registers-length ≤ 65536
 parts-fit = omega arith
 
--- whether the parts that a call takes are as 12 asks: start asks for their lengths alone
+-- what a call asks of a part that it takes: a start its length alone
+abbrev pub asks : Call → Part → List ℕ → Bool
+asks (Histories.start d) i s = leb (published i) (length s)
+asks (Histories.receive image piece) i s = validPart i s
+asks (Histories.step image piece) i s = validPart i s
+asks (Histories.local c) i s = validPart i s
+
+-- whether the parts that a call takes are as 12 asks
 unfoldable pub fit : Parts → Call → Bool
-fit p (Histories.start d) = Calls.roomy p
-fit p (Histories.receive image piece) = Receive.validParts p
-fit p (Histories.step image piece) = Receive.validParts p
-fit p (Histories.take room) = validOutbox (p .outbox)
-fit p (Histories.post action text) = validRegisters (p .registers)
-fit p (Histories.setOptions options) = validRegisters (p .registers)
-fit p (Histories.lookup key most) = validFactory (p .factory) && validSettings (p .settings)
-fit p Histories.signal = validRegisters (p .registers)
-fit p Histories.flags = validRegisters (p .registers)
-fit p (Histories.readRecord k) = validRegisters (p .registers)
+fit p c = ofTaken c (λ i. asks c i (part p i))
+
+-- ---- the tests that the calls make
+
+and-swap : (a b c : Bool) → (a && (b && c)) ≡ (b && (a && c))
+and-swap true b c = refl
+and-swap false b c = rw and-false
+
+pub valid-parts-are : (p : Parts) → Receive.validParts p ≡ everyPart (λ i. validPart i (part p i))
+unfolding Receive.validParts Receive.validInner
+valid-parts-are p =
+    ap (λ t. LineReader.valid (p .reader) && t)
+    (and-swap (validFactory (p .factory)) (validOutbox (p .outbox)) (validSettings (p .settings) && validRegisters (p .registers)))
+
+module _ (p : Parts) {t : Bool} where
+  room-test : (d : List ℕ) → fit p (Histories.start d) ≡ t → Calls.roomy p ≡ t
+  unfolding fit Calls.roomy
+  room-test d e = e
+
+  receive-test : (image piece : List ℕ) → fit p (Histories.receive image piece) ≡ t → Receive.validParts p ≡ t
+  unfolding fit
+  receive-test image piece e = valid-parts-are p ∙ e
+
+  outbox-test : (room : List ℕ) → fit p (Histories.local (Histories.take room)) ≡ t → validOutbox (p .outbox) ≡ t
+  unfolding fit
+  outbox-test room e = sym (and-true (validOutbox (p .outbox))) ∙ e
+
+  stores-test : (key most : ℕ) → fit p (Histories.local (Histories.lookup key most)) ≡ t → (validFactory (p .factory) && validSettings (p .settings)) ≡ t
+  unfolding fit
+  stores-test key most e = ap (λ x. validFactory (p .factory) && x) (sym (and-true (validSettings (p .settings)))) ∙ e
 
 -- where they are not: 12, and nothing changes
 pub refused-12 : (p : Parts) (c : Call) → fit p c ≡ false → did p c ≡ didBy (refused 12) (untouched c) p
 unfolding fit did Calls.starting Receive.receiving Receive.stepping Calls.taking Calls.posting Calls.settingOptions
     Calls.lookupResult Calls.lookupValue Calls.signalOf Calls.flagsOf Calls.recordOf Calls.recordBytes
-refused-12 p (Histories.start d) e = rw e
-refused-12 p (Histories.receive image piece) e = rw e
-refused-12 p (Histories.step image piece) e = rw e
-refused-12 p (Histories.take room) e = rw e
-refused-12 p (Histories.post action text) e = rw e
-refused-12 p (Histories.setOptions options) e = rw e
-refused-12 p (Histories.lookup key most) e = rw e
-refused-12 p Histories.signal e = rw e
-refused-12 p Histories.flags e = rw e
-refused-12 p (Histories.readRecord k) e = rw e
+refused-12 p (Histories.start d) e = rw (room-test p d e)
+refused-12 p (Histories.receive image piece) e = rw (receive-test p image piece e)
+refused-12 p (Histories.step image piece) e = rw (receive-test p image piece e)
+refused-12 p (Histories.local (Histories.take room)) e = rw (outbox-test p room e)
+refused-12 p (Histories.local (Histories.post action text)) e = rw e
+refused-12 p (Histories.local (Histories.setOptions options)) e = rw e
+refused-12 p (Histories.local (Histories.lookup key most)) e = rw (stores-test p key most e)
+refused-12 p (Histories.local Histories.signal) e = rw e
+refused-12 p (Histories.local Histories.flags) e = rw e
+refused-12 p (Histories.local (Histories.readRecord k)) e = rw e
 
 -- ---- nowhere else
 
@@ -65,6 +94,9 @@ WhereRefused (Histories.found n k) X = Unit {0}
 WhereRefused (Histories.asserted b) X = Unit {0}
 WhereRefused (Histories.asked reboot power-off) X = Unit {0}
 WhereRefused (Histories.recorded r) X = Unit {0}
+
+abbrev pub Not12 : Answer → Type 0
+Not12 a = WhereRefused a (λ n. n ≡ 12 → ⊥)
 
 -- a key's place is no refusal
 module _ (X : ℕ → Type 0) (most : ℕ) where
@@ -90,46 +122,56 @@ module _ (X : ℕ → Type 0) (most : ℕ) where
       cond-by P (eqb key 4) _ _ (λ e. setting-held s Layout.key-4-place) (λ e.
       setting-held s Layout.key-5-place)))))
 
-abbrev pub Not12 : Answer → Type 0
-Not12 a = WhereRefused a (λ n. n ≡ 12 → ⊥)
+-- a refusal, where there is one: its number is not 12, and nothing has changed
+abbrev Other : Parts → Call → Did → Type 0
+Other p c d = WhereRefused (d .answer) (λ n. (n ≡ 12 → ⊥) × (d .parts ≡ p) × (d .out ≡ untouched c))
 
--- where the parts are as 12 asks, any refusal has another number
-fit-not-12 : (p : Parts) (c : Call) → fit p c ≡ true → Not12 (did p c .answer)
-unfolding fit did Calls.starting Receive.receiving Receive.stepping Calls.taking Calls.posting Calls.settingOptions
-    Calls.lookupResult Calls.lookupValue Calls.signalOf Calls.flagsOf Calls.recordOf Calls.recordBytes
-fit-not-12 p (Histories.start d) e = rw e (cond-by P (goodStart d) _ _ (λ f. tt) (λ f h. omega (arith, h)))
-  where
-    P : Calls.Start → Type 0
-    P t = Not12 (refusal (t .refusal))
-fit-not-12 p (Histories.receive image piece) e = rw e tt
-fit-not-12 p (Histories.step image piece) e = rw (e, turned-stepped image p piece) tt
-fit-not-12 p (Histories.take room) e = rw e tt
-fit-not-12 p (Histories.post action text) e =
-    rw e
-    (cond-by P (eqb action 0) _ _ (λ f h. omega (arith, h)) (λ f.
-    cond-by P (ltb Limits.longest-alert (length text)) _ _ (λ g h. omega (arith, h)) (λ g.
-    cond-by P (ltb (Layout.alertCount (p .registers)) Limits.most-alerts) _ _ (λ k. tt) (λ k h. omega (arith, h)))))
-  where
-    P : Calls.Registered → Type 0
-    P r = Not12 (refusal (r .refusal))
-fit-not-12 p (Histories.setOptions options) e = rw e (cond-by P (Local.optionsAllowed options) _ _ (λ f. tt) (λ f h. omega (arith, h)))
-  where
-    P : Calls.Registered → Type 0
-    P r = Not12 (refusal (r .refusal))
-fit-not-12 p (Histories.lookup key most) e =
-    rw e
-    (cond-by P (ltb Limits.highest-key key) _ _ (λ f. tt) (λ f. found-held (λ n. n ≡ 12 → ⊥) most (p .factory) (p .settings) key))
-  where
-    P : Calls.LookupSaid → Type 0
-    P a = Not12 (Histories.lookupAnswer a)
-fit-not-12 p Histories.signal e = rw e tt
-fit-not-12 p Histories.flags e = rw e tt
-fit-not-12 p (Histories.readRecord k) e = rw e tt
+-- where the parts are as 12 asks
+module _ (p : Parts) where
+  abbrev registers-other : LocalCall → Calls.Registered → Type 0
+  registers-other c r = Other p (Histories.local c) (didBy (refusal (r .refusal)) [] (withRegisters p (r .registers)))
+
+  fit-other : (c : Call) → fit p c ≡ true → Other p c (did p c)
+  unfolding fit did Calls.starting Receive.receiving Receive.stepping Calls.taking Calls.posting Calls.settingOptions
+      Calls.lookupResult Calls.lookupValue Calls.signalOf Calls.flagsOf Calls.recordOf Calls.recordBytes
+  fit-other (Histories.start d) e = rw (room-test p d e) (cond-by P (goodStart d) _ _ (λ f. tt) (λ f. (λ h. omega (arith, h), refl, refl)))
+    where
+      P : Calls.Start → Type 0
+      P t = Other p (Histories.start d) (didBy (refusal (t .refusal)) [] (t .parts))
+  fit-other (Histories.receive image piece) e = rw (receive-test p image piece e) tt
+  fit-other (Histories.step image piece) e = rw (receive-test p image piece e, turned-stepped image p piece) tt
+  fit-other (Histories.local (Histories.take room)) e = rw (outbox-test p room e) tt
+  fit-other (Histories.local (Histories.post action text)) e =
+      let P = registers-other (Histories.post action text) in
+      rw e
+      (cond-by P (eqb action 0) _ _ (λ f. (λ h. omega (arith, h), refl, refl)) (λ f.
+      cond-by P (ltb Limits.longest-alert (length text)) _ _ (λ g. (λ h. omega (arith, h), refl, refl)) (λ g.
+      cond-by P (ltb (Layout.alertCount (p .registers)) Limits.most-alerts) _ _ (λ k. tt) (λ k. (λ h. omega (arith, h), refl, refl)))))
+  fit-other (Histories.local (Histories.setOptions options)) e =
+      rw e
+      (cond-by (registers-other (Histories.setOptions options)) (Local.optionsAllowed options) _ _ (λ f. tt) (λ f. (λ h. omega (arith, h), refl, refl)))
+  fit-other (Histories.local (Histories.lookup key most)) e =
+      rw (stores-test p key most e)
+      (cond-both P (ltb Limits.highest-key key) (λ f. tt) (λ f. found-held _ most (p .factory) (p .settings) key))
+    where
+      P : Calls.LookupSaid → List ℕ → Type 0
+      P a bs = Other p (Histories.local (Histories.lookup key most)) (didBy (Histories.lookupAnswer a) bs p)
+  fit-other (Histories.local Histories.signal) e = rw e tt
+  fit-other (Histories.local Histories.flags) e = rw e tt
+  fit-other (Histories.local (Histories.readRecord k)) e = rw e tt
 
 -- on any parts
 pub refused-exactly : (p : Parts) (c : Call) → (did p c .answer ≡ refused 12) ↔ (fit p c ≡ false)
 refused-exactly p c = (by (fit p c) refl, λ e. ap (λ (x : Did). x .answer) (refused-12 p c e))
   where
     by : (t : Bool) → fit p c ≡ t → did p c .answer ≡ refused 12 → fit p c ≡ false
-    by true e h = absurd ((rw h at (fit-not-12 p c e)) refl)
+    by true e h = absurd ((rw h at (fit-other p c e)) .0 refl)
     by false e h = e
+
+-- a refused call changes nothing, whatever its number
+pub refused-holds : (p : Parts) (c : Call) (n : ℕ) → did p c .answer ≡ refused n → (did p c .parts ≡ p) × (did p c .out ≡ untouched c)
+refused-holds p c n h = by (fit p c) refl
+  where
+    by : (t : Bool) → fit p c ≡ t → (did p c .parts ≡ p) × (did p c .out ≡ untouched c)
+    by true e = let k = rw h at (fit-other p c e) in (k .1, k .2)
+    by false e = rw (refused-12 p c e) (refl, refl)

@@ -8,12 +8,12 @@ use native.Mathlib.Omega.{arith}
 use Rattle.supervisor.specs.Limits
 use Rattle.supervisor.specs.Layout
 use Rattle.supervisor.specs.State.{Alert, State, withStatus, withOptions, withWaiting}
-use Rattle.supervisor.specs.Valid.{validAlert, validAlerts, validRegisters}
+use Rattle.supervisor.specs.Valid.{validAlert, validAlerts}
 use Rattle.supervisor.specs.Calls
 use Rattle.supervisor.proofs.ValidLaws.{all-each, alert-valid, RegistersValid}
 use Rattle.supervisor.proofs.KeptRegisters.{Kept}
 use Rattle.supervisor_claims.specs.View.{listed, recordedOf, alertOf, retainedOf, view}
-use Rattle.supervisor_claims.specs.Meant.{Valid, withRegisters}
+use Rattle.supervisor_claims.specs.Meant.{withRegisters}
 use Rattle.supervisor_claims.specs.ViewLaws.{listed-same}
 use Rattle.octets.proofs.SameBytes.{Same, number-same}
 
@@ -75,6 +75,3 @@ kept-view p k v =
       recorded-same (k .flags-and-records) Layout.panic-place (omega arith),
       retained-same (k .retained) (omega arith) (v .rest .text),
     )
-
-pub registers-left : {p : Calls.Parts} {s : List ℕ} → Valid p → validRegisters s ≡ true → Valid (withRegisters p s)
-registers-left v h = record { reader = v .reader; outbox = v .outbox; factory = v .factory; settings = v .settings; registers = h }

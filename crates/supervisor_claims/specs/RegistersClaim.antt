@@ -24,11 +24,12 @@ use Rattle.supervisor.specs.declared.registers.Kind.the-variants as kind
 use Rattle.supervisor.proofs.HighestBit.{zeros-highest}
 use Rattle.supervisor.proofs.ValidLaws.{registers-valid}
 use Rattle.supervisor_claims.specs.View.{recordedOf, view}
-use Rattle.supervisor_claims.specs.Meant.{Valid, Does, Reads, RecordedAs}
+use Rattle.supervisor_claims.specs.ByPart.{Part}
+use Rattle.supervisor_claims.specs.Meant.{Valid, valid-with, Does, Reads, RecordedAs}
 use Rattle.supervisor_claims.specs.ViewLaws.{length-listed}
 use Rattle.supervisor.proofs.KeptRegisters.{alerts-valid, Kept, kept-valid}
 use Rattle.octets.proofs.SameBytes.{Same, same-within, number-same, stored-long, stored-number, stored-before, stored-after}
-use Rattle.supervisor_claims.specs.RegisterLaws.{alerts-same, kept-view, registers-left}
+use Rattle.supervisor_claims.specs.RegisterLaws.{alerts-same, kept-view}
 use Rattle.supervisor_claims.specs.PostLaws.{Posting, allowed, posted-kept, posted-status, posted-options, posted-count, posted-alerts, posted-valid}
 
 -- options of which the highest bit set is at most 8
@@ -52,7 +53,7 @@ module _ (p : Calls.Parts) (v : Valid p) where
   posted c = (
     refl,
     kept-view p (posted-kept c) (c .valid) ∙ rw (posted-status c, posted-options c, posted-count c, posted-alerts c),
-    registers-left v (posted-valid c),
+    valid-with p Part.registers _ v (posted-valid c),
   )
 
   pub post-meant : (action : ℕ) (text : List ℕ) → action < 256 → Does p (Calls.posting (p .registers) action text) (Local.post (view p) action text)
@@ -89,7 +90,7 @@ module _ (p : Calls.Parts) (v : Valid p) where
       let n = Layout.alertCount r in (
         refl,
         kept-view p kept w ∙ rw (status, new, count, alerts-same after n (omega arith) (w .rest .alerts)),
-        registers-left v (kept-valid kept w (omega arith) (rw count (alerts-valid after n (omega arith) (w .rest .alerts)))),
+        valid-with p Part.registers _ v (kept-valid kept w (omega arith) (rw count (alerts-valid after n (omega arith) (w .rest .alerts)))),
       )
 
   pub options-meant : (options : ℕ) → options < 2 ^ 64

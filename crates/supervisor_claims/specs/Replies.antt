@@ -22,7 +22,7 @@ use Rattle.supervisor_claims.specs.View.{pendingOf, factoryOf, view}
 use Rattle.supervisor_claims.specs.Sound.{Bytes, Sound}
 use Rattle.supervisor_claims.specs.Histories
 use Rattle.supervisor_claims.specs.Histories.{Typed, Answer, refused, done, stepped, moved, found, asserted, asked, recorded}
-use Rattle.supervisor_claims.specs.Histories.{enoughOutbox, enoughOfAll, Lent, Made, enough, made, meant, meantMade, Told, told}
+use Rattle.supervisor_claims.specs.Histories.{Lent, Made, enough, made, meant, meantMade, Told, told}
 use Rattle.supervisor_claims.specs.CallClaims.{Meets}
 use Rattle.supervisor_claims.specs.TakenAll.{larger-room, allTaken, afterAll, turn, session, replies, replies-taken}
 use Rattle.supervisor_claims.specs.History.{started, one-call}
@@ -37,8 +37,8 @@ pub record Turn : Type 0 where
 -- each call is lent enough, and the room, which holds any bytes, has place for all that may be pending
 pub record Ample (t : Turn) : Type 0 where
   pub byte : t .byte < 256
-  pub receiving : enoughOfAll (t .receiving) ≡ true
-  pub taking : enoughOutbox (t .taking) ≡ true
+  pub receiving : (image : List ℕ) → enough (Histories.receive image (t .byte ∷ [])) (t .receiving) ≡ true
+  pub taking : enough (Histories.local (Histories.take (t .room))) (t .taking) ≡ true
   pub room : Each Byte (t .room)
   pub long : most-pending ≤ length (t .room)
 
@@ -46,7 +46,7 @@ abbrev received : List ℕ → Turn → Made
 received image t = record { lent = t .receiving; call = Histories.receive image (t .byte ∷ []) }
 
 abbrev takenIn : Turn → Made
-takenIn t = record { lent = t .taking; call = Histories.take (t .room) }
+takenIn t = record { lent = t .taking; call = Histories.local (Histories.take (t .room)) }
 
 unfoldable pub byteByByte : List ℕ → List Turn → List Made
 byteByByte image [] = []
@@ -87,12 +87,12 @@ module _ (image : List ℕ) (each : Each Byte image) where
   module _ (p : Parts) (s : Sound p) (t : Turn) (a : Ample t) where
     -- a byte is received
     received-meant : Meets p (made p (received image t)) (Histories.means done [] (Requests.byte image (view p) (t .byte)))
-    unfolding meantMade enough meant Requests.stream
-    received-meant = rw (a .receiving) at (one-call p (received image t) s (each, (a .byte, tt)))
+    unfolding meantMade meant Requests.stream
+    received-meant = rw (a .receiving image) at (one-call p (received image t) s (each, (a .byte, tt)))
 
     -- and all is taken
     take-meant : let d = made p (takenIn t) in (movedBytes (d .answer) (d .out) ≡ allTaken (view p)) × (view (d .parts) ≡ afterAll (view p)) × Sound (d .parts)
-    unfolding meantMade enough meant
+    unfolding meantMade meant
     take-meant =
         let room = t .room in
         let c = rw (a .taking) at (one-call p (takenIn t) s (a .room)) in

@@ -1,14 +1,14 @@
 -- The retained alert reply: which requests replace or drop it, and what a reboot or power-off leaves (document 01, "Alerts"; document 02, item 1).
 -- Assumes nothing.
 use mathlib.Core.Path.{_≡_, refl}
-use mathlib.Core.Bool.{true, false}
+use mathlib.Core.Bool.{false}
 use mathlib.Core.List.{List}
 use mathlib.Core.Option.{none, some}
 use Prim.Native.Nat.{ℕ}
 use lib.Dec.{eqb}
 use Rattle.octets.proofs.Conditions.{cond-by}
 use Rattle.line.specs.Message.{Message}
-use Rattle.supervisor.specs.State.{Alert, State}
+use Rattle.supervisor.specs.State.{State}
 use Rattle.requests.specs.Requests
 use Rattle.requests.specs.Requests.{Carried, carried, alertData, oldest, others}
 

@@ -1,57 +1,56 @@
 -- Valid parts that hold bytes, their lengths, and parts that hold a state.
 -- Assumes nothing.
 use mathlib.Core.Path.{_≡_, refl, _∙_}
+use mathlib.Core.Bool.{true}
+use mathlib.Core.List.{List}
+use Prim.Native.Nat.{ℕ, _≤_}
 use lib.ListN.{length}
+use borrow.Author.Tests.{le-leb}
 use Rattle.octets.specs.Bytes.{Each, Byte}
 use Rattle.supervisor.specs.State.{State}
+use Rattle.supervisor.specs.Calls
 use Rattle.supervisor.specs.Calls.{Parts}
-use Rattle.supervisor.proofs.StartLaws.{Roomy}
-use Rattle.supervisor.proofs.ValidLaws.{outbox-valid, factory-valid, settings-valid, registers-valid}
-use Rattle.line.proofs.State.{valid-ready}
+use Rattle.supervisor_claims.specs.ByPart.{Part, published, part, validPart, withPart, Every, every, of, every-true, every-with, part-long}
 use Rattle.supervisor_claims.specs.View.{view}
-use Rattle.supervisor_claims.specs.Meant.{Valid}
+use Rattle.supervisor_claims.specs.Meant.{Valid, valid-with}
 
 -- every part holds bytes
-pub record Bytes (p : Parts) : Type 0 where
-  pub reader : Each Byte (p .reader)
-  pub outbox : Each Byte (p .outbox)
-  pub factory : Each Byte (p .factory)
-  pub settings : Each Byte (p .settings)
-  pub registers : Each Byte (p .registers)
+abbrev pub Bytes : Parts → Type 0
+Bytes p = Every (λ i. Each Byte (part p i))
 
 pub record Sound (p : Parts) : Type 0 where
   pub valid : Valid p
   pub bytes : Bytes p
 
 -- each part of q is as long as p's
-pub record Lengths (p q : Parts) : Type 0 where
-  pub reader : length (q .reader) ≡ length (p .reader)
-  pub outbox : length (q .outbox) ≡ length (p .outbox)
-  pub factory : length (q .factory) ≡ length (p .factory)
-  pub settings : length (q .settings) ≡ length (p .settings)
-  pub registers : length (q .registers) ≡ length (p .registers)
+abbrev pub Lengths : Parts → Parts → Type 0
+Lengths p q = Every (λ i. length (part q i) ≡ length (part p i))
 
 pub lengths-same : {p : Parts} → Lengths p p
-lengths-same = record { reader = refl; outbox = refl; factory = refl; settings = refl; registers = refl }
+lengths-same = every (λ i. refl)
 
 pub lengths-then : {p q r : Parts} → Lengths p q → Lengths q r → Lengths p r
-lengths-then l m = record {
-  reader = m .reader ∙ l .reader;
-  outbox = m .outbox ∙ l .outbox;
-  factory = m .factory ∙ l .factory;
-  settings = m .settings ∙ l .settings;
-  registers = m .registers ∙ l .registers;
-}
+lengths-then l m = every (λ i. of m i ∙ of l i)
 
--- valid parts have their published lengths
-pub valid-roomy : {p : Parts} → Valid p → Roomy p
-valid-roomy {p} v = record {
-  reader = valid-ready (p .reader) (v .reader) .0;
-  outbox = outbox-valid (p .outbox) (v .outbox) .long;
-  factory = factory-valid (p .factory) (v .factory) .long;
-  settings = settings-valid (p .settings) (v .settings) .long;
-  registers = registers-valid (p .registers) (v .registers) .long;
-}
+-- another part that is as 12 asks, holds bytes and is as long
+pub sound-with : (p : Parts) (i : Part) (t : List ℕ) → Sound p → validPart i t ≡ true → Each Byte t → length t ≡ length (part p i)
+    → Sound (withPart p i t) × Lengths p (withPart p i t)
+sound-with p i t s v b n = (
+  record { valid = valid-with p i t (s .valid) v; bytes = every-with (λ j u. Each Byte u) p i t (s .bytes) b },
+  every-with (λ j u. length u ≡ length (part p j)) p i t lengths-same n,
+)
+
+-- each part has its published length
+abbrev pub Long : Parts → Type 0
+Long p = Every (λ i. published i ≤ length (part p i))
+
+-- so valid parts have room for a start
+pub valid-long : {p : Parts} → Valid p → Long p
+valid-long {p} v = every (λ i. part-long i (part p i) (of v i))
+
+pub valid-room : {p : Parts} → Valid p → Calls.roomy p ≡ true
+unfolding Calls.roomy
+valid-room {p} v = every-true _ (every (λ i. le-leb _ _ (of (valid-long {p = p} v) i)))
 
 -- q holds the state s, is sound, and its parts are as long as p's
 abbrev pub Leaves : Parts → Parts → State → Type 0

@@ -17,7 +17,8 @@ use Rattle.supervisor.specs.Calls
 use Rattle.supervisor.proofs.ValidLaws.{OutboxValid, outbox-valid, valid-outbox}
 use Rattle.supervisor_claims.specs.View.{pendingOf, view}
 use Rattle.supervisor_claims.specs.ViewLaws.{take-min, drop-run, drop-taken}
-use Rattle.supervisor_claims.specs.Meant.{Valid, withOutbox}
+use Rattle.supervisor_claims.specs.ByPart.{Part}
+use Rattle.supervisor_claims.specs.Meant.{Valid, valid-with, withOutbox}
 
 -- ---- the outbox after bytes were taken
 
@@ -134,11 +135,5 @@ module _ (p : Calls.Parts) (v : Valid p) where
         refl,
         refl,
         rw (left .pending, left .owing, drop-taken (length room) (pendingOf o)),
-        record {
-          reader = v .reader;
-          outbox = valid-outbox _ (left .valid);
-          factory = v .factory;
-          settings = v .settings;
-          registers = v .registers;
-        },
+        valid-with p Part.outbox _ v (valid-outbox _ (left .valid)),
       )

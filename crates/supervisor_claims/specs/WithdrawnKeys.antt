@@ -121,13 +121,13 @@ module _ (p : Parts) (b : Bytes p) (l : Lent) (d : List ℕ) (typed : Typed (His
   withdrawn-list-answered n most = last-set five n most
 
   -- a lookup by the local call: the same results
-  pub lookup-last-set : {k : ℕ} → SettingsKey k → (most : ℕ) → most < 65536 → (j : Lent) → enough (Histories.lookup k most) j ≡ true
-      → let r = made (reached p l d ms) (record { lent = j; call = Histories.lookup k most }) in
+  pub lookup-last-set : {k : ℕ} → SettingsKey k → (most : ℕ) → most < 65536 → (j : Lent) → enough (Histories.local (Histories.lookup k most)) j ≡ true
+      → let r = made (reached p l d ms) (record { lent = j; call = Histories.local (Histories.lookup k most) }) in
       let f = Local.fitted most (lastSet k (requestsOf (joinedAll [] ms))) in
       (r .answer ≡ found (f .result) (length (f .value))) × (r .out ≡ f .value)
   unfolding meantMade meant
   lookup-last-set {k} h most i j e =
       let m = within-highest h in
       let q = reached p l d ms in
-      let meets = rw e at (one-call q (record { lent = j; call = Histories.lookup k most }) (history p b l d typed accepted ms t .2) (omega arith, i)) in
+      let meets = rw e at (one-call q (record { lent = j; call = Histories.local (Histories.lookup k most) }) (history p b l d typed accepted ms t .2) (omega arith, i)) in
       rw (meets .answer, meets .out, found-value (view q) most h, value-last-set h) (refl, refl)
