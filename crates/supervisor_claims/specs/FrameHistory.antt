@@ -2,19 +2,21 @@
 -- Assumes nothing: these are definitions.
 use mathlib.Core.Bool.{Bool, false, cond, not, _&&_}
 use mathlib.Core.List.{List, [], _∷_, _++_}
+use mathlib.Core.Option.{Option, none, some}
 use Prim.Native.Nat.{ℕ}
+use lib.Dec.{ltb}
 use lib.ListN as ListN
 use lib.ListN.{length}
+use Rattle.line.specs.Limits.{longest-form}
 use Rattle.line_claims.specs.Pieces.{split, nonEmpty, closedBy}
 use Rattle.supervisor.specs.State.{State, withReceived}
 use Rattle.supervisor.specs.Local
-use Rattle.requests.specs.Requests.{verdict}
+use Rattle.requests.specs.Requests.{verdict, judged}
 use Rattle.requests.specs.Receive
 use Rattle.requests.specs.Receive.{Ended}
 use Rattle.supervisor_claims.specs.View.{factoryOf}
 use Rattle.supervisor_claims.specs.Histories
 use Rattle.supervisor_claims.specs.Histories.{Call, refused, done, stepped, Means, means, upTo, meant, Made, enough, untouched, Told}
-use Rattle.supervisor_claims.specs.InOrder.{allFramed, tailOf}
 
 -- ---- The received bytes
 
@@ -52,6 +54,20 @@ joinedAll w (m ∷ ms) = joinedAll (joined w m) ms
 -- the frames that are not empty among those whose 00 stands in bytes that came behind w
 unfoldable pub framesBy : List ℕ → List ℕ → List (List ℕ)
 framesBy w bs = nonEmpty (closedBy w bs)
+
+-- the bytes before a 00; an empty frame is ignored
+unfoldable pub framed : List ℕ → State → List ℕ → State
+framed image s [] = s
+framed image s (b ∷ bs) = judged image s (verdict (b ∷ bs))
+
+-- frames, one after the other
+unfoldable pub allFramed : List ℕ → State → List (List ℕ) → State
+allFramed image s [] = s
+allFramed image s (f ∷ fs) = allFramed image (framed image s f) fs
+
+-- the receive progress after bytes that are not 00: none where they are more than a form has
+unfoldable pub tailOf : List ℕ → Option (List ℕ)
+tailOf bs = cond (ltb longest-form (length bs)) none (some bs)
 
 -- those frames in order, with the image lent: a valid request is carried out, any other frame earns its numbered failure (`judged`);
 -- the bytes behind the last 00 are the receive progress

@@ -214,7 +214,7 @@ takes (local signal) i = is Part.registers i
 takes (local flags) i = is Part.registers i
 takes (local (readRecord k)) i = is Part.registers i
 
--- a test that every part passes which a call takes
+-- a test that each part passes which a call takes
 abbrev pub ofTaken : Call → (Part → Bool) → Bool
 ofTaken c f = everyPart (λ i. not (takes c i) || f i)
 

@@ -1,43 +1,16 @@
--- The claims over the supervisor: the view of its parts, each call as the meaning has it, and lists of calls.
+-- Demand 2 over the supervisor, in the order in which to read it: `Demand2` states it as one claim and passes on the others. The definitions that its statement
+-- rests on: the parts by name and the state that they hold (`ByPart`, `View`, `Meant`, `Sound`); calls, what each does and what document 01 has of it, and
+-- which parts it takes (`Histories`); calls by the frames of the received bytes (`FrameHistory`); the last set of a key (`LastSet`).
+-- The rest proves it: `claims`, over lists of calls and over streams, each passed on by `Demand2`; `calls`, one call or request at a time; `laws`.
 -- Assumes nothing.
+pub mod Demand2
 pub mod ByPart
 pub mod View
 pub mod Meant
-pub mod ViewLaws
-pub mod GoodStart
-pub mod StartClaim
-pub mod TakeClaim
-pub mod RegisterLaws
-pub mod PostLaws
-pub mod RegistersClaim
-pub mod RetainedClaim
-pub mod LookupClaim
-pub mod PartLaws
-pub mod SettingLaws
-pub mod RecordLaws
-pub mod TakenLaws
-pub mod ChangesClaim
-pub mod SendingClaim
-pub mod AnswersClaim
-pub mod Histories
-pub mod ReceivedClaim
-pub mod StepClaim
-pub mod Refusals
-pub mod InOrder
-pub mod FrameHistory
-pub mod Progress
-pub mod FramesClaim
-pub mod TakenAll
 pub mod Sound
-pub mod Locality
-pub mod LentCalls
-pub mod ReceiveClaim
-pub mod CallClaims
-pub mod History
-pub mod Cuts
+pub mod Histories
+pub mod FrameHistory
 pub mod LastSet
-pub mod LastSetLaws
-pub mod WithdrawnKeys
-pub mod ReaderCalls
-pub mod Replies
-pub mod Demand2
+pub mod claims
+pub mod calls
+pub mod laws

@@ -44,7 +44,7 @@ sound-with p i t s v b n = (
 abbrev pub Long : Parts → Type 0
 Long p = Every (λ i. published i ≤ length (part p i))
 
--- so valid parts have room for a start
+-- valid parts have it, and so room for a start
 pub valid-long : {p : Parts} → Valid p → Long p
 valid-long {p} v = every (λ i. part-long i (part p i) (of v i))
 

@@ -31,11 +31,11 @@ use Rattle.requests.specs.Receive.{replyBytes, itemDataLength, itemBytes, block
 use Rattle.requests.proofs.ReceiveLaws.{ItemHeld, item-held}
 use Rattle.requests.proofs.KeptLaws.{value-data-short, item-short}
 use Rattle.supervisor_claims.specs.View.{listed, itemAt, factoryOf, view}
-use Rattle.supervisor_claims.specs.ViewLaws.{length-listed}
+use Rattle.supervisor_claims.specs.laws.ViewLaws.{length-listed}
 use Rattle.supervisor_claims.specs.Meant.{Valid}
-use Rattle.supervisor_claims.specs.LookupClaim.{lookup-meant}
-use Rattle.supervisor_claims.specs.SendingClaim.{Sendable, run-sendable, reply-sendable}
-use Rattle.supervisor_claims.specs.PartLaws.{each-number}
+use Rattle.supervisor_claims.specs.calls.LookupClaim.{lookup-meant}
+use Rattle.supervisor_claims.specs.calls.SendingClaim.{Sendable, run-sendable, reply-sendable}
+use Rattle.supervisor_claims.specs.laws.PartLaws.{each-number}
 
 -- ---- a list of items by the index
 

@@ -23,13 +23,13 @@ use Rattle.supervisor_claims.specs.View.{factoryOf, view}
 use Rattle.supervisor_claims.specs.Sound.{Bytes}
 use Rattle.supervisor_claims.specs.Histories
 use Rattle.supervisor_claims.specs.Histories.{Typed, done, found, Lent, Made, enough, meant, meantMade, made, left, leftMeant, AllTyped}
-use Rattle.supervisor_claims.specs.InOrder.{framed, allFramed, request-carried}
-use Rattle.supervisor_claims.specs.Progress.{Since}
-use Rattle.supervisor_claims.specs.FrameHistory.{framesBy, joinedAll}
-use Rattle.supervisor_claims.specs.FramesClaim.{stream-closes, by-frames}
+use Rattle.supervisor_claims.specs.claims.InOrder.{request-carried}
+use Rattle.supervisor_claims.specs.laws.Progress.{Since}
+use Rattle.supervisor_claims.specs.FrameHistory.{framesBy, joinedAll, framed, allFramed}
+use Rattle.supervisor_claims.specs.claims.FramesClaim.{stream-closes, by-frames}
 use Rattle.supervisor_claims.specs.LastSet.{SettingsKey, three, four, five, requestsOf, lastSet, lookupOf, lookupReply}
-use Rattle.supervisor_claims.specs.LastSetLaws.{value-held, frames-owing, Holds, fresh-holds, frames-hold, calls-hold}
-use Rattle.supervisor_claims.specs.History.{history, one-call}
+use Rattle.supervisor_claims.specs.claims.LastSetLaws.{value-held, frames-owing, Holds, fresh-holds, frames-hold, calls-hold}
+use Rattle.supervisor_claims.specs.claims.History.{history, one-call}
 
 -- ---- a lookup carried out
 

@@ -18,7 +18,7 @@ use Rattle.supervisor.specs.Calls
 use Rattle.supervisor.proofs.ValidLaws.{FactoryValid, factory-valid, SettingValid, settings-valid}
 use Rattle.supervisor_claims.specs.View.{itemAt, listed, settingOf, settingsOf, factoryOf, view}
 use Rattle.supervisor_claims.specs.Meant.{Valid}
-use Rattle.supervisor_claims.specs.ViewLaws.{length-listed}
+use Rattle.supervisor_claims.specs.laws.ViewLaws.{length-listed}
 
 -- ---- bytes of a store, and the value that they hold
 

@@ -19,15 +19,15 @@ use Rattle.supervisor_claims.specs.View.{factoryOf, view}
 use Rattle.supervisor_claims.specs.Histories
 use Rattle.supervisor_claims.specs.Histories.{Call, Typed, refused, done, Did, did, doneMeans, meant, upTo}
 use Rattle.supervisor_claims.specs.Histories.{Lent, lentOf, takes, enough, Made, untouched, made, meantMade, told, left, toldMeant, leftMeant, AllTyped}
-use Rattle.supervisor_claims.specs.Refusals.{fit, refused-12, refused-holds, WhereRefused, Not12}
-use Rattle.supervisor_claims.specs.Progress.{local-stays}
-use Rattle.supervisor_claims.specs.StartClaim.{start-refused}
+use Rattle.supervisor_claims.specs.claims.Refusals.{fit, refused-12, refused-holds, WhereRefused, Not12}
+use Rattle.supervisor_claims.specs.laws.Progress.{local-stays}
+use Rattle.supervisor_claims.specs.calls.StartClaim.{start-refused}
 use Rattle.supervisor_claims.specs.Sound.{Bytes, Sound, Lengths, lengths-same, lengths-then, valid-long, Leaves}
-use Rattle.supervisor_claims.specs.Locality.{widened, lent-bytes, lent-sound, lent-view, back-lent, back-leaves}
-use Rattle.supervisor_claims.specs.LentCalls.{parts-valid, valid-parts, made-12, widened-enough, widened-same}
-use Rattle.supervisor_claims.specs.StepClaim.{step-fed}
-use Rattle.supervisor_claims.specs.ReceiveClaim.{fed-leaves}
-use Rattle.supervisor_claims.specs.CallClaims.{Meets, start-leaves, call-meets}
+use Rattle.supervisor_claims.specs.laws.Locality.{widened, lent-bytes, lent-sound, lent-view, back-lent, back-leaves}
+use Rattle.supervisor_claims.specs.claims.LentCalls.{parts-valid, valid-parts, made-12, widened-enough, widened-same}
+use Rattle.supervisor_claims.specs.calls.StepClaim.{step-fed}
+use Rattle.supervisor_claims.specs.calls.ReceiveClaim.{fed-leaves}
+use Rattle.supervisor_claims.specs.calls.CallClaims.{Meets, start-leaves, call-meets}
 
 -- ---- refusals change nothing
 

@@ -14,7 +14,7 @@ use Rattle.supervisor.proofs.ValidLaws.{all-each, alert-valid, RegistersValid}
 use Rattle.supervisor.proofs.KeptRegisters.{Kept}
 use Rattle.supervisor_claims.specs.View.{listed, recordedOf, alertOf, retainedOf, view}
 use Rattle.supervisor_claims.specs.Meant.{withRegisters}
-use Rattle.supervisor_claims.specs.ViewLaws.{listed-same}
+use Rattle.supervisor_claims.specs.laws.ViewLaws.{listed-same}
 use Rattle.octets.proofs.SameBytes.{Same, number-same}
 
 -- the first n alerts

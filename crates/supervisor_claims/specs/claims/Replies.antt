@@ -23,9 +23,9 @@ use Rattle.supervisor_claims.specs.Sound.{Bytes, Sound}
 use Rattle.supervisor_claims.specs.Histories
 use Rattle.supervisor_claims.specs.Histories.{Typed, Answer, refused, done, stepped, moved, found, asserted, asked, recorded}
 use Rattle.supervisor_claims.specs.Histories.{Lent, Made, enough, made, meant, meantMade, Told, told}
-use Rattle.supervisor_claims.specs.CallClaims.{Meets}
-use Rattle.supervisor_claims.specs.TakenAll.{larger-room, allTaken, afterAll, turn, session, replies, replies-taken}
-use Rattle.supervisor_claims.specs.History.{started, one-call}
+use Rattle.supervisor_claims.specs.calls.CallClaims.{Meets}
+use Rattle.supervisor_claims.specs.laws.TakenAll.{larger-room, allTaken, afterAll, turn, session, replies, replies-taken}
+use Rattle.supervisor_claims.specs.claims.History.{started, one-call}
 
 -- a turn: a byte is received, and then what is pending is taken in a room; each of the two calls is lent its own bytes of the parts
 pub record Turn : Type 0 where

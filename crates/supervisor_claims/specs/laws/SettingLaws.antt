@@ -20,7 +20,7 @@ use Rattle.requests.specs.Requests
 use Rattle.requests.specs.Receive
 use Rattle.requests.proofs.KeptLaws.{settingBytes, length-setting, setting-before, setting-after, setting-held, setting-size, setting-value}
 use Rattle.supervisor_claims.specs.View.{settingOf, settingsOf}
-use Rattle.supervisor_claims.specs.PartLaws.{Like, like-itself, like-put, each-number}
+use Rattle.supervisor_claims.specs.laws.PartLaws.{Like, like-itself, like-put, each-number}
 
 -- ---- the view of a value that was put
 

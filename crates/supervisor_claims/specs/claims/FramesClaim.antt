@@ -19,10 +19,10 @@ use Rattle.supervisor.specs.State.{Factory, State, fresh, withReceived}
 use Rattle.requests.specs.Requests.{byte, stream, verdictSince}
 use Rattle.supervisor_claims.specs.Histories
 use Rattle.supervisor_claims.specs.Histories.{Call, upTo, endedMeant, frameEnds, meant, Made, enough, meantMade, toldMeant, leftMeant}
-use Rattle.supervisor_claims.specs.InOrder.{framed, allFramed, tailOf, tail-over, tail-within, verdict-over, more-tail}
-use Rattle.supervisor_claims.specs.InOrder.{stream-append, empty-ignored, closed-framed, in-order-behind}
-use Rattle.supervisor_claims.specs.Progress.{Since, called}
-use Rattle.supervisor_claims.specs.FrameHistory.{reads, receivedBy, startsAnew, joined, joinedAll, framesBy, endedBy}
+use Rattle.supervisor_claims.specs.claims.InOrder.{tail-over, tail-within, verdict-over, more-tail}
+use Rattle.supervisor_claims.specs.claims.InOrder.{stream-append, empty-ignored, closed-framed, in-order-behind}
+use Rattle.supervisor_claims.specs.laws.Progress.{Since, called}
+use Rattle.supervisor_claims.specs.FrameHistory.{reads, receivedBy, startsAnew, joined, joinedAll, framesBy, endedBy, framed, allFramed, tailOf}
 use Rattle.supervisor_claims.specs.FrameHistory.{carriedOut, carriedCall, carriedMade, toldByFrames, leftByFrames, carriedFrames}
 
 -- ---- a step

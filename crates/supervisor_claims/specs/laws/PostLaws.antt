@@ -25,7 +25,7 @@ use Rattle.supervisor.proofs.KeptRegisters.{alerts-valid, Kept, kept-valid}
 use Rattle.supervisor_claims.specs.View.{listed, alertOf}
 use Rattle.octets.proofs.SameBytes.{Same, same-before, same-after, same-then, same-within, number-same}
 use Rattle.octets.proofs.SameBytes.{stored-long, stored-number, stored-before, stored-after}
-use Rattle.supervisor_claims.specs.RegisterLaws.{alertsOf, alert-same, alerts-same}
+use Rattle.supervisor_claims.specs.laws.RegisterLaws.{alertsOf, alert-same, alerts-same}
 
 -- ---- an alert's bytes: the length of its text, its action, its text
 

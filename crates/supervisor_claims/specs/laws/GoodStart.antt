@@ -16,7 +16,7 @@ use Rattle.supervisor.specs.Local
 use Rattle.supervisor.specs.Valid
 use Rattle.supervisor.proofs.ValidLaws.{le-alike}
 use Rattle.supervisor_claims.specs.View.{listed, itemAt, factoryOf}
-use Rattle.supervisor_claims.specs.ViewLaws.{length-listed}
+use Rattle.supervisor_claims.specs.laws.ViewLaws.{length-listed}
 
 -- ---- tests and their negations
 

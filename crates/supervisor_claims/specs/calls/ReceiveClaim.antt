@@ -31,12 +31,12 @@ use Rattle.requests.specs.Requests.{verdictSince}
 use Rattle.supervisor_claims.specs.ByPart.{Part, withPart}
 use Rattle.supervisor_claims.specs.Meant.{withReader, withOutbox}
 use Rattle.supervisor_claims.specs.Sound.{Sound, lengths-same, lengths-then, sound-with, Leaves}
-use Rattle.supervisor_claims.specs.SettingLaws.{storing-stored}
-use Rattle.supervisor_claims.specs.TakenLaws.{alert-asked, alert-reply}
-use Rattle.supervisor_claims.specs.ChangesClaim.{changing, withStores, Changed, changed-carried}
-use Rattle.supervisor_claims.specs.SendingClaim.{Sendable, reply-sendable, sent-pending, sent-bytes}
-use Rattle.supervisor_claims.specs.AnswersClaim.{Asks, SendableReply, Answers, asked-carried}
-use Rattle.supervisor_claims.specs.ReceivedClaim.{Requestable, ReaderKept, pushed-received, pushed-kept, finished-received, finished-kept, finished-verdict, finished-typed}
+use Rattle.supervisor_claims.specs.laws.SettingLaws.{storing-stored}
+use Rattle.supervisor_claims.specs.laws.TakenLaws.{alert-asked, alert-reply}
+use Rattle.supervisor_claims.specs.calls.ChangesClaim.{changing, withStores, Changed, changed-carried}
+use Rattle.supervisor_claims.specs.calls.SendingClaim.{Sendable, reply-sendable, sent-pending, sent-bytes}
+use Rattle.supervisor_claims.specs.calls.AnswersClaim.{Asks, SendableReply, Answers, asked-carried}
+use Rattle.supervisor_claims.specs.calls.ReceivedClaim.{Requestable, ReaderKept, pushed-received, pushed-kept, finished-received, finished-kept, finished-verdict, finished-typed}
 
 -- ---- Sending
 

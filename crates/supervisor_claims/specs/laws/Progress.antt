@@ -19,9 +19,9 @@ use Rattle.requests.specs.Requests.{stream}
 use Rattle.supervisor_claims.specs.View.{factoryOf}
 use Rattle.supervisor_claims.specs.Histories
 use Rattle.supervisor_claims.specs.Histories.{LocalCall, Call, Means, doneMeans, recordMeans, meant, upTo}
-use Rattle.supervisor_claims.specs.Refusals.{Not12}
-use Rattle.supervisor_claims.specs.InOrder.{tailOf, in-order-behind}
-use Rattle.supervisor_claims.specs.FrameHistory.{starts, reads}
+use Rattle.supervisor_claims.specs.claims.Refusals.{Not12}
+use Rattle.supervisor_claims.specs.claims.InOrder.{in-order-behind}
+use Rattle.supervisor_claims.specs.FrameHistory.{starts, reads, tailOf}
 
 -- ---- a local call
 

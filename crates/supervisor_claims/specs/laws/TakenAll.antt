@@ -16,7 +16,8 @@ use Rattle.supervisor.specs.State.{State, withReceived}
 use Rattle.supervisor.specs.Local.{lastNonZero, taken, afterTake}
 use Rattle.requests.specs.Requests.{Reply, verdict, judged, closed, byte, owed, replyFrame}
 use Rattle.line_claims.specs.Pieces.{split, nonEmpty, split-close, split-more, nonEmpty-append}
-use Rattle.supervisor_claims.specs.InOrder.{lined, doneBy, replyBy, done-lined, judged-is, framed, tailOf, more-tail, closed-framed}
+use Rattle.supervisor_claims.specs.FrameHistory.{framed, tailOf}
+use Rattle.supervisor_claims.specs.claims.InOrder.{lined, doneBy, replyBy, done-lined, judged-is, more-tail, closed-framed}
 
 drop-all : (n : ℕ) (l : List ℕ) → length l ≤ n → drop n l ≡ []
 drop-all n l h = drop-of-length-le l h

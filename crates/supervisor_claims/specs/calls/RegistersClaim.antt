@@ -26,11 +26,11 @@ use Rattle.supervisor.proofs.ValidLaws.{registers-valid}
 use Rattle.supervisor_claims.specs.View.{recordedOf, view}
 use Rattle.supervisor_claims.specs.ByPart.{Part}
 use Rattle.supervisor_claims.specs.Meant.{Valid, valid-with, Does, Reads, RecordedAs}
-use Rattle.supervisor_claims.specs.ViewLaws.{length-listed}
+use Rattle.supervisor_claims.specs.laws.ViewLaws.{length-listed}
 use Rattle.supervisor.proofs.KeptRegisters.{alerts-valid, Kept, kept-valid}
 use Rattle.octets.proofs.SameBytes.{Same, same-within, number-same, stored-long, stored-number, stored-before, stored-after}
-use Rattle.supervisor_claims.specs.RegisterLaws.{alerts-same, kept-view}
-use Rattle.supervisor_claims.specs.PostLaws.{Posting, allowed, posted-kept, posted-status, posted-options, posted-count, posted-alerts, posted-valid}
+use Rattle.supervisor_claims.specs.laws.RegisterLaws.{alerts-same, kept-view}
+use Rattle.supervisor_claims.specs.laws.PostLaws.{Posting, allowed, posted-kept, posted-status, posted-options, posted-count, posted-alerts, posted-valid}
 
 -- options of which the highest bit set is at most 8
 options-small : (options : ℕ) → options < 2 ^ 64 → Local.optionsAllowed options ≡ true → options ≤ 511

@@ -30,10 +30,10 @@ use Rattle.supervisor.proofs.KeptRegisters.{groups-valid, numbers-kept, flags-k
 use Rattle.requests.proofs.KeptLaws.{setting-kept}
 use Rattle.supervisor_claims.specs.ByPart.{Part, published, part, Every, every, of, part-by, every-by, parts-same, published-some}
 use Rattle.supervisor_claims.specs.View.{factoryOf, settingsOf, receivedOf, pendingOf, view}
-use Rattle.supervisor_claims.specs.ViewLaws.{factory-same}
-use Rattle.supervisor_claims.specs.GoodStart.{good-bad}
-use Rattle.supervisor_claims.specs.SettingLaws.{setting-same}
-use Rattle.supervisor_claims.specs.RegisterLaws.{recorded-same, retained-same, alerts-same}
+use Rattle.supervisor_claims.specs.laws.ViewLaws.{factory-same}
+use Rattle.supervisor_claims.specs.laws.GoodStart.{good-bad}
+use Rattle.supervisor_claims.specs.laws.SettingLaws.{setting-same}
+use Rattle.supervisor_claims.specs.laws.RegisterLaws.{recorded-same, retained-same, alerts-same}
 use Rattle.supervisor_claims.specs.Meant.{Valid}
 use Rattle.supervisor_claims.specs.Histories.{Lent, lentBy, lentOf, backBy, givenBack}
 use Rattle.supervisor_claims.specs.Sound.{Bytes, Sound, Lengths, Long, Leaves, valid-long}

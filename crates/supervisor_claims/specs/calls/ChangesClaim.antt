@@ -20,10 +20,10 @@ use Rattle.requests.specs.Requests
 use Rattle.requests.specs.Receive
 use Rattle.supervisor_claims.specs.View.{view}
 use Rattle.supervisor_claims.specs.Meant.{Valid, withRegisters}
-use Rattle.supervisor_claims.specs.PartLaws.{Like, like-itself}
-use Rattle.supervisor_claims.specs.SettingLaws.{storing-stored}
-use Rattle.supervisor_claims.specs.RecordLaws.{reboot-view, power-off-view, asked-like, boot-failure-view, panic-view, record-like, acknowledged-view, acknowledged-like}
-use Rattle.supervisor_claims.specs.TakenLaws.{alert-asked, alert-reply}
+use Rattle.supervisor_claims.specs.laws.PartLaws.{Like, like-itself}
+use Rattle.supervisor_claims.specs.laws.SettingLaws.{storing-stored}
+use Rattle.supervisor_claims.specs.laws.RecordLaws.{reboot-view, power-off-view, asked-like, boot-failure-view, panic-view, record-like, acknowledged-view, acknowledged-like}
+use Rattle.supervisor_claims.specs.laws.TakenLaws.{alert-asked, alert-reply}
 
 -- the commands that change registers or settings
 unfoldable pub changing : ℕ → Bool

@@ -16,9 +16,9 @@ use Rattle.supervisor_claims.specs.ByPart.{Part, published, part, every,
 use Rattle.supervisor_claims.specs.Meant.{Valid}
 use Rattle.supervisor_claims.specs.Histories
 use Rattle.supervisor_claims.specs.Histories.{Call, Lent, Made, didBy, did, lentOf, takes, enough, untouched, made}
-use Rattle.supervisor_claims.specs.Refusals.{asks, fit, valid-parts-are, refused-12}
+use Rattle.supervisor_claims.specs.claims.Refusals.{asks, fit, valid-parts-are, refused-12}
 use Rattle.supervisor_claims.specs.Sound.{Long}
-use Rattle.supervisor_claims.specs.Locality.{EnoughOfAll, widened, widened-all, lent-part, back-lent}
+use Rattle.supervisor_claims.specs.laws.Locality.{EnoughOfAll, widened, widened-all, lent-part, back-lent}
 
 -- ---- valid parts, by the test and by the record
 

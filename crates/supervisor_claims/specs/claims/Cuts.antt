@@ -11,10 +11,10 @@ use Rattle.requests.specs.Receive
 use Rattle.supervisor_claims.specs.Histories
 use Rattle.supervisor_claims.specs.Histories.{Answer, refused, done, Did, did, Lent, lentOf, Made, made, Told, told, left}
 use Rattle.supervisor_claims.specs.Sound.{Bytes, Lengths, lengths-same}
-use Rattle.supervisor_claims.specs.Locality.{lent-bytes, back-lent, back-leaves, lent-again, back-again}
-use Rattle.supervisor_claims.specs.LentCalls.{parts-valid}
-use Rattle.supervisor_claims.specs.ReceiveClaim.{fed-leaves}
-use Rattle.supervisor_claims.specs.History.{refused-made, cut}
+use Rattle.supervisor_claims.specs.laws.Locality.{lent-bytes, back-lent, back-leaves, lent-again, back-again}
+use Rattle.supervisor_claims.specs.claims.LentCalls.{parts-valid}
+use Rattle.supervisor_claims.specs.calls.ReceiveClaim.{fed-leaves}
+use Rattle.supervisor_claims.specs.claims.History.{refused-made, cut}
 
 -- every call answers so, and hands nothing out
 abbrev pub AllAnswer : Answer → List Told → Type 0

@@ -25,8 +25,8 @@ use Rattle.supervisor.proofs.ValidLaws.{OutboxValid, FactoryValid, SettingValid
 use Rattle.supervisor.proofs.ValidLaws.{all-none, start-good, valid-outbox, valid-factory, valid-settings, valid-registers}
 use Rattle.supervisor_claims.specs.View.{listed, factoryOf, settingOf, settingsOf, recordedOf, retainedOf, receivedOf, pendingOf, view}
 use Rattle.supervisor_claims.specs.Meant.{Valid}
-use Rattle.supervisor_claims.specs.ViewLaws.{factory-same, Clear, length-clear, clear, overlay-middle}
-use Rattle.supervisor_claims.specs.GoodStart.{good-bad}
+use Rattle.supervisor_claims.specs.laws.ViewLaws.{factory-same, Clear, length-clear, clear, overlay-middle}
+use Rattle.supervisor_claims.specs.laws.GoodStart.{good-bad}
 
 -- ---- parts that are clear
 

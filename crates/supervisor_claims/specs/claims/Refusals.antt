@@ -21,7 +21,7 @@ use Rattle.supervisor_claims.specs.ByPart.{Part, published, part, validP
 use Rattle.supervisor_claims.specs.Meant.{withRegisters}
 use Rattle.supervisor_claims.specs.Histories
 use Rattle.supervisor_claims.specs.Histories.{LocalCall, Call, Answer, refused, Did, didBy, did, refusal, ofTaken, untouched}
-use Rattle.supervisor_claims.specs.StepClaim.{turned-stepped}
+use Rattle.supervisor_claims.specs.calls.StepClaim.{turned-stepped}
 
 -- all parts together have at most 65,536 bytes
 pub parts-fit : LineReader.state-length + Layout.outbox-length + Layout.factory-length + Layout.settings-length + Layout.registers-length ≤ 65536

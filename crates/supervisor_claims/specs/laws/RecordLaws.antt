@@ -24,8 +24,8 @@ use Rattle.requests.proofs.KeptLaws.{flag-valid, entry, length-entry, recorded-
 use Rattle.supervisor.proofs.KeptRegisters.{Kept}
 use Rattle.supervisor_claims.specs.View.{recordedOf, retainedOf, view}
 use Rattle.supervisor_claims.specs.Meant.{withRegisters}
-use Rattle.supervisor_claims.specs.PartLaws.{Like, like-then, like-put, like-stored, each-number}
-use Rattle.supervisor_claims.specs.RegisterLaws.{recorded-same, retained-same, alerts-same, kept-view}
+use Rattle.supervisor_claims.specs.laws.PartLaws.{Like, like-then, like-put, like-stored, each-number}
+use Rattle.supervisor_claims.specs.laws.RegisterLaws.{recorded-same, retained-same, alerts-same, kept-view}
 
 -- ---- the view of a record that was put
 

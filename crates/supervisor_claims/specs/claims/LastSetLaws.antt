@@ -23,12 +23,12 @@ use Rattle.supervisor.specs.Local
 use Rattle.supervisor.specs.Local.{valueOf}
 use Rattle.requests.specs.Requests
 use Rattle.requests.specs.Requests.{Carried, known, tested, testedWhere, verdict, carried, stored, judged, sent}
-use Rattle.supervisor_claims.specs.InOrder.{judged-is, framed, allFramed}
+use Rattle.supervisor_claims.specs.claims.InOrder.{judged-is}
 use Rattle.supervisor_claims.specs.View.{factoryOf}
 use Rattle.supervisor_claims.specs.Histories
 use Rattle.supervisor_claims.specs.Histories.{Call, doneMeans, upTo, meant, Made, enough}
-use Rattle.supervisor_claims.specs.Progress.{local-stays}
-use Rattle.supervisor_claims.specs.FrameHistory.{reads, starts, receivedBy, startsAnew, joined, joinedAll, framesBy}
+use Rattle.supervisor_claims.specs.laws.Progress.{local-stays}
+use Rattle.supervisor_claims.specs.FrameHistory.{reads, starts, receivedBy, startsAnew, joined, joinedAll, framesBy, framed, allFramed}
 use Rattle.supervisor_claims.specs.FrameHistory.{carriedOut, carriedCall, carriedMade, leftByFrames}
 use Rattle.supervisor_claims.specs.LastSet.{SettingsKey, three, four, five, request, requestsIn, requestsOf, valueFor, setBy, orElse, lastSet}
 

@@ -1,7 +1,7 @@
 -- A received stream is its frames, carried out or answered in order, once each, and then the unfinished tail.
 -- Assumes nothing.
 use mathlib.Core.Path.{_≡_, refl, ap, _∙_}
-use mathlib.Core.Bool.{Bool, true, false, cond}
+use mathlib.Core.Bool.{Bool, true, false}
 use mathlib.Core.List.{List, [], _∷_, _++_, append-nil}
 use mathlib.Core.Option.{Option, none, some}
 use Prim.Native.Nat.{ℕ, zero, suc, _+_, _≤_, _<_}
@@ -19,6 +19,7 @@ use Rattle.supervisor.specs.State.{Retained, State, withReceived, withPending, 
 use Rattle.supervisor.specs.Local.{lookup, valueOf}
 use Rattle.requests.specs.Requests
 use Rattle.requests.specs.Requests.{Reply, Carried, verdict, carried, judged, closed, more, byte, stream, owed, replyFrame, sent, replyOf, failedOf}
+use Rattle.supervisor_claims.specs.FrameHistory.{framed, allFramed, tailOf}
 use Rattle.line_claims.specs.Pieces.{split, nonEmpty, split-none, split-close, split-more}
 
 -- the stream in cuts
@@ -114,16 +115,6 @@ judged-receiving image s r v =
 
 -- ---- frames
 
--- the bytes before a 00; an empty frame is ignored
-unfoldable pub framed : List ℕ → State → List ℕ → State
-framed image s [] = s
-framed image s (b ∷ bs) = judged image s (verdict (b ∷ bs))
-
--- frames, one after the other
-unfoldable pub allFramed : List ℕ → State → List (List ℕ) → State
-allFramed image s [] = s
-allFramed image s (f ∷ fs) = allFramed image (framed image s f) fs
-
 module _ (image : List ℕ) (s : State) (b : ℕ) (bs : List ℕ) where
   -- a valid request is carried out, and its reply, if it earns one, is pending
   pub request-carried : (m : Message) → verdict (b ∷ bs) ≡ good m → let c = carried image s m in
@@ -152,10 +143,6 @@ empty-ignored image s ([] ∷ fs) = empty-ignored image s fs
 empty-ignored image s ((b ∷ bs) ∷ fs) = empty-ignored image (judged image s (verdict (b ∷ bs))) fs
 
 -- ---- one byte more
-
--- the receive progress after bytes that are not 00: none where they are more than a form has
-unfoldable pub tailOf : List ℕ → Option (List ℕ)
-tailOf bs = cond (ltb longest-form (length bs)) none (some bs)
 
 pub tail-over : (bs : List ℕ) → longest-form < length bs → tailOf bs ≡ none
 unfolding tailOf

@@ -27,9 +27,9 @@ use Rattle.requests.specs.Requests
 use Rattle.requests.specs.Receive
 use Rattle.supervisor_claims.specs.View.{listed, alertOf, retainedOf, view}
 use Rattle.supervisor_claims.specs.Meant.{Valid, withRegisters}
-use Rattle.supervisor_claims.specs.ViewLaws.{length-listed, listed-same}
-use Rattle.supervisor_claims.specs.PartLaws.{Like, like-itself, like-then, like-put, like-stored, each-number}
-use Rattle.supervisor_claims.specs.RegisterLaws.{alertsOf, recorded-same}
+use Rattle.supervisor_claims.specs.laws.ViewLaws.{length-listed, listed-same}
+use Rattle.supervisor_claims.specs.laws.PartLaws.{Like, like-itself, like-then, like-put, like-stored, each-number}
+use Rattle.supervisor_claims.specs.laws.RegisterLaws.{alertsOf, recorded-same}
 
 -- ---- the first of some values, and the others
 

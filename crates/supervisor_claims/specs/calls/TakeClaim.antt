@@ -16,7 +16,7 @@ use Rattle.supervisor.specs.Local
 use Rattle.supervisor.specs.Calls
 use Rattle.supervisor.proofs.ValidLaws.{OutboxValid, outbox-valid, valid-outbox}
 use Rattle.supervisor_claims.specs.View.{pendingOf, view}
-use Rattle.supervisor_claims.specs.ViewLaws.{take-min, drop-run, drop-taken}
+use Rattle.supervisor_claims.specs.laws.ViewLaws.{take-min, drop-run, drop-taken}
 use Rattle.supervisor_claims.specs.ByPart.{Part}
 use Rattle.supervisor_claims.specs.Meant.{Valid, valid-with, withOutbox}
 

@@ -29,20 +29,20 @@ use Rattle.supervisor.proofs.StartLaws.{Roomy, roomy-is}
 use Rattle.supervisor.proofs.ValidLaws.{outbox-valid, registers-valid}
 use Rattle.requests.specs.Receive
 use Rattle.supervisor_claims.specs.View.{factoryOf, view}
-use Rattle.supervisor_claims.specs.ViewLaws.{length-clear}
+use Rattle.supervisor_claims.specs.laws.ViewLaws.{length-clear}
 use Rattle.supervisor_claims.specs.ByPart.{Part}
 use Rattle.supervisor_claims.specs.Meant.{Does, Reads, RecordedAs, withRegisters}
 use Rattle.supervisor_claims.specs.Histories
 use Rattle.supervisor_claims.specs.Histories.{Call, Typed, Did, didBy, did, refusal, Means, means, doneMeans, recordMeans, meant, upTo, frameEnds}
-use Rattle.supervisor_claims.specs.StartClaim.{Starts, start-fresh, start-meant}
-use Rattle.supervisor_claims.specs.TakeClaim.{take-meant}
-use Rattle.supervisor_claims.specs.PostLaws.{allowed, posted-kept}
-use Rattle.supervisor_claims.specs.RegistersClaim.{post-meant, options-meant, signal-meant, flags-meant, boot-failure-meant, panic-meant}
-use Rattle.supervisor_claims.specs.LookupClaim.{lookup-meant}
+use Rattle.supervisor_claims.specs.calls.StartClaim.{Starts, start-fresh, start-meant}
+use Rattle.supervisor_claims.specs.calls.TakeClaim.{take-meant}
+use Rattle.supervisor_claims.specs.laws.PostLaws.{allowed, posted-kept}
+use Rattle.supervisor_claims.specs.calls.RegistersClaim.{post-meant, options-meant, signal-meant, flags-meant, boot-failure-meant, panic-meant}
+use Rattle.supervisor_claims.specs.calls.LookupClaim.{lookup-meant}
 use Rattle.supervisor_claims.specs.Sound.{Bytes, Sound, Lengths, lengths-same, sound-with, valid-room, Leaves}
-use Rattle.supervisor_claims.specs.LentCalls.{valid-parts}
-use Rattle.supervisor_claims.specs.StepClaim.{step-used, step-fed, step-ends, turned-stepped}
-use Rattle.supervisor_claims.specs.ReceiveClaim.{fed-leaves}
+use Rattle.supervisor_claims.specs.claims.LentCalls.{valid-parts}
+use Rattle.supervisor_claims.specs.calls.StepClaim.{step-used, step-fed, step-ends, turned-stepped}
+use Rattle.supervisor_claims.specs.calls.ReceiveClaim.{fed-leaves}
 
 -- a call on p did what document 01 has of it
 pub record Meets (p : Parts) (d : Did) (m : Means) : Type 0 where

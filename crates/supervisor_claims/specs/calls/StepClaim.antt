@@ -16,7 +16,7 @@ use Rattle.supervisor.specs.Calls.{Parts}
 use Rattle.requests.specs.Requests
 use Rattle.requests.specs.Receive
 use Rattle.supervisor_claims.specs.View.{receivedOf}
-use Rattle.supervisor_claims.specs.ReceivedClaim.{pushed-received, finished-verdict}
+use Rattle.supervisor_claims.specs.calls.ReceivedClaim.{pushed-received, finished-verdict}
 use Rattle.supervisor_claims.specs.Histories.{upTo, endedMeant, frameEnds, stepped, stepAnswer}
 
 -- ---- the bytes read

@@ -20,9 +20,9 @@ use Rattle.supervisor_claims.specs.ByPart.{Part, is}
 use Rattle.supervisor_claims.specs.Meant.{withReader}
 use Rattle.supervisor_claims.specs.Histories.{lentOf, givenBack}
 use Rattle.supervisor_claims.specs.Sound.{Sound, Lengths, lengths-same, lengths-then, valid-long}
-use Rattle.supervisor_claims.specs.Locality.{widened, widened-all, lent-sound, back-leaves}
-use Rattle.supervisor_claims.specs.ReceivedClaim.{ReaderKept, pushed-kept, finished-kept, started-kept}
-use Rattle.supervisor_claims.specs.ReceiveClaim.{reader-leaves}
+use Rattle.supervisor_claims.specs.laws.Locality.{widened, widened-all, lent-sound, back-leaves}
+use Rattle.supervisor_claims.specs.calls.ReceivedClaim.{ReaderKept, pushed-kept, finished-kept, started-kept}
+use Rattle.supervisor_claims.specs.calls.ReceiveClaim.{reader-leaves}
 
 -- ---- the reader's state
 

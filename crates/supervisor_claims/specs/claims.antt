@@ -1,0 +1,13 @@
+-- Claims over lists of calls and over streams, which Demand2 passes on.
+-- Assumes nothing.
+pub mod History
+pub mod Cuts
+pub mod FramesClaim
+pub mod InOrder
+pub mod Refusals
+pub mod LentCalls
+pub mod RetainedClaim
+pub mod ReaderCalls
+pub mod Replies
+pub mod WithdrawnKeys
+pub mod LastSetLaws
