@@ -104,7 +104,7 @@ extern "C" {
 #define OATCASTLE_MESSAGE 2u    /* its first 00 ended a message; for oatcastle_step a request, which is carried out */
 #define OATCASTLE_FAILURE 3u    /* its first 00 ended a frame that failed a test; the reason is one of these */
 
-#define OATCASTLE_REASON_FORM 1u        /* too many bytes before the 00, or no COBS form */
+#define OATCASTLE_REASON_FORM 1u        /* too many bytes before the 00, or no COBS form, or a last 01 after a full group */
 #define OATCASTLE_REASON_CHECKSUM 2u
 #define OATCASTLE_REASON_LENGTH 3u      /* the message's length; or, from oatcastle_step alone, an unknown command */
 #define OATCASTLE_REASON_MAGIC 4u

@@ -1,6 +1,6 @@
 -- Demand 3 in the paper's order: what a call reads, when it is refused, and that what the writer put out is what the reader hands out.
--- `any-run`, `one-meaning`, `hands-out`, `any-stream`, `any-tail`, `cut`, the checksum's claims and those of document 02's item 6, `one-spelling`, `good-frame`,
--- `handed-frames`, `handed-wire` and `answers-tell`, are passed on from their files. Assumes nothing.
+-- The claims over wire bytes, the writer, lists of calls and the checksum, and those of document 02's items 6 and 12, are passed on from their files by the
+-- lines `pub use` below. Assumes nothing.
 use mathlib.Core.Path.{_≡_, refl, sym, ap, _∙_}
 use mathlib.Core.Bool.{Bool, true, false, cond}
 use mathlib.Core.List.{List, [], _∷_, append-nil}

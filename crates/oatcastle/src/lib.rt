@@ -1,4 +1,4 @@
-// The C interface: line layer, supervisor and root-of-trust link as functions on numbers and lent slices. include/oatcastle.h is its header.
+// The C interface: line layer, supervisor, address plan and root-of-trust link as functions on numbers and lent slices. include/oatcastle.h is its header.
 // No function here that others can call has a `requires`; each promise settles the number returned and everything lent.
 pub mod frames;
 pub mod plans;

@@ -49,7 +49,7 @@ fn after_bytes(table: &[u32; 256], start: u32, bytes: &[u8]) -> u32
     register
 }
 
-// The register after one byte more, which meets the register's top byte.
+// The register after one byte more: the table's entry for that byte and the register's top byte.
 fn after_byte(table: &[u32; 256], register: u32, byte: u8) -> u32
     requires { ⌜ Entries (now table) ⌝ }
     ensures { λ r. ⌜ r ≡ afterBits register (bits 8 byte) ⌝ }

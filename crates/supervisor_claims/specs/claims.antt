@@ -1,4 +1,4 @@
--- Claims over lists of calls and over streams, which Demand2 passes on.
+-- Claims over lists of calls, streams and requests, which Demand2 passes on.
 -- Assumes nothing.
 pub mod History
 pub mod Cuts
