@@ -84,7 +84,7 @@ impl World {
         Ok(())
     }
 
-    /// A call of this kind, other than start, with arguments of chance.
+    /// A call of this kind, other than start, with random arguments.
     fn make(&mut self, kind: usize, target: usize) -> Call {
         let image = self.image();
         let random = &mut self.random;
@@ -331,7 +331,7 @@ impl World {
         Ok(())
     }
 
-    /// Every part gets bytes of chance, with allowed values in its fields.
+    /// Every part gets random bytes, with allowed values in its fields.
     fn scatter(&mut self) {
         for part in LINE..=REGISTERS {
             self.parts[part] = self.random.bytes(LENGTHS[part] + TAIL);

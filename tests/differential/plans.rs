@@ -1,4 +1,4 @@
-// Defines the address plan of document 02, item 9, over numbers of 64 bits, and plans of chance.
+// Defines the address plan of document 02, item 9, over numbers of 64 bits, and random plans.
 // Assumes nothing but that item; a fault changes one rule, as in the model.
 
 use crate::model::{broken, Fault};
@@ -58,7 +58,7 @@ impl Plan {
         (0..ROWS).flat_map(|i| if counted(i) && !none { bytes(self.address(i)) } else { [0; 6] }).collect()
     }
 
-    /// A plan of chance: bases whose last bytes carry, and last addresses near the highest, among them.
+    /// A random plan: bases whose last bytes carry, and last addresses near the highest, among them.
     pub fn random(random: &mut Random) -> Plan {
         let any = random.next() as u16;
         let count = random.pick(&[0, 1, 2, 7, 8, 9, 65535, any, any % 12]);
