@@ -36,6 +36,8 @@ pub use Rattle.supervisor_claims.specs.claims.InOrder.{in-order, in-orde
 pub use Rattle.supervisor_claims.specs.claims.FramesClaim.{received-since, in-order-after}
 -- of valid requests, only an alert request replaces the retained alert reply; reboot and power off drop it, and the next alert request takes a fresh alert
 pub use Rattle.supervisor_claims.specs.claims.RetainedClaim.{retained-stays, reboot-forgets, power-off-forgets, fresh-alert}
+-- the same over any calls: local calls and failed frames leave it; which requests of the joined bytes leave one retained; the fresh alert's reply is pending
+pub use Rattle.supervisor_claims.specs.claims.AlertClaim.{local-keeps, failed-keeps, request-retains, retained-exactly, fresh-alert-answered, fresh-after-reboot}
 -- the line layer's own calls on the reader's part leave sound parts, which earn no 12
 pub use Rattle.supervisor_claims.specs.claims.ReaderCalls.{PieceBytes, reader-calls-sound}
 -- a stream received byte by byte, all taken after each byte: the frames of the replies, in order

@@ -7,6 +7,7 @@ pub mod InOrder
 pub mod Refusals
 pub mod LentCalls
 pub mod RetainedClaim
+pub mod AlertClaim
 pub mod ReaderCalls
 pub mod Replies
 pub mod WithdrawnKeys

@@ -10,4 +10,5 @@ pub mod RecordLaws
 pub mod TakenLaws
 pub mod Locality
 pub mod Progress
+pub mod CallsKeep
 pub mod TakenAll

@@ -57,7 +57,7 @@ ends-frame p (suc b ∷ bs) h =
 -- ---- one call on a state whose receive progress is what stands behind the last 00 of w
 
 module _ (w : List ℕ) (s : State) (h : Since (split w .rest) s) where
-  stream-carried : (image bs : List ℕ) → carriedOut image w s bs ≡ stream image s bs
+  pub stream-carried : (image bs : List ℕ) → carriedOut image w s bs ≡ stream image s bs
   unfolding carriedOut framesBy
   stream-carried image bs =
       rw (← empty-ignored image s (closedBy w bs), closed-rest w bs, split-join w bs)

@@ -3,13 +3,12 @@
 use mathlib.Core.Path.{_≡_, refl, sym, ap, _∙_}
 use mathlib.Core.Bool.{Bool, true, false, cond, not, and-eq-true-iff, _&&_, _||_}
 use mathlib.Core.Logic.{_⊎_, inl, inr}
-use mathlib.Core.List.{List, [], _∷_, _++_, append-nil}
+use mathlib.Core.List.{List, [], _∷_, _++_}
 use mathlib.Core.Option.{Option, none, some}
 use Prim.Native.Nat.{ℕ, _+_, _^_, _≤_}
 use native.Mathlib.Nat.{add-zero}
 use native.Mathlib.Omega.{arith}
 use lib.Dec.{leb, ltb, eqb}
-use lib.ListN as ListN
 use lib.ListN.{length, drop}
 use borrow.Author.Tests.{eqb-true, eqb-false, leb-true, ltb-false, not-false}
 use Rattle.octets.specs.Bytes.{number, numberAt}
@@ -19,17 +18,14 @@ use Rattle.line.specs.Judge.{Verdict, failure, good, judge}
 use Rattle.line_claims.specs.Pieces.{split, nonEmpty, nonEmpty-append, closedBy, closed-join}
 use Rattle.supervisor.specs.Limits
 use Rattle.supervisor.specs.State.{Factory, Settings, Retained, State, fresh}
-use Rattle.supervisor.specs.Local
 use Rattle.supervisor.specs.Local.{valueOf}
 use Rattle.requests.specs.Requests
 use Rattle.requests.specs.Requests.{Carried, known, tested, testedWhere, verdict, carried, stored, judged, sent}
 use Rattle.supervisor_claims.specs.claims.InOrder.{judged-is}
-use Rattle.supervisor_claims.specs.View.{factoryOf}
-use Rattle.supervisor_claims.specs.Histories
-use Rattle.supervisor_claims.specs.Histories.{Call, doneMeans, upTo, meant, Made, enough}
+use Rattle.supervisor_claims.specs.Histories.{Made}
 use Rattle.supervisor_claims.specs.laws.Progress.{local-stays}
-use Rattle.supervisor_claims.specs.FrameHistory.{reads, starts, receivedBy, startsAnew, joined, joinedAll, framesBy, framed, allFramed}
-use Rattle.supervisor_claims.specs.FrameHistory.{carriedOut, carriedCall, carriedMade, leftByFrames}
+use Rattle.supervisor_claims.specs.laws.CallsKeep.{calls-keep}
+use Rattle.supervisor_claims.specs.FrameHistory.{joinedAll, framesBy, framed, allFramed, carriedOut, leftByFrames}
 use Rattle.supervisor_claims.specs.LastSet.{SettingsKey, three, four, five, request, requestsIn, requestsOf, valueFor, setBy, orElse, lastSet}
 
 -- ---- the last of several
@@ -55,6 +51,13 @@ pub requests-append : (fs gs : List (List ℕ)) → requestsIn (fs ++ gs) ≡ re
 unfolding requestsIn
 requests-append [] gs = refl
 requests-append (f ∷ fs) gs = rw (requests-append fs gs) (request-append (verdict f) (requestsIn fs) (requestsIn gs))
+
+-- the requests of bytes that came behind w
+pub requests-behind : (w bs : List ℕ) → requestsOf (w ++ bs) ≡ requestsOf w ++ requestsIn (framesBy w bs)
+unfolding requestsOf framesBy
+requests-behind w bs =
+    let fs = split w .closed in
+    rw (closed-join w bs, nonEmpty-append fs (closedBy w bs), requests-append (nonEmpty fs) (nonEmpty (closedBy w bs)))
 
 -- ---- a valid request has a listed command
 
@@ -268,43 +271,15 @@ module _ {k : ℕ} (h : SettingsKey k) where
 
   module _ (w : List ℕ) (s : State) (x : Holds k w s) where
     pub frames-hold : (image bs : List ℕ) → Holds k (w ++ bs) (allFramed image s (framesBy w bs))
-    unfolding framesBy requestsOf
+    unfolding framesBy
     frames-hold image bs =
-        let fs = nonEmpty (split w .closed) in
-        let gs = nonEmpty (closedBy w bs) in
         frames-held image h (closedBy w bs) s
-        ∙ rw (
-          x,
-          closed-join w bs,
-          nonEmpty-append (split w .closed) (closedBy w bs),
-          requests-append fs gs,
-          last-append k (requestsIn fs) (requestsIn gs),
-        )
+        ∙ rw (x, requests-behind w bs, last-append k (requestsOf w) (requestsIn (framesBy w bs)))
 
-    -- a local call reads nothing, and the settings stay
-    unread : Holds k (w ++ []) s
-    unread = rw append-nil x
-
-    call-holds : (c : Call) → Holds k (cond (starts c) [] (w ++ reads c)) (carriedCall w s c .state)
-    unfolding starts reads carriedCall carriedOut meant Local.start
-    call-holds (Histories.start d) = by (Local.badStart (factoryOf d))
-      where
-        by : (bad : Bool) → Holds k (cond (not bad) [] (w ++ [])) (doneMeans s (cond bad (Local.refused 11) (Local.left (fresh (factoryOf d)))) .state)
-        by true = unread
-        by false = fresh-holds (factoryOf d)
-    call-holds (Histories.receive image piece) = frames-hold image piece
-    call-holds (Histories.step image piece) = frames-hold image (ListN.take (upTo piece) piece)
-    call-holds (Histories.local c) = rw (local-stays s c .1) unread
-
-    made-holds : (m : Made) → Holds k (joined w m) (carriedMade w s m .state)
-    unfolding joined startsAnew receivedBy carriedMade
-    made-holds m = by (enough (m .call) (m .lent)) refl
-      where
-        by : (t : Bool) → enough (m .call) (m .lent) ≡ t → Holds k (joined w m) (carriedMade w s m .state)
-        by true e = rw e (call-holds (m .call))
-        by false e = rw e unread
+  -- the same with the receive progress behind them
+  bytes-hold : (w : List ℕ) (s : State) → Holds k w s → (image bs : List ℕ) → Holds k (w ++ bs) (carriedOut image w s bs)
+  unfolding carriedOut
+  bytes-hold w s x image bs = frames-hold w s x image bs
 
   pub calls-hold : (ms : List Made) (w : List ℕ) (s : State) → Holds k w s → Holds k (joinedAll w ms) (leftByFrames w s ms)
-  unfolding joinedAll leftByFrames
-  calls-hold [] w s x = x
-  calls-hold (m ∷ ms) w s x = calls-hold ms (joined w m) (carriedMade w s m .state) (made-holds w s x m)
+  calls-hold = calls-keep (Holds k) fresh-holds bytes-hold (λ w s x c. rw (local-stays s c .1) x)

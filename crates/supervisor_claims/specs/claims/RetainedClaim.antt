@@ -12,28 +12,28 @@ use Rattle.supervisor.specs.State.{State}
 use Rattle.requests.specs.Requests
 use Rattle.requests.specs.Requests.{Carried, carried, alertData, oldest, others}
 
--- a valid request other than reboot, power off and alert leaves the retained reply
+-- a valid request other than reboot, power off and alert leaves the retained reply and the alerts that wait
 pub retained-stays : (image : List ℕ) (s : State) (m : Message) → eqb (m .command) 0x01 ≡ false → eqb (m .command) 0x02 ≡ false → eqb (m .command) 0x0a ≡ false
-    → carried image s m .state .retained ≡ s .retained
+    → let t = carried image s m .state in (t .retained ≡ s .retained) × (t .waiting ≡ s .waiting)
 unfolding carried Requests.bootFailure Requests.panicked Requests.startAcknowledged Requests.keySet
 retained-stays image s m reboot power-off alert =
     rw (reboot, power-off, alert)
-    (cond-by Stays (eqb c 0x03) _ _ (λ _. refl) (λ _.
-    cond-by Stays (eqb c 0x04) _ _ (λ _. refl) (λ _.
-    cond-by Stays (eqb c 0x05) _ _ (λ _. refl) (λ _.
-    cond-by Stays (eqb c 0x06) _ _ (λ _. refl) (λ _.
-    cond-by Stays (eqb c 0x07) _ _ (λ _. refl) (λ _.
-    cond-by Stays (eqb c 0x08) _ _ (λ _. refl) (λ _.
-    cond-by Stays (eqb c 0x09) _ _ (λ _. refl) (λ _.
-    cond-by Stays (eqb c 0x0d) _ _ (λ _. refl) (λ _.
-    cond-by Stays (eqb c 0x0e) _ _ (λ _. refl) (λ _.
-    cond-by Stays (eqb c 0x0f) _ _ (λ _. refl) (λ _. refl)))))))))))
+    (cond-by Stays (eqb c 0x03) _ _ (λ _. (refl, refl)) (λ _.
+    cond-by Stays (eqb c 0x04) _ _ (λ _. (refl, refl)) (λ _.
+    cond-by Stays (eqb c 0x05) _ _ (λ _. (refl, refl)) (λ _.
+    cond-by Stays (eqb c 0x06) _ _ (λ _. (refl, refl)) (λ _.
+    cond-by Stays (eqb c 0x07) _ _ (λ _. (refl, refl)) (λ _.
+    cond-by Stays (eqb c 0x08) _ _ (λ _. (refl, refl)) (λ _.
+    cond-by Stays (eqb c 0x09) _ _ (λ _. (refl, refl)) (λ _.
+    cond-by Stays (eqb c 0x0d) _ _ (λ _. (refl, refl)) (λ _.
+    cond-by Stays (eqb c 0x0e) _ _ (λ _. (refl, refl)) (λ _.
+    cond-by Stays (eqb c 0x0f) _ _ (λ _. (refl, refl)) (λ _. (refl, refl))))))))))))
   where
     c : ℕ
     c = m .command
 
     Stays : Carried → Type 0
-    Stays x = x .state .retained ≡ s .retained
+    Stays x = (x .state .retained ≡ s .retained) × (x .state .waiting ≡ s .waiting)
 
 -- what a reboot and a power-off leave of alerts: none retained, those that wait and the status as they were
 pub record Forgets (s t : State) : Type 0 where

@@ -57,11 +57,11 @@ reply-found image s n most {k} h i =
     rw (e .0, e .1, found-value s most h)
 
 -- an empty frame is no request
-empty-none : (m : Message) → verdict [] ≡ good m → ⊥
+pub empty-none : (m : Message) → verdict [] ≡ good m → ⊥
 unfolding verdict Judge.judge Judge.judgeForm Judge.judgeLength Cobs.uncobs Cobs.groupBytes
 empty-none m e = let z : _≡_ {A = ℕ} 0 1 = cc in omega arith
 
-framed-pending : (image : List ℕ) (s : State) (f : List ℕ) (m : Message) → verdict f ≡ good m
+pub framed-pending : (image : List ℕ) (s : State) (f : List ℕ) (m : Message) → verdict f ≡ good m
     → framed image s f .pending ≡ owed (s .owing) ++ replyFrame (replyOf (m .sequence) (carried image s m .reply))
 framed-pending image s [] m e = absurd (empty-none m e)
 framed-pending image s (b ∷ bs) m e = ap (λ (x : State). x .pending) (request-carried image s b bs m e)

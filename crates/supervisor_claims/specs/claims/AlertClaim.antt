@@ -1,0 +1,344 @@
+-- Alerts over any calls: after a reboot or power-off request the next alert request takes a fresh alert, whatever was retained before (document 02, item 1).
+-- Assumes nothing.
+use mathlib.Core.Path.{_≡_, refl, sym, ap, subst, _∙_}
+use mathlib.Core.Bool.{Bool, true, false, cond}
+use mathlib.Core.Logic.{_⊎_, inl, inr}
+use mathlib.Core.List.{List, [], _∷_, _++_, append-assoc, append-nil}
+use mathlib.Core.Option.{Option, none, some}
+use Prim.Native.Nat.{ℕ}
+use native.Mathlib.Omega.{arith}
+use lib.Dec.{ltb, eqb}
+use lib.ListN.{length}
+use borrow.Author.Tests.{eqb-true}
+use Rattle.octets.specs.Bytes.{Each, Byte}
+use Rattle.octets.proofs.Conditions.{cond-by}
+use Rattle.octets.proofs.Each.{each-append}
+use Rattle.line.specs.Message.{Message}
+use Rattle.line.specs.Frame.{frame}
+use Rattle.line.specs.Judge.{Verdict, failure, good}
+use Rattle.line_claims.specs.Pieces.{split, nonEmpty, split-close, nonEmpty-append, closedBy}
+use Rattle.supervisor.specs.Limits
+use Rattle.supervisor.specs.Number.{topSet}
+use Rattle.supervisor.specs.State.{Factory, Recorded, Alert, Retained, State, fresh}
+use Rattle.supervisor.specs.Local
+use Rattle.supervisor.specs.Calls.{Parts}
+use Rattle.supervisor.specs.declared.registers.Kind.{Kind}
+use Rattle.requests.specs.Requests
+use Rattle.requests.specs.Requests.{Carried, verdict, carried, judged, sent, stream, owed, replyOf, replyFrame, alertData, oldest}
+use Rattle.supervisor_claims.specs.View.{factoryOf, view}
+use Rattle.supervisor_claims.specs.Sound.{Bytes}
+use Rattle.supervisor_claims.specs.Histories
+use Rattle.supervisor_claims.specs.Histories.{LocalCall, Typed, Answer, done, Means, doneMeans, recordMeans, meant}
+use Rattle.supervisor_claims.specs.Histories.{Lent, Made, enough, meantMade, made, leftMeant, AllTyped}
+use Rattle.supervisor_claims.specs.FrameHistory.{reads, starts, receivedBy, startsAnew, joined, joinedAll, framesBy, framed, allFramed, carriedOut}
+use Rattle.supervisor_claims.specs.LastSet.{request, requestsIn, requestsOf}
+use Rattle.supervisor_claims.specs.laws.CallsKeep.{calls-keep}
+use Rattle.supervisor_claims.specs.claims.LastSetLaws.{requests-append, requests-behind, frames-owing}
+use Rattle.supervisor_claims.specs.claims.FramesClaim.{stream-carried, stream-closes, by-frames}
+use Rattle.supervisor_claims.specs.claims.History.{history, one-call}
+use Rattle.supervisor_claims.specs.claims.RetainedClaim.{retained-stays, reboot-forgets, power-off-forgets}
+use Rattle.supervisor_claims.specs.claims.WithdrawnKeys.{reached, empty-none, framed-pending}
+
+-- ---- Whether an alert reply is retained
+
+abbrev pub retains : Option Retained → Bool
+retains none = false
+retains (some r) = true
+
+-- after a valid request: none after a reboot or power-off, one after an alert request, else as before
+unfoldable pub retainsAfter : Bool → Message → Bool
+retainsAfter before m = cond (eqb (m .command) 0x01) false (cond (eqb (m .command) 0x02) false (cond (eqb (m .command) 0x0a) true before))
+
+-- after valid requests, in order
+unfoldable pub retainsAll : Bool → List Message → Bool
+retainsAll before [] = before
+retainsAll before (m ∷ ms) = retainsAll (retainsAfter before m) ms
+
+-- a request that drops it, and one that is no alert request
+abbrev pub Drops : Message → Type 0
+Drops m = (m .command ≡ 0x01) ⊎ (m .command ≡ 0x02)
+
+abbrev pub NoAlert : Message → Type 0
+NoAlert m = eqb (m .command) 0x0a ≡ false
+
+-- an alert request under number n, and the frame of a reply to it, under n with the top bit set
+abbrev pub alertOf : ℕ → Message
+alertOf n = record { version = 1; sequence = n; command = 0x0a; payload = [] }
+
+unfoldable pub alertReply : ℕ → Alert → List ℕ
+alertReply n a = frame (record { version = 1; sequence = topSet n; command = 0x07; payload = alertData a })
+
+-- ---- a local call
+
+-- the alert that a post adds where it is done
+abbrev pub whereDone : Answer → Alert → List Alert
+whereDone (Histories.refused n) a = []
+whereDone done a = a ∷ []
+whereDone (Histories.stepped used ended) a = []
+whereDone (Histories.moved n) a = []
+whereDone (Histories.found n k) a = []
+whereDone (Histories.asserted t) a = []
+whereDone (Histories.asked t u) a = []
+whereDone (Histories.recorded r) a = []
+
+abbrev pub added : LocalCall → Answer → List Alert
+added (Histories.take room) x = []
+added (Histories.post action text) x = whereDone x (record { action = action; text = text })
+added (Histories.setOptions options) x = []
+added (Histories.lookup key most) x = []
+added Histories.signal x = []
+added Histories.flags x = []
+added (Histories.readRecord k) x = []
+
+module _ (s : State) where
+  abbrev Keeps : LocalCall → Means → Type 0
+  Keeps c m = (m .state .retained ≡ s .retained) × (m .state .waiting ≡ s .waiting ++ added c (m .answer))
+
+  abbrev DoneKeeps : LocalCall → Local.Done → Type 0
+  DoneKeeps c x = Keeps c (doneMeans s x)
+
+  same : (s .retained ≡ s .retained) × (s .waiting ≡ s .waiting ++ [])
+  same = (refl, rw append-nil)
+
+  record-keeps : (k : Kind) (x : Option Recorded) → Keeps (Histories.readRecord k) (recordMeans s x)
+  record-keeps k none = same
+  record-keeps k (some x) = same
+
+  -- it leaves the retained reply, and the alerts that wait; a post that is done adds its alert behind them
+  pub local-keeps : (c : LocalCall) → let m = meant s (Histories.local c) in
+      (m .state .retained ≡ s .retained) × (m .state .waiting ≡ s .waiting ++ added c (m .answer))
+  unfolding meant Local.afterTake Local.post Local.posted Local.setOptions
+  local-keeps (Histories.take room) = same
+  local-keeps (Histories.post action text) =
+      let c = Histories.post action text in
+      cond-by (DoneKeeps c) (eqb action 0) _ _ (λ e. same) (λ e.
+      cond-by (DoneKeeps c) (ltb Limits.longest-alert (length text)) _ _ (λ f. same) (λ f.
+      cond-by (DoneKeeps c) (ltb (length (s .waiting)) Limits.most-alerts) _ _ (λ g. (refl, refl)) (λ g. same)))
+  local-keeps (Histories.setOptions options) =
+      cond-by (DoneKeeps (Histories.setOptions options)) (Local.optionsAllowed options) _ _ (λ e. same) (λ e. same)
+  local-keeps (Histories.lookup key most) = same
+  local-keeps Histories.signal = same
+  local-keeps Histories.flags = same
+  local-keeps (Histories.readRecord k) = record-keeps k (Histories.recordOf s k)
+
+-- a frame that fails leaves both
+pub failed-keeps : (image : List ℕ) (s : State) (f : List ℕ) (reason : ℕ) (sequence : Option ℕ) → verdict f ≡ failure reason sequence
+    → let t = framed image s f in (t .retained ≡ s .retained) × (t .waiting ≡ s .waiting)
+unfolding framed judged sent
+failed-keeps image s [] reason sequence e = (refl, refl)
+failed-keeps image s (b ∷ bs) reason sequence e = rw e (refl, refl)
+
+-- ---- requests and frames
+
+alert-asked : (s : State) (n : ℕ) (r : Option Retained) → s .retained ≡ r → retains (Requests.alertAsked s n r .state .retained) ≡ true
+unfolding Requests.alertAsked Requests.alertTaken
+alert-asked s n none e = refl
+alert-asked s n (some r) e = cond-by (λ (x : Carried). retains (x .state .retained) ≡ true) (eqb (r .sequence) n) _ _ (λ f. rw e) (λ f. refl)
+
+module _ (image : List ℕ) where
+  alert-retains : (s : State) (m : Message) → m .command ≡ 0x0a → retains (carried image s m .state .retained) ≡ true
+  unfolding carried
+  alert-retains s m e = rw e (alert-asked s (m .sequence) (s .retained) refl)
+
+  pub request-retains : (s : State) (m : Message) → retains (carried image s m .state .retained) ≡ retainsAfter (retains (s .retained)) m
+  unfolding retainsAfter
+  request-retains s m = by (eqb (m .command) 0x01) (eqb (m .command) 0x02) (eqb (m .command) 0x0a) refl refl refl
+    where
+      by : (x y z : Bool) → eqb (m .command) 0x01 ≡ x → eqb (m .command) 0x02 ≡ y → eqb (m .command) 0x0a ≡ z
+          → retains (carried image s m .state .retained) ≡ retainsAfter (retains (s .retained)) m
+      by true y z e f g = rw (e, reboot-forgets image s m (eqb-true _ _ e) .retained)
+      by false true z e f g = rw (e, f, power-off-forgets image s m (eqb-true _ _ f) .retained)
+      by false false true e f g = rw (e, f, g, alert-retains s m (eqb-true _ _ g))
+      by false false false e f g = rw (e, f, g, retained-stays image s m e f g .0)
+
+  judged-retains : (s : State) (v : Verdict) (rs : List Message)
+      → retainsAll (retains (judged image s v .retained)) rs ≡ retainsAll (retains (s .retained)) (request v rs)
+  unfolding judged sent retainsAll
+  judged-retains s (failure reason sequence) rs = refl
+  judged-retains s (good m) rs = rw (request-retains s m)
+
+  frames-retain : (fs : List (List ℕ)) (s : State) → let gs = nonEmpty fs in
+      retains (allFramed image s gs .retained) ≡ retainsAll (retains (s .retained)) (requestsIn gs)
+  unfolding nonEmpty allFramed framed requestsIn retainsAll
+  frames-retain [] s = refl
+  frames-retain ([] ∷ fs) s = frames-retain fs s
+  frames-retain ((b ∷ bs) ∷ fs) s =
+      let v = verdict (b ∷ bs) in
+      frames-retain fs (judged image s v) ∙ judged-retains s v (requestsIn (nonEmpty fs))
+
+retains-append : (b : Bool) (ms ns : List Message) → retainsAll b (ms ++ ns) ≡ retainsAll (retainsAll b ms) ns
+unfolding retainsAll
+retains-append b [] ns = refl
+retains-append b (m ∷ ms) ns = retains-append (retainsAfter b m) ms ns
+
+-- none is retained behind a reboot or power-off where no alert request follows
+after-none : (m : Message) → NoAlert m → retainsAfter false m ≡ false
+unfolding retainsAfter
+after-none m e =
+    rw e
+    (cond-by (λ x. x ≡ false) (eqb (m .command) 0x01) _ _ (λ f. refl) (λ f.
+    cond-by (λ x. x ≡ false) (eqb (m .command) 0x02) _ _ (λ g. refl) (λ g. refl)))
+
+none-asked : (rs : List Message) → Each NoAlert rs → retainsAll false rs ≡ false
+unfolding retainsAll
+none-asked [] h = refl
+none-asked (m ∷ rs) h = rw (after-none m (h .0)) (none-asked rs (h .1))
+
+drops-none : (b : Bool) (m : Message) → Drops m → retainsAfter b m ≡ false
+unfolding retainsAfter
+drops-none b m (inl e) = rw e
+drops-none b m (inr e) = rw e
+
+behind-none : (os rs : List Message) (r : Message) → Drops r → Each NoAlert rs → retainsAll false (os ++ (r ∷ rs)) ≡ false
+unfolding retainsAll
+behind-none os rs r d h = rw (retains-append false os (r ∷ rs), drops-none (retainsAll false os) r d) (none-asked rs h)
+
+-- ---- received bytes and calls
+
+-- a reply is retained as the requests of the bytes w have it
+abbrev pub RetainedBy : List ℕ → State → Type 0
+RetainedBy w s = retains (s .retained) ≡ retainsAll false (requestsOf w)
+
+fresh-retained : (f : Factory) → RetainedBy [] (fresh f)
+unfolding fresh split nonEmpty requestsOf requestsIn retainsAll
+fresh-retained f = refl
+
+frames-retained : (w : List ℕ) (s : State) → RetainedBy w s → (image bs : List ℕ) → RetainedBy (w ++ bs) (allFramed image s (framesBy w bs))
+unfolding framesBy
+frames-retained w s x image bs =
+    frames-retain image (closedBy w bs) s
+    ∙ rw (x, requests-behind w bs, retains-append false (requestsOf w) (requestsIn (framesBy w bs)))
+
+bytes-retained : (w : List ℕ) (s : State) → RetainedBy w s → (image bs : List ℕ) → RetainedBy (w ++ bs) (carriedOut image w s bs)
+unfolding carriedOut
+bytes-retained w s x image bs = frames-retained w s x image bs
+
+calls-retained : (f : Factory) (ms : List Made) → RetainedBy (joinedAll [] ms) (leftMeant (fresh f) ms)
+calls-retained f ms =
+    rw (by-frames f ms .1) at (calls-keep RetainedBy fresh-retained bytes-retained (λ w s x c. rw (local-keeps s c .0) x) ms [] (fresh f) (fresh-retained f))
+
+-- ---- a fresh alert
+
+none-retained : (r : Option Retained) → retains r ≡ false → r ≡ none
+none-retained none e = refl
+none-retained (some r) e = absurd (subst (λ b. cond b (Unit {0}) ⊥) e tt)
+
+-- where none is retained, an alert request takes the oldest alert that waits
+taken-reply : (image : List ℕ) (s : State) (n : ℕ) → s .retained ≡ none
+    → replyFrame (replyOf n (carried image s (alertOf n) .reply)) ≡ alertReply n (oldest (s .waiting))
+unfolding carried Requests.alertAsked Requests.alertTaken replyOf replyFrame alertReply
+taken-reply image s n e = rw e
+
+-- A start that is accepted, on any bytes, then any calls.
+module _ (p : Parts) (b : Bytes p) (l : Lent) (d : List ℕ) (typed : Typed (Histories.start d))
+    (accepted : made p (record { lent = l; call = Histories.start d }) .answer ≡ done) (ms : List Made) (t : AllTyped ms) where
+  -- a reply is retained exactly where an alert request, among those received since the last accepted start, has no reboot or power-off behind it
+  pub retained-exactly : retains (view (reached p l d ms) .retained) ≡ retainsAll false (requestsOf (joinedAll [] ms))
+  retained-exactly = rw (history p b l d typed accepted ms t .1) (calls-retained (factoryOf d) ms)
+
+  -- The bytes bs and a 00 are received, and the frame that this 00 closes is an alert request under any number n. Of the requests received before it since the
+  -- last accepted start, r is a reboot or power-off, and no alert request follows r. Then a fresh alert is taken: its reply is pending, behind a 00 where one
+  -- is owed, with the oldest of the alerts that wait when the bytes bs have been received. Cutting the stream elsewhere changes nothing (`cut-any`).
+  pub fresh-alert-answered : (n : ℕ) (j : Lent) (image bs : List ℕ) → Typed (Histories.receive image bs) → enough (Histories.receive image bs) j ≡ true
+      → let w = joinedAll [] ms ++ bs in verdict (split w .rest) ≡ good (alertOf n)
+      → (os rs : List Message) (r : Message) → requestsOf w ≡ os ++ (r ∷ rs) → Drops r → Each NoAlert rs
+      → let q = reached p l d ms in
+      let before = made q (record { lent = j; call = Histories.receive image bs }) in
+      let after = made q (record { lent = j; call = Histories.receive image (bs ++ (0 ∷ [])) }) in
+      (after .answer ≡ done) × (view (after .parts) .pending ≡ owed (view q .owing) ++ alertReply n (oldest (view (before .parts) .waiting)))
+  unfolding meantMade meant enough carriedOut
+  fresh-alert-answered n j image bs c e v os rs r split-so drops no-alert =
+      let f = factoryOf d in
+      let hist = history p b l d typed accepted ms t in
+      let q = reached p l d ms in
+      let w = joinedAll [] ms in
+      let s = leftMeant (fresh f) ms in
+      let since = by-frames f ms .2 in
+      let a = allFramed image s (framesBy w bs) in
+      let x = rw e at (one-call q (record { lent = j; call = Histories.receive image bs }) (hist .2) c) in
+      let y = rw e at (one-call q (record { lent = j; call = Histories.receive image (bs ++ (0 ∷ [])) }) (hist .2)
+      (c .0, each-append Byte bs (0 ∷ []) (c .1) (omega arith, tt))) in
+      let kept : a .retained ≡ none =
+      none-retained (a .retained) (frames-retained w s (calls-retained f ms) image bs ∙ rw split-so (behind-none os rs r drops no-alert)) in
+      let waits : view (made q (record { lent = j; call = Histories.receive image bs }) .parts) .waiting ≡ a .waiting =
+      ap (λ (z : State). z .waiting) (x .leaves .0) ∙ rw (hist .1) (ap (λ (z : State). z .waiting) (sym (stream-carried w s since image bs))) in
+      let answered : stream image s (bs ++ (0 ∷ [])) .pending ≡ owed (s .owing) ++ alertReply n (oldest (a .waiting)) =
+      ap (λ (z : State). z .pending) (stream-closes w s since image bs)
+      ∙ framed-pending image a (split (w ++ bs) .rest) (alertOf n) v
+      ∙ rw (taken-reply image a n kept, frames-owing image (framesBy w bs) s) in
+      (y .answer, ap (λ (z : State). z .pending) (y .leaves .0) ∙ rw (hist .1, waits) answered)
+
+-- ---- a reboot or power-off among the calls
+
+one-request : (f : List ℕ) (r : Message) → verdict f ≡ good r → requestsIn (nonEmpty (f ∷ [])) ≡ r ∷ []
+unfolding nonEmpty requestsIn
+one-request [] r e = absurd (empty-none r e)
+one-request (b ∷ bs) r e = rw e
+
+-- the 00 of a valid request
+closes-request : (w : List ℕ) (r : Message) → verdict (split w .rest) ≡ good r → requestsOf (w ++ (0 ∷ [])) ≡ requestsOf w ++ (r ∷ [])
+unfolding requestsOf
+closes-request w r e =
+    let fs = split w .closed in
+    let f = split w .rest in
+    rw (split-close w, nonEmpty-append fs (f ∷ []), requests-append (nonEmpty fs) (nonEmpty (f ∷ [])), one-request f r e)
+
+joined-append : (ms ns : List Made) (w : List ℕ) → joinedAll w (ms ++ ns) ≡ joinedAll (joinedAll w ms) ns
+unfolding joinedAll
+joined-append [] ns w = refl
+joined-append (m ∷ ms) ns w = joined-append ms ns (joined w m)
+
+-- calls among which no start is accepted
+abbrev pub NoStart : List Made → Type 0
+NoStart = Each (λ (m : Made). startsAnew m ≡ false)
+
+joined-behind : (ns : List Made) → NoStart ns → (w : List ℕ) → joinedAll w ns ≡ w ++ joinedAll [] ns
+unfolding joinedAll joined
+joined-behind [] h w = rw append-nil
+joined-behind (m ∷ ns) h w =
+    rw (h .0)
+    (joined-behind ns (h .1) (w ++ receivedBy m)
+    ∙ append-assoc w (receivedBy m) (joinedAll [] ns)
+    ∙ ap (λ x. w ++ x) (sym (joined-behind ns (h .1) (receivedBy m))))
+
+joined-receive : (w : List ℕ) (k : Lent) (image bs : List ℕ) → enough (Histories.receive image bs) k ≡ true
+    → joined w (record { lent = k; call = Histories.receive image bs }) ≡ w ++ bs
+unfolding joined startsAnew receivedBy starts reads
+joined-receive w k image bs e = rw e
+
+joined-all : (ms ns : List Made) → NoStart ns → (k : Lent) (image bs : List ℕ) → enough (Histories.receive image bs) k ≡ true
+    → joinedAll [] (ms ++ ((record { lent = k; call = Histories.receive image bs }) ∷ ns)) ≡ (joinedAll [] ms ++ bs) ++ joinedAll [] ns
+unfolding joinedAll
+joined-all ms ns h k image bs e =
+    joined-append ms ((record { lent = k; call = Histories.receive image bs }) ∷ ns) []
+    ∙ ap (λ x. joinedAll x ns) (joined-receive (joinedAll [] ms) k image bs e)
+    ∙ joined-behind ns h (joinedAll [] ms ++ bs)
+
+-- A start that is accepted, on any bytes; any calls ms; a receive whose last 00 closes a reboot or power-off request r; any calls ns, among which no start is
+-- accepted; a receive whose last 00 closes an alert request under any number n. No alert request came between r and that one. Then a fresh alert is taken.
+pub fresh-after-reboot : (p : Parts) → Bytes p → (l : Lent) (d : List ℕ) → Typed (Histories.start d)
+    → made p (record { lent = l; call = Histories.start d }) .answer ≡ done → (ms : List Made) → AllTyped ms
+    → (k : Lent) (image₁ cs : List ℕ) → let first = Histories.receive image₁ (cs ++ (0 ∷ [])) in Typed first → enough first k ≡ true
+    → (r : Message) → verdict (split (joinedAll [] ms ++ cs) .rest) ≡ good r → Drops r
+    → (ns : List Made) → AllTyped ns → NoStart ns
+    → (n : ℕ) (j : Lent) (image bs : List ℕ) → Typed (Histories.receive image bs) → enough (Histories.receive image bs) j ≡ true
+    → let w = joinedAll [] ms ++ (cs ++ (0 ∷ [])) in
+    let later = joinedAll [] ns ++ bs in
+    Each NoAlert (requestsIn (framesBy w later)) → verdict (split (w ++ later) .rest) ≡ good (alertOf n)
+    → let q = reached p l d (ms ++ ((record { lent = k; call = first }) ∷ ns)) in
+    let before = made q (record { lent = j; call = Histories.receive image bs }) in
+    let after = made q (record { lent = j; call = Histories.receive image (bs ++ (0 ∷ [])) }) in
+    (after .answer ≡ done) × (view (after .parts) .pending ≡ owed (view q .owing) ++ alertReply n (oldest (view (before .parts) .waiting)))
+fresh-after-reboot p b l d typed accepted ms t k image₁ cs c₁ e₁ r v₁ drops ns u h n j image bs c e no-alert v =
+    let first : Made = record { lent = k; call = Histories.receive image₁ (cs ++ (0 ∷ [])) } in
+    let w₀ = joinedAll [] ms in
+    let w = w₀ ++ (cs ++ (0 ∷ [])) in
+    let later = joinedAll [] ns ++ bs in
+    let os = requestsOf (w₀ ++ cs) in
+    let rs = requestsIn (framesBy w later) in
+    let whole : joinedAll [] (ms ++ (first ∷ ns)) ++ bs ≡ w ++ later =
+    ap (λ x. x ++ bs) (joined-all ms ns h k image₁ (cs ++ (0 ∷ [])) e₁) ∙ append-assoc w (joinedAll [] ns) bs in
+    let asked : requestsOf w ≡ os ++ (r ∷ []) = ap requestsOf (sym (append-assoc w₀ cs (0 ∷ []))) ∙ closes-request (w₀ ++ cs) r v₁ in
+    let all : requestsOf (w ++ later) ≡ os ++ (r ∷ rs) = requests-behind w later ∙ ap (λ x. x ++ rs) asked ∙ append-assoc os (r ∷ []) rs in
+    fresh-alert-answered p b l d typed accepted (ms ++ (first ∷ ns)) (each-append (λ (m : Made). Typed (m .call)) ms (first ∷ ns) t (c₁, u))
+    n j image bs c e (rw whole v) os rs r (rw whole all) drops no-alert
