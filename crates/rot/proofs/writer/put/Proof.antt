@@ -1,6 +1,7 @@
 -- `rot::writer::put` meets its contract.
 -- Assumes nothing.
 use borrow.Author.Needs.{needs}
+use denote.Ref.{now}
 use native.Mathlib.Omega.{arith}
 use lib.ListN.{length-set}
 use Rattle.rot.proofs.Message.{assembled, assembled-length}
@@ -13,8 +14,9 @@ returns c =
     let crc = payload .before .before .before .before in
     let counted = crc .before .before .before .before in
     let summed = counted .before .before in
-    assembled _ _ _ _ (summed .before .before .before .pre .1) (summed .crc-for .ensures) (counted .write-u16 .ensures) (crc .write-u32 .ensures)
-    (payload .copy .ensures)
+    let start = summed .before .before .before in
+    assembled (start .args .kind) _ (now (start .args .payload)) (now (start .args .out)) (start .pre .1) (summed .crc-for .ensures)
+    (counted .write-u16 .ensures) (crc .write-u32 .ensures) (payload .copy .ensures)
 
 same-length : tie.Need-same-length
 same-length c = assembled-length _ _ (c .before .before .before .before .before .before .before .before .before .before .before .before .before .before .before .pre .1) (returns c)
