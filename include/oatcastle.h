@@ -224,7 +224,7 @@ uint32_t oatcastle_post(uint8_t *registers, size_t registers_length, uint8_t act
 uint32_t oatcastle_set_options(uint8_t *registers, size_t registers_length, uint64_t options);
 
 /* Looks a key up and copies its value to the room. Key 0 is "pong", 1 the image ID (at most 64 bytes), 2 the inventory's count and
- * version (8 bytes), 3 (at most 256 bytes), 4 (4,096) and 5, the list of withdrawn keys (1,024), are what was stored.
+ * version (8 bytes), 3 (at most 256 bytes), 4 (4,096) and 5, the withdrawn-key list (1,024), are what was stored.
  * answer[0]  0: found; 1: no such key; 2: the key has no value; 3: the value is longer than maxresponse
  * answer[1]  how many bytes the value has; 0 unless it was found
  * 0; 12; 8: the answer is too short, or the room is shorter than the value. */

@@ -194,6 +194,16 @@ def answer_counts():
     return {f'{name}_NUMBERS': counted[definition] for name, definition in named.items()}
 
 
+def settings(known):
+    """The longest value of each settings key: the table of the definitions, which the code's constants must be too, one for each key."""
+    table = re.search(r'^longest-settings = (.*)∷ \[\]$', read('crates/supervisor/specs/Limits.antt'), re.M).group(1)
+    keys = range(known['FIRST_SETTING'], known['HIGHEST_KEY'] + 1)
+    listed = [int(n) for n in table.split('∷') if n.strip()]
+    if listed != [known.get(f'LONGEST_KEY_{key}') for key in keys]:
+        sys.exit(f'interface.py: the longest settings are {listed} in the definitions, and the code has others for keys {list(keys)}')
+    return listed
+
+
 def limits():
     known = constants('crates/line/src/limits.rt', 'crates/line/src/reader.rt', 'crates/supervisor/src/layout.rt', 'crates/addresses/src/lib.rt')
     found = {name: known[name] for name in ('OUTBOX_LENGTH', 'FACTORY_LENGTH', 'SETTINGS_LENGTH', 'REGISTERS_LENGTH', 'LONGEST_DATA', 'LONGEST_ALERT',
@@ -207,7 +217,7 @@ def limits():
     found.update({f'ITEM_{name}': place for name, place in item.items()})
     found.update({'READER_LENGTH': known['STATE_LENGTH'], 'LONGEST_FRAME': known['LONGEST_FORM'] + 1,
                   'ADDRESS_LENGTH': known['ADDRESS_LENGTH'], 'ADDRESS_ROWS': known['ROWS'], 'ADDRESSES_LENGTH': known['ADDRESS_LENGTH'] * known['ROWS'],
-                  'LONGEST_VALUE': max(known[f'LONGEST_KEY_{key}'] for key in (3, 4, 5))})
+                  'LONGEST_VALUE': max(settings(known))})
     return found
 
 

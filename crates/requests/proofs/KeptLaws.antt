@@ -25,6 +25,7 @@ use Rattle.supervisor.specs.Local
 use Rattle.supervisor.specs.Number.{topSet}
 use Rattle.supervisor.specs.Valid.{validOutbox, validFactory, validSettings, validAlert, validRegisters}
 use Rattle.supervisor.proofs.KeyLaws.{value-short}
+use Rattle.supervisor.proofs.PlaceLaws.{place-within, longest-short, Lies, setting-lies}
 use Rattle.supervisor.proofs.ValidLaws.{all-each, each-all, outbox-valid, valid-outbox, SettingValid, SettingsValid, settings-valid, valid-settings}
 use Rattle.supervisor.proofs.ValidLaws.{alert-valid, valid-alert, RecordValid, RegistersValid, registers-valid}
 use Rattle.supervisor.proofs.KeptRegisters.{FlagsValid, FailureValid, PanicValid, groups-valid, numbers-kept, flags-kept, failure-kept, panic-kept, waiting-kept, retained-kept, kept-valid}
@@ -336,40 +337,36 @@ module _ (r : List ℕ) (sequence : ℕ) (v : validRegisters r ≡ true) where
 
 -- ---- the settings
 
--- a value's bytes in its setting: that there is one, its length, the value
-abbrev pub settingBytes : List ℕ → List ℕ
-settingBytes v = bytes 1 1 ++ (bytes 2 (length v) ++ v)
-
-pub length-setting : (v : List ℕ) → length (settingBytes v) ≡ Layout.setting-value-place + length v
+pub length-setting : (v : List ℕ) → length (Layout.settingBytes v) ≡ Layout.setting-value-place + length v
 length-setting v = simp (length-append, length-bytes) (omega arith)
 
 module _ (s v : List ℕ) (at : ℕ) (room : at + (Layout.setting-value-place + length v) ≤ length s) where
   pub setting-long : length (Receive.withValue s at v) ≡ length s
   unfolding Receive.withValue
-  setting-long = length-overlay at (settingBytes v) s (omega (arith, length-setting v))
+  setting-long = length-overlay at (Layout.settingBytes v) s (omega (arith, length-setting v))
 
   pub setting-before : {from to : ℕ} → to ≤ at → Same from to s (Receive.withValue s at v)
   unfolding Receive.withValue
-  setting-before h = same-before at (settingBytes v) s (omega arith) h
+  setting-before h = same-before at (Layout.settingBytes v) s (omega arith) h
 
   pub setting-after : {from to : ℕ} → at + (Layout.setting-value-place + length v) ≤ from → Same from to s (Receive.withValue s at v)
   unfolding Receive.withValue
-  setting-after h = same-after at (settingBytes v) s (omega arith) (omega (arith, length-setting v))
+  setting-after h = same-after at (Layout.settingBytes v) s (omega arith) (omega (arith, length-setting v))
 
   pub setting-held : Layout.settingHeld (Receive.withValue s at v) at ≡ 1
   unfolding Receive.withValue bytes
   setting-held =
-      ap number (rw add-zero at (overlay-part at 0 1 (settingBytes v) s (omega arith) (omega (arith, length-setting v)))) ∙ number-bytes 1 1 (omega arith)
+      ap number (rw add-zero at (overlay-part at 0 1 (Layout.settingBytes v) s (omega arith) (omega (arith, length-setting v)))) ∙ number-bytes 1 1 (omega arith)
 
   pub setting-size : length v < 65536 → Layout.settingLength (Receive.withValue s at v) at ≡ length v
   unfolding Receive.withValue bytes
   setting-size h =
-      ap number (overlay-part at Layout.setting-length-place 2 (settingBytes v) s (omega arith) (omega (arith, length-setting v))) ∙ number-bytes 2 (length v) h
+      ap number (overlay-part at Layout.setting-length-place 2 (Layout.settingBytes v) s (omega arith) (omega (arith, length-setting v))) ∙ number-bytes 2 (length v) h
 
   pub setting-value : run (at + Layout.setting-value-place) (length v) (Receive.withValue s at v) ≡ v
   unfolding Receive.withValue bytes
   setting-value =
-      overlay-part at Layout.setting-value-place (length v) (settingBytes v) s (omega arith) (omega (arith, length-setting v)) ∙ take-length v
+      overlay-part at Layout.setting-value-place (length v) (Layout.settingBytes v) s (omega arith) (omega (arith, length-setting v)) ∙ take-length v
 
 -- what stands before its value is the same
 pub setting-kept : {s t : List ℕ} {at most : ℕ} → Same at (at + Layout.setting-value-place) s t → SettingValid s at most → SettingValid t at most
@@ -378,26 +375,26 @@ setting-kept {at = at} same g =
     let size = number-same same 2 (at + Layout.setting-length-place) (omega arith) in
     omega arith
 
-module _ (s v : List ℕ) (w : SettingsValid s) (at most : ℕ) (short : length v ≤ most) (room : (at + (Layout.setting-value-place + most) ≤ Layout.settings-length) × (most < 65536)) where
-  -- a setting lies before the one that is stored, or is that one, or lies behind it
-  abbrev Lies : ℕ → ℕ → Type 0
-  Lies bt m = (bt + Layout.setting-value-place ≤ at) ⊎ ((bt ≡ at) × (m ≡ most)) ⊎ (at + (Layout.setting-value-place + most) ≤ bt)
+module _ (s v : List ℕ) (w : SettingsValid s) (key : ℕ) (h : Limits.SettingsKey key) (short : length v ≤ Limits.longest-setting key) where
+  abbrev here : ℕ
+  here = Layout.setting-place key
 
-  setting-left : (bt m : ℕ) → Lies bt m → SettingValid s bt m → SettingValid (Receive.withValue s at v) bt m
-  setting-left bt m (inl h) g = setting-kept (setting-before s v at (omega arith) h) g
-  setting-left bt m (inr (inl h)) g = rw (h .0, h .1) (omega (arith, setting-held s v at (omega arith), setting-size s v at (omega arith) (omega arith)))
-  setting-left bt m (inr (inr h)) g = setting-kept (setting-after s v at (omega arith) (omega arith)) g
+  pub value-room : Layout.setting-place key + (Layout.setting-value-place + length v) ≤ length s
+  value-room = omega (arith, place-within key h, w .long)
 
-  settings-left : Lies Layout.key-3-place Limits.longest-key-3 → Lies Layout.key-4-place Limits.longest-key-4 → Lies Layout.key-5-place Limits.longest-key-5
-      → validSettings (Receive.withValue s at v) ≡ true
-  settings-left h k l =
+  pub value-small : length v < 65536
+  value-small = omega (arith, longest-short key)
+
+  setting-left : (j : ℕ) → Lies j key → SettingValid s (Layout.setting-place j) (Limits.longest-setting j)
+      → SettingValid (Receive.withValue s here v) (Layout.setting-place j) (Limits.longest-setting j)
+  setting-left j (inl l) g = setting-kept (setting-before s v here value-room (omega arith)) g
+  setting-left j (inr (inl e)) g = rw e (omega (arith, setting-held s v here value-room, setting-size s v here value-room value-small))
+  setting-left j (inr (inr l)) g = setting-kept (setting-after s v here value-room (omega arith)) g
+
+  settings-left : validSettings (Receive.withValue s here v) ≡ true
+  settings-left =
       valid-settings _
-      (record {
-        long = omega (arith, setting-long s v at (omega arith));
-        key-3 = setting-left _ _ h (w .key-3);
-        key-4 = setting-left _ _ k (w .key-4);
-        key-5 = setting-left _ _ l (w .key-5);
-      })
+      (record { long = omega (arith, setting-long s v here value-room, w .long); each = λ j i. setting-left j (setting-lies j key i h) (w .each j i) })
 
 module _ (s v : List ℕ) (w : validSettings s ≡ true) where
   abbrev Left : Receive.KeyStored → Type 0
@@ -412,13 +409,9 @@ module _ (s v : List ℕ) (w : validSettings s ≡ true) where
   unfolding Receive.storing
   storing-valid key =
       let g = settings-valid s w in
-      cond-by Left (ltb Limits.highest-key key) _ _ (λ _. w) (λ _.
-      cond-by Left (ltb key 3) _ _ (λ _. w) (λ _.
-      cond-by Left (eqb key 3) _ _ (λ _.
-      stored-valid _ _ (λ h. settings-left s v g _ _ h (omega arith) (inr (inl (refl, refl))) (inr (inr (omega arith))) (inr (inr (omega arith))))) (λ _.
-      cond-by Left (eqb key 4) _ _ (λ _.
-      stored-valid _ _ (λ h. settings-left s v g _ _ h (omega arith) (inl (omega arith)) (inr (inl (refl, refl))) (inr (inr (omega arith))))) (λ _.
-      stored-valid _ _ (λ h. settings-left s v g _ _ h (omega arith) (inl (omega arith)) (inl (omega arith)) (inr (inl (refl, refl))))))))
+      cond-by Left (ltb Limits.highest-key key) _ _ (λ _. w) (λ e.
+      cond-by Left (ltb key Limits.first-setting) _ _ (λ _. w) (λ f.
+      stored-valid _ _ (settings-left s v g key (record { least = ltb-false _ _ f; most = ltb-false _ _ e }))))
 
 -- ---- the data of a reply
 
@@ -433,7 +426,7 @@ block-short f image d =
     (λ _. run-short (numberAt 8 d 32) Limits.longest-block Limits.longest-block image (omega arith)) (λ _. omega arith)
 
 -- the result and the value of a key
-pub value-data-short : (f s d : List ℕ) → validFactory f ≡ true → validSettings s ≡ true → length (Receive.valueBytes f s d) ≤ 1 + Limits.longest-key-4
+pub value-data-short : (f s d : List ℕ) → validFactory f ≡ true → validSettings s ≡ true → length (Receive.valueBytes f s d) ≤ 1 + Limits.longest-value
 unfolding Receive.valueBytes
 value-data-short f s d v w = simp (length-append, length-bytes) (omega (arith, value-short f s (numberAt 1 d 0) (numberAt 2 d 1) v w))
 

@@ -123,7 +123,7 @@ valueBytes f s d =
 
 -- the value of a key in its setting
 unfoldable pub withValue : List ℕ → ℕ → List ℕ → List ℕ
-withValue s at v = overlay at (bytes 1 1 ++ (bytes 2 (length v) ++ v)) s
+withValue s at v = overlay at (Layout.settingBytes v) s
 
 pub record KeyStored : Type 0 where
   pub result : ℕ
@@ -138,10 +138,8 @@ storingAt s at most v = cond (ltb most (length v)) (keyStored 3 s) (keyStored 0 
 unfoldable pub storing : List ℕ → ℕ → List ℕ → KeyStored
 storing s key v =
     cond (ltb Limits.highest-key key) (keyStored 1 s)
-    (cond (ltb key 3) (keyStored 2 s)
-    (cond (eqb key 3) (storingAt s Layout.key-3-place Limits.longest-key-3 v)
-    (cond (eqb key 4) (storingAt s Layout.key-4-place Limits.longest-key-4 v)
-    (storingAt s Layout.key-5-place Limits.longest-key-5 v))))
+    (cond (ltb key Limits.first-setting) (keyStored 2 s)
+    (storingAt s (Layout.setting-place key) (Limits.longest-setting key) v))
 
 pub record KeySet : Type 0 where
   pub outbox : List ℕ

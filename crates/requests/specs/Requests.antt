@@ -11,9 +11,9 @@ use Rattle.line.specs.Limits.{longest-form}
 use Rattle.line.specs.Message.{Message}
 use Rattle.line.specs.Frame.{frame}
 use Rattle.line.specs.Judge.{Verdict, failure, good, judge}
-use Rattle.supervisor.specs.Limits.{highest-key, longest-key-3, longest-key-4, longest-key-5, most-kept, longest-block}
+use Rattle.supervisor.specs.Limits.{highest-key, first-setting, longest-setting, most-kept, longest-block}
 use Rattle.supervisor.specs.State.{Item, Factory, Settings, Recorded, Alert, Retained, State}
-use Rattle.supervisor.specs.State.{withStatus, withReboot, withPowerOff, withBootFailure, withPanic, withSettings, withWaiting, withRetained, withReceived, withPending}
+use Rattle.supervisor.specs.State.{withStatus, withReboot, withPowerOff, withBootFailure, withPanic, withSetting, withSettings, withWaiting, withRetained, withReceived, withPending}
 use Rattle.supervisor.specs.Number.{topSet}
 use Rattle.supervisor.specs.Local.{bit, lookup}
 
@@ -155,20 +155,11 @@ pub record Stored : Type 0 where
   pub result : ℕ
   pub settings : Settings
 
-abbrev pub longest : ℕ → ℕ
-longest key = cond (eqb key 3) longest-key-3 (cond (eqb key 4) longest-key-4 longest-key-5)
-
-unfoldable pub withSetting : Settings → ℕ → List ℕ → Settings
-withSetting s key v =
-    cond (eqb key 3) (record { key-3 = some v; key-4 = s .key-4; key-5 = s .key-5 })
-    (cond (eqb key 4) (record { key-3 = s .key-3; key-4 = some v; key-5 = s .key-5 })
-    (record { key-3 = s .key-3; key-4 = s .key-4; key-5 = some v }))
-
 unfoldable pub stored : Settings → ℕ → List ℕ → Stored
 stored s key v =
     cond (ltb highest-key key) (record { result = 1; settings = s })
-    (cond (ltb key 3) (record { result = 2; settings = s })
-    (cond (ltb (longest key) (length v)) (record { result = 3; settings = s })
+    (cond (ltb key first-setting) (record { result = 2; settings = s })
+    (cond (ltb (longest-setting key) (length v)) (record { result = 3; settings = s })
     (record { result = 0; settings = withSetting s key v })))
 
 unfoldable pub keySet : State → List ℕ → Carried

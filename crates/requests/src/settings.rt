@@ -29,16 +29,11 @@ fn store(settings: &mut [u8], key: u8, data: &[u8]) -> u8
     if layout::HIGHEST_KEY < key {
         return 1;
     }
-    if key < 3 {
+    if key < layout::FIRST_SETTING {
         return 2;
     }
-    if key == 3 {
-        return store_at(settings, layout::KEY_3_PLACE, layout::LONGEST_KEY_3, data);
-    }
-    if key == 4 {
-        return store_at(settings, layout::KEY_4_PLACE, layout::LONGEST_KEY_4, data);
-    }
-    store_at(settings, layout::KEY_5_PLACE, layout::LONGEST_KEY_5, data)
+    let at = layout::setting_place(key);
+    store_at(settings, at, layout::longest_setting(key), data)
 }
 
 // Stores the data behind the key in the setting at a place, if they are not too long.

@@ -7,7 +7,7 @@ use Prim.Native.Nat.{ℕ, _+_, _≤_}
 use native.Mathlib.Omega.{arith}
 use lib.Dec.{ltb, eqb}
 use lib.ListN.{length, drop, length-take}
-use borrow.Author.Tests.{le-ltb}
+use borrow.Author.Tests.{le-ltb, ltb-false}
 use Rattle.octets.specs.Bytes.{run}
 use Rattle.octets.proofs.Conditions.{cond-by}
 use Rattle.supervisor.specs.Limits
@@ -16,6 +16,7 @@ use Rattle.supervisor.specs.Layout
 use Rattle.supervisor.specs.Valid.{validFactory, validSettings}
 use Rattle.supervisor.specs.Calls.{settingAt, placeOf, resultAt, lookupResult, within, valueAt, lookupValue}
 use Rattle.supervisor.specs.declared.keys.Place.{Place}
+use Rattle.supervisor.proofs.PlaceLaws.{longest-short, settings-key}
 use Rattle.supervisor.proofs.ValidLaws.{FactoryValid, SettingsValid, factory-valid, settings-valid}
 
 -- ---- the value at a key's place
@@ -33,32 +34,30 @@ module _
 
 -- ---- a value that is handed out is no longer than the longest key's
 
-within-short : (most at n : ℕ) (s : List ℕ) → n ≤ Limits.longest-key-4 → length (within most n (run at n s)) ≤ Limits.longest-key-4
+within-short : (most at n : ℕ) (s : List ℕ) → n ≤ Limits.longest-value → length (within most n (run at n s)) ≤ Limits.longest-value
 within-short most at n s h =
-    cond-by (λ v. length v ≤ Limits.longest-key-4) (ltb most n) [] (run at n s) (λ _. omega arith) (λ _. omega (arith, length-take n (drop at s)))
+    cond-by (λ v. length v ≤ Limits.longest-value) (ltb most n) [] (run at n s) (λ _. omega arith) (λ _. omega (arith, length-take n (drop at s)))
 
 module _ (f s : List ℕ) (most : ℕ) where
   -- the value at a place
   abbrev Short : Place → Type 0
-  Short p = length (valueAt f s most p) ≤ Limits.longest-key-4
+  Short p = length (valueAt f s most p) ≤ Limits.longest-value
 
-  setting-short : (at : ℕ) → Layout.settingLength s at ≤ Limits.longest-key-4 → Short (settingAt s at)
+  setting-short : (at : ℕ) → Layout.settingLength s at ≤ Limits.longest-value → Short (settingAt s at)
   unfolding settingAt valueAt
   setting-short at h = cond-by Short (eqb (Layout.settingHeld s at) 1) _ _ (λ _. within-short most (at + Layout.setting-value-place) _ s h) (λ _. omega arith)
 
-  place-short : (key : ℕ) → FactoryValid f → SettingsValid s → Short (placeOf f s key)
+  place-short : (key : ℕ) → FactoryValid f → SettingsValid s → key ≤ highest-key → Short (placeOf f s key)
   unfolding placeOf valueAt
-  place-short key v w =
-      cond-by Short (eqb key 0) _ _ (λ _. within-short most Layout.pong-place 4 f (omega arith)) (λ _.
-      cond-by Short (eqb key 1) _ _ (λ _. within-short most Layout.image-id-place (Layout.imageIdLength f) f (omega arith)) (λ _.
-      cond-by Short (eqb key 2) _ _ (λ _. within-short most Layout.item-count-place 8 f (omega arith)) (λ _.
-      cond-by Short (eqb key 3) _ _ (λ _. setting-short Layout.key-3-place (omega arith)) (λ _.
-      cond-by Short (eqb key 4) _ _ (λ _. setting-short Layout.key-4-place (omega arith)) (λ _.
-      setting-short Layout.key-5-place (omega arith))))))
+  place-short key v w h =
+      cond-by Short (eqb key 0) _ _ (λ _. within-short most Layout.pong-place 4 f (omega arith)) (λ a.
+      cond-by Short (eqb key 1) _ _ (λ _. within-short most Layout.image-id-place (Layout.imageIdLength f) f (omega arith)) (λ b.
+      cond-by Short (eqb key 2) _ _ (λ _. within-short most Layout.item-count-place 8 f (omega arith)) (λ c.
+      setting-short (Layout.setting-place key) (omega (arith, w .each key (settings-key key a b c h), longest-short key)))))
 
-pub value-short : (f s : List ℕ) (key most : ℕ) → validFactory f ≡ true → validSettings s ≡ true → length (lookupValue f s key most) ≤ Limits.longest-key-4
+pub value-short : (f s : List ℕ) (key most : ℕ) → validFactory f ≡ true → validSettings s ≡ true → length (lookupValue f s key most) ≤ Limits.longest-value
 unfolding lookupValue
 value-short f s key most v w =
     rw (v, w)
-    (cond-by (λ l. length l ≤ Limits.longest-key-4) (ltb Limits.highest-key key) [] _ (λ _. omega arith) (λ _.
-    place-short f s most key (factory-valid f v) (settings-valid s w)))
+    (cond-by (λ l. length l ≤ Limits.longest-value) (ltb Limits.highest-key key) [] _ (λ _. omega arith) (λ e.
+    place-short f s most key (factory-valid f v) (settings-valid s w) (ltb-false _ _ e)))

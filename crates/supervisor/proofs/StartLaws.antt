@@ -17,7 +17,8 @@ use Rattle.line.specs.Reader
 use Rattle.line.specs.declared.reader.Started.{Started as Reader-Started}
 use Rattle.octets.proofs.Conditions.{cond-by}
 use Rattle.supervisor.specs.Layout
-use Rattle.supervisor.specs.Valid.{goodStart, pong}
+use Rattle.supervisor.specs.Local.{pong}
+use Rattle.supervisor.specs.Valid.{goodStart}
 use Rattle.supervisor.specs.Calls.{Parts, parts, Start, roomy, freshParts, startSaid, startOf, starting}
 use Rattle.supervisor.specs.declared.start.Started.{Started}
 use Rattle.supervisor.specs.declared.start.Started.the-variants as answer

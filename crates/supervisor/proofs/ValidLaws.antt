@@ -4,7 +4,7 @@ use mathlib.Core.Path.{_≡_, refl, sym, _∙_}
 use mathlib.Core.Logic.{_⊎_, inl, inr, ⊎-map}
 use mathlib.Core.Bool.{Bool, true, false, not, _&&_, _||_, false≢true, or-true, and-eq-true-iff}
 use mathlib.Core.List.{List}
-use Prim.Native.Nat.{ℕ, zero, suc, _+_, _≤_, _<_}
+use Prim.Native.Nat.{ℕ, zero, suc, _+_, _-_, _≤_, _<_}
 use native.Mathlib.Omega.{arith}
 use native.Mathlib.Numerals.{add-one}
 use lib.Dec.{leb, eqb}
@@ -14,6 +14,7 @@ use borrow.Author.Tests.{leb-true, le-leb, eqb-true, eq-eqb, not-true, not-false
 use Rattle.octets.specs.Bytes.{numberAt, run}
 use Rattle.octets.proofs.Equal.{equal-true, equal-refl}
 use Rattle.supervisor.specs.Limits
+use Rattle.supervisor.specs.Local.{pong}
 use Rattle.supervisor.specs.Layout
 use Rattle.supervisor.specs.Valid
 
@@ -153,7 +154,7 @@ pub record FactoryValid (f : List ℕ) : Type 0 where
   pub long : Layout.factory-length ≤ length f
   pub start : StartGood f
   pub version : numberAt 4 f Layout.inventory-version-place ≡ 0
-  pub text : run Layout.pong-place 4 f ≡ Valid.pong
+  pub text : run Layout.pong-place 4 f ≡ pong
 
 pub factory-valid : (f : List ℕ) → Valid.validFactory f ≡ true → FactoryValid f
 unfolding Valid.validFactory
@@ -169,7 +170,7 @@ valid-factory f v =
     and-le _ _ _ (v .long)
     (and (Valid.goodStart f) _ (good-start f (v .start))
     (and (eqb (numberAt 4 f Layout.inventory-version-place) 0) _ (eq-eqb _ _ (v .version))
-    (rw (v .text) (equal-refl Valid.pong))))
+    (rw (v .text) (equal-refl pong))))
 
 -- ---- the settings store
 
@@ -187,23 +188,24 @@ valid-setting s at most v = and-le _ _ _ (v .held) (le-leb _ _ (v .size))
 
 pub record SettingsValid (s : List ℕ) : Type 0 where
   pub long : Layout.settings-length ≤ length s
-  pub key-3 : SettingValid s Layout.key-3-place Limits.longest-key-3
-  pub key-4 : SettingValid s Layout.key-4-place Limits.longest-key-4
-  pub key-5 : SettingValid s Layout.key-5-place Limits.longest-key-5
+  pub each : (key : ℕ) → Limits.SettingsKey key → SettingValid s (Layout.setting-place key) (Limits.longest-setting key)
 
 pub settings-valid : (s : List ℕ) → Valid.validSettings s ≡ true → SettingsValid s
 unfolding Valid.validSettings
 settings-valid s e =
     let a = le-and _ _ _ e in
-    let b = both (Valid.validSetting s Layout.key-3-place Limits.longest-key-3) _ (a .1) in
-    let c = both (Valid.validSetting s Layout.key-4-place Limits.longest-key-4) _ (b .1) in
-    record { long = a .0; key-3 = setting-valid _ _ _ (b .0); key-4 = setting-valid _ _ _ (c .0); key-5 = setting-valid _ _ _ (c .1) }
+    record {
+      long = a .0;
+      each = λ key h.
+          let f : Limits.first-setting + (key - Limits.first-setting) ≡ key = omega (arith, h) in
+          setting-valid _ _ _ (rw f at (all-each _ _ (a .1) (key - Limits.first-setting) (omega (arith, h))));
+    }
 
 pub valid-settings : (s : List ℕ) → SettingsValid s → Valid.validSettings s ≡ true
 unfolding Valid.validSettings
 valid-settings s v =
     and-le _ _ _ (v .long)
-    (and _ _ (valid-setting _ _ _ (v .key-3)) (and _ _ (valid-setting _ _ _ (v .key-4)) (valid-setting _ _ _ (v .key-5))))
+    (each-all _ _ (λ i l. valid-setting _ _ _ (v .each (Limits.first-setting + i) (record { least = omega arith; most = omega arith }))))
 
 -- ---- the registers
 

@@ -10,8 +10,9 @@ use Rattle.octets.specs.Bytes.{bytes, run, numberAt, overlay}
 use Rattle.line.specs.Reader
 use Rattle.supervisor.specs.Limits
 use Rattle.supervisor.specs.Local
+use Rattle.supervisor.specs.Local.{pong}
 use Rattle.supervisor.specs.Layout
-use Rattle.supervisor.specs.Valid.{goodStart, validOutbox, validFactory, validSettings, validRegisters, pong}
+use Rattle.supervisor.specs.Valid.{goodStart, validOutbox, validFactory, validSettings, validRegisters}
 use Rattle.supervisor.specs.declared.start.Started.{Started}
 use Rattle.supervisor.specs.declared.start.Started.the-variants as started
 use Rattle.supervisor.specs.declared.outbox.Taken.{Taken}
@@ -186,9 +187,7 @@ placeOf f s key =
     cond (eqb key 0) (place.Factory Layout.pong-place 4)
     (cond (eqb key 1) (place.Factory Layout.image-id-place (Layout.imageIdLength f))
     (cond (eqb key 2) (place.Factory Layout.item-count-place 8)
-    (cond (eqb key 3) (settingAt s Layout.key-3-place)
-    (cond (eqb key 4) (settingAt s Layout.key-4-place)
-    (settingAt s Layout.key-5-place)))))
+    (settingAt s (Layout.setting-place key))))
 
 -- the result of a lookup and how many bytes were found, or the table's number
 pub data LookupSaid : Type 0 where

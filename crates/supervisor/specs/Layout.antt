@@ -1,9 +1,10 @@
 -- The lent parts of the supervisor's state: which byte is where. docs/STATE.md repeats this in words.
 -- Assumes nothing: these are definitions.
-use Prim.Native.Nat.{ℕ, _+_, _*_}
-use mathlib.Core.List.{List}
-use Rattle.octets.specs.Bytes.{numberAt}
-use Rattle.supervisor.specs.Limits.{most-items, longest-item-data, longest-image-id, longest-key-3, longest-key-4, longest-key-5, most-alerts, longest-alert, most-kept, most-pending}
+use Prim.Native.Nat.{ℕ, _+_, _-_, _*_}
+use mathlib.Core.List.{List, [], _∷_, _++_}
+use lib.ListN.{length, take}
+use Rattle.octets.specs.Bytes.{bytes, numberAt}
+use Rattle.supervisor.specs.Limits.{most-items, longest-item-data, longest-image-id, first-setting, longest-settings, most-alerts, longest-alert, most-kept, most-pending}
 
 -- ---- The outbox: the pending bytes run from `outbox-from` up to `outbox-to` among the bytes at `outbox-bytes`.
 
@@ -99,17 +100,21 @@ setting-length-place = 1
 abbrev pub setting-value-place : ℕ
 setting-value-place = 3
 
-abbrev pub key-3-place : ℕ
-key-3-place = 0
+-- of settings with these longest values
+abbrev pub settings-size : List ℕ → ℕ
+settings-size [] = 0
+settings-size (longest ∷ others) = setting-value-place + longest + settings-size others
 
-abbrev pub key-4-place : ℕ
-key-4-place = key-3-place + setting-value-place + longest-key-3
-
-abbrev pub key-5-place : ℕ
-key-5-place = key-4-place + setting-value-place + longest-key-4
+-- a key's setting lies behind those of the keys before it
+unfoldable pub setting-place : ℕ → ℕ
+setting-place key = settings-size (take (key - first-setting) longest-settings)
 
 abbrev pub settings-length : ℕ
-settings-length = key-5-place + setting-value-place + longest-key-5
+settings-length = settings-size longest-settings
+
+-- the setting of a key that has the value v
+abbrev pub settingBytes : List ℕ → List ℕ
+settingBytes v = bytes 1 1 ++ (bytes 2 (length v) ++ v)
 
 -- of the setting at a place
 abbrev pub settingHeld : List ℕ → ℕ → ℕ

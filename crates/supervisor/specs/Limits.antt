@@ -1,6 +1,8 @@
 -- The supervisor's limits, each in one place (document 01, "Requests and what they do").
 -- Assumes nothing: these are definitions.
-use Prim.Native.Nat.{ℕ, _+_, _-_, _^_}
+use mathlib.Core.List.{List, [], _∷_}
+use Prim.Native.Nat.{ℕ, _+_, _-_, _^_, _≤_}
+use lib.ListN.{getD}
 use Rattle.line.specs.Limits.{longest-data, longest-form}
 
 -- inventory
@@ -17,14 +19,27 @@ longest-image-id = 64
 abbrev pub highest-key : ℕ
 highest-key = 5
 
-abbrev pub longest-key-3 : ℕ
-longest-key-3 = 256
+-- the keys of the settings store
+abbrev pub first-setting : ℕ
+first-setting = 3
 
-abbrev pub longest-key-4 : ℕ
-longest-key-4 = 4096
+abbrev pub setting-count : ℕ
+setting-count = highest-key + 1 - first-setting
 
-abbrev pub longest-key-5 : ℕ
-longest-key-5 = 1024
+pub record SettingsKey (key : ℕ) : Type 0 where
+  pub least : first-setting ≤ key
+  pub most : key ≤ highest-key
+
+-- the longest value of each from the first on: 3, 4, and 5, the withdrawn-key list
+abbrev pub longest-settings : List ℕ
+longest-settings = 256 ∷ 4096 ∷ 1024 ∷ []
+
+unfoldable pub longest-setting : ℕ → ℕ
+longest-setting key = getD longest-settings (key - first-setting) 0
+
+-- no value is longer
+abbrev pub longest-value : ℕ
+longest-value = 4096
 
 -- alerts
 abbrev pub most-alerts : ℕ

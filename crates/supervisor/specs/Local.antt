@@ -8,7 +8,7 @@ use lib.Dec.{leb, ltb, eqb}
 use lib.ListN.{length, take, drop, getD}
 use Rattle.octets.specs.Bytes.{bytes}
 use Rattle.supervisor.specs.Limits.{most-items, longest-item-data, longest-image-id, highest-key, most-alerts, longest-alert, highest-option}
-use Rattle.supervisor.specs.State.{Item, Factory, State, withStatus, withOptions, withWaiting, withPending, withOwing, fresh}
+use Rattle.supervisor.specs.State.{Item, Factory, State, setting, withStatus, withOptions, withWaiting, withPending, withOwing, fresh}
 
 -- ---- Start data: refused as 11
 
@@ -56,15 +56,17 @@ optionsAllowed options = atMost highest-option (highest 64 options)
 
 -- ---- Keys
 
--- the value of a key from 0 to 5
+-- the value of key 0: "pong"
+abbrev pub pong : List ℕ
+pong = 0x70 ∷ 0x6f ∷ 0x6e ∷ 0x67 ∷ []
+
+-- the value of a key up to the highest
 unfoldable pub valueOf : State → ℕ → Option (List ℕ)
 valueOf s key =
-    cond (eqb key 0) (some (0x70 ∷ 0x6f ∷ 0x6e ∷ 0x67 ∷ []))
+    cond (eqb key 0) (some pong)
     (cond (eqb key 1) (some (s .factory .image-id))
     (cond (eqb key 2) (some (bytes 4 (length (s .factory .items)) ++ bytes 4 0))
-    (cond (eqb key 3) (s .settings .key-3)
-    (cond (eqb key 4) (s .settings .key-4)
-    (s .settings .key-5)))))
+    (setting (s .settings) key)))
 
 -- a lookup's result, and the value where the result is 0
 pub record Found : Type 0 where

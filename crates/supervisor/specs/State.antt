@@ -3,7 +3,9 @@
 use mathlib.Core.Bool.{Bool, false}
 use mathlib.Core.List.{List, []}
 use mathlib.Core.Option.{Option, none, some}
-use Prim.Native.Nat.{ℕ}
+use Prim.Native.Nat.{ℕ, _-_}
+use lib.ListN.{getD, set, replicate}
+use Rattle.supervisor.specs.Limits.{first-setting, setting-count}
 
 -- an inventory item; `payload` is the paper's data
 pub record Item : Type 0 where
@@ -25,11 +27,15 @@ pub record Factory : Type 0 where
   pub image-id : List ℕ
   pub items : List Item
 
--- the settings store: none where a key has no value
-pub record Settings : Type 0 where
-  pub key-3 : Option (List ℕ)
-  pub key-4 : Option (List ℕ)
-  pub key-5 : Option (List ℕ)
+-- the settings store: for each of its keys, in their order, the value, or none
+abbrev pub Settings : Type 0
+Settings = List (Option (List ℕ))
+
+abbrev pub setting : Settings → ℕ → Option (List ℕ)
+setting settings key = getD settings (key - first-setting) none
+
+abbrev pub withSetting : Settings → ℕ → List ℕ → Settings
+withSetting settings key value = set settings (key - first-setting) (some value)
 
 -- a boot failure or a panic: its code, the whole length of the rest, and the rest's first bytes
 pub record Recorded : Type 0 where
@@ -279,7 +285,7 @@ fresh f = record {
   boot-failure = none;
   panic = none;
   factory = f;
-  settings = record { key-3 = none; key-4 = none; key-5 = none };
+  settings = replicate setting-count none;
   waiting = [];
   retained = none;
   received = some [];

@@ -1,12 +1,13 @@
 -- What the table's 11 asks of start data and its 12 of each lent part (document 01, "When a call says no").
 -- Assumes nothing: these are definitions.
 use mathlib.Core.Bool.{Bool, true, _&&_, _||_}
-use mathlib.Core.List.{List, [], _∷_}
+use mathlib.Core.List.{List}
 use Prim.Native.Nat.{ℕ, zero, suc, _+_}
 use lib.Dec.{leb, eqb}
 use lib.ListN.{length}
 use Rattle.octets.specs.Bytes.{numberAt, run, equal}
 use Rattle.supervisor.specs.Limits
+use Rattle.supervisor.specs.Local.{pong}
 use Rattle.supervisor.specs.Layout
 
 -- every number below n passes the test
@@ -48,10 +49,6 @@ validOutbox o =
     && (leb (Layout.outboxTo o) Limits.most-pending
     && leb (Layout.outboxOwing o) 1))
 
--- the text of key 0
-abbrev pub pong : List ℕ
-pong = 0x70 ∷ 0x6f ∷ 0x6e ∷ 0x67 ∷ []
-
 unfoldable pub validFactory : List ℕ → Bool
 validFactory f =
     leb Layout.factory-length (length f)
@@ -62,12 +59,18 @@ validFactory f =
 unfoldable pub validSetting : List ℕ → ℕ → ℕ → Bool
 validSetting s at most = leb (Layout.settingHeld s at) 1 && leb (Layout.settingLength s at) most
 
+-- of a key
+abbrev pub validValue : List ℕ → ℕ → Bool
+validValue s key = validSetting s (Layout.setting-place key) (Limits.longest-setting key)
+
+-- of the first n settings keys
+abbrev pub validValues : List ℕ → ℕ → Bool
+validValues s = all (λ i. validValue s (Limits.first-setting + i))
+
 unfoldable pub validSettings : List ℕ → Bool
 validSettings s =
     leb Layout.settings-length (length s)
-    && (validSetting s Layout.key-3-place Limits.longest-key-3
-    && (validSetting s Layout.key-4-place Limits.longest-key-4
-    && validSetting s Layout.key-5-place Limits.longest-key-5))
+    && validValues s Limits.setting-count
 
 -- the rest of a record has at most so many bytes
 unfoldable pub validRecord : List ℕ → ℕ → ℕ → Bool

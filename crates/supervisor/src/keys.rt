@@ -100,13 +100,7 @@ fn find(factory: &[u8], settings: &[u8], key: u8) -> Place
     if key == 2 {
         return Place::Factory(layout::ITEM_COUNT_PLACE, 8);
     }
-    if key == 3 {
-        return setting(settings, layout::KEY_3_PLACE);
-    }
-    if key == 4 {
-        return setting(settings, layout::KEY_4_PLACE);
-    }
-    setting(settings, layout::KEY_5_PLACE)
+    setting(settings, layout::setting_place(key))
 }
 
 // Where the value of the setting at a place lies, if it has one.

@@ -1,5 +1,9 @@
 // The lent parts: their published lengths, and which byte is where. docs/STATE.md lists every field.
 // Numbers are little-endian. Assumes nothing.
+ghost use mathlib.Core.Path.{_≡_};
+ghost use Prim.Native.Nat.{_≤_};
+ghost use Rattle.supervisor.specs.Limits.{longest-setting, longest-value};
+ghost use Rattle.supervisor.specs.Layout.{setting-place, settings-length};
 
 // Limits of document 01.
 pub const MOST_ITEMS: usize = 16;
@@ -10,10 +14,16 @@ pub const LONGEST_IMAGE_ID: usize = 64;
 
 pub const HIGHEST_KEY: u8 = 5;
 
+// The settings keys run from this one to the highest.
+pub const FIRST_SETTING: u8 = 3;
+
+pub const SETTING_COUNT: u8 = HIGHEST_KEY + 1 - FIRST_SETTING;
+
 pub const LONGEST_KEY_3: usize = 256;
 
 pub const LONGEST_KEY_4: usize = 4096;
 
+// The withdrawn-key list.
 pub const LONGEST_KEY_5: usize = 1024;
 
 pub const MOST_ALERTS: usize = 8;
@@ -81,13 +91,43 @@ pub const SETTING_LENGTH_PLACE: usize = 1;
 
 pub const SETTING_VALUE_PLACE: usize = 3;
 
-pub const KEY_3_PLACE: usize = 0;
-
-pub const KEY_4_PLACE: usize = KEY_3_PLACE + SETTING_VALUE_PLACE + LONGEST_KEY_3;
+pub const KEY_4_PLACE: usize = SETTING_VALUE_PLACE + LONGEST_KEY_3;
 
 pub const KEY_5_PLACE: usize = KEY_4_PLACE + SETTING_VALUE_PLACE + LONGEST_KEY_4;
 
 pub const SETTINGS_LENGTH: usize = KEY_5_PLACE + SETTING_VALUE_PLACE + LONGEST_KEY_5;
+
+// The longest value of a settings key.
+pub fn longest_setting(key: u8) -> usize
+    ensures { λ r. ⌜ (r ≡ longest-setting key) × (r ≤ longest-value) ⌝ }
+{
+    if key <= FIRST_SETTING {
+        return LONGEST_KEY_3;
+    }
+    if key == 4 {
+        return LONGEST_KEY_4;
+    }
+    if key == 5 {
+        return LONGEST_KEY_5;
+    }
+    0
+}
+
+// Where the setting of a key lies.
+pub fn setting_place(key: u8) -> usize
+    ensures { λ r. ⌜ (r ≡ setting-place key) × (r ≤ settings-length) ⌝ }
+{
+    if key <= FIRST_SETTING {
+        return 0;
+    }
+    if key == 4 {
+        return KEY_4_PLACE;
+    }
+    if key == 5 {
+        return KEY_5_PLACE;
+    }
+    SETTINGS_LENGTH
+}
 
 // The registers.
 pub const STATUS_PLACE: usize = 0;

@@ -9,7 +9,7 @@ ghost use Prim.Native.Nat.{_≤_, _-_};
 ghost use lib.ListN.{length, replicate};
 ghost use Rattle.octets.specs.Bytes.{bytes, overlay};
 ghost use Rattle.supervisor.specs.Layout.{factory-length, registers-length};
-ghost use Rattle.supervisor.specs.Valid.{pong};
+ghost use Rattle.supervisor.specs.Local.{pong};
 ghost use Rattle.supervisor.specs.Calls.{parts, startOf, starting};
 
 pub enum Started {

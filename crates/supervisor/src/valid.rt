@@ -3,8 +3,9 @@
 use crate::layout;
 ghost use mathlib.Core.Path.{_≡_};
 ghost use Prim.Native.Nat.{_<_};
-ghost use Rattle.supervisor.specs.Valid.{goodItem, goodItems, goodStart, validOutbox, validFactory, validSetting, validSettings, validRecord, validText, validAlert, validAlerts, validRecordsAndAlerts, validRegisters};
+ghost use Rattle.supervisor.specs.Valid.{goodItem, goodItems, goodStart, validOutbox, validFactory, validSetting, validValues, validSettings, validRecord, validText, validAlert, validAlerts, validRecordsAndAlerts, validRegisters};
 ghost use Rattle.octets.specs.Bytes.{numberAt};
+ghost use Rattle.supervisor.specs.Limits.{setting-count};
 
 // Whether item i has a result of 0, 2 or 3 and at most 64 bytes of data.
 fn item_is_good(d: &[u8], i: usize) -> bool
@@ -104,13 +105,22 @@ pub fn settings_are_valid(settings: &[u8]) -> bool
     if settings.len() < layout::SETTINGS_LENGTH {
         return false;
     }
-    if !setting_is_valid(settings, layout::KEY_3_PLACE, layout::LONGEST_KEY_3) {
-        return false;
+    values_are_valid(settings)
+}
+
+fn values_are_valid(settings: &[u8]) -> bool
+    ensures { λ r. ⌜ r ≡ validValues (now (settings .entry)) setting-count ⌝ }
+{
+    let mut i = 0;
+    while i < layout::SETTING_COUNT {
+        let key = layout::FIRST_SETTING + i;
+        let at = layout::setting_place(key);
+        if !setting_is_valid(settings, at, layout::longest_setting(key)) {
+            return false;
+        }
+        i += 1;
     }
-    if !setting_is_valid(settings, layout::KEY_4_PLACE, layout::LONGEST_KEY_4) {
-        return false;
-    }
-    setting_is_valid(settings, layout::KEY_5_PLACE, layout::LONGEST_KEY_5)
+    true
 }
 
 fn record_is_valid(registers: &[u8], at: usize, most: usize) -> bool

@@ -13,13 +13,8 @@ use Rattle.line.specs.Judge.{Verdict, failure, good}
 use Rattle.line_claims.specs.Pieces.{split, nonEmpty}
 use Rattle.supervisor.specs.Number.{topSet}
 use Rattle.supervisor.specs.Local.{fitted}
-use Rattle.requests.specs.Requests.{verdict, longest}
-
--- the keys of the settings store; 5 is the withdrawn-key list
-pub data SettingsKey : ℕ → Type 0 where
-  three : SettingsKey 3
-  four : SettingsKey 4
-  five : SettingsKey 5
+use Rattle.supervisor.specs.Limits.{longest-setting}
+use Rattle.requests.specs.Requests.{verdict}
 
 -- ---- Requests
 
@@ -42,7 +37,7 @@ requestsOf w = requestsIn (nonEmpty (split w .closed))
 -- the value that a key set's data store under key k: the first byte is the key, the rest the value; one that is too long stores nothing
 unfoldable pub valueFor : ℕ → List ℕ → Option (List ℕ)
 valueFor k [] = none
-valueFor k (key ∷ v) = cond (eqb key k) (cond (ltb (longest k) (length v)) none (some v)) none
+valueFor k (key ∷ v) = cond (eqb key k) (cond (ltb (longest-setting k) (length v)) none (some v)) none
 
 -- the value that a request stores under key k, where it is a successful set of it
 unfoldable pub setBy : ℕ → Message → Option (List ℕ)

@@ -8,6 +8,7 @@ use lib.Dec.{ltb, eqb}
 use Rattle.octets.specs.Bytes.{run, numberAt}
 use Rattle.line.specs.Limits as LineLimits
 use Rattle.line.specs.Reader as LineReader
+use Rattle.supervisor.specs.Limits
 use Rattle.supervisor.specs.Layout
 use Rattle.supervisor.specs.State.{Item, Factory, Settings, Recorded, Alert, Retained, State}
 use Rattle.supervisor.specs.Calls.{Parts, keptOf}
@@ -47,7 +48,7 @@ unfoldable pub settingOf : List ℕ → ℕ → Option (List ℕ)
 settingOf s at = cond (eqb (Layout.settingHeld s at) 1) (some (run (at + Layout.setting-value-place) (Layout.settingLength s at) s)) none
 
 unfoldable pub settingsOf : List ℕ → Settings
-settingsOf s = record { key-3 = settingOf s Layout.key-3-place; key-4 = settingOf s Layout.key-4-place; key-5 = settingOf s Layout.key-5-place }
+settingsOf s = listed (λ i. settingOf s (Layout.setting-place (Limits.first-setting + i))) Limits.setting-count
 
 -- ---- the registers
 

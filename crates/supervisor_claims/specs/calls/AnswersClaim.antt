@@ -191,9 +191,7 @@ module _ (f s : List ℕ) (fb : Each Byte f) (sb : Each Byte s) (most : ℕ) whe
       cond-by P (eqb key 0) _ _ (λ e. part-each Layout.pong-place 4 f fb) (λ e.
       cond-by P (eqb key 1) _ _ (λ e. part-each Layout.image-id-place (Layout.imageIdLength f) f fb) (λ e.
       cond-by P (eqb key 2) _ _ (λ e. part-each Layout.item-count-place 8 f fb) (λ e.
-      cond-by P (eqb key 3) _ _ (λ e. setting-each Layout.key-3-place) (λ e.
-      cond-by P (eqb key 4) _ _ (λ e. setting-each Layout.key-4-place) (λ e.
-      setting-each Layout.key-5-place)))))
+      setting-each (Layout.setting-place key))))
 
   value-each : (key : ℕ) → Each Byte (Calls.lookupValue f s key most)
   unfolding Calls.lookupValue

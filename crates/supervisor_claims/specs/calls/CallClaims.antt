@@ -20,7 +20,8 @@ use Rattle.supervisor.specs.Limits
 use Rattle.supervisor.specs.Layout
 use Rattle.supervisor.specs.State.{Recorded, fresh}
 use Rattle.supervisor.specs.Local
-use Rattle.supervisor.specs.Valid.{goodStart, pong}
+use Rattle.supervisor.specs.Local.{pong}
+use Rattle.supervisor.specs.Valid.{goodStart}
 use Rattle.supervisor.specs.Calls
 use Rattle.supervisor.specs.Calls.{Parts}
 use Rattle.supervisor.specs.declared.registers.Kind.{Kind}

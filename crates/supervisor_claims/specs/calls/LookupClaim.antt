@@ -3,22 +3,25 @@
 use mathlib.Core.Path.{_≡_, refl, sym, ap, _∙_}
 use mathlib.Core.Bool.{Bool, true, false, cond}
 use mathlib.Core.List.{List, [], _++_}
-use mathlib.Core.Option.{Option, some}
-use Prim.Native.Nat.{ℕ, _+_, _≤_}
+use mathlib.Core.Option.{Option, none, some}
+use Prim.Native.Nat.{ℕ, _+_, _-_, _≤_}
 use native.Mathlib.Omega.{arith}
 use lib.Dec.{ltb, eqb}
 use lib.ListN.{length}
+use borrow.Author.Tests.{ltb-false}
 use Rattle.octets.specs.Bytes.{Byte, Each, bytes, run}
 use Rattle.octets.proofs.Conditions.{cond-both}
 use Rattle.octets.proofs.Overlay.{length-run, number-run, run-add}
 use Rattle.supervisor.specs.Limits
 use Rattle.supervisor.specs.Layout
+use Rattle.supervisor.specs.State.{setting}
 use Rattle.supervisor.specs.Local
 use Rattle.supervisor.specs.Calls
+use Rattle.supervisor.proofs.PlaceLaws.{place-within, settings-key}
 use Rattle.supervisor.proofs.ValidLaws.{FactoryValid, factory-valid, SettingValid, settings-valid}
 use Rattle.supervisor_claims.specs.View.{itemAt, listed, settingOf, settingsOf, factoryOf, view}
 use Rattle.supervisor_claims.specs.Meant.{Valid}
-use Rattle.supervisor_claims.specs.laws.ViewLaws.{length-listed}
+use Rattle.supervisor_claims.specs.laws.ViewLaws.{length-listed, listed-at}
 
 -- ---- bytes of a store, and the value that they hold
 
@@ -37,10 +40,10 @@ part-answers most n bs v e l = rw (e, ← (sym (ap length e) ∙ l)) (go (ltb mo
     go false = (refl, refl)
 
 -- an invalid key
-choose : (t : Bool) {said : Calls.LookupSaid} {bs : List ℕ} {x : Local.Found} → Answers said bs x
+choose : (t : Bool) {said : Calls.LookupSaid} {bs : List ℕ} {x : Local.Found} → (t ≡ false → Answers said bs x)
     → Answers (cond t (Calls.result 1 0) said) (cond t [] bs) (cond t (Local.without 1) x)
 choose true a = (refl, refl)
-choose false a = a
+choose false a = a refl
 
 -- ---- key 2: the count of the items, then the version 0
 
@@ -56,6 +59,13 @@ inventory-run f v b =
 abbrev Looked : {Q : Type 0} → (Q → Calls.LookupSaid) → (Q → List ℕ) → ℕ → Q → Option (List ℕ) → Type 0
 Looked said bs most q o = Answers (said q) (bs q) (Local.fitted most o)
 
+-- a settings key has the value that its setting holds
+setting-held : (s : List ℕ) (key : ℕ) → Limits.SettingsKey key → setting (settingsOf s) key ≡ settingOf s (Layout.setting-place key)
+unfolding settingsOf
+setting-held s key h =
+    let e : Limits.first-setting + (key - Limits.first-setting) ≡ key = omega (arith, h) in
+    listed-at _ none Limits.setting-count (key - Limits.first-setting) (omega (arith, h)) ∙ rw e
+
 module _ (p : Calls.Parts) (v : Valid p) where
   setting-answers : (most at longest : ℕ) → at + Layout.setting-value-place + longest ≤ Layout.settings-length → SettingValid (p .settings) at longest
       → Looked (Calls.resultAt most) (Calls.valueAt (p .factory) (p .settings) most) most (Calls.settingAt (p .settings) at) (settingOf (p .settings) at)
@@ -69,25 +79,25 @@ module _ (p : Calls.Parts) (v : Valid p) where
       (λ e. part-answers most n (run (at + Layout.setting-value-place) n s) _ refl size) (λ e. (refl, refl))
 
   -- of a key from 0 to 5
-  key-answers : Each Byte (p .factory) → (key most : ℕ) → let q = Calls.placeOf (p .factory) (p .settings) key in
+  key-answers : Each Byte (p .factory) → (key most : ℕ) → key ≤ Limits.highest-key → let q = Calls.placeOf (p .factory) (p .settings) key in
       Looked (Calls.resultAt most) (Calls.valueAt (p .factory) (p .settings) most) most q (Local.valueOf (view p) key)
-  unfolding Calls.placeOf Calls.resultAt Calls.valueAt Local.valueOf view factoryOf settingsOf
-  key-answers b key most =
+  unfolding Calls.placeOf Calls.resultAt Calls.valueAt Local.valueOf view factoryOf
+  key-answers b key most h =
       let f = p .factory in
       let u = factory-valid f (v .factory) in
       let w = settings-valid (p .settings) (v .settings) in
       let P = Looked (Calls.resultAt most) (Calls.valueAt f (p .settings) most) most in
       let image = length-run Layout.image-id-place (Layout.imageIdLength f) f (omega arith) in
-      cond-both P (eqb key 0) (λ e. part-answers most 4 _ _ (u .text) (length-run Layout.pong-place 4 f (omega arith))) (λ e.
-      cond-both P (eqb key 1) (λ e. part-answers most _ (run Layout.image-id-place (Layout.imageIdLength f) f) _ refl image) (λ e.
-      cond-both P (eqb key 2) (λ e. part-answers most 8 _ _ (inventory-run f u b) (length-run Layout.item-count-place 8 f (omega arith))) (λ e.
-      cond-both P (eqb key 3) (λ e. setting-answers most Layout.key-3-place Limits.longest-key-3 (omega arith) (w .key-3)) (λ e.
-      cond-both P (eqb key 4) (λ e. setting-answers most Layout.key-4-place Limits.longest-key-4 (omega arith) (w .key-4)) (λ e.
-      setting-answers most Layout.key-5-place Limits.longest-key-5 (omega arith) (w .key-5))))))
+      cond-both P (eqb key 0) (λ e. part-answers most 4 _ _ (u .text) (length-run Layout.pong-place 4 f (omega arith))) (λ i.
+      cond-both P (eqb key 1) (λ e. part-answers most _ (run Layout.image-id-place (Layout.imageIdLength f) f) _ refl image) (λ j.
+      cond-both P (eqb key 2) (λ e. part-answers most 8 _ _ (inventory-run f u b) (length-run Layout.item-count-place 8 f (omega arith))) (λ k.
+      let s = settings-key key i j k h in
+      rw (setting-held (p .settings) key s)
+      (setting-answers most (Layout.setting-place key) (Limits.longest-setting key) (omega (arith, place-within key s)) (w .each key s)))))
 
   -- the factory store holds bytes
   pub lookup-meant : Each Byte (p .factory) → (key most : ℕ) → let f = Local.lookup (view p) key most in
       (Calls.lookupResult (p .factory) (p .settings) key most ≡ Calls.result (f .result) (length (f .value)))
       × (Calls.lookupValue (p .factory) (p .settings) key most ≡ f .value)
   unfolding Calls.lookupResult Calls.lookupValue Local.lookup
-  lookup-meant b key most = rw (v .factory, v .settings) (choose (ltb Limits.highest-key key) (key-answers b key most))
+  lookup-meant b key most = rw (v .factory, v .settings) (choose (ltb Limits.highest-key key) (λ e. key-answers b key most (ltb-false Limits.highest-key key e)))

@@ -18,14 +18,16 @@ use Rattle.supervisor.specs.Limits
 use Rattle.supervisor.specs.Layout
 use Rattle.supervisor.specs.State.{Factory, fresh}
 use Rattle.supervisor.specs.Local
-use Rattle.supervisor.specs.Valid.{goodStart, pong}
+use Rattle.supervisor.specs.Local.{pong}
+use Rattle.supervisor.specs.Valid.{goodStart}
 use Rattle.supervisor.specs.Calls
+use Rattle.supervisor.proofs.PlaceLaws.{place-within}
 use Rattle.supervisor.proofs.StartLaws.{Roomy, roomy-is}
 use Rattle.supervisor.proofs.ValidLaws.{OutboxValid, FactoryValid, SettingValid, SettingsValid, RecordValid, RegistersValid}
 use Rattle.supervisor.proofs.ValidLaws.{all-none, start-good, valid-outbox, valid-factory, valid-settings, valid-registers}
 use Rattle.supervisor_claims.specs.View.{listed, factoryOf, settingOf, settingsOf, recordedOf, retainedOf, receivedOf, pendingOf, view}
 use Rattle.supervisor_claims.specs.Meant.{Valid}
-use Rattle.supervisor_claims.specs.laws.ViewLaws.{factory-same, Clear, length-clear, clear, overlay-middle}
+use Rattle.supervisor_claims.specs.laws.ViewLaws.{listed-same, listed-replicate, factory-same, Clear, length-clear, clear, overlay-middle}
 use Rattle.supervisor_claims.specs.laws.GoodStart.{good-bad}
 
 -- ---- parts that are clear
@@ -39,20 +41,19 @@ unfolding recordedOf
 recorded-none r at e = rw e
 
 module _ (s : List ℕ) (z : Clear 0 Layout.settings-length s) where
-  settings-none : settingsOf s ≡ record { key-3 = none; key-4 = none; key-5 = none }
+  settings-none : settingsOf s ≡ replicate Limits.setting-count none
   unfolding settingsOf
-  settings-none = rw (
-    setting-none s Layout.key-3-place (z 1 Layout.key-3-place (omega arith) (omega arith)),
-    setting-none s Layout.key-4-place (z 1 Layout.key-4-place (omega arith) (omega arith)),
-    setting-none s Layout.key-5-place (z 1 Layout.key-5-place (omega arith) (omega arith)),
-  )
+  settings-none =
+      listed-same _ (λ i. none) Limits.setting-count (λ i l.
+      let at = Layout.setting-place (Limits.first-setting + i) in
+      let h = place-within (Limits.first-setting + i) (record { least = omega arith; most = omega arith }) in
+      setting-none s at (z 1 at (omega arith) (omega (arith, h))))
+      ∙ listed-replicate none Limits.setting-count
 
   settings-clear : Layout.settings-length ≤ length s → SettingsValid s
   settings-clear h = record {
     long = h;
-    key-3 = setting-clear Layout.key-3-place Limits.longest-key-3 (omega arith);
-    key-4 = setting-clear Layout.key-4-place Limits.longest-key-4 (omega arith);
-    key-5 = setting-clear Layout.key-5-place Limits.longest-key-5 (omega arith);
+    each = λ key i. setting-clear (Layout.setting-place key) (Limits.longest-setting key) (omega (arith, place-within key i));
   }
     where
       setting-clear : (at most : ℕ) → at + Layout.setting-value-place ≤ Layout.settings-length → SettingValid s at most

@@ -5,19 +5,21 @@ use mathlib.Core.Bool.{Bool, true, false, cond, not, and-eq-true-iff, _&&_, _||_
 use mathlib.Core.Logic.{_⊎_, inl, inr}
 use mathlib.Core.List.{List, [], _∷_, _++_}
 use mathlib.Core.Option.{Option, none, some}
-use Prim.Native.Nat.{ℕ, _+_, _^_, _≤_}
+use Prim.Native.Nat.{ℕ, _+_, _-_, _^_, _≤_}
 use native.Mathlib.Nat.{add-zero}
 use native.Mathlib.Omega.{arith}
 use lib.Dec.{leb, ltb, eqb}
-use lib.ListN.{length, drop}
-use borrow.Author.Tests.{eqb-true, eqb-false, leb-true, ltb-false, not-false}
+use lib.ListN.{length, drop, length-set, length-replicate, getD-replicate}
+use lib.Seq.{getD-set-same, getD-set-other}
+use borrow.Author.Tests.{eqb-true, eqb-false, eq-eqb, ne-eqb, leb-true, le-ltb, ltb-false, not-false}
 use Rattle.octets.specs.Bytes.{number, numberAt}
 use Rattle.octets.proofs.Conditions.{cond-by, cond-both}
 use Rattle.line.specs.Message.{Message}
 use Rattle.line.specs.Judge.{Verdict, failure, good, judge}
 use Rattle.line_claims.specs.Pieces.{split, nonEmpty, nonEmpty-append, closedBy, closed-join}
 use Rattle.supervisor.specs.Limits
-use Rattle.supervisor.specs.State.{Factory, Settings, Retained, State, fresh}
+use Rattle.supervisor.specs.Limits.{SettingsKey}
+use Rattle.supervisor.specs.State.{Factory, Settings, Retained, State, setting, fresh}
 use Rattle.supervisor.specs.Local.{valueOf}
 use Rattle.requests.specs.Requests
 use Rattle.requests.specs.Requests.{Carried, known, tested, testedWhere, verdict, carried, stored, judged, sent}
@@ -26,7 +28,7 @@ use Rattle.supervisor_claims.specs.Histories.{Made}
 use Rattle.supervisor_claims.specs.laws.Progress.{local-stays}
 use Rattle.supervisor_claims.specs.laws.CallsKeep.{calls-keep}
 use Rattle.supervisor_claims.specs.FrameHistory.{joinedAll, framesBy, framed, allFramed, carriedOut, leftByFrames}
-use Rattle.supervisor_claims.specs.LastSet.{SettingsKey, three, four, five, request, requestsIn, requestsOf, valueFor, setBy, orElse, lastSet}
+use Rattle.supervisor_claims.specs.LastSet.{request, requestsIn, requestsOf, valueFor, setBy, orElse, lastSet}
 
 -- ---- the last of several
 
@@ -147,101 +149,98 @@ module _ (image : List ℕ) (s : State) (m : Message) where
 
 -- ---- what a set stores
 
--- the value of a settings key
-unfoldable pub held : Settings → ℕ → Option (List ℕ)
-held z k = cond (eqb k 3) (z .key-3) (cond (eqb k 4) (z .key-4) (z .key-5))
+-- the store has every settings key, and key k has the value o
+pub record Has (z : Settings) (k : ℕ) (o : Option (List ℕ)) : Type 0 where
+  pub long : length z ≡ Limits.setting-count
+  pub value : setting z k ≡ o
 
-pub value-held : (s : State) {k : ℕ} → SettingsKey k → valueOf s k ≡ held (s .settings) k
-unfolding valueOf held
-value-held s three = refl
-value-held s four = refl
-value-held s five = refl
+pub value-held : (s : State) {k : ℕ} → SettingsKey k → valueOf s k ≡ setting (s .settings) k
+unfolding valueOf
+value-held s {k} h = rw (ne-eqb k 0 (λ e. omega (arith, h, e)), ne-eqb k 1 (λ e. omega (arith, h, e)), ne-eqb k 2 (λ e. omega (arith, h, e)))
 
-module _ (z : Settings) (v : List ℕ) where
-  -- under the key itself
-  same-key : {k : ℕ} → SettingsKey k
-      → held (stored z k v .settings) k ≡ orElse (cond (ltb (Requests.longest k) (length v)) none (some v)) (held z k)
-  unfolding held stored Requests.withSetting
-  same-key three = cond-both (λ (x : Requests.Stored) o. x .settings .key-3 ≡ orElse o (z .key-3)) (ltb _ (length v)) (λ e. refl) (λ e. refl)
-  same-key four = cond-both (λ (x : Requests.Stored) o. x .settings .key-4 ≡ orElse o (z .key-4)) (ltb _ (length v)) (λ e. refl) (λ e. refl)
-  same-key five = cond-both (λ (x : Requests.Stored) o. x .settings .key-5 ≡ orElse o (z .key-5)) (ltb _ (length v)) (λ e. refl) (λ e. refl)
-
-  -- it is successful where its reply's result is 0
+module _ (z : Settings) (v : List ℕ) {k : ℕ} (h : SettingsKey k) where
+  -- a set is successful where its reply's result is 0
   abbrev Successful : Option (List ℕ) → Requests.Stored → Type 0
-  Successful o x = o ≡ cond (eqb (x .result) 0) (some v) none
+  Successful o y = o ≡ cond (eqb (y .result) 0) (some v) none
 
-  pub set-successful : {k : ℕ} → SettingsKey k → valueFor k (k ∷ v) ≡ cond (eqb (stored z k v .result) 0) (some v) none
+  pub set-successful : valueFor k (k ∷ v) ≡ cond (eqb (stored z k v .result) 0) (some v) none
   unfolding stored valueFor
-  set-successful three = cond-both Successful (ltb _ (length v)) (λ e. refl) (λ e. refl)
-  set-successful four = cond-both Successful (ltb _ (length v)) (λ e. refl) (λ e. refl)
-  set-successful five = cond-both Successful (ltb _ (length v)) (λ e. refl) (λ e. refl)
+  set-successful =
+      rw (eq-eqb k k refl, le-ltb Limits.highest-key k (h .most), le-ltb k Limits.first-setting (h .least))
+      (cond-both Successful (ltb (Limits.longest-setting k) (length v)) (λ e. refl) (λ e. refl))
 
-  -- under another key
-  module _ (key : ℕ) where
-    other-setting : {k : ℕ} → SettingsKey k → eqb key k ≡ false → key ≤ Limits.highest-key → 3 ≤ key → held (Requests.withSetting z key v) k ≡ held z k
-    unfolding held Requests.withSetting
-    other-setting three e most least = rw e (cond-by (λ (x : Settings). x .key-3 ≡ z .key-3) (eqb key 4) _ _ (λ f. refl) (λ f. refl))
-    other-setting four e most least = rw e (cond-by (λ (x : Settings). x .key-4 ≡ z .key-4) (eqb key 3) _ _ (λ f. refl) (λ f. refl))
-    other-setting five e most least =
-        cond-by (λ (x : Settings). x .key-5 ≡ z .key-5) (eqb key 3) _ _ (λ f. refl) (λ f.
-        cond-by (λ (x : Settings). x .key-5 ≡ z .key-5) (eqb key 4) _ _ (λ g. refl) (λ g.
-        absurd (omega (arith, eqb-false))))
-
-    other-key : {k : ℕ} → SettingsKey k → eqb key k ≡ false → held (stored z key v .settings) k ≡ held z k
+  module _ (o : Option (List ℕ)) (x : Has z k o) where
+    -- under the key itself
+    same-key : Has (stored z k v .settings) k (orElse (cond (ltb (Limits.longest-setting k) (length v)) none (some v)) o)
     unfolding stored
-    other-key {k} h e =
-        let P : Requests.Stored → Type 0 = λ x. held (x .settings) k ≡ held z k in
-        cond-by P (ltb Limits.highest-key key) _ _ (λ f. refl) (λ f.
-        cond-by P (ltb key 3) _ _ (λ g. refl) (λ g.
-        cond-by P (ltb (Requests.longest key) (length v)) _ _ (λ i. refl) (λ i.
-        other-setting h e (ltb-false _ _ f) (ltb-false _ _ g))))
+    same-key =
+        rw (le-ltb Limits.highest-key k (h .most), le-ltb k Limits.first-setting (h .least))
+        (cond-both (λ (y : Requests.Stored) p. Has (y .settings) k (orElse p o)) (ltb (Limits.longest-setting k) (length v)) (λ e. x) (λ e.
+        record {
+          long = length-set z (k - Limits.first-setting) (some v) ∙ x .long;
+          value = getD-set-same z (k - Limits.first-setting) (some v) none (omega (arith, h, x .long));
+        }))
 
-    stored-held : {k : ℕ} → SettingsKey k → held (stored z key v .settings) k ≡ orElse (valueFor k (key ∷ v)) (held z k)
+    -- under another key
+    other-key : (key : ℕ) → eqb key k ≡ false → Has (stored z key v .settings) k o
+    unfolding stored
+    other-key key e =
+        let P : Requests.Stored → Type 0 = λ y. Has (y .settings) k o in
+        cond-by P (ltb Limits.highest-key key) _ _ (λ f. x) (λ f.
+        cond-by P (ltb key Limits.first-setting) _ _ (λ g. x) (λ g.
+        cond-by P (ltb (Limits.longest-setting key) (length v)) _ _ (λ i. x) (λ i.
+        record {
+          long = length-set z (key - Limits.first-setting) (some v) ∙ x .long;
+          value =
+              getD-set-other z (key - Limits.first-setting) (k - Limits.first-setting) (some v) none (λ n.
+              eqb-false key k e (omega (arith, h, ltb-false key Limits.first-setting g, n)))
+              ∙ x .value;
+        })))
+
+    stored-has : (key : ℕ) → Has (stored z key v .settings) k (orElse (valueFor k (key ∷ v)) o)
     unfolding valueFor
-    stored-held {k} h = by (eqb key k) refl
+    stored-has key = by (eqb key k) refl
       where
-        by : (t : Bool) → eqb key k ≡ t → held (stored z key v .settings) k ≡ orElse (valueFor k (key ∷ v)) (held z k)
-        by true e = rw (e, eqb-true key k e) (same-key h)
-        by false e = rw e (other-key h e)
+        by : (t : Bool) → eqb key k ≡ t → Has (stored z key v .settings) k (orElse (valueFor k (key ∷ v)) o)
+        by true e = rw (e, eqb-true key k e) same-key
+        by false e = rw e (other-key key e)
 
 -- a key set's data
-data-held : (z : Settings) (bs : List ℕ) {k : ℕ} → SettingsKey k
-    → held (stored z (numberAt 1 bs 0) (drop 1 bs) .settings) k ≡ orElse (valueFor k bs) (held z k)
+data-has : (z : Settings) (bs : List ℕ) {k : ℕ} → SettingsKey k → (o : Option (List ℕ)) → Has z k o
+    → Has (stored z (numberAt 1 bs 0) (drop 1 bs) .settings) k (orElse (valueFor k bs) o)
 unfolding number stored valueFor
-data-held z [] h = refl
-data-held z (key ∷ v) h = rw add-zero (stored-held z v key h)
+data-has z [] h o x = x
+data-has z (key ∷ v) h o x = rw add-zero (stored-has z v h o x key)
 
 -- ---- requests and frames
 
 module _ (image : List ℕ) {k : ℕ} (h : SettingsKey k) where
-  request-held : (s : State) (m : Message) → known (m .command) ≡ true
-      → held (carried image s m .state .settings) k ≡ orElse (setBy k m) (held (s .settings) k)
+  request-has : (s : State) (m : Message) → known (m .command) ≡ true → (o : Option (List ℕ)) → Has (s .settings) k o
+      → Has (carried image s m .state .settings) k (orElse (setBy k m) o)
   unfolding setBy
-  request-held s m listed = by (eqb (m .command) 0x10) refl
+  request-has s m listed o x = by (eqb (m .command) 0x10) refl
     where
-      by : (t : Bool) → eqb (m .command) 0x10 ≡ t
-          → held (carried image s m .state .settings) k ≡ orElse (setBy k m) (held (s .settings) k)
-      by true e = rw (e, set-stored image s m e) (data-held (s .settings) (m .payload) h)
-      by false e = rw (e, other-kept image s m listed e .settings)
+      by : (t : Bool) → eqb (m .command) 0x10 ≡ t → Has (carried image s m .state .settings) k (orElse (setBy k m) o)
+      by true e = rw (e, set-stored image s m e) (data-has (s .settings) (m .payload) h o x)
+      by false e = rw (e, other-kept image s m listed e .settings) x
 
-  judged-held : (s : State) (v : Verdict) → Listed v
-      → held (judged image s v .settings) k ≡ orElse (lastSet k (request v [])) (held (s .settings) k)
+  judged-has : (s : State) (v : Verdict) → Listed v → (o : Option (List ℕ)) → Has (s .settings) k o
+      → Has (judged image s v .settings) k (orElse (lastSet k (request v [])) o)
   unfolding judged sent lastSet
-  judged-held s (failure reason sequence) listed = refl
-  judged-held s (good m) listed = request-held s m listed
+  judged-has s (failure reason sequence) listed o x = x
+  judged-has s (good m) listed o x = request-has s m listed o x
 
-  pub frames-held : (fs : List (List ℕ)) (s : State) → let gs = nonEmpty fs in
-      held (allFramed image s gs .settings) k ≡ orElse (lastSet k (requestsIn gs)) (held (s .settings) k)
+  pub frames-have : (fs : List (List ℕ)) (s : State) (o : Option (List ℕ)) → Has (s .settings) k o → let gs = nonEmpty fs in
+      Has (allFramed image s gs .settings) k (orElse (lastSet k (requestsIn gs)) o)
   unfolding nonEmpty allFramed framed requestsIn lastSet
-  frames-held [] s = refl
-  frames-held ([] ∷ fs) s = frames-held fs s
-  frames-held ((b ∷ bs) ∷ fs) s =
+  frames-have [] s o x = x
+  frames-have ([] ∷ fs) s o x = frames-have fs s o x
+  frames-have ((b ∷ bs) ∷ fs) s o x =
       let v = verdict (b ∷ bs) in
       let r = requestsIn (nonEmpty fs) in
-      let x = lastSet k (request v []) in
-      let y = held (s .settings) k in
-      let z : lastSet k (request v r) ≡ orElse (lastSet k r) x = rw (request-append v [] r) (last-append k (request v []) r) in
-      frames-held fs (judged image s v) ∙ rw (judged-held s v (verdict-listed (b ∷ bs)), z) (sym (or-else-assoc (lastSet k r) x y))
+      let y = lastSet k (request v []) in
+      let z : lastSet k (request v r) ≡ orElse (lastSet k r) y = rw (request-append v [] r) (last-append k (request v []) r) in
+      rw (z, or-else-assoc (lastSet k r) y o) (frames-have fs (judged image s v) (orElse y o) (judged-has s v (verdict-listed (b ∷ bs)) o x))
 
 -- ---- received bytes and calls
 
@@ -256,25 +255,23 @@ frames-owing image ((b ∷ bs) ∷ fs) s =
 
 -- key k holds the value of its last successful set among the requests of the bytes w
 abbrev pub Holds : ℕ → List ℕ → State → Type 0
-Holds k w s = held (s .settings) k ≡ lastSet k (requestsOf w)
+Holds k w s = Has (s .settings) k (lastSet k (requestsOf w))
 
 module _ {k : ℕ} (h : SettingsKey k) where
   -- none was set yet
   pub fresh-holds : (f : Factory) → Holds k [] (fresh f)
-  unfolding fresh held split nonEmpty requestsOf requestsIn lastSet
-  fresh-holds f = by h
-    where
-      by : {j : ℕ} → SettingsKey j → held (fresh f .settings) j ≡ none
-      by three = refl
-      by four = refl
-      by five = refl
+  unfolding fresh split nonEmpty requestsOf requestsIn lastSet
+  fresh-holds f = record {
+    long = length-replicate {A = Option (List ℕ)} Limits.setting-count none;
+    value = getD-replicate Limits.setting-count (k - Limits.first-setting) none none (omega (arith, h));
+  }
 
   module _ (w : List ℕ) (s : State) (x : Holds k w s) where
     pub frames-hold : (image bs : List ℕ) → Holds k (w ++ bs) (allFramed image s (framesBy w bs))
     unfolding framesBy
     frames-hold image bs =
-        frames-held image h (closedBy w bs) s
-        ∙ rw (x, requests-behind w bs, last-append k (requestsOf w) (requestsIn (framesBy w bs)))
+        rw (requests-behind w bs, last-append k (requestsOf w) (requestsIn (framesBy w bs)))
+        (frames-have image h (closedBy w bs) s _ x)
 
   -- the same with the receive progress behind them
   bytes-hold : (w : List ℕ) (s : State) → Holds k w s → (image bs : List ℕ) → Holds k (w ++ bs) (carriedOut image w s bs)

@@ -118,9 +118,7 @@ module _ (X : ℕ → Type 0) (most : ℕ) where
       cond-by P (eqb key 0) _ _ (λ e. sized-held 4) (λ e.
       cond-by P (eqb key 1) _ _ (λ e. sized-held (Layout.imageIdLength f)) (λ e.
       cond-by P (eqb key 2) _ _ (λ e. sized-held 8) (λ e.
-      cond-by P (eqb key 3) _ _ (λ e. setting-held s Layout.key-3-place) (λ e.
-      cond-by P (eqb key 4) _ _ (λ e. setting-held s Layout.key-4-place) (λ e.
-      setting-held s Layout.key-5-place)))))
+      setting-held s (Layout.setting-place key))))
 
 -- a refusal, where there is one: its number is not 12, and nothing has changed
 abbrev Other : Parts → Call → Did → Type 0

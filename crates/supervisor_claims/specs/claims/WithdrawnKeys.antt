@@ -15,6 +15,7 @@ use Rattle.line.specs.Judge.{good}
 use Rattle.line.specs.Cobs
 use Rattle.line_claims.specs.Pieces.{split}
 use Rattle.supervisor.specs.Limits
+use Rattle.supervisor.specs.Limits.{SettingsKey}
 use Rattle.supervisor.specs.State.{State, fresh}
 use Rattle.supervisor.specs.Local
 use Rattle.supervisor.specs.Calls.{Parts}
@@ -27,16 +28,11 @@ use Rattle.supervisor_claims.specs.claims.InOrder.{request-carried}
 use Rattle.supervisor_claims.specs.laws.Progress.{Since}
 use Rattle.supervisor_claims.specs.FrameHistory.{framesBy, joinedAll, framed, allFramed}
 use Rattle.supervisor_claims.specs.claims.FramesClaim.{stream-closes, by-frames}
-use Rattle.supervisor_claims.specs.LastSet.{SettingsKey, three, four, five, requestsOf, lastSet, lookupOf, lookupReply}
+use Rattle.supervisor_claims.specs.LastSet.{requestsOf, lastSet, lookupOf, lookupReply}
 use Rattle.supervisor_claims.specs.claims.LastSetLaws.{value-held, frames-owing, Holds, fresh-holds, frames-hold, calls-hold}
 use Rattle.supervisor_claims.specs.claims.History.{history, one-call}
 
 -- ---- a lookup carried out
-
-within-highest : {k : ℕ} → SettingsKey k → k ≤ Limits.highest-key
-within-highest three = omega arith
-within-highest four = omega arith
-within-highest five = omega arith
 
 -- key and maxresponse in a lookup's data
 lookup-data : (k most : ℕ) → k < 256 → most < 65536 → let bs = bytes 1 k ++ bytes 2 most in (numberAt 1 bs 0 ≡ k) × (numberAt 2 bs 1 ≡ most)
@@ -45,14 +41,14 @@ lookup-data k most h i = (number-bytes 1 k (omega arith), number-bytes 2 most (o
 
 found-value : (s : State) (most : ℕ) {k : ℕ} → SettingsKey k → Local.lookup s k most ≡ Local.fitted most (Local.valueOf s k)
 unfolding Local.lookup
-found-value s most {k} h = rw (le-ltb Limits.highest-key k (within-highest h))
+found-value s most {k} h = rw (le-ltb Limits.highest-key k (h .most))
 
 -- the reply's frame
 reply-found : (image : List ℕ) (s : State) (n most : ℕ) {k : ℕ} → SettingsKey k → most < 65536
     → replyFrame (replyOf n (carried image s (lookupOf n k most) .reply)) ≡ lookupReply n most (Local.valueOf s k)
 unfolding carried replyOf replyFrame lookupReply
 reply-found image s n most {k} h i =
-    let m = within-highest h in
+    let m = h .most in
     let e = lookup-data k most (omega arith) i in
     rw (e .0, e .1, found-value s most h)
 
@@ -74,7 +70,7 @@ stream-answers h w s since holds image bs n most i e =
     let a = allFramed image s (framesBy w bs) in
     ap (λ (x : State). x .pending) (stream-closes w s since image bs)
     ∙ framed-pending image a (split (w ++ bs) .rest) (lookupOf n _ most) e
-    ∙ rw (reply-found image a n most h i, value-held a h, frames-hold h w s holds image bs, frames-owing image (framesBy w bs) s)
+    ∙ rw (reply-found image a n most h i, value-held a h, frames-hold h w s holds image bs .value, frames-owing image (framesBy w bs) s)
 
 -- ---- the claims: a start that is accepted, on any bytes, then any calls
 
@@ -94,7 +90,7 @@ module _ (p : Parts) (b : Bytes p) (l : Lent) (d : List ℕ) (typed : Typed (His
 
   -- a settings key has the value of its last successful set in the bytes received since the last accepted start, and none where there is none
   pub value-last-set : {k : ℕ} → SettingsKey k → Local.valueOf (view (reached p l d ms)) k ≡ lastSet k (requestsOf (joinedAll [] ms))
-  value-last-set h = rw (history p b l d typed accepted ms t .1) (value-held state h ∙ state-holds h)
+  value-last-set h = rw (history p b l d typed accepted ms t .1) (value-held state h ∙ state-holds h .value)
 
   -- A lookup over the wire: the bytes bs and a 00 are received, and the frame that this 00 closes is the lookup. The requests before it are those of all bytes
   -- received before that 00. Then its reply is pending, behind a 00 where one is owed. Cutting the stream elsewhere changes nothing (`cut-any`), and a step is
@@ -118,7 +114,7 @@ module _ (p : Parts) (b : Bytes p) (l : Lent) (d : List ℕ) (typed : Typed (His
       → let w = joinedAll [] ms ++ bs in verdict (split w .rest) ≡ good (lookupOf n 5 most)
       → let q = reached p l d ms in let r = made q (record { lent = j; call = call }) in
       (r .answer ≡ done) × (view (r .parts) .pending ≡ owed (view q .owing) ++ lookupReply n most (lastSet 5 (requestsOf w)))
-  withdrawn-list-answered n most = last-set five n most
+  withdrawn-list-answered n most = last-set {k = 5} (record { least = omega arith; most = omega arith }) n most
 
   -- a lookup by the local call: the same results
   pub lookup-last-set : {k : ℕ} → SettingsKey k → (most : ℕ) → most < 65536 → (j : Lent) → enough (Histories.local (Histories.lookup k most)) j ≡ true
@@ -127,7 +123,7 @@ module _ (p : Parts) (b : Bytes p) (l : Lent) (d : List ℕ) (typed : Typed (His
       (r .answer ≡ found (f .result) (length (f .value))) × (r .out ≡ f .value)
   unfolding meantMade meant
   lookup-last-set {k} h most i j e =
-      let m = within-highest h in
+      let m = h .most in
       let q = reached p l d ms in
       let meets = rw e at (one-call q (record { lent = j; call = Histories.local (Histories.lookup k most) }) (history p b l d typed accepted ms t .2) (omega arith, i)) in
       rw (meets .answer, meets .out, found-value (view q) most h, value-last-set h) (refl, refl)

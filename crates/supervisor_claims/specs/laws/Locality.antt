@@ -27,10 +27,11 @@ use Rattle.supervisor.proofs.ValidLaws.{OutboxValid, FactoryValid, SettingsVali
 use Rattle.supervisor.proofs.ValidLaws.{outbox-valid, valid-outbox, factory-valid, valid-factory, settings-valid, valid-settings, registers-valid}
 use Rattle.supervisor.proofs.ValidLaws.{start-good, good-start}
 use Rattle.supervisor.proofs.KeptRegisters.{groups-valid, numbers-kept, flags-kept, failure-kept, panic-kept, waiting-kept, retained-kept}
+use Rattle.supervisor.proofs.PlaceLaws.{place-within}
 use Rattle.requests.proofs.KeptLaws.{setting-kept}
 use Rattle.supervisor_claims.specs.ByPart.{Part, published, part, Every, every, of, part-by, every-by, parts-same, published-some}
 use Rattle.supervisor_claims.specs.View.{factoryOf, settingsOf, receivedOf, pendingOf, view}
-use Rattle.supervisor_claims.specs.laws.ViewLaws.{factory-same}
+use Rattle.supervisor_claims.specs.laws.ViewLaws.{listed-same, factory-same}
 use Rattle.supervisor_claims.specs.laws.GoodStart.{good-bad}
 use Rattle.supervisor_claims.specs.laws.SettingLaws.{setting-same}
 use Rattle.supervisor_claims.specs.laws.RegisterLaws.{recorded-same, retained-same, alerts-same}
@@ -100,20 +101,17 @@ module _ {s t : List ℕ} (same : Same 0 Layout.settings-length s t) (v : Settin
   values-alike : settingsOf t ≡ settingsOf s
   unfolding settingsOf
   values-alike =
-      rw (
-        setting-same same Layout.key-3-place Limits.longest-key-3 (v .key-3) (omega arith),
-        setting-same same Layout.key-4-place Limits.longest-key-4 (v .key-4) (omega arith),
-        setting-same same Layout.key-5-place Limits.longest-key-5 (v .key-5) (omega arith),
-      )
+      listed-same _ _ Limits.setting-count (λ i l.
+      let key = Limits.first-setting + i in
+      let h : Limits.SettingsKey key = record { least = omega arith; most = omega arith } in
+      setting-same same (Layout.setting-place key) (Limits.longest-setting key) (v .each key h) (omega (arith, place-within key h)))
 
   settings-alike : Layout.settings-length ≤ length t → validSettings t ≡ true
   settings-alike h =
       valid-settings t
       (record {
         long = h;
-        key-3 = setting-kept (same-within same (omega arith)) (v .key-3);
-        key-4 = setting-kept (same-within same (omega arith)) (v .key-4);
-        key-5 = setting-kept (same-within same (omega arith)) (v .key-5);
+        each = λ key i. setting-kept (same-within same (omega (arith, place-within key i))) (v .each key i);
       })
 
 -- ---- the registers

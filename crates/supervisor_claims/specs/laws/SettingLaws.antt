@@ -1,12 +1,13 @@
 -- The settings store after a key set: what is stored, what stays, and the result, as the meaning has them.
 -- Assumes nothing.
 use mathlib.Core.Path.{_≡_, refl}
-use mathlib.Core.Bool.{Bool, true, false, cond}
+use mathlib.Core.Logic.{inl, inr}
+use mathlib.Core.Bool.{cond}
 use mathlib.Core.List.{List}
 use mathlib.Core.Option.{some}
-use Prim.Native.Nat.{ℕ, _+_, _≤_, _<_}
+use Prim.Native.Nat.{ℕ, _+_, _-_, _≤_, _<_}
 use native.Mathlib.Omega.{arith}
-use lib.Dec.{ltb, eqb}
+use lib.Dec.{ltb}
 use lib.ListN.{length}
 use borrow.Author.Tests.{ltb-false}
 use Rattle.octets.specs.Bytes.{Byte, Each}
@@ -14,12 +15,14 @@ use Rattle.octets.proofs.Conditions.{cond-both}
 use Rattle.octets.proofs.SameBytes.{Same, number-same}
 use Rattle.supervisor.specs.Limits
 use Rattle.supervisor.specs.Layout
-use Rattle.supervisor.specs.State.{Settings}
+use Rattle.supervisor.specs.State.{Settings, withSetting}
+use Rattle.supervisor.proofs.PlaceLaws.{place-within, Lies, setting-lies}
 use Rattle.supervisor.proofs.ValidLaws.{SettingValid, SettingsValid}
 use Rattle.requests.specs.Requests
 use Rattle.requests.specs.Receive
-use Rattle.requests.proofs.KeptLaws.{settingBytes, length-setting, setting-before, setting-after, setting-held, setting-size, setting-value}
+use Rattle.requests.proofs.KeptLaws.{length-setting, setting-before, setting-after, setting-held, setting-size, setting-value, value-room, value-small}
 use Rattle.supervisor_claims.specs.View.{settingOf, settingsOf}
+use Rattle.supervisor_claims.specs.laws.ViewLaws.{listed-set}
 use Rattle.supervisor_claims.specs.laws.PartLaws.{Like, like-itself, like-put, each-number}
 
 -- ---- the view of a value that was put
@@ -75,49 +78,34 @@ module _ (s v : List ℕ) (w : SettingsValid s) (each : Each Byte v) where
         settings = e l;
         result = refl;
         small = omega arith;
-        like = like-put at (settingBytes v) s (omega (arith, length-setting v)) (λ _. each-number 1 1 _ (each-number 2 (length v) v each));
+        like = like-put at (Layout.settingBytes v) s (omega (arith, length-setting v)) (λ _. each-number 1 1 _ (each-number 2 (length v) v each));
       })
 
-  abbrev one : (t u : Bool) → Settings
-  one t u =
-      let z = settingsOf s in
-      cond t (record { key-3 = some v; key-4 = z .key-4; key-5 = z .key-5 })
-      (cond u (record { key-3 = z .key-3; key-4 = some v; key-5 = z .key-5 })
-      (record { key-3 = z .key-3; key-4 = z .key-4; key-5 = some v }))
+  -- of a key
+  module _ (key : ℕ) (h : Limits.SettingsKey key) (short : length v ≤ Limits.longest-setting key) where
+    abbrev after : List ℕ
+    after = Receive.withValue s (Layout.setting-place key) v
 
-  -- by whether the key is 3, and whether it is 4
-  stored-one : (t u : Bool)
-      → Stores s
-      (cond t (Receive.storingAt s Layout.key-3-place Limits.longest-key-3 v)
-      (cond u (Receive.storingAt s Layout.key-4-place Limits.longest-key-4 v)
-      (Receive.storingAt s Layout.key-5-place Limits.longest-key-5 v)))
-      (cond (ltb (cond t Limits.longest-key-3 (cond u Limits.longest-key-4 Limits.longest-key-5)) (length v)) (told 3 (settingsOf s)) (told 0 (one t u)))
-  unfolding settingsOf
-  stored-one true u =
-      stored-at Layout.key-3-place Limits.longest-key-3 (one true u) (omega arith) (λ l.
-      rw (
-        put-setting s v Layout.key-3-place (omega arith) (omega arith),
-        after-value s v Layout.key-3-place (omega arith) (w .key-4) (omega arith),
-        after-value s v Layout.key-3-place (omega arith) (w .key-5) (omega arith),
-      ))
-  stored-one false true =
-      stored-at Layout.key-4-place Limits.longest-key-4 (one false true) (omega arith) (λ l.
-      rw (
-        before-value s v Layout.key-4-place (omega arith) (w .key-3) (omega arith),
-        put-setting s v Layout.key-4-place (omega arith) (omega arith),
-        after-value s v Layout.key-4-place (omega arith) (w .key-5) (omega arith),
-      ))
-  stored-one false false =
-      stored-at Layout.key-5-place Limits.longest-key-5 (one false false) (omega arith) (λ l.
-      rw (
-        before-value s v Layout.key-5-place (omega arith) (w .key-3) (omega arith),
-        before-value s v Layout.key-5-place (omega arith) (w .key-4) (omega arith),
-        put-setting s v Layout.key-5-place (omega arith) (omega arith),
-      ))
+    other-value : (j : ℕ) → Limits.SettingsKey j → Lies j key → (j ≡ key → ⊥)
+        → settingOf after (Layout.setting-place j) ≡ settingOf s (Layout.setting-place j)
+    other-value j i (inl l) n = before-value s v (Layout.setting-place key) (value-room s v w key h short) (w .each j i) (omega arith)
+    other-value j i (inr (inl e)) n = absurd (n e)
+    other-value j i (inr (inr l)) n = after-value s v (Layout.setting-place key) (value-room s v w key h short) (w .each j i) (omega arith)
+
+    pub settings-put : settingsOf after ≡ withSetting (settingsOf s) key v
+    unfolding settingsOf
+    settings-put =
+        let e : Limits.first-setting + (key - Limits.first-setting) ≡ key = omega (arith, h) in
+        listed-set _ _ (some v) Limits.setting-count (key - Limits.first-setting) (omega (arith, h))
+        (rw e (put-setting s v (Layout.setting-place key) (value-room s v w key h short) (value-small s v w key h short)))
+        (λ j l n.
+        let i : Limits.SettingsKey (Limits.first-setting + j) = record { least = omega arith; most = omega arith } in
+        other-value (Limits.first-setting + j) i (setting-lies (Limits.first-setting + j) key i h) (λ o. n (omega (arith, o))))
 
   pub storing-stored : (key : ℕ) → Stores s (Receive.storing s key v) (Requests.stored (settingsOf s) key v)
-  unfolding Receive.storing Requests.stored Requests.withSetting
+  unfolding Receive.storing Requests.stored
   storing-stored key =
       cond-both (Stores s) (ltb Limits.highest-key key) (λ e. unstored 1 (omega arith)) (λ e.
-      cond-both (Stores s) (ltb key 3) (λ f. unstored 2 (omega arith)) (λ f.
-      stored-one (eqb key 3) (eqb key 4)))
+      cond-both (Stores s) (ltb key Limits.first-setting) (λ f. unstored 2 (omega arith)) (λ f.
+      let h : Limits.SettingsKey key = record { least = ltb-false key Limits.first-setting f; most = ltb-false Limits.highest-key key e } in
+      stored-at _ _ _ (place-within key h) (settings-put key h)))

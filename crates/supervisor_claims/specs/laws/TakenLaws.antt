@@ -27,18 +27,13 @@ use Rattle.requests.specs.Requests
 use Rattle.requests.specs.Receive
 use Rattle.supervisor_claims.specs.View.{listed, alertOf, retainedOf, view}
 use Rattle.supervisor_claims.specs.Meant.{Valid, withRegisters}
-use Rattle.supervisor_claims.specs.laws.ViewLaws.{length-listed, listed-same}
+use Rattle.supervisor_claims.specs.laws.ViewLaws.{length-listed, listed-same, listed-first}
 use Rattle.supervisor_claims.specs.laws.PartLaws.{Like, like-itself, like-then, like-put, like-stored, each-number}
 use Rattle.supervisor_claims.specs.laws.RegisterLaws.{alertsOf, recorded-same}
 
 -- ---- the first of some values, and the others
 
 module _ {A : Type 0} where
-  listed-first : (f : ℕ → A) (n : ℕ) → listed f (suc n) ≡ f 0 ∷ listed (λ i. f (suc i)) n
-  unfolding listed
-  listed-first f zero = refl
-  listed-first f (suc n) = rw (listed-first f n)
-
   listed-others : (f : ℕ → A) (n : ℕ) → listed (λ i. f (suc i)) (n - 1) ≡ drop 1 (listed f n)
   unfolding listed
   listed-others f zero = refl

@@ -6,7 +6,7 @@ use Prim.Native.Nat.{ℕ, zero, suc, _+_, _-_, _≤_, _<_, min}
 use native.Mathlib.Nat.{zero-add}
 use native.Mathlib.Numerals.{add-one}
 use native.Mathlib.Omega.{arith}
-use lib.ListN.{length, take, drop, replicate, length-append, length-replicate}
+use lib.ListN.{length, take, drop, getD, set, replicate, length-append, length-replicate}
 use lib.Seq.{take-nil, take-at, drop-drop, drop-at, drop-append-add}
 use Rattle.octets.specs.Bytes.{Each, number, run, numberAt, overlay}
 use Rattle.octets.proofs.Each.{each-take, each-drop}
@@ -29,6 +29,35 @@ module _ {A : Type 0} (f : ℕ → A) where
   unfolding listed
   listed-same g zero e = refl
   listed-same g (suc n) e = rw (listed-same g n (λ i l. e i (omega arith)), e n (omega arith))
+
+module _ {A : Type 0} where
+  pub listed-first : (f : ℕ → A) (n : ℕ) → listed f (suc n) ≡ f 0 ∷ listed (λ i. f (suc i)) n
+  unfolding listed
+  listed-first f zero = refl
+  listed-first f (suc n) = rw (listed-first f n)
+
+  pub listed-at : (f : ℕ → A) (d : A) (n i : ℕ) → i < n → getD (listed f n) i d ≡ f i
+  listed-at f d zero i h = absurd (omega arith)
+  listed-at f d (suc n) zero h = rw (listed-first f n)
+  listed-at f d (suc n) (suc i) h = rw (listed-first f n) (listed-at (λ j. f (suc j)) d n i (omega arith))
+
+  -- one value is another
+  pub listed-set : (f g : ℕ → A) (x : A) (n i : ℕ) → i < n → g i ≡ x → ((j : ℕ) → j < n → (j ≡ i → ⊥) → g j ≡ f j) → listed g n ≡ set (listed f n) i x
+  listed-set f g x zero i h e k = absurd (omega arith)
+  listed-set f g x (suc n) zero h e k =
+      rw (listed-first f n, listed-first g n, e, listed-same (λ j. g (suc j)) (λ j. f (suc j)) n (λ j l. k (suc j) (omega arith) (λ m. omega (arith, m))))
+  listed-set f g x (suc n) (suc i) h e k =
+      rw (
+        listed-first f n,
+        listed-first g n,
+        k 0 (omega arith) (λ m. omega (arith, m)),
+        listed-set (λ j. f (suc j)) (λ j. g (suc j)) x n i (omega arith) e (λ j l m. k (suc j) (omega arith) (λ o. m (omega (arith, o)))),
+      )
+
+  pub listed-replicate : (x : A) (n : ℕ) → listed (λ i. x) n ≡ replicate n x
+  unfolding listed
+  listed-replicate x zero = refl
+  listed-replicate x (suc n) = rw (listed-first (λ i. x) n, listed-replicate x n)
 
 -- ---- the beginning and the end of a list or a run
 

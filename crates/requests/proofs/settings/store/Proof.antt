@@ -1,8 +1,12 @@
 -- `requests::settings::store` meets its contract.
 -- Assumes nothing.
+use Prim.Native.Nat.{ℕ, _+_, _≤_}
 use borrow.Author.Needs.{needs}
+use Rattle.supervisor.specs.Limits.{first-setting, highest-key, longest-setting}
+use Rattle.supervisor.specs.Layout.{setting-place, setting-value-place, settings-length}
 use Rattle.requests.specs.Receive.{storing}
 use Rattle.supervisor.proofs.Cases.{cases}
+use Rattle.supervisor.proofs.PlaceLaws.{place-within}
 use Rattle.requests.proofs.settings.store.Statement.{statement}
 use Rattle.requests.proofs.settings.store.Tie as tie
 
@@ -16,17 +20,20 @@ returns-2 c = search cases
 
 returns-3 : tie.Need-returns-3
 unfolding storing
-returns-3 c = search (cases, c .before .before .store-at .ensures)
+returns-3 c =
+    let stored = c .before .before in
+    search (cases, stored .store-at .ensures, stored .before .longest-setting .ensures .0, stored .before .before .before .setting-place .ensures .0)
 
-returns-4 : tie.Need-returns-4
-unfolding storing
-returns-4 c = search (cases, c .before .before .store-at2 .ensures)
+-- the setting of a settings key lies in the store
+within : (key : ℕ) → first-setting ≤ key → key ≤ highest-key → setting-place key + (setting-value-place + longest-setting key) ≤ settings-length
+within key h k = place-within key (record { least = h; most = k })
 
-returns-5 : tie.Need-returns-5
-unfolding storing
-returns-5 c = search (cases, c .before .before .store-at3 .ensures)
+store-at-requires : tie.Need-store-at-requires
+store-at-requires c κs =
+    let settable = c .before .before .before in
+    let l = within _ (settable .if2 .left) (settable .before .if1 .left) in
+    search needs
 
 pub store-spec : {M : Type 1} → statement M
 store-spec = tie.close (tie.spec
-    returns returns-2 (λ c κs. search needs) (λ c. search needs) returns-3 (λ c κs. search needs) (λ c. search needs)
-    returns-4 (λ c κs. search needs) (λ c. search needs) returns-5)
+    returns returns-2 (λ c κs. search needs) (λ c κs. search needs) store-at-requires (λ c. search needs) returns-3)

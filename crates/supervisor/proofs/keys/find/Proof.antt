@@ -20,19 +20,10 @@ returns-3 c = search cases
 
 returns-4 : tie.Need-returns-4
 unfolding placeOf
-returns-4 c = search (cases, c .setting .ensures)
-
-returns-5 : tie.Need-returns-5
-unfolding placeOf
-returns-5 c = search (cases, c .setting2 .ensures)
-
-returns-6 : tie.Need-returns-6
-unfolding placeOf
-returns-6 c = search (cases, c .setting3 .ensures)
+returns-4 c = search (cases, c .setting .ensures, c .before .setting-place .ensures .0)
 
 pub find-spec : {M : Type 1} → statement M
 find-spec =
     tie.close
     (tie.spec
-    returns (λ c κs. search needs) returns-2 returns-3 (λ c κs. search needs) returns-4 (λ c κs. search needs) returns-5
-    (λ c κs. search needs) returns-6)
+    returns (λ c κs. search needs) returns-2 returns-3 (λ c κs. search needs) (λ c κs. search needs) returns-4)

@@ -1,0 +1,42 @@
+-- `valid::values_are_valid` meets its contract. The loop's invariant: the settings before i are valid.
+-- Assumes nothing.
+use mathlib.Core.Path.{_≡_}
+use mathlib.Core.Bool.{true}
+use Prim.Native.Nat.{_-_, _≤_}
+use borrow.Author.Needs.{needs}
+use Rattle.supervisor.specs.Limits.{setting-count}
+use Rattle.supervisor.specs.Valid.{validValues}
+use Rattle.supervisor.proofs.ValidLaws.{untrue, passed, failed, all-none, all-more, all-done, all-each}
+use Rattle.supervisor.proofs.valid.values_are_valid.Statement.{statement}
+use Rattle.supervisor.proofs.valid.values_are_valid.Tie as tie
+
+abbrev Inv-loop : tie.InvT-loop
+Inv-loop s i₀ i = (i ≤ setting-count) × (validValues s i ≡ true)
+
+abbrev μ-loop : tie.MeasureT-loop
+μ-loop s i₀ i = setting-count - i
+
+returns : tie.Need-returns Inv-loop μ-loop
+returns c =
+    let longest = c .before .before in
+    untrue _ (λ e.
+    failed _ _ (c .before .setting-is-valid .ensures) (c .if1 .taken)
+    (rw (longest .before .setting-place .ensures .0, longest .longest-setting .ensures .0)
+    (all-each _ _ e _ (longest .before .before .loop-test .taken))))
+
+loop-again : tie.Need-loop-again Inv-loop μ-loop
+loop-again c =
+    let longest = c .before .before in (
+      search needs,
+      all-more _ _ (longest .before .before .before .loop .inv .1)
+          (rw (← longest .before .setting-place .ensures .0, ← longest .longest-setting .ensures .0)
+          (passed _ _ (c .before .setting-is-valid .ensures) (c .if1 .left))),
+    )
+
+pub values-are-valid-spec : {M : Type 1} → statement M
+values-are-valid-spec =
+    tie.close
+    (tie.spec
+    Inv-loop μ-loop (λ c. (search needs, all-none _)) (λ c. search needs) (λ c κs. search needs) (λ c κs. search needs)
+    (λ c κs. search needs) returns (λ c. search needs) (λ c. search needs) loop-again
+    (λ c. all-done _ _ _ (c .before .loop .inv .0) (c .loop-test .left) (c .before .loop .inv .1)))
