@@ -164,7 +164,7 @@ def reasons():
     answered = arms(library(link=False))
     tested = read('crates/requests/specs/Requests.antt')
     found = {name: the_one(name, (int(reason) for _, reason in answered[f'Answer::Bad{name.title()}'])) for name in ('FORM', 'CHECKSUM', 'LENGTH', 'MAGIC')}
-    for name, test in (('VERSION', r'\(m \.version\) 1\)\)'), ('SEQUENCE', r'leb \(2 \^ 63\) \(m \.sequence\)\)'), ('DATA', r'lengthAllowed [^\n]*\)\)')):
+    for name, test in (('VERSION', r'\(m \.version\) protocol-version\)\)'), ('SEQUENCE', r'leb \(2 \^ 63\) \(m \.sequence\)\)'), ('DATA', r'lengthAllowed [^\n]*\)\)')):
         found[name] = the_one(name, map(int, re.findall(test + r' \(failure (\d+) ', tested)))
     return {f'REASON_{name}': number for name, number in found.items()}
 

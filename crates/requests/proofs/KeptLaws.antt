@@ -22,7 +22,6 @@ use Rattle.line.proofs.FrameLength.{frame-fits}
 use Rattle.supervisor.specs.Limits
 use Rattle.supervisor.specs.Layout
 use Rattle.supervisor.specs.Local
-use Rattle.supervisor.specs.Number.{topSet}
 use Rattle.supervisor.specs.Valid.{validOutbox, validFactory, validSettings, validAlert, validRegisters}
 use Rattle.supervisor.proofs.KeyLaws.{value-short}
 use Rattle.supervisor.proofs.PlaceLaws.{place-within, longest-short, Lies, setting-lies}
@@ -453,17 +452,17 @@ alert-data-short r sequence v =
     run-short (Layout.retained-alert-place + Layout.alert-action-place) (1 + Layout.alertTextLength s Layout.retained-alert-place) (1 + Limits.longest-alert) s (omega arith)
 
 -- a reply with data that a message may have, with one byte, and to a request that changes no more than the pending reply
-pub reply-short : (sequence command : ℕ) (payload : List ℕ) → length payload ≤ longest-data
-    → length (Receive.replyBytes sequence command payload) ≤ longest-form + 1
-reply-short sequence command payload h = frame-fits (Receive.messageBy 1 sequence command payload) h
+pub reply-short : (reply : Receive.Head) (command : ℕ) (payload : List ℕ) → length payload ≤ longest-data
+    → length (Receive.replyBytes reply command payload) ≤ longest-form + 1
+reply-short reply command payload h = frame-fits (Receive.messageBy (reply .version) (reply .number .0) command payload) h
 
-pub byte-reply-short : (sequence command n : ℕ) → length (Receive.replyBytes sequence command (bytes 1 n)) ≤ longest-form + 1
-byte-reply-short sequence command n = reply-short sequence command (bytes 1 n) (rw length-bytes (omega arith))
+pub byte-reply-short : (reply : Receive.Head) (command n : ℕ) → length (Receive.replyBytes reply command (bytes 1 n)) ≤ longest-form + 1
+byte-reply-short reply command n = reply-short reply command (bytes 1 n) (rw length-bytes (omega arith))
 
 abbrev Short : List ℕ → Type 0
 Short l = length l ≤ longest-form + 1
 
-pub asked-short : (image f s r : List ℕ) (reply command : ℕ) (d : List ℕ) → validFactory f ≡ true → validSettings s ≡ true
+pub asked-short : (image f s r : List ℕ) (reply : Receive.Head) (command : ℕ) (d : List ℕ) → validFactory f ≡ true → validSettings s ≡ true
     → length (Receive.askedBytes image f s r reply command d) ≤ longest-form + 1
 unfolding Receive.askedBytes
 asked-short image f s r reply command d v w =
@@ -499,14 +498,14 @@ changed-valid : (o bs s r : List ℕ) → validOutbox o ≡ true → length bs �
     → Receive.validInner (Receive.inner (Receive.sentBox bs o) s r) ≡ true
 changed-valid o bs s r v h k l = valid-inner _ (record { outbox = box-valid o bs v h; settings = k; registers = l })
 
-pub answering-valid : (i : Receive.Inner) (sequence command : ℕ) (payload : List ℕ) → Receive.validInner i ≡ true → length payload ≤ longest-data
-    → Receive.validInner (Receive.answering i sequence command payload) ≡ true
+pub answering-valid : (i : Receive.Inner) (reply : Receive.Head) (command : ℕ) (payload : List ℕ) → Receive.validInner i ≡ true → length payload ≤ longest-data
+    → Receive.validInner (Receive.answering i reply command payload) ≡ true
 unfolding Receive.answering
-answering-valid i sequence command payload v h =
+answering-valid i reply command payload v h =
     let w = inner-valid i v in
-    changed-valid _ _ _ _ (w .outbox) (reply-short sequence command payload h) (w .settings) (w .registers)
+    changed-valid _ _ _ _ (w .outbox) (reply-short reply command payload h) (w .settings) (w .registers)
 
-pub acknowledged-valid : (i : Receive.Inner) (reply : ℕ) (r : List ℕ) → Receive.validInner i ≡ true → validRegisters r ≡ true
+pub acknowledged-valid : (i : Receive.Inner) (reply : Receive.Head) (r : List ℕ) → Receive.validInner i ≡ true → validRegisters r ≡ true
     → Receive.validInner (Receive.acknowledged i reply r) ≡ true
 unfolding Receive.acknowledged
 acknowledged-valid i reply r v h =
@@ -541,4 +540,4 @@ carried-valid image f i sequence command d g v short byte =
     cond-by Good (eqb command 0x09) _ _ (λ _.
     let s = registers-valid r (w .registers) in
     acknowledged-valid i _ _ v (status-valid r (w .registers) _ (omega (arith, clear-small (Layout.statusOf r) 0)))) (λ _.
-    changed-valid _ _ _ _ (w .outbox) (asked-short image f (i .settings) r (topSet sequence) command d g (w .settings)) (w .settings) (w .registers))))))))
+    changed-valid _ _ _ _ (w .outbox) (asked-short image f (i .settings) r (Receive.replyHead sequence) command d g (w .settings)) (w .settings) (w .registers))))))))

@@ -15,17 +15,10 @@ use Rattle.octets.proofs.Equal.{equal-true, equal-refl, sameRun-true, sameRun-e
 use Rattle.octets.proofs.Overlay.{length-run}
 use Rattle.supervisor.specs.Limits
 use Rattle.supervisor.specs.Layout
-use Rattle.supervisor.specs.Number.{topSet, replyTo}
 use Rattle.supervisor.specs.Valid.{goodItem, validFactory}
 use Rattle.requests.specs.Requests.{lengthAllowed}
 use Rattle.requests.specs.Receive.{itemDataLength, itemBytes, blockBytes}
-use Rattle.supervisor.specs.declared.number.ReplyNumber.{ReplyNumber}
-use Rattle.supervisor.specs.declared.number.RequestNumber.{RequestNumber}
 use Rattle.supervisor.proofs.ValidLaws.{alike, all-each, item-good, factory-valid}
-
--- the number of a reply
-pub reply-number : (r : ReplyNumber) (n : RequestNumber) → r ≡ replyTo n → r .0 ≡ topSet (n .0)
-reply-number r n e = ap (λ (x : ReplyNumber). x .0) e
 
 -- ---- the data of a valid request are long enough for its command
 

@@ -23,7 +23,7 @@ use Rattle.line.specs.declared.writer.Written.the-variants.{Done}
 use Rattle.line.proofs.FrameLength.{frame-fits}
 use Rattle.line.proofs.Rest.{rest-mid, rest-overlay}
 use Rattle.supervisor.specs.Layout.{outbox-length, outbox-from-place, outbox-to-place, outbox-owing-place, outbox-bytes-place, outboxOwing}
-use Rattle.requests.specs.Receive.{sentBox, replyBytes}
+use Rattle.requests.specs.Receive.{sentBox, Head, replyBytes}
 
 -- ---- the frame
 
@@ -39,16 +39,16 @@ frame-written m o long short =
     rw (le-ltb longest-data (length (m .payload)) short, le-ltb (length (drop reply-place o)) (length (frame m)) k)
 
 -- what a call of the writer on the rest of the outbox answers and leaves
-module _ (sequence command : ℕ) (head rest o : List ℕ) (long : outbox-length ≤ length o) (short : length head + length rest ≤ longest-data)
-    (r : Written) {t : List ℕ} (done : outcome r t ≡ writing (messageOf 1 sequence command head rest) (midOf reply-place (length o - reply-place) o)) where
+module _ (h : Head) (command : ℕ) (head rest o : List ℕ) (long : outbox-length ≤ length o) (short : length head + length rest ≤ longest-data)
+    (r : Written) {t : List ℕ} (done : outcome r t ≡ writing (messageOf (h .version) (h .number .0) command head rest) (midOf reply-place (length o - reply-place) o)) where
   abbrev reply : List ℕ
-  reply = replyBytes sequence command (head ++ rest)
+  reply = replyBytes h command (head ++ rest)
 
   allowed : length (head ++ rest) ≤ longest-data
   allowed = rw length-append short
 
   written : outcome r t ≡ record { answer = wrote (length reply); out = overlay 0 reply (drop reply-place o) }
-  written = rw rest-mid at done ∙ frame-written (messageOf 1 sequence command head rest) o long allowed
+  written = rw rest-mid at done ∙ frame-written (messageOf (h .version) (h .number .0) command head rest) o long allowed
 
   answered : said r ≡ wrote (length reply)
   answered = ap (λ (w : Outcome). w .answer) written
@@ -58,7 +58,7 @@ module _ (sequence command : ℕ) (head rest o : List ℕ) (long : outbox-length
   unfolding said
   reply-written {n} e =
       let k : n ≡ length reply = cc answered in
-      (k, (omega (arith, frame-fits (messageOf 1 sequence command head rest) allowed), rw (ap (λ (w : Outcome). w .out) written) (rest-overlay o reply-place reply)))
+      (k, (omega (arith, frame-fits (messageOf (h .version) (h .number .0) command head rest) allowed), rw (ap (λ (w : Outcome). w .out) written) (rest-overlay o reply-place reply)))
 
   pub reply-refused : {v : Written} → r ≡ v → (k : ℕ) → said v ≡ refused k → ⊥
   reply-refused e k f = let z : _≡_ {A = ℕ} 0 1 = cc answered in omega arith

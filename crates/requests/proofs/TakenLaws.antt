@@ -18,7 +18,7 @@ use Rattle.supervisor.specs.Limits.{most-alerts, longest-alert}
 use Rattle.supervisor.specs.Layout
 use Rattle.supervisor.specs.Valid.{validRegisters}
 use Rattle.requests.specs.Requests.{clearBit}
-use Rattle.requests.specs.Receive.{withRetained, movedAlerts, withTaken, isRetained, alertRegisters, alertParts, alertAnswered, sentBox, replyBytes}
+use Rattle.requests.specs.Receive.{withRetained, movedAlerts, withTaken, isRetained, alertRegisters, alertParts, alertAnswered, sentBox, Head, replyBytes}
 use Rattle.supervisor.proofs.ValidLaws.{registers-valid, all-each, alert-valid}
 use Rattle.requests.proofs.RecordLaws.{marked, length-marked, next-number, next-run, number-stored}
 
@@ -201,7 +201,7 @@ module _ (r : List ℕ) (sequence : ℕ) (v : validRegisters r ≡ true) where
       (λ _. taken-settled))
 
 -- the reply, from the registers as they are then
-pub alert-sent : (o r : List ℕ) (reply sequence : ℕ) {n : ℕ} {s p : List ℕ} → s ≡ alertRegisters r sequence
+pub alert-sent : (o r : List ℕ) (reply : Head) (sequence : ℕ) {n : ℕ} {s p : List ℕ} → s ≡ alertRegisters r sequence
     → n ≡ Layout.alertTextLength s Layout.retained-alert-place
     → p ≡ sentBox (replyBytes reply 0x07 (run (Layout.retained-alert-place + Layout.alert-action-place) (n + 1) s)) o
     → alertParts p s ≡ alertAnswered o r reply sequence

@@ -20,7 +20,7 @@ use Rattle.line.proofs.State.{Ready, valid-ready, ready-valid, ready-pushed}
 use Rattle.line.proofs.Held.{finish-leaves}
 use Rattle.supervisor.specs.Valid.{validFactory}
 use Rattle.supervisor.specs.Calls.{Parts, parts}
-use Rattle.requests.specs.Requests.{known, lengthAllowed, tested, failureSequence}
+use Rattle.requests.specs.Requests.{protocol-version, known, lengthAllowed, tested}
 use Rattle.requests.specs.Receive
 use Rattle.requests.specs.declared.receive.Received.the-variants as received
 use Rattle.requests.proofs.KeptLaws.{answering-valid, carried-valid}
@@ -112,41 +112,41 @@ module _ (version sequence command : ℕ) (d : List ℕ) where
   abbrev Tested : Verdict → Type 0
   Tested v = tested (Receive.messageBy version sequence command d) ≡ v
 
-  pub other-version : (version ≡ 1 → ⊥) → Tested (failure 5 (some sequence))
+  pub other-version : (version ≡ protocol-version → ⊥) → Tested (failure 5 (some sequence))
   unfolding tested
-  other-version h = rw (ne-eqb version 1 h)
+  other-version h = rw (ne-eqb version protocol-version h)
 
-  module _ (a : version ≡ 1) where
+  module _ (a : version ≡ protocol-version) where
     pub top-bit-set : 2 ^ 63 ≤ sequence → Tested (failure 6 (some sequence))
     unfolding tested
-    top-bit-set h = rw (eq-eqb version 1 a, le-leb (2 ^ 63) sequence h)
+    top-bit-set h = rw (eq-eqb version protocol-version a, le-leb (2 ^ 63) sequence h)
 
     module _ (b : sequence < 2 ^ 63) where
       pub command-unknown : known command ≡ false → Tested (failure 3 none)
       unfolding tested
-      command-unknown h = rw (eq-eqb version 1 a, lt-leb (2 ^ 63) sequence b, h)
+      command-unknown h = rw (eq-eqb version protocol-version a, lt-leb (2 ^ 63) sequence b, h)
 
       module _ (c : known command ≡ true) where
         pub length-wrong : lengthAllowed command (length d) ≡ false → Tested (failure 7 (some sequence))
         unfolding tested
-        length-wrong h = rw (eq-eqb version 1 a, lt-leb (2 ^ 63) sequence b, c, h)
+        length-wrong h = rw (eq-eqb version protocol-version a, lt-leb (2 ^ 63) sequence b, c, h)
 
         pub passed-all : lengthAllowed command (length d) ≡ true → Tested (good (Receive.messageBy version sequence command d))
         unfolding tested
-        passed-all h = rw (eq-eqb version 1 a, lt-leb (2 ^ 63) sequence b, c, h)
+        passed-all h = rw (eq-eqb version protocol-version a, lt-leb (2 ^ 63) sequence b, c, h)
 
 -- what a frame's verdict comes to: how the frame ended, the parts that may change, and that they are valid
 abbrev pub Judged : List ℕ → List ℕ → Receive.Inner → Verdict → Receive.Ended → Receive.Inner → Type 0
 Judged image f i v g j = (g ≡ Receive.endedBy v) × ((j ≡ Receive.innerBy image f i v) × (Receive.validInner j ≡ true))
 
 -- by a call of `fail`
-pub judged-failure : (image f o s r : List ℕ) (reason : ℕ) (sequence : Option ℕ) {v : Verdict} {n : ℕ} {g : Receive.Ended} {o' : List ℕ}
-    → Receive.validInner (Receive.inner o s r) ≡ true → v ≡ failure reason sequence → n ≡ failureSequence sequence
-    → (g ≡ Receive.Ended.failed reason) × (o' ≡ Receive.sentBox (Receive.replyBytes n 0x02 (bytes 1 reason)) o)
+pub judged-failure : (image f o s r : List ℕ) (reason : ℕ) (sequence : Option ℕ) {v : Verdict} {h : Receive.Head} {g : Receive.Ended} {o' : List ℕ}
+    → Receive.validInner (Receive.inner o s r) ≡ true → v ≡ failure reason sequence → h ≡ Receive.failureHead sequence
+    → (g ≡ Receive.Ended.failed reason) × (o' ≡ Receive.sentBox (Receive.replyBytes h 0x02 (bytes 1 reason)) o)
     → Judged image f (Receive.inner o s r) v g (Receive.inner o' s r)
 unfolding Receive.innerBy Receive.answering
 judged-failure image f o s r reason sequence valid e n w =
-    let k = answering-valid (Receive.inner o s r) (failureSequence sequence) 0x02 (bytes 1 reason) valid (rw (length-bytes 1 reason) (omega arith)) in
+    let k = answering-valid (Receive.inner o s r) (Receive.failureHead sequence) 0x02 (bytes 1 reason) valid (rw (length-bytes 1 reason) (omega arith)) in
     rw (e, w .1, n) (w .0, (refl, k))
 
 -- by a call of `carry`
@@ -178,9 +178,9 @@ Settled image f i reader a g j =
     (g ≡ Receive.ended reader a) × ((j ≡ Receive.innerAfter image f i (Receive.verdictOf reader a)) × (Receive.validInner j ≡ true))
 
 -- by a call of `fail`
-pub settled-failure : (image f o s r reader : List ℕ) (reason : ℕ) (sequence : Option ℕ) {a : LineReader.Said} {n : ℕ} {g : Receive.Ended} {o' : List ℕ}
-    → Receive.validInner (Receive.inner o s r) ≡ true → a ≡ LineReader.failed reason sequence → n ≡ failureSequence sequence
-    → (g ≡ Receive.Ended.failed reason) × (o' ≡ Receive.sentBox (Receive.replyBytes n 0x02 (bytes 1 reason)) o)
+pub settled-failure : (image f o s r reader : List ℕ) (reason : ℕ) (sequence : Option ℕ) {a : LineReader.Said} {h : Receive.Head} {g : Receive.Ended} {o' : List ℕ}
+    → Receive.validInner (Receive.inner o s r) ≡ true → a ≡ LineReader.failed reason sequence → h ≡ Receive.failureHead sequence
+    → (g ≡ Receive.Ended.failed reason) × (o' ≡ Receive.sentBox (Receive.replyBytes h 0x02 (bytes 1 reason)) o)
     → Settled image f (Receive.inner o s r) reader a g (Receive.inner o' s r)
 unfolding Receive.ended Receive.innerAfter Receive.verdictOf
 settled-failure image f o s r reader reason sequence v e n w = rw e (judged-failure image f o s r reason sequence v refl n w)

@@ -17,6 +17,7 @@ use Rattle.supervisor.specs.Number.{topSet}
 use Rattle.supervisor.specs.Valid.{validOutbox, validFactory, validSettings, validRegisters}
 use Rattle.requests.specs.Requests
 use Rattle.supervisor.specs.Calls.{Parts, resultNumber, lookupResult, lookupValue}
+use Rattle.requests.specs.declared.head.ReplyHead.{ReplyHead}
 use Rattle.requests.specs.declared.receive.Outcome.{Outcome}
 use Rattle.requests.specs.declared.receive.Outcome.the-variants as outcome
 use Rattle.requests.specs.declared.receive.Stepped.{Stepped}
@@ -31,9 +32,20 @@ sentBox bs o =
     overlay Layout.outbox-from-place (bytes 2 (cond (eqb (Layout.outboxOwing o) 1) 0 1) ++ bytes 2 (suc (length bs)))
     (overlay Layout.outbox-bytes-place (0 ∷ bs) o)
 
+-- a reply's head: version and number
+abbrev pub Head : Type 0
+Head = ReplyHead
+
+-- that of the reply to a request with this sequence, and to a failure with this one or none
+abbrev pub replyHead : ℕ → Head
+replyHead sequence = record { version = Requests.replyVersion; number = record { 0 = topSet sequence } }
+
+abbrev pub failureHead : Option ℕ → Head
+failureHead sequence = record { version = Requests.replyVersion; number = record { 0 = Requests.failureSequence sequence } }
+
 -- a reply's bytes
-abbrev pub replyBytes : ℕ → ℕ → List ℕ → List ℕ
-replyBytes sequence command payload = frame (record { version = 1; sequence = sequence; command = command; payload = payload })
+abbrev pub replyBytes : Head → ℕ → List ℕ → List ℕ
+replyBytes reply command payload = frame (record { version = reply .version; sequence = reply .number .0; command = command; payload = payload })
 
 -- ---- What a request changes: the outbox, the settings and the registers
 
@@ -46,11 +58,11 @@ abbrev pub inner : List ℕ → List ℕ → List ℕ → Inner
 inner o s r = record { outbox = o; settings = s; registers = r }
 
 -- a reply alone
-unfoldable pub answering : Inner → ℕ → ℕ → List ℕ → Inner
-answering i sequence command payload = inner (sentBox (replyBytes sequence command payload) (i .outbox)) (i .settings) (i .registers)
+unfoldable pub answering : Inner → Head → ℕ → List ℕ → Inner
+answering i reply command payload = inner (sentBox (replyBytes reply command payload) (i .outbox)) (i .settings) (i .registers)
 
 -- an acknowledgement, and other registers
-unfoldable pub acknowledged : Inner → ℕ → List ℕ → Inner
+unfoldable pub acknowledged : Inner → Head → List ℕ → Inner
 acknowledged i reply r = inner (sentBox (replyBytes reply 0x01 []) (i .outbox)) (i .settings) r
 
 -- no reply, and other registers
@@ -99,7 +111,7 @@ pub record AlertParts : Type 0 where
 abbrev pub alertParts : List ℕ → List ℕ → AlertParts
 alertParts o r = record { outbox = o; registers = r }
 
-unfoldable pub alertAnswered : List ℕ → List ℕ → ℕ → ℕ → AlertParts
+unfoldable pub alertAnswered : List ℕ → List ℕ → Head → ℕ → AlertParts
 alertAnswered o r reply sequence =
     alertParts (sentBox (replyBytes reply 0x07 (retainedData (alertRegisters r sequence))) o) (alertRegisters r sequence)
 
@@ -148,13 +160,13 @@ pub record KeySet : Type 0 where
 abbrev pub keySetParts : List ℕ → List ℕ → KeySet
 keySetParts o s = record { outbox = o; settings = s }
 
-unfoldable pub keySetAnswered : List ℕ → List ℕ → ℕ → List ℕ → KeySet
+unfoldable pub keySetAnswered : List ℕ → List ℕ → Head → List ℕ → KeySet
 keySetAnswered o s reply d =
     let t = storing s (numberAt 1 d 0) (drop 1 d) in
     keySetParts (sentBox (replyBytes reply 0x0c (bytes 1 (t .result))) o) (t .settings)
 
 -- a request that changes no more than the pending reply; 0x0f is left
-unfoldable pub askedBytes : List ℕ → List ℕ → List ℕ → List ℕ → ℕ → ℕ → List ℕ → List ℕ
+unfoldable pub askedBytes : List ℕ → List ℕ → List ℕ → List ℕ → Head → ℕ → List ℕ → List ℕ
 askedBytes image f s r reply command d =
     cond (eqb command 0x03) (replyBytes reply 0x03 (run Layout.bsu-place 1 f))
     (cond (eqb command 0x04) (replyBytes reply 0x04 (run Layout.identity-place 26 f))
@@ -171,18 +183,18 @@ carriedInner image f i sequence command d =
     cond (eqb command 0x01) (silently i (askedFor (i .registers) Layout.reboot-place))
     (cond (eqb command 0x02) (silently i (askedFor (i .registers) Layout.power-off-place))
     (cond (eqb command 0x06) (silently i (withRecord (i .registers) Layout.boot-failure-place (numberAt 1 d 0) (drop 1 d)))
-    (cond (eqb command 0x10) (let k = keySetAnswered (i .outbox) (i .settings) (topSet sequence) d in inner (k .outbox) (k .settings) (i .registers))
+    (cond (eqb command 0x10) (let k = keySetAnswered (i .outbox) (i .settings) (replyHead sequence) d in inner (k .outbox) (k .settings) (i .registers))
     (cond (eqb command 0x0a)
-    (let a = alertAnswered (i .outbox) (i .registers) (topSet sequence) sequence in inner (a .outbox) (i .settings) (a .registers))
-    (cond (eqb command 0x07) (acknowledged i (topSet sequence) (withRecord (i .registers) Layout.panic-place (numberAt 2 d 0) (drop 2 d)))
+    (let a = alertAnswered (i .outbox) (i .registers) (replyHead sequence) sequence in inner (a .outbox) (i .settings) (a .registers))
+    (cond (eqb command 0x07) (acknowledged i (replyHead sequence) (withRecord (i .registers) Layout.panic-place (numberAt 2 d 0) (drop 2 d)))
     (cond (eqb command 0x09)
-    (acknowledged i (topSet sequence) (overlay Layout.status-place (bytes 8 (Requests.clearBit (Layout.statusOf (i .registers)) 0)) (i .registers)))
-    (inner (sentBox (askedBytes image f (i .settings) (i .registers) (topSet sequence) command d) (i .outbox)) (i .settings) (i .registers))))))))
+    (acknowledged i (replyHead sequence) (overlay Layout.status-place (bytes 8 (Requests.clearBit (Layout.statusOf (i .registers)) 0)) (i .registers)))
+    (inner (sentBox (askedBytes image f (i .settings) (i .registers) (replyHead sequence) command d) (i .outbox)) (i .settings) (i .registers))))))))
 
 -- ---- A frame, by the table's verdict on it
 
 unfoldable pub innerBy : List ℕ → List ℕ → Inner → Verdict → Inner
-innerBy image f i (failure reason sequence) = answering i (Requests.failureSequence sequence) 0x02 (bytes 1 reason)
+innerBy image f i (failure reason sequence) = answering i (failureHead sequence) 0x02 (bytes 1 reason)
 innerBy image f i (good m) = carriedInner image f i (m .sequence) (m .command) (m .payload)
 
 abbrev pub messageBy : ℕ → ℕ → ℕ → List ℕ → Message

@@ -17,6 +17,10 @@ use Rattle.supervisor.specs.State.{withStatus, withReboot, withPowerOff, withBo
 use Rattle.supervisor.specs.Number.{topSet}
 use Rattle.supervisor.specs.Local.{bit, lookup}
 
+-- the version of requests and replies
+abbrev pub protocol-version : ℕ
+protocol-version = 1
+
 -- ---- The tests after the line layer's
 
 -- the listed commands, and whether a data length is right for one
@@ -36,7 +40,7 @@ lengthAllowed c n =
 -- what the table makes of a message that the line layer found good: version 5, top bit of the sequence 6, command 3, data length 7
 unfoldable pub tested : Message → Verdict
 tested m =
-    cond (not (eqb (m .version) 1)) (failure 5 (some (m .sequence)))
+    cond (not (eqb (m .version) protocol-version)) (failure 5 (some (m .sequence)))
     (cond (leb (2 ^ 63) (m .sequence)) (failure 6 (some (m .sequence)))
     (cond (not (known (m .command))) (failure 3 none)
     (cond (not (lengthAllowed (m .command) (length (m .payload)))) (failure 7 (some (m .sequence)))
@@ -53,9 +57,14 @@ verdict form = testedWhere (judge form)
 -- ---- Replies
 
 pub record Reply : Type 0 where
+  pub version : ℕ
   pub sequence : ℕ
   pub command : ℕ
   pub payload : List ℕ
+
+-- the version that a reply carries
+abbrev pub replyVersion : ℕ
+replyVersion = protocol-version
 
 abbrev pub all-ones : ℕ
 all-ones = 0xffffffffffffffff
@@ -67,7 +76,7 @@ failureSequence (some sequence) = topSet sequence
 
 -- the reply to a failure
 unfoldable pub failedOf : ℕ → Option ℕ → Reply
-failedOf reason sequence = record { sequence = failureSequence sequence; command = 0x02; payload = reason ∷ [] }
+failedOf reason sequence = record { version = replyVersion; sequence = failureSequence sequence; command = 0x02; payload = reason ∷ [] }
 
 -- ---- What a valid request does: the state, and the reply's command and data, or none
 
@@ -193,7 +202,7 @@ owed owing = cond owing (0 ∷ []) []
 
 unfoldable pub replyFrame : Option Reply → List ℕ
 replyFrame none = []
-replyFrame (some r) = frame (record { version = 1; sequence = r .sequence; command = r .command; payload = r .payload })
+replyFrame (some r) = frame (record { version = r .version; sequence = r .sequence; command = r .command; payload = r .payload })
 
 unfoldable pub sent : State → Option Reply → State
 sent s reply = withPending s (owed (s .owing) ++ replyFrame reply)
@@ -201,7 +210,7 @@ sent s reply = withPending s (owed (s .owing) ++ replyFrame reply)
 -- the reply to a valid request carries its sequence with the top bit set
 unfoldable pub replyOf : ℕ → Option (ℕ × List ℕ) → Option Reply
 replyOf sequence none = none
-replyOf sequence (some r) = some (record { sequence = topSet sequence; command = r .0; payload = r .1 })
+replyOf sequence (some r) = some (record { version = replyVersion; sequence = topSet sequence; command = r .0; payload = r .1 })
 
 -- ---- One received byte
 

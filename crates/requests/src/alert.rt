@@ -1,8 +1,8 @@
 // An alert request: the retained reply again, or the oldest alert.
 // Assumes valid registers, as each `requires` says.
+use crate::head::ReplyHead;
 use crate::sending::send_part;
 use supervisor::layout;
-use supervisor::number::ReplyNumber;
 use supervisor::number::RequestNumber;
 ghost use mathlib.Core.Path.{_≡_};
 ghost use mathlib.Core.Bool.{true, cond};
@@ -18,12 +18,12 @@ ghost use Rattle.requests.specs.Receive.{withRetained, withTaken, isReta
 pub(crate) fn alert(
     outbox: &mut [u8],
     registers: &mut [u8],
-    reply: ReplyNumber,
+    reply: ReplyHead,
     number: RequestNumber,
 )
     requires { ⌜ outbox-length ≤ length (now outbox) ⌝ }
     requires { ⌜ validRegisters (now registers) ≡ true ⌝ }
-    ensures { λ _. ⌜ alertParts (now (outbox .exit)) (now (registers .exit)) ≡ alertAnswered (now (outbox .entry)) (now (registers .entry)) (reply .0) (number .0) ⌝ }
+    ensures { λ _. ⌜ alertParts (now (outbox .exit)) (now (registers .exit)) ≡ alertAnswered (now (outbox .entry)) (now (registers .entry)) reply (number .0) ⌝ }
 {
     settle_alert(registers, number);
     let at = layout::RETAINED_ALERT_PLACE;

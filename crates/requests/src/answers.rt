@@ -1,10 +1,10 @@
 // Requests that change no more than the pending reply.
 // Assumes valid parts, as each `requires` says.
+use crate::head::ReplyHead;
 use crate::sending::send;
 use crate::sending::send_part;
 use supervisor::keys;
 use supervisor::layout;
-use supervisor::number::ReplyNumber;
 ghost use mathlib.Core.Path.{_≡_};
 ghost use mathlib.Core.Bool.{true};
 ghost use Prim.Native.Nat.{_≤_, _<_};
@@ -18,7 +18,7 @@ pub(crate) fn ask<'a>(
     image: &[u8],
     factory: &'a [u8],
     data: &[u8],
-    reply: ReplyNumber,
+    reply: ReplyHead,
     command: u8,
     outbox: &mut [u8],
     settings: &'a [u8],
@@ -28,7 +28,7 @@ pub(crate) fn ask<'a>(
     requires { ⌜ validFactory (now factory) ≡ true ⌝ }
     requires { ⌜ validSettings (now settings) ≡ true ⌝ }
     requires { ⌜ validRegisters (now registers) ≡ true ⌝ }
-    ensures { λ _. ⌜ now (outbox .exit) ≡ sentBox (askedBytes (now (image .entry)) (now (factory .entry)) (now (settings .entry)) (now (registers .entry)) (reply .0) command (now («data» .entry))) (now (outbox .entry)) ⌝ }
+    ensures { λ _. ⌜ now (outbox .exit) ≡ sentBox (askedBytes (now (image .entry)) (now (factory .entry)) (now (settings .entry)) (now (registers .entry)) reply command (now («data» .entry))) (now (outbox .entry)) ⌝ }
 {
     if command == 0x03 {
         send_part(outbox, reply, 0x03, factory, layout::BSU_PLACE, 1);
@@ -58,10 +58,10 @@ pub(crate) fn ask<'a>(
 }
 
 // A block of the image: hash[32], offset u64.
-fn send_block(outbox: &mut [u8], reply: ReplyNumber, factory: &[u8], image: &[u8], data: &[u8])
+fn send_block(outbox: &mut [u8], reply: ReplyHead, factory: &[u8], image: &[u8], data: &[u8])
     requires { ⌜ outbox-length ≤ length (now outbox) ⌝ }
     requires { ⌜ validFactory (now factory) ≡ true ⌝ }
-    ensures { λ _. ⌜ now (outbox .exit) ≡ sentBox (replyBytes (reply .0) 0x09 (blockBytes (now (factory .entry)) (now (image .entry)) (now («data» .entry)))) (now (outbox .entry)) ⌝ }
+    ensures { λ _. ⌜ now (outbox .exit) ≡ sentBox (replyBytes reply 0x09 (blockBytes (now (factory .entry)) (now (image .entry)) (now («data» .entry)))) (now (outbox .entry)) ⌝ }
 {
     if !octets::same(data, 0, factory, layout::HASH_PLACE, 32) {
         send_part(outbox, reply, 0x09, image, 0, 0);
@@ -80,7 +80,7 @@ fn send_block(outbox: &mut [u8], reply: ReplyNumber, factory: &[u8], image: &[u8
 // A lookup: key u8, maxresponse u16.
 fn send_value<'a>(
     outbox: &mut [u8],
-    reply: ReplyNumber,
+    reply: ReplyHead,
     factory: &'a [u8],
     settings: &'a [u8],
     data: &[u8],
@@ -88,7 +88,7 @@ fn send_value<'a>(
     requires { ⌜ outbox-length ≤ length (now outbox) ⌝ }
     requires { ⌜ validFactory (now factory) ≡ true ⌝ }
     requires { ⌜ validSettings (now settings) ≡ true ⌝ }
-    ensures { λ _. ⌜ now (outbox .exit) ≡ sentBox (replyBytes (reply .0) 0x0a (valueBytes (now (factory .entry)) (now (settings .entry)) (now («data» .entry)))) (now (outbox .entry)) ⌝ }
+    ensures { λ _. ⌜ now (outbox .exit) ≡ sentBox (replyBytes reply 0x0a (valueBytes (now (factory .entry)) (now (settings .entry)) (now («data» .entry)))) (now (outbox .entry)) ⌝ }
 {
     let key = octets::read_u8(data, 0);
     let most = octets::read_u16(data, 1);
@@ -103,10 +103,10 @@ fn send_value<'a>(
 }
 
 // An inventory item by its index.
-fn send_item(outbox: &mut [u8], reply: ReplyNumber, factory: &[u8], index: usize)
+fn send_item(outbox: &mut [u8], reply: ReplyHead, factory: &[u8], index: usize)
     requires { ⌜ outbox-length ≤ length (now outbox) ⌝ }
     requires { ⌜ validFactory (now factory) ≡ true ⌝ }
-    ensures { λ _. ⌜ now (outbox .exit) ≡ sentBox (replyBytes (reply .0) 0x0b (itemBytes (now (factory .entry)) index)) (now (outbox .entry)) ⌝ }
+    ensures { λ _. ⌜ now (outbox .exit) ≡ sentBox (replyBytes reply 0x0b (itemBytes (now (factory .entry)) index)) (now (outbox .entry)) ⌝ }
 {
     let count = octets::read_u32(factory, layout::ITEM_COUNT_PLACE) as usize;
     if count <= index {

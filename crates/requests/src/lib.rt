@@ -2,6 +2,7 @@
 // No public function has a `requires`; each promise settles the result and every byte lent.
 mod alert;
 mod answers;
+mod head;
 pub mod receive;
 mod records;
 mod requests;

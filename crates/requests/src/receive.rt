@@ -1,11 +1,10 @@
 // Receiving: a piece of the received stream, frame by frame.
 // Assumes nothing: no public function here has a `requires`.
+use crate::head;
 use crate::requests;
 use crate::sending::fail;
 use line::reader::Answer;
 use line::reader::Unfinished;
-use supervisor::number;
-use supervisor::number::ReplyNumber;
 use supervisor::number::RequestNumber;
 use supervisor::valid;
 ghost use mathlib.Core.Path.{_≡_};
@@ -184,9 +183,9 @@ fn settle(
                 registers,
             )
         }
-        Answer::BadForm => fail(outbox, ReplyNumber(requests::ALL_ONES), 1),
-        Answer::BadLength => fail(outbox, ReplyNumber(requests::ALL_ONES), 3),
-        Answer::BadChecksum(sequence) => fail(outbox, number::reply_to(RequestNumber(sequence)), 2),
-        Answer::BadMagic(sequence) => fail(outbox, number::reply_to(RequestNumber(sequence)), 4),
+        Answer::BadForm => fail(outbox, head::unnumbered(), 1),
+        Answer::BadLength => fail(outbox, head::unnumbered(), 3),
+        Answer::BadChecksum(sequence) => fail(outbox, head::head_to(RequestNumber(sequence)), 2),
+        Answer::BadMagic(sequence) => fail(outbox, head::head_to(RequestNumber(sequence)), 4),
     }
 }

@@ -2,6 +2,7 @@
 // Assumes valid parts, as each `requires` says.
 use crate::alert::alert;
 use crate::answers::ask;
+use crate::head;
 use crate::receive::Outcome;
 use crate::records::ask_for;
 use crate::records::clear_start;
@@ -11,9 +12,7 @@ use crate::sending::fail;
 use crate::sending::send_none;
 use crate::settings::set_key;
 use supervisor::layout;
-use supervisor::number::ReplyNumber;
 use supervisor::number::RequestNumber;
-use supervisor::number::reply_to;
 ghost use mathlib.Core.Path.{_≡_};
 ghost use mathlib.Core.Bool.{true, false};
 ghost use Prim.Native.Nat.{_≤_};
@@ -24,9 +23,6 @@ ghost use Rattle.supervisor.specs.Layout.{outbox-length};
 ghost use Rattle.supervisor.specs.Valid.{validFactory, validSettings, validRegisters};
 ghost use Rattle.requests.specs.Requests.{tested, known, lengthAllowed};
 ghost use Rattle.requests.specs.Receive.{inner, validInner, carriedInner, innerBy, messageBy, endedBy, endedSaid};
-
-// The sequence of a failure whose request has none.
-pub(crate) const ALL_ONES: u64 = 0xffffffffffffffff;
 
 // A message that the line layer found good: failure 5, 6, 3 or 7, or what the request does.
 pub(crate) fn request(
@@ -48,15 +44,16 @@ pub(crate) fn request(
     ensures { λ _. ⌜ inner (now (outbox .exit)) (now (settings .exit)) (now (registers .exit)) ≡ innerBy (now (image .entry)) (now (factory .entry)) (inner (now (outbox .entry)) (now (settings .entry)) (now (registers .entry))) (tested (messageBy version (number .0) command (now («data» .entry)))) ⌝ }
     ensures { λ _. ⌜ validInner (inner (now (outbox .exit)) (now (settings .exit)) (now (registers .exit))) ≡ true ⌝ }
 {
-    let reply = reply_to(number);
-    if version != 1 {
+    let reply = head::head_to(number);
+    if version != head::VERSION {
         return fail(outbox, reply, 5);
     }
     if 0x8000000000000000 <= number.0 {
         return fail(outbox, reply, 6);
     }
     if !is_known(command) {
-        return fail(outbox, ReplyNumber(ALL_ONES), 3);
+        let none = head::unnumbered();
+        return fail(outbox, none, 3);
     }
     if !length_is_allowed(command, data.len()) {
         return fail(outbox, reply, 7);
@@ -189,7 +186,7 @@ fn carry_with_reply(
     requires { ⌜ eqb command 0x06 ≡ false ⌝ }
     ensures { λ _. ⌜ inner (now (outbox .exit)) (now (settings .exit)) (now (registers .exit)) ≡ carriedInner (now (image .entry)) (now (factory .entry)) (inner (now (outbox .entry)) (now (settings .entry)) (now (registers .entry))) (number .0) command (now («data» .entry)) ⌝ }
 {
-    let reply = reply_to(number);
+    let reply = head::head_to(number);
     if command == 0x10 {
         set_key(outbox, settings, reply, data);
         return;

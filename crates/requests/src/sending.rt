@@ -1,9 +1,9 @@
 // Sending: a reply, or none, takes the place of what is unsent.
 // Assumes that the outbox has its published length and that the data fit a message, as each `requires` says.
+use crate::head::ReplyHead;
 use crate::receive::Outcome;
 use line::writer::Written;
 use supervisor::layout;
-use supervisor::number::ReplyNumber;
 ghost use mathlib.Core.Path.{_≡_};
 ghost use mathlib.Core.Bool.{cond};
 ghost use mathlib.Core.List.{[], _∷_, _++_};
@@ -15,13 +15,13 @@ ghost use Rattle.line.specs.Limits.{longest-data, longest-form};
 ghost use Rattle.supervisor.specs.Layout.{outbox-length, outbox-from-place, outbox-bytes-place, outboxOwing};
 ghost use Rattle.requests.specs.Receive.{sentBox, replyBytes, failed, endedSaid};
 
-// A reply of version 1 whose data are head and then rest.
-pub(crate) fn send(outbox: &mut [u8], number: ReplyNumber, command: u8, head: &[u8], rest: &[u8])
+// A reply whose data are head and then rest.
+pub(crate) fn send(outbox: &mut [u8], reply: ReplyHead, command: u8, head: &[u8], rest: &[u8])
     requires { ⌜ outbox-length ≤ length (now outbox) ⌝ }
     requires { ⌜ length (now head) + length (now rest) ≤ longest-data ⌝ }
-    ensures { λ _. ⌜ now (outbox .exit) ≡ sentBox (replyBytes (number .0) command (now (head .entry) ++ now (rest .entry))) (now (outbox .entry)) ⌝ }
+    ensures { λ _. ⌜ now (outbox .exit) ≡ sentBox (replyBytes reply command (now (head .entry) ++ now (rest .entry))) (now (outbox .entry)) ⌝ }
 {
-    let n = write_reply(outbox, number, command, head, rest);
+    let n = write_reply(outbox, reply, command, head, rest);
     set_pending(outbox, n);
 }
 
@@ -34,23 +34,17 @@ pub(crate) fn send_none(outbox: &mut [u8])
 }
 
 // The reply's frame behind the place for a 00, and its length.
-fn write_reply(
-    outbox: &mut [u8],
-    number: ReplyNumber,
-    command: u8,
-    head: &[u8],
-    rest: &[u8],
-) -> usize
+fn write_reply(outbox: &mut [u8], reply: ReplyHead, command: u8, head: &[u8], rest: &[u8]) -> usize
     requires { ⌜ outbox-length ≤ length (now outbox) ⌝ }
     requires { ⌜ length (now head) + length (now rest) ≤ longest-data ⌝ }
-    ensures { λ r. ⌜ r ≡ length (replyBytes (number .0) command (now (head .entry) ++ now (rest .entry))) ⌝ }
+    ensures { λ r. ⌜ r ≡ length (replyBytes reply command (now (head .entry) ++ now (rest .entry))) ⌝ }
     ensures { λ r. ⌜ r ≤ longest-form + 1 ⌝ }
-    ensures { λ _. ⌜ now (outbox .exit) ≡ overlay (outbox-bytes-place + 1) (replyBytes (number .0) command (now (head .entry) ++ now (rest .entry))) (now (outbox .entry)) ⌝ }
+    ensures { λ _. ⌜ now (outbox .exit) ≡ overlay (outbox-bytes-place + 1) (replyBytes reply command (now (head .entry) ++ now (rest .entry))) (now (outbox .entry)) ⌝ }
 {
-    let sequence = number.0;
+    let number = reply.number;
     let written = line::writer::write(
-        1,
-        sequence,
+        reply.version,
+        number.0,
         command,
         head,
         rest,
@@ -85,7 +79,7 @@ fn first(owing: usize) -> u16
 // A reply whose data are n bytes of a store.
 pub(crate) fn send_part(
     outbox: &mut [u8],
-    number: ReplyNumber,
+    reply: ReplyHead,
     command: u8,
     store: &[u8],
     at: usize,
@@ -94,35 +88,35 @@ pub(crate) fn send_part(
     requires { ⌜ outbox-length ≤ length (now outbox) ⌝ }
     requires { ⌜ at + n ≤ length (now store) ⌝ }
     requires { ⌜ n ≤ longest-data ⌝ }
-    ensures { λ _. ⌜ now (outbox .exit) ≡ sentBox (replyBytes (number .0) command (run at n (now (store .entry)))) (now (outbox .entry)) ⌝ }
+    ensures { λ _. ⌜ now (outbox .exit) ≡ sentBox (replyBytes reply command (run at n (now (store .entry)))) (now (outbox .entry)) ⌝ }
 {
-    send(outbox, number, command, &store[at..at + n], &store[0..0]);
+    send(outbox, reply, command, &store[at..at + n], &store[0..0]);
 }
 
 // A reply whose data are one byte.
-pub(crate) fn send_byte(outbox: &mut [u8], number: ReplyNumber, command: u8, byte: u8)
+pub(crate) fn send_byte(outbox: &mut [u8], reply: ReplyHead, command: u8, byte: u8)
     requires { ⌜ outbox-length ≤ length (now outbox) ⌝ }
-    ensures { λ _. ⌜ now (outbox .exit) ≡ sentBox (replyBytes (number .0) command (bytes 1 byte)) (now (outbox .entry)) ⌝ }
+    ensures { λ _. ⌜ now (outbox .exit) ≡ sentBox (replyBytes reply command (bytes 1 byte)) (now (outbox .entry)) ⌝ }
 {
     let one = [byte];
-    send_part(outbox, number, command, &one, 0, 1);
+    send_part(outbox, reply, command, &one, 0, 1);
 }
 
 // A reply without data.
-pub(crate) fn acknowledge(outbox: &mut [u8], number: ReplyNumber)
+pub(crate) fn acknowledge(outbox: &mut [u8], reply: ReplyHead)
     requires { ⌜ outbox-length ≤ length (now outbox) ⌝ }
-    ensures { λ _. ⌜ now (outbox .exit) ≡ sentBox (replyBytes (number .0) 0x01 []) (now (outbox .entry)) ⌝ }
+    ensures { λ _. ⌜ now (outbox .exit) ≡ sentBox (replyBytes reply 0x01 []) (now (outbox .entry)) ⌝ }
 {
     let none = [0u8];
-    send_part(outbox, number, 0x01, &none, 0, 0);
+    send_part(outbox, reply, 0x01, &none, 0, 0);
 }
 
 // A decode failure with its reason.
-pub(crate) fn fail(outbox: &mut [u8], number: ReplyNumber, reason: u8) -> Outcome
+pub(crate) fn fail(outbox: &mut [u8], reply: ReplyHead, reason: u8) -> Outcome
     requires { ⌜ outbox-length ≤ length (now outbox) ⌝ }
     ensures { λ r. ⌜ endedSaid r ≡ failed reason ⌝ }
-    ensures { λ _. ⌜ now (outbox .exit) ≡ sentBox (replyBytes (number .0) 0x02 (bytes 1 reason)) (now (outbox .entry)) ⌝ }
+    ensures { λ _. ⌜ now (outbox .exit) ≡ sentBox (replyBytes reply 0x02 (bytes 1 reason)) (now (outbox .entry)) ⌝ }
 {
-    send_byte(outbox, number, 0x02, reason);
+    send_byte(outbox, reply, 0x02, reason);
     Outcome::Failure(reason)
 }

@@ -1,8 +1,8 @@
 // A key set: the value of a key in the settings store.
 // Assumes that the store has its published length, as each `requires` says.
+use crate::head::ReplyHead;
 use crate::sending::send_byte;
 use supervisor::layout;
-use supervisor::number::ReplyNumber;
 ghost use mathlib.Core.Path.{_≡_};
 ghost use Prim.Native.Nat.{_+_, _≤_, _<_};
 ghost use lib.ListN.{length, drop};
@@ -10,11 +10,11 @@ ghost use Rattle.supervisor.specs.Layout.{outbox-length, settings-length, setti
 ghost use Rattle.requests.specs.Receive.{keyStored, storing, storingAt, keySetParts, keySetAnswered};
 
 // A key set: key u8, rest the value.
-pub(crate) fn set_key(outbox: &mut [u8], settings: &mut [u8], reply: ReplyNumber, data: &[u8])
+pub(crate) fn set_key(outbox: &mut [u8], settings: &mut [u8], reply: ReplyHead, data: &[u8])
     requires { ⌜ outbox-length ≤ length (now outbox) ⌝ }
     requires { ⌜ settings-length ≤ length (now settings) ⌝ }
     requires { ⌜ 1 ≤ length (now «data») ⌝ }
-    ensures { λ _. ⌜ keySetParts (now (outbox .exit)) (now (settings .exit)) ≡ keySetAnswered (now (outbox .entry)) (now (settings .entry)) (reply .0) (now («data» .entry)) ⌝ }
+    ensures { λ _. ⌜ keySetParts (now (outbox .exit)) (now (settings .exit)) ≡ keySetAnswered (now (outbox .entry)) (now (settings .entry)) reply (now («data» .entry)) ⌝ }
 {
     let result = store(settings, octets::read_u8(data, 0), data);
     send_byte(outbox, reply, 0x0c, result);

@@ -14,7 +14,7 @@ use Rattle.line_claims.specs.Pieces.{split, nonEmpty}
 use Rattle.supervisor.specs.Number.{topSet}
 use Rattle.supervisor.specs.Local.{fitted}
 use Rattle.supervisor.specs.Limits.{longest-setting}
-use Rattle.requests.specs.Requests.{verdict}
+use Rattle.requests.specs.Requests.{protocol-version, replyVersion, verdict}
 
 -- ---- Requests
 
@@ -56,11 +56,11 @@ lastSet k (m ∷ ms) = orElse (lastSet k ms) (setBy k m)
 
 -- a lookup of key k with maxresponse `most`, under number n
 abbrev pub lookupOf : ℕ → ℕ → ℕ → Message
-lookupOf n k most = record { version = 1; sequence = n; command = 0x0e; payload = bytes 1 k ++ bytes 2 most }
+lookupOf n k most = record { version = protocol-version; sequence = n; command = 0x0e; payload = bytes 1 k ++ bytes 2 most }
 
 -- the frame of its reply, under n with the top bit set: result 2 where there is no value, 3 where the value is longer than maxresponse,
 -- else 0 and the value
 unfoldable pub lookupReply : ℕ → ℕ → Option (List ℕ) → List ℕ
 lookupReply n most value =
     let f = fitted most value in
-    frame (record { version = 1; sequence = topSet n; command = 0x0a; payload = f .result ∷ f .value })
+    frame (record { version = replyVersion; sequence = topSet n; command = 0x0a; payload = f .result ∷ f .value })

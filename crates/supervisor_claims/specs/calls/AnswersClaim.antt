@@ -20,14 +20,13 @@ use Rattle.line.specs.Limits.{longest-form}
 use Rattle.line.specs.Message.{Message}
 use Rattle.supervisor.specs.Limits
 use Rattle.supervisor.specs.Layout
-use Rattle.supervisor.specs.Number.{topSet}
 use Rattle.supervisor.specs.State.{Item, State}
 use Rattle.supervisor.specs.Local
 use Rattle.supervisor.specs.Valid.{validFactory, validSettings, validRegisters}
 use Rattle.supervisor.specs.Calls
 use Rattle.supervisor.proofs.ValidLaws.{factory-valid, registers-valid}
 use Rattle.requests.specs.Requests
-use Rattle.requests.specs.Receive.{replyBytes, itemDataLength, itemBytes, blockBytes, valueBytes, askedBytes}
+use Rattle.requests.specs.Receive.{replyHead, replyBytes, itemDataLength, itemBytes, blockBytes, valueBytes, askedBytes}
 use Rattle.requests.proofs.ReceiveLaws.{ItemHeld, item-held}
 use Rattle.requests.proofs.KeptLaws.{value-data-short, item-short}
 use Rattle.supervisor_claims.specs.View.{listed, itemAt, factoryOf, view}
@@ -272,14 +271,14 @@ module _ (p : Calls.Parts) (v : Valid p) (fb : Each Byte (p .factory)) (sb : Eac
       (omega arith, each-number 1 _ _ (value-each (p .factory) (p .settings) fb sb (numberAt 2 d 1) (numberAt 1 d 0)))
 
   answers : (sequence command : ℕ) {bs payload : List ℕ} → bs ≡ payload → Sendable bs
-      → Answers p sequence (replyBytes (topSet sequence) command bs) (Requests.replied (view p) command payload)
+      → Answers p sequence (replyBytes (replyHead sequence) command bs) (Requests.replied (view p) command payload)
   unfolding Requests.replyFrame Requests.replyOf
   answers sequence command {bs} e s =
-      let sent = reply-sendable (topSet sequence) command bs s in
+      let sent = reply-sendable (replyHead sequence) command bs s in
       record { state = refl; frame = rw e; payload = rw e at s; short = sent .0; bytes = sent .1 }
 
   pub asked-carried : (image : List ℕ) → Each Byte image → (m : Message) → Asks (m .command)
-      → Answers p (m .sequence) (askedBytes image (p .factory) (p .settings) (p .registers) (topSet (m .sequence)) (m .command) (m .payload))
+      → Answers p (m .sequence) (askedBytes image (p .factory) (p .settings) (p .registers) (replyHead (m .sequence)) (m .command) (m .payload))
       (Requests.carried image (view p) m)
   unfolding askedBytes Requests.carried view
   asked-carried image ib m a =

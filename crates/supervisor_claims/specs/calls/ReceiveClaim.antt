@@ -19,7 +19,6 @@ use Rattle.line.specs.Message.{magic, Message}
 use Rattle.line.specs.Judge.{Verdict, failure, good, bodyOf, checksumOf, magicOf, wrongLength, judge, judgeForm, judgeLength, judgeFields}
 use Rattle.line.specs.Reader as LineReader
 use Rattle.supervisor.specs.Layout
-use Rattle.supervisor.specs.Number.{topSet}
 use Rattle.supervisor.specs.State.{State, withReceived}
 use Rattle.supervisor.specs.Calls.{Parts}
 use Rattle.supervisor.proofs.ValidLaws.{settings-valid}
@@ -160,7 +159,7 @@ module _ (image : List ℕ) (each : Each Byte image) (p : Parts) (s : Sound p) (
 
   -- a command that only asks leaves the outbox alone changed
   only-asked : Asks (m .command)
-      → let bs = Receive.askedBytes image (p .factory) (p .settings) (p .registers) (topSet (m .sequence)) (m .command) (m .payload) in
+      → let bs = Receive.askedBytes image (p .factory) (p .settings) (p .registers) (Receive.replyHead (m .sequence)) (m .command) (m .payload) in
       Carried image p m ≡ Receive.inner (Receive.sentBox bs (p .outbox)) (p .settings) (p .registers)
   unfolding Receive.carriedInner
   only-asked a = rw (a .reboot, a .power-off, a .boot-failure, a .key-set, a .alert, a .panic, a .start)
@@ -187,7 +186,7 @@ judged-leaves : (image : List ℕ) → Each Byte image → (p : Parts) → Sound
     → Leaves p (within p (Receive.innerBy image (p .factory) (Receive.innerOf p) v)) (Requests.judged image (view p) v)
 unfolding Receive.innerBy Receive.answering Requests.judged Requests.failedOf Requests.replyFrame
 judged-leaves image each p s (failure reason sequence) small =
-    let bs = reply-sendable (Requests.failureSequence sequence) 0x02 (reason ∷ []) (omega arith, (small, tt)) in
+    let bs = reply-sendable (Receive.failureHead sequence) 0x02 (reason ∷ []) (omega arith, (small, tt)) in
     rw (one-byte reason small) (sent-leaves p s (some (Requests.failedOf reason sequence)) (bs .0) (bs .1))
 judged-leaves image each p s (good m) q = request-leaves image each p s m q
 
@@ -215,7 +214,7 @@ passes false reason sequence v h k = record { low = h }
 tested-small : (m : Message) → Small (Requests.tested m)
 unfolding Requests.tested
 tested-small m =
-    fails (not (eqb (m .version) 1)) 5 _ _ (omega arith)
+    fails (not (eqb (m .version) Requests.protocol-version)) 5 _ _ (omega arith)
     (fails (leb (2 ^ 63) (m .sequence)) 6 _ _ (omega arith)
     (fails (not (Requests.known (m .command))) 3 _ _ (omega arith)
     (fails (not (Requests.lengthAllowed (m .command) (length (m .payload)))) 7 _ _ (omega arith) (found-good m))))

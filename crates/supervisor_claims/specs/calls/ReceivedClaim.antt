@@ -27,7 +27,7 @@ use Rattle.line.proofs.Held.{data-unpacked, finish-leaves}
 use Rattle.line_claims.specs.CobsClaims.{uncobs-each}
 use Rattle.line_claims.specs.MessageLaws.{fields-range}
 use Rattle.line_claims.specs.JudgeClaim.{never, judge-good}
-use Rattle.requests.specs.Requests.{known, lengthAllowed, tested, testedWhere, verdict, more}
+use Rattle.requests.specs.Requests.{protocol-version, known, lengthAllowed, tested, testedWhere, verdict, more}
 use Rattle.requests.specs.Receive.{verdictOf}
 use Rattle.requests.specs.Requests.{verdictSince}
 use Rattle.supervisor_claims.specs.View.{receivedOf}
@@ -171,7 +171,7 @@ finished-verdict s v =
 
 -- what the table asks of a request: its sequence's top bit is not set, its command is known, and its data are bytes, as many as the command takes
 pub record Requestable (m : Message) : Type 0 where
-  pub version : m .version ≡ 1
+  pub version : m .version ≡ protocol-version
   pub sequence : m .sequence < 2 ^ 63
   pub command : known (m .command) ≡ true
   pub allowed : lengthAllowed (m .command) (length (m .payload)) ≡ true
@@ -181,7 +181,7 @@ pub record Requestable (m : Message) : Type 0 where
 -- the tests after the line layer's
 record Tested (l m : Message) : Type 0 where
   same : l ≡ m
-  version : l .version ≡ 1
+  version : l .version ≡ protocol-version
   sequence : l .sequence < 2 ^ 63
   command : known (l .command) ≡ true
   allowed : lengthAllowed (l .command) (length (l .payload)) ≡ true
@@ -189,13 +189,13 @@ record Tested (l m : Message) : Type 0 where
 tested-good : (l m : Message) → tested l ≡ good m → Tested l m
 unfolding tested
 tested-good l m =
-    cond-by Passes (not (eqb (l .version) 1)) _ _ (λ e p. never p) (λ e.
+    cond-by Passes (not (eqb (l .version) protocol-version)) _ _ (λ e p. never p) (λ e.
     cond-by Passes (leb (2 ^ 63) (l .sequence)) _ _ (λ f p. never p) (λ f.
     cond-by Passes (not (known (l .command))) _ _ (λ g p. never p) (λ g.
     cond-by Passes (not (lengthAllowed (l .command) (length (l .payload)))) _ _ (λ h p. never p) (λ h p.
     record {
       same = cc;
-      version = eqb-true (l .version) 1 (not-false _ e);
+      version = eqb-true (l .version) protocol-version (not-false _ e);
       sequence = leb-false (2 ^ 63) (l .sequence) f;
       command = not-false _ g;
       allowed = not-false _ h;

@@ -24,7 +24,7 @@ use Rattle.supervisor.specs.Layout
 use Rattle.supervisor.specs.Valid.{validOutbox}
 use Rattle.supervisor.proofs.ValidLaws.{outbox-valid}
 use Rattle.requests.specs.Requests.{owed}
-use Rattle.requests.specs.Receive.{sentBox, replyBytes, messageBy}
+use Rattle.requests.specs.Receive.{sentBox, Head, replyBytes, messageBy}
 use Rattle.requests.proofs.KeptLaws.{begun, first-low, places, filled, sent-from, sent-to, sent-rest, run-short, reply-short}
 use Rattle.supervisor_claims.specs.View.{pendingOf}
 
@@ -46,11 +46,11 @@ frame-bytes m h =
     (omega arith, tt)
 
 -- its bytes have room in the outbox
-pub reply-sendable : (sequence command : ℕ) (payload : List ℕ) → Sendable payload
-    → let bs = replyBytes sequence command payload in (length bs ≤ longest-form + 1) × Each Byte bs
-reply-sendable sequence command payload h =
-    let m = messageBy 1 sequence command payload in
-    (reply-short sequence command payload (h .0), frame-bytes m (h .1))
+pub reply-sendable : (reply : Head) (command : ℕ) (payload : List ℕ) → Sendable payload
+    → let bs = replyBytes reply command payload in (length bs ≤ longest-form + 1) × Each Byte bs
+reply-sendable reply command payload h =
+    let m = messageBy (reply .version) (reply .number .0) command payload in
+    (reply-short reply command payload (h .0), frame-bytes m (h .1))
 
 -- ---- the outbox
 

@@ -24,7 +24,7 @@ use Rattle.supervisor.specs.Local
 use Rattle.supervisor.specs.Calls.{Parts}
 use Rattle.supervisor.specs.declared.registers.Kind.{Kind}
 use Rattle.requests.specs.Requests
-use Rattle.requests.specs.Requests.{Carried, verdict, carried, judged, sent, stream, owed, replyOf, replyFrame, alertData, oldest}
+use Rattle.requests.specs.Requests.{Carried, protocol-version, replyVersion, verdict, carried, judged, sent, stream, owed, replyOf, replyFrame, alertData, oldest}
 use Rattle.supervisor_claims.specs.View.{factoryOf, view}
 use Rattle.supervisor_claims.specs.Sound.{Bytes}
 use Rattle.supervisor_claims.specs.Histories
@@ -63,10 +63,10 @@ NoAlert m = eqb (m .command) 0x0a ≡ false
 
 -- an alert request under number n, and the frame of a reply to it, under n with the top bit set
 abbrev pub alertOf : ℕ → Message
-alertOf n = record { version = 1; sequence = n; command = 0x0a; payload = [] }
+alertOf n = record { version = protocol-version; sequence = n; command = 0x0a; payload = [] }
 
 unfoldable pub alertReply : ℕ → Alert → List ℕ
-alertReply n a = frame (record { version = 1; sequence = topSet n; command = 0x07; payload = alertData a })
+alertReply n a = frame (record { version = replyVersion; sequence = topSet n; command = 0x07; payload = alertData a })
 
 -- ---- a local call
 

@@ -70,7 +70,7 @@ Listed (good m) = known (m .command) ≡ true
 tested-listed : (m : Message) → Listed (tested m)
 unfolding tested
 tested-listed m =
-    cond-by Listed (not (eqb (m .version) 1)) _ _ (λ e. tt) (λ e.
+    cond-by Listed (not (eqb (m .version) Requests.protocol-version)) _ _ (λ e. tt) (λ e.
     cond-by Listed (leb (2 ^ 63) (m .sequence)) _ _ (λ f. tt) (λ f.
     cond-by Listed (not (known (m .command))) _ _ (λ g. tt) (λ g.
     cond-by Listed (not (Requests.lengthAllowed (m .command) (length (m .payload)))) _ _ (λ h. tt) (λ h. not-false _ g))))

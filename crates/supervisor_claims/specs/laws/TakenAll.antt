@@ -130,7 +130,7 @@ frame-last m = last-zero (cobs (message m))
 reply-last : (r : Option Reply) → lastNonZero false (replyFrame r) ≡ false
 unfolding replyFrame lastNonZero
 reply-last none = refl
-reply-last (some r) = frame-last (record { version = 1; sequence = r .sequence; command = r .command; payload = r .payload })
+reply-last (some r) = frame-last (record { version = r .version; sequence = r .sequence; command = r .command; payload = r .payload })
 
 took-is : (s : State) → tookAll s ≡ record { taken = s .pending; state = lined s (s .received) [] (lastNonZero (s .owing) (s .pending)) }
 took-is s = rw (all-taken s, after-all s)

@@ -9,16 +9,14 @@ use denote.Ref.{now}
 use Rattle.octets.specs.Bytes.{bytes}
 use Rattle.line.specs.Reader.{Said, said}
 use Rattle.line.specs.Reader as LineReader
-use Rattle.requests.specs.Requests.{failureSequence}
-use Rattle.requests.specs.Receive.{Ended, sentBox, replyBytes, inner, innerAfter, verdictOf, ended, endedSaid}
-use Rattle.requests.proofs.ReceiveLaws.{reply-number}
+use Rattle.requests.specs.Receive.{Ended, sentBox, Head, failureHead, replyBytes, inner, innerAfter, verdictOf, ended, endedSaid}
 use Rattle.requests.proofs.TurnLaws.{Settled, data-short, settled-failure, settled-message}
 use Rattle.requests.proofs.receive.settle.Statement.{statement}
 use Rattle.requests.proofs.receive.settle.Tie as tie
 
-by-fail : (c : tie.Start) (reason : ℕ) (sequence : Option ℕ) {t : Said} {n : ℕ} {g : Ended} {o : List ℕ}
-    → t ≡ LineReader.failed reason sequence → n ≡ failureSequence sequence
-    → (g ≡ Ended.failed reason) × (o ≡ sentBox (replyBytes n 0x02 (bytes 1 reason)) (now (c .args .outbox)))
+by-fail : (c : tie.Start) (reason : ℕ) (sequence : Option ℕ) {t : Said} {h : Head} {g : Ended} {o : List ℕ}
+    → t ≡ LineReader.failed reason sequence → h ≡ failureHead sequence
+    → (g ≡ Ended.failed reason) × (o ≡ sentBox (replyBytes h 0x02 (bytes 1 reason)) (now (c .args .outbox)))
     → Settled (now (c .args .image)) (now (c .args .factory)) (inner (now (c .args .outbox)) (now (c .args .settings)) (now (c .args .registers))) (now (c .args .reader)) t g
     (inner o (now (c .args .settings)) (now (c .args .registers)))
 by-fail c reason sequence =
@@ -57,36 +55,36 @@ returns-5 : tie.Need-returns-5
 unfolding said
 returns-5 c =
     let called = c .before .before in
-    let told = called .before .before in
-    by-fail (told .before .before .before .before .before .before .before .before) 1 none (ap said (told .enum-told4 .given .1)) refl (called .fail .ensures)
+    let told = called .before .before .before in
+    by-fail (told .before .before .before .before .before .before .before .before) 1 none (ap said (told .enum-told4 .given .1)) (called .before .unnumbered .ensures) (called .fail .ensures)
 
 returns-6 : tie.Need-returns-6
 unfolding said
 returns-6 c =
     let called = c .before .before in
-    let told = called .before .before in
-    by-fail (told .before .before .before .before .before .before .before .before) 3 none (ap said (told .enum-told5 .given .1)) refl (called .fail2 .ensures)
+    let told = called .before .before .before in
+    by-fail (told .before .before .before .before .before .before .before .before) 3 none (ap said (told .enum-told5 .given .1)) (called .before .unnumbered2 .ensures) (called .fail2 .ensures)
 
 returns-7 : tie.Need-returns-7
 unfolding said
 returns-7 c =
     let called = c .before .before in
     let told = called .before .before .before .before in
-    by-fail (told .before .before .before .before .before .before .before .before) 2 (some _) (ap said (told .answer2 .given .1)) (reply-number _ _ (called .before .reply-to .ensures)) (called .fail3 .ensures)
+    by-fail (told .before .before .before .before .before .before .before .before) 2 (some _) (ap said (told .answer2 .given .1)) (called .before .head-to .ensures) (called .fail3 .ensures)
 
 returns-8 : tie.Need-returns-8
 unfolding said
 returns-8 c =
     let called = c .before .before in
     let told = called .before .before .before .before in
-    by-fail (told .before .before .before .before .before .before .before .before) 4 (some _) (ap said (told .answer3 .given .1)) (reply-number _ _ (called .before .reply-to2 .ensures)) (called .fail4 .ensures)
+    by-fail (told .before .before .before .before .before .before .before .before) 4 (some _) (ap said (told .answer3 .given .1)) (called .before .head-to2 .ensures) (called .fail4 .ensures)
 
 pub settle-spec : {M : Type 1} → statement M
 settle-spec =
     tie.close
     (tie.spec
     (λ c. search needs) (λ c. search needs) (λ c. search needs) (λ c. search needs) (λ c κs. search needs) request-requires
-    (λ c. search needs) (λ c κs. search needs) (λ c. search needs) (λ c κs. search needs) (λ c. search needs)
-    (λ c κs. search needs) (λ c κs. search needs) (λ c. search needs) (λ c κs. search needs) (λ c κs. search needs) returns
-    returns-2 returns-3 (λ c. search needs) (λ c. search needs) (λ c. search needs) returns-4 (λ c. search needs) returns-5
+    (λ c. search needs) (λ c κs. search needs) (λ c κs. search needs) (λ c. search needs) (λ c κs. search needs)
+    (λ c κs. search needs) (λ c. search needs) (λ c κs. search needs) (λ c κs. search needs) (λ c. search needs)
+    (λ c κs. search needs) (λ c κs. search needs) returns returns-2 returns-3 (λ c. search needs) (λ c. search needs) (λ c. search needs) returns-4 (λ c. search needs) returns-5
     (λ c. search needs) returns-6 (λ c. search needs) returns-7 (λ c. search needs) returns-8)

@@ -9,7 +9,7 @@ use borrow.Author.Tests.{ne-eqb}
 use Rattle.supervisor.specs.Layout.{registers-length}
 use Rattle.supervisor.proofs.ValidLaws.{settings-valid, registers-valid}
 use Rattle.requests.specs.Receive.{KeySet, AlertParts, inner, acknowledged, carriedInner}
-use Rattle.requests.proofs.ReceiveLaws.{reply-number, panic-long, key-set-long}
+use Rattle.requests.proofs.ReceiveLaws.{panic-long, key-set-long}
 use Rattle.requests.proofs.requests.carry_with_reply.Statement.{statement}
 use Rattle.requests.proofs.requests.carry_with_reply.Tie as tie
 
@@ -29,7 +29,7 @@ unfolding carriedInner
 returns c =
     let told = c .before .before .before .before .before .before .before in
     let numbered = told .before in
-    rw (told .if1 .taken, ← reply-number _ _ (numbered .reply-to .ensures))
+    rw (told .if1 .taken, ← numbered .head-to .ensures)
     (ap (λ (k : KeySet). inner (k .outbox) (k .settings) (now (numbered .before .before .before .before .before .before .before .args .registers))) (c .before .before .before .before .set-key .ensures))
 
 returns-2 : tie.Need-returns-2
@@ -37,7 +37,7 @@ unfolding carriedInner
 returns-2 c =
     let told = c .before .before .before .before .before .before .before in
     let numbered = told .before .before in
-    rw (told .if2 .taken, ← reply-number _ _ (numbered .reply-to .ensures))
+    rw (told .if2 .taken, ← numbered .head-to .ensures)
     (ap (λ (a : AlertParts). inner (a .outbox) (now (numbered .before .before .before .before .before .before .before .args .settings)) (a .registers)) (c .before .before .before .before .alert .ensures))
 
 set-record-requires : tie.Need-set-record-requires
@@ -55,10 +55,10 @@ returns-3 c =
     let told = set .before .before .before in
     rw (
       told .if3 .taken,
-      ← reply-number _ _ (told .before .before .before .reply-to .ensures),
       ← set .before .read-u16 .ensures,
       set .set-record .ensures,
       c .before .before .acknowledge .ensures,
+      told .before .before .before .head-to .ensures,
     )
 
 clear-start-requires : tie.Need-clear-start-requires
@@ -71,9 +71,9 @@ returns-4 c =
     let told = cleared .before .before in
     rw (
       told .if4 .taken,
-      ← reply-number _ _ (told .before .before .before .before .reply-to .ensures),
       cleared .clear-start .ensures,
       c .before .before .acknowledge2 .ensures,
+      told .before .before .before .before .head-to .ensures,
     )
 
 ask-requires : tie.Need-ask-requires
@@ -92,7 +92,7 @@ returns-5 c =
       ne-eqb _ _ (told .before .before .if2 .left),
       ne-eqb _ _ (told .before .if3 .left),
       ne-eqb _ _ (told .if4 .left),
-      ← reply-number _ _ (told .before .before .before .before .reply-to .ensures),
+      ← told .before .before .before .before .head-to .ensures,
       c .before .before .ask .ensures,
     )
 

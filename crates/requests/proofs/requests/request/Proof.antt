@@ -10,43 +10,41 @@ use Rattle.octets.specs.Bytes.{bytes}
 use Rattle.line.specs.Judge.{Verdict, failure}
 use Rattle.supervisor.proofs.Cases.{refused}
 use Rattle.supervisor.proofs.ValidLaws.{passed}
-use Rattle.requests.specs.Requests.{failureSequence}
-use Rattle.requests.specs.Receive.{Ended, sentBox, replyBytes, inner, endedSaid}
-use Rattle.requests.proofs.ReceiveLaws.{reply-number}
+use Rattle.requests.specs.Receive.{Ended, sentBox, Head, failureHead, replyBytes, inner, endedSaid}
 use Rattle.requests.proofs.TurnLaws.{Judged, other-version, top-bit-set, command-unknown, length-wrong, passed-all, judged-failure, judged-good}
 use Rattle.requests.proofs.requests.request.Statement.{statement}
 use Rattle.requests.proofs.requests.request.Tie as tie
 
-by-fail : (c : tie.Start) (reason : ℕ) (sequence : Option ℕ) {v : Verdict} {n : ℕ} {g : Ended} {o : List ℕ}
-    → v ≡ failure reason sequence → n ≡ failureSequence sequence
-    → (g ≡ Ended.failed reason) × (o ≡ sentBox (replyBytes n 0x02 (bytes 1 reason)) (now (c .args .outbox)))
+by-fail : (c : tie.Start) (reason : ℕ) (sequence : Option ℕ) {v : Verdict} {h : Head} {g : Ended} {o : List ℕ}
+    → v ≡ failure reason sequence → h ≡ failureHead sequence
+    → (g ≡ Ended.failed reason) × (o ≡ sentBox (replyBytes h 0x02 (bytes 1 reason)) (now (c .args .outbox)))
     → Judged (now (c .args .image)) (now (c .args .factory)) (inner (now (c .args .outbox)) (now (c .args .settings)) (now (c .args .registers))) v g
     (inner o (now (c .args .settings)) (now (c .args .registers)))
 by-fail c reason sequence =
     let a = c .args in
     judged-failure (now (a .image)) (now (a .factory)) (now (a .outbox)) (now (a .settings)) (now (a .registers)) reason sequence (c .pre .1 .1 .0)
 
-abbrev start : tie.After-reply-to → tie.Start
+abbrev start : tie.After-head-to → tie.Start
 start c = c .before .before .before .before .before .before .before
 
 returns : tie.Need-returns
 returns c =
     let told = c .before .before .before .before in
     let numbered = told .before in
-    by-fail (start numbered) 5 (some _) (other-version _ _ _ _ (told .if1 .taken)) (reply-number _ _ (numbered .reply-to .ensures)) (c .before .before .fail .ensures)
+    by-fail (start numbered) 5 (some _) (other-version _ _ _ _ (told .if1 .taken)) (numbered .head-to .ensures) (c .before .before .fail .ensures)
 
 returns-2 : tie.Need-returns-2
 returns-2 c =
     let told = c .before .before .before .before in
     let first = told .before .before in
-    by-fail (start (first .before)) 6 (some _) (top-bit-set _ _ _ _ (first .if1 .left) (told .if2 .taken)) (reply-number _ _ (first .before .reply-to .ensures)) (c .before .before .fail2 .ensures)
+    by-fail (start (first .before)) 6 (some _) (top-bit-set _ _ _ _ (first .if1 .left) (told .if2 .taken)) (first .before .head-to .ensures) (c .before .before .fail2 .ensures)
 
 returns-3 : tie.Need-returns-3
 returns-3 c =
-    let told = c .before .before .before .before in
+    let told = c .before .before .before .before .before in
     let second = told .before .before in
     let first = second .before .before in
-    by-fail (start (first .before)) 3 none (command-unknown _ _ _ _ (first .if1 .left) (second .if2 .left) (refused _ _ (told .before .is-known .ensures) (told .if3 .taken))) refl (c .before .before .fail3 .ensures)
+    by-fail (start (first .before)) 3 none (command-unknown _ _ _ _ (first .if1 .left) (second .if2 .left) (refused _ _ (told .before .is-known .ensures) (told .if3 .taken))) (c .before .before .before .before .unnumbered .ensures) (c .before .before .fail3 .ensures)
 
 returns-4 : tie.Need-returns-4
 returns-4 c =
@@ -54,7 +52,7 @@ returns-4 c =
     let third = told .before .before in
     let second = third .before .before in
     let first = second .before .before in
-    by-fail (start (first .before)) 7 (some _) (length-wrong _ _ _ _ (first .if1 .left) (second .if2 .left) (passed _ _ (third .before .is-known .ensures) (third .if3 .left)) (refused _ _ (told .before .length-is-allowed .ensures) (told .if4 .taken))) (reply-number _ _ (first .before .reply-to .ensures)) (c .before .before .fail4 .ensures)
+    by-fail (start (first .before)) 7 (some _) (length-wrong _ _ _ _ (first .if1 .left) (second .if2 .left) (passed _ _ (third .before .is-known .ensures) (third .if3 .left)) (refused _ _ (told .before .length-is-allowed .ensures) (told .if4 .taken))) (first .before .head-to .ensures) (c .before .before .fail4 .ensures)
 
 carry-requires : tie.Need-carry-requires
 carry-requires c κs =
@@ -81,6 +79,6 @@ request-spec =
     tie.close
     (tie.spec
     (λ c κs. search needs) (λ c κs. search needs) (λ c. search needs) returns (λ c κs. search needs) (λ c. search needs)
-    returns-2 (λ c κs. search needs) (λ c κs. search needs) (λ c. search needs) returns-3 (λ c κs. search needs)
+    returns-2 (λ c κs. search needs) (λ c κs. search needs) (λ c κs. search needs) (λ c. search needs) returns-3 (λ c κs. search needs)
     (λ c κs. search needs) (λ c. search needs) returns-4 carry-requires (λ c. search needs) (λ c. search needs)
     (λ c. search needs) returns-5)

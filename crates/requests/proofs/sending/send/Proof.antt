@@ -13,7 +13,7 @@ returns c =
     let written = c .before .before .before .before .before .before in
     let start = written .before .before .before .before .before in
     let a = start .args in
-    sent (replyBytes (a .number .0) (a .command) (now (a .head) ++ now (a .rest))) (now (a .outbox)) (start .pre .0)
+    sent (replyBytes (a .reply) (a .command) (now (a .head) ++ now (a .rest))) (now (a .outbox)) (start .pre .0)
     (written .write-reply .ensures .0) (written .write-reply .ensures .1 .1) (c .before .before .set-pending .ensures)
 
 pub send-spec : {M : Type 1} → statement M

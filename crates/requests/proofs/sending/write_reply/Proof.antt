@@ -11,25 +11,25 @@ use Rattle.requests.proofs.sending.write_reply.Tie as tie
 returns : tie.Need-returns
 returns c =
     let write = c .before .before .before .before .before in
-    let start = write .before .before .before .before .before in
+    let start = write .before .before .before .before .before .before in
     let a = start .args in
-    reply-written (a .number .0) (a .command) (now (a .head)) (now (a .rest)) (now (a .outbox)) (start .pre .0) (start .pre .1) _ (write .write .ensures) (c .before .written .given .1)
+    reply-written (a .reply) (a .command) (now (a .head)) (now (a .rest)) (now (a .outbox)) (start .pre .0) (start .pre .1) _ (write .write .ensures) (c .before .written .given .1)
 
 returns-2 : tie.Need-returns-2
 unfolding said
 returns-2 c =
     let write = c .before .before .before .before in
-    let start = write .before .before .before .before .before in
+    let start = write .before .before .before .before .before .before in
     let a = start .args in
-    absurd (reply-refused (a .number .0) (a .command) (now (a .head)) (now (a .rest)) (now (a .outbox)) (start .pre .0) (start .pre .1) _ (write .write .ensures) (c .enum-told .given .1) 8 refl)
+    absurd (reply-refused (a .reply) (a .command) (now (a .head)) (now (a .rest)) (now (a .outbox)) (start .pre .0) (start .pre .1) _ (write .write .ensures) (c .enum-told .given .1) 8 refl)
 
 returns-3 : tie.Need-returns-3
 unfolding said
 returns-3 c =
     let write = c .before .before .before .before in
-    let start = write .before .before .before .before .before in
+    let start = write .before .before .before .before .before .before in
     let a = start .args in
-    absurd (reply-refused (a .number .0) (a .command) (now (a .head)) (now (a .rest)) (now (a .outbox)) (start .pre .0) (start .pre .1) _ (write .write .ensures) (c .enum-told2 .given .1) 9 refl)
+    absurd (reply-refused (a .reply) (a .command) (now (a .head)) (now (a .rest)) (now (a .outbox)) (start .pre .0) (start .pre .1) _ (write .write .ensures) (c .enum-told2 .given .1) 9 refl)
 
 pub write-reply-spec : {M : Type 1} → statement M
 write-reply-spec =
