@@ -1,6 +1,7 @@
 #!/usr/bin/env python3
-"""Draws docs/layers.svg: a box for each crate, and an arrow to each nearest crate that it builds on, which must be those of crates.txt.
-Assumes that the places below keep boxes and arrows apart.
+"""Draws docs/layers.svg from crates.txt: a box for each crate, in rows by what it builds on, and an arrow to each
+nearest crate that it builds on.
+Assumes crates.txt, and that every crate has its words below.
 
 usage: docs/layers.py draw | check"""
 import pathlib
@@ -9,73 +10,135 @@ import sys
 
 HERE = pathlib.Path(__file__).resolve().parent
 CODE, CLAIMS, PROGRAM = '#e3eefb', '#e9f6e6', '#fdf1dc'
-WIDTH, HEIGHT = 160, 62
-# a crate's place, kind and words
-BOXES = {
-    'replay': (20, 40, PROGRAM, 'the replay program'),
-    'cases': (220, 40, PROGRAM, 'vectors and edges'),
-    'oatcastle': (420, 40, CODE, 'exported for C and Rust'),
-    'supervisor_claims': (20, 150, CLAIMS, 'view, demand 2'),
-    'requests': (220, 150, CODE, 'requests, replies, receive'),
-    'rot_claims': (600, 150, CLAIMS, 'vectors, read back'),
-    'supervisor': (220, 260, CODE, 'state, stores, local calls'),
-    'addresses': (420, 260, CODE, 'the address plan'),
-    'rot': (600, 260, CODE, 'root-of-trust link'),
-    'line_claims': (20, 370, CLAIMS, 'L1 to L12, demand 3'),
-    'line': (220, 370, CODE, 'checksum, COBS, messages'),
-    'octets': (220, 480, CODE, 'runs of bytes and numbers on lent slices'),
-}
-WIDE = {'octets': 540}
-# from, to, and the corners of the arrow
-ARROWS = {
-    ('replay', 'requests'): '140,102 240,150', ('cases', 'requests'): '300,102 300,150', ('oatcastle', 'requests'): '460,102 360,150',
-    ('cases', 'addresses'): '372,102 400,130 400,291 420,291', ('cases', 'rot'): '340,40 340,28 772,28 772,291 760,291',
-    ('oatcastle', 'addresses'): '500,102 500,260', ('oatcastle', 'rot'): '580,71 590,71 590,291 600,291',
-    ('supervisor_claims', 'requests'): '180,181 220,181', ('supervisor_claims', 'line_claims'): '100,212 100,370',
-    ('requests', 'supervisor'): '300,212 300,260', ('supervisor', 'line'): '300,322 300,370', ('line_claims', 'line'): '180,401 220,401',
-    ('line', 'octets'): '300,432 300,480', ('addresses', 'octets'): '500,322 500,480', ('rot', 'octets'): '680,322 680,480',
-    ('rot_claims', 'rot'): '680,212 680,260',
-}
 LEGEND = ((CODE, 'code with proved contracts'), (CLAIMS, 'no code: claims over whole lists of calls'), (PROGRAM, 'programs that the gate runs'))
+WIDTH, HEIGHT, GAP, ROW = 176, 54, 22, 112
+WORDS = {
+    'octets': 'runs of bytes, numbers',
+    'addresses': 'the address plan',
+    'rot': 'root-of-trust link',
+    'rot_claims': 'vectors, read back',
+    'line': 'frames, checksum',
+    'line_claims': 'L1 to L12, demand 3',
+    'supervisor': 'state, stores, local calls',
+    'requests': 'requests, replies, receive',
+    'supervisor_claims': 'view, demand 2',
+    'replay': 'the replay program',
+    'cases': 'vectors and edges',
+    'oatcastle': 'exported for C and Rust',
+}
 
 
-def nearest():
-    """Each crate with the crates that it builds on and that no other of these builds on."""
-    text = (HERE.parent / 'crates.txt').read_text()
-    depends = {name: set(found.split()) for name, found in re.findall(r'^(\w+):(.*)$', text, re.M)}
-    for name, found in depends.items():
-        own = found & depends.keys()
-        yield from ((name, other) for other in own if not any(other in depends[between] for between in own))
+def depends():
+    """Each crate with the crates that it builds on."""
+    found = {name: set(others.split()) for name, others in re.findall(r'^(\w+):(.*)$', (HERE.parent / 'crates.txt').read_text(), re.M)}
+    return {name: others & found.keys() for name, others in found.items()}
+
+
+def kind(name):
+    if (HERE.parent / 'crates' / name / 'src' / 'main.rt').exists():
+        return PROGRAM
+    return CLAIMS if name.endswith('_claims') else CODE
+
+
+def reach(name, graph):
+    return set().union(*({other} | reach(other, graph) for other in graph[name])) if graph[name] else set()
+
+
+def level(name, graph):
+    return 1 + max(level(other, graph) for other in graph[name]) if graph[name] else 0
+
+
+def rows(graph):
+    """The arrows to the nearest crates as chains of points, one in each row, and the rows: boxes, and the points (name, name, row) where an arrow passes."""
+    levels = {name: level(name, graph) for name in graph}
+    chains = []
+    for name in sorted(graph):
+        nearest = {other for other in graph[name] if not any(other in reach(between, graph) for between in graph[name])}
+        for other in sorted(nearest):
+            chains.append([name] + [(name, other, row) for row in range(levels[name] - 1, levels[other], -1)] + [other])
+    found = [[] for _ in range(1 + max(levels.values()))]
+    for name in sorted(graph):
+        found[levels[name]].append(name)
+    for chain in chains:
+        for point in chain[1:-1]:
+            found[point[2]].append(point)
+    return chains, found
+
+
+def width(point):
+    return WIDTH if isinstance(point, str) else 12
+
+
+def spread(row, wanted):
+    """The centres of a row's points, in their order, as near as they can be to the wanted ones."""
+    centres = []
+    for point in row:
+        least = centres[-1] + (width(row[len(centres) - 1]) + width(point)) / 2 + GAP if centres else width(point) / 2
+        centres.append(max(least, wanted[point]))
+    for i in range(len(row) - 2, -1, -1):
+        most = centres[i + 1] - (width(row[i]) + width(row[i + 1])) / 2 - GAP
+        centres[i] = min(centres[i], most) if wanted[row[i]] < centres[i] else centres[i]
+    return dict(zip(row, centres))
+
+
+def placed(chains, found):
+    """The centre of each point, by several passes that bring linked points near each other."""
+    links = {}
+    for chain in chains:
+        for above, below in zip(chain, chain[1:]):
+            links.setdefault(above, []).append(below)
+            links.setdefault(below, []).append(above)
+    at = {}
+    for row in found:
+        at.update(spread(row, {point: 0 for point in row}))
+    for upwards in (True, False) * 12:
+        for row in found if upwards else reversed(found):
+            wanted = {p: sum(at[q] for q in links.get(p, [p])) / len(links.get(p, [p])) for p in row}
+            row.sort(key=lambda p: (wanted[p], str(p)))
+            at.update(spread(row, wanted))
+    left = min(at[p] - width(p) / 2 for p in at)
+    return {p: at[p] - left + 20 for p in at}
 
 
 def drawn():
-    lines = ['<svg xmlns="http://www.w3.org/2000/svg" viewBox="0 0 790 650" width="790" height="650" font-family="sans-serif" font-size="14">',
+    graph = depends()
+    chains, found = rows(graph)
+    at = placed(chains, found)
+    top = {name: 40 + ROW * (len(found) - 1 - level(name, graph)) for name in graph}
+    wide = int(max(at[point] + width(point) / 2 for point in at) + 20)
+    high = 40 + ROW * len(found) + 26 * len(LEGEND)
+    lines = [f'<svg xmlns="http://www.w3.org/2000/svg" viewBox="0 0 {wide} {high}" width="{wide}" height="{high}" font-family="sans-serif" font-size="14">',
              '<defs><marker id="a" viewBox="0 0 10 10" refX="9" refY="5" markerWidth="8" markerHeight="8" orient="auto"><path d="M0 0 L10 5 L0 10 z" fill="#445"/></marker></defs>',
-             '<rect width="790" height="650" fill="#ffffff"/>',
+             f'<rect width="{wide}" height="{high}" fill="#ffffff"/>',
              '<text x="20" y="18" font-size="13" fill="#333">An arrow goes from a crate to the nearest that it builds on; those below are left out.</text>']
-    for name, (x, y, fill, words) in BOXES.items():
-        lines += [f'<rect x="{x}" y="{y}" width="{WIDE.get(name, WIDTH)}" height="{HEIGHT}" rx="6" fill="{fill}" stroke="#445" stroke-width="1.2"/>',
-                  f'<text x="{x + 10}" y="{y + 24}" font-weight="bold">{name}</text>',
-                  f'<text x="{x + 10}" y="{y + 44}" font-size="12" fill="#333">{words}</text>']
-    lines += [f'<polyline points="{points}" fill="none" stroke="#445" stroke-width="1.4" marker-end="url(#a)"/>' for points in ARROWS.values()]
+    for chain in chains:
+        points = [(at[chain[0]], top[chain[0]] + HEIGHT)]
+        for point in chain[1:-1]:
+            y = 40 + ROW * (len(found) - 1 - point[2])
+            points += [(at[point], y - 6), (at[point], y + HEIGHT + 6)]
+        points.append((at[chain[-1]], top[chain[-1]]))
+        lines.append(f'<polyline points="{" ".join(f"{x:.0f},{y:.0f}" for x, y in points)}" fill="none" stroke="#445" stroke-width="1.2" marker-end="url(#a)"/>')
+    for name in sorted(graph):
+        x, y = at[name] - WIDTH / 2, top[name]
+        lines += [f'<rect x="{x:.0f}" y="{y}" width="{WIDTH}" height="{HEIGHT}" rx="6" fill="{kind(name)}" stroke="#445" stroke-width="1.2"/>',
+                  f'<text x="{x + 10:.0f}" y="{y + 22}" font-weight="bold">{name}</text>',
+                  f'<text x="{x + 10:.0f}" y="{y + 42}" font-size="12" fill="#333">{WORDS[name]}</text>']
     for i, (fill, words) in enumerate(LEGEND):
-        y = 566 + 26 * i
+        y = 40 + ROW * len(found) + 26 * i
         lines.append(f'<rect x="20" y="{y}" width="18" height="14" fill="{fill}" stroke="#445"/><text x="46" y="{y + 12}" font-size="12">{words}</text>')
-    return '\n'.join(lines + ['</svg>', ''])
+    return '\n'.join(lines + ['</svg>']) + '\n'
 
 
-def main(way):
-    wrong = set(nearest()) ^ set(ARROWS)
-    if wrong:
-        sys.exit(f'layers.py: the arrows differ from crates.txt at {sorted(wrong)}')
-    if way == 'draw':
-        (HERE / 'layers.svg').write_text(drawn())
-    elif (HERE / 'layers.svg').read_text() != drawn():
-        sys.exit('docs/layers.svg is not what layers.py draws')
-    print(f'layers: {len(BOXES)} crates and {len(ARROWS)} arrows')
-
-
-if __name__ == '__main__':
-    if sys.argv[1:] not in (['draw'], ['check']):
+def main():
+    picture = HERE / 'layers.svg'
+    if sys.argv[1:] == ['draw']:
+        picture.write_text(drawn())
+    elif sys.argv[1:] != ['check']:
         sys.exit(__doc__)
-    main(sys.argv[1])
+    elif picture.read_text() != drawn():
+        sys.exit('layers: docs/layers.svg is not what docs/layers.py draws of crates.txt')
+    else:
+        print(f'layers: {len(depends())} boxes, as drawn')
+
+
+main()
