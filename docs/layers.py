@@ -15,6 +15,7 @@ WIDTH, HEIGHT, GAP, ROW = 176, 54, 22, 112
 WORDS = {
     'octets': 'runs of bytes, numbers',
     'addresses': 'the address plan',
+    'probes': 'the probe list',
     'rot': 'root-of-trust link',
     'rot_claims': 'vectors, read back',
     'line': 'frames, checksum',

@@ -42,6 +42,7 @@ extern "C" {
 #define OATCASTLE_BAD_START 11u     /* start data: see oatcastle_start */
 #define OATCASTLE_BAD_STATE 12u     /* a part is below its published length, or a field holds a value outside docs/STATE.md */
 #define OATCASTLE_BAD_VALUE 13u     /* an option bit above 8, or alert action 0 */
+#define OATCASTLE_BAD_PROBE 15u     /* an update of the probe list: see oatcastle_probe_update */
 #define OATCASTLE_PLAN_PASSES 16u   /* the last counted address of a plan passes ff:ff:ff:ff:ff:ff */
 
 #define OATCASTLE_ROT_NO_INPUT 20u      /* these come from the oatcastle_rot_ calls alone */
@@ -56,8 +57,8 @@ extern "C" {
 
 #define OATCASTLE_READER_LENGTH 4142    /* the line layer's reader; also the `state` of the oatcastle_line_ calls */
 #define OATCASTLE_OUTBOX_LENGTH 4147
-#define OATCASTLE_FACTORY_LENGTH 1729
-#define OATCASTLE_SETTINGS_LENGTH 5385
+#define OATCASTLE_FACTORY_LENGTH 6481
+#define OATCASTLE_SETTINGS_LENGTH 8457
 #define OATCASTLE_REGISTERS_LENGTH 3393
 
 /* ---- Limits */
@@ -69,7 +70,7 @@ extern "C" {
 #define OATCASTLE_MOST_KEPT 512         /* kept bytes of a record */
 #define OATCASTLE_MOST_PENDING 4142     /* bytes pending: a frame, and a 00 ahead of it */
 #define OATCASTLE_MOST_ALERTS 8         /* alerts that wait */
-#define OATCASTLE_MOST_ITEMS 16         /* inventory items */
+#define OATCASTLE_MOST_ITEMS 64         /* inventory items */
 
 /* ---- The address plan */
 
@@ -128,9 +129,9 @@ extern "C" {
 #define OATCASTLE_ROT_SINK_REQUEST 8u
 #define OATCASTLE_ROT_SINK_RESPONSE 9u
 
-/* ---- The start data: 1,721 bytes, one field after the other, no padding. A place is a byte offset. */
+/* ---- The start data: 6,473 bytes, one field after the other, no padding. A place is a byte offset. */
 
-#define OATCASTLE_START_LENGTH 1721
+#define OATCASTLE_START_LENGTH 6473
 
 #define OATCASTLE_START_BSU 0               /* 1 byte: 0x41 or 0x42 */
 #define OATCASTLE_START_MODEL 1             /* 11 bytes */
@@ -142,8 +143,8 @@ extern "C" {
 #define OATCASTLE_START_IMAGE_HASH 36       /* 32 bytes */
 #define OATCASTLE_START_IMAGE_ID_LENGTH 68  /* 1 byte: 0 to 64 */
 #define OATCASTLE_START_IMAGE_ID 69         /* 64 bytes, of which the first IMAGE_ID_LENGTH count */
-#define OATCASTLE_START_ITEMS 133           /* 16 inventory items of OATCASTLE_ITEM_LENGTH bytes, of which the first ITEM_COUNT count */
-#define OATCASTLE_START_ITEM_COUNT 1717     /* 4 bytes: 0 to 16 */
+#define OATCASTLE_START_ITEMS 133           /* 64 inventory items of OATCASTLE_ITEM_LENGTH bytes, of which the first ITEM_COUNT count */
+#define OATCASTLE_START_ITEM_COUNT 6469     /* 4 bytes: 0 to 64 */
 
 #define OATCASTLE_ITEM_LENGTH 99
 #define OATCASTLE_ITEM_RESULT 0             /* in an item; 1 byte: 0, 2 or 3, the result of its inventory reply; data go out with 0 alone */
@@ -193,7 +194,7 @@ uint32_t oatcastle_line_checksum(const uint8_t *body, size_t body_length, uint64
 
 /* Begins the supervisor in parts of any contents, with start data of OATCASTLE_START_LENGTH bytes.
  * A further start begins anew, and forgets also whether a 00 is owed on the wire.
- * 0; 12: a part is too short; 11: over 16 items, an item's data over 64 bytes, a result not 0, 2 or 3, an image ID over 64 bytes,
+ * 0; 12: a part is too short; 11: over 64 items, an item's data over 64 bytes, a result not 0, 2 or 3, an image ID over 64 bytes,
  * or a BSU that is not 0x41 or 0x42. */
 uint32_t oatcastle_start(const uint8_t data[OATCASTLE_START_LENGTH], uint8_t *reader, size_t reader_length, uint8_t *outbox, size_t outbox_length, uint8_t *factory, size_t factory_length, uint8_t *settings, size_t settings_length, uint8_t *registers, size_t registers_length);
 
@@ -224,7 +225,7 @@ uint32_t oatcastle_post(uint8_t *registers, size_t registers_length, uint8_t act
 uint32_t oatcastle_set_options(uint8_t *registers, size_t registers_length, uint64_t options);
 
 /* Looks a key up and copies its value to the room. Key 0 is "pong", 1 the image ID (at most 64 bytes), 2 the inventory's count and
- * version (8 bytes), 3 (at most 256 bytes), 4 (4,096) and 5, the withdrawn-key list (1,024), are what was stored.
+ * version (8 bytes), 3 (at most 256 bytes), 4 (4,096) and 5, the withdrawn-key list (4,096), are what was stored.
  * answer[0]  0: found; 1: no such key; 2: the key has no value; 3: the value is longer than maxresponse
  * answer[1]  how many bytes the value has; 0 unless it was found
  * 0; 12; 8: the answer is too short, or the room is shorter than the value. */
@@ -262,6 +263,20 @@ uint32_t oatcastle_addresses(const uint8_t base[OATCASTLE_ADDRESS_LENGTH], uint1
 /* Whether every counted address, base plus (count - 1) times stride the last of them, is at most ff:ff:ff:ff:ff:ff; a plan that counts none always fits.
  * 0; 16: the last counted address passes that. */
 uint32_t oatcastle_plan(const uint8_t base[OATCASTLE_ADDRESS_LENGTH], uint16_t count, uint8_t stride);
+
+/* ==== The probe list: an array of records, lent by the caller and brought up to date in place. There is no other state. */
+
+/* A part's address on the bus and the result of its probe: two bytes, no padding. */
+struct oatcastle_probe {
+    uint8_t address;
+    uint8_t result;
+};
+
+/* For each k, gives the part at place indices[k] of the list the result results[k], 0, 2 or 3; a part named twice keeps the later one. All other results, and all
+ * addresses, stay. No changes (both lists of them empty) are done. An array is lent as a pointer to its first element and the number of its elements; the pointer is
+ * aligned as its type is and not NULL, even where the number is 0, and the list overlaps neither of the other two.
+ * 0; 15: an index at or past list_count, another result, or another number of results than of indices; the whole list stays then. */
+uint32_t oatcastle_probe_update(struct oatcastle_probe *list, size_t list_count, const size_t *indices, size_t indices_count, const uint8_t *results, size_t results_length);
 
 /* ==== The root-of-trust link: messages of version 1 over SPI. There is no state. */
 

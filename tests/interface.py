@@ -1,11 +1,12 @@
 #!/usr/bin/env python3
 """Compares the C interface where it is written down: the functions of crates/oatcastle/src, include/oatcastle.h and
-bindings/rust/src/raw.rs by name, parameters' names and kinds; every #define of the header, and the wrapper's numbers, with the crates.
+bindings/rust/src/raw.rs by name, parameters' names and kinds; the records that they take, by their fields; every #define of the header, and the
+wrapper's numbers, with the crates.
 Assumes the layouts of these files as `rt fmt` and their own style have them.
 
 usage: tests/interface.py [planted]
 
-planted: changes each #define, each parameter and each number of the wrapper in turn, in memory alone, and asks that every change be seen"""
+planted: changes each #define, each parameter, each record's fields and each number of the wrapper in turn, in memory alone, and asks that every change be seen"""
 import functools
 import pathlib
 import re
@@ -25,6 +26,10 @@ LINK_REFUSALS = {'PAYLOAD_TOO_LONG': 'ROT_TOO_LONG'}
 PARTS = r'\n    (reader|outbox|factory|settings|registers): \[u8; (\d+)\],'
 NUMBERS = {'u8': 'u8', 'u16': 'u16', 'u32': 'u32', 'u64': 'u64', 'usize': 'u64',
            'uint8_t': 'u8', 'uint16_t': 'u16', 'uint32_t': 'u32', 'uint64_t': 'u64'}
+# The records that functions take: the crates' name, its file, and the header's name.
+RECORDS = {'Probe': ('crates/probes/src/lib.rt', 'oatcastle_probe')}
+# What a pointer leads to.
+ELEMENTS = {**NUMBERS, 'usize': 'size', 'size_t': 'size', **{name: name for name in RECORDS}, **{c: name for name, (_, c) in RECORDS.items()}}
 
 
 @functools.cache
@@ -43,33 +48,30 @@ def library(link):
 # ---- Functions: of each the list of (name, kind) that C passes
 
 def rattle_parameters(parameter):
-    """A parameter of an exported function, as what C passes for it: a slice is a pointer and behind it its length, of numbers their count."""
+    """A parameter of an exported function, as what C passes for it: a slice is a pointer and behind it its length, of numbers and records their count."""
     name, kind = (part.strip() for part in parameter.split(':', 1))
     kind = re.sub(r"'\w+ ", '', kind)
     change = 'mut ' if kind.startswith('&mut ') else 'const '
     element = re.fullmatch(r'&(?:mut )?\[(\w+)(; [\w:]+)?\]', kind)
     if not element:
         return [(name, NUMBERS[kind])]
-    pointer = (name, change + NUMBERS[element.group(1)])
+    pointer = (name, change + ELEMENTS[element.group(1)])
     return [pointer] if element.group(2) else [pointer, (name + ('_length' if element.group(1) == 'u8' else '_count'), 'length')]
 
 
 def c_parameters(parameter):
     kind, name = re.fullmatch(r'(.*?[\s*])(\w+)(?:\[\w+\])?', parameter, re.S).groups()
     words = kind.replace('*', ' ').split()
-    if words == ['size_t']:
-        return [(name, 'length')]
-    number = NUMBERS[words[-1]]
     if '*' in kind or '[' in parameter:
-        return [(name, ('const ' if words[0] == 'const' else 'mut ') + number)]
-    return [(name, number)]
+        return [(name, ('const ' if words[0] == 'const' else 'mut ') + ELEMENTS[words[-1]])]
+    return [(name, 'length' if words == ['size_t'] else NUMBERS[words[-1]])]
 
 
 def raw_parameters(parameter):
     name, kind = (part.strip() for part in parameter.split(':'))
     pointer = re.fullmatch(r'\*(mut|const) (\w+)', kind)
     if pointer:
-        return [(name, f'{pointer.group(1)} {NUMBERS[pointer.group(2)]}')]
+        return [(name, f'{pointer.group(1)} {ELEMENTS[pointer.group(2)]}')]
     return [(name, 'length' if kind == 'usize' else NUMBERS[kind])]
 
 
@@ -97,6 +99,27 @@ def function_faults(texts):
         for name in sorted(wanted.keys() | found.keys()):
             if wanted.get(name) != found.get(name):
                 yield f'{name}: {where} has {found.get(name)}, the crate {wanted.get(name)}'
+
+
+# ---- Records: of each the list of (name, kind) of its fields, in order
+
+def rust_fields(text, name):
+    """The fields of a struct in Rattle or Rust, or None where it is not there with C's layout."""
+    found = re.search(rf'#\[repr\(C\)\]\npub struct {name} \{{\n(.*?)\n\}}', text, re.S)
+    return found and [(field, NUMBERS[kind]) for field, kind in re.findall(r'pub (\w+): (\w+),', found.group(1))]
+
+
+def c_fields(text, name):
+    found = re.search(rf'\nstruct {name} \{{\n(.*?)\n\}};', text, re.S)
+    return found and [(field, NUMBERS[kind]) for kind, field in re.findall(r'(\w+) (\w+);', found.group(1))]
+
+
+def record_faults(texts):
+    for name, (path, c_name) in RECORDS.items():
+        wanted = rust_fields(read(path), name)
+        for where, found in ((HEADER, c_fields(texts[HEADER], c_name)), (RAW, rust_fields(texts[RAW], name))):
+            if not wanted or found != wanted:
+                yield f'{name}: {where} has {found}, the crate {wanted}'
 
 
 # ---- Numbers
@@ -146,7 +169,7 @@ def places(text, known):
 
 def refusals():
     answered = arms(library(link=False))
-    named = {'DONE': ('Started::Done', 'Posted::Done', 'OptionsSet::Done'), 'NO_ROOM': ('Written::NoRoom',),
+    named = {'DONE': ('Started::Done', 'Posted::Done', 'OptionsSet::Done', 'Updated::Done'), 'BAD_PROBE': ('Updated::Refused',), 'NO_ROOM': ('Written::NoRoom',),
              'TOO_LONG': ('Written::TooLong', 'Handed::TooLong', 'Posted::TooLong'), 'ALERTS_FULL': ('Posted::Full',),
              'BAD_START': ('Started::BadData',), 'BAD_STATE': ('Started::Refused', 'Received::Refused', 'Answer::Refused'),
              'BAD_VALUE': ('Posted::BadAction', 'OptionsSet::BadOption'), 'PLAN_PASSES': ('Planned::Passes',)}
@@ -273,7 +296,7 @@ def as_written():
 
 def faults(texts):
     """Where the texts by hand and the crates differ."""
-    return [*function_faults(texts), *number_faults(texts), *wrapper_faults(texts)]
+    return [*function_faults(texts), *record_faults(texts), *number_faults(texts), *wrapper_faults(texts)]
 
 
 # ---- Planted changes
@@ -310,6 +333,12 @@ def planted(texts):
     yield replaced(HEADER, header, 'a const left out', 'const uint8_t *piece', 'uint8_t *piece')
     yield replaced(HEADER, header, 'a wider number', 'uint16_t maxresponse', 'uint32_t maxresponse')
     yield replaced(HEADER, header, 'a function taken out', 'uint32_t oatcastle_flags(', '// uint32_t oatcastle_flags(')
+    for old, new in (('uint8_t address;\n    uint8_t result;', 'uint8_t result;\n    uint8_t address;'), ('uint8_t address;', 'uint16_t address;'),
+                     ('    uint8_t result;\n', ''), ('const size_t *indices', 'const uint64_t *indices'), ('struct oatcastle_probe *list', 'uint8_t *list')):
+        yield replaced(HEADER, header, f'{new!r} for {old!r}', old, new)
+    for old, new in (('pub address: u8,\n    pub result: u8,', 'pub result: u8,\n    pub address: u8,'), ('pub result: u8,', 'pub result: u32,'), ('#[repr(C)]\n', ''),
+                     ('indices: *const usize', 'indices: *const u32'), ('list: *mut Probe', 'list: *mut u8')):
+        yield replaced(RAW, raw, f'{new!r} for {old!r}', old, new)
     yield replaced(RAW, raw, 'a mut for a const', '*const', '*mut')
     yield replaced(RAW, raw, 'a narrower number', 'sequence: u64', 'sequence: u32')
     yield replaced(RAW, raw, 'a function by another name', 'oatcastle_panic', 'oatcastle_panics')
@@ -335,7 +364,7 @@ def main():
     found = faults(texts)
     for fault in found:
         print(fault)
-    print(f'interface: {len(exported())} functions, {len(wanted_numbers())} constants and {len(list(wrapper_numbers(texts)))} numbers of the wrapper compared, {len(found)} differ')
+    print(f'interface: {len(exported())} functions, {len(RECORDS)} records, {len(wanted_numbers())} constants and {len(list(wrapper_numbers(texts)))} numbers of the wrapper compared, {len(found)} differ')
     return 1 if found or not exported() else 0
 
 

@@ -42,9 +42,19 @@ from line_cases import L12, MAGIC, body, digest, fletcher, last_ones, message, n
 
 TOP = 1 << 63
 ONES = (1 << 64) - 1
-KEYS = {3: 256, 4: 4096, 5: 1024}
+# limits: items of the inventory, bytes of an item's data and of the image ID; the longest value of each settings key
+MOST_ITEMS, ITEM_DATA, IMAGE_ID = 64, 64, 64
+KEYS = {3: 256, 4: 4096, 5: 4096}
+# the places of docs/STATE.md: the items, their count, the inventory's version, key 0; each setting with its flag and length ahead of the value
+ITEMS_PLACE = 69 + IMAGE_ID
+ITEM_LENGTH = 35 + ITEM_DATA
+COUNT_PLACE = ITEMS_PLACE + MOST_ITEMS * ITEM_LENGTH
+VERSION_PLACE = COUNT_PLACE + 4
+PONG_PLACE = VERSION_PLACE + 4
+SETTING_HEAD = 3
+SETTINGS = {key: sum(SETTING_HEAD + KEYS[k] for k in KEYS if k < key) for key in KEYS}
 PARTS = ('reader', 'outbox', 'factory', 'settings', 'registers')
-PUBLISHED = {'reader': 4142, 'outbox': 4147, 'factory': 1729, 'settings': 5385, 'registers': 3393}
+PUBLISHED = {'reader': 4142, 'outbox': 4147, 'factory': PONG_PLACE + 4, 'settings': sum(SETTING_HEAD + n for n in KEYS.values()), 'registers': 3393}
 SPARE = 9
 ROOM = 4200
 
@@ -73,15 +83,15 @@ class Start:
 
     def allowed(self):
         items = self.items[:self.counted]
-        return self.counted <= 16 and all(len(d) <= 64 and r in (0, 2, 3) for r, _, _, d in items) and len(self.image_id) <= 64 and self.bsu in (0x41, 0x42)
+        return self.counted <= MOST_ITEMS and all(len(d) <= ITEM_DATA and r in (0, 2, 3) for r, _, _, d in items) and len(self.image_id) <= IMAGE_ID and self.bsu in (0x41, 0x42)
 
     def record(self):
         """The published record; a length above its field's room stands alone."""
         out = bytes([self.bsu]) + self.model + little(self.revision, 4) + self.serial + self.base + little(self.count, 2) + bytes([self.stride]) + self.hash
-        out += bytes([len(self.image_id)]) + self.image_id[:64].ljust(64, b'\0')
+        out += bytes([len(self.image_id)]) + self.image_id[:IMAGE_ID].ljust(IMAGE_ID, b'\0')
         for r, name, kind, d in self.items:
-            out += bytes([r]) + name + bytes([kind, len(d)]) + d[:64].ljust(64, b'\0')
-        return out.ljust(1717, b'\0') + little(self.counted, 4)
+            out += bytes([r]) + name + bytes([kind, len(d)]) + d[:ITEM_DATA].ljust(ITEM_DATA, b'\0')
+        return out.ljust(COUNT_PLACE, b'\0') + little(self.counted, 4)
 
 
 class Supervisor:
@@ -567,9 +577,10 @@ def keys():
 
 
 def inventory():
-    for items in ([], ITEMS[:1], ITEMS, (ITEMS * 4)[:15] + [(0, b'\xff' * 32, 255, b'\0' * 64)]):
+    last = (0, b'\xff' * 32, 255, b'\0' * ITEM_DATA)
+    for items in ([], ITEMS[:1], ITEMS, (ITEMS * 4)[:15] + [last], (ITEMS * MOST_ITEMS)[:MOST_ITEMS - 1] + [last]):
         c = Case(f'inventory of {len(items)} items', Start(items=items))
-        for index in (0, 1, 2, 3, 4, 14, 15, 16, 17, 255, 256, 65536, 1 << 31, (1 << 32) - 1):
+        for index in (0, 1, 2, 3, 4, 14, 15, 16, 17, MOST_ITEMS - 1, MOST_ITEMS, MOST_ITEMS + 1, 255, 256, 65536, 1 << 31, (1 << 32) - 1):
             c.ask(0x0f, little(index, 4))
         yield c
 
@@ -711,21 +722,23 @@ def again():
 def start_data():
     long = (0, name('long'), 1, nonzero(65))
     odd = lambda r: (r, name('odd'), 1, b'data')
-    bad = {'17 items': Start(items=ITEMS * 4, counted=17), '2 to the 24th items': Start(items=ITEMS * 4, counted=1 << 24), '2 to the 32nd less 1 items': Start(counted=(1 << 32) - 1),
-           'first item data of 65 bytes': Start(items=[long]), 'last item data of 65 bytes': Start(items=(ITEMS * 4)[:15] + [long]), 'item data of 255 bytes': Start(items=ITEMS + [(0, bytes(32), 0, nonzero(255))]),
+    many = (ITEMS * MOST_ITEMS)[:MOST_ITEMS]
+    bad = {f'{MOST_ITEMS + 1} items': Start(items=many, counted=MOST_ITEMS + 1), '2 to the 24th items': Start(items=many, counted=1 << 24), '2 to the 32nd less 1 items': Start(counted=(1 << 32) - 1),
+           'first item data of 65 bytes': Start(items=[long]), 'last item data of 65 bytes': Start(items=many[:-1] + [long]), 'item data of 255 bytes': Start(items=ITEMS + [(0, bytes(32), 0, nonzero(255))]),
            'image ID of 65 bytes': Start(image_id=nonzero(65)), 'image ID of 255 bytes': Start(image_id=nonzero(255))}
     for bsu in (0x00, 0x40, 0x43, 0xff):
         bad[f'BSU {bsu:02x}'] = Start(bsu=bsu)
     for result in (1, 4, 255):
         bad[f'result {result} in the first item'] = Start(items=[odd(result)])
-        bad[f'result {result} in the last of 16 items'] = Start(items=(ITEMS * 4)[:15] + [odd(result)])
+        bad[f'result {result} in the last of {MOST_ITEMS} items'] = Start(items=many[:-1] + [odd(result)])
     for what, data in bad.items():
         assert not data.allowed()
         c = Case(f'start data: {what}', FULL).post(1, b'x').ask(0x10, b'\3kept').send(8).take(5).receive(L12[:4]).mark().start(data).same()
         yield c.receive(L12[4:]).take().local().lend('outbox', 4146).start(data).lend('outbox').start(Start()).local()
     yield Case('start data refused before any start').mark().start(Start(bsu=0)).same().start(Start()).ask(8)
     for result in (0, 2, 3):
-        yield Case(f'start data: result {result} in each of 16 items', Start(items=[(result, name('same'), 1, nonzero(64))] * 16, bsu=0x42, image_id=nonzero(64))).ask(0x0f, little(15, 4))
+        c = Case(f'start data: result {result} in each of {MOST_ITEMS} items', Start(items=[(result, name('same'), 1, nonzero(64))] * MOST_ITEMS, bsu=0x42, image_id=nonzero(64)))
+        yield c.ask(0x0f, little(MOST_ITEMS - 1, 4)).ask(0x0f, little(MOST_ITEMS, 4)).ask(0x0e, b'\2' + little(8, 2)).lookup(2, 8)
     yield Case('start data: an item past the count is free', Start(items=ITEMS + [odd(1)], counted=4)).mark().same()
 
 
@@ -736,11 +749,11 @@ def short_parts():
             c.calls(True).start(FULL).start(Start(bsu=0)).lend(part).same()
             yield c.receive(L12[4:]).take().local()
         c = Case(f'just enough of the {part}', FULL).lend(part, PUBLISHED[part]).start(FULL).calls()
-        yield c.ask(0x10, b'\5' + nonzero(1024)).local()
+        yield c.ask(0x10, b'\5' + nonzero(KEYS[5])).local()
     c = Case('just enough of every part')
     for part in PARTS:
         c.lend(part, PUBLISHED[part])
-    yield c.start(FULL).calls().ask(0x10, b'\5' + nonzero(1024)).local()
+    yield c.start(FULL).calls().ask(0x10, b'\5' + nonzero(KEYS[5])).local()
 
 
 # Each field of docs/STATE.md: the part, what must stand elsewhere first, the place, values that are refused, values that are not.
@@ -749,8 +762,9 @@ def two(n):
 
 
 def fields():
-    one_item = [('factory', 1717, little(1, 4))]
-    items_16 = [('factory', 1717, little(16, 4))]
+    one_item = [('factory', COUNT_PLACE, little(1, 4))]
+    all_items = [('factory', COUNT_PLACE, little(MOST_ITEMS, 4))]
+    last_item = ITEMS_PLACE + ITEM_LENGTH * (MOST_ITEMS - 1)
     one_alert = [('registers', 1055, b'\1'), ('registers', 1052, b'\1')]
     alerts_8 = [('registers', 1055 + 259 * i, b'\1') for i in range(8)] + [('registers', 1052, b'\x08')]
     yield 'reader', 'count', [], 0, [two(4142), two(65535)], [two(4141), two(4140)]
@@ -759,15 +773,15 @@ def fields():
     yield 'outbox', 'flag', [], 4, [b'\2', b'\xff'], [b'\1']
     yield 'factory', 'BSU', [], 0, [b'\0', b'\x40', b'\x43', b'\xff'], [b'\x41']
     yield 'factory', 'image ID length', [], 68, [b'\x41', b'\xff'], [b'\x40']
-    yield 'factory', 'first result', one_item, 133, [b'\1', b'\4', b'\xff'], [b'\0', b'\2', b'\3']
-    yield 'factory', 'first item length', one_item, 167, [b'\x41', b'\xff'], [b'\x40']
-    yield 'factory', 'last result', items_16, 133 + 99 * 15, [b'\1', b'\4', b'\xff'], [b'\0', b'\2', b'\3']
-    yield 'factory', 'last item length', items_16, 167 + 99 * 15, [b'\x41', b'\xff'], [b'\x40']
-    yield 'factory', 'an item past the count', one_item, 133 + 99, [], [b'\1', b'\xff' * 35]
-    yield 'factory', 'item count', [], 1717, [little(17, 4), little(256, 4), little(1 << 16, 4), little(1 << 24, 4)], [little(16, 4)]
-    yield 'factory', 'inventory version', [], 1721, [little(1, 4), little(256, 4), little(1 << 24, 4)], []
-    yield 'factory', 'key 0', [], 1725, [b'Pong', b'poNg', b'ponG', bytes(4)], []
-    for key, at in ((3, 0), (4, 259), (5, 4358)):
+    yield 'factory', 'first result', one_item, ITEMS_PLACE, [b'\1', b'\4', b'\xff'], [b'\0', b'\2', b'\3']
+    yield 'factory', 'first item length', one_item, ITEMS_PLACE + 34, [b'\x41', b'\xff'], [b'\x40']
+    yield 'factory', 'last result', all_items, last_item, [b'\1', b'\4', b'\xff'], [b'\0', b'\2', b'\3']
+    yield 'factory', 'last item length', all_items, last_item + 34, [b'\x41', b'\xff'], [b'\x40']
+    yield 'factory', 'an item past the count', one_item, ITEMS_PLACE + ITEM_LENGTH, [], [b'\1', b'\xff' * 35]
+    yield 'factory', 'item count', [], COUNT_PLACE, [little(n, 4) for n in (MOST_ITEMS + 1, 256, 1 << 16, 1 << 24)], [little(MOST_ITEMS, 4)]
+    yield 'factory', 'inventory version', [], VERSION_PLACE, [little(1, 4), little(256, 4), little(1 << 24, 4)], []
+    yield 'factory', 'key 0', [], PONG_PLACE, [b'Pong', b'poNg', b'ponG', bytes(4)], []
+    for key, at in SETTINGS.items():
         yield 'settings', f'key {key} flag', [], at, [b'\2', b'\xff'], [b'\1']
         yield 'settings', f'key {key} length', [], at + 1, [two(KEYS[key] + 1), two(65535)], [two(KEYS[key])]
         yield 'settings', f'key {key} length of a value', [('settings', at, b'\1')], at + 1, [two(KEYS[key] + 1), two(65535)], [two(KEYS[key])]
@@ -837,9 +851,9 @@ def some_data(dice, command):
     if command == 0x0e:
         return bytes([dice.below(7)]) + little(dice.pick((0, 3, 4, 8, 64, 256, 4096, 65535)), 2)
     if command == 0x0f:
-        return little(dice.pick((0, 1, 2, 3, 4, 5, 16, (1 << 32) - 1)), 4)
+        return little(dice.pick((0, 1, 2, 3, 4, 5, 16, MOST_ITEMS, (1 << 32) - 1)), 4)
     if command == 0x10:
-        return bytes([dice.below(7)]) + dice.bytes(dice.pick((size, size, 1024, 1025)))
+        return bytes([dice.below(7)]) + dice.bytes(dice.pick((size, size, 1024, KEYS[5], KEYS[5] + 1)))
     return b''
 
 

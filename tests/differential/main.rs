@@ -8,6 +8,7 @@ mod library;
 mod link;
 mod model;
 mod plans;
+mod probes;
 mod random;
 mod state;
 mod traffic;
@@ -95,7 +96,11 @@ fn samples(world: &mut World) -> Result<(), String> {
 
 fn plain(seed: u64, count: u64, trace: bool) -> ExitCode {
     let mut world = World::new(seed, trace);
-    let result = samples(&mut world).and_then(|()| checksums(seed)).and_then(|()| link::compare(seed, count / 10, &mut world.tally.calls)).and_then(|()| world.history(count));
+    let result = samples(&mut world)
+        .and_then(|()| checksums(seed))
+        .and_then(|()| link::compare(seed, count / 10, &mut world.tally.calls))
+        .and_then(|()| probes::compare(seed, count / 10, &mut world.tally.calls))
+        .and_then(|()| world.history(count));
     let tally = &world.tally;
     let missing = tally.missing();
     if let Err(difference) = &result {
@@ -123,7 +128,9 @@ fn faults(numbers: &[usize], seed: u64, count: u64) -> ExitCode {
     for &number in numbers {
         break_rule(number);
         let mut world = World::new(seed, false);
-        let result = link::compare(seed, count / 10, &mut world.tally.calls).and_then(|()| world.history(count));
+        let result = link::compare(seed, count / 10, &mut world.tally.calls)
+            .and_then(|()| probes::compare(seed, count / 10, &mut world.tally.calls))
+            .and_then(|()| world.history(count));
         let words = FAULTS[number - 1].1;
         match result {
             Ok(()) => {

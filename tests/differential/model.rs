@@ -10,6 +10,9 @@ pub const SHORTEST_MESSAGE: usize = 19;
 pub const LONGEST_MESSAGE: usize = 4123;
 pub const LONGEST_DATA: usize = 4104;
 pub const TOP_BIT: u64 = 1 << 63;
+pub const MOST_ITEMS: usize = 64;
+/// The longest value of each settings key, from 3 on.
+pub const LONGEST: [usize; 3] = [256, 4096, 4096];
 
 macro_rules! faults {
     ($($name:ident: $words:literal,)*) => {
@@ -51,7 +54,7 @@ faults! {
     HashIgnored: "the image's hash is not compared",
     OffsetTruncated: "an image offset is taken mod 2 to the 32",
     Key3At257: "key 3 takes 257 bytes",
-    Key5At4096: "key 5 takes 4,096 bytes",
+    Key5At1024: "key 5 takes 1,024 bytes at most",
     EmptyIsNone: "a stored empty value is no value",
     MostIsBelow: "a value as long as maxresponse is too long",
     ReadOnlyAfterLength: "setting a read-only key with a long value gives 3",
@@ -64,6 +67,7 @@ faults! {
     SignalBit0: "the line signal follows bit 0 alone",
     TwelveLast: "8 is tested ahead of 12",
     ItemsPastCount: "start tests items past their count",
+    Items16: "start takes 16 items at most",
     StartKeepsFlag: "start keeps that a byte was taken and non-zero",
     TakeOneLess: "take leaves the last pending byte",
     TakeFlagAny: "any taken byte counts as non-zero",
@@ -75,6 +79,13 @@ faults! {
     PlanRowsKept: "an address plan that passes keeps its rows",
     PlanCarryOneByte: "the stride of an address plan carries into one byte alone",
     PlanLowestFirst: "rows of an address plan have the lowest byte first",
+    ProbeAtLength: "an index at the probe list's length is let through",
+    ProbeResult1: "a probe's result 1 is let through",
+    ProbeEarlierWins: "a part of the probe list named twice keeps the earlier result",
+    ProbeAddress: "an update of the probe list writes the address too",
+    ProbeWritesFirst: "changes of the probe list ahead of a bad one are made",
+    ProbeLengths: "an index without a result, or a result without an index, is passed over",
+    ProbeNoChanges: "no changes of the probe list are refused",
     CrcLowBitFirst: "the root-of-trust CRC takes the low bit first",
     CrcNotComplemented: "the root-of-trust CRC is not complemented",
     CrcOverRest: "the root-of-trust CRC is taken over bytes past the payload too",
@@ -453,11 +464,11 @@ pub fn lookup(factory: &Factory, settings: &Settings, key: u8, most: u16) -> (u8
 
 fn set_key(settings: &mut Settings, key: u8, value: &[u8]) -> u8 {
     let most = match key {
-        0..=2 if broken(Fault::ReadOnlyAfterLength) && value.len() > 1024 => return 3,
+        0..=2 if broken(Fault::ReadOnlyAfterLength) && value.len() > LONGEST[0] => return 3,
         0..=2 => return 2,
-        3 => 256 + usize::from(broken(Fault::Key3At257)),
-        4 => 4096,
-        5 => if broken(Fault::Key5At4096) { 4096 } else { 1024 },
+        3 => LONGEST[0] + usize::from(broken(Fault::Key3At257)),
+        5 if broken(Fault::Key5At1024) => 1024,
+        4..=5 => LONGEST[usize::from(key) - 3],
         _ => return 1,
     };
     if value.len() > most {

@@ -1,7 +1,7 @@
 // Defines the lent parts as docs/STATE.md lists them: lengths, fields with their allowed values, and the typed state that valid bytes mean.
 // Assumes docs/STATE.md alone.
 
-use crate::model::{broken, Alert, Factory, Fault, Item, Outbox, Reader, Record, Registers, Settings};
+use crate::model::{broken, Alert, Factory, Fault, Item, Outbox, Reader, Record, Registers, Settings, LONGEST, MOST_ITEMS};
 
 /// The parts: a line reader's of its own, then the supervisor's five.
 pub const LINE: usize = 0;
@@ -11,10 +11,27 @@ pub const FACTORY: usize = 3;
 pub const SETTINGS: usize = 4;
 pub const REGISTERS: usize = 5;
 pub const NAMES: [&str; 6] = ["line state", "reader", "outbox", "factory", "settings", "registers"];
-pub const LENGTHS: [usize; 6] = [4142, 4142, 4147, 1729, 5385, 3393];
-pub const START_LENGTH: usize = 1721;
+pub const LENGTHS: [usize; 6] = [4142, 4142, 4147, FACTORY_LENGTH, SETTINGS_LENGTH, 3393];
 pub const DATA_PLACE: usize = 19;
-pub const KEYS: [(usize, usize); 3] = [(0, 256), (259, 4096), (4358, 1024)];
+
+/// Where the inventory's items, their count and what follows stand in the factory store.
+pub const ITEMS_PLACE: usize = 133;
+pub const ITEM_LENGTH: usize = 99;
+pub const ITEM_DATA_LENGTH: usize = 34;
+pub const COUNT_PLACE: usize = ITEMS_PLACE + MOST_ITEMS * ITEM_LENGTH;
+pub const START_LENGTH: usize = COUNT_PLACE + 4;
+const VERSION_PLACE: usize = START_LENGTH;
+const PONG_PLACE: usize = VERSION_PLACE + 4;
+const FACTORY_LENGTH: usize = PONG_PLACE + 4;
+
+/// Where the setting of each settings key from 3 on stands, and its longest value; a value stands behind a flag and a length.
+const VALUE_PLACE: usize = 3;
+pub const KEYS: [(usize, usize); 3] = {
+    let second = VALUE_PLACE + LONGEST[0];
+    let third = second + VALUE_PLACE + LONGEST[1];
+    [(0, LONGEST[0]), (second, LONGEST[1]), (third, LONGEST[2])]
+};
+const SETTINGS_LENGTH: usize = KEYS[2].0 + VALUE_PLACE + LONGEST[2];
 
 pub enum Allowed {
     UpTo(u64),
@@ -68,12 +85,14 @@ fn start_fields(bytes: &[u8]) -> Vec<Field> {
     let mut fields = vec![
         Field { place: 0, width: 1, allowed: Allowed::OneOf(&[0x41, 0x42]) },
         Field { place: 68, width: 1, allowed: Allowed::UpTo(64) },
-        Field { place: 1717, width: 4, allowed: Allowed::UpTo(16) },
+        Field { place: COUNT_PLACE, width: 4, allowed: Allowed::UpTo(if broken(Fault::Items16) { 16 } else { MOST_ITEMS as u64 }) },
     ];
-    let counted = if broken(Fault::ItemsPastCount) { 16 } else { number(bytes, 1717, 4).min(16) as usize };
+    let held = number(bytes, COUNT_PLACE, 4).min(MOST_ITEMS as u64) as usize;
+    let counted = if broken(Fault::ItemsPastCount) { MOST_ITEMS } else { held };
     for item in 0..counted {
-        fields.push(Field { place: 133 + 99 * item, width: 1, allowed: Allowed::OneOf(&[0, 2, 3]) });
-        fields.push(Field { place: 167 + 99 * item, width: 1, allowed: Allowed::UpTo(64) });
+        let place = ITEMS_PLACE + ITEM_LENGTH * item;
+        fields.push(Field { place, width: 1, allowed: Allowed::OneOf(&[0, 2, 3]) });
+        fields.push(Field { place: place + ITEM_DATA_LENGTH, width: 1, allowed: Allowed::UpTo(64) });
     }
     fields
 }
@@ -87,8 +106,8 @@ pub fn fields(part: usize, bytes: &[u8]) -> Vec<Field> {
         OUTBOX => vec![up_to(0, 2, number(bytes, 2, 2)), up_to(2, 2, 4142), flag(4)],
         FACTORY => {
             let mut fields = start_fields(bytes);
-            fields.push(Field { place: 1721, width: 4, allowed: Allowed::OneOf(&[0]) });
-            fields.push(Field { place: 1725, width: 4, allowed: Allowed::OneOf(&[0x676e_6f70]) });
+            fields.push(Field { place: VERSION_PLACE, width: 4, allowed: Allowed::OneOf(&[0]) });
+            fields.push(Field { place: PONG_PLACE, width: 4, allowed: Allowed::OneOf(&[0x676e_6f70]) });
             fields
         }
         SETTINGS => KEYS.iter().flat_map(|&(place, most)| [flag(place), up_to(place + 1, 2, most as u64)]).collect(),
@@ -150,12 +169,12 @@ pub fn outbox(bytes: &[u8]) -> Outbox {
 
 pub fn factory(bytes: &[u8]) -> Factory {
     let item = |i: usize| {
-        let place = 133 + 99 * i;
+        let place = ITEMS_PLACE + ITEM_LENGTH * i;
         Item {
             result: bytes[place],
             name: array(bytes, place + 1),
             kind: bytes[place + 33],
-            data: run(bytes, place + 35, u64::from(bytes[place + 34])),
+            data: run(bytes, place + 35, u64::from(bytes[place + ITEM_DATA_LENGTH])),
         }
     };
     Factory {
@@ -168,12 +187,12 @@ pub fn factory(bytes: &[u8]) -> Factory {
         stride: bytes[35],
         hash: array(bytes, 36),
         image_id: run(bytes, 69, u64::from(bytes[68])),
-        items: (0..number(bytes, 1717, 4) as usize).map(item).collect(),
+        items: (0..number(bytes, COUNT_PLACE, 4) as usize).map(item).collect(),
     }
 }
 
 pub fn settings(bytes: &[u8]) -> Settings {
-    KEYS.map(|(place, _)| (bytes[place] == 1).then(|| run(bytes, place + 3, number(bytes, place + 1, 2))))
+    KEYS.map(|(place, _)| (bytes[place] == 1).then(|| run(bytes, place + VALUE_PLACE, number(bytes, place + 1, 2))))
 }
 
 fn record(bytes: &[u8], place: usize) -> Option<Record> {

@@ -1,9 +1,9 @@
 // Defines the random frames that are fed to both sides, and random start data.
 // Assumes the model for forms, checksums and what the supervisor holds.
 
-use crate::model::{body, checksum, cobs, frame, Supervisor, MAGIC, TOP_BIT};
+use crate::model::{body, checksum, cobs, frame, Supervisor, LONGEST, MAGIC, MOST_ITEMS, TOP_BIT};
 use crate::random::Random;
-use crate::state::{number, put, START_LENGTH};
+use crate::state::{number, put, COUNT_PLACE, ITEMS_PLACE, ITEM_DATA_LENGTH, ITEM_LENGTH, START_LENGTH};
 
 const COMMANDS: [u8; 14] = [0x01, 0x02, 0x03, 0x04, 0x05, 0x06, 0x07, 0x08, 0x09, 0x0a, 0x0d, 0x0e, 0x0f, 0x10];
 
@@ -81,7 +81,7 @@ fn data(random: &mut Random, supervisor: &Supervisor, command: u8, image: usize)
         0x0f => {
             let index = match random.below(8) {
                 0 => supervisor.factory.items.len() as u32,
-                1 => random.pick(&[u32::MAX, 16, 256, 65536, 1 << 31]),
+                1 => random.pick(&[u32::MAX, MOST_ITEMS as u32, 256, 65536, 1 << 31]),
                 _ => random.below(supervisor.factory.items.len() + 1) as u32,
             };
             index.to_le_bytes().to_vec()
@@ -89,10 +89,8 @@ fn data(random: &mut Random, supervisor: &Supervisor, command: u8, image: usize)
         0x10 => {
             let key = if random.percent(90) { random.below(6) as u8 } else { random.byte() };
             let limits: &[usize] = match key {
-                3 => &[0, 256],
-                4 => &[0, 4096],
-                5 => &[0, 1024],
-                _ => &[0, 256, 1024, 4096],
+                3..=5 => &[0, LONGEST[usize::from(key) - 3]],
+                _ => &[0, LONGEST[0], LONGEST[1]],
             };
             let length = length_near(random, limits);
             let mut data = vec![key];
@@ -263,22 +261,23 @@ pub fn next(random: &mut Random, supervisor: &Supervisor, image: usize) -> Vec<u
 pub fn start_data(random: &mut Random) -> [u8; START_LENGTH] {
     let mut data = [0; START_LENGTH];
     random.fill(&mut data);
-    let items = random.pick(&[0, 1, 2, 15, 16]);
+    let items = random.pick(&[0, 1, 2, 16, 17, MOST_ITEMS - 1, MOST_ITEMS]);
     data[0] = random.pick(&[0x41, 0x42]);
     data[68] = if random.percent(50) { random.below(65) as u8 } else { random.pick(&[0, 1, 63, 64]) };
-    put(&mut data, 1717, 4, items);
-    for item in 0..items as usize {
-        data[133 + 99 * item] = random.pick(&[0, 0, 2, 3]);
-        data[167 + 99 * item] = if random.percent(70) { random.below(65) as u8 } else { random.pick(&[0, 63, 64]) };
+    put(&mut data, COUNT_PLACE, 4, items as u64);
+    for item in 0..items {
+        let place = ITEMS_PLACE + ITEM_LENGTH * item;
+        data[place] = random.pick(&[0, 0, 2, 3]);
+        data[place + ITEM_DATA_LENGTH] = if random.percent(70) { random.below(65) as u8 } else { random.pick(&[0, 63, 64]) };
     }
     if random.percent(25) {
-        let item = random.below(items as usize);
+        let place = ITEMS_PLACE + ITEM_LENGTH * random.below(items);
         match random.below(5) {
             0 => data[0] = random.pick(&[0x00, 0x40, 0x43, 0xff]),
             1 => data[68] = random.pick(&[65, 66, 128, 255]),
-            2 => put(&mut data, 1717, 4, random.pick(&[17, 256, 65536, 1 << 24, u64::from(u32::MAX)])),
-            3 => data[133 + 99 * item] = random.pick(&[1, 4, 255]),
-            _ => data[167 + 99 * item] = random.pick(&[65, 66, 255]),
+            2 => put(&mut data, COUNT_PLACE, 4, random.pick(&[MOST_ITEMS as u64 + 1, 256, 65536, 1 << 24, u64::from(u32::MAX)])),
+            3 => data[place] = random.pick(&[1, 4, 255]),
+            _ => data[place + ITEM_DATA_LENGTH] = random.pick(&[65, 66, 255]),
         }
     }
     data

@@ -5,6 +5,7 @@
 
 mod line;
 mod plan;
+mod probes;
 mod raw;
 pub mod rot;
 mod start;
@@ -12,6 +13,7 @@ mod supervisor;
 
 pub use line::{checksum, write_frame, Failure, LineReader, Message, Read, ReadEnd, Tail, LONGEST_FRAME};
 pub use plan::{AddressPlan, ADDRESS_LENGTH, ADDRESS_ROWS};
+pub use probes::{update_probes, Probe};
 pub use start::{Bsu, ItemResult, StartData};
 pub use supervisor::{Flags, Found, Options, Record, Step, StepEnd, Supervisor};
 
@@ -31,6 +33,8 @@ pub enum Refusal {
     BadState = 12,
     /// An option bit above 8, or alert action 0.
     BadValue = 13,
+    /// A probe update: an index past the list, a result that is not 0, 2 or 3, or lists of different lengths.
+    BadProbe = 15,
     /// The last counted address of a plan passes ff:ff:ff:ff:ff:ff.
     PlanPasses = 16,
     /// Root-of-trust link: no input.
@@ -105,6 +109,7 @@ fn said(number: u32) -> Result<(), Refusal> {
         11 => Refusal::BadStart,
         12 => Refusal::BadState,
         13 => Refusal::BadValue,
+        15 => Refusal::BadProbe,
         16 => Refusal::PlanPasses,
         20 => Refusal::NoInput,
         21 => Refusal::BadProtocol,

@@ -1,5 +1,13 @@
 //! Defines the C functions as `include/oatcastle.h` declares them.
-//! Assumes that every pointer is to as many bytes or numbers as the length behind it says.
+//! Assumes that every pointer is to as many bytes, numbers or records as the length behind it says.
+
+/// A part's address on the bus, and the result of its probe.
+#[derive(Clone, Copy, Debug, PartialEq, Eq)]
+#[repr(C)]
+pub struct Probe {
+    pub address: u8,
+    pub result: u8,
+}
 
 extern "C" {
     pub(crate) fn oatcastle_line_start(state: *mut u8, state_length: usize) -> u32;
@@ -48,6 +56,9 @@ extern "C" {
     ) -> u32;
     pub(crate) fn oatcastle_addresses(base: *const u8, count: u16, stride: u8, room: *mut u8, room_length: usize) -> u32;
     pub(crate) fn oatcastle_plan(base: *const u8, count: u16, stride: u8) -> u32;
+    pub(crate) fn oatcastle_probe_update(
+        list: *mut Probe, list_count: usize, indices: *const usize, indices_count: usize, results: *const u8, results_length: usize,
+    ) -> u32;
     pub(crate) fn oatcastle_rot_read(
         input: *const u8, input_length: usize, out: *mut u8, out_length: usize, answer: *mut u64, answer_count: usize,
     ) -> u32;

@@ -3,12 +3,13 @@
 
 use crate::Refusal;
 
-pub(crate) const START_LENGTH: usize = 1721;
-const ITEMS: usize = 16;
+pub(crate) const START_LENGTH: usize = 6473;
+const ITEMS: usize = 64;
 const ITEM_LENGTH: usize = 99;
 const ITEM_DATA: usize = 64;
 const IMAGE_ID: usize = 64;
-const COUNT_PLACE: usize = 1717;
+const ITEMS_PLACE: usize = 133;
+const COUNT_PLACE: usize = 6469;
 
 /// The boot storage unit.
 #[derive(Clone, Copy, Debug, PartialEq, Eq)]
@@ -87,7 +88,7 @@ impl StartData {
         if self.items == ITEMS || data.len() > ITEM_DATA {
             return Err(Refusal::BadStart);
         }
-        let place = 133 + ITEM_LENGTH * self.items;
+        let place = ITEMS_PLACE + ITEM_LENGTH * self.items;
         self.put(place, &[result as u8]);
         self.put(place + 1, &name);
         self.put(place + 33, &[kind, data.len() as u8]);

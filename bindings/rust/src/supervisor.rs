@@ -4,7 +4,7 @@
 use crate::{length, raw, said, Reason, Refusal, StartData};
 use core::num::NonZeroU8;
 
-/// A supervisor and the 18,796 bytes of state that it lends. It exists only started, and only its own calls write its state.
+/// A supervisor and the 26,620 bytes of state that it lends. It exists only started, and only its own calls write its state.
 ///
 /// The state cannot be made by hand:
 /// ```compile_fail
@@ -13,8 +13,8 @@ use core::num::NonZeroU8;
 pub struct Supervisor {
     reader: [u8; 4142],
     outbox: [u8; 4147],
-    factory: [u8; 1729],
-    settings: [u8; 5385],
+    factory: [u8; 6481],
+    settings: [u8; 8457],
     registers: [u8; 3393],
 }
 
@@ -110,8 +110,8 @@ impl Supervisor {
         let mut supervisor = Supervisor {
             reader: [0; 4142],
             outbox: [0; 4147],
-            factory: [0; 1729],
-            settings: [0; 5385],
+            factory: [0; 6481],
+            settings: [0; 8457],
             registers: [0; 3393],
         };
         supervisor.restart(data)?;

@@ -2,8 +2,8 @@
 // Assumes the static library is linked.
 
 use oatcastle::{
-    write_frame, AddressPlan, Bsu, Failure, Flags, Found, ItemResult, LineReader, Options, ReadEnd, Reason, Record, Refusal,
-    StartData, Step, StepEnd, Supervisor, Tail, LONGEST_FRAME,
+    update_probes, write_frame, AddressPlan, Bsu, Failure, Flags, Found, ItemResult, LineReader, Options, Probe, ReadEnd, Reason, Record,
+    Refusal, StartData, Step, StepEnd, Supervisor, Tail, LONGEST_FRAME,
 };
 use std::num::NonZeroU8;
 
@@ -58,7 +58,7 @@ fn start_data_have_bounds() {
     assert!(data.image_id(&[1; 64]).is_ok());
     assert_eq!(data.image_id(&[1; 65]).err(), Some(Refusal::BadStart));
     assert_eq!(data.item(ItemResult::Found, [0; 32], 0, &[0; 65]).err(), Some(Refusal::BadStart));
-    for _ in 0..16 {
+    for _ in 0..64 {
         assert!(data.item(ItemResult::Failed, [0; 32], 0, &[0; 64]).is_ok());
     }
     assert_eq!(data.item(ItemResult::Found, [0; 32], 0, &[]).err(), Some(Refusal::BadStart));
@@ -149,6 +149,42 @@ fn address_plans() {
     assert_eq!((past.addresses(), past.fits()), (Ok([[0; 6]; 8]), Err(Refusal::PlanPasses)));
     let none = AddressPlan { count: 0, ..last };
     assert_eq!((none.addresses(), none.fits()), (Ok([[0; 6]; 8]), Ok(())));
+}
+
+/// Indices and results on the list of three records with results 9, 8 and 1, what the call answers, and the results that it leaves.
+fn probed(indices: &[usize], results: &[u8], answer: Result<(), Refusal>, left: [u8; 3]) {
+    let records = |results: [u8; 3]| [0, 1, 2].map(|k| Probe { address: 0x50 + k as u8, result: results[k] });
+    let mut list = records([9, 8, 1]);
+    assert_eq!(update_probes(&mut list, indices, results), answer);
+    assert_eq!(list, records(left));
+}
+
+#[test]
+fn probe_lists() {
+    let refused = Err(Refusal::BadProbe);
+    probed(&[], &[], Ok(()), [9, 8, 1]);
+    probed(&[2, 0, 1], &[0, 2, 3], Ok(()), [2, 3, 0]);
+    probed(&[1, 2, 1], &[0, 2, 3], Ok(()), [9, 3, 2]);
+    probed(&[1, 1], &[3, 0], Ok(()), [9, 0, 1]);
+    probed(&[0, 1, 3], &[0, 2, 0], refused, [9, 8, 1]);
+    probed(&[0, 1, usize::MAX], &[0, 2, 0], refused, [9, 8, 1]);
+    probed(&[0, 1, 2], &[0, 2, 1], refused, [9, 8, 1]);
+    for result in (4..=255).chain([1]) {
+        probed(&[0], &[result], refused, [9, 8, 1]);
+    }
+    probed(&[0, 1], &[0], refused, [9, 8, 1]);
+    probed(&[0], &[0, 0], refused, [9, 8, 1]);
+    probed(&[], &[0], refused, [9, 8, 1]);
+    assert_eq!(update_probes(&mut [], &[], &[]), Ok(()));
+    assert_eq!(update_probes(&mut [], &[0], &[0]), refused);
+    let mut one = [Probe { address: 255, result: 0 }];
+    assert_eq!(update_probes(&mut one, &[0; 3], &[2, 0, 3]), Ok(()));
+    assert_eq!(one, [Probe { address: 255, result: 3 }]);
+    let mut many: Vec<Probe> = (0..300).map(|k| Probe { address: k as u8, result: 1 }).collect();
+    assert_eq!(update_probes(&mut many, &[299, 256], &[2, 3]), Ok(()));
+    let changed: Vec<(usize, u8)> = many.iter().enumerate().filter(|(_, p)| p.result != 1).map(|(k, p)| (k, p.result)).collect();
+    assert_eq!(changed, [(256, 3), (299, 2)]);
+    assert!(many.iter().enumerate().all(|(k, p)| p.address == k as u8));
 }
 
 #[test]

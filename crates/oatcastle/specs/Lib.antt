@@ -5,4 +5,5 @@ pub mod LineCalls
 pub mod SupervisorCalls
 pub mod ReceiveCalls
 pub mod AddressCalls
+pub mod ProbeCalls
 pub mod RotCalls

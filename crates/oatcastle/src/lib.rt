@@ -1,7 +1,8 @@
-// The C interface: line layer, supervisor, address plan and root-of-trust link as functions on numbers and lent slices. include/oatcastle.h is its header.
+// The C interface: line layer, supervisor, address plan, probe list and root-of-trust link as functions on numbers and lent slices. include/oatcastle.h is its header.
 // No function here that others can call has a `requires`; each promise settles the number returned and everything lent.
 pub mod frames;
 pub mod plans;
+pub mod probe_list;
 pub mod readings;
 pub mod receiving;
 pub mod rot_link;

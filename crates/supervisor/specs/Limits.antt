@@ -7,7 +7,7 @@ use Rattle.line.specs.Limits.{longest-data, longest-form}
 
 -- inventory
 abbrev pub most-items : ℕ
-most-items = 16
+most-items = 64
 
 abbrev pub longest-item-data : ℕ
 longest-item-data = 64
@@ -32,7 +32,7 @@ pub record SettingsKey (key : ℕ) : Type 0 where
 
 -- the longest value of each from the first on: 3, 4, and 5, the withdrawn-key list
 abbrev pub longest-settings : List ℕ
-longest-settings = 256 ∷ 4096 ∷ 1024 ∷ []
+longest-settings = 256 ∷ 4096 ∷ 4096 ∷ []
 
 unfoldable pub longest-setting : ℕ → ℕ
 longest-setting key = getD longest-settings (key - first-setting) 0

@@ -6,7 +6,7 @@ ghost use Rattle.supervisor.specs.Limits.{longest-setting, longest-value
 ghost use Rattle.supervisor.specs.Layout.{setting-place, settings-length};
 
 // Limits of document 01.
-pub const MOST_ITEMS: usize = 16;
+pub const MOST_ITEMS: usize = 64;
 
 pub const LONGEST_ITEM_DATA: usize = 64;
 
@@ -24,7 +24,7 @@ pub const LONGEST_KEY_3: usize = 256;
 pub const LONGEST_KEY_4: usize = 4096;
 
 // The withdrawn-key list.
-pub const LONGEST_KEY_5: usize = 1024;
+pub const LONGEST_KEY_5: usize = 4096;
 
 pub const MOST_ALERTS: usize = 8;
 

@@ -1,0 +1,14 @@
+-- The probe list's call in the C interface: the number that it returns, and the list that it leaves.
+-- Assumes nothing: these are definitions.
+use mathlib.Core.List.{List}
+use Prim.Native.Nat.{ℕ}
+use Rattle.probes.specs.declared.Probe.{Probe}
+use Rattle.probes.specs.Probes as Probes
+use Rattle.oatcastle.specs.Answers.{Outcome, outcome, numbered}
+
+-- 0 or 15, and the list
+abbrev pub probeTold : Probes.Outcome → Outcome (List Probe)
+probeTold o = outcome (numbered (o .refusal)) (o .list)
+
+unfoldable pub probeUpdateCall : List Probe → List ℕ → List ℕ → Outcome (List Probe)
+probeUpdateCall l indices results = probeTold (Probes.updating l indices results)

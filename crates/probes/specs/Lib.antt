@@ -1,0 +1,3 @@
+-- The definitions of the probe list.
+-- Assumes nothing.
+pub mod Probes
