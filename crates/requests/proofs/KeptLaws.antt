@@ -1,9 +1,10 @@
 -- What a request does keeps the outbox, the settings and the registers valid.
 -- Assumes nothing.
 use mathlib.Core.Path.{_≡_, refl, ap, _∙_}
-use mathlib.Core.Logic.{_⊎_, inl, inr}
+use mathlib.Core.Logic.{inl, inr}
 use mathlib.Core.Bool.{Bool, true, false, cond, and-eq-true-iff}
 use mathlib.Core.List.{List, [], _∷_, _++_}
+use mathlib.Core.Option.{Option, none, some}
 use Prim.Native.Nat.{ℕ, suc, _+_, _-_, _*_, _^_, _≤_, _<_}
 use native.Mathlib.Nat.{add-zero}
 use native.Mathlib.Omega.{arith}
@@ -29,6 +30,7 @@ use Rattle.supervisor.proofs.ValidLaws.{all-each, each-all, outbox-valid, valid
 use Rattle.supervisor.proofs.ValidLaws.{alert-valid, valid-alert, RecordValid, RegistersValid, registers-valid}
 use Rattle.supervisor.proofs.KeptRegisters.{FlagsValid, FailureValid, PanicValid, groups-valid, numbers-kept, flags-kept, failure-kept, panic-kept, waiting-kept, retained-kept, kept-valid}
 use Rattle.requests.specs.Requests.{clearBit}
+use Rattle.requests.specs.Commands.{Command, commandOf}
 use Rattle.requests.specs.Receive
 use Rattle.requests.proofs.ReceiveLaws.{item-held}
 use Rattle.requests.proofs.TakenLaws.{retaining-held, retained-settled, settled}
@@ -451,28 +453,13 @@ alert-data-short r sequence v =
     let a = settled r sequence v {s = s} refl in
     run-short (Layout.retained-alert-place + Layout.alert-action-place) (1 + Layout.alertTextLength s Layout.retained-alert-place) (1 + Limits.longest-alert) s (omega arith)
 
--- a reply with data that a message may have, with one byte, and to a request that changes no more than the pending reply
+-- a reply with data that a message may have, and with one byte
 pub reply-short : (reply : Receive.Head) (command : ℕ) (payload : List ℕ) → length payload ≤ longest-data
     → length (Receive.replyBytes reply command payload) ≤ longest-form + 1
 reply-short reply command payload h = frame-fits (Receive.messageBy (reply .version) (reply .number .0) command payload) h
 
 pub byte-reply-short : (reply : Receive.Head) (command n : ℕ) → length (Receive.replyBytes reply command (bytes 1 n)) ≤ longest-form + 1
 byte-reply-short reply command n = reply-short reply command (bytes 1 n) (rw length-bytes (omega arith))
-
-abbrev Short : List ℕ → Type 0
-Short l = length l ≤ longest-form + 1
-
-pub asked-short : (image f s r : List ℕ) (reply : Receive.Head) (command : ℕ) (d : List ℕ) → validFactory f ≡ true → validSettings s ≡ true
-    → length (Receive.askedBytes image f s r reply command d) ≤ longest-form + 1
-unfolding Receive.askedBytes
-asked-short image f s r reply command d v w =
-    cond-by Short (eqb command 0x03) _ _ (λ _. reply-short _ _ _ (run-short Layout.bsu-place 1 longest-data f (omega arith))) (λ _.
-    cond-by Short (eqb command 0x04) _ _ (λ _. reply-short _ _ _ (run-short Layout.identity-place 26 longest-data f (omega arith))) (λ _.
-    cond-by Short (eqb command 0x05) _ _ (λ _. reply-short _ _ _ (run-short Layout.mac-place 9 longest-data f (omega arith))) (λ _.
-    cond-by Short (eqb command 0x08) _ _ (λ _. reply-short _ _ _ (run-short Layout.status-place 16 longest-data r (omega arith))) (λ _.
-    cond-by Short (eqb command 0x0d) _ _ (λ _. reply-short _ _ _ (omega (arith, block-short f image d))) (λ _.
-    cond-by Short (eqb command 0x0e) _ _ (λ _. reply-short _ _ _ (omega (arith, value-data-short f s d v w))) (λ _.
-    reply-short _ _ _ (omega (arith, item-short f (numberAt 4 d 0) v))))))))
 
 -- ---- all that a request changes
 
@@ -518,26 +505,41 @@ silently-valid i r v h =
     let w = inner-valid i v in
     changed-valid _ [] _ _ (w .outbox) (omega arith) (w .settings) h
 
-abbrev Good : Receive.Inner → Type 0
-Good i = Receive.validInner i ≡ true
+module _ (image f : List ℕ) (i : Receive.Inner) (sequence : ℕ) (d : List ℕ) (g : validFactory f ≡ true) (v : Receive.validInner i ≡ true)
+    (short : length d ≤ longest-data) (byte : numberAt 1 d 0 < 256) where
+  abbrev w : InnerValid i
+  w = inner-valid i v
 
-pub carried-valid : (image f : List ℕ) (i : Receive.Inner) (sequence command : ℕ) (d : List ℕ) → validFactory f ≡ true → Receive.validInner i ≡ true
-    → length d ≤ longest-data → numberAt 1 d 0 < 256 → Receive.validInner (Receive.carriedInner image f i sequence command d) ≡ true
-unfolding Receive.carriedInner Receive.keySetAnswered Receive.alertAnswered
-carried-valid image f i sequence command d g v short byte =
-    let w = inner-valid i v in
-    let r = i .registers in
-    cond-by Good (eqb command 0x01) _ _ (λ _. silently-valid i _ v (asked-valid r (w .registers) Layout.reboot-place (omega arith))) (λ _.
-    cond-by Good (eqb command 0x02) _ _ (λ _. silently-valid i _ v (asked-valid r (w .registers) Layout.power-off-place (omega arith))) (λ _.
-    cond-by Good (eqb command 0x06) _ _ (λ _.
-    silently-valid i _ v (boot-failure-valid r (numberAt 1 d 0) (drop 1 d) (w .registers) byte (omega (arith, length-drop 1 d)))) (λ _.
-    cond-by Good (eqb command 0x10) _ _ (λ _.
-    changed-valid _ _ _ _ (w .outbox) (byte-reply-short _ 0x0c _) (storing-valid (i .settings) (drop 1 d) (w .settings) (numberAt 1 d 0)) (w .registers)) (λ _.
-    cond-by Good (eqb command 0x0a) _ _ (λ _.
-    changed-valid _ _ _ _ (w .outbox) (reply-short _ 0x07 _ (omega (arith, alert-data-short r sequence (w .registers)))) (w .settings) (alert-registers-valid r sequence (w .registers))) (λ _.
-    cond-by Good (eqb command 0x07) _ _ (λ _.
-    acknowledged-valid i _ _ v (panic-valid r (numberAt 2 d 0) (drop 2 d) (w .registers) (omega (arith, length-drop 2 d)))) (λ _.
-    cond-by Good (eqb command 0x09) _ _ (λ _.
-    let s = registers-valid r (w .registers) in
-    acknowledged-valid i _ _ v (status-valid r (w .registers) _ (omega (arith, clear-small (Layout.statusOf r) 0)))) (λ _.
-    changed-valid _ _ _ _ (w .outbox) (asked-short image f (i .settings) r (Receive.replyHead sequence) command d g (w .settings)) (w .settings) (w .registers))))))))
+  abbrev r : List ℕ
+  r = i .registers
+
+  command-valid : (x : Command) → Receive.validInner (Receive.leftBy x image f i sequence d) ≡ true
+  unfolding Receive.leftBy Receive.keySetAnswered Receive.alertAnswered
+  command-valid Command.reboot = silently-valid i _ v (asked-valid r (w .registers) Layout.reboot-place (omega arith))
+  command-valid Command.power-off = silently-valid i _ v (asked-valid r (w .registers) Layout.power-off-place (omega arith))
+  command-valid Command.bsu = answering-valid i _ 0x03 _ v (run-short Layout.bsu-place 1 longest-data f (omega arith))
+  command-valid Command.identity = answering-valid i _ 0x04 _ v (run-short Layout.identity-place 26 longest-data f (omega arith))
+  command-valid Command.mac = answering-valid i _ 0x05 _ v (run-short Layout.mac-place 9 longest-data f (omega arith))
+  command-valid Command.boot-failure =
+      silently-valid i _ v (boot-failure-valid r (numberAt 1 d 0) (drop 1 d) (w .registers) byte (omega (arith, length-drop 1 d)))
+  command-valid Command.panic =
+      acknowledged-valid i _ _ v (panic-valid r (numberAt 2 d 0) (drop 2 d) (w .registers) (omega (arith, length-drop 2 d)))
+  command-valid Command.status = answering-valid i _ 0x06 _ v (run-short Layout.status-place 16 longest-data r (omega arith))
+  command-valid Command.start-acknowledged =
+      let s = registers-valid r (w .registers) in
+      acknowledged-valid i _ _ v (status-valid r (w .registers) _ (omega (arith, clear-small (Layout.statusOf r) 0)))
+  command-valid Command.alert =
+      changed-valid _ _ _ _ (w .outbox) (reply-short _ 0x07 _ (omega (arith, alert-data-short r sequence (w .registers)))) (w .settings) (alert-registers-valid r sequence (w .registers))
+  command-valid Command.image-block = answering-valid i _ 0x09 _ v (omega (arith, block-short f image d))
+  command-valid Command.key-lookup = answering-valid i _ 0x0a _ v (omega (arith, value-data-short f (i .settings) d g (w .settings)))
+  command-valid Command.inventory = answering-valid i _ 0x0b _ v (omega (arith, item-short f (numberAt 4 d 0) g))
+  command-valid Command.key-set =
+      changed-valid _ _ _ _ (w .outbox) (byte-reply-short _ 0x0c _) (storing-valid (i .settings) (drop 1 d) (w .settings) (numberAt 1 d 0)) (w .registers)
+
+  pub carried-valid : (command : ℕ) → Receive.validInner (Receive.carriedInner image f i sequence command d) ≡ true
+  unfolding Receive.carriedInner
+  carried-valid command = by (commandOf command)
+    where
+      by : (o : Option Command) → Receive.validInner (Receive.leftWhere o image f i sequence d) ≡ true
+      by none = v
+      by (some x) = command-valid x

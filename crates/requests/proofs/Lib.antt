@@ -1,6 +1,7 @@
 -- Laws that the proofs of requests cite.
 -- Assumes nothing.
 pub mod SendingLaws
+pub mod CommandLaws
 pub mod RecordLaws
 pub mod TakenLaws
 pub mod ReceiveLaws

@@ -16,6 +16,7 @@ use Rattle.octets.proofs.Overlay.{length-run}
 use Rattle.supervisor.specs.Limits
 use Rattle.supervisor.specs.Layout
 use Rattle.supervisor.specs.Valid.{goodItem, validFactory}
+use Rattle.requests.specs.Commands.{numberOf, lengthRight, withNumber, commandOf}
 use Rattle.requests.specs.Requests.{lengthAllowed}
 use Rattle.requests.specs.Receive.{itemDataLength, itemBytes, blockBytes}
 use Rattle.supervisor.proofs.ValidLaws.{alike, all-each, item-good, factory-valid}
@@ -23,15 +24,15 @@ use Rattle.supervisor.proofs.ValidLaws.{alike, all-each, item-good, factory-val
 -- ---- the data of a valid request are long enough for its command
 
 pub boot-failure-long : (command n : ℕ) → lengthAllowed command n ≡ true → command ≡ 0x06 → 1 ≤ n
-unfolding lengthAllowed
+unfolding lengthAllowed commandOf withNumber numberOf lengthRight
 boot-failure-long command n e h = leb-true 1 n (rw h at e)
 
 pub panic-long : (command n : ℕ) → lengthAllowed command n ≡ true → command ≡ 0x07 → 2 ≤ n
-unfolding lengthAllowed
+unfolding lengthAllowed commandOf withNumber numberOf lengthRight
 panic-long command n e h = leb-true 2 n (rw h at e)
 
 pub key-set-long : (command n : ℕ) → lengthAllowed command n ≡ true → command ≡ 0x10 → 1 ≤ n
-unfolding lengthAllowed
+unfolding lengthAllowed commandOf withNumber numberOf lengthRight
 key-set-long command n e h = leb-true 1 n (rw h at e)
 
 -- ---- an item

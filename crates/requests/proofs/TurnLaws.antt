@@ -21,6 +21,7 @@ use Rattle.line.proofs.Held.{finish-leaves}
 use Rattle.supervisor.specs.Valid.{validFactory}
 use Rattle.supervisor.specs.Calls.{Parts, parts}
 use Rattle.requests.specs.Requests.{protocol-version, known, lengthAllowed, tested}
+use Rattle.requests.specs.Commands.{Command, commandOf}
 use Rattle.requests.specs.Receive
 use Rattle.requests.specs.declared.receive.Received.the-variants as received
 use Rattle.requests.proofs.KeptLaws.{answering-valid, carried-valid}
@@ -158,17 +159,33 @@ unfolding Receive.innerBy
 judged-good image f i version sequence command d e w = rw e (refl, w)
 
 -- a request without a reply
-pub silently-by : (i : Receive.Inner) {o r : List ℕ} (registers : List ℕ) → o ≡ Receive.sentBox [] (i .outbox) → r ≡ registers
+pub silently-by : (i : Receive.Inner) {o r : List ℕ} (registers : List ℕ) → (o ≡ Receive.sentBox [] (i .outbox)) × (r ≡ registers)
     → Receive.inner o (i .settings) r ≡ Receive.silently i registers
 unfolding Receive.silently
-silently-by i registers e h = rw (e, h)
+silently-by i registers f = rw (f .0, f .1)
 
--- a valid request leaves valid parts; n is the first byte of its data
+-- one that is answered alone, or acknowledged, by what the code has for its reply's head
+pub answered-by : (i : Receive.Inner) (sequence command : ℕ) (payload : List ℕ) {h : Receive.Head} {o : List ℕ} → h ≡ Receive.replyHead sequence
+    → o ≡ Receive.sentBox (Receive.replyBytes h command payload) (i .outbox)
+    → Receive.inner o (i .settings) (i .registers) ≡ Receive.answering i (Receive.replyHead sequence) command payload
+unfolding Receive.answering
+answered-by i sequence command payload e f = rw (f, e)
+
+pub acknowledged-by : (i : Receive.Inner) (sequence : ℕ) (registers : List ℕ) {h : Receive.Head} {o r : List ℕ} → h ≡ Receive.replyHead sequence
+    → (o ≡ Receive.sentBox (Receive.replyBytes h 0x01 []) (i .outbox)) × (r ≡ registers)
+    → Receive.inner o (i .settings) r ≡ Receive.acknowledged i (Receive.replyHead sequence) registers
+unfolding Receive.acknowledged
+acknowledged-by i sequence registers e f = rw (f .0, f .1, e)
+
+-- what its command leaves is what a valid request does, and valid; n is the first byte of its data
 pub carried-both : (image f : List ℕ) (i : Receive.Inner) (sequence command : ℕ) (d : List ℕ) {n : ℕ} {j : Receive.Inner}
     → validFactory f ≡ true → Receive.validInner i ≡ true → length d ≤ longest-data → (n ≡ numberAt 1 d 0) × (n < 256)
-    → j ≡ Receive.carriedInner image f i sequence command d
+    → (o : Option Command) → commandOf command ≡ o → j ≡ Receive.leftWhere o image f i sequence d
     → (j ≡ Receive.carriedInner image f i sequence command d) × (Receive.validInner j ≡ true)
-carried-both image f i sequence command d v w h b e = (e, rw e (carried-valid image f i sequence command d v w h (rw (b .0) at (b .1))))
+unfolding Receive.carriedInner
+carried-both image f i sequence command d v w h b o c e =
+    let k = carried-valid image f i sequence d v w h (rw (b .0) at (b .1)) command in
+    rw (c, e) (refl, rw c at k)
 
 -- ---- an answer of the reader
 

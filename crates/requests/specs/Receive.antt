@@ -15,6 +15,7 @@ use Rattle.supervisor.specs.Limits
 use Rattle.supervisor.specs.Layout
 use Rattle.supervisor.specs.Number.{topSet}
 use Rattle.supervisor.specs.Valid.{validOutbox, validFactory, validSettings, validRegisters}
+use Rattle.requests.specs.Commands.{Command, commandOf}
 use Rattle.requests.specs.Requests
 use Rattle.supervisor.specs.Calls.{Parts, resultNumber, lookupResult, lookupValue}
 use Rattle.requests.specs.declared.head.ReplyHead.{ReplyHead}
@@ -165,31 +166,35 @@ keySetAnswered o s reply d =
     let t = storing s (numberAt 1 d 0) (drop 1 d) in
     keySetParts (sentBox (replyBytes reply 0x0c (bytes 1 (t .result))) o) (t .settings)
 
--- a request that changes no more than the pending reply; 0x0f is left
-unfoldable pub askedBytes : List ℕ → List ℕ → List ℕ → List ℕ → Head → ℕ → List ℕ → List ℕ
-askedBytes image f s r reply command d =
-    cond (eqb command 0x03) (replyBytes reply 0x03 (run Layout.bsu-place 1 f))
-    (cond (eqb command 0x04) (replyBytes reply 0x04 (run Layout.identity-place 26 f))
-    (cond (eqb command 0x05) (replyBytes reply 0x05 (run Layout.mac-place 9 f))
-    (cond (eqb command 0x08) (replyBytes reply 0x06 (run Layout.status-place 16 r))
-    (cond (eqb command 0x0d) (replyBytes reply 0x09 (blockBytes f image d))
-    (cond (eqb command 0x0e) (replyBytes reply 0x0a (valueBytes f s d))
-    (replyBytes reply 0x0b (itemBytes f (numberAt 4 d 0))))))))
-
 -- ---- A valid request: its command, sequence and data
 
+-- what each command leaves
+unfoldable pub leftBy : Command → List ℕ → List ℕ → Inner → ℕ → List ℕ → Inner
+leftBy Command.reboot image f i sequence d = silently i (askedFor (i .registers) Layout.reboot-place)
+leftBy Command.power-off image f i sequence d = silently i (askedFor (i .registers) Layout.power-off-place)
+leftBy Command.bsu image f i sequence d = answering i (replyHead sequence) 0x03 (run Layout.bsu-place 1 f)
+leftBy Command.identity image f i sequence d = answering i (replyHead sequence) 0x04 (run Layout.identity-place 26 f)
+leftBy Command.mac image f i sequence d = answering i (replyHead sequence) 0x05 (run Layout.mac-place 9 f)
+leftBy Command.boot-failure image f i sequence d = silently i (withRecord (i .registers) Layout.boot-failure-place (numberAt 1 d 0) (drop 1 d))
+leftBy Command.panic image f i sequence d =
+    acknowledged i (replyHead sequence) (withRecord (i .registers) Layout.panic-place (numberAt 2 d 0) (drop 2 d))
+leftBy Command.status image f i sequence d = answering i (replyHead sequence) 0x06 (run Layout.status-place 16 (i .registers))
+leftBy Command.start-acknowledged image f i sequence d =
+    acknowledged i (replyHead sequence) (overlay Layout.status-place (bytes 8 (Requests.clearBit (Layout.statusOf (i .registers)) 0)) (i .registers))
+leftBy Command.alert image f i sequence d =
+    let a = alertAnswered (i .outbox) (i .registers) (replyHead sequence) sequence in inner (a .outbox) (i .settings) (a .registers)
+leftBy Command.image-block image f i sequence d = answering i (replyHead sequence) 0x09 (blockBytes f image d)
+leftBy Command.key-lookup image f i sequence d = answering i (replyHead sequence) 0x0a (valueBytes f (i .settings) d)
+leftBy Command.inventory image f i sequence d = answering i (replyHead sequence) 0x0b (itemBytes f (numberAt 4 d 0))
+leftBy Command.key-set image f i sequence d =
+    let k = keySetAnswered (i .outbox) (i .settings) (replyHead sequence) d in inner (k .outbox) (k .settings) (i .registers)
+
+abbrev pub leftWhere : Option Command → List ℕ → List ℕ → Inner → ℕ → List ℕ → Inner
+leftWhere none image f i sequence d = i
+leftWhere (some x) image f i sequence d = leftBy x image f i sequence d
+
 unfoldable pub carriedInner : List ℕ → List ℕ → Inner → ℕ → ℕ → List ℕ → Inner
-carriedInner image f i sequence command d =
-    cond (eqb command 0x01) (silently i (askedFor (i .registers) Layout.reboot-place))
-    (cond (eqb command 0x02) (silently i (askedFor (i .registers) Layout.power-off-place))
-    (cond (eqb command 0x06) (silently i (withRecord (i .registers) Layout.boot-failure-place (numberAt 1 d 0) (drop 1 d)))
-    (cond (eqb command 0x10) (let k = keySetAnswered (i .outbox) (i .settings) (replyHead sequence) d in inner (k .outbox) (k .settings) (i .registers))
-    (cond (eqb command 0x0a)
-    (let a = alertAnswered (i .outbox) (i .registers) (replyHead sequence) sequence in inner (a .outbox) (i .settings) (a .registers))
-    (cond (eqb command 0x07) (acknowledged i (replyHead sequence) (withRecord (i .registers) Layout.panic-place (numberAt 2 d 0) (drop 2 d)))
-    (cond (eqb command 0x09)
-    (acknowledged i (replyHead sequence) (overlay Layout.status-place (bytes 8 (Requests.clearBit (Layout.statusOf (i .registers)) 0)) (i .registers)))
-    (inner (sentBox (askedBytes image f (i .settings) (i .registers) (replyHead sequence) command d) (i .outbox)) (i .settings) (i .registers))))))))
+carriedInner image f i sequence command d = leftWhere (commandOf command) image f i sequence d
 
 -- ---- A frame, by the table's verdict on it
 

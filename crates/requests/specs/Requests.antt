@@ -1,6 +1,6 @@
 -- What a request earns and does, and what one received byte does (document 01, "Reading a request", "Requests and what they do").
 -- Assumes nothing: these are definitions.
-use mathlib.Core.Bool.{Bool, true, cond, not, _&&_, _||_}
+use mathlib.Core.Bool.{Bool, true, cond, not}
 use mathlib.Core.List.{List, [], _∷_, _++_}
 use mathlib.Core.Option.{Option, none, some}
 use Prim.Native.Nat.{ℕ, zero, suc, _+_, _-_, _^_}
@@ -15,7 +15,8 @@ use Rattle.supervisor.specs.Limits.{highest-key, first-setting, longest-setting
 use Rattle.supervisor.specs.State.{Item, Factory, Settings, Recorded, Alert, Retained, State}
 use Rattle.supervisor.specs.State.{withStatus, withReboot, withPowerOff, withBootFailure, withPanic, withSetting, withSettings, withWaiting, withRetained, withReceived, withPending}
 use Rattle.supervisor.specs.Number.{topSet}
-use Rattle.supervisor.specs.Local.{bit, lookup}
+use Rattle.supervisor.specs.Local.{Found, bit, lookup}
+use Rattle.requests.specs.Commands.{Command, commandOf, isListed, mayHave}
 
 -- the version of requests and replies
 abbrev pub protocol-version : ℕ
@@ -25,17 +26,10 @@ protocol-version = 1
 
 -- the listed commands, and whether a data length is right for one
 unfoldable pub known : ℕ → Bool
-known c = (leb 0x01 c && leb c 0x0a) || (leb 0x0d c && leb c 0x10)
+known c = isListed (commandOf c)
 
 unfoldable pub lengthAllowed : ℕ → ℕ → Bool
-lengthAllowed c n =
-    cond (eqb c 0x06) (leb 1 n)
-    (cond (eqb c 0x07) (leb 2 n)
-    (cond (eqb c 0x0d) (eqb n 40)
-    (cond (eqb c 0x0e) (eqb n 3)
-    (cond (eqb c 0x0f) (eqb n 4)
-    (cond (eqb c 0x10) (leb 1 n)
-    (eqb n 0))))))
+lengthAllowed c n = mayHave (commandOf c) n
 
 -- what the table makes of a message that the line layer found good: version 5, top bit of the sequence 6, command 3, data length 7
 unfoldable pub tested : Message → Verdict
@@ -146,6 +140,10 @@ alertAsked s sequence (some r) = cond (eqb (r .sequence) sequence) (replied s 0x
 unfoldable pub block : Factory → List ℕ → List ℕ → List ℕ
 block f image bs = cond (equal (run 0 32 bs) (f .hash)) (take longest-block (drop (numberAt 8 bs 32) image)) []
 
+-- 0x0e: the result, and the value where it is 0
+abbrev pub found : State → Found → Carried
+found s f = replied s 0x0a (f .result ∷ f .value)
+
 -- 0x0f: out of range result 1, name and type zero, no data; a result other than 0 has no data
 abbrev pub itemData : Item → List ℕ
 itemData i = bytes 1 (i .result) ++ (i .name ++ (bytes 1 (i .type) ++ cond (eqb (i .result) 0) (i .payload) []))
@@ -176,24 +174,30 @@ keySet s bs =
     let t = stored (s .settings) (numberAt 1 bs 0) (drop 1 bs) in
     replied (withSettings s (t .settings)) 0x0c (t .result ∷ [])
 
--- a valid request
+-- what each command does
+unfoldable pub effect : Command → List ℕ → State → Message → Carried
+effect Command.reboot image s m = reboot s
+effect Command.power-off image s m = powerOff s
+effect Command.bsu image s m = replied s 0x03 (bytes 1 (s .factory .bsu))
+effect Command.identity image s m = replied s 0x04 (s .factory .model ++ (bytes 4 (s .factory .revision) ++ s .factory .serial))
+effect Command.mac image s m = replied s 0x05 (s .factory .base ++ (bytes 2 (s .factory .count) ++ bytes 1 (s .factory .stride)))
+effect Command.boot-failure image s m = bootFailure s (m .payload)
+effect Command.panic image s m = panicked s (m .payload)
+effect Command.status image s m = replied s 0x06 (bytes 8 (s .status) ++ bytes 8 (s .options))
+effect Command.start-acknowledged image s m = startAcknowledged s
+effect Command.alert image s m = alertAsked s (m .sequence) (s .retained)
+effect Command.image-block image s m = replied s 0x09 (block (s .factory) image (m .payload))
+effect Command.key-lookup image s m = found s (lookup s (numberAt 1 (m .payload) 0) (numberAt 2 (m .payload) 1))
+effect Command.inventory image s m = replied s 0x0b (inventoried (itemOf (s .factory .items) (numberAt 4 (m .payload) 0)))
+effect Command.key-set image s m = keySet s (m .payload)
+
+-- a valid request, which has a listed command
+abbrev pub carriedBy : Option Command → List ℕ → State → Message → Carried
+carriedBy none image s m = silent s
+carriedBy (some x) image s m = effect x image s m
+
 unfoldable pub carried : List ℕ → State → Message → Carried
-carried image s m =
-    cond (eqb (m .command) 0x01) (reboot s)
-    (cond (eqb (m .command) 0x02) (powerOff s)
-    (cond (eqb (m .command) 0x03) (replied s 0x03 (bytes 1 (s .factory .bsu)))
-    (cond (eqb (m .command) 0x04) (replied s 0x04 (s .factory .model ++ (bytes 4 (s .factory .revision) ++ s .factory .serial)))
-    (cond (eqb (m .command) 0x05) (replied s 0x05 (s .factory .base ++ (bytes 2 (s .factory .count) ++ bytes 1 (s .factory .stride))))
-    (cond (eqb (m .command) 0x06) (bootFailure s (m .payload))
-    (cond (eqb (m .command) 0x07) (panicked s (m .payload))
-    (cond (eqb (m .command) 0x08) (replied s 0x06 (bytes 8 (s .status) ++ bytes 8 (s .options)))
-    (cond (eqb (m .command) 0x09) (startAcknowledged s)
-    (cond (eqb (m .command) 0x0a) (alertAsked s (m .sequence) (s .retained))
-    (cond (eqb (m .command) 0x0d) (replied s 0x09 (block (s .factory) image (m .payload)))
-    (cond (eqb (m .command) 0x0e)
-    (let f = lookup s (numberAt 1 (m .payload) 0) (numberAt 2 (m .payload) 1) in replied s 0x0a (f .result ∷ f .value))
-    (cond (eqb (m .command) 0x0f) (replied s 0x0b (inventoried (itemOf (s .factory .items) (numberAt 4 (m .payload) 0))))
-    (keySet s (m .payload))))))))))))))
+carried image s m = carriedBy (commandOf (m .command)) image s m
 
 -- ---- Sending: what is unsent is discarded; a 00 goes first where one is owed, or alone where there is no reply
 

@@ -10,55 +10,17 @@ ghost use mathlib.Core.Bool.{true};
 ghost use Prim.Native.Nat.{_≤_, _<_};
 ghost use lib.ListN.{length};
 ghost use Rattle.supervisor.specs.Layout.{outbox-length};
-ghost use Rattle.supervisor.specs.Valid.{validFactory, validSettings, validRegisters};
-ghost use Rattle.requests.specs.Receive.{itemDataLength, itemBytes, blockBytes, valueBytes, askedBytes, sentBox, replyBytes};
-
-// A valid request that changes no more than the pending reply.
-pub(crate) fn ask<'a>(
-    image: &[u8],
-    factory: &'a [u8],
-    data: &[u8],
-    reply: ReplyHead,
-    command: u8,
-    outbox: &mut [u8],
-    settings: &'a [u8],
-    registers: &[u8],
-)
-    requires { ⌜ outbox-length ≤ length (now outbox) ⌝ }
-    requires { ⌜ validFactory (now factory) ≡ true ⌝ }
-    requires { ⌜ validSettings (now settings) ≡ true ⌝ }
-    requires { ⌜ validRegisters (now registers) ≡ true ⌝ }
-    ensures { λ _. ⌜ now (outbox .exit) ≡ sentBox (askedBytes (now (image .entry)) (now (factory .entry)) (now (settings .entry)) (now (registers .entry)) reply command (now («data» .entry))) (now (outbox .entry)) ⌝ }
-{
-    if command == 0x03 {
-        send_part(outbox, reply, 0x03, factory, layout::BSU_PLACE, 1);
-        return;
-    }
-    if command == 0x04 {
-        send_part(outbox, reply, 0x04, factory, layout::IDENTITY_PLACE, 26);
-        return;
-    }
-    if command == 0x05 {
-        send_part(outbox, reply, 0x05, factory, layout::MAC_PLACE, 9);
-        return;
-    }
-    if command == 0x08 {
-        send_part(outbox, reply, 0x06, registers, layout::STATUS_PLACE, 16);
-        return;
-    }
-    if command == 0x0d {
-        send_block(outbox, reply, factory, image, data);
-        return;
-    }
-    if command == 0x0e {
-        send_value(outbox, reply, factory, settings, data);
-        return;
-    }
-    send_item(outbox, reply, factory, octets::read_u32(data, 0) as usize);
-}
+ghost use Rattle.supervisor.specs.Valid.{validFactory, validSettings};
+ghost use Rattle.requests.specs.Receive.{itemDataLength, itemBytes, blockBytes, valueBytes, sentBox, replyBytes};
 
 // A block of the image: hash[32], offset u64.
-fn send_block(outbox: &mut [u8], reply: ReplyHead, factory: &[u8], image: &[u8], data: &[u8])
+pub(crate) fn send_block(
+    outbox: &mut [u8],
+    reply: ReplyHead,
+    factory: &[u8],
+    image: &[u8],
+    data: &[u8],
+)
     requires { ⌜ outbox-length ≤ length (now outbox) ⌝ }
     requires { ⌜ validFactory (now factory) ≡ true ⌝ }
     ensures { λ _. ⌜ now (outbox .exit) ≡ sentBox (replyBytes reply 0x09 (blockBytes (now (factory .entry)) (now (image .entry)) (now («data» .entry)))) (now (outbox .entry)) ⌝ }
@@ -78,7 +40,7 @@ fn send_block(outbox: &mut [u8], reply: ReplyHead, factory: &[u8], image: &[u8],
 }
 
 // A lookup: key u8, maxresponse u16.
-fn send_value<'a>(
+pub(crate) fn send_value<'a>(
     outbox: &mut [u8],
     reply: ReplyHead,
     factory: &'a [u8],
@@ -103,7 +65,7 @@ fn send_value<'a>(
 }
 
 // An inventory item by its index.
-fn send_item(outbox: &mut [u8], reply: ReplyHead, factory: &[u8], index: usize)
+pub(crate) fn send_item(outbox: &mut [u8], reply: ReplyHead, factory: &[u8], index: usize)
     requires { ⌜ outbox-length ≤ length (now outbox) ⌝ }
     requires { ⌜ validFactory (now factory) ≡ true ⌝ }
     ensures { λ _. ⌜ now (outbox .exit) ≡ sentBox (replyBytes reply 0x0b (itemBytes (now (factory .entry)) index)) (now (outbox .entry)) ⌝ }

@@ -1,26 +1,27 @@
 // Requests: the supervisor's tests on a message, and what each valid request does.
 // Assumes valid parts, as each `requires` says.
 use crate::alert::alert;
-use crate::answers::ask;
+use crate::answers::send_block;
+use crate::answers::send_item;
+use crate::answers::send_value;
 use crate::head;
 use crate::receive::Outcome;
 use crate::records::ask_for;
-use crate::records::clear_start;
-use crate::records::set_record;
-use crate::sending::acknowledge;
+use crate::records::boot_failure;
+use crate::records::panic;
+use crate::records::start_acknowledged;
 use crate::sending::fail;
-use crate::sending::send_none;
+use crate::sending::send_part;
 use crate::settings::set_key;
 use supervisor::layout;
 use supervisor::number::RequestNumber;
 ghost use mathlib.Core.Path.{_≡_};
-ghost use mathlib.Core.Bool.{true, false};
+ghost use mathlib.Core.Bool.{true};
 ghost use Prim.Native.Nat.{_≤_};
-ghost use lib.Dec.{eqb};
 ghost use lib.ListN.{length};
 ghost use Rattle.line.specs.Limits.{longest-data};
 ghost use Rattle.supervisor.specs.Layout.{outbox-length};
-ghost use Rattle.supervisor.specs.Valid.{validFactory, validSettings, validRegisters};
+ghost use Rattle.supervisor.specs.Valid.{validFactory};
 ghost use Rattle.requests.specs.Requests.{tested, known, lengthAllowed};
 ghost use Rattle.requests.specs.Receive.{inner, validInner, carriedInner, innerBy, messageBy, endedBy, endedSaid};
 
@@ -90,25 +91,23 @@ fn is_known(command: u8) -> bool
 fn length_is_allowed(command: u8, n: usize) -> bool
     ensures { λ r. ⌜ r ≡ lengthAllowed command n ⌝ }
 {
-    if command == 0x06 {
-        return 1 <= n;
+    match command {
+        0x01 => n == 0,
+        0x02 => n == 0,
+        0x03 => n == 0,
+        0x04 => n == 0,
+        0x05 => n == 0,
+        0x06 => 1 <= n,
+        0x07 => 2 <= n,
+        0x08 => n == 0,
+        0x09 => n == 0,
+        0x0a => n == 0,
+        0x0d => n == 40,
+        0x0e => n == 3,
+        0x0f => n == 4,
+        0x10 => 1 <= n,
+        _ => false,
     }
-    if command == 0x07 {
-        return 2 <= n;
-    }
-    if command == 0x0d {
-        return n == 40;
-    }
-    if command == 0x0e {
-        return n == 3;
-    }
-    if command == 0x0f {
-        return n == 4;
-    }
-    if command == 0x10 {
-        return 1 <= n;
-    }
-    n == 0
 }
 
 // What a valid request does.
@@ -131,94 +130,23 @@ fn carry(
     ensures { λ _. ⌜ validInner (inner (now (outbox .exit)) (now (settings .exit)) (now (registers .exit))) ≡ true ⌝ }
 {
     let reason = octets::byte_at(data, 0);
-    if command == 0x01 {
-        ask_for(registers, layout::REBOOT_PLACE);
-        send_none(outbox);
-        return;
-    }
-    if command == 0x02 {
-        ask_for(registers, layout::POWER_OFF_PLACE);
-        send_none(outbox);
-        return;
-    }
-    if command == 0x06 {
-        set_record(
-            registers,
-            layout::BOOT_FAILURE_PLACE,
-            reason as u16,
-            data,
-            1,
-        );
-        send_none(outbox);
-        return;
-    }
-    carry_with_reply(
-        image,
-        factory,
-        data,
-        number,
-        command,
-        outbox,
-        settings,
-        registers,
-    );
-}
-
-// What a valid request does that earns a reply.
-fn carry_with_reply(
-    image: &[u8],
-    factory: &[u8],
-    data: &[u8],
-    number: RequestNumber,
-    command: u8,
-    outbox: &mut [u8],
-    settings: &mut [u8],
-    registers: &mut [u8],
-)
-    requires { ⌜ outbox-length ≤ length (now outbox) ⌝ }
-    requires { ⌜ validFactory (now factory) ≡ true ⌝ }
-    requires { ⌜ validSettings (now settings) ≡ true ⌝ }
-    requires { ⌜ validRegisters (now registers) ≡ true ⌝ }
-    requires { ⌜ length (now «data») ≤ longest-data ⌝ }
-    requires { ⌜ lengthAllowed command (length (now «data»)) ≡ true ⌝ }
-    requires { ⌜ eqb command 0x01 ≡ false ⌝ }
-    requires { ⌜ eqb command 0x02 ≡ false ⌝ }
-    requires { ⌜ eqb command 0x06 ≡ false ⌝ }
-    ensures { λ _. ⌜ inner (now (outbox .exit)) (now (settings .exit)) (now (registers .exit)) ≡ carriedInner (now (image .entry)) (now (factory .entry)) (inner (now (outbox .entry)) (now (settings .entry)) (now (registers .entry))) (number .0) command (now («data» .entry)) ⌝ }
-{
     let reply = head::head_to(number);
-    if command == 0x10 {
-        set_key(outbox, settings, reply, data);
-        return;
+    match command {
+        0x01 => ask_for(outbox, registers, layout::REBOOT_PLACE),
+        0x02 => ask_for(outbox, registers, layout::POWER_OFF_PLACE),
+        0x03 => send_part(outbox, reply, 0x03, factory, layout::BSU_PLACE, 1),
+        0x04 => send_part(outbox, reply, 0x04, factory, layout::IDENTITY_PLACE, 26),
+        0x05 => send_part(outbox, reply, 0x05, factory, layout::MAC_PLACE, 9),
+        0x06 => boot_failure(outbox, registers, reason as u16, data),
+        0x07 => panic(outbox, registers, reply, data),
+        0x08 => send_part(outbox, reply, 0x06, registers, layout::STATUS_PLACE, 16),
+        0x09 => start_acknowledged(outbox, registers, reply),
+        0x0a => alert(outbox, registers, reply, number),
+        0x0d => send_block(outbox, reply, factory, image, data),
+        0x0e => send_value(outbox, reply, factory, settings, data),
+        0x0f => send_item(outbox, reply, factory, octets::read_u32(data, 0) as usize),
+        0x10 => set_key(outbox, settings, reply, data),
+        // The tests let no other number through.
+        _ => {}
     }
-    if command == 0x0a {
-        alert(outbox, registers, reply, number);
-        return;
-    }
-    if command == 0x07 {
-        set_record(
-            registers,
-            layout::PANIC_PLACE,
-            octets::read_u16(data, 0),
-            data,
-            2,
-        );
-        acknowledge(outbox, reply);
-        return;
-    }
-    if command == 0x09 {
-        clear_start(registers);
-        acknowledge(outbox, reply);
-        return;
-    }
-    ask(
-        image,
-        factory,
-        data,
-        reply,
-        command,
-        outbox,
-        settings,
-        registers,
-    );
 }

@@ -10,4 +10,4 @@ pub mod ReceiveClaim
 pub mod ReceivedClaim
 pub mod SendingClaim
 pub mod AnswersClaim
-pub mod ChangesClaim
+pub mod CommandClaims

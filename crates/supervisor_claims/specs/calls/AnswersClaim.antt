@@ -1,23 +1,21 @@
--- The requests that change no more than the pending reply, on valid parts that hold bytes: each reply is the one that document 01 has.
+-- The data of replies to requests that change nothing else, on valid parts that hold bytes: they are those that document 01 has, and can be sent.
 -- Assumes nothing.
 use mathlib.Core.Path.{_≡_, refl, sym, _∙_}
-use mathlib.Core.Bool.{Bool, true, false, cond, _&&_, _||_, and-eq-true-iff}
+use mathlib.Core.Bool.{Bool, true, false, cond, _&&_}
 use mathlib.Core.List.{List, [], _∷_, _++_, append-assoc}
 use mathlib.Core.Option.{Option, none, some}
 use Prim.Native.Nat.{ℕ, zero, suc, _+_, _≤_, _<_}
 use native.Mathlib.Numerals.{add-one}
 use native.Mathlib.Omega.{arith}
-use lib.Dec.{leb, ltb, eqb}
+use lib.Dec.{ltb, eqb}
 use lib.ListN.{length, replicate}
 use borrow.Author.Count.{below-none, below-more}
-use borrow.Author.Tests.{leb-true, ltb-true, ltb-false, eqb-false, eq-eqb}
+use borrow.Author.Tests.{ltb-true, ltb-false}
 use Rattle.octets.specs.Bytes.{Byte, Each, bytes, run, numberAt, equal}
-use Rattle.octets.proofs.Conditions.{cond-by, cond-both}
+use Rattle.octets.proofs.Conditions.{cond-by}
 use Rattle.octets.proofs.Each.{each-append, each-run}
 use Rattle.octets.proofs.Numbers.{one-byte}
 use Rattle.octets.proofs.Overlay.{number-run, run-add}
-use Rattle.line.specs.Limits.{longest-form}
-use Rattle.line.specs.Message.{Message}
 use Rattle.supervisor.specs.Limits
 use Rattle.supervisor.specs.Layout
 use Rattle.supervisor.specs.State.{Item, State}
@@ -26,14 +24,14 @@ use Rattle.supervisor.specs.Valid.{validFactory, validSettings, validRegisters}
 use Rattle.supervisor.specs.Calls
 use Rattle.supervisor.proofs.ValidLaws.{factory-valid, registers-valid}
 use Rattle.requests.specs.Requests
-use Rattle.requests.specs.Receive.{replyHead, replyBytes, itemDataLength, itemBytes, blockBytes, valueBytes, askedBytes}
+use Rattle.requests.specs.Receive.{itemDataLength, itemBytes, blockBytes, valueBytes}
 use Rattle.requests.proofs.ReceiveLaws.{ItemHeld, item-held}
 use Rattle.requests.proofs.KeptLaws.{value-data-short, item-short}
 use Rattle.supervisor_claims.specs.View.{listed, itemAt, factoryOf, view}
 use Rattle.supervisor_claims.specs.laws.ViewLaws.{length-listed}
 use Rattle.supervisor_claims.specs.Meant.{Valid}
 use Rattle.supervisor_claims.specs.calls.LookupClaim.{lookup-meant}
-use Rattle.supervisor_claims.specs.calls.SendingClaim.{Sendable, run-sendable, reply-sendable}
+use Rattle.supervisor_claims.specs.calls.SendingClaim.{Sendable, run-sendable}
 use Rattle.supervisor_claims.specs.laws.PartLaws.{each-number}
 
 -- ---- a list of items by the index
@@ -198,62 +196,9 @@ module _ (f s : List ℕ) (fb : Each Byte f) (sb : Each Byte s) (most : ℕ) whe
       cond-by (Each Byte) (validFactory f && validSettings s) _ []
       (λ e. cond-by (Each Byte) (ltb Limits.highest-key key) [] _ (λ k. tt) (λ k. place-each key)) (λ e. tt)
 
--- ---- the commands that are left
+-- ---- a lookup
 
--- none of the commands that change more than the pending reply
-pub record Asks (command : ℕ) : Type 0 where
-  pub known : Requests.known command ≡ true
-  pub reboot : eqb command 0x01 ≡ false
-  pub power-off : eqb command 0x02 ≡ false
-  pub boot-failure : eqb command 0x06 ≡ false
-  pub panic : eqb command 0x07 ≡ false
-  pub start : eqb command 0x09 ≡ false
-  pub alert : eqb command 0x0a ≡ false
-  pub key-set : eqb command 0x10 ≡ false
-
--- the other test, where the one fails
-other : (x y : Bool) → (x ≡ true → ⊥) → (x || y) ≡ true → y ≡ true
-other true y f e = absurd (f refl)
-other false y f e = e
-
-between : (low c high : ℕ) → (leb low c && leb c high) ≡ true → (low ≤ c) × (c ≤ high)
-between low c high e = let t = and-eq-true-iff (leb low c) (leb c high) .0 e in (leb-true low c (t .0), leb-true c high (t .1))
-
--- inventory is the last
-inventory-left : (c : ℕ) → Asks c → eqb c 0x03 ≡ false → eqb c 0x04 ≡ false → eqb c 0x05 ≡ false → eqb c 0x08 ≡ false → eqb c 0x0d ≡ false
-    → eqb c 0x0e ≡ false → eqb c 0x0f ≡ true
-unfolding Requests.known
-inventory-left c a bsu identity mac status block key =
-    let t = between 0x0d c 0x10 (other (leb 0x01 c && leb c 0x0a) (leb 0x0d c && leb c 0x10) below (a .known)) in
-    let past-key = past 0x0e (past 0x0d (t .0) block) key in
-    eq-eqb c 0x0f (omega (arith, eqb-false c 0x10 (a .key-set)))
-  where
-    past : (n : ℕ) → n ≤ c → eqb c n ≡ false → n + 1 ≤ c
-    past n h e = omega (arith, eqb-false c n e)
-
-    below : (leb 0x01 c && leb c 0x0a) ≡ true → ⊥
-    below e =
-        let t = between 0x01 c 0x0a e in
-        let past-mac = past 0x05 (past 0x04 (past 0x03 (past 0x02 (past 0x01 (t .0) (a .reboot)) (a .power-off)) bsu) identity) mac in
-        let past-alert = past 0x0a (past 0x09 (past 0x08 (past 0x07 (past 0x06 past-mac (a .boot-failure)) (a .panic)) status) (a .start)) (a .alert) in
-        omega arith
-
--- ---- the claim
-
--- the data of a reply, where there is one
-abbrev pub SendableReply : Option (ℕ × List ℕ) → Type 0
-SendableReply none = Unit {0}
-SendableReply (some r) = Sendable (r .1)
-
--- the bytes sent are the reply's of what is carried out, and nothing else changes
-pub record Answers (p : Calls.Parts) (sequence : ℕ) (bs : List ℕ) (c : Requests.Carried) : Type 0 where
-  pub state : c .state ≡ view p
-  pub frame : bs ≡ Requests.replyFrame (Requests.replyOf sequence (c .reply))
-  pub payload : SendableReply (c .reply)
-  pub short : length bs ≤ longest-form + 1
-  pub bytes : Each Byte bs
-
-module _ (p : Calls.Parts) (v : Valid p) (fb : Each Byte (p .factory)) (sb : Each Byte (p .settings)) (rb : Each Byte (p .registers)) where
+module _ (p : Calls.Parts) (v : Valid p) (fb : Each Byte (p .factory)) (sb : Each Byte (p .settings)) where
   pub value-meant : (d : List ℕ) → let found = Local.lookup (view p) (numberAt 1 d 0) (numberAt 2 d 1) in
       valueBytes (p .factory) (p .settings) d ≡ found .result ∷ found .value
   unfolding valueBytes
@@ -269,30 +214,3 @@ module _ (p : Calls.Parts) (v : Valid p) (fb : Each Byte (p .factory)) (sb : Eac
   value-sendable d =
       let short = value-data-short (p .factory) (p .settings) d (v .factory) (v .settings) in
       (omega arith, each-number 1 _ _ (value-each (p .factory) (p .settings) fb sb (numberAt 2 d 1) (numberAt 1 d 0)))
-
-  answers : (sequence command : ℕ) {bs payload : List ℕ} → bs ≡ payload → Sendable bs
-      → Answers p sequence (replyBytes (replyHead sequence) command bs) (Requests.replied (view p) command payload)
-  unfolding Requests.replyFrame Requests.replyOf
-  answers sequence command {bs} e s =
-      let sent = reply-sendable (replyHead sequence) command bs s in
-      record { state = refl; frame = rw e; payload = rw e at s; short = sent .0; bytes = sent .1 }
-
-  pub asked-carried : (image : List ℕ) → Each Byte image → (m : Message) → Asks (m .command)
-      → Answers p (m .sequence) (askedBytes image (p .factory) (p .settings) (p .registers) (replyHead (m .sequence)) (m .command) (m .payload))
-      (Requests.carried image (view p) m)
-  unfolding askedBytes Requests.carried view
-  asked-carried image ib m a =
-      let f = p .factory in
-      let r = p .registers in
-      let c = m .command in
-      let d = m .payload in
-      let A = Answers p (m .sequence) in
-      rw (a .reboot, a .power-off, a .boot-failure, a .panic, a .start, a .alert)
-      (cond-both A (eqb c 0x03) (λ e. answers (m .sequence) 0x03 (bsu-meant f (v .factory) fb) (run-sendable Layout.bsu-place 1 f (omega arith) fb)) (λ bsu.
-      cond-both A (eqb c 0x04) (λ e. answers (m .sequence) 0x04 (identity-meant f (v .factory) fb) (run-sendable Layout.identity-place 26 f (omega arith) fb)) (λ identity.
-      cond-both A (eqb c 0x05) (λ e. answers (m .sequence) 0x05 (mac-meant f (v .factory) fb) (run-sendable Layout.mac-place 9 f (omega arith) fb)) (λ mac.
-      cond-both A (eqb c 0x08) (λ e. answers (m .sequence) 0x06 (status-meant r (v .registers) rb) (run-sendable Layout.status-place 16 r (omega arith) rb)) (λ status.
-      cond-both A (eqb c 0x0d) (λ e. answers (m .sequence) 0x09 (block-meant f image d) (block-sendable f image d ib)) (λ block.
-      cond-both A (eqb c 0x0e) (λ e. answers (m .sequence) 0x0a (value-meant d) (value-sendable d)) (λ key.
-      rw (inventory-left c a bsu identity mac status block key)
-      (answers (m .sequence) 0x0b (item-meant f (v .factory) fb (numberAt 4 d 0)) (item-sendable f (v .factory) fb (numberAt 4 d 0))))))))))

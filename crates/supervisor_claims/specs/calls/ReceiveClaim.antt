@@ -1,40 +1,34 @@
 -- Received bytes on sound parts, one and many: they leave what document 01 says of them, and sound parts.
 -- Assumes nothing.
 use mathlib.Core.Path.{_≡_, refl, sym, ap, _∙_}
-use mathlib.Core.Bool.{Bool, true, false, cond, not, _||_}
+use mathlib.Core.Bool.{Bool, true, false, cond, not}
 use mathlib.Core.List.{List, [], _∷_}
 use mathlib.Core.Option.{Option, none, some}
 use Prim.Native.Nat.{ℕ, _+_, _^_, _≤_, _<_}
 use native.Mathlib.Omega.{arith}
 use lib.Dec.{leb, ltb, eqb}
-use lib.ListN.{length, drop}
-use borrow.Author.Tests.{eqb-true}
-use Rattle.octets.specs.Bytes.{Each, Byte, bytes, numberAt}
-use Rattle.octets.proofs.Conditions.{cond-by, cond-both}
-use Rattle.octets.proofs.Each.{each-drop, each-run}
+use lib.ListN.{length}
+use Rattle.octets.specs.Bytes.{Each, Byte}
+use Rattle.octets.proofs.Conditions.{cond-both}
 use Rattle.octets.proofs.Numbers.{one-byte, number-small}
 use Rattle.line.specs.Limits.{longest-form}
 use Rattle.line.specs.Checksum.{checksum}
 use Rattle.line.specs.Message.{magic, Message}
 use Rattle.line.specs.Judge.{Verdict, failure, good, bodyOf, checksumOf, magicOf, wrongLength, judge, judgeForm, judgeLength, judgeFields}
 use Rattle.line.specs.Reader as LineReader
-use Rattle.supervisor.specs.Layout
 use Rattle.supervisor.specs.State.{State, withReceived}
 use Rattle.supervisor.specs.Calls.{Parts}
-use Rattle.supervisor.proofs.ValidLaws.{settings-valid}
+use Rattle.requests.specs.Commands.{Command, isListed, commandOf}
 use Rattle.requests.specs.Requests
 use Rattle.requests.specs.Receive
-use Rattle.requests.proofs.KeptLaws.{carried-valid, alert-data-short, inner-valid, valid-inner, sent-long, sent-owing, box-valid}
+use Rattle.requests.proofs.KeptLaws.{carried-valid, inner-valid, valid-inner, sent-long, sent-owing, box-valid}
 use Rattle.supervisor_claims.specs.View.{receivedOf, view}
 use Rattle.requests.specs.Requests.{verdictSince}
 use Rattle.supervisor_claims.specs.ByPart.{Part, withPart}
 use Rattle.supervisor_claims.specs.Meant.{withReader, withOutbox}
 use Rattle.supervisor_claims.specs.Sound.{Sound, lengths-same, lengths-then, sound-with, Leaves}
-use Rattle.supervisor_claims.specs.laws.SettingLaws.{storing-stored}
-use Rattle.supervisor_claims.specs.laws.TakenLaws.{alert-asked, alert-reply}
-use Rattle.supervisor_claims.specs.calls.ChangesClaim.{changing, withStores, Changed, changed-carried}
-use Rattle.supervisor_claims.specs.calls.SendingClaim.{Sendable, reply-sendable, sent-pending, sent-bytes}
-use Rattle.supervisor_claims.specs.calls.AnswersClaim.{Asks, SendableReply, Answers, asked-carried}
+use Rattle.supervisor_claims.specs.calls.CommandClaims.{withStores, SendableReply, Changed, command-does}
+use Rattle.supervisor_claims.specs.calls.SendingClaim.{reply-sendable, sent-pending, sent-bytes}
 use Rattle.supervisor_claims.specs.calls.ReceivedClaim.{Requestable, ReaderKept, pushed-received, pushed-kept, finished-received, finished-kept, finished-verdict, finished-typed}
 
 -- ---- Sending
@@ -71,110 +65,34 @@ abbrev sentBy : ℕ → Requests.Carried → State
 sentBy sequence c = Requests.sent (c .state) (Requests.replyOf sequence (c .reply))
 
 module _ (p : Parts) (s : Sound p) (sequence : ℕ) where
-  change-leaves : (i : Receive.Inner) (c : Requests.Carried) → Changed p i sequence c → Receive.validInner i ≡ true → SendableReply (c .reply)
+  change-leaves : (i : Receive.Inner) (c : Requests.Carried) → Changed p i sequence c → Receive.validInner i ≡ true
       → Leaves p (within p i) (sentBy sequence c)
-  change-leaves i c ch v send =
+  change-leaves i c ch v =
       let w = inner-valid i v in
-      let bs = frame-sendable sequence (c .reply) send in
+      let bs = frame-sendable sequence (c .reply) (ch .payload) in
       let a = sound-with p Part.settings (i .settings) s (w .settings) (ch .settings .bytes (s .bytes .settings)) (ch .settings .long) in
       let q = withPart p Part.settings (i .settings) in
       let b = sound-with q Part.registers (i .registers) (a .0) (w .registers) (ch .registers .bytes (s .bytes .registers)) (ch .registers .long) in
       let l = sent-leaves (withStores p i) (b .0) (Requests.replyOf sequence (c .reply)) (bs .0) (bs .1) in
       rw (ch .outbox, ← ch .state) (l .0, l .1, lengths-then (lengths-then (a .1) (b .1)) (l .2))
 
-  answer-leaves : (bs : List ℕ) (c : Requests.Carried) → Answers p sequence bs c
-      → Leaves p (within p (Receive.inner (Receive.sentBox bs (p .outbox)) (p .settings) (p .registers))) (sentBy sequence c)
-  answer-leaves bs c a =
-      rw (a .state, a .frame) (sent-leaves p s (Requests.replyOf sequence (c .reply)) (rw (← a .frame) (a .short)) (rw (← a .frame) (a .bytes)))
-
--- a command that changes the stores or registers, or one that only asks
-not-either : (a b : Bool) → (a || b) ≡ false → (a ≡ false) × (b ≡ false)
-not-either true b e = let z : _≡_ {A = ℕ} 1 0 = ap (λ t. cond t 1 0) e in absurd (omega arith)
-not-either false b e = (refl, e)
-
-asks : (c : ℕ) → Requests.known c ≡ true → changing c ≡ false → Asks c
-unfolding changing
-asks c k e =
-    let a = not-either _ _ e in
-    let b = not-either _ _ (a .1) in
-    let d = not-either _ _ (b .1) in
-    let f = not-either _ _ (d .1) in
-    let g = not-either _ _ (f .1) in
-    let h = not-either _ _ (g .1) in
-    record { known = k; reboot = a .0; power-off = b .0; boot-failure = d .0; panic = f .0; start = g .0; alert = h .0; key-set = h .1 }
-
 module _ (image : List ℕ) (each : Each Byte image) (p : Parts) (s : Sound p) (m : Message) (q : Requestable m) where
-  -- another command than the one tested
-  other : {X : Type 0} (k : ℕ) → changing k ≡ false → changing (m .command) ≡ true → eqb (m .command) k ≡ true → X
-  other k f h e =
-      let z : _≡_ {A = ℕ} 1 0 = ap (λ t. cond t 0 1) (sym f ∙ rw (eqb-true (m .command) k e) at h) in
-      absurd (omega arith)
-
-  -- the data of a reply to a request that changes stores or registers
-  abbrev Sends : Requests.Carried → Type 0
-  Sends c = SendableReply (c .reply)
-
-  alert-sendable : Sends (Requests.alertAsked (view p) (m .sequence) (view p .retained))
-  alert-sendable =
-      let below : m .sequence < 2 ^ 64 = omega (arith, q .sequence) in
-      let r = Receive.alertRegisters (p .registers) (m .sequence) in
-      let like = alert-asked p (s .valid) (m .sequence) below .like in
-      rw (alert-reply p (s .valid) (m .sequence) below (s .bytes .registers)) (
-        omega (arith, alert-data-short (p .registers) (m .sequence) (s .valid .registers)),
-        each-run (Layout.retained-alert-place + Layout.alert-action-place) (1 + Layout.alertTextLength r Layout.retained-alert-place) r (like .bytes (s .bytes .registers)),
-      )
-
-  key-set-sendable : Sends (Requests.keySet (view p) (m .payload))
-  unfolding Requests.keySet view
-  key-set-sendable =
-      let d = m .payload in
-      let k = storing-stored (p .settings) (drop 1 d) (settings-valid _ (s .valid .settings)) (each-drop Byte 1 d (q .payload)) (numberAt 1 d 0) in
-      (omega arith, (rw (← k .result) (k .small), tt))
-
-  changing-sendable : changing (m .command) ≡ true → Sends (Requests.carried image (view p) m)
-  unfolding Requests.carried Requests.reboot Requests.powerOff Requests.bootFailure Requests.panicked Requests.startAcknowledged changing
-  changing-sendable h =
-      let c = m .command in
-      let ack : Sendable [] = (omega arith, tt) in
-      cond-by Sends (eqb c 0x01) _ _ (λ _. tt) (λ _.
-      cond-by Sends (eqb c 0x02) _ _ (λ _. tt) (λ _.
-      cond-by Sends (eqb c 0x03) _ _ (other 0x03 refl h) (λ _.
-      cond-by Sends (eqb c 0x04) _ _ (other 0x04 refl h) (λ _.
-      cond-by Sends (eqb c 0x05) _ _ (other 0x05 refl h) (λ _.
-      cond-by Sends (eqb c 0x06) _ _ (λ _. tt) (λ _.
-      cond-by Sends (eqb c 0x07) _ _ (λ _. ack) (λ _.
-      cond-by Sends (eqb c 0x08) _ _ (other 0x08 refl h) (λ _.
-      cond-by Sends (eqb c 0x09) _ _ (λ _. ack) (λ _.
-      cond-by Sends (eqb c 0x0a) _ _ (λ _. alert-sendable) (λ _.
-      cond-by Sends (eqb c 0x0d) _ _ (other 0x0d refl h) (λ _.
-      cond-by Sends (eqb c 0x0e) _ _ (other 0x0e refl h) (λ _.
-      cond-by Sends (eqb c 0x0f) _ _ (other 0x0f refl h) (λ _.
-      key-set-sendable)))))))))))))
-
   parts-valid : Receive.validInner (Receive.innerOf p) ≡ true
   parts-valid = valid-inner _ (record { outbox = s .valid .outbox; settings = s .valid .settings; registers = s .valid .registers })
 
   carried-inner : Receive.validInner (Carried image p m) ≡ true
-  carried-inner = carried-valid image (p .factory) _ (m .sequence) (m .command) (m .payload) (s .valid .factory) parts-valid (q .fits) (number-small 1 0 (m .payload) (q .payload))
+  carried-inner =
+      carried-valid image (p .factory) (Receive.innerOf p) (m .sequence) (m .payload) (s .valid .factory) parts-valid (q .fits) (number-small 1 0 (m .payload) (q .payload)) (m .command)
 
-  -- a command that only asks leaves the outbox alone changed
-  only-asked : Asks (m .command)
-      → let bs = Receive.askedBytes image (p .factory) (p .settings) (p .registers) (Receive.replyHead (m .sequence)) (m .command) (m .payload) in
-      Carried image p m ≡ Receive.inner (Receive.sentBox bs (p .outbox)) (p .settings) (p .registers)
-  unfolding Receive.carriedInner
-  only-asked a = rw (a .reboot, a .power-off, a .boot-failure, a .key-set, a .alert, a .panic, a .start)
-
-  by-change : (b : Bool) → changing (m .command) ≡ b → Leaves p (within p (Carried image p m)) (sentBy (m .sequence) (Requests.carried image (view p) m))
-  by-change true e =
-      let below : m .sequence < 2 ^ 64 = omega (arith, q .sequence) in
-      change-leaves p s (m .sequence) _ _ (changed-carried p (s .valid) (s .bytes .registers) image m below (q .fits) (q .payload) e) carried-inner (changing-sendable e)
-  by-change false e =
-      let a = asks (m .command) (q .command) e in
-      rw (only-asked a)
-      (answer-leaves p s (m .sequence) _ _ (asked-carried p (s .valid) (s .bytes .factory) (s .bytes .settings) (s .bytes .registers) image each m a))
-
+  -- its command is listed
   request-leaves : Leaves p (within p (Carried image p m)) (sentBy (m .sequence) (Requests.carried image (view p) m))
-  request-leaves = by-change (changing (m .command)) refl
+  unfolding Receive.carriedInner Requests.carried Requests.known
+  request-leaves = by (commandOf (m .command)) (q .command) carried-inner
+    where
+      by : (o : Option Command) → isListed o ≡ true → let i = Receive.leftWhere o image (p .factory) (Receive.innerOf p) (m .sequence) (m .payload) in
+          Receive.validInner i ≡ true → Leaves p (within p i) (sentBy (m .sequence) (Requests.carriedBy o image (view p) m))
+      by none e v = let z : _≡_ {A = ℕ} 1 0 = ap (λ t. cond t 0 1) e in absurd (omega arith)
+      by (some x) e v = change-leaves p s (m .sequence) _ _ (command-does p s image each m q x) v
 
 -- ---- A frame by the verdict on it
 

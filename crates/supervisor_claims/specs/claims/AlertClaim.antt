@@ -23,8 +23,9 @@ use Rattle.supervisor.specs.State.{Factory, Recorded, Alert, Retained, State, f
 use Rattle.supervisor.specs.Local
 use Rattle.supervisor.specs.Calls.{Parts}
 use Rattle.supervisor.specs.declared.registers.Kind.{Kind}
+use Rattle.requests.specs.Commands.{numberOf, withNumber, commandOf}
 use Rattle.requests.specs.Requests
-use Rattle.requests.specs.Requests.{Carried, protocol-version, replyVersion, verdict, carried, judged, sent, stream, owed, replyOf, replyFrame, alertData, oldest}
+use Rattle.requests.specs.Requests.{Carried, protocol-version, replyVersion, verdict, effect, carried, judged, sent, stream, owed, replyOf, replyFrame, alertData, oldest}
 use Rattle.supervisor_claims.specs.View.{factoryOf, view}
 use Rattle.supervisor_claims.specs.Sound.{Bytes}
 use Rattle.supervisor_claims.specs.Histories
@@ -137,7 +138,7 @@ alert-asked s n (some r) e = cond-by (λ (x : Carried). retains (x .state .retai
 
 module _ (image : List ℕ) where
   alert-retains : (s : State) (m : Message) → m .command ≡ 0x0a → retains (carried image s m .state .retained) ≡ true
-  unfolding carried
+  unfolding carried commandOf withNumber numberOf effect
   alert-retains s m e = rw e (alert-asked s (m .sequence) (s .retained) refl)
 
   pub request-retains : (s : State) (m : Message) → retains (carried image s m .state .retained) ≡ retainsAfter (retains (s .retained)) m
@@ -226,7 +227,7 @@ none-retained (some r) e = absurd (subst (λ b. cond b (Unit {0}) ⊥) e tt)
 -- where none is retained, an alert request takes the oldest alert that waits
 taken-reply : (image : List ℕ) (s : State) (n : ℕ) → s .retained ≡ none
     → replyFrame (replyOf n (carried image s (alertOf n) .reply)) ≡ alertReply n (oldest (s .waiting))
-unfolding carried Requests.alertAsked Requests.alertTaken replyOf replyFrame alertReply
+unfolding carried commandOf withNumber numberOf effect Requests.alertAsked Requests.alertTaken replyOf replyFrame alertReply
 taken-reply image s n e = rw e
 
 -- A start that is accepted, on any bytes, then any calls.

@@ -17,8 +17,9 @@ use Rattle.line.specs.Message.{Message}
 use Rattle.line.specs.Judge.{Verdict, failure, good, judge}
 use Rattle.supervisor.specs.State.{Retained, State, withReceived, withPending, withOwing}
 use Rattle.supervisor.specs.Local.{lookup, valueOf}
+use Rattle.requests.specs.Commands.{Command, commandOf}
 use Rattle.requests.specs.Requests
-use Rattle.requests.specs.Requests.{Reply, Carried, verdict, carried, judged, closed, more, byte, stream, owed, replyFrame, sent, replyOf, failedOf}
+use Rattle.requests.specs.Requests.{Reply, Carried, verdict, effect, carriedBy, carried, judged, closed, more, byte, stream, owed, replyFrame, sent, replyOf, failedOf}
 use Rattle.supervisor_claims.specs.FrameHistory.{framed, allFramed, tailOf}
 use Rattle.line_claims.specs.Pieces.{split, nonEmpty, split-none, split-close, split-more}
 
@@ -52,22 +53,30 @@ module _ (received : Option (List ℕ)) (pending : List ℕ) (owing : Bool) (s :
   alert-lined sequence (some r) =
       cond-both Alike (eqb (r .sequence) sequence) (λ e. record { state = refl; reply = refl }) (λ e. record { state = refl; reply = refl })
 
+  effect-lined : (image : List ℕ) (m : Message) (x : Command) → Alike (effect x image other m) (effect x image s m)
+  unfolding effect Requests.reboot Requests.powerOff Requests.bootFailure Requests.panicked Requests.startAcknowledged Requests.keySet lookup valueOf
+  effect-lined image m Command.reboot = record { state = refl; reply = refl }
+  effect-lined image m Command.power-off = record { state = refl; reply = refl }
+  effect-lined image m Command.bsu = record { state = refl; reply = refl }
+  effect-lined image m Command.identity = record { state = refl; reply = refl }
+  effect-lined image m Command.mac = record { state = refl; reply = refl }
+  effect-lined image m Command.boot-failure = record { state = refl; reply = refl }
+  effect-lined image m Command.panic = record { state = refl; reply = refl }
+  effect-lined image m Command.status = record { state = refl; reply = refl }
+  effect-lined image m Command.start-acknowledged = record { state = refl; reply = refl }
+  effect-lined image m Command.alert = alert-lined (m .sequence) (s .retained)
+  effect-lined image m Command.image-block = record { state = refl; reply = refl }
+  effect-lined image m Command.key-lookup = record { state = refl; reply = refl }
+  effect-lined image m Command.inventory = record { state = refl; reply = refl }
+  effect-lined image m Command.key-set = record { state = refl; reply = refl }
+
   pub carried-lined : (image : List ℕ) (m : Message) → Lined received pending owing (carried image other m) (carried image s m)
-  unfolding carried Requests.reboot Requests.powerOff Requests.bootFailure Requests.panicked Requests.startAcknowledged Requests.keySet lookup valueOf
-  carried-lined image m =
-      cond-both Alike (eqb (m .command) 0x01) (λ e. record { state = refl; reply = refl }) (λ e.
-      cond-both Alike (eqb (m .command) 0x02) (λ e. record { state = refl; reply = refl }) (λ e.
-      cond-both Alike (eqb (m .command) 0x03) (λ e. record { state = refl; reply = refl }) (λ e.
-      cond-both Alike (eqb (m .command) 0x04) (λ e. record { state = refl; reply = refl }) (λ e.
-      cond-both Alike (eqb (m .command) 0x05) (λ e. record { state = refl; reply = refl }) (λ e.
-      cond-both Alike (eqb (m .command) 0x06) (λ e. record { state = refl; reply = refl }) (λ e.
-      cond-both Alike (eqb (m .command) 0x07) (λ e. record { state = refl; reply = refl }) (λ e.
-      cond-both Alike (eqb (m .command) 0x08) (λ e. record { state = refl; reply = refl }) (λ e.
-      cond-both Alike (eqb (m .command) 0x09) (λ e. record { state = refl; reply = refl }) (λ e.
-      cond-both Alike (eqb (m .command) 0x0a) (λ e. alert-lined (m .sequence) (s .retained)) (λ e.
-      cond-both Alike (eqb (m .command) 0x0d) (λ e. record { state = refl; reply = refl }) (λ e.
-      cond-both Alike (eqb (m .command) 0x0e) (λ e. record { state = refl; reply = refl }) (λ e.
-      cond-both Alike (eqb (m .command) 0x0f) (λ e. record { state = refl; reply = refl }) (λ e. record { state = refl; reply = refl })))))))))))))
+  unfolding carried
+  carried-lined image m = by (commandOf (m .command))
+    where
+      by : (o : Option Command) → Alike (carriedBy o image other m) (carriedBy o image s m)
+      by none = record { state = refl; reply = refl }
+      by (some x) = effect-lined image m x
 
 -- ---- a frame, by the verdict on it
 

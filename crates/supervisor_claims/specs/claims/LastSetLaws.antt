@@ -1,28 +1,29 @@
 -- A settings key holds the value of its last successful set among the requests that were carried out.
 -- Assumes nothing.
 use mathlib.Core.Path.{_≡_, refl, sym, ap, _∙_}
-use mathlib.Core.Bool.{Bool, true, false, cond, not, and-eq-true-iff, _&&_, _||_}
-use mathlib.Core.Logic.{_⊎_, inl, inr}
+use mathlib.Core.Bool.{Bool, true, false, cond, false≢true}
 use mathlib.Core.List.{List, [], _∷_, _++_}
 use mathlib.Core.Option.{Option, none, some}
-use Prim.Native.Nat.{ℕ, _+_, _-_, _^_, _≤_}
+use Prim.Native.Nat.{ℕ, _-_}
 use native.Mathlib.Nat.{add-zero}
 use native.Mathlib.Omega.{arith}
-use lib.Dec.{leb, ltb, eqb}
+use lib.Dec.{ltb, eqb}
 use lib.ListN.{length, drop, length-set, length-replicate, getD-replicate}
 use lib.Seq.{getD-set-same, getD-set-other}
-use borrow.Author.Tests.{eqb-true, eqb-false, eq-eqb, ne-eqb, leb-true, le-ltb, ltb-false, not-false}
+use borrow.Author.Tests.{eqb-true, eqb-false, eq-eqb, ne-eqb, le-ltb, ltb-false}
 use Rattle.octets.specs.Bytes.{number, numberAt}
 use Rattle.octets.proofs.Conditions.{cond-by, cond-both}
 use Rattle.line.specs.Message.{Message}
-use Rattle.line.specs.Judge.{Verdict, failure, good, judge}
+use Rattle.line.specs.Judge.{Verdict, failure, good}
 use Rattle.line_claims.specs.Pieces.{split, nonEmpty, nonEmpty-append, closedBy, closed-join}
 use Rattle.supervisor.specs.Limits
 use Rattle.supervisor.specs.Limits.{SettingsKey}
 use Rattle.supervisor.specs.State.{Factory, Settings, Retained, State, setting, fresh}
 use Rattle.supervisor.specs.Local.{valueOf}
+use Rattle.requests.specs.Commands.{Command, numberOf, withNumber, commandOf}
 use Rattle.requests.specs.Requests
-use Rattle.requests.specs.Requests.{Carried, known, tested, testedWhere, verdict, carried, stored, judged, sent}
+use Rattle.requests.specs.Requests.{Carried, verdict, effect, carriedBy, carried, stored, judged, sent}
+use Rattle.requests.proofs.CommandLaws.{number-is}
 use Rattle.supervisor_claims.specs.claims.InOrder.{judged-is}
 use Rattle.supervisor_claims.specs.Histories.{Made}
 use Rattle.supervisor_claims.specs.laws.Progress.{local-stays}
@@ -61,57 +62,7 @@ requests-behind w bs =
     let fs = split w .closed in
     rw (closed-join w bs, nonEmpty-append fs (closedBy w bs), requests-append (nonEmpty fs) (nonEmpty (closedBy w bs)))
 
--- ---- a valid request has a listed command
-
-abbrev Listed : Verdict → Type 0
-Listed (failure reason sequence) = Unit {0}
-Listed (good m) = known (m .command) ≡ true
-
-tested-listed : (m : Message) → Listed (tested m)
-unfolding tested
-tested-listed m =
-    cond-by Listed (not (eqb (m .version) Requests.protocol-version)) _ _ (λ e. tt) (λ e.
-    cond-by Listed (leb (2 ^ 63) (m .sequence)) _ _ (λ f. tt) (λ f.
-    cond-by Listed (not (known (m .command))) _ _ (λ g. tt) (λ g.
-    cond-by Listed (not (Requests.lengthAllowed (m .command) (length (m .payload)))) _ _ (λ h. tt) (λ h. not-false _ g))))
-
-where-listed : (v : Verdict) → Listed (testedWhere v)
-where-listed (failure reason sequence) = tt
-where-listed (good m) = tested-listed m
-
-verdict-listed : (f : List ℕ) → Listed (verdict f)
-unfolding verdict
-verdict-listed f = where-listed (judge f)
-
 -- ---- a request that is no key set
-
--- the commands are listed in two ranges
-in-ranges : (a b x y : Bool) → ((a && b) || (x && y)) ≡ true → ((a ≡ true) × (b ≡ true)) ⊎ ((x ≡ true) × (y ≡ true))
-in-ranges true true x y e = inl (refl, refl)
-in-ranges true false x y e = inr (and-eq-true-iff x y .0 e)
-in-ranges false b x y e = inr (and-eq-true-iff x y .0 e)
-
--- a number that is none of the next three, or five
-past-three : (a c : ℕ) → a ≤ c → eqb c a ≡ false → eqb c (a + 1) ≡ false → eqb c (a + 2) ≡ false → a + 3 ≤ c
-past-three a c h e f g = omega (arith, eqb-false)
-
-past-five : (a c : ℕ) → a ≤ c → eqb c a ≡ false → eqb c (a + 1) ≡ false → eqb c (a + 2) ≡ false → eqb c (a + 3) ≡ false → eqb c (a + 4) ≡ false → a + 5 ≤ c
-past-five a c h e f g i j = let k = past-three a c h e f g in omega (arith, eqb-false c (a + 3) i, eqb-false c (a + 4) j)
-
--- one that is none of the others is a key set
-listed-set : (c : ℕ) → known c ≡ true
-    → eqb c 0x01 ≡ false → eqb c 0x02 ≡ false → eqb c 0x03 ≡ false → eqb c 0x04 ≡ false → eqb c 0x05 ≡ false → eqb c 0x06 ≡ false → eqb c 0x07 ≡ false
-    → eqb c 0x08 ≡ false → eqb c 0x09 ≡ false → eqb c 0x0a ≡ false → eqb c 0x0d ≡ false → eqb c 0x0e ≡ false → eqb c 0x0f ≡ false → c ≡ 0x10
-unfolding known
-listed-set c k e1 e2 e3 e4 e5 e6 e7 e8 e9 e10 e13 e14 e15 = by (in-ranges _ _ _ _ k)
-  where
-    by : ((leb 0x01 c ≡ true) × (leb c 0x0a ≡ true)) ⊎ ((leb 0x0d c ≡ true) × (leb c 0x10 ≡ true)) → c ≡ 0x10
-    by (inl r) =
-        let h = past-five 0x06 c (past-five 0x01 c (leb-true _ _ (r .0)) e1 e2 e3 e4 e5) e6 e7 e8 e9 e10 in
-        omega (arith, leb-true c 0x0a (r .1))
-    by (inr r) =
-        let h = past-three 0x0d c (leb-true _ _ (r .0)) e13 e14 e15 in
-        omega (arith, leb-true c 0x10 (r .1))
 
 -- the settings are as before
 record Kept (s : State) (c : Carried) : Type 0 where
@@ -123,28 +74,34 @@ alert-kept s sequence none = record { settings = refl }
 alert-kept s sequence (some r) = cond-by (Kept s) (eqb (r .sequence) sequence) _ _ (λ e. record { settings = refl }) (λ e. record { settings = refl })
 
 module _ (image : List ℕ) (s : State) (m : Message) where
-  other-kept : known (m .command) ≡ true → eqb (m .command) 0x10 ≡ false → Kept s (carried image s m)
-  unfolding carried Requests.reboot Requests.powerOff Requests.bootFailure Requests.panicked Requests.startAcknowledged
-  other-kept h n =
-      let c = m .command in
-      cond-by (Kept s) (eqb c 0x01) _ _ (λ e. record { settings = refl }) (λ e1.
-      cond-by (Kept s) (eqb c 0x02) _ _ (λ e. record { settings = refl }) (λ e2.
-      cond-by (Kept s) (eqb c 0x03) _ _ (λ e. record { settings = refl }) (λ e3.
-      cond-by (Kept s) (eqb c 0x04) _ _ (λ e. record { settings = refl }) (λ e4.
-      cond-by (Kept s) (eqb c 0x05) _ _ (λ e. record { settings = refl }) (λ e5.
-      cond-by (Kept s) (eqb c 0x06) _ _ (λ e. record { settings = refl }) (λ e6.
-      cond-by (Kept s) (eqb c 0x07) _ _ (λ e. record { settings = refl }) (λ e7.
-      cond-by (Kept s) (eqb c 0x08) _ _ (λ e. record { settings = refl }) (λ e8.
-      cond-by (Kept s) (eqb c 0x09) _ _ (λ e. record { settings = refl }) (λ e9.
-      cond-by (Kept s) (eqb c 0x0a) _ _ (λ e. alert-kept s (m .sequence) (s .retained)) (λ e10.
-      cond-by (Kept s) (eqb c 0x0d) _ _ (λ e. record { settings = refl }) (λ e13.
-      cond-by (Kept s) (eqb c 0x0e) _ _ (λ e. record { settings = refl }) (λ e14.
-      cond-by (Kept s) (eqb c 0x0f) _ _ (λ e. record { settings = refl }) (λ e15.
-      absurd (eqb-false c 0x10 n (listed-set c h e1 e2 e3 e4 e5 e6 e7 e8 e9 e10 e13 e14 e15)))))))))))))))
+  effect-kept : (x : Command) → eqb (numberOf x) 0x10 ≡ false → Kept s (effect x image s m)
+  unfolding numberOf effect Requests.reboot Requests.powerOff Requests.bootFailure Requests.panicked Requests.startAcknowledged
+  effect-kept Command.reboot n = record { settings = refl }
+  effect-kept Command.power-off n = record { settings = refl }
+  effect-kept Command.bsu n = record { settings = refl }
+  effect-kept Command.identity n = record { settings = refl }
+  effect-kept Command.mac n = record { settings = refl }
+  effect-kept Command.boot-failure n = record { settings = refl }
+  effect-kept Command.panic n = record { settings = refl }
+  effect-kept Command.status n = record { settings = refl }
+  effect-kept Command.start-acknowledged n = record { settings = refl }
+  effect-kept Command.alert n = alert-kept s (m .sequence) (s .retained)
+  effect-kept Command.image-block n = record { settings = refl }
+  effect-kept Command.key-lookup n = record { settings = refl }
+  effect-kept Command.inventory n = record { settings = refl }
+  effect-kept Command.key-set n = absurd (false≢true (sym n))
+
+  other-kept : eqb (m .command) 0x10 ≡ false → Kept s (carried image s m)
+  unfolding carried
+  other-kept n = by (commandOf (m .command)) refl
+    where
+      by : (o : Option Command) → commandOf (m .command) ≡ o → Kept s (carriedBy o image s m)
+      by none e = record { settings = refl }
+      by (some x) e = effect-kept x (rw (number-is (m .command) e) at n)
 
   -- a key set stores
   set-stored : eqb (m .command) 0x10 ≡ true → carried image s m .state .settings ≡ stored (s .settings) (numberAt 1 (m .payload) 0) (drop 1 (m .payload)) .settings
-  unfolding carried Requests.keySet
+  unfolding carried commandOf withNumber numberOf effect Requests.keySet
   set-stored e = rw (eqb-true (m .command) 0x10 e)
 
 -- ---- what a set stores
@@ -215,20 +172,20 @@ data-has z (key ∷ v) h o x = rw add-zero (stored-has z v h o x key)
 -- ---- requests and frames
 
 module _ (image : List ℕ) {k : ℕ} (h : SettingsKey k) where
-  request-has : (s : State) (m : Message) → known (m .command) ≡ true → (o : Option (List ℕ)) → Has (s .settings) k o
+  request-has : (s : State) (m : Message) (o : Option (List ℕ)) → Has (s .settings) k o
       → Has (carried image s m .state .settings) k (orElse (setBy k m) o)
   unfolding setBy
-  request-has s m listed o x = by (eqb (m .command) 0x10) refl
+  request-has s m o x = by (eqb (m .command) 0x10) refl
     where
       by : (t : Bool) → eqb (m .command) 0x10 ≡ t → Has (carried image s m .state .settings) k (orElse (setBy k m) o)
       by true e = rw (e, set-stored image s m e) (data-has (s .settings) (m .payload) h o x)
-      by false e = rw (e, other-kept image s m listed e .settings) x
+      by false e = rw (e, other-kept image s m e .settings) x
 
-  judged-has : (s : State) (v : Verdict) → Listed v → (o : Option (List ℕ)) → Has (s .settings) k o
+  judged-has : (s : State) (v : Verdict) (o : Option (List ℕ)) → Has (s .settings) k o
       → Has (judged image s v .settings) k (orElse (lastSet k (request v [])) o)
   unfolding judged sent lastSet
-  judged-has s (failure reason sequence) listed o x = x
-  judged-has s (good m) listed o x = request-has s m listed o x
+  judged-has s (failure reason sequence) o x = x
+  judged-has s (good m) o x = request-has s m o x
 
   pub frames-have : (fs : List (List ℕ)) (s : State) (o : Option (List ℕ)) → Has (s .settings) k o → let gs = nonEmpty fs in
       Has (allFramed image s gs .settings) k (orElse (lastSet k (requestsIn gs)) o)
@@ -240,7 +197,7 @@ module _ (image : List ℕ) {k : ℕ} (h : SettingsKey k) where
       let r = requestsIn (nonEmpty fs) in
       let y = lastSet k (request v []) in
       let z : lastSet k (request v r) ≡ orElse (lastSet k r) y = rw (request-append v [] r) (last-append k (request v []) r) in
-      rw (z, or-else-assoc (lastSet k r) y o) (frames-have fs (judged image s v) (orElse y o) (judged-has s v (verdict-listed (b ∷ bs)) o x))
+      rw (z, or-else-assoc (lastSet k r) y o) (frames-have fs (judged image s v) (orElse y o) (judged-has s v o x))
 
 -- ---- received bytes and calls
 

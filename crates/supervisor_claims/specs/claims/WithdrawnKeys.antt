@@ -3,7 +3,7 @@
 use mathlib.Core.Path.{_≡_, refl, ap, _∙_}
 use mathlib.Core.Bool.{true}
 use mathlib.Core.List.{List, [], _∷_, _++_}
-use Prim.Native.Nat.{ℕ, _≤_, _<_}
+use Prim.Native.Nat.{ℕ, _<_}
 use native.Mathlib.Omega.{arith}
 use lib.ListN.{length}
 use borrow.Author.Tests.{le-ltb}
@@ -19,7 +19,8 @@ use Rattle.supervisor.specs.Limits.{SettingsKey}
 use Rattle.supervisor.specs.State.{State, fresh}
 use Rattle.supervisor.specs.Local
 use Rattle.supervisor.specs.Calls.{Parts}
-use Rattle.requests.specs.Requests.{verdict, carried, stream, owed, replyOf, replyFrame}
+use Rattle.requests.specs.Commands.{numberOf, withNumber, commandOf}
+use Rattle.requests.specs.Requests.{verdict, effect, carried, stream, owed, replyOf, replyFrame}
 use Rattle.supervisor_claims.specs.View.{factoryOf, view}
 use Rattle.supervisor_claims.specs.Sound.{Bytes}
 use Rattle.supervisor_claims.specs.Histories
@@ -46,7 +47,7 @@ found-value s most {k} h = rw (le-ltb Limits.highest-key k (h .most))
 -- the reply's frame
 reply-found : (image : List ℕ) (s : State) (n most : ℕ) {k : ℕ} → SettingsKey k → most < 65536
     → replyFrame (replyOf n (carried image s (lookupOf n k most) .reply)) ≡ lookupReply n most (Local.valueOf s k)
-unfolding carried replyOf replyFrame lookupReply
+unfolding carried commandOf withNumber numberOf effect replyOf replyFrame lookupReply
 reply-found image s n most {k} h i =
     let m = h .most in
     let e = lookup-data k most (omega arith) i in

@@ -12,15 +12,19 @@ use Rattle.requests.proofs.records.ask_for.Statement.{statement}
 use Rattle.requests.proofs.records.ask_for.Tie as tie
 
 slice-write-registers-2 : tie.Need-slice-write-registers-2
-slice-write-registers-2 c = let l = length-set (now (c .args .registers)) (c .args .flag) 1 in omega (arith, l, c .pre)
+slice-write-registers-2 c =
+    let start = c .before .before in
+    let l = length-set (now (start .args .registers)) (start .args .flag) 1 in
+    omega (arith, l, start .pre)
 
 returns : tie.Need-returns
 unfolding askedFor
 returns c =
-    let r = now (c .args .registers) in
-    let flag = c .args .flag in
+    let start = c .before .before .before .before .before .before in
+    let r = now (start .args .registers) in
+    let flag = start .args .flag in
     let l = length-set r flag 1 in
-    overlay-one retained-place 0 (set r flag 1) (omega (arith, l, c .pre)) ∙ rw (overlay-one flag 1 r (omega (arith, c .pre)))
+    (c .before .before .send-none .ensures, overlay-one retained-place 0 (set r flag 1) (omega (arith, l, start .pre)) ∙ rw (overlay-one flag 1 r (omega (arith, start .pre))))
 
 pub ask-for-spec : {M : Type 1} → statement M
-ask-for-spec = tie.close (tie.spec (λ c. search needs) slice-write-registers-2 (λ c. search needs) returns)
+ask-for-spec = tie.close (tie.spec (λ c. search needs) slice-write-registers-2 (λ c κs. search needs) (λ c. search needs) (λ c. search needs) returns)

@@ -1,94 +1,213 @@
 -- `requests::requests::carry` meets its contract: each command's arm does what the definition does for it.
 -- Assumes nothing.
-use mathlib.Core.Path.{_≡_}
+use mathlib.Core.Path.{_≡_, refl, ap}
 use mathlib.Core.Bool.{true}
+use mathlib.Core.Option.{Option, none, some}
 use Prim.Native.Nat.{_≤_}
+use native.Mathlib.Omega.{arith}
 use denote.Ref.{now}
 use lib.ListN.{length}
 use borrow.Author.Needs.{needs}
-use borrow.Author.Tests.{ne-eqb}
-use Rattle.supervisor.specs.Layout.{registers-length}
-use Rattle.supervisor.proofs.ValidLaws.{registers-valid}
-use Rattle.requests.specs.Receive.{Inner, inner, carriedInner, validInner}
-use Rattle.requests.proofs.ReceiveLaws.{boot-failure-long}
-use Rattle.requests.proofs.KeptLaws.{inner-valid}
-use Rattle.requests.proofs.TurnLaws.{silently-by, carried-both}
+use Rattle.supervisor.specs.Layout.{factory-length, registers-length}
+use Rattle.supervisor.proofs.ValidLaws.{factory-valid, settings-valid, registers-valid}
+use Rattle.requests.specs.Commands.{Command, numberOf, commandOf}
+use Rattle.requests.specs.Receive.{KeySet, AlertParts, Inner, inner, leftBy, leftWhere, carriedInner, validInner}
+use Rattle.requests.proofs.CommandLaws.{unlisted, of-number}
+use Rattle.requests.proofs.ReceiveLaws.{boot-failure-long, panic-long, key-set-long}
+use Rattle.requests.proofs.KeptLaws.{InnerValid, inner-valid}
+use Rattle.requests.proofs.TurnLaws.{silently-by, answered-by, acknowledged-by, carried-both}
 use Rattle.requests.proofs.requests.carry.Statement.{statement}
 use Rattle.requests.proofs.requests.carry.Tie as tie
 
-registers-long : (c : tie.Start) → registers-length ≤ length (now (c .args .registers))
-registers-long c = registers-valid _ (inner-valid _ (c .pre .1 .1 .0) .registers) .long
+abbrev start : tie.After-head-to → tie.Start
+start h = h .before .before .before .before .before .before .before .before
 
-abbrev lent : tie.Start → Inner
-lent c = inner (now (c .args .outbox)) (now (c .args .settings)) (now (c .args .registers))
+abbrev lent : tie.After-head-to → Inner
+lent h = inner (now (start h .args .outbox)) (now (start h .args .settings)) (now (start h .args .registers))
 
-abbrev carriedBy : tie.Start → Inner
-carriedBy c = carriedInner (now (c .args .image)) (now (c .args .factory)) (lent c) (c .args .number .0) (c .args .command) (now (c .args .«data»))
+valid : (h : tie.After-head-to) → InnerValid (lent h)
+valid h = inner-valid _ (start h .pre .1 .1 .0)
 
-both : (c : tie.After-byte-at) {j : Inner} → j ≡ carriedBy (c .before .before .before .before .before .before .before) → (j ≡ carriedBy (c .before .before .before .before .before .before .before)) × (validInner j ≡ true)
-both c =
-    let start = c .before .before .before .before .before .before .before in
-    let a = start .args in
-    carried-both (now (a .image)) (now (a .factory)) (lent start) (a .number .0) (a .command) (now (a .«data»))
-    (start .pre .1 .0) (start .pre .1 .1 .0) (start .pre .1 .1 .1 .0) (c .byte-at .ensures)
+factory-long : (h : tie.After-head-to) → factory-length ≤ length (now (start h .args .factory))
+factory-long h = factory-valid _ (start h .pre .1 .0) .long
 
-ask-for-requires : tie.Need-ask-for-requires
-ask-for-requires c κs = let l = registers-long (c .before .before .before .before .before .before .before .before .before) in search needs
+registers-long : (h : tie.After-head-to) → registers-length ≤ length (now (start h .args .registers))
+registers-long h = registers-valid _ (valid h .registers) .long
+
+-- what the number's command leaves
+abbrev Leaves : tie.After-head-to → Option Command → Inner → Type 0
+Leaves h o j = j ≡ leftWhere o (now (start h .args .image)) (now (start h .args .factory)) (lent h) (start h .args .number .0) (now (start h .args .«data»))
+
+abbrev Carried : tie.After-head-to → Inner → Type 0
+Carried h j =
+    (j ≡ carriedInner (now (start h .args .image)) (now (start h .args .factory)) (lent h) (start h .args .number .0) (start h .args .command) (now (start h .args .«data»)))
+    × (validInner j ≡ true)
+
+both : (h : tie.After-head-to) (o : Option Command) {j : Inner} → commandOf (start h .args .command) ≡ o → Leaves h o j → Carried h j
+both h o =
+    let a = start h .args in
+    let p = start h .pre in
+    carried-both (now (a .image)) (now (a .factory)) (lent h) (a .number .0) (a .command) (now (a .«data»)) (p .1 .0) (p .1 .1 .0) (p .1 .1 .1 .0) (h .before .byte-at .ensures) o
+
+does : (h : tie.After-head-to) (x : Command) {j : Inner} → start h .args .command ≡ numberOf x → Leaves h (some x) j → Carried h j
+does h x e = both h (some x) (rw e (of-number x))
+
+boot-failure-requires : tie.Need-boot-failure-requires
+boot-failure-requires c κs =
+    let told = c .before .before in
+    let h = told .before in
+    let p = start h .pre in
+    (p .0, (registers-long h, (boot-failure-long _ _ (p .1 .1 .1 .1) (told .match .keys6), p .1 .1 .1 .0)))
+
+panic-requires : tie.Need-panic-requires
+panic-requires c κs =
+    let told = c .before .before in
+    let h = told .before in
+    let p = start h .pre in
+    (p .0, (registers-long h, (panic-long _ _ (p .1 .1 .1 .1) (told .match .keys7), p .1 .1 .1 .0)))
+
+set-key-requires : tie.Need-set-key-requires
+set-key-requires c κs =
+    let told = c .before .before in
+    let h = told .before in
+    (start h .pre .0, (settings-valid _ (valid h .settings) .long, key-set-long _ _ (start h .pre .1 .1 .1 .1) (told .match .keys14)))
 
 returns : tie.Need-returns
-unfolding carriedInner
+unfolding numberOf leftBy
 returns c =
-    let called = c .before .before .before .before .before .before in
-    let told = called .before .before in
-    let first = told .before in
-    both first (rw (told .if1 .taken) (silently-by (lent (first .before .before .before .before .before .before .before)) _ (c .before .before .send-none .ensures) (called .ask-for .ensures)))
-
-ask-for-requires-2 : tie.Need-ask-for-requires-2
-ask-for-requires-2 c κs = let l = registers-long (c .before .before .before .before .before .before .before .before .before .before) in search needs
+    let told = c .before .before .before .before .before .before .before in
+    let h = told .before in
+    does h Command.reboot (told .match .keys1) (silently-by (lent h) _ (c .before .before .before .before .ask-for .ensures))
 
 returns-2 : tie.Need-returns-2
-unfolding carriedInner
+unfolding numberOf leftBy
 returns-2 c =
-    let called = c .before .before .before .before .before .before in
-    let told = called .before .before in
-    let first = told .before .before in
-    both first (rw (told .if2 .taken) (silently-by (lent (first .before .before .before .before .before .before .before)) _ (c .before .before .send-none2 .ensures) (called .ask-for2 .ensures)))
-
-set-record-requires : tie.Need-set-record-requires
-set-record-requires c κs =
-    let told = c .before in
-    let start = told .before .before .before .before .before .before .before .before .before .before in
-    let l = registers-long start in
-    let d = boot-failure-long _ _ (start .pre .1 .1 .1 .1) (told .if3 .taken) in
-    search needs
+    let told = c .before .before .before .before .before .before .before in
+    let h = told .before in
+    does h Command.power-off (told .match .keys2) (silently-by (lent h) _ (c .before .before .before .before .ask-for2 .ensures))
 
 returns-3 : tie.Need-returns-3
-unfolding carriedInner
+unfolding numberOf leftBy
 returns-3 c =
-    let set = c .before .before .before .before .before .before in
-    let told = set .before .before in
-    let first = told .before .before .before in
-    both first (rw (told .if3 .taken, ← first .byte-at .ensures .0) (silently-by (lent (first .before .before .before .before .before .before .before)) _ (c .before .before .send-none3 .ensures) (set .set-record .ensures)))
-
-carry-with-reply-requires : tie.Need-carry-with-reply-requires
-carry-with-reply-requires c κs =
-    let told = c .before .before .before in
-    let p = told .before .before .before .before .before .before .before .before .before .before .pre in
-    let v = inner-valid _ (p .1 .1 .0) in
-    let one = ne-eqb _ 1 (told .before .before .if1 .left) in
-    let two = ne-eqb _ 2 (told .before .if2 .left) in
-    (p .0, (p .1 .0, (v .settings, (v .registers, (p .1 .1 .1 .0, (p .1 .1 .1 .1, (one, (two, ne-eqb _ 6 (told .if3 .left)))))))))
+    let told = c .before .before .before .before in
+    let h = told .before in
+    does h Command.bsu (told .match .keys3) (answered-by (lent h) _ _ _ (h .head-to .ensures) (c .before .before .send-part .ensures))
 
 returns-4 : tie.Need-returns-4
+unfolding numberOf leftBy
 returns-4 c =
-    let called = c .before .before .before .before .before .before in
-    both (called .before .before .before .before .before .before .before) (called .carry-with-reply .ensures)
+    let told = c .before .before .before .before in
+    let h = told .before in
+    does h Command.identity (told .match .keys4) (answered-by (lent h) _ _ _ (h .head-to .ensures) (c .before .before .send-part2 .ensures))
+
+returns-5 : tie.Need-returns-5
+unfolding numberOf leftBy
+returns-5 c =
+    let told = c .before .before .before .before in
+    let h = told .before in
+    does h Command.mac (told .match .keys5) (answered-by (lent h) _ _ _ (h .head-to .ensures) (c .before .before .send-part3 .ensures))
+
+returns-6 : tie.Need-returns-6
+unfolding numberOf leftBy
+returns-6 c =
+    let told = c .before .before .before .before .before .before .before in
+    let h = told .before in
+    does h Command.boot-failure (told .match .keys6) (rw (← h .before .byte-at .ensures .0) (silently-by (lent h) _ (c .before .before .before .before .boot-failure .ensures)))
+
+returns-7 : tie.Need-returns-7
+unfolding numberOf leftBy
+returns-7 c =
+    let told = c .before .before .before .before .before .before .before in
+    let h = told .before in
+    does h Command.panic (told .match .keys7) (acknowledged-by (lent h) _ _ (h .head-to .ensures) (c .before .before .before .before .panic .ensures))
+
+returns-8 : tie.Need-returns-8
+unfolding numberOf leftBy
+returns-8 c =
+    let told = c .before .before .before .before .before in
+    let h = told .before in
+    does h Command.status (told .match .keys8) (answered-by (lent h) _ _ _ (h .head-to .ensures) (c .before .before .send-part4 .ensures))
+
+returns-9 : tie.Need-returns-9
+unfolding numberOf leftBy
+returns-9 c =
+    let told = c .before .before .before .before .before .before .before in
+    let h = told .before in
+    does h Command.start-acknowledged (told .match .keys9) (acknowledged-by (lent h) _ _ (h .head-to .ensures) (c .before .before .before .before .start-acknowledged .ensures))
+
+returns-10 : tie.Need-returns-10
+unfolding numberOf leftBy
+returns-10 c =
+    let told = c .before .before .before .before .before .before .before in
+    let h = told .before in
+    does h Command.alert (told .match .keys10) (rw (← h .head-to .ensures)
+    (ap (λ (a : AlertParts). inner (a .outbox) (now (start h .args .settings)) (a .registers)) (c .before .before .before .before .alert .ensures)))
+
+returns-11 : tie.Need-returns-11
+unfolding numberOf leftBy
+returns-11 c =
+    let told = c .before .before .before .before in
+    let h = told .before in
+    does h Command.image-block (told .match .keys11) (answered-by (lent h) _ _ _ (h .head-to .ensures) (c .before .before .send-block .ensures))
+
+returns-12 : tie.Need-returns-12
+unfolding numberOf leftBy
+returns-12 c =
+    let told = c .before .before .before .before .before in
+    let h = told .before in
+    does h Command.key-lookup (told .match .keys12) (answered-by (lent h) _ _ _ (h .head-to .ensures) (c .before .before .send-value .ensures))
+
+returns-13 : tie.Need-returns-13
+unfolding numberOf leftBy
+returns-13 c =
+    let told = c .before .before .before .before .before in
+    let h = told .before in
+    does h Command.inventory (told .match .keys13) (rw (← c .before .before .before .read-u32 .ensures) (answered-by (lent h) _ _ _ (h .head-to .ensures) (c .before .before .send-item .ensures)))
+
+returns-14 : tie.Need-returns-14
+unfolding numberOf leftBy
+returns-14 c =
+    let told = c .before .before .before .before .before .before .before in
+    let h = told .before in
+    does h Command.key-set (told .match .keys14) (rw (← h .head-to .ensures)
+    (ap (λ (k : KeySet). inner (k .outbox) (k .settings) (now (start h .args .registers))) (c .before .before .before .before .set-key .ensures)))
+
+returns-15 : tie.Need-returns-15
+unfolding numberOf
+returns-15 c = both (c .before) none (unlisted _ (c .match .rest)) refl
 
 pub carry-spec : {M : Type 1} → statement M
 carry-spec =
     tie.close
     (tie.spec
-    (λ c κs. search needs) ask-for-requires (λ c κs. search needs) (λ c. search needs) (λ c. search needs) returns
-    ask-for-requires-2 (λ c κs. search needs) (λ c. search needs) (λ c. search needs) returns-2 (λ c. search needs)
-    set-record-requires (λ c κs. search needs) (λ c. search needs) (λ c. search needs) returns-3 carry-with-reply-requires
-    (λ c. search needs) (λ c. search needs) (λ c. search needs) returns-4)
+    (λ c κs. search needs) (λ c κs. search needs)
+    (λ c κs. let h = c .before .before .before in (start h .pre .0, (omega arith, registers-long h)))
+    (λ c κs. let h = c .before .before .before in (start h .pre .0, (omega arith, registers-long h)))
+    (λ c κs. let h = c .before .before in (start h .pre .0, (omega (arith, factory-long h), omega arith)))
+    (λ c κs. let h = c .before .before in (start h .pre .0, (omega (arith, factory-long h), omega arith)))
+    (λ c κs. let h = c .before .before in (start h .pre .0, (omega (arith, factory-long h), omega arith)))
+    (λ c. search needs) boot-failure-requires panic-requires
+    (λ c κs. let h = c .before .before .before in (start h .pre .0, (omega (arith, registers-long h), omega arith)))
+    (λ c κs. let h = c .before .before .before in (start h .pre .0, registers-long h))
+    (λ c κs. let h = c .before .before .before in (start h .pre .0, valid h .registers))
+    (λ c κs. let h = c .before .before in (start h .pre .0, start h .pre .1 .0))
+    (λ c κs. let h = c .before .before .before in (start h .pre .0, (start h .pre .1 .0, valid h .settings)))
+    (λ c κs. search needs)
+    (λ c. search needs)
+    (λ c κs. let h = c .before .before .before in (start h .pre .0, start h .pre .1 .0))
+    set-key-requires
+    (λ c. search needs) (λ c. search needs) returns
+    (λ c. search needs) (λ c. search needs) returns-2
+    (λ c. search needs) returns-3
+    (λ c. search needs) returns-4
+    (λ c. search needs) returns-5
+    (λ c. search needs) (λ c. search needs) returns-6
+    (λ c. search needs) (λ c. search needs) returns-7
+    (λ c. search needs) (λ c. search needs) returns-8
+    (λ c. search needs) (λ c. search needs) returns-9
+    (λ c. search needs) (λ c. search needs) returns-10
+    (λ c. search needs) returns-11
+    (λ c. search needs) (λ c. search needs) returns-12
+    (λ c. search needs) returns-13
+    (λ c. search needs) (λ c. search needs) returns-14
+    returns-15)

@@ -1,14 +1,32 @@
 -- `requests::requests::length_is_allowed` meets its contract.
 -- Assumes nothing.
+use Rattle.requests.specs.Commands.{numberOf, lengthRight, withNumber, commandOf}
 use Rattle.requests.specs.Requests.{lengthAllowed}
-use Rattle.supervisor.proofs.Cases.{cases}
+use Rattle.requests.proofs.CommandLaws.{unlisted}
 use Rattle.requests.proofs.requests.length_is_allowed.Statement.{statement}
 use Rattle.requests.proofs.requests.length_is_allowed.Tie as tie
 
+returns-15 : tie.Need-returns-15
+unfolding lengthAllowed numberOf
+returns-15 c = rw (unlisted _ (c .match .rest))
+
 pub length-is-allowed-spec : {M : Type 1} → statement M
-unfolding lengthAllowed
+unfolding lengthAllowed commandOf withNumber numberOf lengthRight
 length-is-allowed-spec =
     tie.close
     (tie.spec
-    (λ c. search cases) (λ c. search cases) (λ c. search cases) (λ c. search cases) (λ c. search cases) (λ c. search cases)
-    (λ c. search cases))
+    (λ c. rw (c .match .keys1))
+    (λ c. rw (c .match .keys2))
+    (λ c. rw (c .match .keys3))
+    (λ c. rw (c .match .keys4))
+    (λ c. rw (c .match .keys5))
+    (λ c. rw (c .match .keys6))
+    (λ c. rw (c .match .keys7))
+    (λ c. rw (c .match .keys8))
+    (λ c. rw (c .match .keys9))
+    (λ c. rw (c .match .keys10))
+    (λ c. rw (c .match .keys11))
+    (λ c. rw (c .match .keys12))
+    (λ c. rw (c .match .keys13))
+    (λ c. rw (c .match .keys14))
+    returns-15)

@@ -1,0 +1,13 @@
+-- `requests::records::panic` meets its contract.
+-- Assumes nothing.
+use borrow.Author.Needs.{needs}
+use Rattle.requests.proofs.records.panic.Statement.{statement}
+use Rattle.requests.proofs.records.panic.Tie as tie
+
+returns : tie.Need-returns
+returns c =
+    let set = c .before .before .before .before .before .before in
+    (c .before .before .acknowledge .ensures, rw (← set .before .read-u16 .ensures) (set .set-record .ensures))
+
+pub panic-spec : {M : Type 1} → statement M
+panic-spec = tie.close (tie.spec (λ c κs. search needs) (λ c κs. search needs) (λ c κs. search needs) (λ c. search needs) (λ c. search needs) returns)

@@ -1,0 +1,23 @@
+-- `requests::records::start_acknowledged` meets its contract.
+-- Assumes nothing.
+use borrow.Author.Needs.{needs}
+use native.Mathlib.Omega.{arith}
+use Rattle.supervisor.specs.Layout.{status-place}
+use Rattle.requests.proofs.RecordLaws.{number-stored}
+use Rattle.requests.proofs.records.start_acknowledged.Statement.{statement}
+use Rattle.requests.proofs.records.start_acknowledged.Tie as tie
+
+returns : tie.Need-returns
+returns c =
+    let written = c .before .before .before .before .before .before in
+    let start = written .before .before .before .before .before .before .before in (
+      c .before .before .acknowledge .ensures,
+      number-stored 8 status-place (start .args .registers .now) (omega (arith, start .pre)) (cc) (written .write-u64 .ensures),
+    )
+
+pub start-acknowledged-spec : {M : Type 1} → statement M
+start-acknowledged-spec =
+    tie.close
+    (tie.spec
+    (λ c κs. search needs) (λ c κs. search needs) (λ c κs. search needs) (λ c κs. search needs) (λ c. search needs)
+    (λ c. search needs) returns)
