@@ -24,6 +24,9 @@ WORDS = {
     'requests': 'requests, replies, receive',
     'supervisor_claims': 'view, demand 2',
     'replay': 'the replay program',
+    'plain': 'the second, plain reader',
+    'plain_claims': 'agrees with the reader',
+    'audit': 'the audit program',
     'cases': 'vectors and edges',
     'oatcastle': 'exported for C and Rust',
 }

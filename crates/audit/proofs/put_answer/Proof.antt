@@ -1,0 +1,48 @@
+-- `audit::put_answer` meets its contract: each arm puts what the definition's line has.
+-- Assumes nothing.
+use native.Mathlib.Omega.{arith}
+use borrow.Author.Needs.{needs}
+use Rattle.plain.specs.Answers.{verdictOf}
+use Rattle.audit.specs.Text.{digitsWithin, decimal, word}
+use Rattle.audit.proofs.put_answer.Statement.{statement}
+use Rattle.audit.proofs.put_answer.Tie as tie
+
+returns : tie.Need-returns
+unfolding verdictOf word decimal digitsWithin
+returns c =
+    let wrote = c .before .before .put .ensures in
+    rw (c .before .before .before .before .before .enum-told .given .1) (wrote, omega (arith, wrote .ends))
+
+returns-2 : tie.Need-returns-2
+unfolding verdictOf word decimal digitsWithin
+returns-2 c =
+    let wrote = c .before .before .put2 .ensures in
+    rw (c .before .before .before .before .before .enum-told2 .given .1) (wrote, omega (arith, wrote .ends))
+
+returns-3 : tie.Need-returns-3
+unfolding verdictOf word decimal digitsWithin
+returns-3 c =
+    let wrote = c .before .before .put3 .ensures in
+    rw (c .before .before .before .before .before .enum-told3 .given .1) (wrote, omega (arith, wrote .ends))
+
+returns-4 : tie.Need-returns-4
+unfolding verdictOf word decimal digitsWithin
+returns-4 c =
+    let wrote = c .before .before .put4 .ensures in
+    rw (c .before .before .before .before .before .enum-told4 .given .1) (wrote, omega (arith, wrote .ends))
+
+returns-5 : tie.Need-returns-5
+unfolding verdictOf word decimal digitsWithin
+returns-5 c =
+    let wrote = c .before .before .put5 .ensures in
+    rw (c .before .before .before .before .before .enum-told5 .given .1) (wrote, omega (arith, wrote .ends))
+
+pub put-answer-spec : {M : Type 1} → statement M
+put-answer-spec =
+    tie.close
+    (tie.spec
+    (λ c. search needs) (λ c. search needs) (λ c κs. search needs) (λ c. search needs) (λ c. search needs)
+    (λ c κs. search needs) (λ c. search needs) (λ c. search needs) (λ c κs. search needs) (λ c. search needs)
+    (λ c. search needs) (λ c κs. search needs) (λ c. search needs) (λ c. search needs) (λ c κs. search needs)
+    (λ c. search needs) returns (λ c. search needs) returns-2 (λ c. search needs) returns-3 (λ c. search needs) returns-4
+    (λ c. search needs) returns-5)

@@ -1,0 +1,3 @@
+-- The audit program's text.
+-- Assumes nothing.
+pub mod Text

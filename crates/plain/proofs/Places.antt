@@ -1,0 +1,78 @@
+-- Laws of what begins at a place of a capture, byte by byte.
+-- Assumes nothing.
+use mathlib.Core.Path.{_≡_, refl, ap, _∙_}
+use mathlib.Core.List.{List, [], _∷_}
+use Prim.Native.Nat.{ℕ, zero, suc, _+_, _-_, _≤_, _<_}
+use native.Mathlib.Nat.{add-zero}
+use native.Mathlib.Numerals.{add-one}
+use native.Mathlib.Omega.{arith}
+use lib.ListN.{length, drop, getD, drop-of-length-le}
+use lib.Seq.{drop-cons}
+use Rattle.line_claims.specs.Pieces.{ahead, split}
+use Rattle.plain.specs.Answers.{firstOf, firstPiece, pieceAt}
+use Rattle.plain.specs.declared.Piece.{Piece}
+use Rattle.plain.specs.declared.Piece.the-variants.{Frame, Tail}
+
+-- a piece that begins k bytes earlier
+abbrev pub longer : ℕ → Piece → Piece
+longer k (Frame n) = Frame (k + n)
+longer k (Tail n) = Tail (k + n)
+
+longer-none : (p : Piece) → longer 0 p ≡ p
+longer-none (Frame n) = ap Frame (omega arith)
+longer-none (Tail n) = ap Tail (omega arith)
+
+longer-more : (j k : ℕ) (p : Piece) → longer j (longer k p) ≡ longer (j + k) p
+longer-more j k (Frame n) = ap Frame (omega arith)
+longer-more j k (Tail n) = ap Tail (omega arith)
+
+first-ahead : (b : ℕ) (ps : List (List ℕ)) (rest : List ℕ) → firstPiece (ahead b ps rest) ≡ longer 1 (firstOf ps rest)
+unfolding firstOf
+first-ahead b [] rest = ap Tail (omega arith)
+first-ahead b (p ∷ ps) rest = ap Frame (omega arith)
+
+first-more : (b : ℕ) (v : List ℕ) → (b ≡ 0 → ⊥) → firstPiece (split (b ∷ v)) ≡ longer 1 (firstPiece (split v))
+unfolding split
+first-more zero v h = absurd (h refl)
+first-more (suc b) v h = first-ahead (suc b) (split v .closed) (split v .rest)
+
+-- one byte
+module _ (w : List ℕ) (i : ℕ) where
+  place-end : length w ≤ i → pieceAt w i ≡ Tail 0
+  unfolding pieceAt split firstOf
+  place-end h = rw (drop-of-length-le w h)
+
+  module _ (h : i < length w) where
+    at-place : drop i w ≡ getD w i 0 ∷ drop (i + 1) w
+    at-place = rw add-one (drop-cons w i 0 h)
+
+    place-zero : getD w i 0 ≡ 0 → pieceAt w i ≡ Frame 0
+    unfolding pieceAt split firstOf
+    place-zero e = rw (at-place, e)
+
+    place-more : (getD w i 0 ≡ 0 → ⊥) → pieceAt w i ≡ longer 1 (pieceAt w (i + 1))
+    unfolding pieceAt
+    place-more e = rw at-place (first-more (getD w i 0) (drop (i + 1) w) e)
+
+-- the bytes from a place on up to i are not zero
+pub record Reached (w : List ℕ) (at i : ℕ) : Type 0 where
+  pub from : at ≤ i
+  pub piece : pieceAt w at ≡ longer (i - at) (pieceAt w i)
+
+pub reached-start : (w : List ℕ) (at : ℕ) → Reached w at at
+reached-start w at =
+    let e : at - at ≡ 0 = omega arith in
+    record { from = omega arith; piece = rw (e, longer-none) }
+
+module _ (w : List ℕ) (at i : ℕ) (r : Reached w at i) where
+  pub reached-more : i < length w → (getD w i 0 ≡ 0 → ⊥) → Reached w at (i + 1)
+  reached-more h e =
+      let f = r .from in
+      let s : i - at + 1 ≡ i + 1 - at = omega arith in
+      record { from = omega arith; piece = r .piece ∙ rw (place-more w i h e, longer-more, s) }
+
+  pub reached-zero : i < length w → getD w i 0 ≡ 0 → Frame (i - at) ≡ pieceAt w at
+  reached-zero h e = rw (r .piece, place-zero w i h e, add-zero)
+
+  pub reached-end : length w ≤ i → Tail (i - at) ≡ pieceAt w at
+  reached-end h = rw (r .piece, place-end w i h, add-zero)

@@ -1,0 +1,45 @@
+-- `plain::judged` meets its contract.
+-- Assumes nothing.
+use native.Mathlib.Omega.{arith}
+use borrow.Author.Needs.{needs}
+use denote.Ref.{now}
+use Rattle.plain.specs.Answers.{verdictOf}
+use Rattle.plain.proofs.Tests.{over-judged, bad-judged, decoded-fits, tested-judged}
+use Rattle.plain.proofs.judged.Statement.{statement}
+use Rattle.plain.proofs.judged.Tie as tie
+
+returns : tie.Need-returns
+unfolding verdictOf
+returns c = let a = c .before .before .args in over-judged (now (a .frame)) (now (a .message)) (c .if1 .taken)
+
+tested-requires : tie.Need-tested-requires
+tested-requires c κs =
+    let form = c .before .before .before in
+    let decoded = form .before .before in
+    let test = decoded .before .before in
+    let a = test .before .before .args in
+    decoded-fits (now (a .frame)) (now (a .message)) (test .if1 .left) (decoded .decode .ensures .0) (decoded .decode .ensures .1) (form .d .given .1)
+    (omega arith) (omega arith)
+
+returns-2 : tie.Need-returns-2
+unfolding verdictOf
+returns-2 c =
+    let decoded = c .before .before in
+    let test = decoded .before .before in
+    let a = test .before .before .args in
+    bad-judged (now (a .frame)) (now (a .message)) (test .if1 .left) (decoded .decode .ensures .0) (decoded .decode .ensures .1) (c .enum-told .given .1)
+
+returns-3 : tie.Need-returns-3
+unfolding verdictOf
+returns-3 c =
+    let form = c .before .before .before .before in
+    let decoded = form .before .before in
+    let test = decoded .before .before in
+    let a = test .before .before .args in
+    tested-judged (now (a .frame)) (now (a .message)) (test .if1 .left) (decoded .decode .ensures .0) (decoded .decode .ensures .1) (form .d .given .1)
+    (c .tested .ensures)
+
+pub judged-spec : {M : Type 1} → statement M
+judged-spec =
+    tie.close
+    (tie.spec returns (λ c κs. search needs) (λ c. search needs) (λ c. search needs) tested-requires returns-2 returns-3)

@@ -1,0 +1,73 @@
+-- Claim: whoever repeats `next` and `judged` over a capture gets its listing.
+-- Assumes nothing.
+use mathlib.Core.Path.{_≡_, refl, sym, _∙_}
+use mathlib.Core.List.{List, [], _∷_}
+use Prim.Native.Nat.{ℕ, zero, suc, _+_, _-_, _<_}
+use native.Mathlib.Nat.{add-zero}
+use native.Mathlib.Omega.{arith}
+use lib.ListN.{length}
+use Rattle.octets.specs.Bytes.{run}
+use Rattle.octets.proofs.Overlay.{length-run}
+use Rattle.line.specs.Judge.{judge}
+use Rattle.plain.specs.Listing.{Listing, entryOf, listing}
+use Rattle.plain.specs.Answers.{pieceAt, verdictOf}
+use Rattle.plain.specs.declared.Piece.{Piece}
+use Rattle.plain.specs.declared.Piece.the-variants.{Frame, Tail}
+use Rattle.plain.specs.declared.Answer.{Answer}
+use Rattle.plain.proofs.Steps.{listedFrom, added, at-frame, at-tail}
+
+-- What is listed from a place on: `next` is asked there; at the tail the listing ends; an empty frame is passed over; any other is handed to `judged`,
+-- whose answer and array tell the verdict; it goes on behind the frame's 00.
+pub data Repeated (w : List ℕ) : ℕ → Listing → Type 0 where
+  tail : {at n : ℕ} → Tail n ≡ pieceAt w at → Repeated w at (record { entries = []; tail = n })
+  empty : {at : ℕ} {l : Listing} → Frame 0 ≡ pieceAt w at → Repeated w (at + 1) l → Repeated w at l
+  frame : {at n : ℕ} {l : Listing} (answer : Answer) (array : List ℕ) → Frame (suc n) ≡ pieceAt w at
+      → verdictOf answer array ≡ judge (run at (suc n) w) → Repeated w (at + suc n + 1) l
+      → Repeated w at (record { entries = (record { start = at; verdict = verdictOf answer array }) ∷ l .entries; tail = l .tail })
+
+entry-some : (at : ℕ) (p : List ℕ) → 0 < length p → entryOf at p ≡ (record { start = at; verdict = judge p }) ∷ []
+unfolding entryOf
+entry-some at [] h = absurd (omega arith)
+entry-some at (b ∷ bs) h = refl
+
+module _ (w : List ℕ) where
+  -- an empty frame, and any other
+  step-empty : (at : ℕ) → Frame 0 ≡ pieceAt w at → listedFrom w at ≡ listedFrom w (at + 1)
+  unfolding entryOf
+  step-empty at e = rw add-zero at (at-frame w at e .step)
+
+  step-frame : (at n : ℕ) → Frame (suc n) ≡ pieceAt w at
+      → listedFrom w at ≡ added ((record { start = at; verdict = judge (run at (suc n) w) }) ∷ []) (listedFrom w (at + suc n + 1))
+  step-frame at n e =
+      let f = at-frame w at e in
+      let i = f .within in
+      let l = length-run at (suc n) w (omega arith) in
+      f .step ∙ rw (entry-some at (run at (suc n) w) (omega arith))
+
+  repeated-from : {at : ℕ} {l : Listing} → Repeated w at l → l ≡ listedFrom w at
+  repeated-from (tail {at = at} e) = sym (at-tail w at e .step)
+  repeated-from (empty {at = at} e r) = repeated-from r ∙ sym (step-empty at e)
+  repeated-from (frame {at = at} {n = n} answer array e v r) = rw (step-frame at n e, v, repeated-from r)
+
+  -- from the capture's start on
+  pub repeated : {l : Listing} → Repeated w 0 l → l ≡ listing w
+  unfolding listing
+  repeated r = repeated-from r
+
+  -- and it ends: whatever `judged` answers and leaves, as its promise has it, there is such a listing
+  module _ (answer : List ℕ → Answer) (array : List ℕ → List ℕ) (promise : (form : List ℕ) → verdictOf (answer form) (array form) ≡ judge form) where
+    ends-by : (left at : ℕ) → length w - at < left → (p : Piece) → p ≡ pieceAt w at → Repeated w at (listedFrom w at)
+    ends-by zero at h p e = absurd (omega arith)
+    ends-by (suc left) at h (Tail n) e = rw (at-tail w at e .step) (tail e)
+    ends-by (suc left) at h (Frame zero) e =
+        let i = at-frame w at e .within in
+        rw (step-empty at e) (empty e (ends-by left (at + 1) (omega arith) (pieceAt w (at + 1)) refl))
+    ends-by (suc left) at h (Frame (suc n)) e =
+        let i = at-frame w at e .within in
+        let f = run at (suc n) w in
+        rw (step-frame at n e, ← promise f)
+        (frame (answer f) (array f) e (promise f) (ends-by left (at + suc n + 1) (omega arith) (pieceAt w (at + suc n + 1)) refl))
+
+    pub ends : Repeated w 0 (listing w)
+    unfolding listing
+    ends = ends-by (suc (length w)) 0 (omega arith) (pieceAt w 0) refl

@@ -1,0 +1,2 @@
+// The claims over the plain reader stand in specs/.
+// No code.
