@@ -23,6 +23,8 @@ WORDS = {
     'supervisor': 'state, stores, local calls',
     'requests': 'requests, replies, receive',
     'supervisor_claims': 'view, demand 2',
+    'counters': 'the counter block',
+    'counters_claims': 'frames counted',
     'replay': 'the replay program',
     'plain': 'the second, plain reader',
     'plain_claims': 'agrees with the reader',

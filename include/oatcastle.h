@@ -211,6 +211,29 @@ uint32_t oatcastle_receive(const uint8_t *image, size_t image_length, const uint
  * 0; 12; 8: the answer is too short. */
 uint32_t oatcastle_step(const uint8_t *image, size_t image_length, const uint8_t *piece, size_t piece_length, uint8_t *reader, size_t reader_length, uint8_t *outbox, size_t outbox_length, const uint8_t *factory, size_t factory_length, uint8_t *settings, size_t settings_length, uint8_t *registers, size_t registers_length, uint64_t *answer, size_t answer_count);
 
+/* A counter block: how many frames of each kind ended since it was cleared. A counter stays at 4,294,967,295. Any contents are allowed. */
+typedef struct oatcastle_counters {
+    uint32_t good;      /* requests that passed every test */
+    uint32_t empty;     /* empty frames: each 00 behind another, or behind a start */
+    uint32_t reason1;   /* failures, by the reason's number: OATCASTLE_REASON_FORM to OATCASTLE_REASON_DATA */
+    uint32_t reason2;
+    uint32_t reason3;
+    uint32_t reason4;
+    uint32_t reason5;
+    uint32_t reason6;
+    uint32_t reason7;
+} oatcastle_counters;
+
+/* Makes every counter of a block 0.
+ * 0. */
+uint32_t oatcastle_clear_counters(oatcastle_counters *counters);
+
+/* The same as oatcastle_receive, and every frame whose 00 the piece brings is counted in the block, as soon as its 00 is read. A refused call
+ * counts nothing. What a start drops of a frame is counted nowhere, and neither are frames that oatcastle_receive or oatcastle_step read.
+ * The block is lent as any other memory: it overlaps nothing else that is lent.
+ * 0; 12. */
+uint32_t oatcastle_receive_counted(oatcastle_counters *counters, const uint8_t *image, size_t image_length, const uint8_t *piece, size_t piece_length, uint8_t *reader, size_t reader_length, uint8_t *outbox, size_t outbox_length, const uint8_t *factory, size_t factory_length, uint8_t *settings, size_t settings_length, uint8_t *registers, size_t registers_length);
+
 /* Takes bytes to send: moves the smaller of the room and the bytes pending to the start of the room.
  * answer[0]  how many bytes were moved; fewer than the room: nothing more is pending. A room of OATCASTLE_MOST_PENDING takes all at once
  * 0; 12; 8: the answer is too short (a room is never too short). */
@@ -267,16 +290,16 @@ uint32_t oatcastle_plan(const uint8_t base[OATCASTLE_ADDRESS_LENGTH], uint16_t c
 /* ==== The probe list: an array of records, lent by the caller and brought up to date in place. There is no other state. */
 
 /* A part's address on the bus and the result of its probe: two bytes, no padding. */
-struct oatcastle_probe {
+typedef struct oatcastle_probe {
     uint8_t address;
     uint8_t result;
-};
+} oatcastle_probe;
 
 /* For each k, gives the part at place indices[k] of the list the result results[k], 0, 2 or 3; a part named twice keeps the later one. All other results, and all
  * addresses, stay. No changes (both lists of them empty) are done. An array is lent as a pointer to its first element and the number of its elements; the pointer is
  * aligned as its type is and not NULL, even where the number is 0, and the list overlaps neither of the other two.
  * 0; 15: an index at or past list_count, another result, or another number of results than of indices; the whole list stays then. */
-uint32_t oatcastle_probe_update(struct oatcastle_probe *list, size_t list_count, const size_t *indices, size_t indices_count, const uint8_t *results, size_t results_length);
+uint32_t oatcastle_probe_update(oatcastle_probe *list, size_t list_count, const size_t *indices, size_t indices_count, const uint8_t *results, size_t results_length);
 
 /* ==== The root-of-trust link: messages of version 1 over SPI. There is no state. */
 

@@ -27,7 +27,7 @@ PARTS = r'\n    (reader|outbox|factory|settings|registers): \[u8; (\d+)\],'
 NUMBERS = {'u8': 'u8', 'u16': 'u16', 'u32': 'u32', 'u64': 'u64', 'usize': 'u64',
            'uint8_t': 'u8', 'uint16_t': 'u16', 'uint32_t': 'u32', 'uint64_t': 'u64'}
 # The records that functions take: the crates' name, its file, and the header's name.
-RECORDS = {'Probe': ('crates/probes/src/lib.rt', 'oatcastle_probe')}
+RECORDS = {'Probe': ('crates/probes/src/lib.rt', 'oatcastle_probe'), 'Counters': ('crates/counters/src/lib.rt', 'oatcastle_counters')}
 # What a pointer leads to.
 ELEMENTS = {**NUMBERS, 'usize': 'size', 'size_t': 'size', **{name: name for name in RECORDS}, **{c: name for name, (_, c) in RECORDS.items()}}
 
@@ -52,6 +52,8 @@ def rattle_parameters(parameter):
     name, kind = (part.strip() for part in parameter.split(':', 1))
     kind = re.sub(r"'\w+ ", '', kind)
     change = 'mut ' if kind.startswith('&mut ') else 'const '
+    if kind == '&mut Counters':
+        return [(name, 'mut Counters')]
     element = re.fullmatch(r'&(?:mut )?\[(\w+)(; [\w:]+)?\]', kind)
     if not element:
         return [(name, NUMBERS[kind])]
@@ -110,7 +112,7 @@ def rust_fields(text, name):
 
 
 def c_fields(text, name):
-    found = re.search(rf'\nstruct {name} \{{\n(.*?)\n\}};', text, re.S)
+    found = re.search(rf'\n(?:typedef )?struct {name} \{{\n(.*?)\n\}}', text, re.S)
     return found and [(field, NUMBERS[kind]) for kind, field in re.findall(r'(\w+) (\w+);', found.group(1))]
 
 
@@ -334,11 +336,15 @@ def planted(texts):
     yield replaced(HEADER, header, 'a wider number', 'uint16_t maxresponse', 'uint32_t maxresponse')
     yield replaced(HEADER, header, 'a function taken out', 'uint32_t oatcastle_flags(', '// uint32_t oatcastle_flags(')
     for old, new in (('uint8_t address;\n    uint8_t result;', 'uint8_t result;\n    uint8_t address;'), ('uint8_t address;', 'uint16_t address;'),
-                     ('    uint8_t result;\n', ''), ('const size_t *indices', 'const uint64_t *indices'), ('struct oatcastle_probe *list', 'uint8_t *list')):
+                     ('    uint8_t result;\n', ''), ('const size_t *indices', 'const uint64_t *indices'), ('oatcastle_probe *list', 'uint8_t *list')):
         yield replaced(HEADER, header, f'{new!r} for {old!r}', old, new)
     for old, new in (('pub address: u8,\n    pub result: u8,', 'pub result: u8,\n    pub address: u8,'), ('pub result: u8,', 'pub result: u32,'), ('#[repr(C)]\n', ''),
                      ('indices: *const usize', 'indices: *const u32'), ('list: *mut Probe', 'list: *mut u8')):
         yield replaced(RAW, raw, f'{new!r} for {old!r}', old, new)
+    yield replaced(HEADER, header, 'two counters exchanged', 'uint32_t reason5;\n    uint32_t reason6;', 'uint32_t reason6;\n    uint32_t reason5;')
+    yield replaced(HEADER, header, 'a wider counter', 'uint32_t reason7', 'uint64_t reason7')
+    yield replaced(RAW, raw, 'a counter taken out', '    pub reason7: u32,\n', '')
+    yield replaced(RAW, raw, 'a block for reading alone', 'counters: *mut Counters', 'counters: *const Counters')
     yield replaced(RAW, raw, 'a mut for a const', '*const', '*mut')
     yield replaced(RAW, raw, 'a narrower number', 'sequence: u64', 'sequence: u32')
     yield replaced(RAW, raw, 'a function by another name', 'oatcastle_panic', 'oatcastle_panics')

@@ -2,6 +2,7 @@
 // Assumes the C functions of include/oatcastle.h, docs/STATE.md for the lent bytes and document 01 for everything else.
 
 mod calls;
+mod counters;
 mod history;
 #[path = "../../bindings/rust/src/raw.rs"]
 mod library;
@@ -97,6 +98,7 @@ fn samples(world: &mut World) -> Result<(), String> {
 fn plain(seed: u64, count: u64, trace: bool) -> ExitCode {
     let mut world = World::new(seed, trace);
     let result = samples(&mut world)
+        .and_then(|()| counters::cases(&mut world))
         .and_then(|()| checksums(seed))
         .and_then(|()| link::compare(seed, count / 10, &mut world.tally.calls))
         .and_then(|()| probes::compare(seed, count / 10, &mut world.tally.calls))

@@ -93,6 +93,13 @@ faults! {
     HeaderBeforeProtocol: "22 is tested ahead of 21",
     TypeBeforeCrc: "26 is tested ahead of 25",
     Payload513: "a payload of 513 bytes is let through",
+    CounterWraps: "a counter goes on from 4,294,967,295 to 0",
+    CounterExchanged: "the counters of reasons 5 and 6 are exchanged",
+    CounterLineGood: "a message that the line layer finds good is counted as a good request",
+    CounterFirstOnly: "only the first frame of a piece is counted",
+    CounterOverlongEarly: "an overlong frame is counted ahead of its 00 too",
+    CounterEmptyIgnored: "an empty frame is not counted",
+    CounterStartCounts: "what a start drops of a frame is counted",
 }
 
 static FAULT: AtomicUsize = AtomicUsize::new(0);
@@ -487,18 +494,19 @@ pub struct Supervisor {
     pub registers: Registers,
 }
 
-/// What the frames of a call may have changed, and how often each reason and each command came.
+/// What the frames of a call may have changed, how often each reason and each command came, and kind and reason of each step.
 pub struct Touched {
     pub outbox: bool,
     pub settings: bool,
     pub registers: bool,
     pub reasons: [u64; 8],
     pub commands: [u64; 17],
+    pub ends: Vec<(u8, u8)>,
 }
 
 impl Touched {
     pub fn none() -> Touched {
-        Touched { outbox: false, settings: false, registers: false, reasons: [0; 8], commands: [0; 17] }
+        Touched { outbox: false, settings: false, registers: false, reasons: [0; 8], commands: [0; 17], ends: Vec::new() }
     }
 }
 
@@ -548,7 +556,8 @@ impl Supervisor {
     pub fn receive(&mut self, image: &[u8], piece: &[u8], touched: &mut Touched) {
         let mut rest = piece;
         while !rest.is_empty() {
-            let (used, _, _) = self.step(image, rest, touched);
+            let (used, kind, reason) = self.step(image, rest, touched);
+            touched.ends.push((kind, reason));
             rest = &rest[used..];
         }
     }

@@ -2,6 +2,7 @@
 // Assumes document 01 for the answers, docs/STATE.md for the lent bytes, and the linked library.
 
 use crate::calls::{hex, refused, same, Call, Lent, Outcome};
+use crate::counters::Block;
 use crate::library::*;
 use crate::model::{self, broken, Ended, Fault, Reader, Record, Supervisor, Touched, LONGEST_DATA};
 use crate::plans::ROWS_LENGTH;
@@ -28,6 +29,9 @@ pub struct World {
     pub wires: [Vec<u8>; 2],
     pub images: Vec<Vec<u8>>,
     pub pristine: Vec<Vec<u8>>,
+    pub block: Block,
+    /// Whether a receive is lent the block; none where it is left to chance.
+    pub counting: Option<bool>,
     pub tally: Tally,
     pub trace: bool,
 }
@@ -101,6 +105,8 @@ impl World {
             wires: [Vec::new(), Vec::new()],
             pristine: images.clone(),
             images,
+            block: Block::new(),
+            counting: None,
             tally: Tally::default(),
             trace,
         }
@@ -246,6 +252,7 @@ impl World {
                 if !state::valid_start(&data[..]) {
                     return refused(11);
                 }
+                self.block.drop_frame(self.supervisor.reader.long || !self.supervisor.reader.bytes.is_empty());
                 self.supervisor = Supervisor::start(state::factory(&data[..]), &self.supervisor.outbox);
                 self.handed[READER] = None;
                 outcome.changed = [false, true, true, true, true, true];
@@ -275,6 +282,7 @@ impl World {
                     outcome.answer = vec![used as u64, u64::from(kind), u64::from(reason)];
                 } else {
                     self.supervisor.receive(image, piece, &mut touched);
+                    self.block.count(&touched.ends, self.supervisor.reader.long);
                 }
                 for (sum, times) in self.tally.reasons.iter_mut().zip(touched.reasons) {
                     *sum += times;
@@ -369,6 +377,7 @@ impl World {
         let (room_n, answer_n) = (lent.room, lent.answer);
         let (room, answer) = (room.as_mut_ptr(), answer.as_mut_ptr());
         let images = &self.images;
+        let counters = self.block.pointer();
         let mut either = |part: usize| {
             if part == LINE { (line.as_mut_ptr(), line_n) } else { (reader.as_mut_ptr(), reader_n) }
         };
@@ -397,6 +406,11 @@ impl World {
                 Call::Start { data } => oatcastle_start(
                     data.as_ptr(), reader.as_mut_ptr(), reader_n, outbox.as_mut_ptr(), outbox_n, factory.as_mut_ptr(), factory_n,
                     settings.as_mut_ptr(), settings_n, registers.as_mut_ptr(), registers_n,
+                ),
+                Call::Receive { image, piece } if self.block.lent => oatcastle_receive_counted(
+                    counters, images[image.which].as_ptr(), image.length, piece.as_ptr(), piece.len(), reader.as_mut_ptr(), reader_n,
+                    outbox.as_mut_ptr(), outbox_n, factory.as_ptr(), factory_n, settings.as_mut_ptr(), settings_n,
+                    registers.as_mut_ptr(), registers_n,
                 ),
                 Call::Receive { image, piece } => oatcastle_receive(
                     images[image.which].as_ptr(), image.length, piece.as_ptr(), piece.len(), reader.as_mut_ptr(), reader_n,
@@ -454,6 +468,9 @@ impl World {
         for (before, part) in self.before.iter_mut().zip(&self.parts) {
             before.copy_from_slice(part);
         }
+        if matches!(call, Call::Receive { .. }) {
+            self.block.prepare(&mut self.random, self.counting);
+        }
         let mut room_expected = room.clone();
         let mut answer_expected = answer.clone();
         let expected = self.expect(call, lent);
@@ -477,6 +494,7 @@ impl World {
             return Err(format!("the answer\n  model   {answer_expected:x?}\n  library {answer:x?}"));
         }
         same("the room", &room_expected, &room)?;
+        self.block.same()?;
         self.inputs(call, &given)?;
         let before = std::mem::take(&mut self.before);
         let parts = std::mem::take(&mut self.parts);

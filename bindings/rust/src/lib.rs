@@ -14,6 +14,7 @@ mod supervisor;
 pub use line::{checksum, write_frame, Failure, LineReader, Message, Read, ReadEnd, Tail, LONGEST_FRAME};
 pub use plan::{AddressPlan, ADDRESS_LENGTH, ADDRESS_ROWS};
 pub use probes::{update_probes, Probe};
+pub use raw::Counters;
 pub use start::{Bsu, ItemResult, StartData};
 pub use supervisor::{Flags, Found, Options, Record, Step, StepEnd, Supervisor};
 

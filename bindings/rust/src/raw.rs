@@ -9,6 +9,24 @@ pub struct Probe {
     pub result: u8,
 }
 
+/// A counter block: how many frames of each kind ended since it was cleared. A counter stays at 4,294,967,295.
+#[derive(Clone, Copy, Debug, Default, PartialEq, Eq)]
+#[repr(C)]
+pub struct Counters {
+    /// Requests that passed every test.
+    pub good: u32,
+    /// Empty frames.
+    pub empty: u32,
+    /// Failures, by the reason's number.
+    pub reason1: u32,
+    pub reason2: u32,
+    pub reason3: u32,
+    pub reason4: u32,
+    pub reason5: u32,
+    pub reason6: u32,
+    pub reason7: u32,
+}
+
 extern "C" {
     pub(crate) fn oatcastle_line_start(state: *mut u8, state_length: usize) -> u32;
     pub(crate) fn oatcastle_line_read(
@@ -36,6 +54,12 @@ extern "C" {
         outbox: *mut u8, outbox_length: usize, factory: *const u8, factory_length: usize,
         settings: *mut u8, settings_length: usize, registers: *mut u8, registers_length: usize,
         answer: *mut u64, answer_count: usize,
+    ) -> u32;
+    pub(crate) fn oatcastle_clear_counters(counters: *mut Counters) -> u32;
+    pub(crate) fn oatcastle_receive_counted(
+        counters: *mut Counters, image: *const u8, image_length: usize, piece: *const u8, piece_length: usize,
+        reader: *mut u8, reader_length: usize, outbox: *mut u8, outbox_length: usize, factory: *const u8, factory_length: usize,
+        settings: *mut u8, settings_length: usize, registers: *mut u8, registers_length: usize,
     ) -> u32;
     pub(crate) fn oatcastle_take(
         outbox: *mut u8, outbox_length: usize, room: *mut u8, room_length: usize, answer: *mut u64, answer_count: usize,

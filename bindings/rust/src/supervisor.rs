@@ -1,7 +1,7 @@
 //! Defines the supervisor: its five parts, and a method for each of its calls.
 //! Assumes the C functions of `raw` and the lengths of `docs/STATE.md`.
 
-use crate::{length, raw, said, Reason, Refusal, StartData};
+use crate::{length, raw, said, Counters, Reason, Refusal, StartData};
 use core::num::NonZeroU8;
 
 /// A supervisor and the 26,620 bytes of state that it lends. It exists only started, and only its own calls write its state.
@@ -105,6 +105,15 @@ pub struct Record<'r> {
     pub kept: &'r [u8],
 }
 
+impl Counters {
+    /// Makes every counter 0.
+    pub fn clear(&mut self) {
+        // The pointer is to one block.
+        let number = unsafe { raw::oatcastle_clear_counters(self) };
+        debug_assert_eq!(number, 0);
+    }
+}
+
 impl Supervisor {
     pub fn start(data: &StartData) -> Result<Supervisor, Refusal> {
         let mut supervisor = Supervisor {
@@ -136,6 +145,18 @@ impl Supervisor {
         said(unsafe {
             raw::oatcastle_receive(
                 image.as_ptr(), image.len(), piece.as_ptr(), piece.len(), self.reader.as_mut_ptr(), self.reader.len(),
+                self.outbox.as_mut_ptr(), self.outbox.len(), self.factory.as_ptr(), self.factory.len(),
+                self.settings.as_mut_ptr(), self.settings.len(), self.registers.as_mut_ptr(), self.registers.len(),
+            )
+        })
+    }
+
+    /// Receives the whole piece, and counts every frame whose 00 it brings in the block. Frames that `receive` or `step` read are not counted.
+    pub fn receive_counted(&mut self, counters: &mut Counters, image: &[u8], piece: &[u8]) -> Result<(), Refusal> {
+        // The pointers are to one block and to slices of these lengths.
+        said(unsafe {
+            raw::oatcastle_receive_counted(
+                counters, image.as_ptr(), image.len(), piece.as_ptr(), piece.len(), self.reader.as_mut_ptr(), self.reader.len(),
                 self.outbox.as_mut_ptr(), self.outbox.len(), self.factory.as_ptr(), self.factory.len(),
                 self.settings.as_mut_ptr(), self.settings.len(), self.registers.as_mut_ptr(), self.registers.len(),
             )

@@ -2,8 +2,8 @@
 // Assumes the static library is linked.
 
 use oatcastle::{
-    update_probes, write_frame, AddressPlan, Bsu, Failure, Flags, Found, ItemResult, LineReader, Options, Probe, ReadEnd, Reason, Record,
-    Refusal, StartData, Step, StepEnd, Supervisor, Tail, LONGEST_FRAME,
+    update_probes, write_frame, AddressPlan, Bsu, Counters, Failure, Flags, Found, ItemResult, LineReader, Options, Probe, ReadEnd, Reason,
+    Record, Refusal, StartData, Step, StepEnd, Supervisor, Tail, LONGEST_FRAME,
 };
 use std::num::NonZeroU8;
 
@@ -215,4 +215,20 @@ fn root_of_trust() {
     assert_eq!(read(&[1, 0, 0, 0, 0, 0, 0, 0], &mut []), Err(Refusal::BadCrc));
     let unlisted = [&[1, 10, 0, 0][..], &crc(&[1, 10, 0, 0]).unwrap().to_le_bytes()].concat();
     assert_eq!(read(&unlisted, &mut []), Err(Refusal::BadType));
+}
+
+#[test]
+fn frames_are_counted() {
+    let mut supervisor = Supervisor::start(&StartData::new(Bsu::A)).unwrap();
+    let mut counters = Counters { good: u32::MAX - 1, reason3: 9, ..Counters::default() };
+    let piece = [&request(1, 8, &[])[..], &request(2, 8, &[]), &request(3, 8, &[]), &[0, 0, 2, 0, 1, 0]].concat();
+    supervisor.receive_counted(&mut counters, &[], &piece).unwrap();
+    assert_eq!(counters, Counters { good: u32::MAX, empty: 2, reason1: 1, reason3: 10, ..Counters::default() });
+    counters.clear();
+    assert_eq!(counters, Counters::default());
+    supervisor.receive(&[], &[0]).unwrap();
+    supervisor.receive_counted(&mut counters, &[], &[2]).unwrap();
+    supervisor.restart(&StartData::new(Bsu::A)).unwrap();
+    supervisor.receive_counted(&mut counters, &[], &[0]).unwrap();
+    assert_eq!(counters, Counters { empty: 1, ..Counters::default() });
 }

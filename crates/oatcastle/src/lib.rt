@@ -1,5 +1,6 @@
 // The C interface: line layer, supervisor, address plan, probe list and root-of-trust link as functions on numbers and lent slices. include/oatcastle.h is its header.
 // No function here that others can call has a `requires`; each promise settles the number returned and everything lent.
+pub mod counting;
 pub mod frames;
 pub mod plans;
 pub mod probe_list;

@@ -34,7 +34,7 @@ length-upTo (zero ∷ bs) = refl
 length-upTo (suc b ∷ bs) = rw eqb·suc-zero (ap suc (length-upTo bs))
 
 -- the 00 behind bytes
-closed-ends : (p : List ℕ) (fs : List (List ℕ)) → endedMeant (verdictSince (tailOf p)) ≡ endedBy (p ∷ fs)
+pub closed-ends : (p : List ℕ) (fs : List (List ℕ)) → endedMeant (verdictSince (tailOf p)) ≡ endedBy (p ∷ fs)
 unfolding endedBy
 closed-ends [] fs = rw (tail-within [] (omega arith))
 closed-ends (b ∷ bs) fs = by (ltb longest-form (length (b ∷ bs))) refl
@@ -81,7 +81,7 @@ module _ (w : List ℕ) (s : State) (h : Since (split w .rest) s) where
   call-carried (Histories.local c) = refl
 
 -- whatever is lent
-made-carried : (w : List ℕ) (s : State) → Since (split w .rest) s → (m : Made)
+pub made-carried : (w : List ℕ) (s : State) → Since (split w .rest) s → (m : Made)
     → (carriedMade w s m ≡ meantMade s m) × Since (split (joined w m) .rest) (meantMade s m .state)
 unfolding carriedMade joined startsAnew receivedBy meantMade
 made-carried w s h m = by (enough (m .call) (m .lent)) refl

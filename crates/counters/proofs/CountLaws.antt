@@ -1,0 +1,188 @@
+-- Laws of a step and of the frames of a piece: valid parts of bytes stay valid, and what is left of a piece is counted on.
+-- Assumes nothing.
+use mathlib.Core.Path.{_≡_, refl, sym, ap, _∙_}
+use mathlib.Core.Bool.{Bool, true, false, cond, not}
+use mathlib.Core.List.{List, [], _∷_}
+use mathlib.Core.Option.{Option, none, some}
+use Prim.Native.Nat.{ℕ, zero, suc, _+_, _-_, _^_, _≤_, _<_}
+use native.Mathlib.Omega.{arith}
+use lib.Dec.{leb, eqb}
+use lib.ListN.{length, take, drop, getD, length-drop, drop-of-length-le}
+use lib.Seq.{take-all, drop-drop}
+use borrow.Author.Tests.{not-true, not-false, ne-eqb}
+use Rattle.octets.specs.Bytes.{Byte, Each, bytes, run}
+use Rattle.octets.proofs.Conditions.{cond-by}
+use Rattle.octets.proofs.Each.{each-run}
+use Rattle.octets.proofs.Numbers.{length-bytes, number-small}
+use Rattle.line.specs.Limits.{longest-data}
+use Rattle.line.specs.Judge.{Verdict, failure, good}
+use Rattle.line.specs.Reader as LineReader
+use Rattle.supervisor.specs.Valid.{validFactory}
+use Rattle.supervisor.specs.Calls.{Parts}
+use Rattle.requests.specs.Requests.{known, lengthAllowed, tested}
+use Rattle.requests.specs.Receive as Receive
+use Rattle.requests.specs.declared.receive.Received.{Received}
+use Rattle.requests.specs.declared.receive.Received.the-variants as received
+use Rattle.requests.proofs.KeptLaws.{answering-valid, carried-valid}
+use Rattle.requests.proofs.TurnLaws.{parts-valid, valid-parts, read-valid, data-short, Held, begun, over, turn-used, went}
+use Rattle.counters.specs.declared.Counters.{Counters}
+use Rattle.counters.specs.Count.{bumpedFor, bumpedForAll}
+use Rattle.counters.specs.Counting.{endings, counting}
+
+-- ---- valid parts of bytes stay valid
+
+-- a list by its elements
+bytes-each : (s : List ℕ) → ((i : ℕ) → getD s i 0 < 256) → Each Byte s
+bytes-each [] h = tt
+bytes-each (b ∷ bs) h = (h 0, bytes-each bs (λ i. h (suc i)))
+
+-- the data that a reader of bytes hands out begin with a byte
+data-byte : (reader : List ℕ) (n : ℕ) → Each Byte reader → Each Byte (LineReader.dataOf reader n)
+unfolding LineReader.dataOf LineReader.partOf
+data-byte reader n h = by (LineReader.dataRefusal reader n)
+  where
+    by : (x : Option ℕ) → Each Byte (LineReader.partOf x (run LineReader.data-place n reader))
+    by none = each-run LineReader.data-place n reader h
+    by (some x) = tt
+
+module _ (image f : List ℕ) (i : Receive.Inner) (factory : validFactory f ≡ true) (valid : Receive.validInner i ≡ true) where
+  abbrev Stays : Verdict → Type 0
+  Stays v = Receive.validInner (Receive.innerBy image f i v) ≡ true
+
+  failure-stays : (reason : ℕ) (sequence : Option ℕ) → Stays (failure reason sequence)
+  unfolding Receive.innerBy
+  failure-stays reason sequence =
+      answering-valid i (Receive.failureHead sequence) 0x02 (bytes 1 reason) valid (rw (length-bytes 1 reason) (omega arith))
+
+  message-stays : (version sequence command : ℕ) (d : List ℕ) → length d ≤ longest-data → Each Byte d
+      → Stays (tested (Receive.messageBy version sequence command d))
+  unfolding tested Receive.innerBy
+  message-stays version sequence command d short h =
+      by (not (eqb version 1)) (leb (2 ^ 63) sequence) (not (known command)) (not (lengthAllowed command (length d)))
+    where
+      by : (a b c e : Bool) → Stays (cond a (failure 5 (some sequence)) (cond b (failure 6 (some sequence)) (cond c (failure 3 none)
+          (cond e (failure 7 (some sequence)) (good (Receive.messageBy version sequence command d))))))
+      by true b c e = failure-stays 5 (some sequence)
+      by false true c e = failure-stays 6 (some sequence)
+      by false false true e = failure-stays 3 none
+      by false false false true = failure-stays 7 (some sequence)
+      by false false false false = carried-valid image f i sequence d factory valid short (number-small 1 0 d h) command
+
+  answer-stays : (reader : List ℕ) → Each Byte reader → (a : LineReader.Said)
+      → Receive.validInner (Receive.innerAfter image f i (Receive.verdictOf reader a)) ≡ true
+  unfolding Receive.innerAfter Receive.verdictOf
+  answer-stays reader h (LineReader.refused n) = valid
+  answer-stays reader h LineReader.more = valid
+  answer-stays reader h LineReader.empty = valid
+  answer-stays reader h (LineReader.failed reason sequence) = failure-stays reason sequence
+  answer-stays reader h (LineReader.message version sequence command n) =
+      message-stays version sequence command (LineReader.dataOf reader n) (data-short reader n) (data-byte reader n h)
+
+module _ (image piece : List ℕ) (p : Parts) {q : Parts} {n : ℕ} {g : Receive.Ended} (valid : Receive.validParts p ≡ true)
+    (e : record { used = n; ended = g; parts = q } ≡ Receive.stepping image p piece) where
+  -- a step on valid parts is a turn
+  step-turned : record { used = n; ended = g; parts = q } ≡ Receive.turned image p piece
+  unfolding Receive.stepping
+  step-turned = e ∙ rw valid
+
+  step-valid : Each Byte (q .reader) → Receive.validParts q ≡ true
+  unfolding Receive.turned Receive.answered
+  step-valid h =
+      let v = parts-valid p valid in
+      let o = LineReader.readPiece (p .reader) piece in
+      let s : q ≡ Receive.answered image p (o .state) (o .answer) = ap (λ (x : Receive.StepDone). x .parts) step-turned in
+      let k : Each Byte (o .state) = rw s at h in
+      rw s
+      (valid-parts (Receive.answered image p (o .state) (o .answer))
+      (record {
+        reader = read-valid (p .reader) piece (v .reader);
+        factory = v .factory;
+        inner = answer-stays image (p .factory) (Receive.innerOf p) (v .factory) (v .inner) (o .state) k (o .answer);
+      }))
+
+-- ---- the test of the parts
+
+abbrev pub isSome : Option ℕ → Bool
+isSome none = false
+isSome (some n) = true
+
+-- the parts stay, and it is told whether they are refused as 12
+abbrev Tested : Parts → Parts → Bool → Type 0
+Tested p q refused = (q ≡ p) × (refused ≡ not (Receive.validParts p))
+
+-- an empty piece that is received changes nothing, and is refused where the parts are
+pub tested-parts : (image : List ℕ) (p : Parts) {q : Parts} {n : Option ℕ} → record { refusal = n; parts = q } ≡ Receive.receiving image p []
+    → Tested p q (isSome n)
+unfolding Receive.receiving Receive.fed
+tested-parts image p {q} {n} e =
+    cond-by (λ (x : Receive.Receipt). record { refusal = n; parts = q } ≡ x → Tested p q (isSome n)) (Receive.validParts p) _ _
+    (λ v k. (ap (λ (x : Receive.Receipt). x .parts) k, ap (λ (x : Receive.Receipt). isSome (x .refusal)) k ∙ rw v))
+    (λ v k. (ap (λ (x : Receive.Receipt). x .parts) k, ap (λ (x : Receive.Receipt). isSome (x .refusal)) k ∙ rw v)) e
+
+-- ---- the frames of a piece
+
+module _ (s : List ℕ) (b : ℕ) (bs : List ℕ) where
+  read-next : LineReader.readPiece s (suc b ∷ bs) ≡ LineReader.next (LineReader.readPiece (LineReader.pushed s (suc b)) bs)
+  unfolding LineReader.readPiece
+  read-next = rw (ne-eqb (suc b) 0 (λ e. omega arith))
+
+-- what is left of a piece is counted on from what a turn counts
+turn-counts : (piece s : List ℕ) (c : Counters) → let o = LineReader.readPiece s piece in
+    bumpedForAll c (endings s piece) ≡ bumpedForAll (bumpedFor c (Receive.ended (o .state) (o .answer))) (endings (o .state) (drop (o .used) piece))
+unfolding LineReader.readPiece LineReader.next Receive.ended endings bumpedFor bumpedForAll
+turn-counts [] s c = refl
+turn-counts (zero ∷ bs) s c = refl
+turn-counts (suc b ∷ bs) s c = rw (read-next s b bs, ne-eqb (suc b) 0 (λ e. omega arith)) (turn-counts bs (LineReader.pushed s (suc b)) c)
+
+-- the parts and the counters at a place of the piece: what is left of it is received and counted on
+pub record Counted (image piece : List ℕ) (p₀ p : Parts) (c t : Counters) (at : ℕ) : Type 0 where
+  pub held : Held image piece p₀ p at
+  pub same : counting c p₀ piece ≡ bumpedForAll t (endings (p .reader) (drop at piece))
+
+abbrev Done : List ℕ → List ℕ → Parts → Counters → Received → Counters → Parts → Type 0
+Done image piece p c a t q = (Receive.receiptOf a q ≡ Receive.receiving image p piece) × (t ≡ counting c p piece)
+
+pub refused-so : (image piece : List ℕ) (p : Parts) (c : Counters) {q : Parts} {b : Bool} → Tested p q b → b ≡ true
+    → Done image piece p c received.Refused c q
+unfolding Receive.receiving Receive.receiptSaid counting
+refused-so image piece p c h e = let v : Receive.validParts p ≡ false = not-true _ (sym (h .1) ∙ e) in rw (v, h .0) (refl, refl)
+
+pub counted-none : (image piece : List ℕ) {p q : Parts} (c : Counters) {b : Bool} → Tested p q b → b ≡ false → Counted image piece q q c c 0
+unfolding counting
+counted-none image piece {p} {q} c h e =
+    let v : Receive.validParts q ≡ true = rw (h .0) (not-false _ (sym (h .1) ∙ e)) in
+    record { held = begun image piece q v; same = rw v }
+
+pub counted-all : {image piece : List ℕ} {p₀ q p : Parts} {c t : Counters} {at : ℕ} → q ≡ p₀ → Counted image piece q p c t at → length piece ≤ at
+    → Done image piece p₀ c received.Done t p
+unfolding endings bumpedForAll
+counted-all {piece = piece} {c = c} {t = t} e h l =
+    let k : t ≡ counting c _ piece = sym (h .same ∙ rw (drop-of-length-le piece l)) in
+    (rw e at (over (h .held) l), rw e at k)
+
+-- a step at a place of the piece
+module _ {image piece : List ℕ} {p₀ p p' : Parts} {c t : Counters} {at : ℕ} {n : ℕ} {g : Receive.Ended} (h : Counted image piece p₀ p c t at) (l : at < length piece)
+    (e : record { used = n; ended = g; parts = p' } ≡ Receive.stepping image p (take (length piece - at) (drop at piece))) where
+  abbrev left : List ℕ
+  left = drop at piece
+
+  turned : record { used = n; ended = g; parts = p' } ≡ Receive.turned image p (take (length piece - at) left)
+  turned = step-turned image _ p (h .held .valid) e
+
+  pub step-used : (1 ≤ n) × (at + n ≤ length piece)
+  step-used = turn-used (h .held) l turned
+
+  pub counted-on : {t' : Counters} → t' ≡ bumpedFor t g → ((i : ℕ) → getD (p' .reader) i 0 < 256)
+      → length (p' .reader) ≡ length (p .reader) → length (p' .outbox) ≡ length (p .outbox)
+      → length (p' .settings) ≡ length (p .settings) → length (p' .registers) ≡ length (p .registers) → Counted image piece p₀ p' c t' (at + n)
+  unfolding Receive.turned Receive.answered
+  counted-on b k r o s m =
+      let whole : length left ≤ length piece - at = rw length-drop (omega arith) in
+      let done = rw (take-all _ _ whole) at turned in
+      let u : n ≡ LineReader.readPiece (p .reader) left .used = ap (λ (x : Receive.StepDone). x .used) done in
+      let q : p' .reader ≡ LineReader.readPiece (p .reader) left .state = ap (λ (x : Receive.StepDone). x .parts .reader) done in
+      let f = ap (λ (x : Receive.StepDone). x .ended) done in
+      record {
+        held = went (h .held) l turned (step-valid image _ p (h .held .valid) e (bytes-each (p' .reader) k)) r o s m;
+        same = h .same ∙ turn-counts left (p .reader) t ∙ rw (← f, ← u, ← q, b, drop-drop);
+      }

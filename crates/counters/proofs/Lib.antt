@@ -1,0 +1,3 @@
+-- Laws that the proofs of counters cite.
+-- Assumes nothing.
+pub mod CountLaws

@@ -1,0 +1,118 @@
+-- Calls of a supervisor some of which are lent a counter block, and the frames whose 00 they received.
+-- Assumes nothing: these are definitions.
+use mathlib.Core.Bool.{cond}
+use mathlib.Core.List.{List, [], _∷_, _++_}
+use mathlib.Core.Option.{Option, none, some}
+use Prim.Native.Nat.{ℕ}
+use lib.ListN.{length, drop}
+use Rattle.line_claims.specs.Pieces.{split}
+use Rattle.supervisor.specs.Calls.{Parts}
+use Rattle.requests.specs.Receive.{Ended, Receipt, receiving, StepDone, stepping}
+use Rattle.counters.specs.declared.Counters.{Counters}
+use Rattle.counters.specs.Count.{frameEnded, zeros, bumpedFor}
+use Rattle.counters.specs.Counting.{counting}
+use Rattle.supervisor_claims.specs.Histories
+use Rattle.supervisor_claims.specs.Histories.{Call, Did, didBy, refusal, stepAnswer, did, lentOf, givenBack, Made, made, Told}
+use Rattle.supervisor_claims.specs.FrameHistory.{receivedBy, startsAnew}
+
+-- ---- A call that is lent a block
+
+-- what it answers, writes and leaves, and the block
+pub record DidCounted : Type 0 where
+  pub did : Did
+  pub block : Counters
+
+-- by the promises of `receive_counted` and `step_counted`; any other call takes no block
+unfoldable pub didCounted : Counters → Parts → Call → DidCounted
+didCounted c p (Histories.start d) = record { did = did p (Histories.start d); block = c }
+didCounted c p (Histories.receive image piece) =
+    let r = receiving image p piece in record { did = didBy (refusal (r .refusal)) [] (r .parts); block = counting c p piece }
+didCounted c p (Histories.step image piece) =
+    let r = stepping image p piece in record { did = didBy (stepAnswer (r .used) (r .ended)) [] (r .parts); block = bumpedFor c (r .ended) }
+didCounted c p (Histories.local k) = record { did = did p (Histories.local k); block = c }
+
+-- lent some of the parts' bytes
+unfoldable pub madeCounted : Counters → Parts → Made → DidCounted
+madeCounted c p m =
+    let d = didCounted c (lentOf (m .lent) p) (m .call) in
+    record { did = didBy (d .did .answer) (d .did .out) (givenBack (m .lent) p (d .did .parts)); block = d .block }
+
+-- ---- Lists of calls, each lent any block or none, whatever it holds
+
+pub record Lending : Type 0 where
+  pub call : Made
+  pub block : Option Counters
+
+abbrev pub doneBy : Parts → Made → Option Counters → Did
+doneBy p m none = made p m
+doneBy p m (some c) = madeCounted c p m .did
+
+unfoldable pub toldLending : Parts → List Lending → List Told
+toldLending p [] = []
+toldLending p (x ∷ xs) =
+    let d = doneBy p (x .call) (x .block) in record { answer = d .answer; out = d .out } ∷ toldLending (d .parts) xs
+
+unfoldable pub leftLending : Parts → List Lending → Parts
+leftLending p [] = p
+leftLending p (x ∷ xs) = leftLending (doneBy p (x .call) (x .block) .parts) xs
+
+-- the calls without the blocks
+unfoldable pub unlent : List Lending → List Made
+unlent [] = []
+unlent (x ∷ xs) = x .call ∷ unlent xs
+
+-- ---- A history with one block, which nobody else writes
+
+pub data Event : Type 0 where
+  -- a call that is not lent the block, and one that is
+  plain : Made → Event
+  counted : Made → Event
+  -- the block is cleared
+  clear : Event
+
+-- the parts and the block
+pub record Held : Type 0 where
+  pub parts : Parts
+  pub block : Counters
+
+unfoldable pub after : Held → Event → Held
+after h (plain m) = record { parts = made (h .parts) m .parts; block = h .block }
+after h (counted m) = let d = madeCounted (h .block) (h .parts) m in record { parts = d .did .parts; block = d .block }
+after h clear = record { parts = h .parts; block = zeros }
+
+unfoldable pub afterAll : Held → List Event → Held
+afterAll h [] = h
+afterAll h (e ∷ es) = afterAll (after h e) es
+
+-- the calls of a history
+unfoldable pub callsOf : List Event → List Made
+callsOf [] = []
+callsOf (plain m ∷ es) = m ∷ callsOf es
+callsOf (counted m ∷ es) = m ∷ callsOf es
+callsOf (clear ∷ es) = callsOf es
+
+-- calls that are all lent the block
+unfoldable pub allCounted : List Made → List Event
+allCounted [] = []
+allCounted (m ∷ ms) = counted m ∷ allCounted ms
+
+-- ---- The frames
+
+-- the bytes received between two accepted starts, joined, one stretch after the other; w came before in the first
+unfoldable pub stretches : List ℕ → List Made → List (List ℕ)
+stretches w [] = w ∷ []
+stretches w (m ∷ ms) = cond (startsAnew m) (w ∷ stretches [] ms) (stretches (w ++ receivedBy m) ms)
+
+-- the frames of each stretch, in order: what stands behind a stretch's last 00 is no frame
+unfoldable pub framesOf : List (List ℕ) → List (List ℕ)
+framesOf [] = []
+framesOf (w ∷ ws) = split w .closed ++ framesOf ws
+
+-- those whose 00 the calls received: all but those that were closed in w
+unfoldable pub framesSince : List ℕ → List Made → List (List ℕ)
+framesSince w ms = drop (length (split w .closed)) (framesOf (stretches w ms))
+
+-- how each ended
+unfoldable pub endedAll : List (List ℕ) → List Ended
+endedAll [] = []
+endedAll (f ∷ fs) = frameEnded f ∷ endedAll fs

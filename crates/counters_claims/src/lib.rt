@@ -1,0 +1,2 @@
+// The claims over the field counters stand in specs/.
+// No code.

@@ -1,0 +1,92 @@
+// The supervisor's call that receives with a counter block lent, and clearing a block.
+// Assumes nothing: no exported function has a `requires`, and no block is refused.
+use counters::Counters;
+use requests::receive::Received;
+ghost use mathlib.Core.Path.{_≡_};
+ghost use Rattle.supervisor.specs.Calls.{parts};
+ghost use Rattle.requests.specs.Receive.{receiptSaid};
+ghost use Rattle.counters.specs.Count.{zeros};
+ghost use Rattle.counters.specs.Counting.{counting};
+ghost use Rattle.oatcastle.specs.Answers.{outcome, numbered};
+ghost use Rattle.oatcastle.specs.ReceiveCalls.{receiveCall};
+
+// The number that a receive with counters by value returns, and the counters that it leaves.
+struct Numbered {
+    answer: u32,
+    counters: Counters,
+}
+
+// Makes every counter of a block 0.
+#[no_mangle]
+pub extern "C" fn oatcastle_clear_counters(counters: &mut Counters) -> u32
+    ensures { λ r. ⌜ (r ≡ 0) × (now (counters .exit) ≡ zeros) ⌝ }
+{
+    *counters = counters::cleared();
+    0
+}
+
+// `oatcastle_receive` with a counter block lent: the same, and every frame of the piece is counted.
+#[no_mangle]
+pub extern "C" fn oatcastle_receive_counted(
+    counters: &mut Counters,
+    image: &[u8],
+    piece: &[u8],
+    reader: &mut [u8],
+    outbox: &mut [u8],
+    factory: &[u8],
+    settings: &mut [u8],
+    registers: &mut [u8],
+) -> u32
+    ensures { λ r. ⌜ (outcome r (parts (now (reader .exit)) (now (outbox .exit)) (now (factory .entry)) (now (settings .exit)) (now (registers .exit))) ≡ receiveCall (now (image .entry)) (parts (now (reader .entry)) (now (outbox .entry)) (now (factory .entry)) (now (settings .entry)) (now (registers .entry))) (now (piece .entry))) × (now (counters .exit) ≡ counting (now (counters .entry)) (parts (now (reader .entry)) (now (outbox .entry)) (now (factory .entry)) (now (settings .entry)) (now (registers .entry))) (now (piece .entry))) ⌝ }
+{
+    let numbered = receive_numbered(
+        *counters,
+        image,
+        piece,
+        reader,
+        outbox,
+        factory,
+        settings,
+        registers,
+    );
+    *counters = numbered.counters;
+    numbered.answer
+}
+
+// A receive with the counters by value, and its number.
+fn receive_numbered(
+    counters: Counters,
+    image: &[u8],
+    piece: &[u8],
+    reader: &mut [u8],
+    outbox: &mut [u8],
+    factory: &[u8],
+    settings: &mut [u8],
+    registers: &mut [u8],
+) -> Numbered
+    ensures { λ r. ⌜ (outcome (r .answer) (parts (now (reader .exit)) (now (outbox .exit)) (now (factory .entry)) (now (settings .exit)) (now (registers .exit))) ≡ receiveCall (now (image .entry)) (parts (now (reader .entry)) (now (outbox .entry)) (now (factory .entry)) (now (settings .entry)) (now (registers .entry))) (now (piece .entry))) × (r .counters ≡ counting counters (parts (now (reader .entry)) (now (outbox .entry)) (now (factory .entry)) (now (settings .entry)) (now (registers .entry))) (now (piece .entry))) ⌝ }
+{
+    let tallied = counters::receive_tallied(
+        counters,
+        image,
+        piece,
+        reader,
+        outbox,
+        factory,
+        settings,
+        registers,
+    );
+    let received = tallied.answer;
+    let answer = number(received);
+    let counters = tallied.counters;
+    Numbered { answer, counters }
+}
+
+fn number(received: Received) -> u32
+    ensures { λ r. ⌜ r ≡ numbered (receiptSaid received) ⌝ }
+{
+    match received {
+        Received::Done => 0,
+        Received::Refused => 12,
+    }
+}
