@@ -1,5 +1,5 @@
 #!/usr/bin/env python3
-"""Draws docs/layers.svg from crates.txt: a box for each crate, in rows by what it builds on, and an arrow to each
+"""Draws docs/layers.svg from crates.txt: a box for each crate, one for the programs of cases, in rows by what it builds on, and an arrow to each
 nearest crate that it builds on.
 Assumes crates.txt, and that every crate has its words below.
 
@@ -12,6 +12,8 @@ HERE = pathlib.Path(__file__).resolve().parent
 CODE, CLAIMS, PROGRAM = '#e3eefb', '#e9f6e6', '#fdf1dc'
 LEGEND = ((CODE, 'code with proved contracts'), (CLAIMS, 'no code: claims over whole lists of calls'), (PROGRAM, 'programs that the gate runs'))
 WIDTH, HEIGHT, GAP, ROW = 176, 54, 22, 112
+# the crates of one box are named by the end of their names
+TOGETHER = '_cases'
 WORDS = {
     'octets': 'runs of bytes, numbers',
     'addresses': 'the address plan',
@@ -29,19 +31,22 @@ WORDS = {
     'plain': 'the second, plain reader',
     'plain_claims': 'agrees with the reader',
     'audit': 'the audit program',
-    'cases': 'vectors and edges',
+    '*_cases': 'vectors and edges',
+    'text_lines': 'lines that drive cases',
     'oatcastle': 'exported for C and Rust',
 }
 
 
 def depends():
-    """Each crate with the crates that it builds on."""
-    found = {name: set(others.split()) for name, others in re.findall(r'^(\w+):(.*)$', (HERE.parent / 'crates.txt').read_text(), re.M)}
+    """Each box with the boxes that it builds on."""
+    found = {}
+    for name, others in re.findall(r'^(\w+):(.*)$', (HERE.parent / 'crates.txt').read_text(), re.M):
+        found.setdefault('*' + TOGETHER if name.endswith(TOGETHER) else name, set()).update(others.split())
     return {name: others & found.keys() for name, others in found.items()}
 
 
 def kind(name):
-    if (HERE.parent / 'crates' / name / 'src' / 'main.rt').exists():
+    if name == '*' + TOGETHER or (HERE.parent / 'crates' / name / 'src' / 'main.rt').exists():
         return PROGRAM
     return CLAIMS if name.endswith('_claims') else CODE
 

@@ -1,11 +1,10 @@
 #!/usr/bin/env python3
-"""The address plan's cases of the program cases, worked out from document 02, item 9, and not from the Rattle code.
+"""The program address_cases: the address plan's cases, worked out from document 02, item 9, and not from the Rattle code.
 
 usage: tests/address_cases.py input | expected
 
-input:    the middle part of the program's standard input, one command a line
-expected: what it must write there, from the model below
-tests/cases.py puts them between the line layer's and the supervisor's.
+input:    the program's standard input, one command a line
+expected: what it must write, from the model below
 
 Commands, one a line:
 = NAME     begins a case

@@ -10,13 +10,25 @@ def texts(cases):
     return given.encode('ascii'), ''.join(c.line + '\n' for c in cases).encode('ascii')
 
 
+def files(crate, given, wanted):
+    """The crate's files and what a model works out for each."""
+    folder = os.path.join(os.path.dirname(os.path.abspath(__file__)), '..', 'crates', crate)
+    return (os.path.join(folder, 'stdin'), given), (os.path.join(folder, 'stdout'), wanted)
+
+
+def written(crate, given, wanted):
+    """Writes the crate's stdin and stdout."""
+    for path, text in files(crate, given, wanted):
+        with open(path, 'wb') as f:
+            f.write(text)
+
+
 def compared(crate, given, wanted):
     """Ends the run where stdin or stdout of the crate is not what a model works out."""
-    folder = os.path.join(os.path.dirname(os.path.abspath(__file__)), '..', 'crates', crate)
-    for name, text in (('stdin', given), ('stdout', wanted)):
-        with open(os.path.join(folder, name), 'rb') as f:
+    for path, text in files(crate, given, wanted):
+        with open(path, 'rb') as f:
             if f.read() != text:
-                sys.exit(f'crates/{crate}/{name} is not what {os.path.basename(sys.argv[0])} works out')
+                sys.exit(f'crates/{crate}/{os.path.basename(path)} is not what {os.path.basename(sys.argv[0])} works out')
     print(f'{crate}: {len(given)} bytes of input and {len(wanted)} of output, as worked out')
 
 

@@ -196,7 +196,7 @@ def reasons():
 
 def root_of_trust():
     """The link's refusals, kinds of answer, message types and lengths."""
-    text = library(link=True)
+    text = library(link=True) + read('crates/rot/src/refusals.rt')
     named = {'NO_INPUT': 'NoInput', 'BAD_PROTOCOL': 'BadProtocol', 'SHORT_HEADER': 'ShortHeader', 'TOO_LONG': 'TooLong', 'CUT_SHORT': 'CutShort',
              'BAD_CRC': 'BadCrc', 'BAD_TYPE': 'BadType'}
     found = {name: the_one(name, arms(text)[f'Refusal::{variant}']) for name, variant in named.items()}

@@ -1,11 +1,10 @@
 #!/usr/bin/env python3
-"""The line layer's cases of the program cases, worked out from document 01 and not from the Rattle code.
+"""The program line_cases: the line layer's cases, worked out from document 01 and not from the Rattle code.
 
 usage: tests/line_cases.py input | expected
 
-input:    the second part of the program's standard input, one command a line
-expected: what it must write there, from the model of document 01 below
-tests/cases.py puts them ahead of the supervisor's.
+input:    the program's standard input, one command a line
+expected: what it must write, from the model of document 01 below
 
 Commands, one a line; HEX is pairs of hex digits with no space, COUNT and the like are decimal:
 = NAME     begins a case: fills the state's 4,200 bytes with a5, the output's 4,199 with ee, starts a reader, empties the piece

@@ -1,11 +1,10 @@
 #!/usr/bin/env python3
-"""The root-of-trust link's cases of the program cases, worked out from document 02's item 7 and source document 003, not from the Rattle code.
+"""The program rot_cases: the root-of-trust link's cases, worked out from document 02's item 7 and source document 003, not from the Rattle code.
 
 usage: tests/rot_cases.py input | expected
 
-input:    the first part of the program's standard input, one command a line
-expected: what it must write there, from the model below
-tests/cases.py puts them ahead of the line layer's.
+input:    the program's standard input, one command a line
+expected: what it must write, from the model below
 
 Commands, one a line; HEX is pairs of hex digits with no space, COUNT and ROOM are decimal, TYPE is 2 hex digits:
 = NAME     begins a case: fills the output's 600 bytes with ee, empties the piece

@@ -1,15 +1,13 @@
 #!/usr/bin/env python3
-"""The supervisor's cases of the program cases, and the program replay's input, worked out from document 01 and not from the Rattle code.
+"""The program supervisor_cases: the supervisor's cases; and the program replay's input. Worked out from document 01 and not from the Rattle code.
 
 usage: tests/supervisor_cases.py input | expected | replay-input | replay-expected | check | replay
 
-input:     the last part of the standard input of cases
-expected:  what it must write there, from the model of document 01 below
+input:     the standard input of supervisor_cases, one command a line
+expected:  what it must write, from the model of document 01 below
 replay-input, replay-expected:  the same for the program replay, whole
-check:     compares these two with crates/replay/stdin and crates/replay/stdout
+check:     compares these last two with crates/replay/stdin and crates/replay/stdout
 replay:    what the replay program must write for this program's own standard input
-
-tests/cases.py puts the cases behind the line layer's.
 
 Commands, one a line; HEX is pairs of hex digits with no space, COUNT and the like are decimal. PART is 0 to 4: reader,
 outbox, factory store, settings store, registers; each has 9 bytes more than its published length. Every command but + * < v n m empties the piece.

@@ -3,10 +3,9 @@
 use crate::telling::tell;
 use crate::telling::tell_bytes;
 use rot::reader::Answer;
-use rot::refusals::Refusal;
+use rot::refusals::number;
 use rot::writer::Written;
 ghost use mathlib.Core.Path.{_≡_};
-ghost use Rattle.rot.specs.Answers.{numberOf};
 ghost use Rattle.rot.specs.Reading as RotReading;
 ghost use Rattle.rot.specs.Writing as RotWriting;
 ghost use Rattle.rot.specs.Writing.{messageOf};
@@ -111,20 +110,5 @@ fn short_written(written: Written) -> u32
     match written {
         Written::Done(_) => 8,
         Written::Refused(why) => number(why),
-    }
-}
-
-fn number(why: Refusal) -> u32
-    ensures { λ r. ⌜ r ≡ numberOf why ⌝ }
-{
-    match why {
-        Refusal::NoRoom => 8,
-        Refusal::NoInput => 20,
-        Refusal::BadProtocol => 21,
-        Refusal::ShortHeader => 22,
-        Refusal::TooLong => 23,
-        Refusal::CutShort => 24,
-        Refusal::BadCrc => 25,
-        Refusal::BadType => 26,
     }
 }

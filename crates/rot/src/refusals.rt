@@ -1,5 +1,7 @@
 // Why a call of the root-of-trust link is refused; `numberOf` in specs/Answers.antt gives document 02's numbers.
 // Assumes nothing.
+ghost use mathlib.Core.Path.{_≡_};
+ghost use Rattle.rot.specs.Answers.{numberOf};
 
 pub enum Refusal {
     NoRoom,
@@ -10,4 +12,20 @@ pub enum Refusal {
     CutShort,
     BadCrc,
     BadType,
+}
+
+// The number of a refusal.
+pub fn number(why: Refusal) -> u32
+    ensures { λ r. ⌜ r ≡ numberOf why ⌝ }
+{
+    match why {
+        Refusal::NoRoom => 8,
+        Refusal::NoInput => 20,
+        Refusal::BadProtocol => 21,
+        Refusal::ShortHeader => 22,
+        Refusal::TooLong => 23,
+        Refusal::CutShort => 24,
+        Refusal::BadCrc => 25,
+        Refusal::BadType => 26,
+    }
 }

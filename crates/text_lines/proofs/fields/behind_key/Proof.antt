@@ -1,0 +1,11 @@
+-- `fields::behind_key` meets its contract.
+-- Assumes nothing.
+use mathlib.Core.Path.{_∙_}
+use denote.Ref.{now}
+use borrow.Author.Needs.{needs}
+use Rattle.text_lines.proofs.Laws.{rest}
+use Rattle.text_lines.proofs.fields.behind_key.Statement.{statement}
+use Rattle.text_lines.proofs.fields.behind_key.Tie as tie
+
+pub behind-key-spec : {M : Type 1} → statement M
+behind-key-spec = tie.close (tie.spec (λ c κs. search needs) (λ c. c .part .ensures ∙ rest 2 (now (c .before .before .args .line))))
