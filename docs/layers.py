@@ -27,6 +27,8 @@ WORDS = {
     'supervisor_claims': 'view, demand 2',
     'counters': 'the counter block',
     'counters_claims': 'frames counted',
+    'requester': "main processor's end",
+    'requester_claims': 'numbers, answers',
     'replay': 'the replay program',
     'plain': 'the second, plain reader',
     'plain_claims': 'agrees with the reader',

@@ -5,12 +5,12 @@
  * What every call has in common
  *
  *   Result    0: the call was carried out. Any other number is a refusal, one of OATCASTLE_NO_ROOM to OATCASTLE_ROT_BAD_TYPE
- *             below; which numbers a call can return stands with it. Where several apply, the first of 12, 13, 9, 11, 10, 8
+ *             below; which numbers a call can return stands with it. Where several apply, the first of 12, 13, 9, 17, 11, 10, 14, 8
  *             is returned; the oatcastle_rot_ calls have an order of their own, which stands with them. A refused call leaves every byte and every number that it was lent as it was.
  *   Memory    The caller owns all memory; the library allocates nothing, keeps no pointer after a call and has no state of
  *             its own. All state lies in the parts that the caller lends: a reader, an outbox, a factory store, a settings
- *             store and registers for a supervisor, or a reader alone for the line layer. Nobody but these calls writes a
- *             part between its start and its last use.
+ *             store and registers for a supervisor, a reader and a requester for the main processor's end, or a reader alone
+ *             for the line layer. Nobody but these calls writes a part between its start and its last use.
  *   Slices    A lent run of bytes is a pointer and a length. The pointer is valid for the length, and not NULL even where
  *             the length is 0. A part may be longer than its published length: bytes past it are neither read nor written.
  *   Overlap   No two runs that are lent to one call overlap, unless the call writes neither of them.
@@ -42,8 +42,10 @@ extern "C" {
 #define OATCASTLE_BAD_START 11u     /* start data: see oatcastle_start */
 #define OATCASTLE_BAD_STATE 12u     /* a part is below its published length, or a field holds a value outside docs/STATE.md */
 #define OATCASTLE_BAD_VALUE 13u     /* an option bit above 8, or alert action 0 */
+#define OATCASTLE_NO_NUMBER 14u     /* no request number is left */
 #define OATCASTLE_BAD_PROBE 15u     /* an update of the probe list: see oatcastle_probe_update */
 #define OATCASTLE_PLAN_PASSES 16u   /* the last counted address of a plan passes ff:ff:ff:ff:ff:ff */
+#define OATCASTLE_OUTSTANDING 17u   /* a request is outstanding, or a recovery is under way */
 
 #define OATCASTLE_ROT_NO_INPUT 20u      /* these come from the oatcastle_rot_ calls alone */
 #define OATCASTLE_ROT_BAD_PROTOCOL 21u  /* neither 0 nor 1 */
@@ -60,6 +62,7 @@ extern "C" {
 #define OATCASTLE_FACTORY_LENGTH 6481
 #define OATCASTLE_SETTINGS_LENGTH 8457
 #define OATCASTLE_REGISTERS_LENGTH 3393
+#define OATCASTLE_REQUESTER_LENGTH 4118
 
 /* ---- Limits */
 
@@ -94,6 +97,9 @@ extern "C" {
 #define OATCASTLE_SIGNAL_NUMBERS 1
 #define OATCASTLE_FLAGS_NUMBERS 2
 #define OATCASTLE_RECORD_NUMBERS 4
+#define OATCASTLE_REQUESTER_REQUEST_NUMBERS 1
+#define OATCASTLE_REQUESTER_SEND_NUMBERS 1
+#define OATCASTLE_REQUESTER_RECEIVE_NUMBERS 7
 #define OATCASTLE_ROT_READ_NUMBERS 3
 #define OATCASTLE_ROT_WRITE_NUMBERS 1
 #define OATCASTLE_ROT_CRC_NUMBERS 1
@@ -112,6 +118,13 @@ extern "C" {
 #define OATCASTLE_REASON_VERSION 5u     /* this and those below come from oatcastle_step alone */
 #define OATCASTLE_REASON_SEQUENCE 6u    /* the top bit of the sequence is set already */
 #define OATCASTLE_REASON_DATA 7u        /* the data have the wrong length for the command */
+
+/* ---- The main processor's end: the kind in the answer of oatcastle_requester_receive */
+
+#define OATCASTLE_NOTHING 0u    /* nothing is handed out */
+#define OATCASTLE_ANSWER 1u     /* the answer to the outstanding request, which is settled */
+#define OATCASTLE_STATUS 2u     /* what a recovery's fetch read */
+#define OATCASTLE_ALERT 3u      /* the answer to a recovery's 0x0a */
 
 /* ---- The root-of-trust link: the kind in the answer of oatcastle_rot_read, and the types */
 
@@ -275,6 +288,51 @@ uint32_t oatcastle_boot_failure(const uint8_t *registers, size_t registers_lengt
 
 /* The same for the last panic; answer[1] is its cause. */
 uint32_t oatcastle_panic(const uint8_t *registers, size_t registers_length, uint8_t *room, size_t room_length, uint64_t *answer, size_t answer_count);
+
+/* ==== The main processor's end: a reader's part, OATCASTLE_READER_LENGTH bytes, and a requester's, OATCASTLE_REQUESTER_LENGTH.
+ *
+ * It numbers requests of version 1 from 1 on, keeps the one outstanding, tells by each received frame whether it is the answer, and serves a
+ * recovery. These calls put bytes to `out`; to carry them to the wire, and to tell the time, is the caller's. A caller must know:
+ *   - A request is sent again, the same bytes under the same number, at each ground: a frame that fails, a version that is not 1, a sequence without the
+ *     top bit, a reply 0x02 under the newest number or all ones, and a frame's 4,141st byte without a 00. Nothing is sent again for lack of an
+ *     answer: a frame that is wholly lost is asked for by oatcastle_requester_interrupt.
+ *   - In a recovery an interrupt adds nothing and a request gets 17. A frame that is wholly lost in a recovery leaves it waiting, and a request that
+ *     the supervisor cannot decode is sent again for ever: only a start gives up.
+ *   - After a start the numbers begin at 1 again. Bytes still on their way from before it must be thrown away, or a late reply may have a number in use.
+ *   - An interrupt cuts the outstanding request off and puts it out anew, under a new number, after the recovery. The supervisor may carry it out twice; a
+ *     caller's own 0x0a that is cut off can lose the alert that its first answer had.
+ *   - A frame whose transmission has begun is finished, or ended by one 00, before the bytes of a newer one. */
+
+/* Begins the main processor's end in parts of any contents: no number used, nothing outstanding.
+ * 0; 12: a part is too short. */
+uint32_t oatcastle_requester_start(uint8_t *reader, size_t reader_length, uint8_t *requester, size_t requester_length);
+
+/* Puts a request's frame to the start of out under the next number; bytes of out past it stay. It stays outstanding until its answer comes, but for the
+ * commands 0x01, 0x02 and 0x06, which never do. A refused request takes no number.
+ * answer[0]  the frame's length
+ * 0; 12; 9: more than 4,104 bytes of data; 17: one is outstanding, or a recovery is under way; 14: no number is left; 8: out or the answer is too short. */
+uint32_t oatcastle_requester_request(uint8_t *requester, size_t requester_length, uint8_t command, const uint8_t *data, size_t data_length, uint8_t *out, size_t out_length, uint64_t *answer, size_t answer_count);
+
+/* Begins a recovery, for the line signal or for an answer that does not come: the status is fetched (0x08), its bits are served (0x09 for bit 0, 0x0a
+ * for bit 1) and fetched anew until neither is set, then the request that was cut off goes out anew. oatcastle_requester_send puts each frame out. In a recovery it adds nothing.
+ * 0; 12; 14: no number is left, and none is under way. */
+uint32_t oatcastle_requester_interrupt(uint8_t *requester, size_t requester_length);
+
+/* Puts the outstanding frame to the start of out where it is to go out: call it after an interrupt, and after a receive whose answer[3] is 1.
+ * answer[0]  the frame's length; 0: nothing is to go out
+ * 0; 12; 8: out or the answer is too short; the frame is still to go out. */
+uint32_t oatcastle_requester_send(uint8_t *requester, size_t requester_length, uint8_t *out, size_t out_length, uint64_t *answer, size_t answer_count);
+
+/* Reads a piece of the received stream up to and with its first 00 or a frame's 4,141st byte, or to its end.
+ * answer[0]  how many bytes of the piece were read; hand in the rest with the next call
+ * answer[1]  OATCASTLE_NOTHING, OATCASTLE_ANSWER, OATCASTLE_STATUS or OATCASTLE_ALERT
+ * answer[2]  1 if no number was left for a recovery's next step: it is over, and the request that was cut off is forgotten (14); else 0
+ * answer[3]  1 if a frame is to go out, else 0
+ * answer[4]  a reply's sequence; of a status, the status
+ * answer[5]  a reply's command; of a status, the startup options
+ * answer[6]  how many bytes of data a reply has, which oatcastle_line_data hands out of the reader's part until the next receive; of a status, how many of its 64 bits are set
+ * 0; 12; 8: the answer is too short. */
+uint32_t oatcastle_requester_receive(const uint8_t *piece, size_t piece_length, uint8_t *reader, size_t reader_length, uint8_t *requester, size_t requester_length, uint64_t *answer, size_t answer_count);
 
 /* ==== The address plan: base, count and stride. No state. */
 

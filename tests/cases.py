@@ -11,7 +11,7 @@ import sys
 sys.dont_write_bytecode = True
 from common import compared, serve, written
 
-PROGRAMS = ('line_cases', 'supervisor_cases', 'rot_cases', 'address_cases')
+PROGRAMS = ('line_cases', 'supervisor_cases', 'rot_cases', 'address_cases', 'requester_cases')
 
 
 def each(way):

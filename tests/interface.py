@@ -15,7 +15,7 @@ import sys
 ROOT = pathlib.Path(__file__).resolve().parent.parent
 HEADER = 'include/oatcastle.h'
 RAW = 'bindings/rust/src/raw.rs'
-WRAPPER = tuple(f'bindings/rust/src/{name}.rs' for name in ('lib', 'line', 'rot', 'start', 'supervisor'))
+WRAPPER = tuple(f'bindings/rust/src/{name}.rs' for name in ('lib', 'line', 'requester', 'rot', 'start', 'supervisor'))
 # The wrapper's constants, and the header's name for each.
 CONSTANTS = {'START_LENGTH': 'START_LENGTH', 'ITEMS': 'MOST_ITEMS', 'ITEM_LENGTH': 'ITEM_LENGTH', 'COUNT_PLACE': 'START_ITEM_COUNT',
              'LONGEST_FRAME': 'LONGEST_FRAME', 'STATE_LENGTH': 'READER_LENGTH', 'HEADER_LENGTH': 'ROT_HEADER_LENGTH',
@@ -23,7 +23,7 @@ CONSTANTS = {'START_LENGTH': 'START_LENGTH', 'ITEMS': 'MOST_ITEMS', 'ITEM_LENGTH
 # The wrapper's name for one of the link's refusals that another call has too.
 LINK_REFUSALS = {'PAYLOAD_TOO_LONG': 'ROT_TOO_LONG'}
 # The parts that the wrapper owns.
-PARTS = r'\n    (reader|outbox|factory|settings|registers): \[u8; (\d+)\],'
+PARTS = r'\n    (reader|outbox|factory|settings|registers|requester): \[u8; (\d+)\],'
 NUMBERS = {'u8': 'u8', 'u16': 'u16', 'u32': 'u32', 'u64': 'u64', 'usize': 'u64',
            'uint8_t': 'u8', 'uint16_t': 'u16', 'uint32_t': 'u32', 'uint64_t': 'u64'}
 # The records that functions take: the crates' name, its file, and the header's name.
@@ -171,18 +171,22 @@ def places(text, known):
 
 def refusals():
     answered = arms(library(link=False))
-    named = {'DONE': ('Started::Done', 'Posted::Done', 'OptionsSet::Done', 'Updated::Done'), 'BAD_PROBE': ('Updated::Refused',), 'NO_ROOM': ('Written::NoRoom',),
-             'TOO_LONG': ('Written::TooLong', 'Handed::TooLong', 'Posted::TooLong'), 'ALERTS_FULL': ('Posted::Full',),
-             'BAD_START': ('Started::BadData',), 'BAD_STATE': ('Started::Refused', 'Received::Refused', 'Answer::Refused'),
-             'BAD_VALUE': ('Posted::BadAction', 'OptionsSet::BadOption'), 'PLAN_PASSES': ('Planned::Passes',)}
+    named = {'DONE': ('Started::Done', 'Posted::Done', 'OptionsSet::Done', 'Interrupted::Done', 'Updated::Done'), 'BAD_PROBE': ('Updated::Refused',),
+             'NO_ROOM': ('Written::NoRoom', 'Requested::NoRoom', 'Sent::NoRoom'),
+             'TOO_LONG': ('Written::TooLong', 'Handed::TooLong', 'Posted::TooLong', 'Requested::TooLong'), 'ALERTS_FULL': ('Posted::Full',),
+             'BAD_START': ('Started::BadData',),
+             'BAD_STATE': ('Started::Refused', 'Received::Refused', 'Answer::Refused', 'Requested::Refused', 'Interrupted::Refused', 'Sent::Refused'),
+             'BAD_VALUE': ('Posted::BadAction', 'OptionsSet::BadOption'), 'NO_NUMBER': ('Requested::NoNumber', 'Interrupted::NoNumber'),
+             'PLAN_PASSES': ('Planned::Passes',), 'OUTSTANDING': ('Requested::Outstanding',)}
     return {name: the_one(name, (n for variant in variants for n in answered[variant])) for name, variants in named.items()}
 
 
 def kinds():
     answered = arms(library(link=False))
     named = {'MORE': ('Answer::More', 'Outcome::More'), 'EMPTY': ('Answer::Empty', 'Outcome::Empty'), 'MESSAGE': ('Answer::Message', 'Outcome::Request'),
-             'FAILURE': ('Answer::BadForm', 'Answer::BadLength', 'Answer::BadChecksum', 'Answer::BadMagic', 'Outcome::Failure')}
-    return {name: the_one(name, (kind for variant in variants for kind, _ in answered[variant])) for name, variants in named.items()}
+             'FAILURE': ('Answer::BadForm', 'Answer::BadLength', 'Answer::BadChecksum', 'Answer::BadMagic', 'Outcome::Failure'),
+             'NOTHING': ('Handed::Nothing',), 'ANSWER': ('Handed::Answer',), 'STATUS': ('Handed::Status',), 'ALERT': ('Handed::Alert',)}
+    return {name: the_one(name, (said[0] for variant in variants for said in answered[variant] if isinstance(said, tuple))) for name, variants in named.items()}
 
 
 def reasons():
@@ -215,7 +219,7 @@ def root_of_trust():
 def answer_counts():
     counted = told(read('crates/oatcastle/specs'))
     named = {'LINE_READ': 'readTold', 'LINE_TAIL': 'tailTold', 'LINE_WRITE': 'writeTold', 'LINE_CHECKSUM': 'lineChecksumCall', 'STEP': 'stepTold',
-             'TAKE': 'takeTold', 'ROT_WRITE': 'rotWriteTold', 'ROT_READ': 'rotReadTold', 'ROT_CRC': 'rotCrcCall', 'LOOKUP': 'lookupTold', 'SIGNAL': 'signalTold', 'FLAGS': 'flagsTold', 'RECORD': 'recordTold'}
+             'TAKE': 'takeTold', 'REQUESTER_REQUEST': 'putTold', 'REQUESTER_SEND': 'putTold', 'REQUESTER_RECEIVE': 'receiptTold', 'ROT_WRITE': 'rotWriteTold', 'ROT_READ': 'rotReadTold', 'ROT_CRC': 'rotCrcCall', 'LOOKUP': 'lookupTold', 'SIGNAL': 'signalTold', 'FLAGS': 'flagsTold', 'RECORD': 'recordTold'}
     return {f'{name}_NUMBERS': counted[definition] for name, definition in named.items()}
 
 
@@ -240,7 +244,7 @@ def limits():
     item = {'RESULT': at['result'], 'NAME': at['name'], 'TYPE': at['type'], 'DATA': at['payload'], 'DATA_LENGTH': known['ITEM_DATA_LENGTH_PLACE']}
     found.update({f'START_{name}': place for name, place in start.items()})
     found.update({f'ITEM_{name}': place for name, place in item.items()})
-    found.update({'READER_LENGTH': known['STATE_LENGTH'], 'LONGEST_FRAME': known['LONGEST_FORM'] + 1,
+    found.update({'READER_LENGTH': known['STATE_LENGTH'], 'REQUESTER_LENGTH': constants('crates/requester/src/layout.rt')['REQUESTER_LENGTH'], 'LONGEST_FRAME': known['LONGEST_FORM'] + 1,
                   'ADDRESS_LENGTH': known['ADDRESS_LENGTH'], 'ADDRESS_ROWS': known['ROWS'], 'ADDRESSES_LENGTH': known['ADDRESS_LENGTH'] * known['ROWS'],
                   'LONGEST_VALUE': max(settings(known))})
     return found

@@ -1,5 +1,5 @@
 // Defines the differential test's program: random histories of calls on the static library and on the model, compared call by call.
-// Assumes the C functions of include/oatcastle.h, docs/STATE.md for the lent bytes and document 01 for everything else.
+// Assumes the C functions of include/oatcastle.h, docs/STATE.md for the lent bytes and documents 01 and 02 for everything else.
 
 mod calls;
 mod counters;
@@ -11,6 +11,7 @@ mod model;
 mod plans;
 mod probes;
 mod random;
+mod requester;
 mod state;
 mod traffic;
 mod world;
@@ -95,14 +96,20 @@ fn samples(world: &mut World) -> Result<(), String> {
     Ok(())
 }
 
+/// Calls of the root-of-trust link, of the probe list, of the main processor's end, and then so many of all others.
+fn compare(world: &mut World, seed: u64, count: u64) -> Result<(), String> {
+    link::compare(seed, count / 10, &mut world.tally.calls)?;
+    probes::compare(seed, count / 10, &mut world.tally.calls)?;
+    requester::compare(seed, count / 5, &mut world.tally.calls)?;
+    world.history(world.tally.calls + count)
+}
+
 fn plain(seed: u64, count: u64, trace: bool) -> ExitCode {
     let mut world = World::new(seed, trace);
     let result = samples(&mut world)
         .and_then(|()| counters::cases(&mut world))
         .and_then(|()| checksums(seed))
-        .and_then(|()| link::compare(seed, count / 10, &mut world.tally.calls))
-        .and_then(|()| probes::compare(seed, count / 10, &mut world.tally.calls))
-        .and_then(|()| world.history(count));
+        .and_then(|()| compare(&mut world, seed, count));
     let tally = &world.tally;
     let missing = tally.missing();
     if let Err(difference) = &result {
@@ -130,9 +137,7 @@ fn faults(numbers: &[usize], seed: u64, count: u64) -> ExitCode {
     for &number in numbers {
         break_rule(number);
         let mut world = World::new(seed, false);
-        let result = link::compare(seed, count / 10, &mut world.tally.calls)
-            .and_then(|()| probes::compare(seed, count / 10, &mut world.tally.calls))
-            .and_then(|()| world.history(count));
+        let result = compare(&mut world, seed, count);
         let words = FAULTS[number - 1].1;
         match result {
             Ok(()) => {

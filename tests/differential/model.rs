@@ -100,6 +100,21 @@ faults! {
     CounterOverlongEarly: "an overlong frame is counted ahead of its 00 too",
     CounterEmptyIgnored: "an empty frame is not counted",
     CounterStartCounts: "what a start drops of a frame is counted",
+    AnyReply: "a good reply under any number is the answer",
+    AnyVersion: "a reply of any version is taken",
+    FailureHanded: "a decode failure under the newest number is handed out",
+    AllOnesDropped: "a decode failure under all ones is dropped",
+    AgainNewNumber: "a request is sent again under a new number",
+    OverlongAgain: "a request is sent again at an overlong frame's 00 too",
+    Bit1First: "a recovery serves bit 1 first",
+    TwoBitsCounted: "the set bits of a status are those of bits 0 and 1",
+    AcknowledgeHanded: "the answer to a recovery's 0x09 is handed out",
+    InterruptAgain: "an interrupt begins a recovery anew",
+    OriginalLost: "a recovery forgets the request that it cuts off",
+    OriginalOldNumber: "the request that was cut off goes out under its step's number",
+    FourteenForgets: "an interrupt refused as 14 forgets the request",
+    OutstandingBeforeLong: "17 is tested ahead of 9",
+    RebootOutstanding: "0x01 stays outstanding",
 }
 
 static FAULT: AtomicUsize = AtomicUsize::new(0);

@@ -1,4 +1,4 @@
-//! Defines safe types over the library's C functions: the supervisor and a line reader own the state that they lend, and no call can lend less.
+//! Defines safe types over the library's C functions: the supervisor, the main processor's end and a line reader own the state that they lend, and no call can lend less.
 //! Assumes the static library is linked and its functions do what `docs/PROMISES.md` says; nothing of the standard library is used.
 #![no_std]
 #![deny(unsafe_op_in_unsafe_fn)]
@@ -7,6 +7,7 @@ mod line;
 mod plan;
 mod probes;
 mod raw;
+pub mod requester;
 pub mod rot;
 mod start;
 mod supervisor;
@@ -34,10 +35,14 @@ pub enum Refusal {
     BadState = 12,
     /// An option bit above 8, or alert action 0.
     BadValue = 13,
+    /// No request number is left.
+    NoNumber = 14,
     /// A probe update: an index past the list, a result that is not 0, 2 or 3, or lists of different lengths.
     BadProbe = 15,
     /// The last counted address of a plan passes ff:ff:ff:ff:ff:ff.
     PlanPasses = 16,
+    /// A request is outstanding, or a recovery is under way.
+    Outstanding = 17,
     /// Root-of-trust link: no input.
     NoInput = 20,
     /// Root-of-trust link: a protocol that is neither 0 nor 1.
@@ -110,8 +115,10 @@ fn said(number: u32) -> Result<(), Refusal> {
         11 => Refusal::BadStart,
         12 => Refusal::BadState,
         13 => Refusal::BadValue,
+        14 => Refusal::NoNumber,
         15 => Refusal::BadProbe,
         16 => Refusal::PlanPasses,
+        17 => Refusal::Outstanding,
         20 => Refusal::NoInput,
         21 => Refusal::BadProtocol,
         22 => Refusal::ShortHeader,

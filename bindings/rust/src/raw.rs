@@ -78,6 +78,19 @@ extern "C" {
     pub(crate) fn oatcastle_panic(
         registers: *const u8, registers_length: usize, room: *mut u8, room_length: usize, answer: *mut u64, answer_count: usize,
     ) -> u32;
+    pub(crate) fn oatcastle_requester_start(reader: *mut u8, reader_length: usize, requester: *mut u8, requester_length: usize) -> u32;
+    pub(crate) fn oatcastle_requester_request(
+        requester: *mut u8, requester_length: usize, command: u8, data: *const u8, data_length: usize,
+        out: *mut u8, out_length: usize, answer: *mut u64, answer_count: usize,
+    ) -> u32;
+    pub(crate) fn oatcastle_requester_interrupt(requester: *mut u8, requester_length: usize) -> u32;
+    pub(crate) fn oatcastle_requester_send(
+        requester: *mut u8, requester_length: usize, out: *mut u8, out_length: usize, answer: *mut u64, answer_count: usize,
+    ) -> u32;
+    pub(crate) fn oatcastle_requester_receive(
+        piece: *const u8, piece_length: usize, reader: *mut u8, reader_length: usize, requester: *mut u8, requester_length: usize,
+        answer: *mut u64, answer_count: usize,
+    ) -> u32;
     pub(crate) fn oatcastle_addresses(base: *const u8, count: u16, stride: u8, room: *mut u8, room_length: usize) -> u32;
     pub(crate) fn oatcastle_plan(base: *const u8, count: u16, stride: u8) -> u32;
     pub(crate) fn oatcastle_probe_update(

@@ -232,3 +232,43 @@ fn frames_are_counted() {
     supervisor.receive_counted(&mut counters, &[], &[0]).unwrap();
     assert_eq!(counters, Counters { empty: 1, ..Counters::default() });
 }
+
+#[test]
+fn main_processor() {
+    use oatcastle::requester::{Handed, Received, Requester, Status};
+    let reply = |number: u64, command: u8, data: &[u8]| write_frame(1, number | 1 << 63, command, data, &[], &mut [0; LONGEST_FRAME]).unwrap().to_vec();
+    let status = |number: u64, value: u64| reply(number, 6, &[value.to_le_bytes(), 5u64.to_le_bytes()].concat());
+    let mut main = Requester::start().unwrap();
+    let (mut out, mut room) = ([0; LONGEST_FRAME], [0; 300]);
+    assert_eq!(main.request(0x0e, &[0, 4, 0], &mut [0; 20]), Err(Refusal::NoRoom));
+    assert_eq!(main.request(0x0e, &[0, 4, 0], &mut out), Ok(&request(1, 0x0e, &[0, 4, 0])[..]));
+    assert_eq!(main.request(0x0e, &[0; 4105], &mut out), Err(Refusal::TooLong));
+    assert_eq!(main.request(0x08, &[], &mut out), Err(Refusal::Outstanding));
+    assert_eq!(main.send(&mut out), Ok(&[][..]));
+    let other = reply(2, 0x0b, b"late");
+    let Received { used, handed, ended, unsent } = main.receive(&other).unwrap();
+    assert!(matches!((used, handed, ended, unsent), (length, Handed::Nothing, false, false) if length == other.len()));
+    assert!(main.receive(&[2, 0, 1]).unwrap().unsent);
+    assert_eq!(main.send(&mut out), Ok(&request(1, 0x0e, &[0, 4, 0])[..]));
+    main.interrupt().unwrap();
+    assert_eq!(main.send(&mut out), Ok(&request(2, 0x08, &[])[..]));
+    let received = main.receive(&status(2, 7)).unwrap();
+    assert!(matches!(received.handed, Handed::Status(Status { status: 7, options: 5, set_bits: 3 })));
+    assert_eq!(main.send(&mut out), Ok(&request(3, 0x09, &[])[..]));
+    assert!(matches!(main.receive(&reply(3, 1, &[])).unwrap().handed, Handed::Nothing));
+    assert_eq!(main.send(&mut out), Ok(&request(4, 0x08, &[])[..]));
+    main.receive(&status(4, 2)).unwrap();
+    assert_eq!(main.send(&mut out), Ok(&request(5, 0x0a, &[])[..]));
+    let answered = reply(5, 7, &[1, 9]);
+    let Handed::Alert(alert) = main.receive(&answered).unwrap().handed else { panic!("no alert") };
+    assert_eq!((alert.sequence(), alert.command(), alert.length()), (5 | 1 << 63, 7, 2));
+    assert_eq!(alert.data(&mut room), Ok(&[1, 9][..]));
+    assert_eq!(main.send(&mut out), Ok(&request(6, 0x08, &[])[..]));
+    assert!(main.receive(&status(6, 4)).unwrap().unsent);
+    assert_eq!(main.send(&mut out), Ok(&request(7, 0x0e, &[0, 4, 0])[..]));
+    let answered = reply(7, 0x0b, b"\0pong");
+    let Handed::Answer(answer) = main.receive(&answered).unwrap().handed else { panic!("no answer") };
+    assert_eq!((answer.sequence(), answer.command(), answer.data(&mut room)), (7 | 1 << 63, 0x0b, Ok(&b"\0pong"[..])));
+    assert_eq!(main.request(0x01, &[], &mut out), Ok(&request(8, 0x01, &[])[..]));
+    assert_eq!(main.request(0x08, &[], &mut out), Ok(&request(9, 0x08, &[])[..]));
+}

@@ -6,3 +6,4 @@ mod SupervisorLaws
 mod ReceiveCallLaws
 mod AddressLaws
 mod RotLaws
+mod RequesterLaws

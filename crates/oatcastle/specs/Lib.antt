@@ -7,3 +7,4 @@ pub mod ReceiveCalls
 pub mod AddressCalls
 pub mod ProbeCalls
 pub mod RotCalls
+pub mod RequesterCalls

@@ -1,4 +1,4 @@
-// The C interface: line layer, supervisor, address plan, probe list and root-of-trust link as functions on numbers and lent slices. include/oatcastle.h is its header.
+// The C interface: line layer, supervisor, main processor's end, address plan, probe list and root-of-trust link as functions on numbers and lent slices. include/oatcastle.h is its header.
 // No function here that others can call has a `requires`; each promise settles the number returned and everything lent.
 pub mod counting;
 pub mod frames;
@@ -6,6 +6,7 @@ pub mod plans;
 pub mod probe_list;
 pub mod readings;
 pub mod receiving;
+pub mod requesting;
 pub mod rot_link;
 pub mod supervision;
 mod telling;

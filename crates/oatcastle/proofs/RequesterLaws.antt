@@ -1,0 +1,196 @@
+-- Laws of the main processor's calls in the C interface.
+-- Assumes nothing.
+use mathlib.Core.Path.{_≡_, refl, ap}
+use mathlib.Core.Bool.{Bool, true, false, cond}
+use mathlib.Core.List.{List, [], _∷_}
+use mathlib.Core.Option.{Option, none, some}
+use Prim.Native.Nat.{ℕ, suc, _≤_, _<_}
+use native.Mathlib.Omega.{arith}
+use borrow.Author.Tests.{lt-ltb}
+use lib.Dec.{leb, ltb}
+use lib.ListN.{length, length-append}
+use lib.Seq.{take-nil}
+use Rattle.octets.specs.Bytes.{overlay}
+use Rattle.octets.proofs.Conditions.{cond-by, cond-both}
+use Rattle.line.specs.Limits.{longest-data}
+use Rattle.line.specs.Cobs.{cobs}
+use Rattle.line.specs.Frame.{frame}
+use Rattle.line.specs.Reader as LineReader
+use Rattle.requester.specs.Limits.{last-number}
+use Rattle.requester.specs.State.{Request, requestFrame}
+use Rattle.requester.specs.Requester
+use Rattle.requester.specs.Layout
+use Rattle.requester.specs.Valid.{validRequester}
+use Rattle.requester.specs.Calls
+use Rattle.requester.specs.Calls.{Parts, Told, putInto, withRequest, requesting, sending, toldOf, heardOf, outcomeOf, received, receiving, validParts}
+use Rattle.requester.specs.declared.receive.Received.{Received}
+use Rattle.oatcastle.specs.Answers.{outcome, Said, telling, answering}
+use Rattle.oatcastle.specs.RequesterCalls.{putTold, putAnswered, requestCall, sendCall, shortPut, receiptTold, receiptAnswered, listenCall, shortReceipt}
+use Rattle.oatcastle.proofs.AnswerLaws.{Says, Leaves, Tells, tells-says, tells-leaves, answering-short, answering-told}
+
+-- ---- Request and send
+
+-- a frame has two bytes at least
+some-bytes : (n : ℕ) (q : Request) → 1 < length (requestFrame n q)
+unfolding requestFrame frame cobs
+some-bytes n q = simp length-append (omega arith)
+
+module _ (r out answer : List ℕ) where
+  -- what a call leaves with no room, and what the same call answers with room and too short an answer
+  abbrev Short : Calls.Put → Calls.Put → Type 0
+  Short x y = outcome (shortPut (x .said)) ((x .requester, out), answer) ≡ putAnswered y r out answer
+
+  abbrev Kept : Calls.Put → Type 0
+  Kept o = Leaves {A = List ℕ × List ℕ} 1 (r, out) (o .requester, o .out) (putTold (o .said))
+
+  refused-short : (n : ℕ) (z : List ℕ) → Short (Calls.putBy (Calls.PutSaid.refused n) z r) (Calls.putBy (Calls.PutSaid.refused n) out r)
+  unfolding shortPut putTold answering
+  refused-short n z = refl
+
+  put-says : (bs after : List ℕ) → Says 1 (putTold (putInto bs out r after .said))
+  unfolding putInto putTold
+  put-says bs after = cond-by (λ (o : Calls.Put). Says 1 (putTold (o .said))) (ltb (length out) (length bs)) _ _ (λ _. refl) (λ _. refl)
+
+  put-short : (bs after z : List ℕ) → length answer < 1 → length z < length bs → Short (putInto bs z r after) (putInto bs out r after)
+  unfolding putInto shortPut
+  put-short bs after z l h =
+      rw (lt-ltb (length z) (length bs) h)
+      (answering-short (r, out) _ answer (putTold (putInto bs out r after .said)) (put-says bs after) l)
+
+  refused-kept : (n : ℕ) → Kept (Calls.putBy (Calls.PutSaid.refused n) out r)
+  unfolding putTold
+  refused-kept n = refl
+
+  put-kept : (bs after : List ℕ) → Kept (putInto bs out r after)
+  unfolding putInto putTold
+  put-kept bs after = cond-by Kept (ltb (length out) (length bs)) _ _ (λ _. refl) (λ _. refl)
+
+  -- what was told of what a call answered and left
+  put-told : (o : Calls.Put) → Kept o → {a : Calls.PutSaid} {r' out' : List ℕ} {n : ℕ} {told : List ℕ} → 1 ≤ length answer → Calls.putBy a out' r' ≡ o
+      → outcome n told ≡ telling (putTold a) answer → outcome n ((r', out'), told) ≡ putAnswered o r out answer
+  put-told o k {a} h e f = rw (← e) (answering-told (r, out) _ answer (putTold a) (rw (← e) at k) h f)
+
+  module _ (command : ℕ) (d : List ℕ) where
+    abbrev asked : List ℕ
+    asked = requestFrame (suc (Layout.numberOf r)) (record { command = command; payload = d })
+
+    abbrev kept : List ℕ
+    kept = withRequest (suc (Layout.numberOf r)) command d r
+
+    pub request-short : (z : List ℕ) {a : Calls.PutSaid} {r' z' : List ℕ} {n : ℕ} → length answer < 1 → length z ≡ 1 → Calls.putBy a z' r' ≡ requesting r command d z
+        → n ≡ shortPut a → outcome n ((r', out), answer) ≡ requestCall r command d out answer
+    unfolding requestCall requesting
+    request-short z l h e f =
+        let b = some-bytes (suc (Layout.numberOf r)) (record { command = command; payload = d }) in
+        rw (f, ap (λ (o : Calls.Put). o .said) e, ap (λ (o : Calls.Put). o .requester) e)
+        (cond-both Short (validRequester r) (λ _.
+        cond-both Short (ltb longest-data (length d)) (λ _. refused-short 9 z) (λ _.
+        cond-both Short (Layout.isOutstanding r) (λ _. refused-short 17 z) (λ _.
+        cond-both Short (leb last-number (Layout.numberOf r)) (λ _. refused-short 14 z) (λ _. put-short asked kept z l (omega arith)))))
+        (λ _. refused-short 12 z))
+
+    pub request-told : {a : Calls.PutSaid} {r' out' : List ℕ} {n : ℕ} {told : List ℕ} → 1 ≤ length answer → Calls.putBy a out' r' ≡ requesting r command d out
+        → outcome n told ≡ telling (putTold a) answer → outcome n ((r', out'), told) ≡ requestCall r command d out answer
+    unfolding requestCall requesting
+    request-told h e f =
+        put-told (requesting r command d out)
+        (cond-by Kept (validRequester r) _ _ (λ _.
+        cond-by Kept (ltb longest-data (length d)) _ _ (λ _. refused-kept 9) (λ _.
+        cond-by Kept (Layout.isOutstanding r) _ _ (λ _. refused-kept 17) (λ _.
+        cond-by Kept (leb last-number (Layout.numberOf r)) _ _ (λ _. refused-kept 14) (λ _. put-kept asked kept))))
+        (λ _. refused-kept 12))
+        h e f
+
+  abbrev sent : List ℕ
+  sent = requestFrame (Layout.numberOf r) (Layout.outRequest r)
+
+  abbrev flagged : List ℕ
+  flagged = overlay Layout.unsent-place (0 ∷ []) r
+
+  nothing-short : (z : List ℕ) → length answer < 1 → Short (Calls.putBy (Calls.wrote 0) z r) (Calls.putBy (Calls.wrote 0) out r)
+  unfolding shortPut putTold
+  nothing-short z l = answering-short (r, out) (r, out) answer (putTold (Calls.wrote 0)) refl l
+
+  nothing-kept : Kept (Calls.putBy (Calls.wrote 0) out r)
+  unfolding putTold
+  nothing-kept = refl
+
+  pub send-short : (z : List ℕ) {a : Calls.PutSaid} {r' z' : List ℕ} {n : ℕ} → length answer < 1 → length z ≡ 1 → Calls.putBy a z' r' ≡ sending r z
+      → n ≡ shortPut a → outcome n ((r', out), answer) ≡ sendCall r out answer
+  unfolding sendCall sending
+  send-short z l h e f =
+      let b = some-bytes (Layout.numberOf r) (Layout.outRequest r) in
+      rw (f, ap (λ (o : Calls.Put). o .said) e, ap (λ (o : Calls.Put). o .requester) e)
+      (cond-both Short (validRequester r)
+      (λ _. cond-both Short (Layout.isUnsent r) (λ _. put-short sent flagged z l (omega arith)) (λ _. nothing-short z l))
+      (λ _. refused-short 12 z))
+
+  pub send-told : {a : Calls.PutSaid} {r' out' : List ℕ} {n : ℕ} {told : List ℕ} → 1 ≤ length answer → Calls.putBy a out' r' ≡ sending r out
+      → outcome n told ≡ telling (putTold a) answer → outcome n ((r', out'), told) ≡ sendCall r out answer
+  unfolding sendCall sending
+  send-told h e f =
+      put-told (sending r out)
+      (cond-by Kept (validRequester r) _ _
+      (λ _. cond-by Kept (Layout.isUnsent r) _ _ (λ _. put-kept sent flagged) (λ _. nothing-kept))
+      (λ _. refused-kept 12))
+      h e f
+
+-- ---- Receive
+
+-- what is handed out is told in seven numbers
+handed-tells : (used : ℕ) (h : Requester.Handed) (e u : Bool) → Tells 7 (receiptTold used (toldOf h) e u)
+unfolding receiptTold toldOf
+handed-tells used Requester.nothing e u = refl
+handed-tells used (Requester.answered m) e u = refl
+handed-tells used (Requester.status s o n) e u = refl
+handed-tells used (Requester.alerted m) e u = refl
+
+abbrev saidBy : Calls.Receipt → Said
+saidBy x = receiptTold (x .used) (x .told) (x .ended) (x .unsent)
+
+module _ (p : Parts) (answer : List ℕ) where
+  receipt-tells : (piece : List ℕ) → Tells 7 (saidBy (received p piece))
+  unfolding received
+  receipt-tells piece = handed-tells _ _ _ _
+
+  -- an empty piece changes nothing
+  none-received : received p [] .parts ≡ p
+  unfolding received LineReader.readPiece heardOf outcomeOf Calls.movedTo
+  none-received = by (Calls.overran (p .reader)) refl
+    where
+      by : (x : Bool) → Calls.overran (p .reader) ≡ x → received p [] .parts ≡ p
+      by true e = rw e
+      by false e = rw (e, take-nil) (rw e)
+
+  none-handed : shortReceipt (received p [] .told) ≡ 8
+  unfolding received LineReader.readPiece heardOf outcomeOf Calls.toldOf shortReceipt
+  none-handed = by (Calls.overran (p .reader)) refl
+    where
+      by : (x : Bool) → Calls.overran (p .reader) ≡ x → shortReceipt (received p [] .told) ≡ 8
+      by true e = rw e
+      by false e = rw (e, take-nil) (rw e)
+
+  pub listen-short : (t : Received) (piece : List ℕ) {q : Parts} {n : ℕ} → length answer < 7 → Calls.receiptOf t q ≡ receiving p []
+      → n ≡ shortReceipt (Calls.told (t .handed)) → outcome n (q, answer) ≡ listenCall p piece answer
+  unfolding receiving listenCall shortReceipt receiptTold answering
+  listen-short t piece l e f =
+      let x = received p piece in
+      rw (f, ap (λ (y : Calls.Receipt). y .told) e, ap (λ (y : Calls.Receipt). y .parts) e)
+      (cond-both (λ (y z : Calls.Receipt). outcome (shortReceipt (y .told)) (y .parts, answer) ≡ receiptAnswered z p answer) (validParts p)
+      (λ _. rw (none-received, none-handed)
+      (answering-short p (x .parts) answer (saidBy x) (tells-says 7 (saidBy x) (receipt-tells piece)) l))
+      (λ _. refl))
+
+  listen-kept : (piece : List ℕ) → let x = receiving p piece in Leaves 7 p (x .parts) (saidBy x)
+  unfolding receiving receiptTold
+  listen-kept piece =
+      let x = received p piece in
+      cond-by (λ (y : Calls.Receipt). Leaves 7 p (y .parts) (saidBy y)) (validParts p) _ _
+      (λ _. tells-leaves 7 p (x .parts) (saidBy x) (receipt-tells piece)) (λ _. refl)
+
+  pub listen-told : (t : Received) (piece : List ℕ) {q : Parts} {n : ℕ} {told : List ℕ} → 7 ≤ length answer → Calls.receiptOf t q ≡ receiving p piece
+      → outcome n told ≡ telling (receiptTold (t .used) (Calls.told (t .handed)) (t .ended) (t .unsent)) answer → outcome n (q, told) ≡ listenCall p piece answer
+  unfolding listenCall
+  listen-told t piece {q} h e f =
+      rw (← e)
+      (answering-told p q answer (receiptTold (t .used) (Calls.told (t .handed)) (t .ended) (t .unsent)) (rw (← e) at (listen-kept piece)) h f)

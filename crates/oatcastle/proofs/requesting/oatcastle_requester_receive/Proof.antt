@@ -1,0 +1,25 @@
+-- `oatcastle::requesting::oatcastle_requester_receive` meets its contract.
+-- Assumes nothing.
+use borrow.Author.Needs.{needs}
+use Rattle.oatcastle.proofs.RequesterLaws.{listen-short, listen-told}
+use Rattle.oatcastle.proofs.requesting.oatcastle_requester_receive.Statement.{statement}
+use Rattle.oatcastle.proofs.requesting.oatcastle_requester_receive.Tie as tie
+
+returns : tie.Need-returns
+returns c =
+    let received = c .before .before .before .before .before in
+    listen-short _ _ _ _ (received .before .before .before .before .if1 .taken) (received .receive .ensures) (c .short-received .ensures)
+
+returns-2 : tie.Need-returns-2
+returns-2 c =
+    let told = c .before .before in
+    let received = told .before .before .before .before .before .before in
+    listen-told _ _ _ _ (received .before .before .before .if1 .left) (received .receive2 .ensures) (told .tell-received .ensures)
+
+pub oatcastle-requester-receive-spec : {M : Type 1} → statement M
+oatcastle-requester-receive-spec =
+    tie.close
+    (tie.spec
+    (λ c. search needs) (λ c. search needs) (λ c. search needs) (λ c κs. search needs) (λ c κs. search needs)
+    (λ c. search needs) (λ c. search needs) returns (λ c κs. search needs) (λ c κs. search needs) (λ c. search needs)
+    (λ c. search needs) (λ c. search needs) returns-2)

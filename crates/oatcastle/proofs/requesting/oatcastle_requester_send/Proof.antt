@@ -1,0 +1,26 @@
+-- `oatcastle::requesting::oatcastle_requester_send` meets its contract.
+-- Assumes nothing.
+use borrow.Author.Needs.{needs}
+use mathlib.Core.Path.{refl}
+use mathlib.Core.List.{[], _∷_}
+use Rattle.oatcastle.proofs.RequesterLaws.{send-short, send-told}
+use Rattle.oatcastle.proofs.requesting.oatcastle_requester_send.Statement.{statement}
+use Rattle.oatcastle.proofs.requesting.oatcastle_requester_send.Tie as tie
+
+returns : tie.Need-returns
+returns c =
+    let put = c .before .before .before .before in
+    send-short _ _ _ (0 ∷ []) (put .before .before .before .if1 .taken) refl (put .send .ensures) (c .short-sent .ensures)
+
+returns-2 : tie.Need-returns-2
+returns-2 c =
+    let told = c .before .before in
+    let put = told .before .before .before .before .before .before in
+    send-told _ _ _ (put .before .before .before .if1 .left) (put .send2 .ensures) (told .tell-put .ensures)
+
+pub oatcastle-requester-send-spec : {M : Type 1} → statement M
+oatcastle-requester-send-spec =
+    tie.close
+    (tie.spec
+    (λ c. search needs) (λ c κs. search needs) (λ c κs. search needs) (λ c. search needs) returns (λ c κs. search needs)
+    (λ c κs. search needs) (λ c. search needs) (λ c. search needs) (λ c. search needs) returns-2)

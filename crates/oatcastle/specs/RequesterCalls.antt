@@ -1,0 +1,71 @@
+-- The main processor's calls in the C interface: the number that each returns, and what it leaves of what it is lent.
+-- Assumes nothing: these are definitions.
+use mathlib.Core.Bool.{Bool, cond}
+use mathlib.Core.List.{List, [], _∷_}
+use Prim.Native.Nat.{ℕ}
+use Rattle.requester.specs.Calls
+use Rattle.requester.specs.Calls.{Parts, Told}
+use Rattle.oatcastle.specs.Answers.{Outcome, outcome, numbered, Said, refused, given, answering}
+
+-- ---- Start
+
+abbrev pub requesterStarted : Calls.Start → Outcome Parts
+requesterStarted o = outcome (numbered (o .refusal)) (o .parts)
+
+unfoldable pub requesterStartCall : Parts → Outcome Parts
+requesterStartCall p = requesterStarted (Calls.starting p)
+
+-- ---- Request, send: how many bytes were put out
+
+unfoldable pub putTold : Calls.PutSaid → Said
+putTold (Calls.wrote n) = given (n ∷ [])
+putTold (Calls.PutSaid.refused n) = refused n
+
+-- by what the call answers and leaves; the main processor's part and the room change
+abbrev pub putAnswered : Calls.Put → List ℕ → List ℕ → List ℕ → Outcome ((List ℕ × List ℕ) × List ℕ)
+putAnswered o r out answer = answering (putTold (o .said)) (r, out) (o .requester, o .out) answer
+
+unfoldable pub requestCall : List ℕ → ℕ → List ℕ → List ℕ → List ℕ → Outcome ((List ℕ × List ℕ) × List ℕ)
+requestCall r command d out answer = putAnswered (Calls.requesting r command d out) r out answer
+
+unfoldable pub sendCall : List ℕ → List ℕ → List ℕ → Outcome ((List ℕ × List ℕ) × List ℕ)
+sendCall r out answer = putAnswered (Calls.sending r out) r out answer
+
+-- the number of a call with too short an answer: a refusal's own, else 8
+unfoldable pub shortPut : Calls.PutSaid → ℕ
+shortPut (Calls.wrote n) = 8
+shortPut (Calls.PutSaid.refused n) = n
+
+-- ---- Interrupt
+
+abbrev pub interruptDone : Calls.Interrupt → Outcome (List ℕ)
+interruptDone o = outcome (numbered (o .refusal)) (o .requester)
+
+unfoldable pub interruptCall : List ℕ → Outcome (List ℕ)
+interruptCall r = interruptDone (Calls.interrupting r)
+
+-- ---- Receive: used, kind, ended, unsent, and three numbers
+-- kind 0: nothing; 1: the answer, and 3: the answer to a recovery's 0x0a, each with sequence, command and length; 2: status, options, set bits
+
+abbrev pub flag : Bool → ℕ
+flag b = cond b 1 0
+
+unfoldable pub receiptTold : ℕ → Told → Bool → Bool → Said
+receiptTold used (Told.refused n) e u = refused n
+receiptTold used Calls.nothing e u = given (used ∷ 0 ∷ flag e ∷ flag u ∷ 0 ∷ 0 ∷ 0 ∷ [])
+receiptTold used (Calls.answered version sequence command n) e u = given (used ∷ 1 ∷ flag e ∷ flag u ∷ sequence ∷ command ∷ n ∷ [])
+receiptTold used (Calls.status s o n) e u = given (used ∷ 2 ∷ flag e ∷ flag u ∷ s ∷ o ∷ n ∷ [])
+receiptTold used (Calls.alerted version sequence command n) e u = given (used ∷ 3 ∷ flag e ∷ flag u ∷ sequence ∷ command ∷ n ∷ [])
+
+abbrev pub receiptAnswered : Calls.Receipt → Parts → List ℕ → Outcome (Parts × List ℕ)
+receiptAnswered x p answer = answering (receiptTold (x .used) (x .told) (x .ended) (x .unsent)) p (x .parts) answer
+
+unfoldable pub listenCall : Parts → List ℕ → List ℕ → Outcome (Parts × List ℕ)
+listenCall p piece answer = receiptAnswered (Calls.receiving p piece) p answer
+
+unfoldable pub shortReceipt : Told → ℕ
+shortReceipt (Told.refused n) = n
+shortReceipt Calls.nothing = 8
+shortReceipt (Calls.answered version sequence command n) = 8
+shortReceipt (Calls.status s o n) = 8
+shortReceipt (Calls.alerted version sequence command n) = 8

@@ -1,0 +1,219 @@
+// The main processor's calls: start, request, interrupt, send, receive.
+// Assumes nothing: no exported function has a `requires`.
+use crate::telling::tell;
+use requester::hearing::Handed;
+use requester::receive::Received;
+use requester::recovery::Interrupted;
+use requester::sending::Requested;
+use requester::sending::Sent;
+use requester::start::Started;
+ghost use mathlib.Core.Path.{_≡_};
+ghost use Rattle.requester.specs.Calls.{parts, requestSaid, sendSaid, told};
+ghost use Rattle.oatcastle.specs.Answers.{outcome, telling};
+ghost use Rattle.oatcastle.specs.RequesterCalls.{requesterStartCall, putTold, requestCall, sendCall, shortPut, interruptCall, flag, receiptTold, listenCall, shortReceipt};
+
+// How many numbers `oatcastle_requester_receive` answers.
+const RECEIVE_NUMBERS: usize = 7;
+
+// A room with no place for a frame.
+const NO_ROOM: usize = 1;
+
+// Begins the main processor's end.
+#[no_mangle]
+pub extern "C" fn oatcastle_requester_start(reader: &mut [u8], requester: &mut [u8]) -> u32
+    ensures { λ r. ⌜ outcome r (parts (now (reader .exit)) (now (requester .exit))) ≡ requesterStartCall (parts (now (reader .entry)) (now (requester .entry))) ⌝ }
+{
+    let started = requester::start::start(reader, requester);
+    match started {
+        Started::Done => 0,
+        Started::Refused => 12,
+    }
+}
+
+// Puts out a request's frame. With too short an answer it is put to no room.
+#[no_mangle]
+pub extern "C" fn oatcastle_requester_request(
+    requester: &mut [u8],
+    command: u8,
+    data: &[u8],
+    out: &mut [u8],
+    answer: &mut [u64],
+) -> u32
+    ensures { λ r. ⌜ outcome r ((now (requester .exit), now (out .exit)), now (answer .exit)) ≡ requestCall (now (requester .entry)) command (now («data» .entry)) (now (out .entry)) (now (answer .entry)) ⌝ }
+{
+    if answer.len() < 1 {
+        let mut none = [0u8; NO_ROOM];
+        return short_requested(requester::sending::request(requester, command, data, &mut none));
+    }
+    let requested = requester::sending::request(requester, command, data, out);
+    tell_requested(answer, requested)
+}
+
+// The number of a request's answer.
+fn tell_requested(answer: &mut [u64], requested: Requested) -> u32
+    ensures { λ r. ⌜ outcome r (now (answer .exit)) ≡ telling (putTold (requestSaid requested)) (now (answer .entry)) ⌝ }
+{
+    match requested {
+        Requested::Refused => 12,
+        Requested::TooLong => 9,
+        Requested::Outstanding => 17,
+        Requested::NoNumber => 14,
+        Requested::NoRoom => 8,
+        Requested::Done(n) => tell(answer, [n as u64, 0, 0, 0, 0, 0, 0], 1),
+    }
+}
+
+fn short_requested(requested: Requested) -> u32
+    ensures { λ r. ⌜ r ≡ shortPut (requestSaid requested) ⌝ }
+{
+    match requested {
+        Requested::Refused => 12,
+        Requested::TooLong => 9,
+        Requested::Outstanding => 17,
+        Requested::NoNumber => 14,
+        Requested::NoRoom => 8,
+        Requested::Done(_) => 8,
+    }
+}
+
+// Begins a recovery, unless one is under way.
+#[no_mangle]
+pub extern "C" fn oatcastle_requester_interrupt(requester: &mut [u8]) -> u32
+    ensures { λ r. ⌜ outcome r (now (requester .exit)) ≡ interruptCall (now (requester .entry)) ⌝ }
+{
+    let interrupted = requester::recovery::interrupt(requester);
+    match interrupted {
+        Interrupted::Done => 0,
+        Interrupted::Refused => 12,
+        Interrupted::NoNumber => 14,
+    }
+}
+
+// Puts out the frame of the one outstanding, where it is to go out. With too short an answer it is put to no room.
+#[no_mangle]
+pub extern "C" fn oatcastle_requester_send(
+    requester: &mut [u8],
+    out: &mut [u8],
+    answer: &mut [u64],
+) -> u32
+    ensures { λ r. ⌜ outcome r ((now (requester .exit), now (out .exit)), now (answer .exit)) ≡ sendCall (now (requester .entry)) (now (out .entry)) (now (answer .entry)) ⌝ }
+{
+    if answer.len() < 1 {
+        let mut none = [0u8; NO_ROOM];
+        return short_sent(requester::sending::send(requester, &mut none));
+    }
+    let sent = requester::sending::send(requester, out);
+    tell_put(answer, sent)
+}
+
+// The number of a send's answer.
+fn tell_put(answer: &mut [u64], sent: Sent) -> u32
+    ensures { λ r. ⌜ outcome r (now (answer .exit)) ≡ telling (putTold (sendSaid sent)) (now (answer .entry)) ⌝ }
+{
+    match sent {
+        Sent::Refused => 12,
+        Sent::NoRoom => 8,
+        Sent::Done(n) => tell(answer, [n as u64, 0, 0, 0, 0, 0, 0], 1),
+    }
+}
+
+fn short_sent(sent: Sent) -> u32
+    ensures { λ r. ⌜ r ≡ shortPut (sendSaid sent) ⌝ }
+{
+    match sent {
+        Sent::Refused => 12,
+        Sent::NoRoom => 8,
+        Sent::Done(_) => 8,
+    }
+}
+
+// Reads a piece up to and with its first 00 or a frame's 4,141st byte, or to its end.
+// With too short an answer an empty piece is received, which changes nothing and tells whether the parts pass the tests for 12.
+#[no_mangle]
+pub extern "C" fn oatcastle_requester_receive(
+    piece: &[u8],
+    reader: &mut [u8],
+    requester: &mut [u8],
+    answer: &mut [u64],
+) -> u32
+    ensures { λ r. ⌜ outcome r (parts (now (reader .exit)) (now (requester .exit)), now (answer .exit)) ≡ listenCall (parts (now (reader .entry)) (now (requester .entry))) (now (piece .entry)) (now (answer .entry)) ⌝ }
+{
+    if answer.len() < RECEIVE_NUMBERS {
+        let received = requester::receive::receive(&piece[0..0], reader, requester);
+        let handed = received.handed;
+        return short_received(handed);
+    }
+    let received = requester::receive::receive(piece, reader, requester);
+    tell_received(answer, received)
+}
+
+fn short_received(handed: Handed) -> u32
+    ensures { λ r. ⌜ r ≡ shortReceipt (told handed) ⌝ }
+{
+    match handed {
+        Handed::Refused => 12,
+        Handed::Nothing => 8,
+        Handed::Answer(_) => 8,
+        Handed::Status(_) => 8,
+        Handed::Alert(_) => 8,
+    }
+}
+
+// The numbers of a receive's answer.
+fn tell_received(answer: &mut [u64], received: Received) -> u32
+    ensures { λ r. ⌜ outcome r (now (answer .exit)) ≡ telling (receiptTold (received .used) (told (received .handed)) (received .ended) (received .unsent)) (now (answer .entry)) ⌝ }
+{
+    let used = received.used as u64;
+    let ended = flag_number(received.ended);
+    let unsent = flag_number(received.unsent);
+    let handed = received.handed;
+    match handed {
+        Handed::Refused => 12,
+        Handed::Nothing => tell(answer, [used, 0, ended, unsent, 0, 0, 0], RECEIVE_NUMBERS),
+        Handed::Answer(h) => tell(
+            answer,
+            [
+                used,
+                1,
+                ended,
+                unsent,
+                h.sequence,
+                h.command as u64,
+                h.length as u64,
+            ],
+            RECEIVE_NUMBERS,
+        ),
+        Handed::Status(s) => tell(
+            answer,
+            [
+                used,
+                2,
+                ended,
+                unsent,
+                s.status,
+                s.options,
+                s.set_bits as u64,
+            ],
+            RECEIVE_NUMBERS,
+        ),
+        Handed::Alert(h) => tell(
+            answer,
+            [
+                used,
+                3,
+                ended,
+                unsent,
+                h.sequence,
+                h.command as u64,
+                h.length as u64,
+            ],
+            RECEIVE_NUMBERS,
+        ),
+    }
+}
+
+fn flag_number(b: bool) -> u64
+    ensures { λ r. ⌜ r ≡ flag b ⌝ }
+{
+    if b { 1 } else { 0 }
+}

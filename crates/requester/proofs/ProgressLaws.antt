@@ -1,0 +1,88 @@
+-- Laws of the part's first fields: how they are stored, and the numbers of a recovery's steps.
+-- Assumes nothing.
+use mathlib.Core.Path.{_≡_, refl}
+use mathlib.Core.List.{List, [], _∷_, _++_}
+use mathlib.Core.Option.{Option, none, some}
+use Prim.Native.Nat.{ℕ, zero, suc, _+_, _≤_}
+use native.Mathlib.Omega.{arith}
+use lib.ListN.{length, set, replicate}
+use lib.Seq.{take-length}
+use Rattle.octets.specs.Bytes.{bytes, overlay, put, copied}
+use Rattle.octets.proofs.Overlay.{length-overlay, overlay-one, overlay-more, overlay-next, put-fits, copied-fits}
+use Rattle.line.specs.Limits.{longest-data}
+use Rattle.requester.specs.State.{Step, fetch, acknowledge, alert}
+use Rattle.requester.specs.Layout
+use Rattle.requester.specs.Calls.{progressed}
+
+module _ (r : List ℕ) (long : Layout.requester-length ≤ length r) where
+  -- the four fields, one after the other
+  pub progress-set : (number recovery unsent kept : ℕ) {t : List ℕ} → t ≡ put Layout.number-place (bytes 8 number) r
+      → set (set (set t Layout.recovery-place recovery) Layout.unsent-place unsent) Layout.kept-place kept ≡ progressed number recovery unsent kept r
+  unfolding progressed bytes
+  progress-set number recovery unsent kept e =
+      rw (
+        e,
+        put-fits 0 (bytes 8 number) r (omega arith),
+        overlay-more 0 recovery (bytes 8 number) r (omega arith),
+        overlay-more 0 unsent (bytes 8 number ++ recovery ∷ []) r (omega arith),
+        overlay-more 0 kept (bytes 8 number ++ recovery ∷ unsent ∷ []) r (omega arith),
+      )
+
+  pub length-progressed : (number recovery unsent kept : ℕ) → length (progressed number recovery unsent kept r) ≡ length r
+  unfolding progressed bytes
+  length-progressed number recovery unsent kept = length-overlay 0 (bytes 8 number ++ recovery ∷ unsent ∷ kept ∷ []) r (omega arith)
+
+  -- zeros, one field after the other
+  pub fields-cleared : {t u v : List ℕ} → t ≡ put 0 (bytes 8 0) r → u ≡ put 8 (bytes 4 0) t → v ≡ put 12 (bytes 2 0) u
+      → v ≡ overlay 0 (replicate Layout.data-place 0) r
+  unfolding bytes
+  fields-cleared a b c =
+      let l = length-overlay 0 (bytes 8 0) r (omega arith) in
+      let m = length-overlay 0 (bytes 8 0 ++ bytes 4 0) r (omega arith) in
+      rw (
+        c,
+        b,
+        a,
+        put-fits 0 (bytes 8 0) r (omega arith),
+        put-fits 8 (bytes 4 0) (overlay 0 (bytes 8 0) r) (omega arith),
+        overlay-next 0 (bytes 8 0) (bytes 4 0) r (omega arith),
+        put-fits 12 (bytes 2 0) (overlay 0 (bytes 8 0 ++ bytes 4 0) r) (omega arith),
+        overlay-next 0 (bytes 8 0 ++ bytes 4 0) (bytes 2 0) r (omega arith),
+      )
+
+  -- a request behind the first fields
+  pub request-kept : (command : ℕ) (d : List ℕ) {t u : List ℕ} → length d ≤ longest-data
+      → t ≡ put Layout.length-place (bytes 2 (length d)) (set r Layout.command-place command) → u ≡ copied d 0 (length d) t Layout.data-place
+      → u ≡ overlay Layout.command-place (command ∷ bytes 2 (length d) ++ d) r
+  unfolding bytes
+  request-kept command d h a b =
+      let head = command ∷ bytes 2 (length d) in
+      let l = length-overlay Layout.command-place (command ∷ []) r (omega arith) in
+      let m = length-overlay Layout.command-place head r (omega arith) in
+      rw (
+        b,
+        a,
+        overlay-one Layout.command-place command r (omega arith),
+        put-fits Layout.length-place (bytes 2 (length d)) (overlay Layout.command-place (command ∷ []) r) (omega arith),
+        overlay-next Layout.command-place (command ∷ []) (bytes 2 (length d)) r (omega arith),
+        copied-fits d 0 (length d) (overlay Layout.command-place head r) Layout.data-place (omega arith) (omega arith),
+        take-length d,
+        overlay-next Layout.command-place head d r (omega arith),
+      )
+
+-- ---- steps
+
+pub step-number : (n : ℕ) → n ≤ 3 → Layout.stepNumber (Layout.stepAt n) ≡ n
+unfolding Layout.stepNumber Layout.stepAt
+step-number zero h = refl
+step-number (suc zero) h = refl
+step-number (suc (suc zero)) h = refl
+step-number (suc (suc (suc zero))) h = refl
+step-number (suc (suc (suc (suc n)))) h = absurd (omega arith)
+
+pub step-at : (t : Option Step) → Layout.stepAt (Layout.stepNumber t) ≡ t
+unfolding Layout.stepNumber Layout.stepAt
+step-at none = refl
+step-at (some fetch) = refl
+step-at (some acknowledge) = refl
+step-at (some alert) = refl

@@ -1,0 +1,124 @@
+-- Laws of the line reader's calls: its state stays valid, the data that it tells fit a message, and what its tail says.
+-- Assumes nothing.
+use mathlib.Core.Path.{_≡_, refl, _∙_}
+use mathlib.Core.Bool.{Bool, true, false}
+use mathlib.Core.List.{List, [], _∷_}
+use mathlib.Core.Option.{Option, none, some}
+use Prim.Native.Nat.{ℕ, zero, suc, _-_, _≤_, _<_, min}
+use native.Mathlib.Omega.{arith}
+use lib.Dec.{leb, ltb, eqb, eqb·suc-zero}
+use lib.ListN.{length, take, length-take, length-drop}
+use lib.Seq.{take-all}
+use borrow.Author.Tests.{le-leb, le-ltb, leb-true, leb-false, ltb-true, ltb-false}
+use Rattle.octets.proofs.Conditions.{cond-by}
+use Rattle.octets.proofs.Overlay.{length-run}
+use Rattle.line.specs.Limits.{longest-data, longest-form}
+use Rattle.line.specs.Checksum.{checksum}
+use Rattle.line.specs.Message.{magic}
+use Rattle.line.specs.Cobs.{uncobs}
+use Rattle.line.specs.Judge.{Verdict, bodyOf, checksumOf, magicOf, payloadOf, fields, wrongLength, judgeFields, judgeLength, judgeForm, judge}
+use Rattle.line.specs.Reader as LineReader
+use Rattle.line.proofs.State.{Ready, valid-ready, ready-valid, ready-pushed}
+use Rattle.line.proofs.Lent.{fit-length}
+use Rattle.line.proofs.Held.{finish-leaves}
+use Rattle.requester.specs.Hearing.{dataFit}
+
+-- ---- the data of a message
+
+module _ (xs : List ℕ) where
+  abbrev Fits : Verdict → Type 0
+  Fits v = dataFit (LineReader.verdictSaid v) ≡ true
+
+  fields-fit : wrongLength xs ≡ false → Fits (judgeFields xs)
+  unfolding judgeFields fields dataFit LineReader.verdictSaid
+  fields-fit e =
+      let l = fit-length xs e in
+      let n : length (payloadOf xs) ≤ longest-data = simp (length-drop, length-take) (omega arith) in
+      cond-by Fits (eqb (checksumOf xs) (checksum (bodyOf xs))) _ _
+      (λ f. cond-by Fits (eqb (magicOf xs) magic) _ _ (λ g. le-leb _ _ n) (λ g. refl))
+      (λ f. refl)
+
+form-fit : (form : Option (List ℕ)) → dataFit (LineReader.verdictSaid (judgeForm form)) ≡ true
+unfolding judgeForm judgeLength dataFit LineReader.verdictSaid
+form-fit none = refl
+form-fit (some xs) =
+    cond-by (λ v. dataFit (LineReader.verdictSaid v) ≡ true) (wrongLength xs) _ _ (λ e. refl) (λ e. fields-fit xs e)
+
+judge-fit : (form : List ℕ) → dataFit (LineReader.verdictSaid (judge form)) ≡ true
+unfolding judge dataFit LineReader.verdictSaid
+judge-fit form =
+    cond-by (λ v. dataFit (LineReader.verdictSaid v) ≡ true) (ltb longest-form (length form)) _ _ (λ e. refl) (λ e. form-fit (uncobs form))
+
+finish-fit : (s : List ℕ) → dataFit (LineReader.finish s .answer) ≡ true
+unfolding LineReader.finish LineReader.settle dataFit
+finish-fit s =
+    cond-by P (eqb (LineReader.count s) 0) _ _ (λ e. refl) (λ e.
+    cond-by P (ltb longest-form (LineReader.count s)) _ _ (λ f. refl) (λ f. judge-fit (LineReader.kept s)))
+  where
+    P : LineReader.Settled → Type 0
+    P x = dataFit (x .answer) ≡ true
+
+-- ---- a piece
+
+-- the state stays one that is read and keeps its length, and the data told fit
+pub record Read (s : List ℕ) (o : LineReader.Outcome) : Type 0 where
+  pub ready : Ready (o .state)
+  pub long : length (o .state) ≡ length s
+  pub fit : dataFit (o .answer) ≡ true
+
+pub read-leaves : (piece s : List ℕ) → Ready s → Read s (LineReader.readPiece s piece)
+unfolding LineReader.readPiece LineReader.next dataFit
+read-leaves [] s r = record { ready = r; long = refl; fit = refl }
+read-leaves (zero ∷ bs) s r =
+    let f = finish-leaves s (r .0) in
+    record { ready = (omega arith, omega arith); long = f .0; fit = finish-fit s }
+read-leaves (suc b ∷ bs) s r =
+    let p = ready-pushed s (suc b) r in
+    let q = read-leaves bs (LineReader.pushed s (suc b)) (omega arith, p .1) in
+    rw eqb·suc-zero (record { ready = q .ready; long = q .long ∙ p .0; fit = q .fit })
+
+-- a call of `read` on a valid state
+pub read-by : (s piece : List ℕ) {o : LineReader.Outcome} → LineReader.valid s ≡ true → o ≡ LineReader.reading s piece
+    → o ≡ LineReader.readPiece s piece
+unfolding LineReader.reading
+read-by s piece v e = rw v at e
+
+pub read-valid : (s piece : List ℕ) {o : LineReader.Outcome} → LineReader.valid s ≡ true → o ≡ LineReader.readPiece s piece
+    → (LineReader.valid (o .state) ≡ true) × (dataFit (o .answer) ≡ true)
+read-valid s piece v e =
+    let w = read-leaves piece s (valid-ready s v) in
+    rw e (ready-valid _ (w .ready), w .fit)
+
+-- at most so many bytes of a piece
+pub take-min : (n : ℕ) (piece : List ℕ) → take (min n (length piece)) piece ≡ take n piece
+take-min n piece = by (leb n (length piece)) refl
+  where
+    by : (b : Bool) → leb n (length piece) ≡ b → take (min n (length piece)) piece ≡ take n piece
+    by true e = let m : min n (length piece) ≡ n = omega (arith, leb-true n (length piece) e) in rw m
+    by false e =
+        let h : length piece < n = leb-false n (length piece) e in
+        let m : min n (length piece) ≡ length piece = omega arith in
+        rw (m, take-all (length piece) piece (omega arith), take-all n piece (omega arith))
+
+-- the data that a valid state hands out, of a length that fits
+pub data-length : (s : List ℕ) (n : ℕ) → LineReader.valid s ≡ true → n ≤ longest-data → length (LineReader.dataOf s n) ≡ n
+unfolding LineReader.dataOf LineReader.dataRefusal LineReader.partOf
+data-length s n v h =
+    let r = valid-ready s v in
+    rw (v, le-ltb longest-data n h) (length-run LineReader.data-place n s (omega arith))
+
+-- ---- the tail
+
+-- what an answer of `tail` tells of a state
+abbrev pub TailTells : List ℕ → LineReader.TailSaid → Type 0
+TailTells s (LineReader.TailSaid.refused n) = LineReader.valid s ≡ false
+TailTells s (LineReader.unfinished n) = (LineReader.valid s ≡ true) × (n ≡ LineReader.count s) × (LineReader.count s ≤ longest-form)
+TailTells s LineReader.longer = (LineReader.valid s ≡ true) × (longest-form < LineReader.count s)
+
+pub tail-tells : (s : List ℕ) {x : LineReader.TailSaid} → x ≡ LineReader.tailOf s → TailTells s x
+unfolding LineReader.tailOf
+tail-tells s e =
+    rw e
+    (cond-by (TailTells s) (LineReader.valid s) _ _
+    (λ v. cond-by (TailTells s) (ltb longest-form (LineReader.count s)) _ _ (λ f. (v, ltb-true _ _ f)) (λ f. (v, refl, ltb-false _ _ f)))
+    (λ v. v))

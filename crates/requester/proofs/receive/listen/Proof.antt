@@ -1,0 +1,46 @@
+-- `requester::receive::listen` meets its contract.
+-- Assumes nothing.
+use borrow.Author.Needs.{needs}
+use native.Mathlib.Omega.{arith}
+use denote.Ref.{now}
+use lib.ListN.{length-take}
+use Rattle.requester.proofs.ValidLaws.{requester-valid, parts-valid}
+use Rattle.requester.proofs.ReaderLaws.{read-by, read-valid}
+use Rattle.requester.proofs.ReceiveLaws.{heard-received}
+use Rattle.requester.proofs.receive.listen.Statement.{statement}
+use Rattle.requester.proofs.receive.listen.Tie as tie
+
+slice-aggregate-read : tie.Need-slice-aggregate-read
+slice-aggregate-read c =
+    let least = c .before .before in
+    let start = least .before .before .before .before in
+    omega (arith, least .least .ensures, length-take (least .least .result) (now (start .args .piece)))
+
+settle-requires : tie.Need-settle-requires
+settle-requires c κs =
+    let read = c .before .before .before .before in
+    let start = read .before .before .before .before .before .before .before in
+    let v = parts-valid _ (start .pre .0) in
+    let w = read-valid _ _ (v .reader) (read-by _ _ (v .reader) (read .read .ensures)) in
+    (w .0, (v .requester, w .1))
+
+go-on-requires : tie.Need-go-on-requires
+go-on-requires c κs =
+    let start = c .before .before .before .before .before .before .before .before .before .before .before .before .before in
+    requester-valid _ (parts-valid _ (start .pre .0) .requester) .long
+
+returns : tie.Need-returns
+returns c =
+    let go-on = c .before .before .before .before in
+    let settle = go-on .before .before in
+    let read = settle .before .before .before .before .before in
+    let least = read .before .before .before in
+    let start = least .before .before .before .before in
+    heard-received _ _ (start .pre .0) (start .pre .1 .0) (start .pre .1 .1) (least .least .ensures) (read .read .ensures) (settle .settle .ensures) (go-on .go-on .ensures) (c .is-unsent .ensures)
+
+pub listen-spec : {M : Type 1} → statement M
+listen-spec =
+    tie.close
+    (tie.spec
+    (λ c. search needs) (λ c κs. search needs) slice-aggregate-read (λ c κs. search needs) settle-requires go-on-requires
+    (λ c κs. search needs) (λ c. search needs) (λ c. search needs) returns)

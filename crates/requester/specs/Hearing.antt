@@ -1,0 +1,60 @@
+-- What the contracts of the functions that settle a frame cite: document 02's words for their answers.
+-- Assumes nothing: these are definitions.
+use mathlib.Core.Bool.{Bool, true, cond}
+use mathlib.Core.List.{List}
+use mathlib.Core.Option.{none, some}
+use Prim.Native.Nat.{ℕ}
+use lib.Dec.{leb, eqb}
+use Rattle.line.specs.Limits.{longest-data}
+use Rattle.line.specs.Message.{Message}
+use Rattle.line.specs.Reader as LineReader
+use Rattle.line.specs.declared.reader.Head.{Head}
+use Rattle.requester.specs.State.{fetch, acknowledge, alert}
+use Rattle.requester.specs.Requester
+use Rattle.requester.specs.Calls.{Told, told, toldOf}
+use Rattle.requester.specs.declared.hearing.Heard.{Heard}
+use Rattle.requester.specs.declared.hearing.Heard.the-variants as heard
+use Rattle.requester.specs.declared.hearing.Next.{Next}
+use Rattle.requester.specs.declared.hearing.Next.the-variants as next
+use Rattle.requester.specs.declared.hearing.Outcome.{Outcome}
+
+-- a message by its head and its data
+abbrev pub headMessage : Head → List ℕ → Message
+headMessage h d = record { version = h .version; sequence = h .sequence; command = h .command; payload = d }
+
+unfoldable pub heardSaid : Heard → Message → Requester.Heard
+heardSaid heard.Ground m = Requester.ground
+heardSaid heard.Other m = Requester.other
+heardSaid heard.Answer m = Requester.answer m
+
+unfoldable pub nextOf : Next → Requester.Next
+nextOf next.Same = Requester.same
+nextOf next.Again = Requester.again
+nextOf next.Fetch = Requester.anew (some fetch)
+nextOf next.Acknowledge = Requester.anew (some acknowledge)
+nextOf next.Alert = Requester.anew (some alert)
+nextOf next.Original = Requester.anew none
+nextOf next.Idle = Requester.idle
+
+-- what is handed out, in numbers, and what comes next
+pub record OutcomeTold : Type 0 where
+  pub told : Told
+  pub next : Requester.Next
+
+abbrev pub outcomeSaid : Outcome → OutcomeTold
+outcomeSaid o = record { told = told (o .handed); next = nextOf (o .next) }
+
+abbrev pub outcomeTold : Requester.Outcome → OutcomeTold
+outcomeTold o = record { told = toldOf (o .handed); next = o .next }
+
+-- the data that an answer of the line reader tells fit a message
+unfoldable pub dataFit : LineReader.Said → Bool
+dataFit (LineReader.refused n) = true
+dataFit LineReader.more = true
+dataFit LineReader.empty = true
+dataFit (LineReader.failed reason sequence) = true
+dataFit (LineReader.message version sequence command n) = leb n longest-data
+
+-- the command of the step with this number
+unfoldable pub stepCommand : ℕ → ℕ
+stepCommand n = cond (eqb n 1) 0x08 (cond (eqb n 2) 0x09 0x0a)

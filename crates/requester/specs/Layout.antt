@@ -1,0 +1,91 @@
+-- The lent part of the main processor's state beside the line reader's: which byte is where. docs/STATE.md repeats this in words.
+-- Assumes nothing: these are definitions.
+use mathlib.Core.Bool.{Bool, cond, _&&_, _||_, not}
+use mathlib.Core.List.{List}
+use mathlib.Core.Option.{Option, none, some}
+use Prim.Native.Nat.{ℕ, _+_}
+use lib.Dec.{eqb}
+use Rattle.octets.specs.Bytes.{numberAt, run}
+use Rattle.line.specs.Limits.{longest-data}
+use Rattle.requester.specs.State.{Request, Step, fetch, acknowledge, alert, stepRequest}
+
+-- the newest number, u64
+abbrev pub number-place : ℕ
+number-place = 0
+
+-- the recovery's step, u8: 0 none, 1 fetch, 2 acknowledge, 3 alert
+abbrev pub recovery-place : ℕ
+recovery-place = 8
+
+-- whether the frame of the one outstanding is to go out, u8
+abbrev pub unsent-place : ℕ
+unsent-place = 9
+
+-- whether a request is kept, u8, its command u8, how many bytes of data u16, its data
+abbrev pub kept-place : ℕ
+kept-place = 10
+
+abbrev pub command-place : ℕ
+command-place = 11
+
+abbrev pub length-place : ℕ
+length-place = 12
+
+abbrev pub data-place : ℕ
+data-place = 14
+
+-- the part's published length: 4,118 bytes
+abbrev pub requester-length : ℕ
+requester-length = data-place + longest-data
+
+abbrev pub numberOf : List ℕ → ℕ
+numberOf r = numberAt 8 r number-place
+
+abbrev pub recoveryOf : List ℕ → ℕ
+recoveryOf r = numberAt 1 r recovery-place
+
+abbrev pub unsentOf : List ℕ → ℕ
+unsentOf r = numberAt 1 r unsent-place
+
+abbrev pub keptOf : List ℕ → ℕ
+keptOf r = numberAt 1 r kept-place
+
+abbrev pub commandOf : List ℕ → ℕ
+commandOf r = numberAt 1 r command-place
+
+abbrev pub lengthOf : List ℕ → ℕ
+lengthOf r = numberAt 2 r length-place
+
+-- the step of a number, and the number of a step
+unfoldable pub stepAt : ℕ → Option Step
+stepAt n = cond (eqb n 0) none (cond (eqb n 1) (some fetch) (cond (eqb n 2) (some acknowledge) (some alert)))
+
+unfoldable pub stepNumber : Option Step → ℕ
+stepNumber none = 0
+stepNumber (some fetch) = 1
+stepNumber (some acknowledge) = 2
+stepNumber (some alert) = 3
+
+-- what the part holds: the recovery's step, whether a request is kept and whether one is outstanding, and that request
+abbrev pub stepOf : List ℕ → Option Step
+stepOf r = stepAt (recoveryOf r)
+
+abbrev pub isKept : List ℕ → Bool
+isKept r = eqb (keptOf r) 1
+
+unfoldable pub isOutstanding : List ℕ → Bool
+isOutstanding r = not (eqb (recoveryOf r) 0) || isKept r
+
+unfoldable pub keptRequest : List ℕ → Request
+keptRequest r = record { command = commandOf r; payload = run data-place (lengthOf r) r }
+
+abbrev pub requestIn : Option Step → Request → Request
+requestIn none q = q
+requestIn (some t) q = stepRequest t
+
+unfoldable pub outRequest : List ℕ → Request
+outRequest r = requestIn (stepOf r) (keptRequest r)
+
+-- whether its frame is to go out
+unfoldable pub isUnsent : List ℕ → Bool
+isUnsent r = isOutstanding r && eqb (unsentOf r) 1

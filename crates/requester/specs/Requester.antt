@@ -1,0 +1,246 @@
+-- What each call does, what a received frame comes to, and what one received byte does, in document 02's words (item 2).
+-- Assumes nothing: these are definitions.
+use mathlib.Core.Bool.{Bool, true, false, cond, not, _&&_, _||_}
+use mathlib.Core.List.{List, [], _∷_, _++_}
+use mathlib.Core.Option.{Option, none, some}
+use Prim.Native.Nat.{ℕ, suc, _+_, _/_, _%_, _^_}
+use lib.Dec.{leb, ltb, eqb}
+use lib.Count.{ones}
+use lib.ListN.{length}
+use Rattle.octets.specs.Bytes.{numberAt}
+use Rattle.line.specs.Limits.{longest-data, longest-form}
+use Rattle.line.specs.Message.{Message}
+use Rattle.line.specs.Judge.{Verdict, failure, good, judge}
+use Rattle.requester.specs.Limits.{last-number, all-ones, status-length}
+use Rattle.requester.specs.State.{Request, Step, fetch, acknowledge, alert, State, state, isSome, outstanding, requestFrame}
+
+-- ---- The caller's calls
+
+-- the table's number of a refusal, none where the call is carried out; the bytes put out; the state
+pub record Done : Type 0 where
+  pub refusal : Option ℕ
+  pub out : List ℕ
+  pub state : State
+
+abbrev pub refusedAs : ℕ → State → Done
+refusedAs n s = record { refusal = some n; out = []; state = s }
+
+abbrev pub doneWith : List ℕ → State → Done
+doneWith bs s = record { refusal = none; out = bs; state = s }
+
+-- bytes into a room of so many
+abbrev pub putOut : ℕ → List ℕ → State → State → Done
+putOut room bs before after = cond (ltb room (length bs)) (refusedAs 8 before) (doneWith bs after)
+
+-- reboot, power off and boot failure never stay outstanding
+unfoldable pub staysOut : ℕ → Bool
+staysOut command = not (eqb command 0x01 || (eqb command 0x02 || eqb command 0x06))
+
+abbrev pub keep : Request → Option Request
+keep q = cond (staysOut (q .command)) (some q) none
+
+-- a request under the next number; tests 9, 17, 14, 8
+unfoldable pub request : ℕ → Request → State → Done
+request room q s =
+    cond (ltb longest-data (length (q .payload))) (refusedAs 9 s)
+    (cond (isSome (outstanding s)) (refusedAs 17 s)
+    (cond (leb last-number (s .newest)) (refusedAs 14 s)
+    (putOut room (requestFrame (suc (s .newest)) q) s (state (suc (s .newest)) (keep q) none false (s .received)))))
+
+-- in a recovery an interrupt adds nothing; else it begins one, whose fetch is to go out under a new number
+abbrev pub interruptedIn : Option Step → State → Done
+interruptedIn (some t) s = doneWith [] s
+interruptedIn none s =
+    cond (leb last-number (s .newest)) (refusedAs 14 s)
+    (doneWith [] (state (suc (s .newest)) (s .kept) (some fetch) true (s .received)))
+
+unfoldable pub interrupt : State → Done
+interrupt s = interruptedIn (s .recovery) s
+
+-- the frame of the one outstanding, where it is to go out
+abbrev pub sentOf : ℕ → Option Request → State → Done
+sentOf room none s = doneWith [] s
+sentOf room (some q) s =
+    cond (s .unsent)
+    (putOut room (requestFrame (s .newest) q) s (state (s .newest) (s .kept) (s .recovery) false (s .received)))
+    (doneWith [] s)
+
+unfoldable pub send : ℕ → State → Done
+send room s = sentOf room (outstanding s) s
+
+-- ---- What a frame is to the one outstanding
+
+pub data Heard : Type 0 where
+  -- a ground for sending the same bytes again
+  ground : Heard
+  -- a good reply with another reply sequence
+  other : Heard
+  answer : Message → Heard
+
+-- the sequence that a reply to this number carries
+abbrev pub replySequence : ℕ → ℕ
+replySequence n = n + 2 ^ 63
+
+-- a decode failure, whatever its data, with the expected sequence or all ones
+abbrev pub failsDecode : ℕ → Message → Bool
+failsDecode n m = eqb (m .command) 0x02 && (eqb (m .sequence) (replySequence n) || eqb (m .sequence) all-ones)
+
+-- n is the newest number
+unfoldable pub heard : ℕ → Verdict → Heard
+heard n (failure reason sequence) = ground
+heard n (good m) =
+    cond (not (eqb (m .version) 1)) ground
+    (cond (ltb (m .sequence) (2 ^ 63)) ground
+    (cond (failsDecode n m) ground
+    (cond (eqb (m .sequence) (replySequence n)) (answer m) other)))
+
+-- ---- What is handed out, and what comes next
+
+pub data Handed : Type 0 where
+  nothing : Handed
+  answered : Message → Handed
+  -- status, options, and how many bits of the status are set
+  status : ℕ → ℕ → ℕ → Handed
+  -- the answer to a recovery's 0x0a
+  alerted : Message → Handed
+
+pub data Next : Type 0 where
+  same : Next
+  -- the same bytes go out again
+  again : Next
+  -- a step of the recovery, or the original (no step), goes out under a new number
+  anew : Option Step → Next
+  -- none is outstanding
+  idle : Next
+
+pub record Outcome : Type 0 where
+  pub handed : Handed
+  pub next : Next
+
+abbrev pub outcome : Handed → Next → Outcome
+outcome h x = record { handed = h; next = x }
+
+abbrev pub bit : ℕ → ℕ → ℕ
+bit n k = n / 2 ^ k % 2
+
+-- the lowest set bit first; bits above 1 are not served; once bits 0 and 1 are clear the original goes out, if any
+unfoldable pub served : Bool → ℕ → Next
+served original n =
+    cond (eqb (bit n 0) 1) (anew (some acknowledge))
+    (cond (eqb (bit n 1) 1) (anew (some alert))
+    (cond original (anew none) idle))
+
+abbrev pub statusOf : Message → ℕ
+statusOf m = numberAt 8 (m .payload) 0
+
+abbrev pub optionsOf : Message → ℕ
+optionsOf m = numberAt 8 (m .payload) 8
+
+-- an answer to the fetch: 0x06 with 16 bytes, or the fetch is sent again
+unfoldable pub fetched : Bool → Message → Outcome
+fetched original m =
+    cond (eqb (m .command) 0x06 && eqb (length (m .payload)) status-length)
+    (outcome (status (statusOf m) (optionsOf m) (ones (statusOf m))) (served original (statusOf m)))
+    (outcome nothing again)
+
+-- any answer to a service ends it, and the status is read again; only 0x0a's is handed out
+abbrev pub answeredIn : Option Step → Bool → Message → Outcome
+answeredIn none original m = outcome (answered m) idle
+answeredIn (some fetch) original m = fetched original m
+answeredIn (some acknowledge) original m = outcome nothing (anew (some fetch))
+answeredIn (some alert) original m = outcome (alerted m) (anew (some fetch))
+
+abbrev pub heardIn : Option Step → Bool → Heard → Outcome
+heardIn t original ground = outcome nothing again
+heardIn t original other = outcome nothing same
+heardIn t original (answer m) = answeredIn t original m
+
+-- by the recovery's step, and whether a request is kept; with none outstanding, all is dropped
+unfoldable pub settled : Option Step → Bool → Heard → Outcome
+settled none false h = outcome nothing same
+settled none true h = heardIn none true h
+settled (some t) original h = heardIn (some t) original h
+
+-- ---- The state that comes next
+
+-- whether a recovery, and any original, ended with 14; the state
+pub record Moved : Type 0 where
+  pub ended : Bool
+  pub state : State
+
+abbrev pub moved : Bool → State → Moved
+moved e s = record { ended = e; state = s }
+
+abbrev pub idling : State → State
+idling s = state (s .newest) none none false (s .received)
+
+unfoldable pub movedTo : Next → State → Moved
+movedTo same s = moved false s
+movedTo again s = moved false (state (s .newest) (s .kept) (s .recovery) true (s .received))
+movedTo (anew t) s =
+    cond (leb last-number (s .newest)) (moved true (idling s))
+    (moved false (state (suc (s .newest)) (s .kept) t true (s .received)))
+movedTo idle s = moved false (idling s)
+
+-- ---- One received byte
+
+-- what is handed out, whether 14 ended a recovery, and the state
+pub record Result : Type 0 where
+  pub handed : Handed
+  pub ended : Bool
+  pub state : State
+
+abbrev pub result : Handed → Moved → Result
+result h m = record { handed = h; ended = m .ended; state = m .state }
+
+abbrev pub dropped : State → Result
+dropped s = result nothing (moved false s)
+
+abbrev pub hears : Heard → State → Result
+hears h s = let o = settled (s .recovery) (isSome (s .kept)) h in result (o .handed) (movedTo (o .next) s)
+
+abbrev pub receiving : State → Option (List ℕ) → State
+receiving s bs = state (s .newest) (s .kept) (s .recovery) (s .unsent) bs
+
+-- the 00 behind these bytes: an empty frame is ignored, and so is what is left of one of more than 4,140 bytes
+abbrev pub closes : Option (List ℕ) → State → Result
+closes none s = dropped s
+closes (some []) s = dropped s
+closes (some (b ∷ bs)) s = hears (heard (s .newest) (judge (b ∷ bs))) s
+
+-- one byte more; the 4,141st without a 00 is a ground
+abbrev pub more : Option (List ℕ) → ℕ → State → Result
+more none b s = dropped s
+more (some bs) b s = cond (ltb (length bs) longest-form) (dropped (receiving s (some (bs ++ b ∷ [])))) (hears ground (receiving s none))
+
+unfoldable pub byte : State → ℕ → Result
+byte s b = cond (eqb b 0) (closes (s .received) (receiving s (some []))) (more (s .received) b s)
+
+-- ---- A piece of the received stream
+
+-- whether a byte is a 00, or the 4,141st of its frame
+abbrev pub fills : Option (List ℕ) → Bool
+fills none = false
+fills (some bs) = leb longest-form (length bs)
+
+abbrev pub stops : State → ℕ → Bool
+stops s b = eqb b 0 || fills (s .received)
+
+-- how many bytes are read, and what comes of them
+pub record Received : Type 0 where
+  pub used : ℕ
+  pub result : Result
+
+abbrev pub received : ℕ → Result → Received
+received n r = record { used = n; result = r }
+
+-- up to and with the first 00 or a frame's 4,141st byte, or to the end
+unfoldable pub receive : State → List ℕ → Received
+receive s [] = received 0 (dropped s)
+receive s (b ∷ bs) =
+    cond (stops s b) (received 1 (byte s b))
+    (let r = receive (byte s b .state) bs in received (suc (r .used)) (r .result))
+
+-- whether the frame of the one outstanding is to go out
+abbrev pub toGoOut : State → Bool
+toGoOut s = isSome (outstanding s) && s .unsent

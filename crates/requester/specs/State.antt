@@ -1,0 +1,59 @@
+-- The main processor's state in document 02's words (item 2): the request outstanding, a recovery, and the receive progress.
+-- Assumes nothing: these are definitions.
+use mathlib.Core.Bool.{Bool, true, false}
+use mathlib.Core.List.{List, []}
+use mathlib.Core.Option.{Option, none, some}
+use Prim.Native.Nat.{ℕ}
+use Rattle.line.specs.Frame.{frame}
+
+-- a request: its command and its data
+pub record Request : Type 0 where
+  pub command : ℕ
+  pub payload : List ℕ
+
+-- what a recovery has outstanding: its fetch of the status, or the service of bit 0 or of bit 1
+pub data Step : Type 0 where
+  fetch : Step
+  acknowledge : Step
+  alert : Step
+
+pub record State : Type 0 where
+  -- the newest number, 0 before the first
+  pub newest : ℕ
+  -- the caller's request that is outstanding, or a recovery's original
+  pub kept : Option Request
+  pub recovery : Option Step
+  -- whether the frame of the one outstanding is to go out
+  pub unsent : Bool
+  -- the bytes since the last 00; none where they are more than 4,140
+  pub received : Option (List ℕ)
+
+-- a state by its fields, in this order
+abbrev pub state : ℕ → Option Request → Option Step → Bool → Option (List ℕ) → State
+state n k t u bs = record { newest = n; kept = k; recovery = t; unsent = u; received = bs }
+
+-- after a start
+unfoldable pub fresh : State
+fresh = state 0 none none false (some [])
+
+-- 0x08, 0x09 and 0x0a have no data
+unfoldable pub stepRequest : Step → Request
+stepRequest fetch = record { command = 0x08; payload = [] }
+stepRequest acknowledge = record { command = 0x09; payload = [] }
+stepRequest alert = record { command = 0x0a; payload = [] }
+
+abbrev pub isSome : {A : Type 0} → Option A → Bool
+isSome none = false
+isSome (some x) = true
+
+abbrev pub outstandingOf : Option Step → Option Request → Option Request
+outstandingOf none k = k
+outstandingOf (some t) k = some (stepRequest t)
+
+-- the one outstanding: it has the newest number
+abbrev pub outstanding : State → Option Request
+outstanding s = outstandingOf (s .recovery) (s .kept)
+
+-- a request's frame: version 1
+unfoldable pub requestFrame : ℕ → Request → List ℕ
+requestFrame n q = frame (record { version = 1; sequence = n; command = q .command; payload = q .payload })

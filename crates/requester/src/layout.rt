@@ -1,0 +1,37 @@
+// The main processor's part: its published length, and which byte is where. docs/STATE.md lists every field.
+// Numbers are little-endian. Assumes nothing.
+
+// Limits of documents 01 and 02.
+pub const LONGEST_DATA: usize = 4104;
+
+// The count of a frame that is longer than any form.
+pub const OVERLONG: usize = 4141;
+
+pub const LAST_NUMBER: u64 = 0x7ffffffffffffffe;
+
+pub const STATUS_LENGTH: usize = 16;
+
+pub const NUMBER_PLACE: usize = 0;
+
+pub const RECOVERY_PLACE: usize = 8;
+
+pub const UNSENT_PLACE: usize = 9;
+
+pub const KEPT_PLACE: usize = 10;
+
+pub const COMMAND_PLACE: usize = 11;
+
+pub const LENGTH_PLACE: usize = 12;
+
+pub const DATA_PLACE: usize = 14;
+
+pub const REQUESTER_LENGTH: usize = DATA_PLACE + LONGEST_DATA;
+
+// The steps of a recovery.
+pub const NO_STEP: u8 = 0;
+
+pub const FETCH: u8 = 1;
+
+pub const ACKNOWLEDGE: u8 = 2;
+
+pub const ALERT: u8 = 3;

@@ -1,0 +1,11 @@
+// The main processor's end of document 02, item 2: one request outstanding, recoveries, and the replies read in pieces.
+// No public function has a `requires`; each promise settles the result and every byte lent.
+pub mod hearing;
+pub mod layout;
+pub mod number;
+mod progress;
+pub mod receive;
+pub mod recovery;
+pub mod sending;
+pub mod start;
+pub mod valid;

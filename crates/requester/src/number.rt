@@ -1,0 +1,17 @@
+// Request and reply numbers: two types, so that one is never passed for the other.
+// Assumes nothing of a request's number but that its top bit is clear, as the `requires` says.
+ghost use mathlib.Core.Path.{_≡_};
+ghost use Prim.Native.Nat.{_^_, _<_};
+ghost use Rattle.requester.specs.Number.{replyTo};
+
+pub struct RequestNumber(pub u64);
+
+pub struct ReplyNumber(pub u64);
+
+// The sequence of a reply to a request.
+pub(crate) fn reply_to(n: RequestNumber) -> ReplyNumber
+    requires { ⌜ n .0 < 2 ^ 63 ⌝ }
+    ensures { λ r. ⌜ r ≡ replyTo n ⌝ }
+{
+    ReplyNumber(n.0 + 0x8000000000000000)
+}

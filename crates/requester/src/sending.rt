@@ -1,0 +1,142 @@
+// Requests of the caller's, and the frame of the one outstanding when it is to go out.
+// Assumes nothing: no public function here has a `requires`.
+use crate::layout;
+use crate::progress;
+use crate::valid;
+use line::writer::Written;
+ghost use mathlib.Core.Path.{_≡_};
+ghost use mathlib.Core.Bool.{true};
+ghost use Prim.Native.Nat.{_≤_};
+ghost use lib.ListN.{length};
+ghost use Rattle.line.specs.Limits.{longest-data};
+ghost use Rattle.line.specs.Writer.{outcome, sending as lineSending};
+ghost use Rattle.requester.specs.State.{requestFrame};
+ghost use Rattle.requester.specs.Layout.{requester-length, numberOf, outRequest};
+ghost use Rattle.requester.specs.Valid.{validRequester};
+ghost use Rattle.requester.specs.Calls.{requestSaid, sendSaid, putBy, withRequest, requesting, sending};
+ghost use Rattle.requester.specs.Hearing.{stepCommand};
+
+// What a call of `request` says: how many bytes it put out, or why none.
+pub enum Requested {
+    Refused,
+    TooLong,
+    Outstanding,
+    NoNumber,
+    NoRoom,
+    Done(usize),
+}
+
+// What a call of `send` says: how many bytes it put out, 0 where nothing is to go out, or why none.
+pub enum Sent {
+    Refused,
+    NoRoom,
+    Done(usize),
+}
+
+// Puts out a request's frame under the next number and keeps the request, unless it never stays outstanding.
+pub fn request(requester: &mut [u8], command: u8, data: &[u8], out: &mut [u8]) -> Requested
+    ensures { λ r. ⌜ putBy (requestSaid r) (now (out .exit)) (now (requester .exit)) ≡ requesting (now (requester .entry)) command (now («data» .entry)) (now (out .entry)) ⌝ }
+{
+    if !valid::requester_is_valid(requester) {
+        return Requested::Refused;
+    }
+    if layout::LONGEST_DATA < data.len() {
+        return Requested::TooLong;
+    }
+    if progress::is_outstanding(requester) {
+        return Requested::Outstanding;
+    }
+    let number = octets::read_u64(requester, layout::NUMBER_PLACE);
+    if layout::LAST_NUMBER <= number {
+        return Requested::NoNumber;
+    }
+    let written = line::writer::write(1, number + 1, command, data, &data[0..0], out);
+    match written {
+        Written::Done(n) => {
+            keep(requester, number + 1, command, data);
+            Requested::Done(n)
+        }
+        Written::NoRoom => Requested::NoRoom,
+        Written::TooLong => Requested::TooLong,
+    }
+}
+
+// The request of the newest number, kept unless it never stays outstanding.
+fn keep(requester: &mut [u8], number: u64, command: u8, data: &[u8])
+    requires { ⌜ requester-length ≤ length (now requester) ⌝ }
+    requires { ⌜ length (now «data») ≤ longest-data ⌝ }
+    ensures { λ _. ⌜ now (requester .exit) ≡ withRequest number command (now («data» .entry)) (now (requester .entry)) ⌝ }
+{
+    if !valid::stays_out(command) {
+        progress::set_progress(requester, number, layout::NO_STEP, 0, 0);
+        return;
+    }
+    progress::set_progress(requester, number, layout::NO_STEP, 0, 1);
+    requester[layout::COMMAND_PLACE] = command;
+    octets::write_u16(requester, layout::LENGTH_PLACE, data.len() as u16);
+    octets::copy(data, 0, data.len(), requester, layout::DATA_PLACE);
+}
+
+// Puts out the frame of the one outstanding, where it is to go out.
+pub fn send(requester: &mut [u8], out: &mut [u8]) -> Sent
+    ensures { λ r. ⌜ putBy (sendSaid r) (now (out .exit)) (now (requester .exit)) ≡ sending (now (requester .entry)) (now (out .entry)) ⌝ }
+{
+    if !valid::requester_is_valid(requester) {
+        return Sent::Refused;
+    }
+    if !progress::is_unsent(requester) {
+        return Sent::Done(0);
+    }
+    let written = write_outstanding(requester, out);
+    match written {
+        Written::Done(n) => {
+            requester[layout::UNSENT_PLACE] = 0;
+            Sent::Done(n)
+        }
+        Written::NoRoom => Sent::NoRoom,
+        Written::TooLong => Sent::NoRoom,
+    }
+}
+
+// The frame of the one outstanding: a step of a recovery, or the request kept.
+fn write_outstanding(requester: &[u8], out: &mut [u8]) -> Written
+    requires { ⌜ validRequester (now requester) ≡ true ⌝ }
+    ensures { λ r. ⌜ outcome r (now (out .exit)) ≡ lineSending (requestFrame (numberOf (now (requester .entry))) (outRequest (now (requester .entry)))) (now (out .entry)) ⌝ }
+{
+    let number = octets::read_u64(requester, layout::NUMBER_PLACE);
+    let step = octets::read_u8(requester, layout::RECOVERY_PLACE);
+    let n = octets::word_at(requester, layout::LENGTH_PLACE);
+    if step == layout::NO_STEP {
+        let command = octets::read_u8(requester, layout::COMMAND_PLACE);
+        let end = layout::DATA_PLACE + n;
+        return line::writer::write(
+            1,
+            number,
+            command,
+            &requester[layout::DATA_PLACE..end],
+            &requester[0..0],
+            out,
+        );
+    }
+    line::writer::write(
+        1,
+        number,
+        step_command(step),
+        &requester[0..0],
+        &requester[0..0],
+        out,
+    )
+}
+
+// The command of a recovery's step.
+fn step_command(step: u8) -> u8
+    ensures { λ r. ⌜ r ≡ stepCommand step ⌝ }
+{
+    if step == layout::FETCH {
+        return 0x08;
+    }
+    if step == layout::ACKNOWLEDGE {
+        return 0x09;
+    }
+    0x0a
+}

@@ -1,0 +1,43 @@
+// The tests for 12 on the main processor's part.
+// Assumes nothing.
+use crate::layout;
+ghost use mathlib.Core.Path.{_≡_};
+ghost use Rattle.requester.specs.Requester.{staysOut};
+ghost use Rattle.requester.specs.Valid.{validRequester};
+
+// Whether a request with this command stays outstanding: reboot, power off and boot failure never do.
+pub(crate) fn stays_out(command: u8) -> bool
+    ensures { λ r. ⌜ r ≡ staysOut command ⌝ }
+{
+    if command == 0x01 {
+        return false;
+    }
+    if command == 0x02 {
+        return false;
+    }
+    command != 0x06
+}
+
+pub fn requester_is_valid(requester: &[u8]) -> bool
+    ensures { λ r. ⌜ r ≡ validRequester (now (requester .entry)) ⌝ }
+{
+    if requester.len() < layout::REQUESTER_LENGTH {
+        return false;
+    }
+    if layout::LAST_NUMBER < octets::read_u64(requester, layout::NUMBER_PLACE) {
+        return false;
+    }
+    if 3 < octets::byte_at(requester, layout::RECOVERY_PLACE) {
+        return false;
+    }
+    if 1 < octets::byte_at(requester, layout::UNSENT_PLACE) {
+        return false;
+    }
+    if 1 < octets::byte_at(requester, layout::KEPT_PLACE) {
+        return false;
+    }
+    if layout::LONGEST_DATA < octets::word_at(requester, layout::LENGTH_PLACE) {
+        return false;
+    }
+    stays_out(octets::read_u8(requester, layout::COMMAND_PLACE))
+}

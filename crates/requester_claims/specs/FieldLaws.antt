@@ -1,0 +1,202 @@
+-- What the main processor's part holds once its fields are stored: the state, and that it stays valid.
+-- Assumes nothing.
+use mathlib.Core.Path.{_≡_, ap, _∙_}
+use mathlib.Core.Bool.{true, cond}
+use mathlib.Core.List.{List, [], _∷_, _++_}
+use mathlib.Core.Option.{Option, none, some}
+use Prim.Native.Nat.{ℕ, _+_, _≤_}
+use native.Mathlib.Omega.{arith}
+use lib.Dec.{eqb}
+use lib.ListN.{length}
+use lib.Seq.{take-length}
+use Rattle.octets.specs.Bytes.{number, bytes, run, overlay}
+use Rattle.octets.proofs.Numbers.{number-bytes}
+use Rattle.octets.proofs.Overlay.{length-overlay, overlay-inside, overlay-part}
+use Rattle.octets.proofs.SameBytes.{Same, same-within, number-same, same-before, same-after}
+use Rattle.line.specs.Limits.{longest-data}
+use Rattle.requester.specs.Limits.{last-number}
+use Rattle.requester.specs.State.{state}
+use Rattle.requester.specs.Requester.{staysOut}
+use Rattle.requester.specs.Layout
+use Rattle.requester.specs.Calls.{progressed}
+use Rattle.requester.proofs.ValidLaws.{RequesterValid}
+use Rattle.requester_claims.specs.View.{keptOf, held}
+
+-- the number of one byte
+number-byte : (v : ℕ) → number (v ∷ []) ≡ v
+unfolding number
+number-byte v = omega arith
+
+-- the request kept lies behind the first fields
+module _ {r s : List ℕ} (same : Same Layout.command-place Layout.requester-length r s) (size : Layout.lengthOf r ≤ longest-data) where
+  command-same : Layout.commandOf s ≡ Layout.commandOf r
+  command-same = number-same same 1 Layout.command-place (omega arith)
+
+  length-same : Layout.lengthOf s ≡ Layout.lengthOf r
+  length-same = number-same same 2 Layout.length-place (omega arith)
+
+  request-same : Layout.keptRequest s ≡ Layout.keptRequest r
+  unfolding Layout.keptRequest
+  request-same = rw (command-same, length-same, same .runs Layout.data-place (Layout.lengthOf r) (omega arith))
+
+-- ---- the first fields
+
+module _ (n t u k : ℕ) (r : List ℕ) (v : RequesterValid r) where
+  abbrev fields : List ℕ
+  fields = progressed n t u k r
+
+  module _ (small : n ≤ last-number) where
+    pub progressed-number : Layout.numberOf fields ≡ n
+    unfolding progressed bytes
+    progressed-number =
+        ap number (overlay-part 0 0 8 (bytes 8 n ++ t ∷ u ∷ k ∷ []) r (omega arith) (omega arith)) ∙ number-bytes 8 n (omega arith)
+
+  pub progressed-recovery : Layout.recoveryOf fields ≡ t
+  unfolding progressed bytes
+  progressed-recovery = ap number (overlay-part 0 8 1 (bytes 8 n ++ t ∷ u ∷ k ∷ []) r (omega arith) (omega arith)) ∙ number-byte t
+
+  pub progressed-unsent : Layout.unsentOf fields ≡ u
+  unfolding progressed bytes
+  progressed-unsent = ap number (overlay-part 0 9 1 (bytes 8 n ++ t ∷ u ∷ k ∷ []) r (omega arith) (omega arith)) ∙ number-byte u
+
+  pub progressed-kept : Layout.keptOf fields ≡ k
+  unfolding progressed bytes
+  progressed-kept = ap number (overlay-part 0 10 1 (bytes 8 n ++ t ∷ u ∷ k ∷ []) r (omega arith) (omega arith)) ∙ number-byte k
+
+  progressed-same : Same Layout.command-place Layout.requester-length r fields
+  unfolding progressed bytes
+  progressed-same = same-after 0 (bytes 8 n ++ t ∷ u ∷ k ∷ []) r (omega arith) (omega arith)
+
+  pub progressed-long : length fields ≡ length r
+  unfolding progressed bytes
+  progressed-long = length-overlay 0 (bytes 8 n ++ t ∷ u ∷ k ∷ []) r (omega (arith, v .long))
+
+  -- what they hold, with the request kept where there is one
+  module _ (small : n ≤ last-number) where
+    pub progressed-held : (bs : Option (List ℕ))
+        → held fields bs ≡ state n (cond (eqb k 1) (some (Layout.keptRequest r)) none) (Layout.stepAt t) (eqb u 1) bs
+    unfolding keptOf
+    progressed-held bs =
+        rw (progressed-number small, progressed-recovery, progressed-unsent, progressed-kept, request-same progressed-same (v .size))
+
+    pub progressed-valid : t ≤ 3 → u ≤ 1 → k ≤ 1 → RequesterValid fields
+    progressed-valid a b c =
+        let e = progressed-number small in
+        let f = progressed-recovery in
+        let g = progressed-unsent in
+        let h = progressed-kept in
+        let i = length-same progressed-same (v .size) in
+        record {
+          long = omega (arith, progressed-long, v .long);
+          number = omega arith;
+          recovery = omega arith;
+          unsent = omega arith;
+          kept = omega arith;
+          size = omega (arith, v .size);
+          command = rw (command-same progressed-same (v .size)) (v .command);
+        }
+
+-- ---- whether the frame is to go out
+
+module _ (u : ℕ) (r : List ℕ) (v : RequesterValid r) where
+  abbrev flagged : List ℕ
+  flagged = overlay Layout.unsent-place (u ∷ []) r
+
+  before : Same 0 Layout.unsent-place r flagged
+  before = same-before Layout.unsent-place (u ∷ []) r (omega (arith, v .long)) (omega arith)
+
+  after : Same Layout.kept-place Layout.requester-length r flagged
+  after = same-after Layout.unsent-place (u ∷ []) r (omega (arith, v .long)) (omega arith)
+
+  flagged-unsent : Layout.unsentOf flagged ≡ u
+  flagged-unsent = ap number (overlay-inside Layout.unsent-place (u ∷ []) r (omega (arith, v .long))) ∙ number-byte u
+
+  pub flagged-held : (bs : Option (List ℕ)) → held flagged bs ≡ state (Layout.numberOf r) (keptOf r) (Layout.stepOf r) (eqb u 1) bs
+  unfolding keptOf
+  flagged-held bs =
+      rw (
+        number-same before 8 Layout.number-place (omega arith),
+        number-same before 1 Layout.recovery-place (omega arith),
+        flagged-unsent,
+        number-same after 1 Layout.kept-place (omega arith),
+        request-same (same-within after (omega arith)) (v .size),
+      )
+
+  pub flagged-long : length flagged ≡ length r
+  flagged-long = length-overlay Layout.unsent-place (u ∷ []) r (omega (arith, v .long))
+
+  pub flagged-valid : u ≤ 1 → RequesterValid flagged
+  flagged-valid h =
+      let a = number-same before 8 Layout.number-place (omega arith) in
+      let b = number-same before 1 Layout.recovery-place (omega arith) in
+      let c = flagged-unsent in
+      let d = number-same after 1 Layout.kept-place (omega arith) in
+      let e = length-same (same-within after (omega arith)) (v .size) in
+      record {
+        long = omega (arith, flagged-long, v .long);
+        number = omega (arith, v .number);
+        recovery = omega (arith, v .recovery);
+        unsent = omega arith;
+        kept = omega (arith, v .kept);
+        size = omega (arith, v .size);
+        command = rw (command-same (same-within after (omega arith)) (v .size)) (v .command);
+      }
+
+-- ---- a request behind the first fields
+
+module _ (command : ℕ) (d r : List ℕ) (v : RequesterValid r) (l : length d ≤ longest-data) where
+  abbrev asked : List ℕ
+  asked = overlay Layout.command-place (command ∷ bytes 2 (length d) ++ d) r
+
+  ahead : Same 0 Layout.command-place r asked
+  ahead = same-before Layout.command-place (command ∷ bytes 2 (length d) ++ d) r (omega (arith, v .long)) (omega arith)
+
+  asked-command : Layout.commandOf asked ≡ command
+  unfolding bytes
+  asked-command =
+      ap number (overlay-part Layout.command-place 0 1 (command ∷ bytes 2 (length d) ++ d) r (omega (arith, v .long)) (omega arith)) ∙ number-byte command
+
+  asked-length : Layout.lengthOf asked ≡ length d
+  unfolding bytes
+  asked-length =
+      ap number (overlay-part Layout.command-place 1 2 (command ∷ bytes 2 (length d) ++ d) r (omega (arith, v .long)) (omega arith)) ∙ number-bytes 2 (length d) (omega arith)
+
+  asked-data : run Layout.data-place (length d) asked ≡ d
+  unfolding bytes
+  asked-data =
+      overlay-part Layout.command-place 3 (length d) (command ∷ bytes 2 (length d) ++ d) r (omega (arith, v .long)) (omega arith) ∙ take-length d
+
+  pub asked-long : length asked ≡ length r
+  unfolding bytes
+  asked-long = length-overlay Layout.command-place (command ∷ bytes 2 (length d) ++ d) r (omega (arith, v .long))
+
+  pub asked-held : (bs : Option (List ℕ))
+      → held asked bs ≡ state (Layout.numberOf r) (cond (Layout.isKept r) (some (record { command = command; payload = d })) none) (Layout.stepOf r) (eqb (Layout.unsentOf r) 1) bs
+  unfolding keptOf Layout.keptRequest
+  asked-held bs =
+      rw (
+        number-same ahead 8 Layout.number-place (omega arith),
+        number-same ahead 1 Layout.recovery-place (omega arith),
+        number-same ahead 1 Layout.unsent-place (omega arith),
+        number-same ahead 1 Layout.kept-place (omega arith),
+        asked-command,
+        asked-length,
+        asked-data,
+      )
+
+  pub asked-valid : staysOut command ≡ true → RequesterValid asked
+  asked-valid s =
+      let a = number-same ahead 8 Layout.number-place (omega arith) in
+      let b = number-same ahead 1 Layout.recovery-place (omega arith) in
+      let c = number-same ahead 1 Layout.unsent-place (omega arith) in
+      let e = number-same ahead 1 Layout.kept-place (omega arith) in
+      let f = asked-length in
+      record {
+        long = omega (arith, asked-long, v .long);
+        number = omega (arith, v .number);
+        recovery = omega (arith, v .recovery);
+        unsent = omega (arith, v .unsent);
+        kept = omega (arith, v .kept);
+        size = omega arith;
+        command = rw asked-command s;
+      }

@@ -1,0 +1,19 @@
+-- The claims over the main processor's end: the view of its parts, each call as the meaning has it, and lists of calls.
+-- Assumes nothing.
+pub mod View
+pub mod Histories
+pub mod FieldLaws
+pub mod NextClaim
+pub mod ReceivedClaim
+pub mod OneByte
+pub mod ByteClaim
+pub mod CallClaims
+pub mod Locality
+pub mod LentCalls
+pub mod History
+pub mod MeaningLaws
+pub mod Cuts
+pub mod Numbers
+pub mod Answers
+pub mod AnswerBytes
+pub mod AnswerFrame

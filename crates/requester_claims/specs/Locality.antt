@@ -1,0 +1,219 @@
+-- What a call does to the published bytes does not depend on the bytes behind them, and leaves those.
+-- Assumes nothing.
+use mathlib.Core.Path.{_≡_, refl, ap}
+use mathlib.Core.Bool.{true, cond}
+use mathlib.Core.List.{List, [], _∷_, _++_}
+use mathlib.Core.Option.{Option, none, some}
+use Prim.Native.Nat.{ℕ, zero, suc, _+_, _-_, _≤_}
+use native.Mathlib.Omega.{arith}
+use lib.Dec.{leb, ltb, eqb, eqb·suc-zero}
+use lib.ListN.{length, replicate, length-append}
+use borrow.Author.Tests.{le-leb, ltb-false}
+use Rattle.octets.specs.Bytes.{number, bytes, numberAt, overlay}
+use Rattle.octets.proofs.Conditions.{cond-by, cond-map}
+use Rattle.octets.proofs.Overlay.{length-overlay, overlay-append, run-append}
+use Rattle.line.specs.Limits.{longest-data}
+use Rattle.line.specs.Reader as LineReader
+use Rattle.line.proofs.State.{Ready, valid-ready, ready-pushed}
+use Rattle.line.proofs.Lent.{count-append, valid-append, dataOf-append, pushed-append, finish-append}
+use Rattle.requester.specs.Limits.{last-number}
+use Rattle.requester.specs.State.{requestFrame}
+use Rattle.requester.specs.Requester
+use Rattle.requester.specs.Requester.{Heard, staysOut}
+use Rattle.requester.specs.Layout
+use Rattle.requester.specs.Valid.{validRequester}
+use Rattle.requester.specs.Calls
+use Rattle.requester.specs.Calls.{Parts, parts, progressed, heardOf, outcomeOf}
+use Rattle.requester.proofs.ValidLaws.{requester-valid, parts-valid}
+use Rattle.requester.proofs.ProgressLaws.{length-progressed}
+use Rattle.requester.proofs.ReaderLaws.{read-leaves}
+
+-- ---- the main processor's part
+
+-- what is said of a part, with more behind it
+abbrev putBehind : List ℕ → Calls.Put → Calls.Put
+putBehind u t = Calls.putBy (t .said) (t .out) (t .requester ++ u)
+
+abbrev interruptBehind : List ℕ → Calls.Interrupt → Calls.Interrupt
+interruptBehind u t = Calls.interruptBy (t .refusal) (t .requester ++ u)
+
+abbrev movedBehind : List ℕ → Calls.Moved → Calls.Moved
+movedBehind u m = Calls.movedBy (m .ended) (m .requester ++ u)
+
+module _ (t u : List ℕ) (long : Layout.requester-length ≤ length t) where
+  number-behind : (k at : ℕ) → at + k ≤ Layout.requester-length → numberAt k (t ++ u) at ≡ numberAt k t at
+  number-behind k at h = ap number (run-append t u at k (omega arith))
+
+  valid-behind : validRequester (t ++ u) ≡ validRequester t
+  unfolding validRequester
+  valid-behind =
+      rw (
+        le-leb Layout.requester-length (length t) long,
+        le-leb Layout.requester-length (length (t ++ u)) (simp length-append (omega arith)),
+        number-behind 8 Layout.number-place (omega arith),
+        number-behind 1 Layout.recovery-place (omega arith),
+        number-behind 1 Layout.unsent-place (omega arith),
+        number-behind 1 Layout.kept-place (omega arith),
+        number-behind 2 Layout.length-place (omega arith),
+        number-behind 1 Layout.command-place (omega arith),
+      )
+
+  outstanding-behind : Layout.isOutstanding (t ++ u) ≡ Layout.isOutstanding t
+  unfolding Layout.isOutstanding
+  outstanding-behind = rw (number-behind 1 Layout.recovery-place (omega arith), number-behind 1 Layout.kept-place (omega arith))
+
+  unsent-behind : Layout.isUnsent (t ++ u) ≡ Layout.isUnsent t
+  unfolding Layout.isUnsent
+  unsent-behind = rw (outstanding-behind, number-behind 1 Layout.unsent-place (omega arith))
+
+  request-behind : Layout.lengthOf t ≤ longest-data → Layout.outRequest (t ++ u) ≡ Layout.outRequest t
+  unfolding Layout.outRequest Layout.keptRequest
+  request-behind h =
+      rw (
+        number-behind 1 Layout.recovery-place (omega arith),
+        number-behind 1 Layout.command-place (omega arith),
+        number-behind 2 Layout.length-place (omega arith),
+        run-append t u Layout.data-place (Layout.lengthOf t) (omega arith),
+      )
+
+  progressed-behind : (a b c d : ℕ) → progressed a b c d (t ++ u) ≡ progressed a b c d t ++ u
+  unfolding progressed bytes
+  progressed-behind a b c d = overlay-append t u 0 (bytes 8 a ++ b ∷ c ∷ d ∷ []) (omega arith)
+
+  flag-behind : (x : ℕ) → overlay Layout.unsent-place (x ∷ []) (t ++ u) ≡ overlay Layout.unsent-place (x ∷ []) t ++ u
+  flag-behind x = overlay-append t u Layout.unsent-place (x ∷ []) (omega arith)
+
+  kept-behind : (n command : ℕ) (d : List ℕ) → length d ≤ longest-data → Calls.withRequest n command d (t ++ u) ≡ Calls.withRequest n command d t ++ u
+  unfolding Calls.withRequest bytes
+  kept-behind n command d h =
+      cond-map (λ x. x ++ u) (staysOut command)
+      (λ _. rw (progressed-behind n 0 0 1) (overlay-append (progressed n 0 0 1 t) u Layout.command-place (command ∷ bytes 2 (length d) ++ d) (omega (arith, length-progressed t long n 0 0 1))))
+      (λ _. progressed-behind n 0 0 0)
+
+  put-behind : (bs room x : List ℕ) {after : List ℕ} → after ≡ x ++ u → Calls.putInto bs room (t ++ u) after ≡ putBehind u (Calls.putInto bs room t x)
+  unfolding Calls.putInto
+  put-behind bs room x e = cond-map (putBehind u) (ltb (length room) (length bs)) (λ _. refl) (λ _. rw e)
+
+  pub requesting-behind : (command : ℕ) (d room : List ℕ) → Calls.requesting (t ++ u) command d room ≡ putBehind u (Calls.requesting t command d room)
+  unfolding Calls.requesting
+  requesting-behind command d room =
+      rw (valid-behind, outstanding-behind, number-behind 8 Layout.number-place (omega arith))
+      (cond-map (putBehind u) (validRequester t) (λ _.
+      cond-map (putBehind u) (ltb longest-data (length d)) (λ _. refl) (λ e.
+      cond-map (putBehind u) (Layout.isOutstanding t) (λ _. refl) (λ _.
+      cond-map (putBehind u) (leb last-number (Layout.numberOf t)) (λ _. refl) (λ _.
+      put-behind (requestFrame (suc (Layout.numberOf t)) (record { command = command; payload = d })) room _ (kept-behind (suc (Layout.numberOf t)) command d (ltb-false _ _ e))))))
+      (λ _. refl))
+
+  pub sending-behind : (room : List ℕ) → Calls.sending (t ++ u) room ≡ putBehind u (Calls.sending t room)
+  unfolding Calls.sending
+  sending-behind room =
+      rw (valid-behind, unsent-behind, number-behind 8 Layout.number-place (omega arith))
+      (cond-map (putBehind u) (validRequester t) (λ v.
+      rw (request-behind (requester-valid t v .size))
+      (cond-map (putBehind u) (Layout.isUnsent t) (λ _. put-behind (requestFrame (Layout.numberOf t) (Layout.outRequest t)) room _ (flag-behind 0)) (λ _. refl)))
+      (λ _. refl))
+
+  pub interrupting-behind : Calls.interrupting (t ++ u) ≡ interruptBehind u (Calls.interrupting t)
+  unfolding Calls.interrupting
+  interrupting-behind =
+      rw (valid-behind, number-behind 1 Layout.recovery-place (omega arith), number-behind 8 Layout.number-place (omega arith), number-behind 1 Layout.kept-place (omega arith))
+      (cond-map (interruptBehind u) (validRequester t) (λ _.
+      cond-map (interruptBehind u) (eqb (Layout.recoveryOf t) 0) (λ _.
+      cond-map (interruptBehind u) (leb last-number (Layout.numberOf t)) (λ _. refl) (λ _. rw (progressed-behind (suc (Layout.numberOf t)) _ 1 (Layout.keptOf t))))
+      (λ _. refl))
+      (λ _. refl))
+
+  outcome-behind : (h : Option Heard) → outcomeOf (t ++ u) h ≡ outcomeOf t h
+  unfolding outcomeOf
+  outcome-behind none = refl
+  outcome-behind (some h) = rw (number-behind 1 Layout.recovery-place (omega arith), number-behind 1 Layout.kept-place (omega arith))
+
+  moved-behind : (x : Requester.Next) → Calls.movedTo x (t ++ u) ≡ movedBehind u (Calls.movedTo x t)
+  unfolding Calls.movedTo
+  moved-behind Requester.same = refl
+  moved-behind Requester.again = rw (flag-behind 1)
+  moved-behind (Requester.anew s) =
+      rw (number-behind 8 Layout.number-place (omega arith), number-behind 1 Layout.kept-place (omega arith))
+      (cond-map (movedBehind u) (leb last-number (Layout.numberOf t)) (λ _. rw (progressed-behind (Layout.numberOf t) 0 0 0))
+      (λ _. rw (progressed-behind (suc (Layout.numberOf t)) _ 1 (Layout.keptOf t))))
+  moved-behind Requester.idle = rw (number-behind 8 Layout.number-place (omega arith), progressed-behind (Layout.numberOf t) 0 0 0)
+
+  moved-long : (x : Requester.Next) → length (Calls.movedTo x t .requester) ≡ length t
+  unfolding Calls.movedTo
+  moved-long Requester.same = refl
+  moved-long Requester.again = length-overlay Layout.unsent-place (1 ∷ []) t (omega arith)
+  moved-long (Requester.anew s) =
+      cond-by (λ (m : Calls.Moved). length (m .requester) ≡ length t) (leb last-number (Layout.numberOf t)) _ _
+      (λ _. length-progressed t long _ 0 0 0) (λ _. length-progressed t long _ _ 1 _)
+  moved-long Requester.idle = length-progressed t long _ 0 0 0
+
+-- ---- the line reader's part
+
+abbrev outcomeBehind : List ℕ → LineReader.Outcome → LineReader.Outcome
+outcomeBehind u o = record { used = o .used; answer = o .answer; state = o .state ++ u }
+
+read-behind : (piece s u : List ℕ) → Ready s → LineReader.readPiece (s ++ u) piece ≡ outcomeBehind u (LineReader.readPiece s piece)
+unfolding LineReader.readPiece LineReader.next
+read-behind [] s u r = refl
+read-behind (zero ∷ bs) s u r = rw (finish-append s u (r .0))
+read-behind (suc b ∷ bs) s u r =
+    let p = ready-pushed s (suc b) r in
+    rw (eqb·suc-zero, pushed-append s u (r .0) (suc b)) (rw (read-behind bs (LineReader.pushed s (suc b)) u (omega (arith, r .0), p .1)))
+
+heard-behind : (n : ℕ) (s u : List ℕ) → LineReader.state-length ≤ length s → (a : LineReader.Said) → heardOf n (s ++ u) a ≡ heardOf n s a
+unfolding heardOf
+heard-behind n s u h (LineReader.refused k) = refl
+heard-behind n s u h LineReader.more = rw (count-append s u h)
+heard-behind n s u h LineReader.empty = refl
+heard-behind n s u h (LineReader.failed reason sequence) = refl
+heard-behind n s u h (LineReader.message version sequence command k) = rw (dataOf-append s u h k)
+
+-- ---- both parts
+
+abbrev pub partsBehind : List ℕ → List ℕ → Parts → Parts
+partsBehind a u p = parts (p .reader ++ a) (p .requester ++ u)
+
+abbrev receiptBehind : List ℕ → List ℕ → Calls.Receipt → Calls.Receipt
+receiptBehind a u x = record { used = x .used; told = x .told; ended = x .ended; unsent = x .unsent; parts = partsBehind a u (x .parts) }
+
+module _ (p : Parts) (a u : List ℕ) (reader : LineReader.state-length ≤ length (p .reader)) (requester : Layout.requester-length ≤ length (p .requester)) where
+  valid-parts-behind : Calls.validParts (partsBehind a u p) ≡ Calls.validParts p
+  unfolding Calls.validParts
+  valid-parts-behind = rw (valid-append (p .reader) a reader, valid-behind (p .requester) u requester)
+
+  received-behind : Calls.validParts p ≡ true → (piece : List ℕ) → Calls.received (partsBehind a u p) piece ≡ receiptBehind a u (Calls.received p piece)
+  unfolding Calls.received
+  received-behind v piece =
+      let r = valid-ready (p .reader) (parts-valid p v .reader) in
+      let q = Calls.within (p .reader) piece in
+      let o = LineReader.readPiece (p .reader) q in
+      let w = read-leaves q (p .reader) r in
+      let h = cond (Calls.overran (p .reader)) none (heardOf (Layout.numberOf (p .requester)) (o .state) (o .answer)) in
+      let x = outcomeOf (p .requester) h in
+      rw (
+        count-append (p .reader) a reader,
+        read-behind q (p .reader) a r,
+        number-behind (p .requester) u requester 8 Layout.number-place (omega arith),
+        heard-behind (Layout.numberOf (p .requester)) (o .state) a (w .ready .0) (o .answer),
+        outcome-behind (p .requester) u requester h,
+        moved-behind (p .requester) u requester (x .next),
+        unsent-behind (Calls.movedTo (x .next) (p .requester) .requester) u (omega (arith, moved-long (p .requester) u requester (x .next))),
+      )
+
+  pub receiving-behind : (piece : List ℕ) → Calls.receiving (partsBehind a u p) piece ≡ receiptBehind a u (Calls.receiving p piece)
+  unfolding Calls.receiving
+  receiving-behind piece =
+      rw valid-parts-behind (cond-map (receiptBehind a u) (Calls.validParts p) (λ v. received-behind v piece) (λ _. refl))
+
+  pub starting-behind : Calls.starting (partsBehind a u p) ≡ record { refusal = Calls.starting p .refusal; parts = partsBehind a u (Calls.starting p .parts) }
+  unfolding Calls.starting Calls.roomy Calls.freshParts LineReader.counted bytes
+  starting-behind =
+      rw (
+        le-leb LineReader.state-length (length (p .reader)) reader,
+        le-leb LineReader.state-length (length (p .reader ++ a)) (simp length-append (omega arith)),
+        le-leb Layout.requester-length (length (p .requester)) requester,
+        le-leb Layout.requester-length (length (p .requester ++ u)) (simp length-append (omega arith)),
+        overlay-append (p .reader) a 0 (bytes 2 0) (omega arith),
+        overlay-append (p .requester) u 0 (replicate Layout.data-place 0) (omega arith),
+      )

@@ -1,0 +1,71 @@
+-- What one byte of the received stream does to the parts, and a call of receive as the bytes that it reads, one after the other.
+-- Assumes nothing: these are definitions.
+use mathlib.Core.Bool.{Bool, false, cond, _||_}
+use mathlib.Core.List.{List, [], _∷_}
+use mathlib.Core.Option.{Option, none}
+use Prim.Native.Nat.{ℕ, zero, suc}
+use lib.Dec.{eqb}
+use Rattle.line.specs.Limits.{longest-form}
+use Rattle.line.specs.Reader as LineReader
+use Rattle.requester.specs.Requester
+use Rattle.requester.specs.Requester.{Heard}
+use Rattle.requester.specs.Layout
+use Rattle.requester.specs.Calls
+use Rattle.requester.specs.Calls.{Parts, parts, overran, heardOf, outcomeOf, toldOf}
+
+-- what is handed out, whether 14 ended a recovery, and the parts
+pub record Fed : Type 0 where
+  pub handed : Requester.Handed
+  pub ended : Bool
+  pub parts : Parts
+
+abbrev pub fed : Requester.Handed → Bool → Parts → Fed
+fed h e p = record { handed = h; ended = e; parts = p }
+
+-- by what is heard, and the state that the line reader left
+unfoldable pub fedBy : Parts → List ℕ → Option Heard → Fed
+fedBy p reader h =
+    let x = outcomeOf (p .requester) h in
+    let m = Calls.movedTo (x .next) (p .requester) in
+    fed (x .handed) (m .ended) (parts reader (m .requester))
+
+abbrev pub readerAfter : List ℕ → ℕ → List ℕ
+readerAfter s zero = LineReader.finish s .state
+readerAfter s (suc b) = LineReader.pushed s (suc b)
+
+abbrev pub saidAfter : List ℕ → ℕ → LineReader.Said
+saidAfter s zero = LineReader.finish s .answer
+saidAfter s (suc b) = LineReader.more
+
+unfoldable pub feed : Parts → ℕ → Fed
+feed p b =
+    let s = readerAfter (p .reader) b in
+    fedBy p s (cond (overran (p .reader)) none (heardOf (Layout.numberOf (p .requester)) s (saidAfter (p .reader) b)))
+
+-- whether a byte is a 00, or the 4,141st of its frame
+abbrev pub stopsAt : List ℕ → ℕ → Bool
+stopsAt s b = eqb b 0 || eqb (LineReader.count s) longest-form
+
+-- how many bytes were read, and what came of them
+pub record Walked : Type 0 where
+  pub used : ℕ
+  pub fed : Fed
+
+abbrev pub walked : ℕ → Fed → Walked
+walked n f = record { used = n; fed = f }
+
+unfoldable pub walk : Parts → List ℕ → Walked
+walk p [] = walked 0 (fed Requester.nothing false p)
+walk p (b ∷ bs) =
+    cond (stopsAt (p .reader) b) (walked 1 (feed p b))
+    (let w = walk (feed p b .parts) bs in walked (suc (w .used)) (w .fed))
+
+-- the receipt of what came of some bytes
+abbrev pub receiptOf : Walked → Calls.Receipt
+receiptOf w = record {
+  used = w .used;
+  told = toldOf (w .fed .handed);
+  ended = w .fed .ended;
+  unsent = Layout.isUnsent (w .fed .parts .requester);
+  parts = w .fed .parts;
+}

@@ -1,0 +1,139 @@
+-- The line reader's part of the view: what a byte and a 00 do to the bytes since the last 00, and the verdict on them.
+-- Assumes nothing.
+use mathlib.Core.Path.{_≡_, refl}
+use mathlib.Core.Bool.{Bool, true, false, cond}
+use mathlib.Core.List.{List, [], _∷_, _++_}
+use mathlib.Core.Option.{Option, none, some}
+use Prim.Native.Nat.{ℕ, _+_, _≤_, _<_}
+use native.Mathlib.Nat.{add-zero}
+use native.Mathlib.Omega.{arith}
+use lib.Dec.{eqb}
+use lib.ListN.{length}
+use borrow.Author.Tests.{lt-ltb, le-ltb, eq-eqb, ne-eqb}
+use Rattle.octets.specs.Bytes.{run, overlay}
+use Rattle.octets.proofs.Conditions.{cond-by}
+use Rattle.octets.proofs.Overlay.{run-more, length-run, length-overlay, overlay-before, overlay-getD-inside}
+use Rattle.line.specs.Limits.{longest-form}
+use Rattle.line.specs.Checksum.{checksum}
+use Rattle.line.specs.Message.{magic}
+use Rattle.line.specs.Cobs.{uncobs}
+use Rattle.line.specs.Judge.{Verdict, failure, bodyOf, checksumOf, magicOf, fields, wrongLength, judgeFields, judgeLength, judgeForm, judge}
+use Rattle.line.specs.Reader as LineReader
+use Rattle.line.proofs.State.{Ready, length-counted, count-counted, run-counted}
+use Rattle.line.proofs.Held.{data-unpacked, finish-leaves}
+use Rattle.requester.specs.Requester.{heard}
+use Rattle.requester.specs.Calls.{heardOf}
+use Rattle.requester_claims.specs.View.{receivedOf}
+
+-- ---- the bytes since the last 00
+
+module _ (s : List ℕ) where
+  pub received-none : longest-form < LineReader.count s → receivedOf s ≡ none
+  unfolding receivedOf
+  received-none h = rw (lt-ltb longest-form (LineReader.count s) h)
+
+  pub received-some : LineReader.count s ≤ longest-form → receivedOf s ≡ some (LineReader.kept s)
+  unfolding receivedOf
+  received-some h = rw (le-ltb longest-form (LineReader.count s) h)
+
+  pub length-kept : LineReader.state-length ≤ length s → LineReader.count s ≤ longest-form → length (LineReader.kept s) ≡ LineReader.count s
+  unfolding LineReader.kept
+  length-kept h l = length-run LineReader.frame-place (LineReader.count s) s (omega arith)
+
+-- a byte put behind a run
+run-put : (at n b : ℕ) (s : List ℕ) → at + n < length s → run at (n + 1) (overlay (at + n) (b ∷ []) s) ≡ run at n s ++ (b ∷ [])
+run-put at n b s h =
+    let o = overlay (at + n) (b ∷ []) s in
+    let l : length o ≡ length s = length-overlay (at + n) (b ∷ []) s (omega arith) in
+    let e = rw add-zero at (overlay-getD-inside (at + n) 0 0 (b ∷ []) s (omega arith) (omega arith)) in
+    rw (run-more at n o (omega arith), overlay-before (at + n) at n (b ∷ []) s (omega arith) (omega arith), e)
+
+-- a byte that is not 00
+module _ (s : List ℕ) (b : ℕ) (r : Ready s) where
+  abbrev n : ℕ
+  n = LineReader.count s
+
+  abbrev put : List ℕ
+  put = overlay (LineReader.frame-place + n) (b ∷ []) s
+
+  module _ (h : n < longest-form) where
+    put-long : length put ≡ length s
+    put-long = length-overlay (LineReader.frame-place + n) (b ∷ []) s (omega (arith, r .0))
+
+    pub pushed-count : LineReader.count (LineReader.pushed s b) ≡ n + 1
+    unfolding LineReader.pushed
+    pushed-count = let l = put-long in rw (lt-ltb n longest-form h) (count-counted (n + 1) put (omega (arith, r .0)) (omega arith))
+
+    pub pushed-received : receivedOf (LineReader.pushed s b) ≡ some (LineReader.kept s ++ b ∷ [])
+    unfolding LineReader.kept LineReader.pushed
+    pushed-received =
+        let l = put-long in
+        let c = count-counted (n + 1) put (omega (arith, r .0)) (omega arith) in
+        rw (
+          lt-ltb n longest-form h,
+          received-some (LineReader.counted (n + 1) put) (omega arith),
+          c,
+          run-counted (n + 1) put (omega (arith, r .0)) (n + 1),
+          run-put LineReader.frame-place n b s (omega (arith, r .0)),
+        )
+
+  module _ (h : longest-form ≤ n) where
+    pub over-count : LineReader.count (LineReader.pushed s b) ≡ LineReader.overlong
+    unfolding LineReader.pushed
+    over-count = rw (le-ltb n longest-form h) (count-counted LineReader.overlong s (omega (arith, r .0)) (omega arith))
+
+    pub over-received : receivedOf (LineReader.pushed s b) ≡ none
+    over-received = received-none (LineReader.pushed s b) (omega (arith, over-count))
+
+-- a 00: nothing is left of the frame
+pub finished-received : (s : List ℕ) → Ready s → receivedOf (LineReader.finish s .state) ≡ some []
+unfolding LineReader.kept
+finished-received s r =
+    let l = finish-leaves s (r .0) in
+    rw (received-some (LineReader.finish s .state) (omega arith), l .1)
+
+-- ---- the verdict on them
+
+-- by the answer of the line reader and the state that it leaves, in which the data of a message stand
+module _ (number : ℕ) (s : List ℕ) (r : Ready s) where
+  abbrev Says : List ℕ → Verdict → Type 0
+  Says t v = heardOf number t (LineReader.verdictSaid v) ≡ some (heard number v)
+
+  verdict-fields : (xs : List ℕ) → wrongLength xs ≡ false → Says (overlay LineReader.frame-place xs s) (judgeFields xs)
+  unfolding judgeFields fields heardOf LineReader.verdictSaid
+  verdict-fields xs e =
+      let t = overlay LineReader.frame-place xs s in
+      cond-by (Says t) (eqb (checksumOf xs) (checksum (bodyOf xs))) _ _
+      (λ f. cond-by (Says t) (eqb (magicOf xs) magic) _ _ (λ g. rw (data-unpacked s (r .0) xs (r .1) e)) (λ g. refl))
+      (λ f. refl)
+
+  verdict-length : (xs : List ℕ) (k : Bool) → wrongLength xs ≡ k → Says (cond k s (overlay LineReader.frame-place xs s)) (cond k (failure 3 none) (judgeFields xs))
+  unfolding heardOf LineReader.verdictSaid
+  verdict-length xs true e = refl
+  verdict-length xs false e = verdict-fields xs e
+
+  verdict-bytes : (form : Option (List ℕ)) → Says (LineReader.unpacked form s) (judgeForm form)
+  unfolding judgeForm judgeLength heardOf LineReader.unpacked LineReader.verdictSaid
+  verdict-bytes none = refl
+  verdict-bytes (some xs) = verdict-length xs (wrongLength xs) refl
+
+  verdict-form : (form : List ℕ) → length form ≤ longest-form → Says (LineReader.unpacked (uncobs form) s) (judge form)
+  unfolding judge
+  verdict-form form l = rw (le-ltb longest-form (length form) l) (verdict-bytes (uncobs form))
+
+module _ (number : ℕ) (s : List ℕ) (r : Ready s) where
+  -- an empty frame is not heard
+  pub finished-empty : LineReader.count s ≡ 0 → heardOf number (LineReader.finish s .state) (LineReader.finish s .answer) ≡ none
+  unfolding LineReader.finish heardOf
+  finished-empty e = rw (eq-eqb (LineReader.count s) 0 e)
+
+  -- any other is heard by the tests' verdict on it
+  pub finished-heard : (LineReader.count s ≡ 0 → ⊥) → LineReader.count s ≤ longest-form
+      → heardOf number (LineReader.finish s .state) (LineReader.finish s .answer) ≡ some (heard number (judge (LineReader.kept s)))
+  unfolding LineReader.finish LineReader.settle
+  finished-heard z h =
+      let l = length-counted 0 s (omega (arith, r .0)) in
+      let c = count-counted 0 s (omega (arith, r .0)) (omega arith) in
+      let k = length-kept s (r .0) h in
+      rw (ne-eqb (LineReader.count s) 0 z, le-ltb longest-form (LineReader.count s) h)
+      (verdict-form number (LineReader.counted 0 s) (omega (arith, r .0), omega arith) (LineReader.kept s) (omega arith))

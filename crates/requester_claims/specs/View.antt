@@ -1,0 +1,26 @@
+-- The view: document 02's state as the lent parts hold it.
+-- Assumes nothing: these are definitions.
+use mathlib.Core.Bool.{cond}
+use mathlib.Core.List.{List}
+use mathlib.Core.Option.{Option, none, some}
+use Prim.Native.Nat.{ℕ}
+use lib.Dec.{ltb, eqb}
+use Rattle.line.specs.Limits.{longest-form}
+use Rattle.line.specs.Reader as LineReader
+use Rattle.requester.specs.State.{Request, State, state}
+use Rattle.requester.specs.Layout
+use Rattle.requester.specs.Calls.{Parts}
+
+-- the line reader's bytes since the last 00, none where they are more than a form has
+unfoldable pub receivedOf : List ℕ → Option (List ℕ)
+receivedOf s = cond (ltb longest-form (LineReader.count s)) none (some (LineReader.kept s))
+
+unfoldable pub keptOf : List ℕ → Option Request
+keptOf r = cond (Layout.isKept r) (some (Layout.keptRequest r)) none
+
+-- the state in the main processor's part, with the receive progress
+abbrev pub held : List ℕ → Option (List ℕ) → State
+held r bs = state (Layout.numberOf r) (keptOf r) (Layout.stepOf r) (eqb (Layout.unsentOf r) 1) bs
+
+unfoldable pub view : Parts → State
+view p = held (p .requester) (receivedOf (p .reader))

@@ -1,0 +1,316 @@
+// Defines an example: both ends in one program over a wire that drops, damages and delays bytes, and what went over it, printed.
+// Assumes the static library. Ends with 1 if an answer handed out is not one that the supervisor gave to that request.
+// usage: bad_wire [SEED [REQUESTS]]
+
+use oatcastle::requester::{Handed, Requester};
+use oatcastle::{Bsu, LineReader, ReadEnd, Refusal, StartData, Supervisor, LONGEST_FRAME};
+use std::collections::{HashMap, VecDeque};
+use std::num::NonZeroU8;
+
+const TOP_BIT: u64 = 1 << 63;
+/// Ticks without an answer until the main processor does something about it; one byte goes each way in a tick.
+const PATIENCE: u64 = 600;
+
+/// A seeded generator (splitmix64).
+struct Random(u64);
+
+impl Random {
+    fn next(&mut self) -> u64 {
+        self.0 = self.0.wrapping_add(0x9e37_79b9_7f4a_7c15);
+        let mixed = (self.0 ^ self.0 >> 30).wrapping_mul(0xbf58_476d_1ce4_e5b9);
+        let mixed = (mixed ^ mixed >> 27).wrapping_mul(0x94d0_49bb_1331_11eb);
+        mixed ^ mixed >> 31
+    }
+
+    fn below(&mut self, limit: u64) -> u64 {
+        self.next() % limit
+    }
+}
+
+/// A message as it was put on the wire.
+#[derive(Clone, PartialEq, Eq)]
+struct Said {
+    sequence: u64,
+    command: u8,
+    data: Vec<u8>,
+}
+
+/// One direction of the wire, and a reader of what is put on it before anything happens to it.
+struct Line {
+    name: &'static str,
+    bytes: VecDeque<(u64, u8)>,
+    last: u64,
+    clean: LineReader,
+}
+
+impl Line {
+    fn new(name: &'static str) -> Result<Line, Refusal> {
+        Ok(Line { name, bytes: VecDeque::new(), last: 0, clean: LineReader::start()? })
+    }
+
+    /// Puts a byte on the wire; gives the message whose frame it ends.
+    fn put(&mut self, tick: u64, byte: u8, random: &mut Random) -> Result<Option<Said>, Refusal> {
+        let (mut sent, mut due) = (byte, tick + 3);
+        match random.below(900) {
+            0 => {
+                println!("{tick:7} {}: {byte:02x} dropped", self.name);
+                return self.heard(tick, byte);
+            }
+            1 | 2 => {
+                sent ^= 1 << random.below(8);
+                println!("{tick:7} {}: {byte:02x} became {sent:02x}", self.name);
+            }
+            3 => {
+                due += random.below(60);
+                println!("{tick:7} {}: {byte:02x} delayed to {due}", self.name);
+            }
+            _ => (),
+        }
+        self.last = self.last.max(due);
+        self.bytes.push_back((self.last, sent));
+        self.heard(tick, byte)
+    }
+
+    fn heard(&mut self, tick: u64, byte: u8) -> Result<Option<Said>, Refusal> {
+        let ReadEnd::Message(message) = self.clean.read(&[byte])?.end else { return Ok(None) };
+        let mut room = vec![0; message.length()];
+        let data = message.data(&mut room)?.to_vec();
+        let said = Said { sequence: message.sequence(), command: message.command(), data };
+        println!("{tick:7} {}: {:016x} command {:02x}, {} bytes of data", self.name, said.sequence, said.command, said.data.len());
+        Ok(Some(said))
+    }
+
+    fn get(&mut self, tick: u64) -> Option<u8> {
+        let &(due, byte) = self.bytes.front()?;
+        (due <= tick).then(|| {
+            self.bytes.pop_front();
+            byte
+        })
+    }
+}
+
+/// The main processor: what it asks for, and what it has heard.
+struct Main {
+    requester: Requester,
+    out: VecDeque<u8>,
+    /// The request that waits for its answer.
+    waiting: Option<(u8, Vec<u8>)>,
+    recovering: bool,
+    quiet: u64,
+    answers: u64,
+    alerts: u64,
+    statuses: u64,
+    starts: u64,
+}
+
+/// Both ends, the wire between them, and what went over it since the last start.
+struct World {
+    random: Random,
+    main: Main,
+    supervisor: Supervisor,
+    there: Line,
+    back: Line,
+    asked: HashMap<u64, Said>,
+    given: HashMap<u64, Vec<Said>>,
+}
+
+impl World {
+    fn new(seed: u64) -> Result<World, Refusal> {
+        let requester = Requester::start()?;
+        let main = Main {
+            requester,
+            out: VecDeque::new(),
+            waiting: None,
+            recovering: false,
+            quiet: 0,
+            answers: 0,
+            alerts: 0,
+            statuses: 0,
+            starts: 1,
+        };
+        Ok(World {
+            random: Random(seed),
+            main,
+            supervisor: Supervisor::start(&StartData::new(Bsu::A))?,
+            there: Line::new("main to supervisor")?,
+            back: Line::new("supervisor to main")?,
+            asked: HashMap::new(),
+            given: HashMap::new(),
+        })
+    }
+
+    /// The supervisor's turn: a byte in, a byte out, and now and then an alert.
+    fn supervise(&mut self, tick: u64) -> Result<(), Refusal> {
+        if self.random.below(1500) == 0 {
+            let text = format!("alert at {tick}");
+            match self.supervisor.post(NonZeroU8::MIN, text.as_bytes()) {
+                Ok(()) => println!("{tick:7} supervisor: posts \"{text}\""),
+                Err(refusal) => println!("{tick:7} supervisor: an alert refused as {}", refusal.number()),
+            }
+        }
+        if let Some(byte) = self.there.get(tick) {
+            self.supervisor.receive(&[], &[byte])?;
+        }
+        if let &[byte] = self.supervisor.take(&mut [0])? {
+            if let Some(said) = self.back.put(tick, byte, &mut self.random)? {
+                self.given.entry(said.sequence).or_default().push(said);
+            }
+        }
+        Ok(())
+    }
+
+    /// The main processor's turn: a byte in, a byte out.
+    fn listen(&mut self, tick: u64) -> Result<bool, Refusal> {
+        self.main.quiet += 1;
+        let mut right = true;
+        if let Some(byte) = self.back.get(tick) {
+            right = self.hear(tick, byte)?;
+        }
+        if let Some(byte) = self.main.out.pop_front() {
+            self.main.quiet = 0;
+            if let Some(said) = self.there.put(tick, byte, &mut self.random)? {
+                self.asked.insert(said.sequence, said);
+            }
+        }
+        Ok(right)
+    }
+
+    /// One received byte; whether what it hands out is right.
+    fn hear(&mut self, tick: u64, byte: u8) -> Result<bool, Refusal> {
+        let received = self.main.requester.receive(&[byte])?;
+        let (ended, unsent) = (received.ended, received.unsent);
+        let mut right = true;
+        match received.handed {
+            Handed::Nothing => (),
+            Handed::Status(status) => {
+                println!("{tick:7} main: status {:x}, options {:x}, {} bits set", status.status, status.options, status.set_bits);
+                self.main.statuses += 1;
+                self.main.recovering = status.status & 3 != 0;
+            }
+            Handed::Answer(reply) | Handed::Alert(reply) => {
+                let mut room = vec![0; reply.length()];
+                let data = reply.data(&mut room)?.to_vec();
+                let said = Said { sequence: reply.sequence(), command: reply.command(), data };
+                right = self.settle(tick, &said);
+            }
+        }
+        self.main.recovering &= !ended;
+        if unsent {
+            self.send()?;
+        }
+        Ok(right)
+    }
+
+    /// An answer handed out: the supervisor gave it under this number, and under this number the request was asked.
+    fn settle(&mut self, tick: u64, said: &Said) -> bool {
+        let text = String::from_utf8_lossy(&said.data);
+        println!("{tick:7} main: answer {:016x} command {:02x} \"{}\"", said.sequence, said.command, text.escape_debug());
+        let given = self.given.get(&said.sequence).is_some_and(|all| all.contains(said));
+        let Some(asked) = self.asked.get(&(said.sequence & !TOP_BIT)) else { return false };
+        if self.main.recovering {
+            self.main.alerts += 1;
+            return given && asked.command == 0x0a;
+        }
+        self.main.answers += 1;
+        let waited = self.main.waiting.take();
+        given && waited.is_some_and(|(command, data)| command == asked.command && data == asked.data)
+    }
+
+    /// The frame that is to go out, behind those that are on their way.
+    fn send(&mut self) -> Result<(), Refusal> {
+        let mut room = [0; LONGEST_FRAME];
+        let frame = self.main.requester.send(&mut room)?;
+        self.main.out.extend(frame);
+        Ok(())
+    }
+
+    fn interrupt(&mut self) -> Result<(), Refusal> {
+        self.main.requester.interrupt()?;
+        self.main.recovering = true;
+        self.send()
+    }
+
+    fn ask(&mut self) -> Result<(), Refusal> {
+        let value = self.random.next().to_le_bytes();
+        let (command, data) = match self.random.below(5) {
+            0 => (0x03, vec![]),
+            1 => (0x0e, vec![0, 255, 255]),
+            2 => (0x0e, vec![3, 255, 255]),
+            3 => (0x08, vec![]),
+            _ => (0x10, [&[3][..], &value].concat()),
+        };
+        let mut room = [0; LONGEST_FRAME];
+        let frame = self.main.requester.request(command, &data, &mut room)?;
+        self.main.out.extend(frame);
+        self.main.waiting = Some((command, data));
+        Ok(())
+    }
+
+    /// Gives up: bytes on their way are thrown away, a frame that has begun is ended by a 00, and the numbers begin again.
+    fn start(&mut self, tick: u64) -> Result<(), Refusal> {
+        println!("{tick:7} main: nothing comes in a recovery; starts again");
+        while !self.supervisor.take(&mut [0; 64])?.is_empty() {}
+        self.there.bytes.clear();
+        self.back.bytes.clear();
+        self.back.clean = LineReader::start()?;
+        self.given.clear();
+        self.asked.clear();
+        self.main.out = VecDeque::from([0]);
+        self.main.requester = Requester::start()?;
+        self.main.starts += 1;
+        self.main.waiting = None;
+        self.main.recovering = false;
+        Ok(())
+    }
+
+    /// What the main processor does of its own: an interrupt at the line signal or for want of an answer, a start, the next request.
+    fn decide(&mut self, tick: u64) -> Result<(), Refusal> {
+        if !self.main.out.is_empty() {
+            return Ok(());
+        }
+        let late = self.main.quiet > PATIENCE;
+        match (self.main.recovering, self.main.waiting.is_some()) {
+            (true, _) if late => self.start(tick),
+            (false, true) if late => {
+                println!("{tick:7} main: no answer; interrupts");
+                self.interrupt()
+            }
+            (false, false) if self.supervisor.signal()? => {
+                println!("{tick:7} main: the line signal; interrupts");
+                self.interrupt()
+            }
+            (false, false) => self.ask(),
+            _ => Ok(()),
+        }
+    }
+}
+
+fn run(seed: u64, requests: u64) -> Result<bool, Refusal> {
+    let mut world = World::new(seed)?;
+    let mut tick = 0;
+    while world.main.answers < requests {
+        world.decide(tick)?;
+        world.supervise(tick)?;
+        if !world.listen(tick)? {
+            println!("{tick:7} main: that answer was not given to this request");
+            return Ok(false);
+        }
+        tick += 1;
+    }
+    let Main { answers, alerts, statuses, starts, .. } = world.main;
+    println!("seed {seed}: {tick} ticks, {starts} starts, {statuses} statuses, {alerts} alerts, {answers} answers; each is the one that the supervisor gave to its request");
+    Ok(true)
+}
+
+fn main() {
+    let mut words = std::env::args().skip(1).map(|word| word.parse::<u64>().expect("a number"));
+    let (seed, requests) = (words.next().unwrap_or(1), words.next().unwrap_or(40));
+    match run(seed, requests) {
+        Ok(true) => (),
+        Ok(false) => std::process::exit(1),
+        Err(refusal) => {
+            println!("refused: {}", refusal.number());
+            std::process::exit(1);
+        }
+    }
+}
