@@ -1,5 +1,5 @@
-# Defines the chart of docs/bench.csv as docs/bench.svg: for each case a bar for each yardstick, its length the ratio of times.
-# Assumes the columns that the benchmark writes.
+# Defines the chart of docs/bench.csv as docs/bench.svg: for each case a bar for each yardstick, its length the ratio of times, and one for
+# the library before the latest change against `strong`, where it was measured. Assumes the columns that table.py writes.
 
 import csv
 import pathlib
@@ -7,7 +7,12 @@ from xml.sax.saxutils import escape
 
 DOCS = pathlib.Path(__file__).resolve().parent.parent / "docs"
 LEFT, RIGHT, TOP, BAR, GAP, SPAN = 250, 170, 56, 14, 12, 420
-YARDSTICKS = {"ordinary": "#a9bfd6", "strong": "#2f5f92"}
+# of each bar: what it shows, the columns of its ratio and of its two times, its colour
+BARS = (
+    ("ordinary", "ratio to ordinary", "library ns", "ordinary ns", "#a9bfd6"),
+    ("strong", "ratio to strong", "library ns", "strong ns", "#2f5f92"),
+    ("strong, before", "before to strong", "before ns", "strong ns", "#d9d2c5"),
+)
 
 
 def step(most):
@@ -21,10 +26,10 @@ def step(most):
 
 
 def chart(rows):
-    most = max(row[f"ratio to {name}"] for row in rows for name in YARDSTICKS)
+    most = max(float(row[column]) for row in rows for _, column, *_ in BARS if row[column])
     size = step(most)
     end = (int(most / size) + 1) * size
-    pitch = len(YARDSTICKS) * BAR + GAP
+    pitch = len(BARS) * BAR + GAP
     bottom = TOP + len(rows) * pitch
     height = bottom + 34
     width = LEFT + SPAN + RIGHT
@@ -36,7 +41,7 @@ def chart(rows):
         '<text x="12" y="22" font-size="15">Time of the library divided by the time of the yardsticks in Rust</text>',
         '<text x="12" y="40" fill="#555">shorter is faster; the dark line is 1</text>',
     ]
-    for number, (name, colour) in enumerate(YARDSTICKS.items()):
+    for number, (name, *_, colour) in enumerate(BARS):
         x = LEFT + 100 * number
         out.append(f'<rect x="{x}" y="30" width="12" height="12" fill="{colour}"/>')
         out.append(f'<text x="{x + 18}" y="40">{name}</text>')
@@ -47,11 +52,13 @@ def chart(rows):
     for number, row in enumerate(rows):
         y = TOP + number * pitch
         out.append(f'<text x="{LEFT - 8}" y="{y + BAR + 4}" text-anchor="end">{escape(row["case"])}</text>')
-        for name, colour in YARDSTICKS.items():
-            ratio = row[f"ratio to {name}"]
+        for _, column, ours, other, colour in BARS:
+            if not row[column]:
+                continue
+            ratio = float(row[column])
             x = place(ratio)
             out.append(f'<rect x="{LEFT}" y="{y}" width="{x - LEFT:.1f}" height="{BAR}" fill="{colour}"/>')
-            label = f'{ratio:.2f} ({row["library ns"]} / {row[f"{name} ns"]} ns)'
+            label = f'{ratio:.2f} ({row[ours]} / {row[other]} ns)'
             out.append(f'<text x="{x + 6:.1f}" y="{y + 11}">{label}</text>')
             y += BAR
     out.append(f'<line x1="{place(1):.1f}" y1="{TOP - 6}" x2="{place(1):.1f}" y2="{bottom}" stroke="#222"/>')
@@ -62,9 +69,6 @@ def chart(rows):
 def main():
     with open(DOCS / "bench.csv", newline="") as file:
         rows = list(csv.DictReader(file))
-    for row in rows:
-        for name in YARDSTICKS:
-            row[f"ratio to {name}"] = float(row[f"ratio to {name}"])
     (DOCS / "bench.svg").write_text(chart(rows))
 
 

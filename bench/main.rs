@@ -21,6 +21,9 @@ const ROUNDS: usize = 201;
 const ROUND_NANOSECONDS: f64 = 5e5;
 const HASH: [u8; 32] = [7; 32];
 
+/// The piece of a frame that arrives whole.
+const WHOLE: usize = LONGEST_FRAME;
+
 type Action<'a> = Box<dyn FnMut() + 'a>;
 
 /// One case, by the library, by `ordinary` and by `strong`.
@@ -53,8 +56,7 @@ fn measure(case: &mut Case) {
         }
     }
     let [library, ordinary, strong] = least;
-    print!("{},{},{library:.0},", case.name, case.bytes);
-    println!("{ordinary:.0},{:.2},{strong:.0},{:.2}", library / ordinary, library / strong);
+    println!("{},{},{library:.1},{ordinary:.1},{strong:.1}", case.name, case.bytes);
 }
 
 /// Bytes that look random, always the same.
@@ -73,22 +75,27 @@ fn frame(command: u8, data: &[u8]) -> Vec<u8> {
     write_frame(1, 1, command, data, &[], &mut out).expect("the frame fits").to_vec()
 }
 
-fn reading<'a>(name: &'static str, data: &[u8]) -> Case<'a> {
+/// A frame read in pieces of so many bytes.
+fn reading<'a>(name: &'static str, data: &[u8], piece: usize) -> Case<'a> {
     let frame = frame(0x55, data);
     let mut reader = LineReader::start().expect("the state is long enough");
     assert!(matches!(reader.read(&frame).map(|read| read.end), Ok(ReadEnd::Message(_))));
     let copy = frame.clone();
     let library = Box::new(move || {
-        black_box(reader.read(black_box(&copy)).map(|read| read.used).ok());
+        for part in copy.chunks(piece) {
+            black_box(reader.read(black_box(part)).map(|read| read.used).ok());
+        }
     });
-    Case { name, bytes: frame.len(), sides: [library, reading_by::<Ordinary>(&frame), reading_by::<Strong>(&frame)] }
+    Case { name, bytes: frame.len(), sides: [library, reading_by::<Ordinary>(&frame, piece), reading_by::<Strong>(&frame, piece)] }
 }
 
-fn reading_by<'a, Y: Yardstick + 'a>(frame: &[u8]) -> Action<'a> {
+fn reading_by<'a, Y: Yardstick + 'a>(frame: &[u8], piece: usize) -> Action<'a> {
     let mut reader = receiver::Reader::<Y>::new();
     let frame = frame.to_vec();
     Box::new(move || {
-        black_box(reader.read(black_box(&frame)));
+        for part in frame.chunks(piece) {
+            black_box(reader.read(black_box(part)));
+        }
     })
 }
 
@@ -121,8 +128,8 @@ fn summing_by<'a, Y: Yardstick>(body: &'a [u8]) -> Action<'a> {
     })
 }
 
-/// A request received whole and its reply taken whole.
-fn serving<'a>(name: &'static str, image: &'a [u8], command: u8, data: &[u8]) -> Case<'a> {
+/// A request received in pieces of so many bytes, and its reply taken whole.
+fn serving<'a>(name: &'static str, image: &'a [u8], command: u8, data: &[u8], piece: usize) -> Case<'a> {
     let request = frame(command, data);
     let mut start = StartData::new(Bsu::A);
     start.hash(HASH);
@@ -130,17 +137,19 @@ fn serving<'a>(name: &'static str, image: &'a [u8], command: u8, data: &[u8]) ->
     let mut room = [0; 5000];
     supervisor.receive(image, &request).expect("the state is valid");
     let reply = supervisor.take(&mut room).expect("the state is valid").to_vec();
-    let sides = [serving_by::<Ordinary>(image, &request, &reply), serving_by::<Strong>(image, &request, &reply)];
+    let sides = [serving_by::<Ordinary>(image, &request, piece, &reply), serving_by::<Strong>(image, &request, piece, &reply)];
     let [ordinary, strong] = sides;
     let bytes = request.len() + reply.len();
     let library = Box::new(move || {
-        black_box(supervisor.receive(black_box(image), black_box(&request)).ok());
+        for part in request.chunks(piece) {
+            black_box(supervisor.receive(black_box(image), black_box(part)).ok());
+        }
         black_box(supervisor.take(&mut room).map(<[u8]>::len).ok());
     });
     Case { name, bytes, sides: [library, ordinary, strong] }
 }
 
-fn serving_by<'a, Y: Yardstick + 'a>(image: &'a [u8], request: &[u8], reply: &[u8]) -> Action<'a> {
+fn serving_by<'a, Y: Yardstick + 'a>(image: &'a [u8], request: &[u8], piece: usize, reply: &[u8]) -> Action<'a> {
     let mut supervisor = receiver::Supervisor::<Y>::new(HASH);
     let mut room = [0; 5000];
     supervisor.receive(image, request);
@@ -148,7 +157,9 @@ fn serving_by<'a, Y: Yardstick + 'a>(image: &'a [u8], request: &[u8], reply: &[u
     assert_eq!(reply, &room[..taken]);
     let request = request.to_vec();
     Box::new(move || {
-        supervisor.receive(black_box(image), black_box(&request));
+        for part in request.chunks(piece) {
+            supervisor.receive(black_box(image), black_box(part));
+        }
         black_box(supervisor.take(&mut room));
     })
 }
@@ -165,22 +176,25 @@ fn main() {
     let set_zeros = [&[4][..], &zeros[..4096]].concat();
     let body = noise(4121);
     let mut cases = vec![
-        reading("read 4104 random bytes", &random),
-        reading("read 4104 zeros", &zeros),
-        reading("read a short frame", &[]),
+        reading("read 4104 random bytes", &random, WHOLE),
+        reading("read 4104 zeros", &zeros, WHOLE),
+        reading("read a short frame", &[], WHOLE),
         writing("write 4104 random bytes", &random),
         writing("write 4104 zeros", &zeros),
         writing("write a short frame", &[]),
-        serving("image block of 4096 random bytes", &image, 0x0d, &block),
-        serving("image block of 4096 zeros", &empty_image, 0x0d, &block),
-        serving("key 4 set to 4096 random bytes", &[], 0x10, &set),
-        serving("key 4 set to 4096 zeros", &[], 0x10, &set_zeros),
-        serving("status request", &[], 0x08, &[]),
+        serving("image block of 4096 random bytes", &image, 0x0d, &block, WHOLE),
+        serving("image block of 4096 zeros", &empty_image, 0x0d, &block, WHOLE),
+        serving("key 4 set to 4096 random bytes", &[], 0x10, &set, WHOLE),
+        serving("key 4 set to 4096 zeros", &[], 0x10, &set_zeros, WHOLE),
+        serving("status request", &[], 0x08, &[], WHOLE),
+        reading("read a short frame byte by byte", &[], 1),
+        reading("read 4104 random bytes byte by byte", &random, 1),
+        serving("status request byte by byte", &[], 0x08, &[], 1),
         summing("checksum of 4121 bytes", &body),
         link::reading("root-of-trust message of 512 bytes", oatcastle::rot::Type::SinkRequest, &random[..512]),
         link::reading("root-of-trust echo of 512 bytes", oatcastle::rot::Type::EchoRequest, &random[..512]),
     ];
-    println!("case,bytes,library ns,ordinary ns,ratio to ordinary,strong ns,ratio to strong");
+    println!("case,bytes,library ns,ordinary ns,strong ns");
     for case in &mut cases {
         measure(case);
     }

@@ -253,6 +253,45 @@ def last_ones():
     yield '4141 bytes and a last 01 among them', b'\1' * 3885 + group + b'\1'
 
 
+def ends_in_zeros(zeros):
+    """A message whose last data and checksum are zeros: its form ends with a run of 01."""
+    first = second = 0
+    for b in body(1, 7, 0x10, b''):
+        first = (first + b) % 255
+        second = (second + first) % 255
+    x = -(second + first) % 255
+    m = message(1, 7, 0x10, bytes([x, -(first + x) % 255]) + bytes(zeros))
+    assert m.endswith(bytes(zeros + 2)) and stuffed(m).endswith(b'\1' * (zeros + 2))
+    return m
+
+
+def run_cases():
+    """Zeros and runs around blocks of 8 and 32 bytes and around full groups; all-zero data at the edges of length."""
+    for n in (8, 9, 31, 32, 33, 63, 64, 65):
+        yield Case(f'00 behind {n} bytes').add(nonzero(n) + b'\0' + L12).read()
+        # the version's zeros end a group, and the sequence and the command are the first nine bytes of the next
+        data = nonzero(n)[9:] + b'\0' + nonzero(20)
+        yield Case(f'zero at place {max(n, 9)} of a group').add(data).write(1, 0x1122334455667788, 0x0d, 5, 4199).back()
+        yield Case(f'{n} zeros in the data').add(b'\5' + bytes(n) + b'\6').write(1, 0x1122334455667788, 0x0d, n, 4199).back()
+        m = ends_in_zeros(n - 2)
+        yield Case(f'form that ends with {n} code bytes 01').add(stuffed(m) + b'\0').read()
+        yield Case(f'form that ends with {n} code bytes 01 and one more').add(stuffed(m) + b'\1\0').read()
+        yield Case(f'{n} code bytes 01 alone').add(b'\1' * n + b'\0' + L12).read('b')
+    for run in (244, 245, 246, 498, 499, 500):
+        for zeros in (1, 31, 32, 33):
+            data = nonzero(run) + bytes(zeros) + b'\7'
+            yield Case(f'{run + 9} bytes of a group and more, then {zeros} zeros').add(data).write(1, 0x1122334455667788, 0x0d, run, 4199).back()
+    for n in (1, 2, 30, 253, 254, 255, 4103, 4104, 4105):
+        yield Case(f'written, {n} zeros').add(bytes(n)).write(1, 0, 0, n // 2, 4199).back()
+    size = len(stuffed(message(1, 0, 0, bytes(4104)))) + 1
+    for room in (size - 1, size, 4140, 4141):
+        yield Case(f'room of {room} bytes for 4104 zeros').add(bytes(4104)).write(1, 0, 0, 0, room).back()
+        yield Case(f'room of {room} bytes for a short frame').write(1, 1, 8, 0, room).back()
+    for n in (44, 45, 46):
+        for kind, data in (('counting', nonzero(n)), ('zeros', bytes(n))):
+            yield Case(f'written data of {n} bytes, {kind}').add(data).write(1, 9, 0x0d, 20, 4199).back()
+
+
 def cases():
     for name, text in (('L1', b'abcde'), ('L2', b'abcdef'), ('L3', b'abcdefgh'), ('L4', b''), ('L5 00', b'\0'), ('L5 ff', b'\xff')):
         yield Case(name).add(text).checksum()
@@ -333,6 +372,7 @@ def cases():
         size = len(stuffed(message(2, 3, 4, nonzero(n)))) + 1
         for room in (size - 1, size, size + 1):
             yield Case(f'room of {room} bytes for a frame of {size}').add(nonzero(n)).write(2, 3, 4, 0, room).back()
+    yield from run_cases()
     yield Case('no room').write(1, 1, 8, 0, 0)
     yield Case('4105 bytes and no room').add(nonzero(4105)).write(1, 1, 8, 0, 0)
     # refusals leave the state as it was: 0, 0 and then a5, or what was stored

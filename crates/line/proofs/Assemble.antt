@@ -5,12 +5,12 @@ use mathlib.Core.List.{List, [], _∷_, _++_, append-assoc}
 use Prim.Native.Nat.{ℕ, _+_, _%_, _≤_, _<_}
 use native.Mathlib.Nat.{zero-add}
 use native.Mathlib.Omega.{arith}
-use lib.ListN.{length, take, set, length-append}
+use lib.ListN.{length, take, set, length-append, length-set}
 use lib.Seq.{take-length}
 use Rattle.octets.specs.Bytes.{bytes, overlay, put, copied}
 use Rattle.octets.proofs.Numbers.{length-bytes}
-use Rattle.octets.proofs.Overlay.{length-overlay, overlay-inside, overlay-next, overlay-none, overlay-one, put-fits, copied-fits}
-use Rattle.line.specs.Limits.{header-length, longest-data, longest-message}
+use Rattle.octets.proofs.Overlay.{length-overlay, overlay-inside, overlay-next, overlay-none, overlay-one, put-fits, copied-fits, length-put, length-copied}
+use Rattle.line.specs.Limits.{header-length, longest-data}
 use Rattle.line.specs.Checksum.{checksum}
 use Rattle.line.specs.Message.{magic, body, message}
 use Rattle.line.specs.Writer.{messageOf}
@@ -62,7 +62,7 @@ end h r = header-length + length h + length r
 
 -- the stores in turn: magic, version, sequence and command, both parts of the data, and the checksum of what is there by then
 pub assembled : (v q k : ℕ) (h r s : List ℕ) {s₁ s₂ s₃ s₄ s₅ s₆ : List ℕ} {sum : ℕ}
-    → k < 256 → length h + length r ≤ longest-data → length s ≡ longest-message
+    → k < 256 → length h + length r ≤ longest-data → end h r + 2 ≤ length s
     → s₁ ≡ put 0 (bytes 4 magic) s → s₂ ≡ put 4 (bytes 4 v) s₁ → s₃ ≡ put 8 (bytes 8 q) s₂
     → s₄ ≡ copied h 0 (length h) (set s₃ 16 k) header-length → s₅ ≡ copied r 0 (length r) s₄ (header-length + length h)
     → sum ≡ checksum (take (end h r) s₅) → s₆ ≡ put (end h r) (bytes 2 sum) s₅
@@ -82,3 +82,11 @@ assembled v q k h r s {sum} l f n e₁ e₂ e₃ e₄ e₅ c e₆ =
     let i₆ = e₆ ∙ lay b s _ w j (bytes 2 sum) (simp length-bytes (omega arith)) in
     let z = laid-bytes (b ++ bytes 2 sum) s (end h r + 2) (simp (length-append, length-bytes, w)) i₆ in
     cc
+
+-- the stores keep the length
+pub assembled-length : (v q k sum at : ℕ) (h r s : List ℕ) {s₁ s₂ s₃ s₄ s₅ s₆ : List ℕ}
+    → s₁ ≡ put 0 (bytes 4 magic) s → s₂ ≡ put 4 (bytes 4 v) s₁ → s₃ ≡ put 8 (bytes 8 q) s₂
+    → s₄ ≡ copied h 0 (length h) (set s₃ 16 k) header-length → s₅ ≡ copied r 0 (length r) s₄ (header-length + length h)
+    → s₆ ≡ put at (bytes 2 sum) s₅ → length s₆ ≡ length s
+assembled-length v q k sum at h r s e₁ e₂ e₃ e₄ e₅ e₆ =
+    rw (e₆, e₅, e₄, e₃, e₂, e₁) (simp (length-put, length-copied, length-set))

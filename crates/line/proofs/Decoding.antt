@@ -1,21 +1,22 @@
 -- The laws of decoding a COBS form: what its measured length says of it, and what one group of it gives.
 -- Assumes nothing.
 use mathlib.Core.Path.{_≡_, refl, sym, ap, _∙_}
-use mathlib.Core.Bool.{Bool, true, false, cond, _||_, and-true, and-false, or-true}
+use mathlib.Core.Bool.{Bool, true, false, cond, not, _||_, and-true, and-false, or-true}
 use mathlib.Core.List.{List, [], _∷_, _++_}
 use mathlib.Core.Option.{Option, none, some, Option·map}
 use Prim.Native.Nat.{ℕ, zero, suc, _+_, _-_, _≤_, _<_}
 use native.Mathlib.Numerals.{add-one}
 use native.Mathlib.Omega.{arith}
 use lib.Dec.{eqb, leb, ltb, leb·suc-suc}
-use lib.ListN.{length, take, drop, getD, length-append, drop-of-length-le}
+use lib.ListN.{length, take, drop, getD, replicate, length-append, drop-of-length-le}
 use lib.Seq.{slice, slice-cons, length-slice, length-take-le, drop-drop}
 use borrow.Author.Tests.{eq-eqb, ne-eqb}
-use Rattle.octets.specs.Bytes.{equal}
+use Rattle.octets.specs.Bytes.{run, equal}
 use Rattle.line.specs.declared.cobs.Measured.{Measured}
 use Rattle.line.specs.declared.cobs.Measured.the-variants.{Bad, Length}
 use Rattle.line.specs.Cobs.{zeros, lastOneAfterFull, groupBytes, uncobs}
 use Rattle.line.specs.Decoding.{bit, measured, plainGroup, plain}
+use Rattle.line.proofs.Alike.{alike-next}
 
 -- ---- the plain bytes are what a form decodes to, and no longer than the form
 
@@ -148,7 +149,24 @@ code-other : (z : Bool) (c : ℕ) (cs : List ℕ) → (c ≡ 0 → ⊥) → last
 unfolding groupBytes
 code-other z c cs e l = rw (ne-eqb c 0 e, l)
 
--- the group at a place of the first n bytes of s
+-- ---- a run of code bytes 01
+
+-- behind a group that holds a zero: each gives that zero, and holds another
+ones-behind : (j o : ℕ) (cs : List ℕ) → counted o (groupBytes 0 true (replicate j 1 ++ cs)) ≡ counted (o + j) (groupBytes 0 true cs)
+unfolding groupBytes
+ones-behind zero o cs = ap (λ (p : ℕ). counted p (groupBytes 0 true cs)) (omega arith)
+ones-behind (suc j) o cs =
+    let e : o + 1 + j ≡ o + suc j = omega arith in
+    counted-map o (0 ∷ []) (groupBytes 0 true (replicate j 1 ++ cs)) ∙ ones-behind j (o + 1) cs ∙ rw e
+
+-- behind any group
+ones-counted : (z : Bool) (j o : ℕ) (cs : List ℕ)
+    → counted o (groupBytes 0 z (replicate (suc j) 1 ++ cs)) ≡ counted (o + bit z + j) (groupBytes 0 true cs)
+unfolding groupBytes
+ones-counted z j o cs = counted-map o (zeros z) (groupBytes 0 true (replicate j 1 ++ cs)) ∙ rw length-zeros (ones-behind j (o + bit z) cs)
+
+-- ---- the group at a place of the first n bytes of s
+
 module _ (s : List ℕ) (n i : ℕ) where
   pub slice-next : i < n → n ≤ length s → slice i n s ≡ getD s i 0 ∷ slice (i + 1) n s
   slice-next h k = rw add-one (slice-cons i n s 0 h k)
@@ -183,9 +201,9 @@ module _ (s : List ℕ) (n i : ℕ) where
       unfolding counted
       counted-last f = rw (at-code, code-last z c (slice (i + 1) n s) (sym f))
 
-      pub counted-group : (c ≡ 0 → ⊥) → c ≤ n - i → false ≡ lastOneAfterFull c (slice (i + 1) n s)
+      counted-code : (c ≡ 0 → ⊥) → c ≤ n - i → false ≡ lastOneAfterFull c (slice (i + 1) n s)
           → Counted ≡ counted (o + bit z + (c - 1)) (groupBytes 0 (leb c 254) (slice (i + c) n s))
-      counted-group f l g =
+      counted-code f l g =
           let m = length-slice (i + 1) n s k in
           let p : i + 1 + (c - 1) ≡ i + c = omega arith in
           rw (
@@ -198,6 +216,40 @@ module _ (s : List ℕ) (n i : ℕ) where
             p,
             holds-test,
           )
+
+-- ---- the length from the number of full groups
+
+-- how many bytes are decoded of the i bytes read: all but one for each full group, and but a zero that is held
+abbrev pub decodedOf : ℕ → ℕ → Bool → ℕ
+decodedOf i full z = i - (full + bit z)
+
+-- a group holds a zero, or is full
+pub bit-not : (z : Bool) → bit (not z) + bit z ≡ 1
+bit-not true = refl
+bit-not false = refl
+
+after-group : (i full c held less more : ℕ) → full + held ≤ i → (c ≡ 0 → ⊥) → less + more ≡ 1
+    → i - (full + held) + held + (c - 1) ≡ i + c - (full + less + more)
+after-group i full c held less more b f e = omega arith
+
+module _ (s : List ℕ) (n i full : ℕ) (z : Bool) (b : full + bit z ≤ i) where
+  -- the group with the code byte c
+  pub counted-group : (c : ℕ) → i < n → n ≤ length s → c ≡ getD s i 0 → (c ≡ 0 → ⊥) → c ≤ n - i
+      → false ≡ lastOneAfterFull c (slice (i + 1) n s)
+      → Counted s n i z (decodedOf i full z)
+      ≡ Counted s n (i + c) (leb c 254) (decodedOf (i + c) (full + bit (not (leb c 254))) (leb c 254))
+  counted-group c h k e f l g =
+      let p : decodedOf i full z + bit z + (c - 1) ≡ decodedOf (i + c) (full + bit (not (leb c 254))) (leb c 254) =
+      after-group i full c (bit z) (bit (not (leb c 254))) (bit (leb c 254)) b f (bit-not (leb c 254)) in
+      rw p at (counted-code s n i z (decodedOf i full z) c h k e f l g)
+
+  -- a run of code bytes 01: a zero each, the last of which is held
+  pub counted-ones : (j : ℕ) → 0 < j → i + j ≤ n → run i j s ≡ replicate j 1
+      → Counted s n i z (decodedOf i full z) ≡ Counted s n (i + j) true (decodedOf (i + j) full true)
+  counted-ones zero l h r = absurd (omega arith)
+  counted-ones (suc j) l h r =
+      let p : decodedOf i full z + bit z + j ≡ decodedOf (i + suc j) full true = omega arith in
+      rw (alike-next s n i (suc j) 1 h r) (rw p at (ones-counted z j (decodedOf i full z) (slice (i + suc j) n s)))
 
 -- ---- a last 01 after a full group
 

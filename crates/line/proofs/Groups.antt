@@ -6,13 +6,14 @@ use mathlib.Core.List.{List, [], _∷_, _++_}
 use native.Mathlib.Nat.{zero-add}
 use native.Mathlib.Numerals.{add-one}
 use native.Mathlib.Omega.{arith}
-use lib.ListN.{length, take, drop, set, length-set, length-append, length-drop}
+use lib.ListN.{length, take, drop, set, replicate, length-set, length-append, length-drop, length-replicate}
 use lib.Seq.{drop-drop, take-take, take-add, take-at, drop-at, take-length, length-take-le, append-snoc}
 use Rattle.octets.specs.Bytes.{run, overlay, copied}
 use Rattle.octets.proofs.Overlay.{run-take, length-run, length-overlay, overlay-more, overlay-next, overlay-none, copied-fits, length-copied}
 use Rattle.line.specs.Runs.{nonzero}
 use Rattle.line.specs.Cobs.{groups, unlessEnd, cobs}
 use Rattle.line.proofs.Runs.{nonzero-most, nonzero-take}
+use Rattle.line.proofs.Alike.{alike-next}
 
 -- ---- the first group of a message
 
@@ -170,3 +171,42 @@ module _ {s : List ℕ} {n i o k : ℕ} (t : Turn s n i o k) where
         size = simp (length-copied, length-set) (p .size);
         bytes = rw (p .bytes, t .taken) (rw l at (put-group (take o (cobs (take n s))) out₀ s i k (k + 1) (omega (arith, t)) (omega arith)));
       }
+
+-- ---- zeros where a group begins: each is a group of no bytes
+
+cobs-zeros : (j : ℕ) (ys : List ℕ) → cobs (replicate j 0 ++ ys) ≡ replicate j 1 ++ cobs ys
+unfolding cobs groups
+cobs-zeros zero ys = refl
+cobs-zeros (suc j) ys = ap (λ (l : List ℕ). 1 ∷ l) (cobs-zeros j ys)
+
+-- the next j bytes are zeros
+pub record Zeros (s : List ℕ) (n i o j : ℕ) : Type 0 where
+  pub inside : i + j ≤ n
+  pub room : o + j ≤ length (cobs (take n s))
+  pub taken : take (o + j) (cobs (take n s)) ≡ take o (cobs (take n s)) ++ replicate j 1
+  pub met : Met s n (i + j) (o + j)
+
+pub zeros-next : (s : List ℕ) (n i o j : ℕ) → 0 < j → i + j ≤ n → run i j s ≡ replicate j 0 → Met s n i o → Zeros s n i o j
+zeros-next s n i o j p h e met =
+    let rest = drop (i + j) (take n s) in
+    let f : drop o (cobs (take n s)) ≡ replicate j 1 ++ cobs rest = met ∙ rw (alike-next s n i j 0 h e) (cobs-zeros j rest) in
+    let l = length-replicate {A = ℕ} j 1 in
+    record {
+      inside = h;
+      room = omega (arith, ap length f, length-drop o (cobs (take n s)), length-append (replicate j 1) (cobs rest));
+      taken = split-take (cobs (take n s)) (replicate j 1) _ o j f l;
+      met = split-drop (cobs (take n s)) (replicate j 1) _ o j f l;
+    }
+
+-- their code bytes are put behind those that are made
+pub zeros-put : {s : List ℕ} {n i o j : ℕ} → Zeros s n i o j → {out₀ out : List ℕ} → length (cobs (take n s)) ≤ length out₀
+    → Put (cobs (take n s)) o out₀ out → Put (cobs (take n s)) (o + j) out₀ (overlay o (replicate j 1) out)
+zeros-put {s} {n} {i} {o} {j} z {out₀} {out} h p =
+    let r = z .room in
+    let k = length-replicate {A = ℕ} j 1 in
+    let l : length (take o (cobs (take n s))) ≡ o = length-take-le o (cobs (take n s)) (omega arith) in
+    let q = p .size in
+    record {
+      size = length-overlay o (replicate j 1) out (omega arith) ∙ q;
+      bytes = rw (p .bytes, z .taken) (rw (zero-add, l) at (overlay-next 0 (take o (cobs (take n s))) (replicate j 1) out₀ (omega arith)));
+    }

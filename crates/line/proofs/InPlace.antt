@@ -7,17 +7,14 @@ use Prim.Native.Nat.{ℕ, zero, suc, min, _+_, _-_, _≤_, _<_}
 use native.Mathlib.Nat.{zero-add}
 use native.Mathlib.Omega.{arith}
 use lib.Dec.{leb, ltb}
-use lib.ListN.{length, take, drop, getD, set, length-append}
-use lib.Seq.{slice, length-slice, take-take, drop-drop}
+use lib.ListN.{length, take, drop, getD, set, replicate, length-append, length-replicate}
+use lib.Seq.{slice, length-slice, drop-drop}
 use Rattle.octets.specs.Bytes.{run, overlay, movedDown}
-use Rattle.octets.proofs.Overlay.{run-take, length-run, length-overlay, overlay-none, overlay-after, overlay-next, overlay-more, overlay-getD-after, movedDown-fits}
+use Rattle.octets.proofs.Overlay.{length-run, length-overlay, overlay-none, overlay-after, overlay-next, overlay-more, overlay-getD-after, movedDown-fits}
 use Rattle.line.specs.Cobs.{zeros}
 use Rattle.line.specs.Decoding.{bit, plainGroup, plain}
+use Rattle.line.proofs.Alike.{run-within, alike-next}
 use Rattle.line.proofs.Decoding.{bit-most, length-zeros, holds-test, slice-next, slice-past}
-
--- a run of the first n bytes
-run-within : (j k n : ℕ) (s : List ℕ) → j + k ≤ n → run j k (take n s) ≡ run j k s
-run-within j k n s h = rw (run-take j k (take n s), take-take (j + k) n s h, run-take j k s)
 
 -- the bytes of a group, as many as there are
 plain-run : (left k : ℕ) (z : Bool) (bs : List ℕ) → k ≡ min left (length bs)
@@ -104,4 +101,26 @@ middle-next s n t z o i c k m h l e f =
       behind = omega (arith, bit-most (leb c 254));
       stands = rw (m .stands, ← m .long) (group-put z d s (i + 1) k (omega arith) (omega arith) (omega arith));
       whole = m .whole ∙ rw (group-read z s n i c k h l (e ∙ p) f) (simp append-assoc);
+    }
+
+-- code bytes 01 behind a group that holds a zero
+ones-plain : (j : ℕ) (cs : List ℕ) → plainGroup 0 true (replicate j 1 ++ cs) ≡ replicate j 0 ++ plainGroup 0 true cs
+unfolding plainGroup
+ones-plain zero cs = refl
+ones-plain (suc j) cs = ap (λ (l : List ℕ). 0 ∷ l) (ones-plain j cs)
+
+-- j of them, in the place of which j zeros are decoded
+pub middle-ones : (s : List ℕ) (n : ℕ) (t : List ℕ) (z : Bool) (o i j : ℕ) → z ≡ true → Middle s n t z o i → i + j ≤ n → n ≤ length s
+    → run i j t ≡ replicate j 1 → Middle s n (overlay o (replicate j 0) t) z (o + j) (i + j)
+middle-ones s n t false o i j e m h l r = let x : _≡_ {A = ℕ} 0 1 = cc in absurd (omega arith)
+middle-ones s n t true o i j e m h l r =
+    let d = m .decoded in
+    let k = length-replicate {A = ℕ} j 0 in
+    let p : run i j s ≡ replicate j 1 = sym (overlay-after 0 i j d s (omega arith) (omega arith)) ∙ rw (m .stands) at r in
+    record {
+      decoded = d ++ replicate j 0;
+      long = length-append d (replicate j 0) ∙ rw (k, m .long);
+      behind = omega (arith, m .behind);
+      stands = rw (m .stands, ← m .long) (rw zero-add at (overlay-next 0 d (replicate j 0) s (omega arith)));
+      whole = m .whole ∙ rw (alike-next s n i j 1 h p, ones-plain j (slice (i + j) n s)) (simp append-assoc);
     }

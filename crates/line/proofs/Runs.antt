@@ -1,15 +1,16 @@
 -- The laws of runs of bytes that are not zero.
 -- Assumes nothing.
 use Prim.Native.Nat.{ℕ, zero, suc, _+_, _-_, _≤_, _<_, min}
-use mathlib.Core.Path.{_≡_, refl, ap}
+use mathlib.Core.Path.{_≡_, refl, ap, _∙_}
+use mathlib.Core.Bool.{Bool, true, false, _||_}
 use mathlib.Core.List.{List, [], _∷_}
-use native.Mathlib.Nat.{add-zero, zero-add, sub-zero}
+use native.Mathlib.Nat.{add-zero, zero-add, suc-add, sub-zero}
 use native.Mathlib.Numerals.{add-one, unary-clauses}
 use native.Mathlib.Omega.{arith}
 use lib.ListN.{length, take, drop, getD, length-drop}
-use lib.Seq.{drop-cons}
+use lib.Seq.{drop-cons, drop-drop, take-length}
 use Rattle.octets.specs.Bytes.{Each}
-use Rattle.line.specs.Runs.{nonzero}
+use Rattle.line.specs.Runs.{nonzero, reached}
 
 -- ---- what a run is
 
@@ -61,10 +62,6 @@ nonzero-take (suc m) (suc n) (suc b ∷ xs) = simp (unary-clauses, nonzero-take 
 
 -- ---- a run byte by byte
 
--- the length of a run of which k bytes are passed
-abbrev pub reached : ℕ → ℕ → List ℕ → ℕ
-reached most k xs = k + length (nonzero (most - k) (drop k xs))
-
 pub reached-none : (most : ℕ) (xs : List ℕ) → length (nonzero most xs) ≡ reached most 0 xs
 reached-none most xs = simp (sub-zero, zero-add)
 
@@ -95,3 +92,37 @@ module _ (most k : ℕ) (xs : List ℕ) where
       let m = nonzero-most (most - k) (drop k xs) in
       let n = nonzero-length (most - k) (drop k xs) in
       omega (arith, length-drop k xs)
+
+-- ---- a run block by block
+
+pub or-false : (a b : Bool) → (a || b) ≡ false → (a ≡ false) × (b ≡ false)
+or-false true b e = (e, cc)
+or-false false b e = (refl, e)
+
+-- a run that goes on as far as it may, and the run behind it
+nonzero-add : (j m : ℕ) (xs : List ℕ) → length (nonzero j xs) ≡ j → length (nonzero (j + m) xs) ≡ j + length (nonzero m (drop j xs))
+unfolding nonzero
+nonzero-add zero m xs h = simp zero-add
+nonzero-add (suc j) m [] h = absurd (omega arith)
+nonzero-add (suc j) m (zero ∷ xs) h = absurd (omega arith)
+nonzero-add (suc j) m (suc b ∷ xs) h = rw (suc-add j m) (omega (arith, nonzero-add j m xs (omega arith)))
+
+-- one more byte that is not zero
+pub nonzero-one : (k : ℕ) (xs : List ℕ) → length (nonzero k xs) ≡ k → k < length xs → 0 < getD xs k 0 → length (nonzero (k + 1) xs) ≡ k + 1
+nonzero-one k xs h l b =
+    let m = nonzero-more 1 (getD xs k 0) (drop (suc k) xs) (omega arith) b in
+    nonzero-add k 1 xs h ∙ rw (drop-cons xs k 0 l) (omega (arith, m, nonzero-most 0 (drop (suc k) xs)))
+
+-- j bytes that are not zero are next
+pub reached-block : (most k j : ℕ) (xs : List ℕ) → k + j ≤ most → length (nonzero j (drop k xs)) ≡ j → reached most k xs ≡ reached most (k + j) xs
+reached-block most k j xs h l =
+    let e : j + (most - (k + j)) ≡ most - k = omega arith in
+    omega (arith, rw (e, drop-drop) at (nonzero-add j (most - (k + j)) (drop k xs) l))
+
+-- a run goes no further than there are bytes
+pub nonzero-within : (most : ℕ) (xs : List ℕ) → nonzero most xs ≡ nonzero (min most (length xs)) xs
+nonzero-within most xs = rw (← nonzero-take most (length xs) xs, take-length xs)
+
+-- no byte is passed
+pub reached-start : (most end : ℕ) (xs : List ℕ) → end ≡ min most (length xs) → length (nonzero most xs) ≡ reached end 0 xs
+reached-start most end xs e = rw (nonzero-within most xs, ← e) (reached-none end xs)

@@ -1,7 +1,8 @@
 -- What the contracts of the loops over bytes cite: runs of bytes that are not zero.
 -- Assumes nothing: these are definitions.
 use mathlib.Core.List.{List, [], _∷_}
-use Prim.Native.Nat.{ℕ, zero, suc}
+use Prim.Native.Nat.{ℕ, zero, suc, _+_, _-_}
+use lib.ListN.{length, drop}
 
 -- the bytes ahead of the first zero, at most so many
 unfoldable pub nonzero : ℕ → List ℕ → List ℕ
@@ -9,3 +10,7 @@ nonzero zero bs = []
 nonzero (suc most) [] = []
 nonzero (suc most) (zero ∷ bs) = []
 nonzero (suc most) (suc b ∷ bs) = suc b ∷ nonzero most bs
+
+-- the length of a run of which k bytes are passed
+abbrev pub reached : ℕ → ℕ → List ℕ → ℕ
+reached most k xs = k + length (nonzero (most - k) (drop k xs))

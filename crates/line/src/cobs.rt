@@ -1,14 +1,17 @@
 // COBS: the length of a form, the form itself, the length that a form decodes to, and its decoding in place.
-// Each loop takes one group a turn. Assumes that the bytes named lie within the slices, as each `requires` says.
+// Each loop takes one group a turn, or a block of zeros. Assumes that the bytes named lie within the slices, as each `requires` says.
 use crate::limits::LONGEST_GROUP;
+use crate::scan::BLOCK;
+use crate::scan::alike;
 use crate::scan::least;
 use crate::scan::nonzero_run;
+use crate::scan::put_alike;
 ghost use mathlib.Core.Path.{_≡_};
 ghost use mathlib.Core.Bool.{true, false, cond};
 ghost use Prim.Native.Nat.{_+_, _-_, _≤_, _<_};
-ghost use lib.ListN.{length, take, set};
+ghost use lib.ListN.{length, take, set, replicate};
 ghost use lib.Seq.{slice};
-ghost use Rattle.octets.specs.Bytes.{overlay};
+ghost use Rattle.octets.specs.Bytes.{run, overlay};
 ghost use Rattle.line.specs.Limits.{longest-message};
 ghost use Rattle.line.specs.Cobs.{cobs, lastOneAfterFull, uncobs};
 ghost use Rattle.line.specs.Decoding.{measured, plain, bit};
@@ -22,40 +25,59 @@ pub(crate) fn form_length(s: &[u8], n: usize) -> usize
     let mut i = 0;
     let mut o = 0;
     loop {
-        let most = least(LONGEST_GROUP, n - i);
-        let k = nonzero_run(s, i, most);
-        i += k;
-        o += k + 1;
-        if i == n {
-            return o;
-        }
-        if k < LONGEST_GROUP {
+        if alike(0, s, i, BLOCK, n) {
+            i += BLOCK;
+            o += BLOCK;
+        } else if alike(0, s, i, 1, n) {
             i += 1;
+            o += 1;
+        } else {
+            let most = least(LONGEST_GROUP, n - i);
+            let k = nonzero_run(s, i, most);
+            i += k;
+            o += k + 1;
+            if i == n {
+                return o;
+            }
+            if k < LONGEST_GROUP {
+                i += 1;
+            }
         }
     }
 }
 
-// The COBS form of the first n bytes of s, at the start of out.
-pub(crate) fn encode(s: &[u8], n: usize, out: &mut [u8])
+// The COBS form of the first n bytes of s, at the start of out, and its length.
+pub(crate) fn encode(s: &[u8], n: usize, out: &mut [u8]) -> usize
     requires { ⌜ n ≤ length (now s) ⌝ }
     requires { ⌜ n ≤ longest-message ⌝ }
     requires { ⌜ length (cobs (take n (now s))) ≤ length (now out) ⌝ }
     ensures { λ _. ⌜ now (out .exit) ≡ overlay 0 (cobs (take n (now (s .entry)))) (now (out .entry)) ⌝ }
+    ensures { λ r. ⌜ r ≡ length (cobs (take n (now (s .entry)))) ⌝ }
 {
     let mut i = 0;
     let mut o = 0;
     loop {
-        let most = least(LONGEST_GROUP, n - i);
-        let k = nonzero_run(s, i, most);
-        out[o] = (k + 1) as u8;
-        octets::copy(s, i, k, out, o + 1);
-        i += k;
-        o += k + 1;
-        if i == n {
-            return;
-        }
-        if k < LONGEST_GROUP {
+        if alike(0, s, i, BLOCK, n) {
+            put_alike(1, out, o, BLOCK);
+            i += BLOCK;
+            o += BLOCK;
+        } else if alike(0, s, i, 1, n) {
+            put_alike(1, out, o, 1);
             i += 1;
+            o += 1;
+        } else {
+            let most = least(LONGEST_GROUP, n - i);
+            let k = nonzero_run(s, i, most);
+            out[o] = (k + 1) as u8;
+            octets::copy(s, i, k, out, o + 1);
+            i += k;
+            o += k + 1;
+            if i == n {
+                return o;
+            }
+            if k < LONGEST_GROUP {
+                i += 1;
+            }
         }
     }
 }
@@ -105,31 +127,38 @@ fn last_one_after_full(s: &[u8], n: usize, i: usize, c: usize) -> bool
     s[i + c] == 1
 }
 
-// The length that the first n bytes of s decode to, unless they are no COBS form.
+// The length that the first n bytes of s decode to, unless they are no COBS form: one less for each full group, and for the last group's zero.
 pub(crate) fn decoded_length(s: &[u8], n: usize) -> Measured
     requires { ⌜ n ≤ length (now s) ⌝ }
     ensures { λ r. ⌜ r ≡ measured (uncobs (take n (now (s .entry)))) ⌝ }
 {
+    let mut full: usize = 0;
     let mut zero = false;
-    let mut o: usize = 0;
     let mut i: usize = 0;
     while i < n {
-        let c = wide(s[i]);
-        if c == 0 {
-            return Measured::Bad;
+        if alike(1, s, i, BLOCK, n) {
+            i += BLOCK;
+            zero = true;
+        } else if alike(1, s, i, 1, n) {
+            i += 1;
+            zero = true;
+        } else {
+            let c = wide(s[i]);
+            if c == 0 {
+                return Measured::Bad;
+            }
+            if n - i < c {
+                return Measured::Bad;
+            }
+            if last_one_after_full(s, n, i, c) {
+                return Measured::Bad;
+            }
+            i += c;
+            zero = c <= LONGEST_GROUP;
+            full += held(!zero);
         }
-        if n - i < c {
-            return Measured::Bad;
-        }
-        if last_one_after_full(s, n, i, c) {
-            return Measured::Bad;
-        }
-        o += held(zero);
-        o += c - 1;
-        i += c;
-        zero = c <= LONGEST_GROUP;
     }
-    Measured::Length(o)
+    Measured::Length(n - full - held(zero))
 }
 
 // The first n bytes of s decoded to the start of s, where they are a COBS form.
@@ -141,16 +170,38 @@ pub(crate) fn decode(s: &mut [u8], n: usize)
     let mut o: usize = 0;
     let mut i: usize = 0;
     while i < n {
-        let c = wide(s[i]);
-        i += 1;
-        put_held(s, o, zero);
-        o += held(zero);
-        let k = least(less_one(c), n - i);
-        octets::move_down(s, i, o, k);
-        o += k;
-        i += k;
-        zero = c <= LONGEST_GROUP; // put ahead of the next group
+        if ones_held(zero, s, i, BLOCK, n) {
+            put_alike(0, s, o, BLOCK);
+            o += BLOCK;
+            i += BLOCK;
+        } else if ones_held(zero, s, i, 1, n) {
+            put_alike(0, s, o, 1);
+            o += 1;
+            i += 1;
+        } else {
+            let c = wide(s[i]);
+            i += 1;
+            put_held(s, o, zero);
+            o += held(zero);
+            let k = least(less_one(c), n - i);
+            octets::move_down(s, i, o, k);
+            o += k;
+            i += k;
+            zero = c <= LONGEST_GROUP; // put ahead of the next group
+        }
     }
+}
+
+// Whether a zero is held and k code bytes 01 are next: each puts the zero that is held, and holds another.
+fn ones_held(zero: bool, s: &[u8], i: usize, k: usize, n: usize) -> bool
+    requires { ⌜ (i ≤ n) × (n ≤ length (now s)) ⌝ }
+    requires { ⌜ 1 ≤ k ⌝ }
+    ensures { λ r. ⌜ (r ≡ true → (zero ≡ true) × (i + k ≤ n) × (run i k (now (s .entry)) ≡ replicate k 1)) ⌝ }
+{
+    if !zero {
+        return false;
+    }
+    alike(1, s, i, k, n)
 }
 
 // One less, and 0 at 0.

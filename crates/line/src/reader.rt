@@ -92,7 +92,7 @@ pub fn read(state: &mut [u8], piece: &[u8]) -> Reading
             answer: Answer::Refused,
         };
     }
-    let n = nonzero_run(piece, 0, piece.len());
+    let n = nonzero_run(&piece[0..], 0, piece.len());
     append(state, piece, n);
     if n == piece.len() {
         return Reading {

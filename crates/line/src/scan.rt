@@ -1,9 +1,17 @@
-// Runs of bytes that are not zero.
-// Assumes nothing: no function here has a `requires`.
+// Runs of bytes that are not zero, and runs of bytes that are alike: whole blocks at a time.
+// Assumes that the bytes named lie within the slices, as each `requires` says.
 ghost use mathlib.Core.Path.{_≡_};
-ghost use lib.ListN.{length, drop};
-ghost use Prim.Native.Nat.{min};
-ghost use Rattle.line.specs.Runs.{nonzero};
+ghost use mathlib.Core.Bool.{true, false};
+ghost use Prim.Native.Nat.{_+_, _≤_, min};
+ghost use lib.ListN.{length, drop, replicate};
+ghost use Rattle.octets.specs.Bytes.{run, overlay};
+ghost use Rattle.line.specs.Runs.{nonzero, reached};
+
+// How many bytes are tested together.
+pub(crate) const BLOCK: usize = 32;
+
+// And how many where fewer are left.
+const SMALL_BLOCK: usize = 8;
 
 // How many bytes of s from a place on are not zero, up to the first zero and at most so many.
 pub(crate) fn nonzero_run(s: &[u8], from: usize, most: usize) -> usize
@@ -13,7 +21,8 @@ pub(crate) fn nonzero_run(s: &[u8], from: usize, most: usize) -> usize
         return 0;
     }
     let end = least(most, s.len() - from);
-    let mut k = 0;
+    let mut k = pass_blocks(s, from, end, 0, BLOCK);
+    k = pass_blocks(s, from, end, k, SMALL_BLOCK);
     while k < end {
         if s[from + k] == 0 {
             return k;
@@ -21,6 +30,73 @@ pub(crate) fn nonzero_run(s: &[u8], from: usize, most: usize) -> usize
         k += 1;
     }
     k
+}
+
+// How many bytes of a run are passed, where some are already: by blocks of a width, up to the first that has a zero or does not fit.
+fn pass_blocks(s: &[u8], from: usize, end: usize, passed: usize, width: usize) -> usize
+    requires { ⌜ from + end ≤ length (now s) ⌝ }
+    requires { ⌜ passed ≤ end ⌝ }
+    requires { ⌜ 1 ≤ width ⌝ }
+    ensures { λ r. ⌜ (r ≤ end) × (reached end passed (drop from (now (s .entry))) ≡ reached end r (drop from (now (s .entry)))) ⌝ }
+{
+    let mut k = passed;
+    while width <= end - k {
+        if has_zero(s, from + k, width) {
+            return k;
+        }
+        k += width;
+    }
+    k
+}
+
+// Whether one of n bytes is zero. Every byte is tested, so that the compiler tests them together.
+fn has_zero(s: &[u8], at: usize, n: usize) -> bool
+    requires { ⌜ at + n ≤ length (now s) ⌝ }
+    ensures { λ r. ⌜ (r ≡ false → length (nonzero n (drop at (now (s .entry)))) ≡ n) ⌝ }
+{
+    let mut found = false;
+    let mut k = 0;
+    while k < n {
+        found = found | (s[at + k] == 0);
+        k += 1;
+    }
+    found
+}
+
+// Whether the n bytes from a place on stand ahead of an end and are all b. The first and the last are tested ahead of the others.
+pub(crate) fn alike(b: u8, s: &[u8], at: usize, n: usize, end: usize) -> bool
+    requires { ⌜ (at ≤ end) × (end ≤ length (now s)) ⌝ }
+    requires { ⌜ 1 ≤ n ⌝ }
+    ensures { λ r. ⌜ (r ≡ true → (at + n ≤ end) × (run at n (now (s .entry)) ≡ replicate n b)) ⌝ }
+{
+    if end - at < n {
+        return false;
+    }
+    if s[at] != b {
+        return false;
+    }
+    if s[at + n - 1] != b {
+        return false;
+    }
+    let mut other = false;
+    let mut k = 0;
+    while k < n {
+        other = other | (s[at + k] != b);
+        k += 1;
+    }
+    !other
+}
+
+// Puts n bytes b at a place.
+pub(crate) fn put_alike(b: u8, s: &mut [u8], at: usize, n: usize)
+    requires { ⌜ at + n ≤ length (now s) ⌝ }
+    ensures { λ _. ⌜ now (s .exit) ≡ overlay at (replicate n b) (now (s .entry)) ⌝ }
+{
+    let mut k = 0;
+    while k < n {
+        s[at + k] = b;
+        k += 1;
+    }
 }
 
 pub(crate) fn least(a: usize, b: usize) -> usize

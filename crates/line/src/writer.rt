@@ -6,11 +6,17 @@ use crate::sums;
 ghost use mathlib.Core.Path.{_≡_};
 ghost use mathlib.Core.List.{[], _∷_, _++_};
 ghost use Prim.Native.Nat.{_+_, _≤_};
+ghost use lib.Dec.{ltb};
 ghost use lib.ListN.{length, take};
-ghost use Rattle.line.specs.Limits.{longest-message, longest-data};
+ghost use Rattle.line.specs.Limits.{shortest-message, longest-message, longest-data};
 ghost use Rattle.line.specs.Message.{message};
 ghost use Rattle.line.specs.Cobs.{cobs};
 ghost use Rattle.line.specs.Writer.{messageOf, outcome, writing, sending};
+
+// A message with few data is put together in an array of its own.
+const SHORT_MESSAGE: usize = 64;
+
+const SHORT_DATA: usize = SHORT_MESSAGE - limits::SHORTEST_MESSAGE;
 
 // What a call of `write` says: how many bytes it wrote, or why it wrote none.
 pub enum Written {
@@ -36,9 +42,30 @@ pub fn write(
     if limits::LONGEST_DATA - head.len() < rest.len() {
         return Written::TooLong;
     }
+    if head.len() + rest.len() <= SHORT_DATA {
+        let mut message = [0u8; SHORT_MESSAGE];
+        return write_by(version, sequence, command, head, rest, &mut message, out);
+    }
     let mut message = [0u8; limits::LONGEST_MESSAGE];
-    let n = assemble(version, sequence, command, head, rest, &mut message);
-    send(&message, n, out)
+    write_by(version, sequence, command, head, rest, &mut message, out)
+}
+
+// The same with an array that the message is put together in.
+fn write_by(
+    version: u32,
+    sequence: u64,
+    command: u8,
+    head: &[u8],
+    rest: &[u8],
+    m: &mut [u8],
+    out: &mut [u8],
+) -> Written
+    requires { ⌜ length (now head) + length (now rest) ≤ longest-data ⌝ }
+    requires { ⌜ shortest-message + length (now head) + length (now rest) ≤ length (now m) ⌝ }
+    ensures { λ r. ⌜ outcome r (now (out .exit)) ≡ writing (messageOf version sequence command (now (head .entry)) (now (rest .entry))) (now (out .entry)) ⌝ }
+{
+    let n = assemble(version, sequence, command, head, rest, m);
+    send(m, n, out)
 }
 
 // The message's bytes at the start of an array, and how many they are.
@@ -48,10 +75,11 @@ fn assemble(
     command: u8,
     head: &[u8],
     rest: &[u8],
-    m: &mut [u8; limits::LONGEST_MESSAGE],
+    m: &mut [u8],
 ) -> usize
     requires { ⌜ length (now head) + length (now rest) ≤ longest-data ⌝ }
-    ensures { λ r. ⌜ r ≡ length (message (messageOf version sequence command (now (head .entry)) (now (rest .entry)))) ⌝ }
+    requires { ⌜ shortest-message + length (now head) + length (now rest) ≤ length (now m) ⌝ }
+    ensures { λ r. ⌜ r ≡ shortest-message + length (now (head .entry)) + length (now (rest .entry)) ⌝ }
     ensures { λ r. ⌜ take r (now (m .exit)) ≡ message (messageOf version sequence command (now (head .entry)) (now (rest .entry))) ⌝ }
 {
     octets::write_u32(m, 0, limits::MAGIC);
@@ -68,15 +96,27 @@ fn assemble(
 }
 
 // The frame of the message in the first n bytes of m.
-fn send(m: &[u8; limits::LONGEST_MESSAGE], n: usize, out: &mut [u8]) -> Written
+fn send(m: &[u8], n: usize, out: &mut [u8]) -> Written
     requires { ⌜ n ≤ longest-message ⌝ }
+    requires { ⌜ n ≤ length (now m) ⌝ }
     ensures { λ r. ⌜ outcome r (now (out .exit)) ≡ sending (cobs (take n (now (m .entry))) ++ (0 ∷ [])) (now (out .entry)) ⌝ }
 {
-    let k = cobs::form_length(m, n);
-    if out.len() <= k {
+    if !has_room(m, n, out.len()) {
         return Written::NoRoom;
     }
-    cobs::encode(m, n, out);
+    let k = cobs::encode(m, n, out);
     out[k] = 0;
     Written::Done(k + 1)
+}
+
+// Whether a room has place for the form and its 00. The form is measured only where the room could be too small for it.
+fn has_room(m: &[u8], n: usize, room: usize) -> bool
+    requires { ⌜ n ≤ longest-message ⌝ }
+    requires { ⌜ n ≤ length (now m) ⌝ }
+    ensures { λ r. ⌜ r ≡ ltb (length (cobs (take n (now (m .entry))))) room ⌝ }
+{
+    if limits::LONGEST_FORM < room {
+        return true;
+    }
+    cobs::form_length(m, n) < room
 }

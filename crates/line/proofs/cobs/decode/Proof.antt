@@ -4,8 +4,9 @@ use mathlib.Core.Path.{_≡_, refl, ap, _∙_}
 use Prim.Native.Nat.{ℕ, min, _+_, _-_, _≤_}
 use lib.ListN.{length}
 use borrow.Author.Needs.{needs}
+use native.Mathlib.Omega.{arith}
 use denote.Ref.{now}
-use Rattle.line.proofs.InPlace.{Middle, middle-start, middle-next, middle-end}
+use Rattle.line.proofs.InPlace.{Middle, middle-start, middle-next, middle-end, middle-ones}
 use Rattle.line.proofs.cobs.decode.Statement.{statement}
 use Rattle.line.proofs.cobs.decode.Tie as tie
 
@@ -18,13 +19,45 @@ abbrev μ-loop : tie.MeasureT-loop
 loop-holds : tie.Need-loop-holds Inv-loop μ-loop
 loop-holds c = (search needs, refl, middle-start _ _)
 
+-- a block of code bytes 01
 loop-again : tie.Need-loop-again Inv-loop μ-loop
 loop-again c =
+    let at-if = c .before .before .before .before in
+    let at-loop = at-if .before .before .before .before in
+    let turn = at-loop .loop in
+    let start = at-loop .before .before in
+    let ones = at-if .before .ones-held .ensures (at-if .if1 .taken) in (
+      omega (arith, ones .1),
+      search needs,
+      rw (c .before .before .put-alike .ensures)
+          (middle-ones (now (start .args .s)) (start .args .n) (turn .s) (turn .zero) (turn .o) (turn .i) 32
+          (ones .0) (turn .inv .2) (ones .1) (start .pre) (ones .2)),
+    )
+
+-- one
+loop-again-2 : tie.Need-loop-again-2 Inv-loop μ-loop
+loop-again-2 c =
+    let at-if = c .before .before .before .before in
+    let at-loop = at-if .before .before .before .before .before .before .before in
+    let turn = at-loop .loop in
+    let start = at-loop .before .before in
+    let ones = at-if .before .ones-held2 .ensures (at-if .if2 .taken) in (
+      omega (arith, ones .1),
+      search needs,
+      rw (c .before .before .put-alike2 .ensures)
+          (middle-ones (now (start .args .s)) (start .args .n) (turn .s) (turn .zero) (turn .o) (turn .i) 1
+          (ones .0) (turn .inv .2) (ones .1) (start .pre) (ones .2)),
+    )
+
+-- a group
+loop-again-3 : tie.Need-loop-again-3 Inv-loop μ-loop
+loop-again-3 c =
     let at-least = c .before .before .before .before in
     let at-held = at-least .before .before in
     let at-put = at-held .before .before .before in
     let at-wide = at-put .before .before in
-    let at-loop = at-wide .before .before .before in
+    let in-loop = at-wide .before .before .before .before .before .before .before .before in
+    let at-loop = in-loop .before in
     let turn = at-loop .loop in
     let start = at-loop .before .before in (
       search needs,
@@ -32,7 +65,7 @@ loop-again c =
       rw (c .before .before .move-down .ensures, at-put .put-held .ensures, at-held .held .ensures .0)
           (middle-next (now (start .args .s)) (start .args .n) (turn .s) (turn .zero) (turn .o) (turn .i)
           (at-wide .wide .result) (at-least .least .result)
-          (turn .inv .2) (at-wide .before .before .loop-test .taken) (start .pre) (at-wide .wide .ensures .0)
+          (turn .inv .2) (in-loop .loop-test .taken) (start .pre) (at-wide .wide .ensures .0)
           (at-least .least .ensures ∙ ap (λ (m : ℕ). min m (start .args .n - (turn .i + 1))) (at-least .before .less-one .ensures))),
     )
 
@@ -44,10 +77,27 @@ returns c =
     middle-end (now (start .args .s)) (start .args .n) (turn .s) (turn .zero) (turn .o) (turn .i)
     (turn .inv .2) (c .loop-test .left) (start .pre)
 
+-- where the code bytes 01 end
+block-end : (c : tie.Then1 Inv-loop μ-loop)
+    → let at-loop = c .before .before .before .before in
+    at-loop .loop .i + 32 ≤ at-loop .before .before .args .n
+block-end c = c .before .ones-held .ensures (c .if1 .taken) .1
+
+one-end : (c : tie.Then2 Inv-loop μ-loop)
+    → let at-loop = c .before .before .before .before .before .before .before in
+    at-loop .loop .i + 1 ≤ at-loop .before .before .args .n
+one-end c = c .before .ones-held2 .ensures (c .if2 .taken) .1
+
 pub decode-spec : {M : Type 1} → statement M
 decode-spec =
     tie.close
     (tie.spec
-    Inv-loop μ-loop loop-holds (λ c. search needs) (λ c κs. search needs) (λ c. search needs) (λ c κs. search needs) (λ c κs. search needs)
+    Inv-loop μ-loop loop-holds (λ c κs. search needs) (λ c κs. omega (arith, block-end (c .before)))
+    (λ c. omega (arith, block-end (c .before .before .before .before))) (λ c. omega (arith, block-end (c .before .before .before .before)))
+    (λ c. omega (arith, block-end (c .before .before .before .before))) loop-again
+    (λ c κs. search needs) (λ c κs. omega (arith, one-end (c .before)))
+    (λ c. omega (arith, one-end (c .before .before .before .before))) (λ c. omega (arith, one-end (c .before .before .before .before)))
+    (λ c. omega (arith, one-end (c .before .before .before .before))) loop-again-2
+    (λ c. search needs) (λ c κs. search needs) (λ c. search needs) (λ c κs. search needs) (λ c κs. search needs)
     (λ c. search needs) (λ c κs. search needs) (λ c. search needs) (λ c κs. search needs) (λ c κs. search needs) (λ c. search needs)
-    (λ c. search needs) (λ c. search needs) loop-again (λ c. search needs) returns)
+    (λ c. search needs) (λ c. search needs) loop-again-3 (λ c. search needs) returns)

@@ -1,46 +1,75 @@
 -- `cobs::decoded_length` meets its contract. The loop's invariant: the measured whole is what is counted with the groups that are left.
 -- Assumes nothing.
-use mathlib.Core.Path.{_≡_, sym, _∙_}
+use mathlib.Core.Path.{_≡_, sym, ap, _∙_}
 use Prim.Native.Nat.{_+_, _-_, _≤_}
 use native.Mathlib.Omega.{arith}
 use lib.Dec.{leb}
 use lib.ListN.{take}
 use borrow.Author.Needs.{needs}
 use denote.Ref.{now}
+use Rattle.line.specs.declared.cobs.Measured.the-variants.{Length}
 use Rattle.line.specs.Cobs.{uncobs}
 use Rattle.line.specs.Decoding.{bit, measured}
-use Rattle.line.proofs.Decoding.{bit-most, Counted, counted-start, counted-zero, counted-short, counted-last, counted-group, counted-end}
+use Rattle.line.proofs.Decoding.{bit-not, Counted, decodedOf, counted-start, counted-zero, counted-short, counted-last, counted-group, counted-ones, counted-end}
 use Rattle.line.proofs.cobs.decoded_length.Statement.{statement}
 use Rattle.line.proofs.cobs.decoded_length.Tie as tie
 
 abbrev Inv-loop : tie.InvT-loop
-Inv-loop s n zero₀ o₀ i₀ zero o i = (i ≤ n) × (o + bit zero ≤ i) × (measured (uncobs (take n s)) ≡ Counted s n i zero o)
+Inv-loop s n full₀ zero₀ i₀ full zero i =
+    (i ≤ n) × (full + bit zero ≤ i) × (measured (uncobs (take n s)) ≡ Counted s n i zero (decodedOf i full zero))
 
 abbrev μ-loop : tie.MeasureT-loop
-μ-loop s n zero₀ o₀ i₀ zero o i = n - i
+μ-loop s n full₀ zero₀ i₀ full zero i = n - i
 
 loop-holds : tie.Need-loop-holds Inv-loop μ-loop
 loop-holds c = (search needs, search needs, counted-start _)
 
+-- a block of code bytes 01
+loop-again : tie.Need-loop-again Inv-loop μ-loop
+loop-again c =
+    let at-loop = c .before .before .before in
+    let turn = at-loop .loop in
+    let start = at-loop .before .before in
+    let ones = c .before .alike .ensures (c .if1 .taken) in (
+      omega (arith, ones .0),
+      omega arith,
+      turn .inv .2 ∙ counted-ones (now (start .args .s)) (start .args .n) (turn .i) (turn .full) (turn .zero) (turn .inv .1) 32
+          (omega arith) (ones .0) (ones .1),
+    )
+
+-- one
+loop-again-2 : tie.Need-loop-again-2 Inv-loop μ-loop
+loop-again-2 c =
+    let at-loop = c .before .before .before .before .before in
+    let turn = at-loop .loop in
+    let start = at-loop .before .before in
+    let ones = c .before .alike2 .ensures (c .if2 .taken) in (
+      omega (arith, ones .0),
+      omega arith,
+      turn .inv .2 ∙ counted-ones (now (start .args .s)) (start .args .n) (turn .i) (turn .full) (turn .zero) (turn .inv .1) 1
+          (omega arith) (ones .0) (ones .1),
+    )
+
 -- a code byte 0
 returns : tie.Need-returns Inv-loop μ-loop
 returns c =
-    let at-loop = c .before .before .before .before in
-    let turn = at-loop .loop in
-    let start = at-loop .before .before in
-    counted-zero (now (start .args .s)) (start .args .n) (turn .i) (turn .zero) (turn .o) (c .before .wide .result)
-    (c .before .before .before .loop-test .taken) (start .pre) (c .before .wide .ensures .0) (c .if1 .taken)
+    let at-wide = c .before in
+    let in-loop = at-wide .before .before .before .before .before .before in
+    let turn = in-loop .before .loop in
+    let start = in-loop .before .before .before in
+    counted-zero (now (start .args .s)) (start .args .n) (turn .i) (turn .zero) _ (at-wide .wide .result)
+    (in-loop .loop-test .taken) (start .pre) (at-wide .wide .ensures .0) (c .if3 .taken)
     ∙ sym (turn .inv .2)
 
 -- a group that runs past the end
 returns-2 : tie.Need-returns-2 Inv-loop μ-loop
 returns-2 c =
-    let at-loop = c .before .before .before .before .before in
-    let turn = at-loop .loop in
-    let start = at-loop .before .before in
-    counted-short (now (start .args .s)) (start .args .n) (turn .i) (turn .zero) (turn .o) (c .before .before .wide .result)
-    (c .before .before .before .before .loop-test .taken) (start .pre) (c .before .before .wide .ensures .0)
-    (c .if2 .taken)
+    let at-wide = c .before .before in
+    let in-loop = at-wide .before .before .before .before .before .before in
+    let turn = in-loop .before .loop in
+    let start = in-loop .before .before .before in
+    counted-short (now (start .args .s)) (start .args .n) (turn .i) (turn .zero) _ (at-wide .wide .result)
+    (in-loop .loop-test .taken) (start .pre) (at-wide .wide .ensures .0) (c .if4 .taken)
     ∙ sym (turn .inv .2)
 
 -- a last 01 after a full group
@@ -48,41 +77,49 @@ returns-3 : tie.Need-returns-3 Inv-loop μ-loop
 returns-3 c =
     let at-call = c .before in
     let at-wide = at-call .before .before .before in
-    let at-loop = at-wide .before .before .before in
-    let turn = at-loop .loop in
-    let start = at-loop .before .before in
-    counted-last (now (start .args .s)) (start .args .n) (turn .i) (turn .zero) (turn .o) (at-wide .wide .result)
-    (at-wide .before .before .loop-test .taken) (start .pre) (at-wide .wide .ensures .0) (sym (c .if3 .taken) ∙ at-call .last-one-after-full .ensures)
+    let in-loop = at-wide .before .before .before .before .before .before in
+    let turn = in-loop .before .loop in
+    let start = in-loop .before .before .before in
+    counted-last (now (start .args .s)) (start .args .n) (turn .i) (turn .zero) _ (at-wide .wide .result)
+    (in-loop .loop-test .taken) (start .pre) (at-wide .wide .ensures .0) (sym (c .if5 .taken) ∙ at-call .last-one-after-full .ensures)
     ∙ sym (turn .inv .2)
 
-loop-again : tie.Need-loop-again Inv-loop μ-loop
-loop-again c =
+-- a group
+loop-again-3 : tie.Need-loop-again-3 Inv-loop μ-loop
+loop-again-3 c =
     let at-call = c .before .before in
     let at-wide = at-call .before .before .before in
-    let at-loop = at-wide .before .before .before in
-    let turn = at-loop .loop in
-    let start = at-loop .before .before in (
+    let in-loop = at-wide .before .before .before .before .before .before in
+    let turn = in-loop .before .loop in
+    let start = in-loop .before .before .before in
+    let next = bit-not (leb (at-wide .wide .result) 254) in (
       search needs,
-      omega (arith, bit-most (leb (at-wide .wide .result) 254)),
-      cc (counted-group (now (start .args .s)) (start .args .n) (turn .i) (turn .zero) (turn .o) (at-wide .wide .result)
-          (at-wide .before .before .loop-test .taken) (start .pre) (at-wide .wide .ensures .0)
-          (at-call .before .before .if1 .left) (at-call .before .if2 .left) (sym (c .before .if3 .left) ∙ at-call .last-one-after-full .ensures)),
+      omega arith,
+      rw (c .held .ensures .0) (turn .inv .2
+          ∙ counted-group (now (start .args .s)) (start .args .n) (turn .i) (turn .full) (turn .zero) (turn .inv .1) (at-wide .wide .result)
+          (in-loop .loop-test .taken) (start .pre) (at-wide .wide .ensures .0) (at-call .before .before .if3 .left) (at-call .before .if4 .left)
+          (sym (c .before .if5 .left) ∙ at-call .last-one-after-full .ensures)),
     )
 
 -- the end, at the end of a group
 returns-4 : tie.Need-returns-4 Inv-loop μ-loop
 returns-4 c =
-    let at-loop = c .before in
+    let at-loop = c .before .before in
     let turn = at-loop .loop in
     let start = at-loop .before .before in
-    counted-end (now (start .args .s)) (start .args .n) (turn .i) (turn .zero) (turn .o)
-    (c .loop-test .left) (start .pre)
+    let e : start .args .n - turn .full - c .held2 .result ≡ decodedOf (turn .i) (turn .full) (turn .zero) = omega arith in
+    ap Length e
+    ∙ counted-end (now (start .args .s)) (start .args .n) (turn .i) (turn .zero) _ (c .before .loop-test .left) (start .pre)
     ∙ sym (turn .inv .2)
 
 pub decoded-length-spec : {M : Type 1} → statement M
 decoded-length-spec =
     tie.close
     (tie.spec
-    Inv-loop μ-loop loop-holds (λ c. search needs) (λ c κs. search needs) returns (λ c. search needs) returns-2 (λ c κs. search needs)
-    returns-3 (λ c κs. search needs)
-    (λ c. search needs) (λ c. search needs) (λ c. search needs) (λ c. search needs) (λ c. search needs) loop-again returns-4)
+    Inv-loop μ-loop loop-holds (λ c κs. search needs) (λ c. omega (arith, c .before .alike .ensures (c .if1 .taken) .0))
+    (λ c. omega (arith, c .before .alike .ensures (c .if1 .taken) .0)) loop-again
+    (λ c κs. search needs) (λ c. omega (arith, c .before .alike2 .ensures (c .if2 .taken) .0))
+    (λ c. omega (arith, c .before .alike2 .ensures (c .if2 .taken) .0)) loop-again-2
+    (λ c. search needs) (λ c κs. search needs) returns (λ c. search needs) returns-2 (λ c κs. search needs) returns-3
+    (λ c. search needs) (λ c κs. search needs) (λ c. search needs) (λ c. search needs) loop-again-3
+    (λ c. search needs) (λ c κs. search needs) (λ c. omega arith) returns-4)

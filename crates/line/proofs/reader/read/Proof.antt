@@ -1,13 +1,15 @@
 -- `line::reader::read` meets its contract.
 -- Assumes nothing.
-use mathlib.Core.Path.{sym, _∙_}
+use mathlib.Core.Path.{_≡_, sym, _∙_}
 use native.Mathlib.Omega.{arith}
 use borrow.Author.Needs.{needs}
 use borrow.Author.Tests.{not-true, not-false}
 use denote.Ref.{now}
+use lib.ListN.{length}
 use Rattle.line.specs.Reader.{said}
+use Rattle.line.proofs.Rest.{rest-mid}
 use Rattle.line.proofs.State.{valid-ready}
-use Rattle.line.proofs.Reading.{ahead-most, reading-refused, reading-ready, reading-more, reading-stop}
+use Rattle.line.proofs.Reading.{ahead, ahead-most, reading-refused, reading-ready, reading-more, reading-stop}
 use Rattle.line.proofs.reader.read.Statement.{statement}
 use Rattle.line.proofs.reader.read.Tie as tie
 
@@ -15,47 +17,53 @@ returns : tie.Need-returns
 unfolding said
 returns c = reading-refused _ _ (sym (c .before .is-valid .ensures) ∙ not-true _ (c .if1 .taken))
 
+-- the search goes through the whole piece
+found : (c : tie.After-nonzero-run)
+    → c .nonzero-run .result ≡ length (ahead (now (c .before .before .before .before .before .before .before .args .piece)))
+found c = cc (rest-mid (now (c .before .before .before .before .before .before .before .args .piece)) 0)
+
 append-requires : tie.Need-append-requires
 append-requires c κs =
-    let z = c .before .before in
+    let run = c .before in
+    let z = run .before .before in
     let r = valid-ready _ (sym (z .before .is-valid .ensures) ∙ not-false _ (z .if1 .left)) in
     let piece = now (z .before .before .before .before .before .args .piece) in
-    (r .0, (r .1, omega (arith, c .before .nonzero-run .ensures, ahead-most piece)))
+    (r .0, (r .1, omega (arith, found run, ahead-most piece)))
 
 returns-2 : tie.Need-returns-2
 unfolding said
 returns-2 c =
     let pushed = c .before .before .before in
     let run = pushed .before .before in
-    let z = run .before in
-    reading-more _ _ (sym (z .before .is-valid .ensures) ∙ not-false _ (z .if1 .left)) (run .nonzero-run .ensures)
+    let z = run .before .before in
+    reading-more _ _ (sym (z .before .is-valid .ensures) ∙ not-false _ (z .if1 .left)) (found run)
     (pushed .append .ensures) (c .if2 .taken)
 
 finish-frame-requires : tie.Need-finish-frame-requires
 finish-frame-requires c κs =
     let pushed = c .before .before .before .before in
     let run = pushed .before .before in
-    let z = run .before in
-    let r = reading-ready _ _ (sym (z .before .is-valid .ensures) ∙ not-false _ (z .if1 .left)) (run .nonzero-run .ensures) (pushed .append .ensures) in
+    let z = run .before .before in
+    let r = reading-ready _ _ (sym (z .before .is-valid .ensures) ∙ not-false _ (z .if1 .left)) (found run) (pushed .append .ensures) in
     (r .0, r .1)
 
-add-t10 : tie.Need-add-t10
-add-t10 c =
+add-t14 : tie.Need-add-t14
+add-t14 c =
     let run = c .before .before .before .before .before .before .before .before .before in
-    omega (arith, run .nonzero-run .ensures, ahead-most (now (run .before .before .before .before .before .before .args .piece)))
+    omega (arith, found run, ahead-most (now (run .before .before .before .before .before .before .before .args .piece)))
 
 returns-3 : tie.Need-returns-3
 returns-3 c =
     let stop = c .before .before .before .before in
     let pushed = stop .before .before .before in
     let run = pushed .before .before in
-    let z = run .before in
-    reading-stop _ _ (sym (z .before .is-valid .ensures) ∙ not-false _ (z .if1 .left)) (run .nonzero-run .ensures)
+    let z = run .before .before in
+    reading-stop _ _ (sym (z .before .is-valid .ensures) ∙ not-false _ (z .if1 .left)) (found run)
     (pushed .append .ensures) (stop .if2 .left) (c .before .before .finish-frame .ensures)
 
 pub read-spec : {M : Type 1} → statement M
 read-spec =
     tie.close
     (tie.spec
-    (λ c κs. search needs) (λ c. search needs) returns (λ c κs. search needs) append-requires (λ c. search needs) returns-2
-    finish-frame-requires add-t10 (λ c. search needs) returns-3)
+    (λ c κs. search needs) (λ c. search needs) returns (λ c. search needs) (λ c. search needs) (λ c. search needs) (λ c κs. search needs)
+    append-requires (λ c. search needs) returns-2 finish-frame-requires add-t14 (λ c. search needs) returns-3)

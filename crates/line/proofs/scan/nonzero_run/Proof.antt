@@ -7,13 +7,13 @@ use denote.Ref.{now}
 use native.Mathlib.Omega.{arith}
 use lib.ListN.{length, drop, length-drop}
 use lib.Seq.{getD-drop}
-use Rattle.line.specs.Runs.{nonzero}
-use Rattle.line.proofs.Runs.{nonzero-length, reached, reached-none, reached-more, reached-zero, reached-end}
+use Rattle.line.specs.Runs.{nonzero, reached}
+use Rattle.line.proofs.Runs.{nonzero-length, reached-start, reached-more, reached-zero, reached-end}
 use Rattle.line.proofs.scan.nonzero_run.Statement.{statement}
 use Rattle.line.proofs.scan.nonzero_run.Tie as tie
 
 abbrev Inv-loop : tie.InvT-loop
-Inv-loop s from most end k₀ k = (k ≤ end) × (length (nonzero most (drop from s)) ≡ reached most k (drop from s))
+Inv-loop s from most end k₀ k = (k ≤ end) × (length (nonzero most (drop from s)) ≡ reached end k (drop from s))
 
 abbrev μ-loop : tie.MeasureT-loop
 μ-loop s from most end k₀ k = end - k
@@ -23,32 +23,50 @@ returns c =
     let a = c .before .before .args in
     omega (arith, nonzero-length (a .most) (drop (a .from) (now (a .s))), length-drop (a .from) (now (a .s)))
 
+-- no byte is passed, and then blocks of both widths
+loop-holds : tie.Need-loop-holds Inv-loop μ-loop
+loop-holds c =
+    let at-least = c .before .before in
+    let a = at-least .before .before .before .args in
+    let n = length-drop (a .from) (now (a .s)) in (
+      c .pass-blocks2 .ensures .0,
+      reached-start (a .most) (at-least .least .result) (drop (a .from) (now (a .s))) (rw n (at-least .least .ensures))
+          ∙ c .before .pass-blocks .ensures .1 ∙ c .pass-blocks2 .ensures .1,
+    )
+
 returns-2 : tie.Need-returns-2 Inv-loop μ-loop
 returns-2 c =
-    let l = c .before .before .before .loop in
-    let a = c .before .before .before .before .before .before .before .args in
+    let at-loop = c .before .before .before in
+    let l = at-loop .loop in
+    let at-least = at-loop .before .before .before in
+    let a = at-least .before .before .before .args in
     let n = length-drop (a .from) (now (a .s)) in
     let b = getD-drop (a .from) (now (a .s)) (l .k) 0 in
-    sym (l .inv .1 ∙ reached-zero (a .most) (l .k) (drop (a .from) (now (a .s))) (omega arith) (omega arith))
+    sym (l .inv .1 ∙ reached-zero (at-least .least .result) (l .k) (drop (a .from) (now (a .s))) (omega arith) (omega arith))
 
 loop-again : tie.Need-loop-again Inv-loop μ-loop
 loop-again c =
-    let l = c .before .before .before .loop in
-    let a = c .before .before .before .before .before .before .before .args in
+    let at-loop = c .before .before .before in
+    let l = at-loop .loop in
+    let at-least = at-loop .before .before .before in
+    let a = at-least .before .before .before .args in
     let n = length-drop (a .from) (now (a .s)) in
     let b = getD-drop (a .from) (now (a .s)) (l .k) 0 in
-    (search needs, l .inv .1 ∙ reached-more (a .most) (l .k) (drop (a .from) (now (a .s))) (omega arith) (omega arith) (omega arith))
+    (search needs, l .inv .1 ∙ reached-more (at-least .least .result) (l .k) (drop (a .from) (now (a .s))) (omega arith) (omega arith) (omega arith))
 
 returns-3 : tie.Need-returns-3 Inv-loop μ-loop
 returns-3 c =
-    let l = c .before .loop in
-    let a = c .before .before .before .before .before .args in
+    let at-loop = c .before in
+    let l = at-loop .loop in
+    let at-least = at-loop .before .before .before in
+    let a = at-least .before .before .before .args in
     let n = length-drop (a .from) (now (a .s)) in
-    sym (l .inv .1 ∙ reached-end (a .most) (l .k) (drop (a .from) (now (a .s))) (omega arith))
+    sym (l .inv .1 ∙ reached-end (at-least .least .result) (l .k) (drop (a .from) (now (a .s))) (omega arith))
 
 pub nonzero-run-spec : {M : Type 1} → statement M
 nonzero-run-spec =
     tie.close
     (tie.spec
-    Inv-loop μ-loop returns (λ c. search needs) (λ c κs. search needs) (λ c. (search needs, reached-none _ _)) (λ c. search needs)
-    (λ c. search needs) returns-2 (λ c. search needs) (λ c. search needs) loop-again returns-3)
+    Inv-loop μ-loop returns (λ c. search needs) (λ c κs. search needs) (λ c κs. (omega arith, (omega arith, omega arith)))
+    (λ c κs. (omega arith, (omega arith, omega arith))) loop-holds (λ c. search needs) (λ c. search needs) returns-2 (λ c. search needs)
+    (λ c. search needs) loop-again returns-3)

@@ -1,18 +1,33 @@
 -- `line::writer::send` meets its contract.
 -- Assumes nothing.
+use mathlib.Core.Path.{refl, sym, _∙_}
+use Prim.Native.Nat.{_≤_, _<_}
 use borrow.Author.Needs.{needs}
+use borrow.Author.Tests.{ltb-true, ltb-false, not-true, not-false}
 use denote.Ref.{now}
 use native.Mathlib.Omega.{arith}
-use lib.ListN.{take}
+use lib.ListN.{length, take}
 use Rattle.line.specs.Cobs.{cobs}
 use Rattle.line.proofs.Sending.{send-refused, send-done}
 use Rattle.line.proofs.writer.send.Statement.{statement}
 use Rattle.line.proofs.writer.send.Tie as tie
 
+-- the room has no place for the form and its 00, or has
+short : (c : tie.Then1) → let a = c .before .before .before .before .args in length (now (a .out)) ≤ length (cobs (take (a .n) (now (a .m))))
+short c = ltb-false _ _ (sym (c .before .has-room .ensures) ∙ not-true _ (c .if1 .taken))
+
+roomy : (c : tie.Else1) → let a = c .before .before .before .before .args in length (cobs (take (a .n) (now (a .m)))) < length (now (a .out))
+roomy c = ltb-true _ _ (sym (c .before .has-room .ensures) ∙ not-false _ (c .if1 .left))
+
 pub send-spec : {M : Type 1} → statement M
 send-spec =
     tie.close
-    (tie.spec (λ c κs. search needs)
-    (λ c. let a = c .before .before .before .before .args in send-refused (cobs (take (a .n) (now (a .m)))) _ (c .before .form-length .ensures) (omega arith))
-    (λ c κs. search needs) (λ c. search needs) (λ c. search needs) (λ c. search needs)
-    (λ c. send-done _ _ (c .before .before .before .before .before .before .form-length .ensures) (omega arith) (c .before .before .encode .ensures)))
+    (tie.spec (λ c κs. search needs) (λ c. let a = c .before .before .before .before .args in send-refused (cobs (take (a .n) (now (a .m)))) _ refl (short c))
+    (λ c κs. let r = roomy (c .before) in search needs)
+    (λ c. omega (arith, roomy (c .before .before .before .before), c .before .before .encode .ensures .1))
+    (λ c. omega (arith, roomy (c .before .before .before .before), c .before .before .encode .ensures .1))
+    (λ c. search needs)
+    (λ c.
+    let r = roomy (c .before .before .before .before) in
+    let e = c .before .before .encode .ensures in
+    send-done _ _ (e .1) (omega arith) (e .0)))

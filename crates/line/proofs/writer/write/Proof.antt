@@ -3,8 +3,7 @@
 use borrow.Author.Needs.{needs}
 use native.Mathlib.Omega.{arith}
 use lib.ListN.{length-append}
-use Rattle.line.proofs.Message.{message-fits}
-use Rattle.line.proofs.Sending.{write-refused, write-sent}
+use Rattle.line.proofs.Sending.{write-refused}
 use Rattle.line.proofs.writer.write.Statement.{statement}
 use Rattle.line.proofs.writer.write.Tie as tie
 
@@ -12,6 +11,5 @@ pub write-spec : {M : Type 1} → statement M
 write-spec =
     tie.close
     (tie.spec (λ c. write-refused _ _ (simp length-append (omega arith))) (λ c. search needs)
-    (λ c. write-refused _ _ (simp length-append (omega arith))) (λ c κs. search needs)
-    (λ c κs. rw (c .before .before .assemble .ensures .0) (message-fits _ (simp length-append (omega arith)))) (λ c. search needs)
-    (λ c. write-sent _ _ (simp length-append (omega arith)) (c .before .before .before .before .before .assemble .ensures .1) (c .before .before .send .ensures)))
+    (λ c. write-refused _ _ (simp length-append (omega arith))) (λ c. search needs) (λ c. search needs) (λ c κs. search needs)
+    (λ c. search needs) (λ c. search needs) (λ c. search needs) (λ c κs. search needs) (λ c. search needs) (λ c. search needs))

@@ -1,0 +1,33 @@
+-- `pass_blocks` meets its contract. The loop's invariant: k bytes of the run are passed.
+-- Assumes nothing.
+use Prim.Native.Nat.{_-_, _≤_}
+use mathlib.Core.Path.{_≡_, refl, _∙_}
+use borrow.Author.Needs.{needs}
+use denote.Ref.{now}
+use native.Mathlib.Omega.{arith}
+use lib.ListN.{drop}
+use lib.Seq.{drop-drop}
+use Rattle.line.specs.Runs.{reached}
+use Rattle.line.proofs.Runs.{reached-block}
+use Rattle.line.proofs.scan.pass_blocks.Statement.{statement}
+use Rattle.line.proofs.scan.pass_blocks.Tie as tie
+
+abbrev Inv-loop : tie.InvT-loop
+Inv-loop s from end passed width k₀ k = (k ≤ end) × (reached end passed (drop from s) ≡ reached end k (drop from s))
+
+abbrev μ-loop : tie.MeasureT-loop
+μ-loop s from end passed width k₀ k = end - k
+
+loop-again : tie.Need-loop-again Inv-loop μ-loop
+loop-again c =
+    let l = c .before .before .before .loop in
+    let a = c .before .before .before .before .before .args in
+    let b = rw (← drop-drop (l .k) (a .from) (now (a .s))) at (c .before .has-zero .ensures (c .if1 .left)) in
+    (omega arith, l .inv .1 ∙ reached-block (a .end) (l .k) (a .width) (drop (a .from) (now (a .s))) (omega arith) b)
+
+pub pass-blocks-spec : {M : Type 1} → statement M
+pass-blocks-spec =
+    tie.close
+    (tie.spec
+    Inv-loop μ-loop (λ c. (search needs, refl)) (λ c. search needs) (λ c. omega arith) (λ c κs. omega arith)
+    (λ c. c .before .before .before .loop .inv) (λ c. omega arith) (λ c. search needs) loop-again (λ c. c .before .loop .inv))
