@@ -29,7 +29,7 @@ pub fn addresses(base: [u8; 6], count: u16, stride: u8) -> [[u8; 6]; 8]
 {
     let zero = [0u8; 6];
     let mut rows = [zero; 8];
-    let filled = least(count, MOST_FILLED);
+    let filled = min(count, MOST_FILLED);
     if last_passes(base, count, stride) {
         return rows;
     }
@@ -101,7 +101,7 @@ fn wide(b: u8) -> u64
     b as u64
 }
 
-fn least(a: u16, b: u16) -> u16
+fn min(a: u16, b: u16) -> u16
     ensures { λ r. ⌜ r ≡ min a b ⌝ }
 {
     if a < b { a } else { b }

@@ -3,7 +3,6 @@
 use crate::limits::LONGEST_GROUP;
 use crate::scan::BLOCK;
 use crate::scan::alike;
-use crate::scan::least;
 use crate::scan::nonzero_run;
 use crate::scan::put_alike;
 ghost use mathlib.Core.Path.{_≡_};
@@ -32,7 +31,7 @@ pub(crate) fn form_length(s: &[u8], n: usize) -> usize
             i += 1;
             o += 1;
         } else {
-            let most = least(LONGEST_GROUP, n - i);
+            let most = octets::min(LONGEST_GROUP, n - i);
             let k = nonzero_run(s, i, most);
             i += k;
             o += k + 1;
@@ -66,7 +65,7 @@ pub(crate) fn encode(s: &[u8], n: usize, out: &mut [u8]) -> usize
             i += 1;
             o += 1;
         } else {
-            let most = least(LONGEST_GROUP, n - i);
+            let most = octets::min(LONGEST_GROUP, n - i);
             let k = nonzero_run(s, i, most);
             out[o] = (k + 1) as u8;
             octets::copy(s, i, k, out, o + 1);
@@ -183,7 +182,7 @@ pub(crate) fn decode(s: &mut [u8], n: usize)
             i += 1;
             put_held(s, o, zero);
             o += held(zero);
-            let k = least(less_one(c), n - i);
+            let k = octets::min(less_one(c), n - i);
             octets::move_down(s, i, o, k);
             o += k;
             i += k;

@@ -161,7 +161,8 @@ fn set_count(state: &mut [u8], n: usize)
     octets::write_u16(state, 0, n as u16);
 }
 
-fn is_valid(state: &[u8]) -> bool
+// Whether a state passes the tests for 12.
+pub fn is_valid(state: &[u8]) -> bool
     ensures { λ r. ⌜ r ≡ valid (now (state .entry)) ⌝ }
 {
     if state.len() < STATE_LENGTH {

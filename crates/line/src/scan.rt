@@ -20,7 +20,7 @@ pub(crate) fn nonzero_run(s: &[u8], from: usize, most: usize) -> usize
     if s.len() < from {
         return 0;
     }
-    let end = least(most, s.len() - from);
+    let end = octets::min(most, s.len() - from);
     let mut k = pass_blocks(s, from, end, 0, BLOCK);
     k = pass_blocks(s, from, end, k, SMALL_BLOCK);
     while k < end {
@@ -97,10 +97,4 @@ pub(crate) fn put_alike(b: u8, s: &mut [u8], at: usize, n: usize)
         s[at + k] = b;
         k += 1;
     }
-}
-
-pub(crate) fn least(a: usize, b: usize) -> usize
-    ensures { λ r. ⌜ r ≡ min a b ⌝ }
-{
-    if a < b { a } else { b }
 }

@@ -6,7 +6,6 @@ use line::sums;
 use line::writer;
 use text_lines::fields;
 use text_lines::pieces;
-use text_lines::pieces::least;
 use text_lines::streams;
 
 const STATE_ROOM: usize = 4200;
@@ -93,8 +92,8 @@ fn write_data(line: &[u8], data: &[u8], out: &mut [u8]) -> usize {
     let version = fields::hex_u32(line, 1);
     let sequence = fields::hex(line, 2);
     let command = fields::hex_u8(line, 3);
-    let cut = least(fields::count(line, 4), data.len());
-    let end = least(fields::count(line, 5), out.len());
+    let cut = octets::min(fields::count(line, 4), data.len());
+    let end = octets::min(fields::count(line, 5), out.len());
     print::writing(writer::write(
         version,
         sequence,
@@ -156,13 +155,13 @@ fn change(line: &[u8], key: u8, now: Case) -> Case {
 
 // One call of read that is lent the first n bytes of the state.
 fn read_lent(state: &mut [u8], n: usize, piece: &[u8]) {
-    let end = least(n, state.len());
+    let end = octets::min(n, state.len());
     read_once(&mut state[0..end], piece);
 }
 
 // One call of start likewise.
 fn start_lent(state: &mut [u8], n: usize) {
-    let end = least(n, state.len());
+    let end = octets::min(n, state.len());
     print::starting(reader::start(&mut state[0..end]));
 }
 

@@ -37,7 +37,7 @@ pub extern "C" fn oatcastle_line_start(state: &mut [u8]) -> u32
 pub extern "C" fn oatcastle_line_read(state: &mut [u8], piece: &[u8], answer: &mut [u64]) -> u32
     ensures { λ r. ⌜ outcome r (now (state .exit), now (answer .exit)) ≡ lineReadCall (now (state .entry)) (now (piece .entry)) (now (answer .entry)) ⌝ }
 {
-    if !is_valid(state) {
+    if !line::reader::is_valid(state) {
         return 12;
     }
     if answer.len() < READ_NUMBERS {
@@ -46,18 +46,6 @@ pub extern "C" fn oatcastle_line_read(state: &mut [u8], piece: &[u8], answer: &m
     let read = line::reader::read(state, piece);
     let said = read.answer;
     tell_reading(answer, read.used as u64, said)
-}
-
-// Whether the state passes the tests for 12.
-fn is_valid(state: &[u8]) -> bool
-    ensures { λ r. ⌜ r ≡ valid (now (state .entry)) ⌝ }
-{
-    let tail = line::reader::tail(state);
-    match tail {
-        Unfinished::Refused => false,
-        Unfinished::Bytes(_) => true,
-        Unfinished::Longer => true,
-    }
 }
 
 // The numbers of the reader's answer.

@@ -1,8 +1,15 @@
 // Runs of bytes and little-endian numbers on lent slices. Every function is total: a byte past the
 // end reads as 0, and nothing is written where it does not fit.
 ghost use mathlib.Core.Path.{_≡_};
-ghost use Prim.Native.Nat.{_<_};
+ghost use Prim.Native.Nat.{_<_, min};
 ghost use Rattle.octets.specs.Bytes.{bytes, run, numberAt, put, copied, movedDown, sameRun};
+
+// The smaller of two numbers.
+pub fn min(a: usize, b: usize) -> usize
+    ensures { λ r. ⌜ r ≡ min a b ⌝ }
+{
+    if a < b { a } else { b }
+}
 
 // The byte at a place.
 pub fn read_u8(s: &[u8], at: usize) -> u8

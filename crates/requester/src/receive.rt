@@ -53,7 +53,7 @@ fn listen(piece: &[u8], reader: &mut [u8], requester: &mut [u8], n: usize) -> Re
     requires { ⌜ n ≤ longest-form ⌝ }
     ensures { λ r. ⌜ receiptOf r (parts (now (reader .exit)) (now (requester .exit))) ≡ received (parts (now (reader .entry)) (now (requester .entry))) (now (piece .entry)) ⌝ }
 {
-    let end = least(layout::OVERLONG - n, piece.len());
+    let end = octets::min(layout::OVERLONG - n, piece.len());
     let read = line::reader::read(reader, &piece[..end]);
     let used = read.used;
     let answer = read.answer;
@@ -85,10 +85,4 @@ fn skip(piece: &[u8], reader: &mut [u8], requester: &[u8]) -> Received
         ended: false,
         unsent,
     }
-}
-
-fn least(a: usize, b: usize) -> usize
-    ensures { λ r. ⌜ r ≡ min a b ⌝ }
-{
-    if a < b { a } else { b }
 }

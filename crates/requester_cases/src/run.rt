@@ -147,7 +147,7 @@ fn store(line: &[u8], now: Case) -> Case {
 
 // The first n bytes, or all.
 fn first<'a>(s: &'a mut [u8], n: usize) -> &'a mut [u8] {
-    let end = pieces::least(n, s.len());
+    let end = octets::min(n, s.len());
     &mut s[0..end]
 }
 

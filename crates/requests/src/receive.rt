@@ -4,14 +4,13 @@ use crate::head;
 use crate::requests;
 use crate::sending::fail;
 use line::reader::Answer;
-use line::reader::Unfinished;
 use supervisor::number::RequestNumber;
 use supervisor::valid;
 ghost use mathlib.Core.Path.{_≡_};
 ghost use mathlib.Core.Bool.{true};
 ghost use Prim.Native.Nat.{_≤_};
 ghost use lib.ListN.{length};
-ghost use Rattle.line.specs.Reader.{said, valid as readerValid};
+ghost use Rattle.line.specs.Reader.{said};
 ghost use Rattle.supervisor.specs.Layout.{outbox-length};
 ghost use Rattle.supervisor.specs.Valid.{validFactory};
 ghost use Rattle.supervisor.specs.Calls.{parts};
@@ -101,7 +100,7 @@ fn are_valid(
 ) -> bool
     ensures { λ r. ⌜ r ≡ validParts (parts (now (reader .entry)) (now (outbox .entry)) (now (factory .entry)) (now (settings .entry)) (now (registers .entry))) ⌝ }
 {
-    if !reader_is_valid(reader) {
+    if !line::reader::is_valid(reader) {
         return false;
     }
     if !valid::factory_is_valid(factory) {
@@ -114,17 +113,6 @@ fn are_valid(
         return false;
     }
     valid::registers_are_valid(registers)
-}
-
-fn reader_is_valid(reader: &[u8]) -> bool
-    ensures { λ r. ⌜ r ≡ readerValid (now (reader .entry)) ⌝ }
-{
-    let tail = line::reader::tail(reader);
-    match tail {
-        Unfinished::Refused => false,
-        Unfinished::Bytes(_) => true,
-        Unfinished::Longer => true,
-    }
 }
 
 // One turn of valid parts: what the line reader reads of a piece, and what comes of the frame that it ends.

@@ -71,14 +71,8 @@ fn set_record(registers: &mut [u8], at: usize, code: u16, data: &[u8], from: usi
     registers[at] = 1;
     octets::write_u16(registers, at + layout::RECORD_CODE_PLACE, code);
     octets::write_u16(registers, at + layout::RECORD_WHOLE_PLACE, whole as u16);
-    let kept = least(whole, layout::MOST_KEPT);
+    let kept = octets::min(whole, layout::MOST_KEPT);
     octets::copy(data, from, kept, registers, at + layout::RECORD_KEPT_PLACE);
-}
-
-fn least(a: usize, b: usize) -> usize
-    ensures { λ r. ⌜ r ≡ min a b ⌝ }
-{
-    if a < b { a } else { b }
 }
 
 // The start is acknowledged: status bit 0 is cleared, and the request acknowledged.

@@ -6,7 +6,6 @@ use rot::reader;
 use rot::writer;
 use text_lines::fields;
 use text_lines::pieces;
-use text_lines::pieces::least;
 use text_lines::streams;
 
 const PIECE_ROOM: usize = 1024;
@@ -78,7 +77,7 @@ fn read(line: &[u8], now: Case) -> Case {
 
 // With the first bytes of the output as room; how many bytes the echo's answer has.
 fn read_into(input: &[u8], out: &mut [u8], room: usize) -> usize {
-    let end = least(room, out.len());
+    let end = octets::min(room, out.len());
     print::reading(reader::read(input, &mut out[0..end]))
 }
 
@@ -97,7 +96,7 @@ fn write(line: &[u8], now: Case) -> Case {
 // The type is the line's first field, the room its second; how many bytes are written.
 fn write_into(line: &[u8], payload: &[u8], out: &mut [u8]) -> usize {
     let kind = fields::hex_u8(line, 1);
-    let end = least(fields::count(line, 2), out.len());
+    let end = octets::min(fields::count(line, 2), out.len());
     print::writing(writer::write(kind, payload, &mut out[0..end]))
 }
 

@@ -22,7 +22,7 @@ pub fn take(outbox: &mut [u8], room: &mut [u8]) -> Taken
     }
     let from = octets::word_at(outbox, layout::OUTBOX_FROM_PLACE);
     let pending = octets::word_at(outbox, layout::OUTBOX_TO_PLACE) - from;
-    let n = least(room.len(), pending);
+    let n = octets::min(room.len(), pending);
     if n == 0 {
         return Taken::Moved(0);
     }
@@ -32,12 +32,6 @@ pub fn take(outbox: &mut [u8], room: &mut [u8]) -> Taken
     octets::write_u16(outbox, layout::OUTBOX_FROM_PLACE, (from + n) as u16);
     outbox[layout::OUTBOX_OWING_PLACE] = owing(last);
     Taken::Moved(n)
-}
-
-fn least(a: usize, b: usize) -> usize
-    ensures { λ r. ⌜ r ≡ min a b ⌝ }
-{
-    if a < b { a } else { b }
 }
 
 // Whether a 00 is owed behind a byte.

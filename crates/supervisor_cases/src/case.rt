@@ -2,7 +2,6 @@
 // Assumes nothing.
 use supervisor::layout;
 use text_lines::digest::digest_on;
-use text_lines::pieces::least;
 
 // How many bytes of each part are lent past its published length.
 const SPARE: usize = 9;
@@ -79,7 +78,7 @@ pub(crate) fn fresh_parts() -> Parts {
 
 // The first n bytes, or all.
 pub(crate) fn first<'a>(s: &'a mut [u8], n: usize) -> &'a mut [u8] {
-    let end = least(n, s.len());
+    let end = octets::min(n, s.len());
     &mut s[0..end]
 }
 

@@ -5,13 +5,6 @@ ghost use Prim.Native.Nat.{_≤_, min};
 ghost use Rattle.text_lines.specs.Pieces.{lastAgain, adds, addedAt, roomAfter, countAfter};
 use crate::fields;
 
-// The lesser of two counts.
-pub fn least(a: usize, b: usize) -> usize
-    ensures { λ r. ⌜ (r ≡ min a b) × (r ≤ b) ⌝ }
-{
-    if a < b { a } else { b }
-}
-
 // How many bytes a line adds.
 fn how_many(line: &[u8]) -> usize
     ensures { λ r. ⌜ r ≡ adds (now (line .entry)) ⌝ }

@@ -64,9 +64,9 @@ loop-again-3 c =
       search needs,
       rw (c .before .before .move-down .ensures, at-put .put-held .ensures, at-held .held .ensures .0)
           (middle-next (now (start .args .s)) (start .args .n) (turn .s) (turn .zero) (turn .o) (turn .i)
-          (at-wide .wide .result) (at-least .least .result)
+          (at-wide .wide .result) (at-least .min .result)
           (turn .inv .2) (in-loop .loop-test .taken) (start .pre) (at-wide .wide .ensures .0)
-          (at-least .least .ensures ∙ ap (λ (m : ℕ). min m (start .args .n - (turn .i + 1))) (at-least .before .less-one .ensures))),
+          (at-least .min .ensures ∙ ap (λ (m : ℕ). min m (start .args .n - (turn .i + 1))) (at-least .before .less-one .ensures))),
     )
 
 returns : tie.Need-returns Inv-loop μ-loop

@@ -40,7 +40,7 @@ known : (c : tie.After-nonzero-run Inv-loop μ-loop)
     Turn (now (a .s)) (a .n) (at-loop .loop .i) (at-loop .loop .o) (c .nonzero-run .result)
 known c =
     let l = c .before .before .before .before .before .before .loop .inv in
-    turn _ _ _ _ _ _ (c .before .before .before .before .before .before .before .before .pre .0) (l .0) (l .2) (c .before .least .ensures) (c .nonzero-run .ensures)
+    turn _ _ _ _ _ _ (c .before .before .before .before .before .before .before .before .pre .0) (l .0) (l .2) (c .before .min .ensures) (c .nonzero-run .ensures)
 
 pub form-length-spec : {M : Type 1} → statement M
 form-length-spec =

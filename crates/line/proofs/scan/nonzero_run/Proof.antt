@@ -30,7 +30,7 @@ loop-holds c =
     let a = at-least .before .before .before .args in
     let n = length-drop (a .from) (now (a .s)) in (
       c .pass-blocks2 .ensures .0,
-      reached-start (a .most) (at-least .least .result) (drop (a .from) (now (a .s))) (rw n (at-least .least .ensures))
+      reached-start (a .most) (at-least .min .result) (drop (a .from) (now (a .s))) (rw n (at-least .min .ensures))
           ∙ c .before .pass-blocks .ensures .1 ∙ c .pass-blocks2 .ensures .1,
     )
 
@@ -42,7 +42,7 @@ returns-2 c =
     let a = at-least .before .before .before .args in
     let n = length-drop (a .from) (now (a .s)) in
     let b = getD-drop (a .from) (now (a .s)) (l .k) 0 in
-    sym (l .inv .1 ∙ reached-zero (at-least .least .result) (l .k) (drop (a .from) (now (a .s))) (omega arith) (omega arith))
+    sym (l .inv .1 ∙ reached-zero (at-least .min .result) (l .k) (drop (a .from) (now (a .s))) (omega arith) (omega arith))
 
 loop-again : tie.Need-loop-again Inv-loop μ-loop
 loop-again c =
@@ -52,7 +52,7 @@ loop-again c =
     let a = at-least .before .before .before .args in
     let n = length-drop (a .from) (now (a .s)) in
     let b = getD-drop (a .from) (now (a .s)) (l .k) 0 in
-    (search needs, l .inv .1 ∙ reached-more (at-least .least .result) (l .k) (drop (a .from) (now (a .s))) (omega arith) (omega arith) (omega arith))
+    (search needs, l .inv .1 ∙ reached-more (at-least .min .result) (l .k) (drop (a .from) (now (a .s))) (omega arith) (omega arith) (omega arith))
 
 returns-3 : tie.Need-returns-3 Inv-loop μ-loop
 returns-3 c =
@@ -61,7 +61,7 @@ returns-3 c =
     let at-least = at-loop .before .before .before in
     let a = at-least .before .before .before .args in
     let n = length-drop (a .from) (now (a .s)) in
-    sym (l .inv .1 ∙ reached-end (at-least .least .result) (l .k) (drop (a .from) (now (a .s))) (omega arith))
+    sym (l .inv .1 ∙ reached-end (at-least .min .result) (l .k) (drop (a .from) (now (a .s))) (omega arith))
 
 pub nonzero-run-spec : {M : Type 1} → statement M
 nonzero-run-spec =

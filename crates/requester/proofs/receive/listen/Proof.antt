@@ -14,7 +14,7 @@ slice-aggregate-read : tie.Need-slice-aggregate-read
 slice-aggregate-read c =
     let least = c .before .before in
     let start = least .before .before .before .before in
-    omega (arith, least .least .ensures, length-take (least .least .result) (now (start .args .piece)))
+    omega (arith, least .min .ensures, length-take (least .min .result) (now (start .args .piece)))
 
 settle-requires : tie.Need-settle-requires
 settle-requires c κs =
@@ -36,7 +36,7 @@ returns c =
     let read = settle .before .before .before .before .before in
     let least = read .before .before .before in
     let start = least .before .before .before .before in
-    heard-received _ _ (start .pre .0) (start .pre .1 .0) (start .pre .1 .1) (least .least .ensures) (read .read .ensures) (settle .settle .ensures) (go-on .go-on .ensures) (c .is-unsent .ensures)
+    heard-received _ _ (start .pre .0) (start .pre .1 .0) (start .pre .1 .1) (least .min .ensures) (read .read .ensures) (settle .settle .ensures) (go-on .go-on .ensures) (c .is-unsent .ensures)
 
 pub listen-spec : {M : Type 1} → statement M
 listen-spec =

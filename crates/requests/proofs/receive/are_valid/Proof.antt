@@ -9,23 +9,23 @@ use Rattle.requests.proofs.receive.are_valid.Tie as tie
 
 returns : tie.Need-returns
 unfolding validParts validInner
-returns c = rw (refused _ _ (c .before .reader-is-valid .ensures) (c .if1 .taken))
+returns c = rw (refused _ _ (c .before .is-valid .ensures) (c .if1 .taken))
 
 returns-2 : tie.Need-returns-2
 unfolding validParts validInner
-returns-2 c = rw (passed _ _ (c .before .before .before .reader-is-valid .ensures) (c .before .before .if1 .left), refused _ _ (c .before .factory-is-valid .ensures) (c .if2 .taken))
+returns-2 c = rw (passed _ _ (c .before .before .before .is-valid .ensures) (c .before .before .if1 .left), refused _ _ (c .before .factory-is-valid .ensures) (c .if2 .taken))
 
 returns-3 : tie.Need-returns-3
 unfolding validParts validInner
-returns-3 c = rw (passed _ _ (c .before .before .before .before .before .reader-is-valid .ensures) (c .before .before .before .before .if1 .left), passed _ _ (c .before .before .before .factory-is-valid .ensures) (c .before .before .if2 .left), refused _ _ (c .before .outbox-is-valid .ensures) (c .if3 .taken))
+returns-3 c = rw (passed _ _ (c .before .before .before .before .before .is-valid .ensures) (c .before .before .before .before .if1 .left), passed _ _ (c .before .before .before .factory-is-valid .ensures) (c .before .before .if2 .left), refused _ _ (c .before .outbox-is-valid .ensures) (c .if3 .taken))
 
 returns-4 : tie.Need-returns-4
 unfolding validParts validInner
-returns-4 c = rw (passed _ _ (c .before .before .before .before .before .before .before .reader-is-valid .ensures) (c .before .before .before .before .before .before .if1 .left), passed _ _ (c .before .before .before .before .before .factory-is-valid .ensures) (c .before .before .before .before .if2 .left), passed _ _ (c .before .before .before .outbox-is-valid .ensures) (c .before .before .if3 .left), refused _ _ (c .before .settings-are-valid .ensures) (c .if4 .taken))
+returns-4 c = rw (passed _ _ (c .before .before .before .before .before .before .before .is-valid .ensures) (c .before .before .before .before .before .before .if1 .left), passed _ _ (c .before .before .before .before .before .factory-is-valid .ensures) (c .before .before .before .before .if2 .left), passed _ _ (c .before .before .before .outbox-is-valid .ensures) (c .before .before .if3 .left), refused _ _ (c .before .settings-are-valid .ensures) (c .if4 .taken))
 
 returns-5 : tie.Need-returns-5
 unfolding validParts validInner
-returns-5 c = rw (passed _ _ (c .before .before .before .before .before .before .before .before .reader-is-valid .ensures) (c .before .before .before .before .before .before .before .if1 .left), passed _ _ (c .before .before .before .before .before .before .factory-is-valid .ensures) (c .before .before .before .before .before .if2 .left), passed _ _ (c .before .before .before .before .outbox-is-valid .ensures) (c .before .before .before .if3 .left), passed _ _ (c .before .before .settings-are-valid .ensures) (c .before .if4 .left)) (c .registers-are-valid .ensures)
+returns-5 c = rw (passed _ _ (c .before .before .before .before .before .before .before .before .is-valid .ensures) (c .before .before .before .before .before .before .before .if1 .left), passed _ _ (c .before .before .before .before .before .before .factory-is-valid .ensures) (c .before .before .before .before .before .if2 .left), passed _ _ (c .before .before .before .before .outbox-is-valid .ensures) (c .before .before .before .if3 .left), passed _ _ (c .before .before .settings-are-valid .ensures) (c .before .if4 .left)) (c .registers-are-valid .ensures)
 
 pub are-valid-spec : {M : Type 1} → statement M
 are-valid-spec =

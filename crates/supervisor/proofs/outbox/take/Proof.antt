@@ -24,7 +24,7 @@ returns-2 c =
     let from = c .before .before .before .before in
     let start = from .before .before in
     take-none _ _ (passed _ _ (start .before .outbox-is-valid .ensures) (start .if1 .left)) (from .word-at .ensures .0)
-    (c .before .before .word-at2 .ensures .0) (c .before .least .ensures) (c .if2 .taken)
+    (c .before .before .word-at2 .ensures .0) (c .before .min .ensures) (c .if2 .taken)
 
 slice-write-outbox : tie.Need-slice-write-outbox
 slice-write-outbox c =
@@ -40,7 +40,7 @@ returns-3 c =
     let from = some .before .before .before .before in
     let start = from .before .before in
     take-some _ _ (passed _ _ (start .before .outbox-is-valid .ensures) (start .if1 .left)) (from .word-at .ensures .0)
-    (some .before .before .word-at2 .ensures .0) (some .before .least .ensures) (some .if2 .left) (last .read-u8 .ensures) (copy .copy .ensures)
+    (some .before .before .word-at2 .ensures .0) (some .before .min .ensures) (some .if2 .left) (last .read-u8 .ensures) (copy .copy .ensures)
     (c .before .before .before .write-u16 .ensures) (c .owing .ensures)
 
 pub take-spec : {M : Type 1} → statement M
