@@ -7,7 +7,7 @@ use Prim.Native.Nat.{ℕ}
 use lib.ListN.{length, drop}
 use Rattle.line_claims.specs.Pieces.{split}
 use Rattle.supervisor.specs.Calls.{Parts}
-use Rattle.requests.specs.Receive.{Ended, Receipt, receiving, StepDone, stepping}
+use Rattle.requests.specs.Receive.{Ended, receiving, stepping}
 use Rattle.counters.specs.declared.Counters.{Counters}
 use Rattle.counters.specs.Count.{frameEnded, zeros, bumpedFor}
 use Rattle.counters.specs.Counting.{counting}

@@ -1,14 +1,12 @@
 -- Laws of the frames that a list of calls received: call after call, those that each call closed.
 -- Assumes nothing.
-use mathlib.Core.Path.{_≡_, refl, sym, ap, _∙_}
+use mathlib.Core.Path.{_≡_, refl}
 use mathlib.Core.Bool.{Bool, true, false, false≢true, cond, _&&_}
 use mathlib.Core.List.{List, [], _∷_, _++_, append-nil, append-assoc}
 use Prim.Native.Nat.{ℕ}
 use lib.ListN.{length, drop}
 use lib.Seq.{drop-append-seam}
-use Rattle.line_claims.specs.Pieces.{split, split-join, closedBy, closed-join, closed-rest}
-use Rattle.requests.specs.Receive.{Ended}
-use Rattle.counters.specs.Count.{frameEnded}
+use Rattle.line_claims.specs.Pieces.{split, closedBy, closed-join}
 use Rattle.supervisor_claims.specs.Histories
 use Rattle.supervisor_claims.specs.Histories.{Call, Made, enough}
 use Rattle.supervisor_claims.specs.FrameHistory.{reads, starts, receivedBy, startsAnew, joined}

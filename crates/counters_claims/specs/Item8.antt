@@ -8,22 +8,20 @@ use native.Mathlib.Omega.{arith}
 use lib.ListN.{length}
 use Rattle.line.specs.Limits.{longest-form}
 use Rattle.line_claims.specs.Pieces.{split}
-use Rattle.supervisor.specs.State.{State, fresh}
 use Rattle.supervisor.specs.Calls.{Parts}
 use Rattle.requests.specs.Receive.{Ended}
 use Rattle.counters.specs.declared.Counters.{Counters}
 use Rattle.counters.specs.Count.{frameEnded, isGood, isEmpty, isReason, zeros, bumpedForAll, howMany, tallyOf}
 use Rattle.supervisor_claims.specs.View.{factoryOf, view}
 use Rattle.supervisor_claims.specs.Histories
-use Rattle.supervisor_claims.specs.Histories.{Call, Typed, done, Did, Lent, Made, made, meantMade, Told, told, left, leftMeant, AllTyped}
+use Rattle.supervisor_claims.specs.Histories.{Call, Typed, done, Did, Lent, Made, made, told, left, AllTyped}
 use Rattle.supervisor_claims.specs.FrameHistory.{joined, joinedAll}
 use Rattle.supervisor_claims.specs.Sound.{Bytes, Sound}
 use Rattle.supervisor_claims.specs.laws.Progress.{Since}
 use Rattle.supervisor_claims.specs.claims.History.{one-call, history}
 use Rattle.supervisor_claims.specs.claims.InOrder.{verdict-over}
 use Rattle.supervisor_claims.specs.claims.FramesClaim.{made-carried, by-frames}
-use Rattle.counters_claims.specs.CountHistory
-use Rattle.counters_claims.specs.CountHistory.{DidCounted, didCounted, madeCounted, Lending, doneBy, toldLending, leftLending, unlent}
+use Rattle.counters_claims.specs.CountHistory.{didCounted, madeCounted, Lending, doneBy, toldLending, leftLending, unlent}
 use Rattle.counters_claims.specs.CountHistory.{Event, plain, counted, clear, Held, after, afterAll, callsOf, allCounted, framesSince, endedAll}
 use Rattle.counters_claims.specs.FrameLaws.{ended-append, closedSince, frames-since}
 use Rattle.counters_claims.specs.TallyLaws.{bumped-tally, bumped-append, every-once}

@@ -81,10 +81,6 @@ group-length (suc left) z (b ∷ bs) = omega (arith, group-length left z bs)
 group-length zero z (c ∷ cs) =
     simp (length-append, length-zeros) (omega (arith, bit-most (ltb c 255), group-length (c - 1) (ltb c 255) cs))
 
-pub plain-length : (f : List ℕ) → length (plain f) ≤ length f
-unfolding plain
-plain-length f = omega (arith, group-length 0 false f)
-
 -- ---- one group
 
 -- whether a zero follows a group, as the code tests its code byte

@@ -1,15 +1,15 @@
 -- A state of which a call is lent the first bytes: what it does to them is what it does to the whole state.
 -- Assumes nothing.
-use mathlib.Core.Path.{_≡_, refl, ap}
-use mathlib.Core.Bool.{Bool, true, false, cond, _||_}
-use mathlib.Core.List.{List, [], _∷_, _++_, append-assoc}
+use mathlib.Core.Path.{_≡_, refl}
+use mathlib.Core.Bool.{Bool, true, false, _||_}
+use mathlib.Core.List.{List, [], _∷_, _++_}
 use mathlib.Core.Option.{Option, none, some}
 use Prim.Native.Nat.{ℕ, _+_, _≤_}
 use native.Mathlib.Omega.{arith}
 use lib.Dec.{ltb, eqb}
 use lib.ListN.{length, length-append}
 use borrow.Author.Tests.{ltb-true, ltb-false, le-leb}
-use Rattle.octets.specs.Bytes.{bytes, run, overlay}
+use Rattle.octets.specs.Bytes.{bytes, run}
 use Rattle.octets.proofs.Numbers.{length-bytes}
 use Rattle.octets.proofs.Conditions.{cond-by, cond-map}
 use Rattle.octets.proofs.Overlay.{length-overlay, overlay-append, run-append}

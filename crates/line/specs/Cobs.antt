@@ -1,6 +1,6 @@
 -- Consistent Overhead Byte Stuffing, writing and reading (document 01, "The message on the wire", as document 02's item 6 amends it).
 -- Assumes nothing: these are definitions.
-use mathlib.Core.Bool.{Bool, true, false, cond, _&&_, _||_}
+use mathlib.Core.Bool.{Bool, false, cond, _&&_, _||_}
 use mathlib.Core.List.{List, [], _∷_, _++_}
 use mathlib.Core.Option.{Option, none, some, Option·map}
 use Prim.Native.Nat.{ℕ, zero, suc, pred, _-_}

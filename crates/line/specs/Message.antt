@@ -1,6 +1,6 @@
 -- A message and its bytes (document 01, "The message on the wire").
 -- Assumes nothing: these are definitions.
-use mathlib.Core.List.{List, [], _∷_, _++_}
+use mathlib.Core.List.{List, _++_}
 use Prim.Native.Nat.{ℕ, _^_, _≤_, _<_}
 use lib.ListN.{length}
 use Rattle.octets.specs.Bytes.{Byte, Each, bytes}

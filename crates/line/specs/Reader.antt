@@ -1,13 +1,13 @@
 -- The reader's lent state, and what each call of the reader answers and leaves (document 01, "Reading a request", "When a call says no").
 -- Assumes nothing: these are definitions.
-use mathlib.Core.Bool.{Bool, true, false, cond, _&&_, _||_}
+use mathlib.Core.Bool.{Bool, cond, _&&_}
 use mathlib.Core.List.{List, [], _∷_}
 use mathlib.Core.Option.{Option, none, some}
 use Prim.Native.Nat.{ℕ, suc, _+_}
 use lib.Dec.{leb, ltb, eqb}
 use lib.ListN.{length}
 use Rattle.octets.specs.Bytes.{bytes, run, numberAt, overlay}
-use Rattle.line.specs.Limits.{header-length, shortest-message, longest-message, longest-data, longest-form}
+use Rattle.line.specs.Limits.{header-length, longest-data, longest-form}
 use Rattle.line.specs.Message.{Message}
 use Rattle.line.specs.Cobs.{uncobs}
 use Rattle.line.specs.Judge.{Verdict, failure, good, wrongLength, judge}

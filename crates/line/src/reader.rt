@@ -7,7 +7,7 @@ use crate::scan::nonzero_run;
 use crate::sums;
 ghost use mathlib.Core.Path.{_≡_};
 ghost use Prim.Native.Nat.{_+_, _≤_, _<_};
-ghost use lib.ListN.{length, take, drop};
+ghost use lib.ListN.{length, take};
 ghost use Rattle.octets.specs.Bytes.{run, overlay};
 ghost use Rattle.line.specs.Limits.{shortest-message, longest-message, longest-form};
 ghost use Rattle.line.specs.Cobs.{uncobs};

@@ -1,14 +1,14 @@
 -- Laws of a message's bytes: that each is a byte, the parts that are read back from them, and the message that is read of any bytes.
 -- Assumes nothing.
 use mathlib.Core.Path.{_≡_, refl, sym, ap, _∙_}
-use mathlib.Core.List.{List, [], _∷_, _++_}
+use mathlib.Core.List.{List, _++_}
 use Prim.Native.Nat.{ℕ, _+_, _-_, _≤_}
 use native.Mathlib.Omega.{arith}
-use lib.ListN.{length, drop, length-append, length-take, length-drop, take-append-drop}
+use lib.ListN.{length, drop, length-take, length-drop, take-append-drop}
 use lib.Seq.{take-at, drop-at}
 use Rattle.octets.specs.Bytes.{Byte, Each, number, bytes, run}
 use Rattle.octets.proofs.Each.{each-append, each-take, each-drop}
-use Rattle.octets.proofs.Numbers.{length-bytes, bytes-each, number-bytes, bytes-number, number-small}
+use Rattle.octets.proofs.Numbers.{bytes-each, number-bytes, bytes-number, number-small}
 use Rattle.octets.proofs.Overlay.{run-take, run-add, number-run}
 use Rattle.line.specs.Limits.{header-length, checksum-length, shortest-message, longest-message}
 use Rattle.line.specs.Checksum.{checksum}

@@ -16,7 +16,7 @@ use Rattle.line.specs.Frame.{Wire}
 use Rattle.line.specs.Cobs.{uncobs}
 use Rattle.line.specs.Judge.{Verdict, failure, good, wrongLength, bodyOf, checksumOf, magicOf, fields, judgeFields, judgeLength, judgeForm, judge}
 use Rattle.line.specs.Checksum.{checksum}
-use Rattle.line.specs.Reader.{Said, empty, verdictSaid, state-length, frame-place, count, counted, valid, pushes}
+use Rattle.line.specs.Reader.{verdictSaid, state-length, frame-place, count, counted, valid, pushes}
 use Rattle.line.specs.Reader.{overlong, unpacked, Settled, settle, finish, Start, starting, unfinished, longer, tailOf}
 use Rattle.octets.proofs.Conditions.{cond-by}
 use Rattle.line.proofs.State.{Ready, ready-valid, length-counted, count-counted, pushes-append, ready-pushes}

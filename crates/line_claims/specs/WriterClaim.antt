@@ -2,12 +2,11 @@
 -- Assumes nothing.
 use mathlib.Core.Path.{_≡_}
 use mathlib.Core.List.{List, [], _∷_, _++_}
-use Prim.Native.Nat.{ℕ, _^_, _≤_, _<_}
+use Prim.Native.Nat.{ℕ, _≤_}
 use native.Mathlib.Omega.{arith}
 use lib.Dec.{ltb}
 use lib.ListN.{length, take}
 use borrow.Author.Tests.{ltb-false}
-use Rattle.octets.specs.Bytes.{Byte, Each}
 use Rattle.octets.proofs.Overlay.{overlay-inside}
 use Rattle.line.specs.Limits.{longest-data}
 use Rattle.line.specs.Message.{Message, Typed}

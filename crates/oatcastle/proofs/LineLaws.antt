@@ -1,7 +1,7 @@
 -- Laws of the line layer's calls in the C interface.
 -- Assumes nothing.
 use mathlib.Core.Path.{_≡_, refl}
-use mathlib.Core.Bool.{Bool, true, false, cond}
+use mathlib.Core.Bool.{true, false}
 use mathlib.Core.List.{List, [], _∷_}
 use mathlib.Core.Option.{none, some}
 use Prim.Native.Nat.{ℕ, _≤_, _<_}
@@ -13,7 +13,7 @@ use Rattle.line.specs.Limits.{longest-data, longest-form}
 use Rattle.line.specs.Message.{Message}
 use Rattle.line.specs.Judge.{Verdict, failure, good, judge}
 use Rattle.line.specs.Reader as LineReader
-use Rattle.line.specs.Reader.{verdictSaid, settle, finish, next, readPiece, reading, tailOf, kept, count, valid}
+use Rattle.line.specs.Reader.{verdictSaid, settle, finish, next, readPiece, reading, kept, count, valid}
 use Rattle.line.specs.Frame.{frame}
 use Rattle.line.specs.Writer as LineWriter
 use Rattle.line.specs.Writer.{said, sending, writing}
@@ -22,22 +22,6 @@ use Rattle.line.specs.declared.writer.Written.{Written}
 use Rattle.oatcastle.specs.Answers.{outcome, telling, answering}
 use Rattle.oatcastle.specs.LineCalls.{readTold, lineReadCall, writeTold, lineWriteCall}
 use Rattle.oatcastle.proofs.AnswerLaws.{Says, Leaves, Tells, tells-says, tells-leaves, answering-short, answering-told}
-
--- ---- The state is valid where the tail is not refused
-
-abbrev heard : LineReader.TailSaid → Bool
-heard (LineReader.TailSaid.refused n) = false
-heard (LineReader.unfinished n) = true
-heard LineReader.longer = true
-
-heard-by : (v l : Bool) (n m : ℕ) → heard (cond v (cond l LineReader.longer (LineReader.unfinished n)) (LineReader.TailSaid.refused m)) ≡ v
-heard-by true true n m = refl
-heard-by true false n m = refl
-heard-by false l n m = refl
-
-pub tail-heard : (s : List ℕ) → heard (tailOf s) ≡ valid s
-unfolding tailOf
-tail-heard s = heard-by (valid s) (ltb longest-form (count s)) (count s) 12
 
 -- ---- Read: a valid state is not refused
 

@@ -1,9 +1,8 @@
 -- Laws of the main processor's calls in the C interface.
 -- Assumes nothing.
 use mathlib.Core.Path.{_≡_, refl, ap}
-use mathlib.Core.Bool.{Bool, true, false, cond}
+use mathlib.Core.Bool.{Bool, true, false}
 use mathlib.Core.List.{List, [], _∷_}
-use mathlib.Core.Option.{Option, none, some}
 use Prim.Native.Nat.{ℕ, suc, _≤_, _<_}
 use native.Mathlib.Omega.{arith}
 use borrow.Author.Tests.{lt-ltb}
@@ -22,7 +21,7 @@ use Rattle.requester.specs.Requester
 use Rattle.requester.specs.Layout
 use Rattle.requester.specs.Valid.{validRequester}
 use Rattle.requester.specs.Calls
-use Rattle.requester.specs.Calls.{Parts, Told, putInto, withRequest, requesting, sending, toldOf, heardOf, outcomeOf, received, receiving, validParts}
+use Rattle.requester.specs.Calls.{Parts, putInto, withRequest, requesting, sending, toldOf, heardOf, outcomeOf, received, receiving, validParts}
 use Rattle.requester.specs.declared.receive.Received.{Received}
 use Rattle.oatcastle.specs.Answers.{outcome, Said, telling, answering}
 use Rattle.oatcastle.specs.RequesterCalls.{putTold, putAnswered, requestCall, sendCall, shortPut, receiptTold, receiptAnswered, listenCall, shortReceipt}

@@ -8,7 +8,7 @@ use line::reader::Started;
 use line::reader::Unfinished;
 use line::writer::Written;
 ghost use mathlib.Core.Path.{_≡_};
-ghost use Rattle.line.specs.Reader.{said, valid};
+ghost use Rattle.line.specs.Reader.{said};
 ghost use Rattle.line.specs.Writer as LineWriter;
 ghost use Rattle.line.specs.Writer.{messageOf};
 ghost use Rattle.oatcastle.specs.Answers.{outcome, telling};

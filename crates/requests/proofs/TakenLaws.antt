@@ -9,7 +9,7 @@ use native.Mathlib.Omega.{arith}
 use borrow.Author.Tests.{eq-eqb, ne-eqb, eqb-false}
 use lib.Dec.{leb, eqb}
 use lib.ListN.{length, take, drop, set, replicate, length-append, length-set}
-use lib.Seq.{take-take, drop-drop, drop-at}
+use lib.Seq.{take-take, drop-drop}
 use Rattle.octets.specs.Bytes.{bytes, number, run, numberAt, overlay, put, copied, movedDown}
 use Rattle.octets.proofs.Numbers.{length-bytes, number-bytes, one-byte}
 use Rattle.octets.proofs.Conditions.{cond-by}

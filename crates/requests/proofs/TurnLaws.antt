@@ -1,7 +1,7 @@
 -- Laws of a turn: the reader's state stays valid, what a frame comes to by its verdict, and what is left of a piece.
 -- Assumes nothing.
-use mathlib.Core.Path.{_≡_, refl, sym, ap, _∙_}
-use mathlib.Core.Bool.{Bool, true, false, cond, and-eq-true-iff}
+use mathlib.Core.Path.{_≡_, refl, ap, _∙_}
+use mathlib.Core.Bool.{true, false, cond, and-eq-true-iff}
 use mathlib.Core.List.{List, [], _∷_}
 use mathlib.Core.Option.{Option, none, some}
 use Prim.Native.Nat.{ℕ, zero, suc, _+_, _-_, _^_, _≤_, _<_, zero-le}
@@ -13,7 +13,7 @@ use borrow.Author.Tests.{ltb-false, ne-eqb, eq-eqb, le-leb, lt-leb}
 use Rattle.octets.specs.Bytes.{bytes, run, numberAt}
 use Rattle.octets.proofs.Conditions.{cond-by}
 use Rattle.octets.proofs.Numbers.{length-bytes}
-use Rattle.line.specs.Limits.{longest-data, longest-form}
+use Rattle.line.specs.Limits.{longest-data}
 use Rattle.line.specs.Judge.{Verdict, failure, good}
 use Rattle.line.specs.Reader as LineReader
 use Rattle.line.proofs.State.{Ready, valid-ready, ready-valid, ready-pushed}
@@ -75,23 +75,6 @@ read-valid s piece v = ready-valid _ (read-leaves piece s (valid-ready s v) .rea
 pub accepted : (s piece : List ℕ) → LineReader.valid s ≡ true → LineReader.reading s piece ≡ LineReader.readPiece s piece
 unfolding LineReader.reading
 accepted s piece v = rw v
-
--- what `tail` says of a state
-unfoldable pub tailValid : LineReader.TailSaid → Bool
-tailValid (LineReader.TailSaid.refused n) = false
-tailValid (LineReader.unfinished n) = true
-tailValid LineReader.longer = true
-
-pub tail-told : (s : List ℕ) {x : LineReader.TailSaid} → x ≡ LineReader.tailOf s → tailValid x ≡ LineReader.valid s
-unfolding tailValid LineReader.tailOf
-tail-told s e =
-    rw e
-    (cond-by Told (LineReader.valid s) _ (LineReader.TailSaid.refused 12)
-    (λ v. cond-by Told (ltb longest-form (LineReader.count s)) LineReader.longer (LineReader.unfinished (LineReader.count s)) (λ l. sym v) (λ l. sym v))
-    (λ v. sym v))
-  where
-    Told : LineReader.TailSaid → Type 0
-    Told x = tailValid x ≡ LineReader.valid s
 
 -- the data that a reader hands out fit a message
 pub data-short : (s : List ℕ) (n : ℕ) → length (LineReader.dataOf s n) ≤ longest-data

@@ -8,7 +8,6 @@ use crate::writer::Written;
 ghost use mathlib.Core.Path.{_≡_};
 ghost use Prim.Native.Nat.{_+_};
 ghost use lib.Dec.{eqb};
-ghost use lib.ListN.{length};
 ghost use Rattle.rot.specs.Message.{echo-response};
 ghost use Rattle.rot.specs.Crc.{crc};
 ghost use Rattle.rot.specs.Answers.{outcome};

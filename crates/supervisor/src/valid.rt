@@ -4,7 +4,6 @@ use crate::layout;
 ghost use mathlib.Core.Path.{_≡_};
 ghost use Prim.Native.Nat.{_<_};
 ghost use Rattle.supervisor.specs.Valid.{goodItem, goodItems, goodStart, validOutbox, validFactory, validSetting, validValues, validSettings, validRecord, validText, validAlert, validAlerts, validRecordsAndAlerts, validRegisters};
-ghost use Rattle.octets.specs.Bytes.{numberAt};
 ghost use Rattle.supervisor.specs.Limits.{setting-count};
 
 // Whether item i has a result of 0, 2 or 3 and at most 64 bytes of data.

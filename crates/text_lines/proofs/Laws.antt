@@ -1,7 +1,7 @@
 -- The laws of fields, numbers, digests and pieces, by one byte more each.
 -- Assumes nothing.
 use Prim.Native.Nat.{ℕ, zero, suc, _+_, _-_, _*_, _/_, _%_, _≤_, _<_}
-use mathlib.Core.Path.{_≡_, refl, sym, ap, _∙_}
+use mathlib.Core.Path.{_≡_, refl, sym, _∙_}
 use mathlib.Core.Bool.{cond}
 use mathlib.Core.List.{List, [], _∷_, _++_}
 use native.Mathlib.Nat.{mul-le-mul, add-mul-mod-self-right}
@@ -11,7 +11,7 @@ use lib.Dec.{eqb}
 use lib.ListN.{length, take, drop, set, getD, length-append, length-drop, drop-of-length-le}
 use lib.Seq.{take-all, drop-cons}
 use borrow.Author.Tests.{ne-eqb, lt-ltb, le-ltb, le-leb, lt-leb}
-use Rattle.octets.specs.Bytes.{number, run, numberAt, overlay, put}
+use Rattle.octets.specs.Bytes.{number, run, numberAt, overlay}
 use Rattle.octets.proofs.Overlay.{overlay-take, overlay-more, put-fits, put-not}
 use Rattle.text_lines.specs.Fields.{field, digit, withDigit, withDigits, pairAt}
 use Rattle.text_lines.specs.Pieces.{values, adds, addedAt, added, roomAfter, countAfter}

@@ -2,8 +2,8 @@
 -- Assumes nothing: these are definitions.
 use mathlib.Core.Bool.{cond, _||_}
 use mathlib.Core.List.{List, [], _∷_, _++_}
-use Prim.Native.Nat.{ℕ, zero, suc, _+_, _-_, _*_, _/_, _%_}
-use lib.Dec.{leb, eqb}
+use Prim.Native.Nat.{ℕ, zero, suc, _+_, _-_, _/_, _%_}
+use lib.Dec.{eqb}
 use lib.ListN.{length, take}
 use Rattle.octets.specs.Bytes.{numberAt, fits, put}
 use Rattle.text_lines.specs.Fields.{keyOf, behindKey, decimalIn, hexIn, pairAt}

@@ -1,7 +1,6 @@
 // The bytes that a line adds to a piece, which stands at the start of a lent room.
 // Assumes nothing: what does not fit is left out.
 ghost use mathlib.Core.Path.{_≡_};
-ghost use Prim.Native.Nat.{_≤_, min};
 ghost use Rattle.text_lines.specs.Pieces.{lastAgain, adds, addedAt, roomAfter, countAfter};
 use crate::fields;
 

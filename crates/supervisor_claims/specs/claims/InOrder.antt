@@ -113,9 +113,6 @@ module _ (image : List ℕ) (s : State) where
       let o : carried image s m .state .owing ≡ s .owing = ap (λ (x : State). x .owing) c in
       rw (r, o)
 
-  pub judged-received : (v : Verdict) → judged image s v .received ≡ s .received
-  judged-received v = ap (λ (x : State). x .received) (judged-is v)
-
 pub judged-receiving : (image : List ℕ) (s : State) (r : Option (List ℕ)) (v : Verdict)
     → judged image (withReceived s r) v ≡ withReceived (judged image s v) r
 judged-receiving image s r v =

@@ -211,6 +211,3 @@ module _ (image : List ℕ) (s : State) (bs : List ℕ) (idle : s .received ≡ 
 
   pub replies-taken : session image s bs .taken ≡ replies image s (nonEmpty (split bs .closed))
   replies-taken = ap (λ (x : Session). x .taken) all-replied
-
-  pub session-leaves : session image s bs .state ≡ withReceived (afterFrames image s (nonEmpty (split bs .closed))) (tailOf (split bs .rest))
-  session-leaves = ap (λ (x : Session). x .state) all-replied

@@ -1,6 +1,5 @@
 -- `fields::digit` meets its contract, by the byte's place among the digits.
 -- Assumes nothing.
-use mathlib.Core.Path.{refl}
 use borrow.Author.Needs.{needs}
 use borrow.Author.Tests.{le-leb, lt-leb}
 use native.Mathlib.Omega.{arith}
