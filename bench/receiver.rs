@@ -21,7 +21,7 @@ pub trait Yardstick {
     /// Decodes a form in place; gives the length of what it means.
     fn decode(form: &mut [u8]) -> Option<usize>;
 
-    /// Keeps the piece's bytes up to its end or its first 00; gives the place of that.
+    /// Keeps the piece's bytes up to its end or its first 00; gives the offset of that.
     fn gather(frame: &mut Frame, piece: &[u8]) -> Option<usize>;
 }
 

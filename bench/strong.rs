@@ -10,7 +10,7 @@ const BLOCK: usize = 5802;
 /// The longest run of a group.
 const RUN: usize = 254;
 
-/// The place of the first 00, by the library's search.
+/// The offset of the first 00, by the library's search.
 fn zero_in(bytes: &[u8]) -> Option<usize> {
     CStr::from_bytes_until_nul(bytes).ok().map(|before| before.count_bytes())
 }

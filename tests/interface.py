@@ -17,7 +17,7 @@ HEADER = 'include/oatcastle.h'
 RAW = 'bindings/rust/src/raw.rs'
 WRAPPER = tuple(f'bindings/rust/src/{name}.rs' for name in ('lib', 'line', 'requester', 'rot', 'start', 'supervisor'))
 # The wrapper's constants, and the header's name for each.
-CONSTANTS = {'START_LENGTH': 'START_LENGTH', 'ITEMS': 'MOST_ITEMS', 'ITEM_LENGTH': 'ITEM_LENGTH', 'COUNT_PLACE': 'START_ITEM_COUNT',
+CONSTANTS = {'START_LENGTH': 'START_LENGTH', 'ITEMS': 'MOST_ITEMS', 'ITEM_LENGTH': 'ITEM_LENGTH', 'COUNT_OFFSET': 'START_ITEM_COUNT',
              'LONGEST_FRAME': 'LONGEST_FRAME', 'STATE_LENGTH': 'READER_LENGTH', 'HEADER_LENGTH': 'ROT_HEADER_LENGTH',
              'LONGEST_PAYLOAD': 'ROT_LONGEST_PAYLOAD', 'LONGEST_MESSAGE': 'ROT_LONGEST_MESSAGE'}
 # The wrapper's name for one of the link's refusals that another call has too.
@@ -147,13 +147,13 @@ def arms(text):
     found = {}
     for variant, number in re.findall(r'\b(\w+::\w+)(?:\(\w+\))? => (\d+),', text):
         found.setdefault(variant, []).append(int(number))
-    for variant, kind, reason in re.findall(r'\b(\w+::\w+)(?:\(\w+\))? => \{?\s*tell\(\s*answer,\s*\[\s*used,\s*(\d+),\s*(\w+)', text):
+    for variant, kind, reason in re.findall(r'\b(\w+::\w+)(?:\(\w+\))? => \{?\s*write_answer\(\s*answer,\s*\[\s*used,\s*(\d+),\s*(\w+)', text):
         found.setdefault(variant, []).append((int(kind), reason))
     return found
 
 
 def told(text):
-    """How many numbers each definition of what a call tells gives."""
+    """How many numbers each definition of what a call writes gives."""
     found = {}
     for name, given in re.findall(r'^(\w+)[^\n]*\bgiven \(([^\n]*∷ \[\])\)', text, re.M):
         found.setdefault(name, []).append(given.count('∷'))
@@ -164,7 +164,7 @@ def places(text, known):
     """The place of each field that the view reads: those of the factory store, and those of an item from its start on."""
     found = {}
     for name, place in re.findall(r'^  ([\w-]+) = (?:numberAt \d+ f|run) (Layout\.[\w-]+|\(Layout\.[^)]*\))[^\n]*;$', text, re.M):
-        words = re.sub(r'Layout\.item-place i', '0', place.strip('()'))
+        words = re.sub(r'Layout\.item-offset i', '0', place.strip('()'))
         found[name] = eval(re.sub(r'Layout\.([\w-]+)', lambda m: m.group(1).upper().replace('-', '_'), words), {}, known)
     return found
 
@@ -204,7 +204,7 @@ def root_of_trust():
     named = {'NO_INPUT': 'NoInput', 'BAD_PROTOCOL': 'BadProtocol', 'SHORT_HEADER': 'ShortHeader', 'TOO_LONG': 'TooLong', 'CUT_SHORT': 'CutShort',
              'BAD_CRC': 'BadCrc', 'BAD_TYPE': 'BadType'}
     found = {name: the_one(name, arms(text)[f'Refusal::{variant}']) for name, variant in named.items()}
-    told_kinds = {variant: int(kind) for variant, kind in re.findall(r'Answer::(\w+)(?:\(\w+\))? => tell\(\s*answer,\s*\[(\d+),', text)}
+    told_kinds = {variant: int(kind) for variant, kind in re.findall(r'Answer::(\w+)(?:\(\w+\))? => write_answer\(\s*answer,\s*\[(\d+),', text)}
     found.update({name: told_kinds[name.title()] for name in ('NOTHING', 'MESSAGE', 'ECHOED')})
     known = constants('crates/rot/src/limits.rt')
     found.update({'HEADER_LENGTH': known['HEADER_LENGTH'], 'LONGEST_PAYLOAD': known['LONGEST_PAYLOAD'],
@@ -218,8 +218,8 @@ def root_of_trust():
 
 def answer_counts():
     counted = told(read('crates/oatcastle/specs'))
-    named = {'LINE_READ': 'readTold', 'LINE_TAIL': 'tailTold', 'LINE_WRITE': 'writeTold', 'LINE_CHECKSUM': 'lineChecksumCall', 'STEP': 'stepTold',
-             'TAKE': 'takeTold', 'REQUESTER_REQUEST': 'putTold', 'REQUESTER_SEND': 'putTold', 'REQUESTER_RECEIVE': 'receiptTold', 'ROT_WRITE': 'rotWriteTold', 'ROT_READ': 'rotReadTold', 'ROT_CRC': 'rotCrcCall', 'LOOKUP': 'lookupTold', 'SIGNAL': 'signalTold', 'FLAGS': 'flagsTold', 'RECORD': 'recordTold'}
+    named = {'LINE_READ': 'readGiven', 'LINE_TAIL': 'tailGiven', 'LINE_WRITE': 'writeGiven', 'LINE_CHECKSUM': 'lineChecksumCall', 'STEP': 'stepGiven',
+             'TAKE': 'takeGiven', 'REQUESTER_REQUEST': 'putGiven', 'REQUESTER_SEND': 'putGiven', 'REQUESTER_RECEIVE': 'receiptGiven', 'ROT_WRITE': 'rotWriteGiven', 'ROT_READ': 'rotReadGiven', 'ROT_CRC': 'rotCrcCall', 'LOOKUP': 'lookupGiven', 'SIGNAL': 'signalGiven', 'FLAGS': 'flagsGiven', 'RECORD': 'recordGiven'}
     return {f'{name}_NUMBERS': counted[definition] for name, definition in named.items()}
 
 
@@ -239,9 +239,9 @@ def limits():
                                             'MOST_KEPT', 'MOST_PENDING', 'MOST_ALERTS', 'MOST_ITEMS', 'START_LENGTH', 'ITEM_LENGTH')}
     at = places(read('crates/supervisor_claims/specs/View.antt'), known)
     start = {'MODEL': at['model'], 'REVISION': at['revision'], 'SERIAL': at['serial'], 'MAC_BASE': at['base'], 'MAC_COUNT': at['count'],
-             'MAC_STRIDE': at['stride'], 'IMAGE_HASH': at['hash'], 'IMAGE_ID': at['image-id'], 'BSU': known['BSU_PLACE'],
-             'IMAGE_ID_LENGTH': known['IMAGE_ID_LENGTH_PLACE'], 'ITEMS': known['ITEMS_PLACE'], 'ITEM_COUNT': known['ITEM_COUNT_PLACE']}
-    item = {'RESULT': at['result'], 'NAME': at['name'], 'TYPE': at['type'], 'DATA': at['payload'], 'DATA_LENGTH': known['ITEM_DATA_LENGTH_PLACE']}
+             'MAC_STRIDE': at['stride'], 'IMAGE_HASH': at['hash'], 'IMAGE_ID': at['image-id'], 'BSU': known['BSU_OFFSET'],
+             'IMAGE_ID_LENGTH': known['IMAGE_ID_LENGTH_OFFSET'], 'ITEMS': known['ITEMS_OFFSET'], 'ITEM_COUNT': known['ITEM_COUNT_OFFSET']}
+    item = {'RESULT': at['result'], 'NAME': at['name'], 'TYPE': at['type'], 'DATA': at['payload'], 'DATA_LENGTH': known['ITEM_DATA_LENGTH_OFFSET']}
     found.update({f'START_{name}': place for name, place in start.items()})
     found.update({f'ITEM_{name}': place for name, place in item.items()})
     found.update({'READER_LENGTH': known['STATE_LENGTH'], 'REQUESTER_LENGTH': constants('crates/requester/src/layout.rt')['REQUESTER_LENGTH'], 'LONGEST_FRAME': known['LONGEST_FORM'] + 1,

@@ -344,7 +344,7 @@ def cases():
                 yield Case(f'checksum with {kind} byte ff').add(stuffed(b + bad.to_bytes(2, 'little')) + b'\0').read()
         if len(seen) == 2:
             break
-    # the checksums before and after two bytes of the longest body are changed, from its first place on and up to its last
+    # the checksums before and after two bytes of the longest body are changed, from its first byte on and up to its last
     for apart, before, after, missed in ((255, (1, 0), (0, 1), True), (254, (1, 0), (0, 1), False),
                                          (85, (0x5a, 0x5a), (0x5d, 0x57), True), (85, (0x5a, 0x5a), (0x5b, 0x59), False)):
         for place in (0, 4120 - apart):

@@ -44,15 +44,15 @@ ONES = (1 << 64) - 1
 MOST_ITEMS, ITEM_DATA, IMAGE_ID = 64, 64, 64
 KEYS = {3: 256, 4: 4096, 5: 4096}
 # the places of docs/STATE.md: the items, their count, the inventory's version, key 0; each setting with its flag and length ahead of the value
-ITEMS_PLACE = 69 + IMAGE_ID
+ITEMS_OFFSET = 69 + IMAGE_ID
 ITEM_LENGTH = 35 + ITEM_DATA
-COUNT_PLACE = ITEMS_PLACE + MOST_ITEMS * ITEM_LENGTH
-VERSION_PLACE = COUNT_PLACE + 4
-PONG_PLACE = VERSION_PLACE + 4
+COUNT_OFFSET = ITEMS_OFFSET + MOST_ITEMS * ITEM_LENGTH
+VERSION_OFFSET = COUNT_OFFSET + 4
+PONG_OFFSET = VERSION_OFFSET + 4
 SETTING_HEAD = 3
 SETTINGS = {key: sum(SETTING_HEAD + KEYS[k] for k in KEYS if k < key) for key in KEYS}
 PARTS = ('reader', 'outbox', 'factory', 'settings', 'registers')
-PUBLISHED = {'reader': 4142, 'outbox': 4147, 'factory': PONG_PLACE + 4, 'settings': sum(SETTING_HEAD + n for n in KEYS.values()), 'registers': 3393}
+PUBLISHED = {'reader': 4142, 'outbox': 4147, 'factory': PONG_OFFSET + 4, 'settings': sum(SETTING_HEAD + n for n in KEYS.values()), 'registers': 3393}
 SPARE = 9
 ROOM = 4200
 
@@ -89,7 +89,7 @@ class Start:
         out += bytes([len(self.image_id)]) + self.image_id[:IMAGE_ID].ljust(IMAGE_ID, b'\0')
         for r, name, kind, d in self.items:
             out += bytes([r]) + name + bytes([kind, len(d)]) + d[:ITEM_DATA].ljust(ITEM_DATA, b'\0')
-        return out.ljust(COUNT_PLACE, b'\0') + little(self.counted, 4)
+        return out.ljust(COUNT_OFFSET, b'\0') + little(self.counted, 4)
 
 
 class Supervisor:
@@ -754,15 +754,15 @@ def short_parts():
     yield c.start(FULL).calls().ask(0x10, b'\5' + nonzero(KEYS[5])).local()
 
 
-# Each field of docs/STATE.md: the part, what must stand elsewhere first, the place, values that are refused, values that are not.
+# Each field of docs/STATE.md: the part, what must stand elsewhere first, the offset, values that are refused, values that are not.
 def two(n):
     return little(n, 2)
 
 
 def fields():
-    one_item = [('factory', COUNT_PLACE, little(1, 4))]
-    all_items = [('factory', COUNT_PLACE, little(MOST_ITEMS, 4))]
-    last_item = ITEMS_PLACE + ITEM_LENGTH * (MOST_ITEMS - 1)
+    one_item = [('factory', COUNT_OFFSET, little(1, 4))]
+    all_items = [('factory', COUNT_OFFSET, little(MOST_ITEMS, 4))]
+    last_item = ITEMS_OFFSET + ITEM_LENGTH * (MOST_ITEMS - 1)
     one_alert = [('registers', 1055, b'\1'), ('registers', 1052, b'\1')]
     alerts_8 = [('registers', 1055 + 259 * i, b'\1') for i in range(8)] + [('registers', 1052, b'\x08')]
     yield 'reader', 'count', [], 0, [two(4142), two(65535)], [two(4141), two(4140)]
@@ -771,14 +771,14 @@ def fields():
     yield 'outbox', 'flag', [], 4, [b'\2', b'\xff'], [b'\1']
     yield 'factory', 'BSU', [], 0, [b'\0', b'\x40', b'\x43', b'\xff'], [b'\x41']
     yield 'factory', 'image ID length', [], 68, [b'\x41', b'\xff'], [b'\x40']
-    yield 'factory', 'first result', one_item, ITEMS_PLACE, [b'\1', b'\4', b'\xff'], [b'\0', b'\2', b'\3']
-    yield 'factory', 'first item length', one_item, ITEMS_PLACE + 34, [b'\x41', b'\xff'], [b'\x40']
+    yield 'factory', 'first result', one_item, ITEMS_OFFSET, [b'\1', b'\4', b'\xff'], [b'\0', b'\2', b'\3']
+    yield 'factory', 'first item length', one_item, ITEMS_OFFSET + 34, [b'\x41', b'\xff'], [b'\x40']
     yield 'factory', 'last result', all_items, last_item, [b'\1', b'\4', b'\xff'], [b'\0', b'\2', b'\3']
     yield 'factory', 'last item length', all_items, last_item + 34, [b'\x41', b'\xff'], [b'\x40']
-    yield 'factory', 'an item past the count', one_item, ITEMS_PLACE + ITEM_LENGTH, [], [b'\1', b'\xff' * 35]
-    yield 'factory', 'item count', [], COUNT_PLACE, [little(n, 4) for n in (MOST_ITEMS + 1, 256, 1 << 16, 1 << 24)], [little(MOST_ITEMS, 4)]
-    yield 'factory', 'inventory version', [], VERSION_PLACE, [little(1, 4), little(256, 4), little(1 << 24, 4)], []
-    yield 'factory', 'key 0', [], PONG_PLACE, [b'Pong', b'poNg', b'ponG', bytes(4)], []
+    yield 'factory', 'an item past the count', one_item, ITEMS_OFFSET + ITEM_LENGTH, [], [b'\1', b'\xff' * 35]
+    yield 'factory', 'item count', [], COUNT_OFFSET, [little(n, 4) for n in (MOST_ITEMS + 1, 256, 1 << 16, 1 << 24)], [little(MOST_ITEMS, 4)]
+    yield 'factory', 'inventory version', [], VERSION_OFFSET, [little(1, 4), little(256, 4), little(1 << 24, 4)], []
+    yield 'factory', 'key 0', [], PONG_OFFSET, [b'Pong', b'poNg', b'ponG', bytes(4)], []
     for key, at in SETTINGS.items():
         yield 'settings', f'key {key} flag', [], at, [b'\2', b'\xff'], [b'\1']
         yield 'settings', f'key {key} length', [], at + 1, [two(KEYS[key] + 1), two(65535)], [two(KEYS[key])]

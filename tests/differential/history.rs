@@ -260,7 +260,7 @@ impl World {
     /// Every field of every part, with all items and 8 alerts, gets forbidden values; every call that takes the part refuses.
     fn sweep(&mut self) -> Result<(), String> {
         self.scatter();
-        state::put(&mut self.parts[FACTORY], state::COUNT_PLACE, 4, model::MOST_ITEMS as u64);
+        state::put(&mut self.parts[FACTORY], state::COUNT_OFFSET, 4, model::MOST_ITEMS as u64);
         state::put(&mut self.parts[REGISTERS], 1052, 1, 8);
         for part in LINE..=REGISTERS {
             self.settle(part);

@@ -19,7 +19,7 @@ macro_rules! faults {
         /// One rule of the model that can be made wrong.
         #[derive(Clone, Copy, PartialEq, Eq)]
         pub enum Fault { $($name),* }
-        /// Every fault with its words; its number is its place, counted from 1.
+        /// Every fault with its words; its number is its position, counted from 1.
         pub const FAULTS: &[(Fault, &str)] = &[$((Fault::$name, $words)),*];
     };
 }

@@ -37,7 +37,7 @@ fn update(list: &[Probe], indices: &[usize], results: &[u8]) -> (u32, Vec<Probe>
     (if refused { 15 } else { 0 }, list.iter().enumerate().map(record).collect())
 }
 
-/// A list, and changes of it: mostly good, and in one call out of a few with one bad change at any place.
+/// A list, and changes of it: mostly good, and in one call out of a few with one bad change at any index.
 fn arguments(random: &mut Random) -> (Vec<Probe>, Vec<usize>, Vec<u8>) {
     let few = random.below(6);
     let many = random.below(300);

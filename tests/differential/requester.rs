@@ -12,7 +12,7 @@ const READER_LENGTH: usize = 4142;
 const LENGTH: usize = 4118;
 /// Bytes behind each part.
 const TAIL: usize = 9;
-/// The fields that 12 tests: part, place, width, values outside.
+/// The fields that 12 tests: part, offset, width, values outside.
 const FIELDS: [(usize, usize, usize, &[u64]); 7] = [
     (0, 0, 2, &[4142, 65535]),
     (1, 0, 8, &[LAST + 1, u64::MAX]),

@@ -12,26 +12,26 @@ pub const SETTINGS: usize = 4;
 pub const REGISTERS: usize = 5;
 pub const NAMES: [&str; 6] = ["line state", "reader", "outbox", "factory", "settings", "registers"];
 pub const LENGTHS: [usize; 6] = [4142, 4142, 4147, FACTORY_LENGTH, SETTINGS_LENGTH, 3393];
-pub const DATA_PLACE: usize = 19;
+pub const DATA_OFFSET: usize = 19;
 
 /// Where the inventory's items, their count and what follows stand in the factory store.
-pub const ITEMS_PLACE: usize = 133;
+pub const ITEMS_OFFSET: usize = 133;
 pub const ITEM_LENGTH: usize = 99;
 pub const ITEM_DATA_LENGTH: usize = 34;
-pub const COUNT_PLACE: usize = ITEMS_PLACE + MOST_ITEMS * ITEM_LENGTH;
-pub const START_LENGTH: usize = COUNT_PLACE + 4;
-const VERSION_PLACE: usize = START_LENGTH;
-const PONG_PLACE: usize = VERSION_PLACE + 4;
-const FACTORY_LENGTH: usize = PONG_PLACE + 4;
+pub const COUNT_OFFSET: usize = ITEMS_OFFSET + MOST_ITEMS * ITEM_LENGTH;
+pub const START_LENGTH: usize = COUNT_OFFSET + 4;
+const VERSION_OFFSET: usize = START_LENGTH;
+const PONG_OFFSET: usize = VERSION_OFFSET + 4;
+const FACTORY_LENGTH: usize = PONG_OFFSET + 4;
 
 /// Where the setting of each settings key from 3 on stands, and its longest value; a value stands behind a flag and a length.
-const VALUE_PLACE: usize = 3;
+const VALUE_OFFSET: usize = 3;
 pub const KEYS: [(usize, usize); 3] = {
-    let second = VALUE_PLACE + LONGEST[0];
-    let third = second + VALUE_PLACE + LONGEST[1];
+    let second = VALUE_OFFSET + LONGEST[0];
+    let third = second + VALUE_OFFSET + LONGEST[1];
     [(0, LONGEST[0]), (second, LONGEST[1]), (third, LONGEST[2])]
 };
-const SETTINGS_LENGTH: usize = KEYS[2].0 + VALUE_PLACE + LONGEST[2];
+const SETTINGS_LENGTH: usize = KEYS[2].0 + VALUE_OFFSET + LONGEST[2];
 
 pub enum Allowed {
     UpTo(u64),
@@ -85,12 +85,12 @@ fn start_fields(bytes: &[u8]) -> Vec<Field> {
     let mut fields = vec![
         Field { place: 0, width: 1, allowed: Allowed::OneOf(&[0x41, 0x42]) },
         Field { place: 68, width: 1, allowed: Allowed::UpTo(64) },
-        Field { place: COUNT_PLACE, width: 4, allowed: Allowed::UpTo(if broken(Fault::Items16) { 16 } else { MOST_ITEMS as u64 }) },
+        Field { place: COUNT_OFFSET, width: 4, allowed: Allowed::UpTo(if broken(Fault::Items16) { 16 } else { MOST_ITEMS as u64 }) },
     ];
-    let held = number(bytes, COUNT_PLACE, 4).min(MOST_ITEMS as u64) as usize;
+    let held = number(bytes, COUNT_OFFSET, 4).min(MOST_ITEMS as u64) as usize;
     let counted = if broken(Fault::ItemsPastCount) { MOST_ITEMS } else { held };
     for item in 0..counted {
-        let place = ITEMS_PLACE + ITEM_LENGTH * item;
+        let place = ITEMS_OFFSET + ITEM_LENGTH * item;
         fields.push(Field { place, width: 1, allowed: Allowed::OneOf(&[0, 2, 3]) });
         fields.push(Field { place: place + ITEM_DATA_LENGTH, width: 1, allowed: Allowed::UpTo(64) });
     }
@@ -106,8 +106,8 @@ pub fn fields(part: usize, bytes: &[u8]) -> Vec<Field> {
         OUTBOX => vec![up_to(0, 2, number(bytes, 2, 2)), up_to(2, 2, 4142), flag(4)],
         FACTORY => {
             let mut fields = start_fields(bytes);
-            fields.push(Field { place: VERSION_PLACE, width: 4, allowed: Allowed::OneOf(&[0]) });
-            fields.push(Field { place: PONG_PLACE, width: 4, allowed: Allowed::OneOf(&[0x676e_6f70]) });
+            fields.push(Field { place: VERSION_OFFSET, width: 4, allowed: Allowed::OneOf(&[0]) });
+            fields.push(Field { place: PONG_OFFSET, width: 4, allowed: Allowed::OneOf(&[0x676e_6f70]) });
             fields
         }
         SETTINGS => KEYS.iter().flat_map(|&(place, most)| [flag(place), up_to(place + 1, 2, most as u64)]).collect(),
@@ -169,7 +169,7 @@ pub fn outbox(bytes: &[u8]) -> Outbox {
 
 pub fn factory(bytes: &[u8]) -> Factory {
     let item = |i: usize| {
-        let place = ITEMS_PLACE + ITEM_LENGTH * i;
+        let place = ITEMS_OFFSET + ITEM_LENGTH * i;
         Item {
             result: bytes[place],
             name: array(bytes, place + 1),
@@ -187,12 +187,12 @@ pub fn factory(bytes: &[u8]) -> Factory {
         stride: bytes[35],
         hash: array(bytes, 36),
         image_id: run(bytes, 69, u64::from(bytes[68])),
-        items: (0..number(bytes, COUNT_PLACE, 4) as usize).map(item).collect(),
+        items: (0..number(bytes, COUNT_OFFSET, 4) as usize).map(item).collect(),
     }
 }
 
 pub fn settings(bytes: &[u8]) -> Settings {
-    KEYS.map(|(place, _)| (bytes[place] == 1).then(|| run(bytes, place + VALUE_PLACE, number(bytes, place + 1, 2))))
+    KEYS.map(|(place, _)| (bytes[place] == 1).then(|| run(bytes, place + VALUE_OFFSET, number(bytes, place + 1, 2))))
 }
 
 fn record(bytes: &[u8], place: usize) -> Option<Record> {

@@ -3,7 +3,7 @@
 
 use crate::model::{body, checksum, cobs, frame, Supervisor, LONGEST, MAGIC, MOST_ITEMS, TOP_BIT};
 use crate::random::Random;
-use crate::state::{number, put, COUNT_PLACE, ITEMS_PLACE, ITEM_DATA_LENGTH, ITEM_LENGTH, START_LENGTH};
+use crate::state::{number, put, COUNT_OFFSET, ITEMS_OFFSET, ITEM_DATA_LENGTH, ITEM_LENGTH, START_LENGTH};
 
 const COMMANDS: [u8; 14] = [0x01, 0x02, 0x03, 0x04, 0x05, 0x06, 0x07, 0x08, 0x09, 0x0a, 0x0d, 0x0e, 0x0f, 0x10];
 
@@ -264,18 +264,18 @@ pub fn start_data(random: &mut Random) -> [u8; START_LENGTH] {
     let items = random.pick(&[0, 1, 2, 16, 17, MOST_ITEMS - 1, MOST_ITEMS]);
     data[0] = random.pick(&[0x41, 0x42]);
     data[68] = if random.percent(50) { random.below(65) as u8 } else { random.pick(&[0, 1, 63, 64]) };
-    put(&mut data, COUNT_PLACE, 4, items as u64);
+    put(&mut data, COUNT_OFFSET, 4, items as u64);
     for item in 0..items {
-        let place = ITEMS_PLACE + ITEM_LENGTH * item;
+        let place = ITEMS_OFFSET + ITEM_LENGTH * item;
         data[place] = random.pick(&[0, 0, 2, 3]);
         data[place + ITEM_DATA_LENGTH] = if random.percent(70) { random.below(65) as u8 } else { random.pick(&[0, 63, 64]) };
     }
     if random.percent(25) {
-        let place = ITEMS_PLACE + ITEM_LENGTH * random.below(items);
+        let place = ITEMS_OFFSET + ITEM_LENGTH * random.below(items);
         match random.below(5) {
             0 => data[0] = random.pick(&[0x00, 0x40, 0x43, 0xff]),
             1 => data[68] = random.pick(&[65, 66, 128, 255]),
-            2 => put(&mut data, COUNT_PLACE, 4, random.pick(&[MOST_ITEMS as u64 + 1, 256, 65536, 1 << 24, u64::from(u32::MAX)])),
+            2 => put(&mut data, COUNT_OFFSET, 4, random.pick(&[MOST_ITEMS as u64 + 1, 256, 65536, 1 << 24, u64::from(u32::MAX)])),
             3 => data[place] = random.pick(&[1, 4, 255]),
             _ => data[place + ITEM_DATA_LENGTH] = random.pick(&[65, 66, 255]),
         }

@@ -7,7 +7,7 @@ use crate::library::*;
 use crate::model::{self, broken, Ended, Fault, Reader, Record, Supervisor, Touched, LONGEST_DATA};
 use crate::plans::ROWS_LENGTH;
 use crate::random::Random;
-use crate::state::{self, DATA_PLACE, FACTORY, LENGTHS, LINE, NAMES, OUTBOX, READER, REGISTERS, SETTINGS, START_LENGTH};
+use crate::state::{self, DATA_OFFSET, FACTORY, LENGTHS, LINE, NAMES, OUTBOX, READER, REGISTERS, SETTINGS, START_LENGTH};
 use std::collections::HashSet;
 use std::fmt;
 
@@ -223,7 +223,7 @@ impl World {
                 if lent.room < length {
                     return refused(8);
                 }
-                outcome.room = self.parts[*part][DATA_PLACE..DATA_PLACE + length].to_vec();
+                outcome.room = self.parts[*part][DATA_OFFSET..DATA_OFFSET + length].to_vec();
                 if let Some(data) = &self.handed[*part] {
                     let same = length.min(data.len());
                     outcome.room[..same].copy_from_slice(&data[..same]);

@@ -8,8 +8,8 @@ const ITEMS: usize = 64;
 const ITEM_LENGTH: usize = 99;
 const ITEM_DATA: usize = 64;
 const IMAGE_ID: usize = 64;
-const ITEMS_PLACE: usize = 133;
-const COUNT_PLACE: usize = 6469;
+const ITEMS_OFFSET: usize = 133;
+const COUNT_OFFSET: usize = 6469;
 
 /// The boot storage unit.
 #[derive(Clone, Copy, Debug, PartialEq, Eq)]
@@ -88,13 +88,13 @@ impl StartData {
         if self.items == ITEMS || data.len() > ITEM_DATA {
             return Err(Refusal::BadStart);
         }
-        let place = ITEMS_PLACE + ITEM_LENGTH * self.items;
+        let place = ITEMS_OFFSET + ITEM_LENGTH * self.items;
         self.put(place, &[result as u8]);
         self.put(place + 1, &name);
         self.put(place + 33, &[kind, data.len() as u8]);
         self.put(place + 35, data);
         self.items += 1;
-        self.put(COUNT_PLACE, &(self.items as u32).to_le_bytes());
+        self.put(COUNT_OFFSET, &(self.items as u32).to_le_bytes());
         Ok(self)
     }
 

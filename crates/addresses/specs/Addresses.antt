@@ -54,9 +54,9 @@ unfoldable pub planRefusal : List ℕ → ℕ → ℕ → Option ℕ
 planRefusal base count stride = cond (passes base count stride) (some 16) none
 
 -- the number of each case
-unfoldable pub planSaid : Planned → Option ℕ
-planSaid Fits = none
-planSaid Passes = some 16
+unfoldable pub planReport : Planned → Option ℕ
+planReport Fits = none
+planReport Passes = some 16
 
 -- ---- The 48-bit carry, row by row
 

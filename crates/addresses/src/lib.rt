@@ -2,7 +2,7 @@
 // Assumes nothing: no function has a `requires`, and nothing is lent.
 ghost use mathlib.Core.Path.{_≡_};
 ghost use Prim.Native.Nat.{_≤_, _<_, min};
-ghost use Rattle.addresses.specs.Addresses.{addressNumber, highest-address, passes, rows, planRefusal, planSaid, nextRow};
+ghost use Rattle.addresses.specs.Addresses.{addressNumber, highest-address, passes, rows, planRefusal, planReport, nextRow};
 
 // How many bytes an address has.
 pub const ADDRESS_LENGTH: usize = 6;
@@ -46,7 +46,7 @@ pub fn addresses(base: [u8; 6], count: u16, stride: u8) -> [[u8; 6]; 8]
 
 // Whether the plan passes, which is refusal 16.
 pub fn plan(base: [u8; 6], count: u16, stride: u8) -> Planned
-    ensures { λ r. ⌜ planSaid r ≡ planRefusal base count stride ⌝ }
+    ensures { λ r. ⌜ planReport r ≡ planRefusal base count stride ⌝ }
 {
     if !last_passes(base, count, stride) {
         return Planned::Fits;

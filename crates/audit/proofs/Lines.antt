@@ -71,7 +71,7 @@ text-added : (es : List Entry) (l : Listing) → text (added es l) ≡ lines es 
 unfolding text
 text-added es l = rw (lines-append es (l .entries), append-assoc)
 
--- the text up to a place of the capture w is written
+-- the text up to an offset of the capture w is written
 pub record Middle (w s t : List ℕ) (at k : ℕ) : Type 0 where
   pub done : List ℕ
   pub wrote : Wrote s 0 done t k

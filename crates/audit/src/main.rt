@@ -58,7 +58,7 @@ fn list(capture: &[u8], text: &mut [u8]) -> usize
     }
 }
 
-// The line of the frame of n bytes at a place of a capture, unless it is empty.
+// The line of the frame of n bytes at an offset of a capture, unless it is empty.
 fn put_frame(capture: &[u8], at: usize, n: usize, text: &mut [u8], k: usize) -> usize
     requires { ⌜ at + n ≤ length (now capture) ⌝ }
     requires { ⌜ length (now capture) ≤ longest-capture ⌝ }

@@ -24,7 +24,7 @@ use Rattle.requests.specs.Receive as Receive
 use Rattle.requests.specs.declared.receive.Received.{Received}
 use Rattle.requests.specs.declared.receive.Received.the-variants as received
 use Rattle.requests.proofs.KeptLaws.{answering-valid, carried-valid}
-use Rattle.requests.proofs.TurnLaws.{parts-valid, valid-parts, read-valid, data-short, Held, begun, over, turn-used, went}
+use Rattle.requests.proofs.StepLaws.{parts-valid, valid-parts, read-valid, data-short, Held, begun, over, valid-step-used, went}
 use Rattle.counters.specs.declared.Counters.{Counters}
 use Rattle.counters.specs.Count.{bumpedFor, bumpedForAll}
 use Rattle.counters.specs.Counting.{endings, counting}
@@ -41,8 +41,8 @@ data-byte : (reader : List ℕ) (n : ℕ) → Each Byte reader → Each Byte (Li
 unfolding LineReader.dataOf LineReader.partOf
 data-byte reader n h = by (LineReader.dataRefusal reader n)
   where
-    by : (x : Option ℕ) → Each Byte (LineReader.partOf x (run LineReader.data-place n reader))
-    by none = each-run LineReader.data-place n reader h
+    by : (x : Option ℕ) → Each Byte (LineReader.partOf x (run LineReader.data-offset n reader))
+    by none = each-run LineReader.data-offset n reader h
     by (some x) = tt
 
 module _ (image f : List ℕ) (i : Receive.Inner) (factory : validFactory f ≡ true) (valid : Receive.validInner i ≡ true) where
@@ -68,7 +68,7 @@ module _ (image f : List ℕ) (i : Receive.Inner) (factory : validFactory f ≡ 
       by false false false true = failure-stays 7 (some sequence)
       by false false false false = carried-valid image f i sequence d factory valid short (number-small 1 0 d h) command
 
-  answer-stays : (reader : List ℕ) → Each Byte reader → (a : LineReader.Said)
+  answer-stays : (reader : List ℕ) → Each Byte reader → (a : LineReader.Report)
       → Receive.validInner (Receive.innerAfter image f i (Receive.verdictOf reader a)) ≡ true
   unfolding Receive.innerAfter Receive.verdictOf
   answer-stays reader h (LineReader.refused n) = valid
@@ -81,16 +81,16 @@ module _ (image f : List ℕ) (i : Receive.Inner) (factory : validFactory f ≡ 
 module _ (image piece : List ℕ) (p : Parts) {q : Parts} {n : ℕ} {g : Receive.Ended} (valid : Receive.validParts p ≡ true)
     (e : record { used = n; ended = g; parts = q } ≡ Receive.stepping image p piece) where
   -- a step on valid parts is a turn
-  step-turned : record { used = n; ended = g; parts = q } ≡ Receive.turned image p piece
+  stepping-valid : record { used = n; ended = g; parts = q } ≡ Receive.validStep image p piece
   unfolding Receive.stepping
-  step-turned = e ∙ rw valid
+  stepping-valid = e ∙ rw valid
 
   step-valid : Each Byte (q .reader) → Receive.validParts q ≡ true
-  unfolding Receive.turned Receive.answered
+  unfolding Receive.validStep Receive.answered
   step-valid h =
       let v = parts-valid p valid in
       let o = LineReader.readPiece (p .reader) piece in
-      let s : q ≡ Receive.answered image p (o .state) (o .answer) = ap (λ (x : Receive.StepDone). x .parts) step-turned in
+      let s : q ≡ Receive.answered image p (o .state) (o .answer) = ap (λ (x : Receive.StepDone). x .parts) stepping-valid in
       let k : Each Byte (o .state) = rw s at h in
       rw s
       (valid-parts (Receive.answered image p (o .state) (o .answer))
@@ -127,14 +127,14 @@ module _ (s : List ℕ) (b : ℕ) (bs : List ℕ) where
   read-next = rw (ne-eqb (suc b) 0 (λ e. omega arith))
 
 -- what is left of a piece is counted on from what a turn counts
-turn-counts : (piece s : List ℕ) (c : Counters) → let o = LineReader.readPiece s piece in
+valid-step-counts : (piece s : List ℕ) (c : Counters) → let o = LineReader.readPiece s piece in
     bumpedForAll c (endings s piece) ≡ bumpedForAll (bumpedFor c (Receive.ended (o .state) (o .answer))) (endings (o .state) (drop (o .used) piece))
 unfolding LineReader.readPiece LineReader.next Receive.ended endings bumpedFor bumpedForAll
-turn-counts [] s c = refl
-turn-counts (zero ∷ bs) s c = refl
-turn-counts (suc b ∷ bs) s c = rw (read-next s b bs, ne-eqb (suc b) 0 (λ e. omega arith)) (turn-counts bs (LineReader.pushed s (suc b)) c)
+valid-step-counts [] s c = refl
+valid-step-counts (zero ∷ bs) s c = refl
+valid-step-counts (suc b ∷ bs) s c = rw (read-next s b bs, ne-eqb (suc b) 0 (λ e. omega arith)) (valid-step-counts bs (LineReader.pushed s (suc b)) c)
 
--- the parts and the counters at a place of the piece: what is left of it is received and counted on
+-- the parts and the counters at an offset of the piece: what is left of it is received and counted on
 pub record Counted (image piece : List ℕ) (p₀ p : Parts) (c t : Counters) (at : ℕ) : Type 0 where
   pub held : Held image piece p₀ p at
   pub same : counting c p₀ piece ≡ bumpedForAll t (endings (p .reader) (drop at piece))
@@ -144,7 +144,7 @@ Done image piece p c a t q = (Receive.receiptOf a q ≡ Receive.receiving image 
 
 pub refused-so : (image piece : List ℕ) (p : Parts) (c : Counters) {q : Parts} {b : Bool} → Tested p q b → b ≡ true
     → Done image piece p c received.Refused c q
-unfolding Receive.receiving Receive.receiptSaid counting
+unfolding Receive.receiving Receive.receiptReport counting
 refused-so image piece p c h e = let v : Receive.validParts p ≡ false = not-true _ (sym (h .1) ∙ e) in rw (v, h .0) (refl, refl)
 
 pub counted-none : (image piece : List ℕ) {p q : Parts} (c : Counters) {b : Bool} → Tested p q b → b ≡ false → Counted image piece q q c c 0
@@ -160,29 +160,29 @@ counted-all {piece = piece} {c = c} {t = t} e h l =
     let k : t ≡ counting c _ piece = sym (h .same ∙ rw (drop-of-length-le piece l)) in
     (rw e at (over (h .held) l), rw e at k)
 
--- a step at a place of the piece
+-- a step at an offset of the piece
 module _ {image piece : List ℕ} {p₀ p p' : Parts} {c t : Counters} {at : ℕ} {n : ℕ} {g : Receive.Ended} (h : Counted image piece p₀ p c t at) (l : at < length piece)
     (e : record { used = n; ended = g; parts = p' } ≡ Receive.stepping image p (take (length piece - at) (drop at piece))) where
   abbrev left : List ℕ
   left = drop at piece
 
-  turned : record { used = n; ended = g; parts = p' } ≡ Receive.turned image p (take (length piece - at) left)
-  turned = step-turned image _ p (h .held .valid) e
+  validStep : record { used = n; ended = g; parts = p' } ≡ Receive.validStep image p (take (length piece - at) left)
+  validStep = stepping-valid image _ p (h .held .valid) e
 
   pub step-used : (1 ≤ n) × (at + n ≤ length piece)
-  step-used = turn-used (h .held) l turned
+  step-used = valid-step-used (h .held) l validStep
 
   pub counted-on : {t' : Counters} → t' ≡ bumpedFor t g → ((i : ℕ) → getD (p' .reader) i 0 < 256)
       → length (p' .reader) ≡ length (p .reader) → length (p' .outbox) ≡ length (p .outbox)
       → length (p' .settings) ≡ length (p .settings) → length (p' .registers) ≡ length (p .registers) → Counted image piece p₀ p' c t' (at + n)
-  unfolding Receive.turned Receive.answered
+  unfolding Receive.validStep Receive.answered
   counted-on b k r o s m =
       let whole : length left ≤ length piece - at = rw length-drop (omega arith) in
-      let done = rw (take-all _ _ whole) at turned in
+      let done = rw (take-all _ _ whole) at validStep in
       let u : n ≡ LineReader.readPiece (p .reader) left .used = ap (λ (x : Receive.StepDone). x .used) done in
       let q : p' .reader ≡ LineReader.readPiece (p .reader) left .state = ap (λ (x : Receive.StepDone). x .parts .reader) done in
       let f = ap (λ (x : Receive.StepDone). x .ended) done in
       record {
-        held = went (h .held) l turned (step-valid image _ p (h .held .valid) e (bytes-each (p' .reader) k)) r o s m;
-        same = h .same ∙ turn-counts left (p .reader) t ∙ rw (← f, ← u, ← q, b, drop-drop);
+        held = went (h .held) l validStep (step-valid image _ p (h .held .valid) e (bytes-each (p' .reader) k)) r o s m;
+        same = h .same ∙ valid-step-counts left (p .reader) t ∙ rw (← f, ← u, ← q, b, drop-drop);
       }

@@ -6,8 +6,8 @@ use requests::receive::Stepped;
 ghost use mathlib.Core.Path.{_≡_};
 ghost use mathlib.Core.Bool.{not};
 ghost use Rattle.supervisor.specs.Calls.{parts};
-ghost use Rattle.requests.specs.Receive.{endedSaid, validParts, stepOf, stepping, receiptOf, receiving};
-ghost use Rattle.requests.specs.declared.receive.Outcome.the-variants as said;
+ghost use Rattle.requests.specs.Receive.{endedReport, validParts, stepOf, stepping, receiptOf, receiving};
+ghost use Rattle.requests.specs.declared.receive.Outcome.the-variants as report;
 ghost use Rattle.counters.specs.Count.{oneMore, zeros, bumpedFor};
 ghost use Rattle.counters.specs.Counting.{counting};
 
@@ -60,7 +60,7 @@ pub fn clear(block: &mut Counters)
 
 // The counters after a frame that ended so; as they are where none ended.
 pub fn bumped(counters: Counters, outcome: Outcome) -> Counters
-    ensures { λ r. ⌜ r ≡ bumpedFor counters (endedSaid outcome) ⌝ }
+    ensures { λ r. ⌜ r ≡ bumpedFor counters (endedReport outcome) ⌝ }
 {
     let mut bumped = counters;
     match outcome {
@@ -80,7 +80,7 @@ pub fn bumped(counters: Counters, outcome: Outcome) -> Counters
 
 // The counters after a failure with this reason.
 fn failed(counters: Counters, reason: u8) -> Counters
-    ensures { λ r. ⌜ r ≡ bumpedFor counters (endedSaid (said.Failure reason)) ⌝ }
+    ensures { λ r. ⌜ r ≡ bumpedFor counters (endedReport (report.Failure reason)) ⌝ }
 {
     let mut bumped = counters;
     if reason == 1 {
@@ -125,7 +125,7 @@ fn one_more(count: u32) -> u32
 
 // Bumps the counter of a frame's outcome in place.
 pub fn bump(block: &mut Counters, outcome: Outcome)
-    ensures { λ _. ⌜ now (block .exit) ≡ bumpedFor (now (block .entry)) (endedSaid outcome) ⌝ }
+    ensures { λ _. ⌜ now (block .exit) ≡ bumpedFor (now (block .entry)) (endedReport outcome) ⌝ }
 {
     *block = bumped(*block, outcome);
 }
@@ -141,7 +141,7 @@ pub fn step_counted(
     settings: &mut [u8],
     registers: &mut [u8],
 ) -> Stepped
-    ensures { λ r. ⌜ (stepOf r (parts (now (reader .exit)) (now (outbox .exit)) (now (factory .entry)) (now (settings .exit)) (now (registers .exit))) ≡ stepping (now (image .entry)) (parts (now (reader .entry)) (now (outbox .entry)) (now (factory .entry)) (now (settings .entry)) (now (registers .entry))) (now (piece .entry))) × (now (block .exit) ≡ bumpedFor (now (block .entry)) (endedSaid (r .outcome))) ⌝ }
+    ensures { λ r. ⌜ (stepOf r (parts (now (reader .exit)) (now (outbox .exit)) (now (factory .entry)) (now (settings .exit)) (now (registers .exit))) ≡ stepping (now (image .entry)) (parts (now (reader .entry)) (now (outbox .entry)) (now (factory .entry)) (now (settings .entry)) (now (registers .entry))) (now (piece .entry))) × (now (block .exit) ≡ bumpedFor (now (block .entry)) (endedReport (r .outcome))) ⌝ }
 {
     let done = requests::receive::step(image, piece, reader, outbox, factory, settings, registers);
     bump(block, done.outcome);

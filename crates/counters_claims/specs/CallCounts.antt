@@ -27,7 +27,7 @@ use Rattle.supervisor_claims.specs.FrameHistory.{reads, receivedBy, endedBy, ta
 use Rattle.supervisor_claims.specs.Sound.{Sound, valid-long}
 use Rattle.supervisor_claims.specs.laws.Locality.{EnoughOfAll, lent-sound, lent-view}
 use Rattle.supervisor_claims.specs.laws.Progress.{Since}
-use Rattle.supervisor_claims.specs.calls.StepClaim.{step-ends, turned-stepped}
+use Rattle.supervisor_claims.specs.calls.StepClaim.{step-ends, valid-step-stepped}
 use Rattle.supervisor_claims.specs.calls.ReceivedClaim.{pushed-received, finished-received, finished-kept}
 use Rattle.supervisor_claims.specs.claims.InOrder.{tail-within, more-tail}
 use Rattle.supervisor_claims.specs.claims.FramesClaim.{closed-ends}
@@ -104,7 +104,7 @@ module _ (image piece : List ℕ) (l : Lent) (p : Parts) where
   step-refused e = by (Receive.validParts q) refl
     where
       by : (t : Bool) → Receive.validParts q ≡ t → t ≡ false
-      by true v = absurd (unrefused _ (rw (v, turned-stepped image q piece) tt) (ap (λ (x : Did). x .answer) (made-12 p (record { lent = l; call = Histories.step image piece }) e)))
+      by true v = absurd (unrefused _ (rw (v, valid-step-stepped image q piece) tt) (ap (λ (x : Did). x .answer) (made-12 p (record { lent = l; call = Histories.step image piece }) e)))
       by false v = refl
 
 -- ---- one call
@@ -139,7 +139,7 @@ module _ (w : List ℕ) (p : Parts) (s : Sound p) (h : Since (split w .rest) (vi
   receive-counts image piece l false e = rw (e, receive-refused image piece l p e) (none-counts true)
 
   step-counts : (image piece : List ℕ) (l : Lent) (t : Bool) → enough (Histories.step image piece) l ≡ t → Counts l (Histories.step image piece)
-  unfolding didCounted reads Receive.stepping Receive.turned
+  unfolding didCounted reads Receive.stepping Receive.validStep
   step-counts image piece l true e =
       let k = widened-enough l p (valid-long {p = p} (s .valid)) (Histories.step image piece) e in
       rw (e, lent-enough l p s k .0) (step-endings piece (lentOf l p .reader) c ∙ read-counts l (ListN.take (upTo piece) piece) k)

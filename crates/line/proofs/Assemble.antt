@@ -16,7 +16,7 @@ use Rattle.line.specs.Message.{magic, body, message}
 use Rattle.line.specs.Writer.{messageOf}
 use Rattle.line.proofs.Message.{length-body}
 
--- t is s with the bytes xs laid at its start; at is the place after them
+-- t is s with the bytes xs laid at its start; at is the offset after them
 module _ (xs s : List ℕ) (at : ℕ) {t : List ℕ} (e : length xs ≡ at) (laid : t ≡ overlay 0 xs s) where
   laid-bytes : take at t ≡ xs
   laid-bytes = rw (laid, ← e) (overlay-inside 0 xs s (omega arith))

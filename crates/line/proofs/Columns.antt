@@ -207,7 +207,7 @@ module _ (n : ℕ) (bs xs firsts seconds : List ℕ) (h : n < rows) (k : length 
             omega (arith, total-added (added xs firsts) seconds (omega (arith, length-added xs firsts)), rw k at (weighted-append bs xs));
       }
 
--- one row more of the block from a place on
+-- one row more of the block from an offset on
 pub summed-next : (n at : ℕ) (s xs firsts seconds ones twos : List ℕ) → n < rows → xs ≡ run (at + n * columns) columns s → length xs ≡ columns
     → AtMost 255 xs → ones ≡ added xs firsts → twos ≡ added ones seconds → Summed n (run at (n * columns) s) firsts seconds
     → Summed (n + 1) (run at ((n + 1) * columns) s) ones twos
@@ -215,7 +215,7 @@ summed-next n at s xs firsts seconds ones twos h e k l f g i =
     let m : (n + 1) * columns ≡ n * columns + columns = omega arith in
     rw (g, f, m, run-add at (n * columns) columns s, ← e) (summed-row n (run at (n * columns) s) xs firsts seconds h k l i)
 
--- all rows of the block from a place on: what the definition's sums are behind it
+-- all rows of the block from an offset on: what the definition's sums are behind it
 pub summed-block : (s firsts seconds : List ℕ) (at first second one two weight : ℕ) → at + block-length ≤ length s → first < 255 → second < 255
     → Summed rows (run at block-length s) firsts seconds → one ≡ total firsts → weight ≡ weighted firsts → two ≡ total seconds
     → sums ((first + one) % 255) ((second + first * block-length + (two * columns + weight - one * columns)) % 255) (drop (at + block-length) s)

@@ -15,7 +15,7 @@ use Rattle.octets.specs.Bytes.{run, equal}
 use Rattle.line.specs.declared.cobs.Measured.{Measured}
 use Rattle.line.specs.declared.cobs.Measured.the-variants.{Bad, Length}
 use Rattle.line.specs.Cobs.{zeros, lastOneAfterFull, groupBytes, uncobs}
-use Rattle.line.specs.Decoding.{bit, measured, plainGroup, plain}
+use Rattle.line.specs.Decoding.{one-if, measured, plainGroup, plain}
 use Rattle.line.proofs.Alike.{alike-next}
 
 -- ---- the plain bytes are what a form decodes to, and no longer than the form
@@ -65,21 +65,21 @@ pub measured-length : (f : List ℕ) (k : ℕ) → Length k ≡ measured (uncobs
 unfolding uncobs plain
 measured-length f k e = length-some (groupBytes 0 false f) (plainGroup 0 false f) k (gives-plain 0 false f) e
 
-pub bit-most : (z : Bool) → bit z ≤ 1
-bit-most true = omega arith
-bit-most false = omega arith
+pub one-if-most : (z : Bool) → one-if z ≤ 1
+one-if-most true = omega arith
+one-if-most false = omega arith
 
-pub length-zeros : (z : Bool) → length (zeros z) ≡ bit z
+pub length-zeros : (z : Bool) → length (zeros z) ≡ one-if z
 length-zeros true = refl
 length-zeros false = refl
 
-group-length : (left : ℕ) (z : Bool) (bs : List ℕ) → length (plainGroup left z bs) ≤ length bs + bit z
+group-length : (left : ℕ) (z : Bool) (bs : List ℕ) → length (plainGroup left z bs) ≤ length bs + one-if z
 unfolding plainGroup
 group-length zero z [] = omega arith
 group-length (suc left) z [] = omega arith
 group-length (suc left) z (b ∷ bs) = omega (arith, group-length left z bs)
 group-length zero z (c ∷ cs) =
-    simp (length-append, length-zeros) (omega (arith, bit-most (ltb c 255), group-length (c - 1) (ltb c 255) cs))
+    simp (length-append, length-zeros) (omega (arith, one-if-most (ltb c 255), group-length (c - 1) (ltb c 255) cs))
 
 -- ---- one group
 
@@ -157,11 +157,11 @@ ones-behind (suc j) o cs =
 
 -- behind any group
 ones-counted : (z : Bool) (j o : ℕ) (cs : List ℕ)
-    → counted o (groupBytes 0 z (replicate (suc j) 1 ++ cs)) ≡ counted (o + bit z + j) (groupBytes 0 true cs)
+    → counted o (groupBytes 0 z (replicate (suc j) 1 ++ cs)) ≡ counted (o + one-if z + j) (groupBytes 0 true cs)
 unfolding groupBytes
-ones-counted z j o cs = counted-map o (zeros z) (groupBytes 0 true (replicate j 1 ++ cs)) ∙ rw length-zeros (ones-behind j (o + bit z) cs)
+ones-counted z j o cs = counted-map o (zeros z) (groupBytes 0 true (replicate j 1 ++ cs)) ∙ rw length-zeros (ones-behind j (o + one-if z) cs)
 
--- ---- the group at a place of the first n bytes of s
+-- ---- the group at an offset of the first n bytes of s
 
 module _ (s : List ℕ) (n i : ℕ) where
   pub slice-next : i < n → n ≤ length s → slice i n s ≡ getD s i 0 ∷ slice (i + 1) n s
@@ -198,7 +198,7 @@ module _ (s : List ℕ) (n i : ℕ) where
       counted-last f = rw (at-code, code-last z c (slice (i + 1) n s) (sym f))
 
       counted-code : (c ≡ 0 → ⊥) → c ≤ n - i → false ≡ lastOneAfterFull c (slice (i + 1) n s)
-          → Counted ≡ counted (o + bit z + (c - 1)) (groupBytes 0 (leb c 254) (slice (i + c) n s))
+          → Counted ≡ counted (o + one-if z + (c - 1)) (groupBytes 0 (leb c 254) (slice (i + c) n s))
       counted-code f l g =
           let m = length-slice (i + 1) n s k in
           let p : i + 1 + (c - 1) ≡ i + c = omega arith in
@@ -207,7 +207,7 @@ module _ (s : List ℕ) (n i : ℕ) where
             code-other z c (slice (i + 1) n s) f (sym g),
             counted-map o (zeros z),
             length-zeros,
-            counted-run (c - 1) (o + bit z) (ltb c 255) (slice (i + 1) n s) (omega arith),
+            counted-run (c - 1) (o + one-if z) (ltb c 255) (slice (i + 1) n s) (omega arith),
             drop-drop,
             p,
             holds-test,
@@ -217,26 +217,26 @@ module _ (s : List ℕ) (n i : ℕ) where
 
 -- how many bytes are decoded of the i bytes read: all but one for each full group, and but a zero that is held
 abbrev pub decodedOf : ℕ → ℕ → Bool → ℕ
-decodedOf i full z = i - (full + bit z)
+decodedOf i full z = i - (full + one-if z)
 
 -- a group holds a zero, or is full
-pub bit-not : (z : Bool) → bit (not z) + bit z ≡ 1
-bit-not true = refl
-bit-not false = refl
+pub one-if-not : (z : Bool) → one-if (not z) + one-if z ≡ 1
+one-if-not true = refl
+one-if-not false = refl
 
 after-group : (i full c held less more : ℕ) → full + held ≤ i → (c ≡ 0 → ⊥) → less + more ≡ 1
     → i - (full + held) + held + (c - 1) ≡ i + c - (full + less + more)
 after-group i full c held less more b f e = omega arith
 
-module _ (s : List ℕ) (n i full : ℕ) (z : Bool) (b : full + bit z ≤ i) where
+module _ (s : List ℕ) (n i full : ℕ) (z : Bool) (b : full + one-if z ≤ i) where
   -- the group with the code byte c
   pub counted-group : (c : ℕ) → i < n → n ≤ length s → c ≡ getD s i 0 → (c ≡ 0 → ⊥) → c ≤ n - i
       → false ≡ lastOneAfterFull c (slice (i + 1) n s)
       → Counted s n i z (decodedOf i full z)
-      ≡ Counted s n (i + c) (leb c 254) (decodedOf (i + c) (full + bit (not (leb c 254))) (leb c 254))
+      ≡ Counted s n (i + c) (leb c 254) (decodedOf (i + c) (full + one-if (not (leb c 254))) (leb c 254))
   counted-group c h k e f l g =
-      let p : decodedOf i full z + bit z + (c - 1) ≡ decodedOf (i + c) (full + bit (not (leb c 254))) (leb c 254) =
-      after-group i full c (bit z) (bit (not (leb c 254))) (bit (leb c 254)) b f (bit-not (leb c 254)) in
+      let p : decodedOf i full z + one-if z + (c - 1) ≡ decodedOf (i + c) (full + one-if (not (leb c 254))) (leb c 254) =
+      after-group i full c (one-if z) (one-if (not (leb c 254))) (one-if (leb c 254)) b f (one-if-not (leb c 254)) in
       rw p at (counted-code s n i z (decodedOf i full z) c h k e f l g)
 
   -- a run of code bytes 01: a zero each, the last of which is held
@@ -244,7 +244,7 @@ module _ (s : List ℕ) (n i full : ℕ) (z : Bool) (b : full + bit z ≤ i) whe
       → Counted s n i z (decodedOf i full z) ≡ Counted s n (i + j) true (decodedOf (i + j) full true)
   counted-ones zero l h r = absurd (omega arith)
   counted-ones (suc j) l h r =
-      let p : decodedOf i full z + bit z + j ≡ decodedOf (i + suc j) full true = omega arith in
+      let p : decodedOf i full z + one-if z + j ≡ decodedOf (i + suc j) full true = omega arith in
       rw (alike-next s n i (suc j) 1 h r) (rw p at (ones-counted z j (decodedOf i full z) (slice (i + suc j) n s)))
 
 -- ---- a last 01 after a full group

@@ -17,7 +17,7 @@ use Rattle.octets.proofs.Overlay.{run-take, length-overlay, overlay-inside, ove
 use Rattle.line.specs.Limits.{header-length, checksum-length, shortest-message, longest-data, longest-form}
 use Rattle.line.specs.Judge.{wrongLength, payloadOf}
 use Rattle.line.specs.Cobs.{uncobs}
-use Rattle.line.specs.Reader.{frame-place, state-length, overlong, count, counted, kept, pushes}
+use Rattle.line.specs.Reader.{frame-offset, state-length, overlong, count, counted, kept, pushes}
 use Rattle.line.specs.Reader.{empty, failed, Settled, settled, unpacked, settle, finish, dataRefusal, partOf, dataOf}
 use Rattle.line.proofs.State.{Ready, ready-valid, length-counted, count-counted, run-counted, pushes-fit, pushes-some}
 use Rattle.line.proofs.Lent.{fit-length}
@@ -33,8 +33,8 @@ module _ (s : List ℕ) where
   unfolding finish
   finish-over h = rw (ne-eqb (count s) 0 (λ e. omega arith), lt-ltb longest-form (count s) h)
 
-  pub finish-form : (count s ≡ 0 → ⊥) → count s ≤ longest-form → frame-place ≤ length s
-      → settle (run frame-place (count s) (counted 0 s)) (counted 0 s) ≡ finish s
+  pub finish-form : (count s ≡ 0 → ⊥) → count s ≤ longest-form → frame-offset ≤ length s
+      → settle (run frame-offset (count s) (counted 0 s)) (counted 0 s) ≡ finish s
   unfolding finish kept
   finish-form n h l = rw (ne-eqb (count s) 0 n, le-ltb longest-form (count s) h, run-counted 0 s l (count s))
 
@@ -44,26 +44,26 @@ module _ (s t : List ℕ) (h : state-length ≤ length s) (z : count s ≡ 0) wh
   ready : Ready s
   ready = (h, omega arith)
 
-  fitted : 0 < length t → length t ≤ longest-form → pushes s t ≡ counted (length t) (overlay frame-place t s)
+  fitted : 0 < length t → length t ≤ longest-form → pushes s t ≡ counted (length t) (overlay frame-offset t s)
   fitted k l = rw (z, zero-add, add-zero) at (pushes-fit t s ready k (omega arith))
 
   pub held-form : 0 < length t → length t ≤ longest-form → finish (pushes s t) ≡ settle t (counted 0 (pushes s t))
   held-form k l =
-      let o = overlay frame-place t s in
-      let e : length o ≡ length s = length-overlay frame-place t s (omega arith) in
+      let o = overlay frame-offset t s in
+      let e : length o ≡ length s = length-overlay frame-offset t s (omega arith) in
       let n = length-counted (length t) o (omega arith) in
       let c = count-counted (length t) o (omega arith) (omega arith) in
       let f = finish-form (counted (length t) o) (λ x. omega arith) (omega arith) (omega arith) in
       let r = run-counted 0 (counted (length t) o) (omega arith) (length t) ∙ run-counted (length t) o (omega arith) (length t) in
-      rw (fitted k l) (sym (rw (c, r, overlay-inside frame-place t s (omega arith)) at f))
+      rw (fitted k l) (sym (rw (c, r, overlay-inside frame-offset t s (omega arith)) at f))
 
   -- more bytes than the longest form has
   pub held-over : longest-form < length t → finish (pushes s t) ≡ settled (failed 1 none) (counted 0 (pushes s t))
   held-over l =
       let room = longest-form - count s in
-      let o = overlay (frame-place + count s) (take room t) s in
+      let o = overlay (frame-offset + count s) (take room t) s in
       let m = length-take-le room t (omega arith) in
-      let e : length o ≡ length s = length-overlay (frame-place + count s) (take room t) s (omega arith) in
+      let e : length o ≡ length s = length-overlay (frame-offset + count s) (take room t) s (omega arith) in
       let c = count-counted overlong o (omega arith) (omega arith) in
       rw (pushes-some t s ready (omega arith) (omega arith) (omega arith)) (sym (finish-over (counted overlong o) (omega arith)))
 
@@ -76,14 +76,14 @@ module _ (s t : List ℕ) (h : state-length ≤ length s) (z : count s ≡ 0) wh
       over l =
           let room = longest-form - count s in
           let m = length-take-le room t (omega arith) in
-          let e = length-overlay (frame-place + count s) (take room t) s (omega arith) in
+          let e = length-overlay (frame-offset + count s) (take room t) s (omega arith) in
           rw (pushes-some t s ready (omega arith) (omega arith) (omega arith)) (sym (count-counted overlong _ (omega arith) (omega arith)))
 
       within : (x : List ℕ) → x ≡ t → length t ≤ longest-form → length t ≡ count (pushes s t)
       within [] p l = rw (← p) (sym z)
       within (b ∷ bs) p l =
           let k = ap length p in
-          let e = length-overlay frame-place t s (omega arith) in
+          let e = length-overlay frame-offset t s (omega arith) in
           rw (fitted (omega arith) l) (sym (count-counted (length t) _ (omega arith) (omega arith)))
 
 -- ---- the state that a 00 leaves
@@ -95,20 +95,20 @@ module _ (s : List ℕ) (h : state-length ≤ length s) where
   unpacked-keeps (some xs) =
       cond-by (λ (x : List ℕ). (length x ≡ length s) × (number (run 0 2 x) ≡ number (run 0 2 s))) (wrongLength xs) _ _ (λ e. (refl, refl)) (λ e.
       let l = fit-length xs e in
-      (length-overlay frame-place xs s (omega arith), ap number (overlay-before frame-place 0 2 xs s (omega arith) (omega arith))))
+      (length-overlay frame-offset xs s (omega arith), ap number (overlay-before frame-offset 0 2 xs s (omega arith) (omega arith))))
 
   -- the data of a message, in its bytes
   pub data-unpacked : (xs : List ℕ) → count s ≤ overlong → wrongLength xs ≡ false
-      → dataOf (overlay frame-place xs s) (length (payloadOf xs)) ≡ payloadOf xs
+      → dataOf (overlay frame-offset xs s) (length (payloadOf xs)) ≡ payloadOf xs
   unfolding dataOf dataRefusal partOf unpacked
   data-unpacked xs k e =
       let n = length xs - shortest-message in
       let l = fit-length xs e in
-      let u : (length (overlay frame-place xs s) ≡ length s) × (count (overlay frame-place xs s) ≡ count s) = rw e at (unpacked-keeps (some xs)) in
+      let u : (length (overlay frame-offset xs s) ≡ length s) × (count (overlay frame-offset xs s) ≡ count s) = rw e at (unpacked-keeps (some xs)) in
       let m : length (payloadOf xs) ≡ n = simp (length-drop, length-take) (omega arith) in
       let t : header-length + n ≡ length xs - checksum-length = omega arith in
-      rw (m, ready-valid (overlay frame-place xs s) (omega arith, omega arith), le-ltb longest-data n (omega arith))
-      (rw (overlay-part frame-place header-length n xs s (omega arith) (omega arith), run-take header-length n xs, t))
+      rw (m, ready-valid (overlay frame-offset xs s) (omega arith, omega arith), le-ltb longest-data n (omega arith))
+      (rw (overlay-part frame-offset header-length n xs s (omega arith) (omega arith), run-take header-length n xs, t))
 
 pub finish-leaves : (s : List ℕ) → state-length ≤ length s → (length (finish s .state) ≡ length s) × (count (finish s .state) ≡ 0)
 unfolding finish settle

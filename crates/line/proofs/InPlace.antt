@@ -12,9 +12,9 @@ use lib.Seq.{slice, length-slice, drop-drop}
 use Rattle.octets.specs.Bytes.{run, overlay, movedDown}
 use Rattle.octets.proofs.Overlay.{length-run, length-overlay, overlay-none, overlay-after, overlay-next, overlay-more, overlay-getD-after, movedDown-fits}
 use Rattle.line.specs.Cobs.{zeros}
-use Rattle.line.specs.Decoding.{bit, plainGroup, plain}
+use Rattle.line.specs.Decoding.{one-if, plainGroup, plain}
 use Rattle.line.proofs.Alike.{run-within, alike-next}
-use Rattle.line.proofs.Decoding.{bit-most, length-zeros, holds-test, slice-next, slice-past}
+use Rattle.line.proofs.Decoding.{one-if-most, length-zeros, holds-test, slice-next, slice-past}
 
 -- the bytes of a group, as many as there are
 plain-run : (left k : ℕ) (z : Bool) (bs : List ℕ) → k ≡ min left (length bs)
@@ -48,18 +48,18 @@ run-moved d s from k h l =
     movedDown-fits (overlay 0 d s) from (length d) k h (omega arith)
     ∙ rw (overlay-after 0 from k d s (omega arith) (omega arith)) (rw zero-add at n)
 
-length-held : (d : List ℕ) (z : Bool) → length (d ++ zeros z) ≡ length d + bit z
+length-held : (d : List ℕ) (z : Bool) → length (d ++ zeros z) ≡ length d + one-if z
 length-held d z = simp (length-append, length-zeros)
 
 -- one group, put after the bytes decoded
-group-put : (z : Bool) (d s : List ℕ) (from k : ℕ) → length d + bit z ≤ from → length d < length s → from + k ≤ length s
-    → movedDown (cond z (set (overlay 0 d s) (length d) 0) (overlay 0 d s)) from (length d + bit z) k
+group-put : (z : Bool) (d s : List ℕ) (from k : ℕ) → length d + one-if z ≤ from → length d < length s → from + k ≤ length s
+    → movedDown (cond z (set (overlay 0 d s) (length d) 0) (overlay 0 d s)) from (length d + one-if z) k
     ≡ overlay 0 ((d ++ zeros z) ++ run from k s) s
 group-put z d s from k h l f =
     let e = length-held d z in
     rw (zero-put z d s l, ← e) (run-moved (d ++ zeros z) s from k (omega arith) f)
 
--- one group, read at a place of the first n bytes of s
+-- one group, read at an offset of the first n bytes of s
 group-read : (z : Bool) (s : List ℕ) (n i c k : ℕ) → i < n → n ≤ length s → c ≡ getD s i 0 → k ≡ min (c - 1) (n - (i + 1))
     → plainGroup 0 z (slice i n s) ≡ zeros z ++ (run (i + 1) k s ++ plainGroup 0 (leb c 254) (slice (i + 1 + k) n s))
 group-read z s n i c k h l e f =
@@ -71,7 +71,7 @@ group-read z s n i c k h l e f =
 pub record Middle (s : List ℕ) (n : ℕ) (t : List ℕ) (z : Bool) (o i : ℕ) : Type 0 where
   pub decoded : List ℕ
   pub long : length decoded ≡ o
-  pub behind : o + bit z ≤ i
+  pub behind : o + one-if z ≤ i
   pub stands : t ≡ overlay 0 decoded s
   pub whole : plain (take n s) ≡ decoded ++ plainGroup 0 z (slice i n s)
 
@@ -89,7 +89,7 @@ middle-end s n t z o i m h l =
 -- one group, whose code byte is c
 pub middle-next : (s : List ℕ) (n : ℕ) (t : List ℕ) (z : Bool) (o i c k : ℕ) → Middle s n t z o i → i < n → n ≤ length s
     → c ≡ getD t i 0 → k ≡ min (c - 1) (n - (i + 1))
-    → Middle s n (movedDown (cond z (set t o 0) t) (i + 1) (o + bit z) k) (leb c 254) (o + bit z + k) (i + 1 + k)
+    → Middle s n (movedDown (cond z (set t o 0) t) (i + 1) (o + one-if z) k) (leb c 254) (o + one-if z + k) (i + 1 + k)
 middle-next s n t z o i c k m h l e f =
     let d = m .decoded in
     let p : getD t i 0 ≡ getD s i 0 = rw (m .stands) (overlay-getD-after 0 i 0 d s (omega arith) (omega arith)) in
@@ -98,7 +98,7 @@ middle-next s n t z o i c k m h l e f =
     record {
       decoded = (d ++ zeros z) ++ run (i + 1) k s;
       long = length-append (d ++ zeros z) (run (i + 1) k s) ∙ rw (q, r, m .long);
-      behind = omega (arith, bit-most (leb c 254));
+      behind = omega (arith, one-if-most (leb c 254));
       stands = rw (m .stands, ← m .long) (group-put z d s (i + 1) k (omega arith) (omega arith) (omega arith));
       whole = m .whole ∙ rw (group-read z s n i c k h l (e ∙ p) f) (simp append-assoc);
     }

@@ -18,14 +18,14 @@ use Rattle.line.specs.Message.{magic}
 use Rattle.line.specs.Judge.{bodyOf, checksumOf, magicOf, versionOf, sequenceOf, commandOf, payloadOf, fields, judgeFields, wrongLength, judgeLength, judgeForm, judge}
 use Rattle.line.specs.Cobs.{uncobs}
 use Rattle.line.specs.Decoding.{measured, plain}
-use Rattle.line.specs.Reader.{frame-place, state-length, Said, failed, message, verdictSaid, settled, unpacked, settle}
+use Rattle.line.specs.Reader.{frame-offset, state-length, Report, failed, message, verdictReport, settled, unpacked, settle}
 use Rattle.line.specs.declared.cobs.Measured.{Measured}
 use Rattle.line.specs.declared.cobs.Measured.the-variants.{Bad, Length}
 use Rattle.line.proofs.Decoding.{measured-bad, measured-length}
 
 -- the part of a state that holds a decoded message of k bytes, as the code makes it
-pub length-part : (s : List ℕ) (k : ℕ) → frame-place + k ≤ length s → length (run frame-place (frame-place + k - frame-place) s) ≡ k
-length-part s k h = rw add-sub-cancel-left (length-run frame-place k s h)
+pub length-part : (s : List ℕ) (k : ℕ) → frame-offset + k ≤ length s → length (run frame-offset (frame-offset + k - frame-offset) s) ≡ k
+length-part s k h = rw add-sub-cancel-left (length-run frame-offset k s h)
 
 -- a decoded message of k bytes, and the numbers that are read of it
 module _ (xs : List ℕ) (k : ℕ) (e : length xs ≡ k) (h : shortest-message ≤ k) {a b q : ℕ}
@@ -36,25 +36,25 @@ module _ (xs : List ℕ) (k : ℕ) (e : length xs ≡ k) (h : shortest-message �
   checksum-made : b ≡ checksum (bodyOf xs)
   checksum-made = of-body ∙ rw e
 
-  pub said-checksum : (a ≡ b → ⊥) → failed 2 (some q) ≡ verdictSaid (judgeFields xs)
-  unfolding verdictSaid judgeFields
-  said-checksum n = rw (← checksum-read, ← checksum-made, ne-eqb a b n, sequence)
+  pub report-checksum : (a ≡ b → ⊥) → failed 2 (some q) ≡ verdictReport (judgeFields xs)
+  unfolding verdictReport judgeFields
+  report-checksum n = rw (← checksum-read, ← checksum-made, ne-eqb a b n, sequence)
 
   module _ {m : ℕ} (same : a ≡ b) (first : m ≡ magicOf xs) where
-    pub said-magic : (m ≡ magic → ⊥) → failed 4 (some q) ≡ verdictSaid (judgeFields xs)
-    unfolding verdictSaid judgeFields
-    said-magic n = rw (← checksum-read, ← checksum-made, eq-eqb a b same, ← first, ne-eqb m magic n, sequence)
+    pub report-magic : (m ≡ magic → ⊥) → failed 4 (some q) ≡ verdictReport (judgeFields xs)
+    unfolding verdictReport judgeFields
+    report-magic n = rw (← checksum-read, ← checksum-made, eq-eqb a b same, ← first, ne-eqb m magic n, sequence)
 
-    pub said-good : {v d : ℕ} → m ≡ magic → v ≡ versionOf xs → d ≡ commandOf xs → message v q d (k - shortest-message) ≡ verdictSaid (judgeFields xs)
-    unfolding verdictSaid judgeFields fields
-    said-good g version command =
+    pub report-good : {v d : ℕ} → m ≡ magic → v ≡ versionOf xs → d ≡ commandOf xs → message v q d (k - shortest-message) ≡ verdictReport (judgeFields xs)
+    unfolding verdictReport judgeFields fields
+    report-good g version command =
         let l : length (payloadOf xs) ≡ k - shortest-message = simp (length-drop, length-take) (omega arith) in
         rw (← checksum-read, ← checksum-made, eq-eqb a b same, ← first, eq-eqb m magic g, l, sequence, version, command)
 
 -- ---- a frame of at most 4,140 bytes
 
-pub form-fits : (s : List ℕ) (n : ℕ) → state-length ≤ length s → n ≤ longest-form → length (run frame-place n s) ≤ longest-form
-form-fits s n h l = omega (arith, length-run frame-place n s (omega arith))
+pub form-fits : (s : List ℕ) (n : ℕ) → state-length ≤ length s → n ≤ longest-form → length (run frame-offset n s) ≤ longest-form
+form-fits s n h l = omega (arith, length-run frame-offset n s (omega arith))
 
 module _ (form s : List ℕ) (l : length form ≤ longest-form) where
   judge-form : judge form ≡ judgeForm (uncobs form)
@@ -62,15 +62,15 @@ module _ (form s : List ℕ) (l : length form ≤ longest-form) where
   judge-form = rw (le-ltb longest-form (length form) l)
 
   settle-none : uncobs form ≡ none → settled (failed 1 none) s ≡ settle form s
-  unfolding settle verdictSaid judgeForm unpacked
+  unfolding settle verdictReport judgeForm unpacked
   settle-none e = rw (judge-form, e)
 
   module _ (xs : List ℕ) (e : uncobs form ≡ some xs) where
     settle-length : wrongLength xs ≡ true → settled (failed 3 none) s ≡ settle form s
-    unfolding settle verdictSaid judgeForm judgeLength unpacked
+    unfolding settle verdictReport judgeForm judgeLength unpacked
     settle-length t = rw (judge-form, e, t)
 
-    settle-message : wrongLength xs ≡ false → settled (verdictSaid (judgeFields xs)) (overlay frame-place xs s) ≡ settle form s
+    settle-message : wrongLength xs ≡ false → settled (verdictReport (judgeFields xs)) (overlay frame-offset xs s) ≡ settle form s
     unfolding settle judgeForm judgeLength unpacked
     settle-message t = rw (judge-form, e, t)
 
@@ -90,10 +90,10 @@ module _ (form s : List ℕ) (l : length form ≤ longest-form) where
           let p = measured-length form k (sym b ∙ e) in
           settle-length (plain form) (p .0) (rw (p .1, lt-ltb longest-message k h, or-true))
 
-      pub settle-fits : shortest-message ≤ k → k ≤ longest-message → frame-place ≤ length s → {t : List ℕ} {a : Said}
-          → t ≡ overlay frame-place (plain form) s → a ≡ verdictSaid (judgeFields (run frame-place k t)) → settled a t ≡ settle form s
+      pub settle-fits : shortest-message ≤ k → k ≤ longest-message → frame-offset ≤ length s → {t : List ℕ} {a : Report}
+          → t ≡ overlay frame-offset (plain form) s → a ≡ verdictReport (judgeFields (run frame-offset k t)) → settled a t ≡ settle form s
       settle-fits h j i u v =
           let p = measured-length form k (sym b ∙ e) in
           let w = settle-message (plain form) (p .0) (rw (p .1, le-ltb k shortest-message h, le-ltb longest-message k j)) in
-          let o = rw (p .1) at (overlay-inside frame-place (plain form) s i) in
+          let o = rw (p .1) at (overlay-inside frame-offset (plain form) s i) in
           cc

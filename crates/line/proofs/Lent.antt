@@ -16,8 +16,8 @@ use Rattle.octets.proofs.Overlay.{length-overlay, overlay-append, run-append}
 use Rattle.line.specs.Limits.{shortest-message, longest-message, longest-data, longest-form}
 use Rattle.line.specs.Judge.{wrongLength}
 use Rattle.line.specs.Cobs.{uncobs}
-use Rattle.line.specs.Reader.{frame-place, state-length, overlong, count, counted, kept, valid, pushed}
-use Rattle.line.specs.Reader.{Settled, settled, unpacked, settle, finish, data-place, dataRefusal, partOf, dataOf}
+use Rattle.line.specs.Reader.{frame-offset, state-length, overlong, count, counted, kept, valid, pushed}
+use Rattle.line.specs.Reader.{Settled, settled, unpacked, settle, finish, data-offset, dataRefusal, partOf, dataOf}
 use Rattle.line.proofs.State.{length-counted}
 
 -- bytes with a message's length
@@ -47,7 +47,7 @@ module _ (t u : List ℕ) (h : state-length ≤ length t) where
 
   kept-append : count t ≤ longest-form → kept (t ++ u) ≡ kept t
   unfolding kept
-  kept-append k = rw (count-append, run-append t u frame-place (count t) (omega arith))
+  kept-append k = rw (count-append, run-append t u frame-offset (count t) (omega arith))
 
   pub valid-append : valid (t ++ u) ≡ valid t
   unfolding valid
@@ -60,11 +60,11 @@ module _ (t u : List ℕ) (h : state-length ≤ length t) where
       (cond-by Same (valid t) _ _
       (λ v. cond-by Same (ltb longest-data n) _ _ (λ e. refl) (λ e.
       let k = ltb-false longest-data n e in
-      run-append t u data-place n (omega arith)))
+      run-append t u data-offset n (omega arith)))
       (λ v. refl))
     where
       Same : Option ℕ → Type 0
-      Same o = partOf o (run data-place n (t ++ u)) ≡ partOf o (run data-place n t)
+      Same o = partOf o (run data-offset n (t ++ u)) ≡ partOf o (run data-offset n t)
 
   unpacked-append : (form : Option (List ℕ)) → unpacked form (t ++ u) ≡ unpacked form t ++ u
   unfolding unpacked
@@ -72,7 +72,7 @@ module _ (t u : List ℕ) (h : state-length ≤ length t) where
   unpacked-append (some xs) =
       cond-map (λ (x : List ℕ). x ++ u) (wrongLength xs) (λ e. refl) (λ e.
       let l = fit-length xs e in
-      overlay-append t u frame-place xs (omega arith))
+      overlay-append t u frame-offset xs (omega arith))
 
 module _ (t u : List ℕ) (h : state-length ≤ length t) where
   pub pushed-append : (b : ℕ) → pushed (t ++ u) b ≡ pushed t b ++ u
@@ -82,8 +82,8 @@ module _ (t u : List ℕ) (h : state-length ≤ length t) where
       (cond-map (λ (x : List ℕ). x ++ u) (ltb (count t) longest-form)
       (λ e.
       let k = ltb-true (count t) longest-form e in
-      let l = length-overlay (frame-place + count t) (b ∷ []) t (omega arith) in
-      rw (overlay-append t u (frame-place + count t) (b ∷ []) (omega arith)) (counted-append _ u (omega arith) (count t + 1)))
+      let l = length-overlay (frame-offset + count t) (b ∷ []) t (omega arith) in
+      rw (overlay-append t u (frame-offset + count t) (b ∷ []) (omega arith)) (counted-append _ u (omega arith) (count t + 1)))
       (λ e. counted-append t u h overlong))
 
   pub finish-append : finish (t ++ u) ≡ behind u (finish t)

@@ -10,11 +10,11 @@ use lib.ListN.{length, take}
 use lib.Seq.{take-length}
 use borrow.Author.Tests.{ne-eqb}
 use Rattle.line.specs.Runs.{nonzero}
-use Rattle.line.specs.Reader.{Said, refused, more, valid, pushed, pushes, Settled, settled, finish, Outcome, next, readPiece, reading}
+use Rattle.line.specs.Reader.{Report, refused, more, valid, pushed, pushes, Settled, settled, finish, Outcome, next, readPiece, reading}
 use Rattle.line.proofs.Runs.{nonzero-length}
 use Rattle.line.proofs.State.{Ready, valid-ready, ready-pushes}
 
-abbrev pub outcomeOf : ℕ → Said → List ℕ → Outcome
+abbrev pub outcomeOf : ℕ → Report → List ℕ → Outcome
 outcomeOf n a s = record { used = n; answer = a; state = s }
 
 -- the bytes ahead of a piece's first 00
@@ -67,7 +67,7 @@ module _ (s p : List ℕ) (v : valid s ≡ true) {n : ℕ} (e : n ≡ length (ah
       let m = read-more s p (sym e ∙ f) in
       cc (accepted, take-length p)
 
-  pub reading-stop : (n ≡ length p → ⊥) → {a : Said} {u : List ℕ} → settled a u ≡ finish t → outcomeOf (n + 1) a u ≡ reading s p
+  pub reading-stop : (n ≡ length p → ⊥) → {a : Report} {u : List ℕ} → settled a u ≡ finish t → outcomeOf (n + 1) a u ≡ reading s p
   reading-stop f w =
       let l = ahead-most p in
       let m = read-stop s p (omega arith) in

@@ -1,4 +1,4 @@
--- A slice from a place on, lent and come back.
+-- A slice from an offset on, lent and come back.
 -- Assumes nothing.
 use mathlib.Core.Path.{_≡_, _∙_}
 use mathlib.Core.List.{List, _++_, append-assoc, append-nil}
@@ -20,7 +20,7 @@ module _ (s : List ℕ) (a : ℕ) where
   rest-put : (ys : List ℕ) → putMid a (length s - a) s ys ≡ take a s ++ ys
   rest-put ys = rw (drop-of-length-le (drop a s) rest-length, append-nil)
 
-  -- bytes put at the start of the part are put at its place
+  -- bytes put at the start of the part are put at its offset
   pub rest-overlay : (xs : List ℕ) → putMid a (length s - a) s (overlay 0 xs (drop a s)) ≡ overlay a xs s
   unfolding overlay
   rest-overlay xs = rest-put (overlay 0 xs (drop a s)) ∙ simp (zero-add, drop-drop, append-assoc)

@@ -11,25 +11,25 @@ use Rattle.line.specs.Limits.{longest-data}
 use Rattle.line.specs.Message.{Message, message}
 use Rattle.line.specs.Cobs.{cobs}
 use Rattle.line.specs.Frame.{frame}
-use Rattle.line.specs.Writer.{Outcome, said, outcome, sending, writing}
+use Rattle.line.specs.Writer.{Outcome, report, outcome, sending, writing}
 use Rattle.line.specs.declared.writer.Written.the-variants.{Done, NoRoom, TooLong}
 use Rattle.line.proofs.Assemble.{lay-byte}
 
 -- bytes and one 00 more: no room for the 00, and room for all
 pub send-refused : (bs out : List ℕ) {k : ℕ} → k ≡ length bs → length out ≤ k → outcome NoRoom out ≡ sending (bs ++ 0 ∷ []) out
-unfolding said sending
+unfolding report sending
 send-refused bs out e h = rw (lt-ltb (length out) (length (bs ++ 0 ∷ [])) (simp length-append (omega arith)))
 
 pub send-done : (bs out : List ℕ) {t : List ℕ} {k : ℕ} → k ≡ length bs → k < length out → t ≡ overlay 0 bs out
     → outcome (Done (k + 1)) (set t k 0) ≡ sending (bs ++ 0 ∷ []) out
-unfolding said sending
+unfolding report sending
 send-done bs out {k} e h laid =
     let n : length (bs ++ 0 ∷ []) ≡ k + 1 = simp length-append (omega arith) in
     rw (le-ltb (length out) (length (bs ++ 0 ∷ [])) (omega arith), n, lay-byte bs out k (sym e) laid 0 h)
 
 -- too much data, and no more than is allowed
 pub write-refused : (m : Message) (out : List ℕ) → longest-data < length (m .payload) → outcome TooLong out ≡ writing m out
-unfolding said writing
+unfolding report writing
 write-refused m out h = rw (lt-ltb longest-data (length (m .payload)) h)
 
 pub write-sent : (m : Message) (out : List ℕ) {bs : List ℕ} {o : Outcome} → length (m .payload) ≤ longest-data

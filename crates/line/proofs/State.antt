@@ -15,11 +15,11 @@ use Rattle.octets.proofs.Conditions.{cond-by}
 use Rattle.octets.proofs.Numbers.{length-bytes}
 use Rattle.octets.proofs.Overlay.{length-overlay, overlay-after, overlay-none, overlay-again, overlay-next, overlay-swap, put-fits, number-put, copied-fits}
 use Rattle.line.specs.Limits.{longest-form}
-use Rattle.line.specs.Reader.{frame-place, state-length, overlong, count, counted, valid, pushed, pushes}
+use Rattle.line.specs.Reader.{frame-offset, state-length, overlong, count, counted, valid, pushed, pushes}
 
 -- ---- the count
 
-module _ (n : ℕ) (s : List ℕ) (h : frame-place ≤ length s) where
+module _ (n : ℕ) (s : List ℕ) (h : frame-offset ≤ length s) where
   pub length-counted : length (counted n s) ≡ length s
   unfolding counted
   length-counted = length-overlay 0 (bytes 2 n) s (omega (arith, length-bytes 2 n))
@@ -33,14 +33,14 @@ module _ (n : ℕ) (s : List ℕ) (h : frame-place ≤ length s) where
   counted-again m = overlay-again 0 (bytes 2 n) (bytes 2 m) s (omega arith) (length-bytes 2 n ∙ sym (length-bytes 2 m))
 
   -- the frame's bytes do not change with the count
-  pub run-counted : (k : ℕ) → run frame-place k (counted n s) ≡ run frame-place k s
+  pub run-counted : (k : ℕ) → run frame-offset k (counted n s) ≡ run frame-offset k s
   unfolding counted
-  run-counted k = overlay-after 0 frame-place k (bytes 2 n) s (omega arith) (omega (arith, length-bytes 2 n))
+  run-counted k = overlay-after 0 frame-offset k (bytes 2 n) s (omega arith) (omega (arith, length-bytes 2 n))
 
-  pub overlay-counted : (k : ℕ) (xs : List ℕ) → frame-place + k ≤ length s
-      → overlay (frame-place + k) xs (counted n s) ≡ counted n (overlay (frame-place + k) xs s)
+  pub overlay-counted : (k : ℕ) (xs : List ℕ) → frame-offset + k ≤ length s
+      → overlay (frame-offset + k) xs (counted n s) ≡ counted n (overlay (frame-offset + k) xs s)
   unfolding counted
-  overlay-counted k xs l = sym (overlay-swap 0 (frame-place + k) (bytes 2 n) xs s (omega (arith, length-bytes 2 n)) l)
+  overlay-counted k xs l = sym (overlay-swap 0 (frame-offset + k) (bytes 2 n) xs s (omega (arith, length-bytes 2 n)) l)
 
 -- ---- the states that are read
 
@@ -60,7 +60,7 @@ ready-valid s r = rw (le-leb _ _ (r .0), le-leb _ _ (r .1))
 -- ---- one byte of a frame
 
 module _ (n : ℕ) (s : List ℕ) (b : ℕ) (h : state-length ≤ length s) where
-  pushed-room : n < longest-form → pushed (counted n s) b ≡ counted (n + 1) (overlay (frame-place + n) (b ∷ []) s)
+  pushed-room : n < longest-form → pushed (counted n s) b ≡ counted (n + 1) (overlay (frame-offset + n) (b ∷ []) s)
   unfolding pushed
   pushed-room l =
       rw (
@@ -68,7 +68,7 @@ module _ (n : ℕ) (s : List ℕ) (b : ℕ) (h : state-length ≤ length s) wher
         lt-ltb n longest-form l,
         overlay-counted n s (omega arith) n (b ∷ []) (omega arith),
       )
-      (counted-again n (overlay (frame-place + n) (b ∷ []) s) (rw (length-overlay (frame-place + n) (b ∷ []) s (omega arith)) (omega arith)) (n + 1))
+      (counted-again n (overlay (frame-offset + n) (b ∷ []) s) (rw (length-overlay (frame-offset + n) (b ∷ []) s (omega arith)) (omega arith)) (n + 1))
 
   pushed-over : longest-form ≤ n → n ≤ overlong → pushed (counted n s) b ≡ counted overlong s
   unfolding pushed
@@ -89,8 +89,8 @@ ready-pushed s b r =
     cond-by (λ t. (length t ≡ length s) × (count t ≤ overlong)) (ltb (count s) longest-form) _ _
     (λ e.
     let l = ltb-true (count s) longest-form e in
-    let k = length-overlay (frame-place + count s) (b ∷ []) s (omega arith) in
-    (length-counted _ _ (omega arith) ∙ k, rw (count-counted (count s + 1) (overlay (frame-place + count s) (b ∷ []) s) (omega arith) (omega arith)) (omega arith)))
+    let k = length-overlay (frame-offset + count s) (b ∷ []) s (omega arith) in
+    (length-counted _ _ (omega arith) ∙ k, rw (count-counted (count s + 1) (overlay (frame-offset + count s) (b ∷ []) s) (omega arith) (omega arith)) (omega arith)))
     (λ e. (length-counted overlong s (omega arith), rw (count-counted overlong s (omega arith) (omega arith)) (omega arith)))
 
 -- ---- bytes of a frame
@@ -110,15 +110,15 @@ ready-pushes (b ∷ bs) s r =
 
 -- bytes that all fit behind n others
 pushes-counted : (bs : List ℕ) (n : ℕ) (s : List ℕ) → state-length ≤ length s → n + length bs ≤ longest-form
-    → pushes (counted n s) bs ≡ counted (n + length bs) (overlay (frame-place + n) bs s)
+    → pushes (counted n s) bs ≡ counted (n + length bs) (overlay (frame-offset + n) bs s)
 unfolding pushes
 pushes-counted [] n s h l = rw (overlay-none, add-zero)
 pushes-counted (b ∷ bs) n s h l =
-    let e = length-overlay (frame-place + n) (b ∷ []) s (omega arith) in
-    let i : frame-place + (n + 1) ≡ frame-place + n + 1 = omega arith in
+    let e = length-overlay (frame-offset + n) (b ∷ []) s (omega arith) in
+    let i : frame-offset + (n + 1) ≡ frame-offset + n + 1 = omega arith in
     let j : n + 1 + length bs ≡ n + suc (length bs) = omega arith in
-    rw (pushed-room n s b h (omega arith), pushes-counted bs (n + 1) (overlay (frame-place + n) (b ∷ []) s) (omega arith) (omega arith), i, j)
-    (ap (counted (n + suc (length bs))) (overlay-next (frame-place + n) (b ∷ []) bs s (omega arith)))
+    rw (pushed-room n s b h (omega arith), pushes-counted bs (n + 1) (overlay (frame-offset + n) (b ∷ []) s) (omega arith) (omega arith), i, j)
+    (ap (counted (n + suc (length bs))) (overlay-next (frame-offset + n) (b ∷ []) bs s (omega arith)))
 
 -- behind too many bytes nothing is kept
 pushes-overlong : (bs s : List ℕ) → state-length ≤ length s → pushes (counted overlong s) bs ≡ counted overlong s
@@ -138,7 +138,7 @@ pushes-again [] s r k = absurd (omega arith)
 pushes-again (b ∷ bs) s r k = rw (pushed-again s b r)
 
 module _ (bs s : List ℕ) (r : Ready s) (k : 0 < length bs) where
-  pub pushes-fit : count s + length bs ≤ longest-form → pushes s bs ≡ counted (count s + length bs) (overlay (frame-place + count s) bs s)
+  pub pushes-fit : count s + length bs ≤ longest-form → pushes s bs ≡ counted (count s + length bs) (overlay (frame-offset + count s) bs s)
   pushes-fit l = pushes-again bs s r k ∙ pushes-counted bs (count s) s (r .0) l
 
   pub pushes-over : longest-form ≤ count s → pushes s bs ≡ counted overlong s
@@ -146,13 +146,13 @@ module _ (bs s : List ℕ) (r : Ready s) (k : 0 < length bs) where
 
   -- the last of them are one too many
   pub pushes-some : count s ≤ longest-form → longest-form < count s + length bs
-      → pushes s bs ≡ counted overlong (overlay (frame-place + count s) (take (longest-form - count s) bs) s)
+      → pushes s bs ≡ counted overlong (overlay (frame-offset + count s) (take (longest-form - count s) bs) s)
   pushes-some l m =
       let room = longest-form - count s in
       let e : length (take room bs) ≡ room = length-take-le room bs (omega arith) in
       let f : count s + room ≡ longest-form = omega arith in
-      let t = overlay (frame-place + count s) (take room bs) s in
-      let o : length t ≡ length s = length-overlay (frame-place + count s) (take room bs) s (omega arith) in
+      let t = overlay (frame-offset + count s) (take room bs) s in
+      let o : length t ≡ length s = length-overlay (frame-offset + count s) (take room bs) s (omega arith) in
       let d : 0 < length (drop room bs) = simp length-drop (omega arith) in
       let fit = pushes-counted (take room bs) (count s) s (r .0) (omega arith) in
       pushes-again bs s r k
@@ -167,15 +167,15 @@ module _ (s p : List ℕ) (n : ℕ) (r : Ready s) (k : 0 < n) (l : n ≤ length 
       sym (pushes-over (take n p) s r (omega arith) (omega arith))
 
   pub append-some : count s ≤ longest-form → longest-form - count s < n
-      → counted overlong (copied p 0 (longest-form - count s) s (frame-place + count s)) ≡ pushes s (take n p)
+      → counted overlong (copied p 0 (longest-form - count s) s (frame-offset + count s)) ≡ pushes s (take n p)
   append-some m o =
       let e = length-take-le n p l in
       let room = longest-form - count s in
-      rw (copied-fits p 0 room s (frame-place + count s) (omega arith) (omega arith), ← take-take room n p (omega arith))
+      rw (copied-fits p 0 room s (frame-offset + count s) (omega arith) (omega arith), ← take-take room n p (omega arith))
       (sym (pushes-some (take n p) s r (omega arith) m (omega arith)))
 
-  pub append-fit : n ≤ longest-form - count s → counted (count s + n) (copied p 0 n s (frame-place + count s)) ≡ pushes s (take n p)
+  pub append-fit : n ≤ longest-form - count s → counted (count s + n) (copied p 0 n s (frame-offset + count s)) ≡ pushes s (take n p)
   append-fit m =
       let e = length-take-le n p l in
       let f = pushes-fit (take n p) s r (omega arith) (omega arith) in
-      rw (copied-fits p 0 n s (frame-place + count s) (omega arith) (omega arith)) (sym (rw e at f))
+      rw (copied-fits p 0 n s (frame-offset + count s) (omega arith) (omega arith)) (sym (rw e at f))

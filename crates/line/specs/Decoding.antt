@@ -10,8 +10,8 @@ use Rattle.line.specs.Cobs.{full-code, zeros}
 use Rattle.line.specs.declared.cobs.Measured.{Measured}
 use Rattle.line.specs.declared.cobs.Measured.the-variants.{Bad, Length}
 
-abbrev pub bit : Bool → ℕ
-bit holds = cond holds 1 0
+abbrev pub one-if : Bool → ℕ
+one-if holds = cond holds 1 0
 
 unfoldable pub measured : Option (List ℕ) → Measured
 measured none = Bad

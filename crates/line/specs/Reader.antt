@@ -23,12 +23,12 @@ use Rattle.line.specs.declared.reader.Handed.the-variants as handed-answ
 
 -- The state: how many bytes of the frame have come, in two bytes, and then those bytes.
 
-abbrev pub frame-place : ℕ
-frame-place = 2
+abbrev pub frame-offset : ℕ
+frame-offset = 2
 
 -- the state's published length: 4,142 bytes
 abbrev pub state-length : ℕ
-state-length = frame-place + longest-form
+state-length = frame-offset + longest-form
 
 -- stands for more bytes than the longest form has
 abbrev pub overlong : ℕ
@@ -43,40 +43,40 @@ counted n s = overlay 0 (bytes 2 n) s
 
 -- the bytes of the frame that have come
 unfoldable pub kept : List ℕ → List ℕ
-kept s = run frame-place (count s) s
+kept s = run frame-offset (count s) s
 
--- what the table's 12 asks of the state
+-- what the table's 12 requires of the state
 unfoldable pub valid : List ℕ → Bool
 valid s = leb state-length (length s) && leb (count s) overlong
 
--- What an answer says: document 01's numbers and values.
-pub data Said : Type 0 where
-  refused : ℕ → Said
-  more : Said
-  empty : Said
+-- What an answer reports: document 01's numbers and values.
+pub data Report : Type 0 where
+  refused : ℕ → Report
+  more : Report
+  empty : Report
   -- version, sequence, command and how many bytes of data
-  message : ℕ → ℕ → ℕ → ℕ → Said
+  message : ℕ → ℕ → ℕ → ℕ → Report
   -- the reason, and the request's sequence where the table's reply carries it
-  failed : ℕ → Option ℕ → Said
+  failed : ℕ → Option ℕ → Report
 
-unfoldable pub said : Answer → Said
-said answer.Refused = refused 12
-said answer.More = more
-said answer.Empty = empty
-said (answer.Message h) = message (h .version) (h .sequence) (h .command) (h .length)
-said answer.BadForm = failed 1 none
-said answer.BadLength = failed 3 none
-said (answer.BadChecksum sequence) = failed 2 (some sequence)
-said (answer.BadMagic sequence) = failed 4 (some sequence)
+unfoldable pub report : Answer → Report
+report answer.Refused = refused 12
+report answer.More = more
+report answer.Empty = empty
+report (answer.Message h) = message (h .version) (h .sequence) (h .command) (h .length)
+report answer.BadForm = failed 1 none
+report answer.BadLength = failed 3 none
+report (answer.BadChecksum sequence) = failed 2 (some sequence)
+report (answer.BadMagic sequence) = failed 4 (some sequence)
 
--- what an answer says of a verdict
-unfoldable pub verdictSaid : Verdict → Said
-verdictSaid (failure reason sequence) = failed reason sequence
-verdictSaid (good m) = message (m .version) (m .sequence) (m .command) (length (m .payload))
+-- what an answer reports of a verdict
+unfoldable pub verdictReport : Verdict → Report
+verdictReport (failure reason sequence) = failed reason sequence
+verdictReport (good m) = message (m .version) (m .sequence) (m .command) (length (m .payload))
 
 -- One byte that is not 00: kept, or one too many.
 unfoldable pub pushed : List ℕ → ℕ → List ℕ
-pushed s b = cond (ltb (count s) longest-form) (counted (count s + 1) (overlay (frame-place + count s) (b ∷ []) s)) (counted overlong s)
+pushed s b = cond (ltb (count s) longest-form) (counted (count s + 1) (overlay (frame-offset + count s) (b ∷ []) s)) (counted overlong s)
 
 -- bytes that are not 00, one after the other
 unfoldable pub pushes : List ℕ → List ℕ → List ℕ
@@ -85,19 +85,19 @@ pushes s (b ∷ bs) = pushes (pushed s b) bs
 
 -- The 00 of a frame: what is answered, and the state that is left.
 pub record Settled : Type 0 where
-  pub answer : Said
+  pub answer : Report
   pub state : List ℕ
 
-abbrev pub settled : Said → List ℕ → Settled
+abbrev pub settled : Report → List ℕ → Settled
 settled a s = record { answer = a; state = s }
 
--- the bytes of a form in the frame's place, where they have a message's length
+-- the bytes of a form at the frame's offset, where they have a message's length
 unfoldable pub unpacked : Option (List ℕ) → List ℕ → List ℕ
 unpacked none s = s
-unpacked (some xs) s = cond (wrongLength xs) s (overlay frame-place xs s)
+unpacked (some xs) s = cond (wrongLength xs) s (overlay frame-offset xs s)
 
 unfoldable pub settle : List ℕ → List ℕ → Settled
-settle form s = settled (verdictSaid (judge form)) (unpacked (uncobs form) s)
+settle form s = settled (verdictReport (judge form)) (unpacked (uncobs form) s)
 
 -- the count is 0 afterwards; an empty frame has no reason, and one of more than 4,140 bytes has reason 1
 unfoldable pub finish : List ℕ → Settled
@@ -109,11 +109,11 @@ finish s =
 -- How many bytes a call read, what it answered, and the state that it left.
 pub record Outcome : Type 0 where
   pub used : ℕ
-  pub answer : Said
+  pub answer : Report
   pub state : List ℕ
 
 abbrev pub outcome : Reading → List ℕ → Outcome
-outcome r s = record { used = r .used; answer = said (r .answer); state = s }
+outcome r s = record { used = r .used; answer = report (r .answer); state = s }
 
 -- the same, one byte later
 unfoldable pub next : Outcome → Outcome
@@ -133,42 +133,42 @@ pub record Start : Type 0 where
   pub refusal : Option ℕ
   pub state : List ℕ
 
-unfoldable pub startSaid : Started → Option ℕ
-startSaid start-answer.Done = none
-startSaid start-answer.Refused = some 12
+unfoldable pub startReport : Started → Option ℕ
+startReport start-answer.Done = none
+startReport start-answer.Refused = some 12
 
 abbrev pub started : Started → List ℕ → Start
-started r s = record { refusal = startSaid r; state = s }
+started r s = record { refusal = startReport r; state = s }
 
 unfoldable pub starting : List ℕ → Start
 starting s = cond (leb state-length (length s)) (record { refusal = none; state = counted 0 s }) (record { refusal = some 12; state = s })
 
 -- A call of `tail`: how many bytes of an unfinished frame have come, or that they are more than the longest form has.
-pub data TailSaid : Type 0 where
-  refused : ℕ → TailSaid
-  unfinished : ℕ → TailSaid
-  longer : TailSaid
+pub data TailReport : Type 0 where
+  refused : ℕ → TailReport
+  unfinished : ℕ → TailReport
+  longer : TailReport
 
-unfoldable pub tailSaid : Unfinished → TailSaid
-tailSaid tail-answer.Refused = TailSaid.refused 12
-tailSaid (tail-answer.Bytes n) = unfinished n
-tailSaid tail-answer.Longer = longer
+unfoldable pub tailReport : Unfinished → TailReport
+tailReport tail-answer.Refused = TailReport.refused 12
+tailReport (tail-answer.Bytes n) = unfinished n
+tailReport tail-answer.Longer = longer
 
-unfoldable pub tailOf : List ℕ → TailSaid
-tailOf s = cond (valid s) (cond (ltb longest-form (count s)) longer (unfinished (count s))) (TailSaid.refused 12)
+unfoldable pub tailOf : List ℕ → TailReport
+tailOf s = cond (valid s) (cond (ltb longest-form (count s)) longer (unfinished (count s))) (TailReport.refused 12)
 
--- The bytes from the data's place on, so many: the data of the message that a call of `read` handed out with that length, in the
+-- The bytes from the data's offset on, so many: the data of the message that a call of `read` handed out with that length, in the
 -- state as that call left it; for any other length, or after another call of `read`, the bytes that stand there.
-abbrev pub data-place : ℕ
-data-place = frame-place + header-length
+abbrev pub data-offset : ℕ
+data-offset = frame-offset + header-length
 
 unfoldable pub dataRefusal : List ℕ → ℕ → Option ℕ
 dataRefusal s n = cond (valid s) (cond (ltb longest-data n) (some 9) none) (some 12)
 
-unfoldable pub dataSaid : Handed → Option ℕ
-dataSaid handed-answer.Given = none
-dataSaid handed-answer.TooLong = some 9
-dataSaid handed-answer.Refused = some 12
+unfoldable pub dataReport : Handed → Option ℕ
+dataReport handed-answer.Given = none
+dataReport handed-answer.TooLong = some 9
+dataReport handed-answer.Refused = some 12
 
 -- a refused call hands out an empty part
 unfoldable pub partOf : Option ℕ → List ℕ → List ℕ
@@ -176,4 +176,4 @@ partOf none part = part
 partOf (some number) part = []
 
 unfoldable pub dataOf : List ℕ → ℕ → List ℕ
-dataOf s n = partOf (dataRefusal s n) (run data-place n s)
+dataOf s n = partOf (dataRefusal s n) (run data-offset n s)

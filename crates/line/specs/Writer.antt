@@ -13,22 +13,22 @@ use Rattle.line.specs.declared.writer.Written.{Written}
 use Rattle.line.specs.declared.writer.Written.the-variants as answer
 
 -- document 01's number and values of an answer: how many bytes were written, or the table's number
-pub data Said : Type 0 where
-  wrote : ℕ → Said
-  refused : ℕ → Said
+pub data Report : Type 0 where
+  wrote : ℕ → Report
+  refused : ℕ → Report
 
-unfoldable pub said : Written → Said
-said (answer.Done n) = wrote n
-said answer.NoRoom = refused 8
-said answer.TooLong = refused 9
+unfoldable pub report : Written → Report
+report (answer.Done n) = wrote n
+report answer.NoRoom = refused 8
+report answer.TooLong = refused 9
 
 -- what a call answered, and the room as it left it
 pub record Outcome : Type 0 where
-  pub answer : Said
+  pub answer : Report
   pub out : List ℕ
 
 abbrev pub outcome : Written → List ℕ → Outcome
-outcome r out = record { answer = said r; out = out }
+outcome r out = record { answer = report r; out = out }
 
 -- the message of a call: its data stand in two parts
 abbrev pub messageOf : ℕ → ℕ → ℕ → List ℕ → List ℕ → Message

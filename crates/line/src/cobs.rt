@@ -1,5 +1,5 @@
 // COBS: the length of a form, the form itself, the length that a form decodes to, and its decoding in place.
-// Each loop takes one group a turn, or a block of zeros. Assumes that the bytes named lie within the slices, as each `requires` says.
+// Each loop takes one group a turn, or a block of zeros. Assumes that the bytes named lie within the slices, as each `requires` states.
 use crate::limits::LONGEST_GROUP;
 use crate::scan::BLOCK;
 use crate::scan::alike;
@@ -13,7 +13,7 @@ ghost use lib.Seq.{slice};
 ghost use Rattle.octets.specs.Bytes.{run, overlay};
 ghost use Rattle.line.specs.Limits.{longest-message};
 ghost use Rattle.line.specs.Cobs.{cobs, lastOneAfterFull, uncobs};
-ghost use Rattle.line.specs.Decoding.{measured, plain, bit};
+ghost use Rattle.line.specs.Decoding.{measured, plain, one-if};
 
 // The length of the COBS form of the first n bytes of s.
 pub(crate) fn form_length(s: &[u8], n: usize) -> usize
@@ -94,7 +94,7 @@ fn wide(b: u8) -> usize
 
 // How many zeros a group holds.
 fn held(zero: bool) -> usize
-    ensures { λ r. ⌜ (r ≡ bit zero) × (r ≤ 1) ⌝ }
+    ensures { λ r. ⌜ (r ≡ one-if zero) × (r ≤ 1) ⌝ }
 {
     if zero { 1 } else { 0 }
 }

@@ -13,17 +13,17 @@ ghost use Rattle.line.specs.Limits.{shortest-message, longest-message, l
 ghost use Rattle.line.specs.Cobs.{uncobs};
 ghost use Rattle.line.specs.Decoding.{measured, plain};
 ghost use Rattle.line.specs.Judge.{judgeFields};
-ghost use Rattle.line.specs.Reader.{frame-place, state-length, overlong, count, counted, valid, said, verdictSaid, pushes, settled, settle, finish, outcome, reading, started, starting, tailSaid, tailOf, dataSaid, dataRefusal, dataOf};
+ghost use Rattle.line.specs.Reader.{frame-offset, state-length, overlong, count, counted, valid, report, verdictReport, pushes, settled, settle, finish, outcome, reading, started, starting, tailReport, tailOf, dataReport, dataRefusal, dataOf};
 
-const FRAME_PLACE: usize = 2;
+const FRAME_OFFSET: usize = 2;
 
 // The state's published length: 4,142 bytes.
-pub const STATE_LENGTH: usize = FRAME_PLACE + limits::LONGEST_FORM;
+pub const STATE_LENGTH: usize = FRAME_OFFSET + limits::LONGEST_FORM;
 
 // The count of a frame that is longer than any form.
 const OVERLONG: usize = limits::LONGEST_FORM + 1;
 
-const DATA_PLACE: usize = FRAME_PLACE + limits::HEADER_LENGTH;
+const DATA_OFFSET: usize = FRAME_OFFSET + limits::HEADER_LENGTH;
 
 // A message that was handed out; its data lie in the state.
 pub struct Head {
@@ -33,7 +33,7 @@ pub struct Head {
     pub length: usize,
 }
 
-// What a call of `read` says; `said` in specs/Reader.antt gives document 01's numbers and values.
+// What a call of `read` answers; `report` in specs/Reader.antt gives document 01's numbers and values.
 pub enum Answer {
     Refused,
     More,
@@ -51,20 +51,20 @@ pub struct Reading {
     pub answer: Answer,
 }
 
-// What a call of `start` says.
+// What a call of `start` answers.
 pub enum Started {
     Done,
     Refused,
 }
 
-// What a call of `tail` says.
+// What a call of `tail` answers.
 pub enum Unfinished {
     Refused,
     Bytes(usize),
     Longer,
 }
 
-// What a call of `message_data_given` says.
+// What a call of `message_data_given` answers.
 pub enum Handed {
     Given,
     TooLong,
@@ -117,12 +117,12 @@ pub fn message_data<'a>(state: &'a [u8], length: usize) -> &'a [u8]
     if limits::LONGEST_DATA < length {
         return &state[..0];
     }
-    &state[DATA_PLACE..DATA_PLACE + length]
+    &state[DATA_OFFSET..DATA_OFFSET + length]
 }
 
 // Whether `message_data` hands out what was asked.
 pub fn message_data_given(state: &[u8], length: usize) -> Handed
-    ensures { λ r. ⌜ dataSaid r ≡ dataRefusal (now (state .entry)) length ⌝ }
+    ensures { λ r. ⌜ dataReport r ≡ dataRefusal (now (state .entry)) length ⌝ }
 {
     if !is_valid(state) {
         return Handed::Refused;
@@ -135,7 +135,7 @@ pub fn message_data_given(state: &[u8], length: usize) -> Handed
 
 // How many bytes of an unfinished frame have come.
 pub fn tail(state: &[u8]) -> Unfinished
-    ensures { λ r. ⌜ tailSaid r ≡ tailOf (now (state .entry)) ⌝ }
+    ensures { λ r. ⌜ tailReport r ≡ tailOf (now (state .entry)) ⌝ }
 {
     if !is_valid(state) {
         return Unfinished::Refused;
@@ -188,11 +188,11 @@ fn append(state: &mut [u8], piece: &[u8], n: usize)
     }
     let room = limits::LONGEST_FORM - have;
     if room < n {
-        octets::copy(piece, 0, room, state, FRAME_PLACE + have);
+        octets::copy(piece, 0, room, state, FRAME_OFFSET + have);
         set_count(state, OVERLONG);
         return;
     }
-    octets::copy(piece, 0, n, state, FRAME_PLACE + have);
+    octets::copy(piece, 0, n, state, FRAME_OFFSET + have);
     set_count(state, have + n);
 }
 
@@ -200,7 +200,7 @@ fn append(state: &mut [u8], piece: &[u8], n: usize)
 fn finish_frame(state: &mut [u8]) -> Answer
     requires { ⌜ state-length ≤ length (now state) ⌝ }
     requires { ⌜ count (now state) ≤ overlong ⌝ }
-    ensures { λ r. ⌜ settled (said r) (now (state .exit)) ≡ finish (now (state .entry)) ⌝ }
+    ensures { λ r. ⌜ settled (report r) (now (state .exit)) ≡ finish (now (state .entry)) ⌝ }
 {
     let n = get_count(state);
     set_count(state, 0); // for the next frame
@@ -215,25 +215,25 @@ fn finish_frame(state: &mut [u8]) -> Answer
 
 // The length that the frame's n bytes decode to, unless they are no COBS form.
 fn frame_length(state: &[u8], n: usize) -> Measured
-    requires { ⌜ frame-place + n ≤ length (now state) ⌝ }
-    ensures { λ r. ⌜ r ≡ measured (uncobs (run frame-place n (now (state .entry)))) ⌝ }
+    requires { ⌜ frame-offset + n ≤ length (now state) ⌝ }
+    ensures { λ r. ⌜ r ≡ measured (uncobs (run frame-offset n (now (state .entry)))) ⌝ }
 {
-    cobs::decoded_length(&state[FRAME_PLACE..], n)
+    cobs::decoded_length(&state[FRAME_OFFSET..], n)
 }
 
 // The frame's n bytes decoded in their place.
 fn decode_frame(state: &mut [u8], n: usize)
-    requires { ⌜ frame-place + n ≤ length (now state) ⌝ }
-    ensures { λ _. ⌜ now (state .exit) ≡ overlay frame-place (plain (run frame-place n (now (state .entry)))) (now (state .entry)) ⌝ }
+    requires { ⌜ frame-offset + n ≤ length (now state) ⌝ }
+    ensures { λ _. ⌜ now (state .exit) ≡ overlay frame-offset (plain (run frame-offset n (now (state .entry)))) (now (state .entry)) ⌝ }
 {
-    cobs::decode(&mut state[FRAME_PLACE..], n);
+    cobs::decode(&mut state[FRAME_OFFSET..], n);
 }
 
 // A frame of n bytes.
 fn settle_form(state: &mut [u8], n: usize) -> Answer
     requires { ⌜ state-length ≤ length (now state) ⌝ }
     requires { ⌜ n ≤ longest-form ⌝ }
-    ensures { λ r. ⌜ settled (said r) (now (state .exit)) ≡ settle (run frame-place n (now (state .entry))) (now (state .entry)) ⌝ }
+    ensures { λ r. ⌜ settled (report r) (now (state .exit)) ≡ settle (run frame-offset n (now (state .entry))) (now (state .entry)) ⌝ }
 {
     let m = frame_length(state, n);
     match m {
@@ -256,9 +256,9 @@ fn inspect(state: &[u8], k: usize) -> Answer
     requires { ⌜ state-length ≤ length (now state) ⌝ }
     requires { ⌜ shortest-message ≤ k ⌝ }
     requires { ⌜ k ≤ longest-message ⌝ }
-    ensures { λ r. ⌜ said r ≡ verdictSaid (judgeFields (run frame-place k (now (state .entry)))) ⌝ }
+    ensures { λ r. ⌜ report r ≡ verdictReport (judgeFields (run frame-offset k (now (state .entry)))) ⌝ }
 {
-    let message = &state[FRAME_PLACE..FRAME_PLACE + k];
+    let message = &state[FRAME_OFFSET..FRAME_OFFSET + k];
     let sequence = octets::read_u64(message, 8);
     if octets::read_u16(message, k - limits::CHECKSUM_LENGTH)
         != sums::checksum_of_first(message, k - limits::CHECKSUM_LENGTH)

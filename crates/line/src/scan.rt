@@ -1,5 +1,5 @@
 // Runs of bytes that are not zero, and runs of bytes that are alike: whole blocks at a time.
-// Assumes that the bytes named lie within the slices, as each `requires` says.
+// Assumes that the bytes named lie within the slices, as each `requires` states.
 ghost use mathlib.Core.Path.{_≡_};
 ghost use mathlib.Core.Bool.{true, false};
 ghost use Prim.Native.Nat.{_+_, _≤_, min};
@@ -13,7 +13,7 @@ pub(crate) const BLOCK: usize = 32;
 // And how many where fewer are left.
 const SMALL_BLOCK: usize = 8;
 
-// How many bytes of s from a place on are not zero, up to the first zero and at most so many.
+// How many bytes of s from an offset on are not zero, up to the first zero and at most so many.
 pub(crate) fn nonzero_run(s: &[u8], from: usize, most: usize) -> usize
     ensures { λ r. ⌜ r ≡ length (nonzero most (drop from (now (s .entry)))) ⌝ }
 {
@@ -63,7 +63,7 @@ fn has_zero(s: &[u8], at: usize, n: usize) -> bool
     found
 }
 
-// Whether the n bytes from a place on stand ahead of an end and are all b. The first and the last are tested ahead of the others.
+// Whether the n bytes from an offset on stand ahead of an end and are all b. The first and the last are tested ahead of the others.
 pub(crate) fn alike(b: u8, s: &[u8], at: usize, n: usize, end: usize) -> bool
     requires { ⌜ (at ≤ end) × (end ≤ length (now s)) ⌝ }
     requires { ⌜ 1 ≤ n ⌝ }
@@ -87,7 +87,7 @@ pub(crate) fn alike(b: u8, s: &[u8], at: usize, n: usize, end: usize) -> bool
     !other
 }
 
-// Puts n bytes b at a place.
+// Puts n bytes b at an offset.
 pub(crate) fn put_alike(b: u8, s: &mut [u8], at: usize, n: usize)
     requires { ⌜ at + n ≤ length (now s) ⌝ }
     ensures { λ _. ⌜ now (s .exit) ≡ overlay at (replicate n b) (now (s .entry)) ⌝ }

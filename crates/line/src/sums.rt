@@ -32,7 +32,7 @@ fn wide(x: u16) -> u32
     x as u32
 }
 
-// The row of bytes from a place on.
+// The row of bytes from an offset on.
 fn row(body: &[u8], at: usize) -> [u16; COLUMNS]
     requires { ⌜ at + columns ≤ length (now body) ⌝ }
     ensures { λ r. ⌜ (r ≡ run at columns (now (body .entry))) × (length r ≡ columns) × AtMost 255 r ⌝ }
@@ -78,7 +78,7 @@ fn row_sums(row: &[u16; COLUMNS]) -> Sums
     }
 }
 
-// The sums behind the block from a place on: each remainder is taken once.
+// The sums behind the block from an offset on: each remainder is taken once.
 fn block(body: &[u8], at: usize, sums: Sums) -> Sums
     requires { ⌜ at + block-length ≤ length (now body) ⌝ }
     requires { ⌜ (sums .first < 255) × (sums .second < 255) ⌝ }
@@ -103,7 +103,7 @@ fn block(body: &[u8], at: usize, sums: Sums) -> Sums
     }
 }
 
-// The checksum that the sums come to over the bytes from a place on, fewer than a block: each remainder is taken once.
+// The checksum that the sums come to over the bytes from an offset on, fewer than a block: each remainder is taken once.
 fn rest(body: &[u8], at: usize, sums: Sums) -> u16
     requires { ⌜ (at ≤ length (now body)) × (length (now body) < at + block-length) ⌝ }
     requires { ⌜ (sums .first < 255) × (sums .second < 255) ⌝ }

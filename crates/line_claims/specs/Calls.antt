@@ -9,8 +9,8 @@ use lib.ListN.{length, take}
 use Rattle.line.specs.Message.{Message}
 use Rattle.line.specs.Judge.{Verdict, failure, good, judge}
 use Rattle.line.specs.Limits.{longest-form}
-use Rattle.line.specs.Reader.{TailSaid, unfinished, longer}
-use Rattle.line.specs.Reader.{Said, refused, more, empty, message, failed, verdictSaid, state-length, Outcome, reading, Start, starting, dataOf}
+use Rattle.line.specs.Reader.{TailReport, unfinished, longer}
+use Rattle.line.specs.Reader.{Report, refused, more, empty, message, failed, verdictReport, state-length, Outcome, reading, Start, starting, dataOf}
 use Rattle.line_claims.specs.Loans.{Loan, lentPart, backPart}
 
 -- a call that is given a piece to read: what it is lent of the state, and the piece
@@ -36,7 +36,7 @@ abbrev pub back : Loan → List ℕ → List ℕ → List ℕ
 back l s part = backPart state-length l s part
 
 -- the message that an answer hands out, with its data as the state at the call's return holds them
-unfoldable pub handed : Said → List ℕ → List Message
+unfoldable pub handed : Report → List ℕ → List Message
 handed (refused number) s = []
 handed more s = []
 handed empty s = []
@@ -44,7 +44,7 @@ handed (message version sequence command n) s = (record { version = version; seq
 handed (failed reason sequence) s = []
 
 -- the reason that an answer reports
-unfoldable pub reasons : Said → List ℕ
+unfoldable pub reasons : Report → List ℕ
 reasons (refused number) = []
 reasons more = []
 reasons empty = []
@@ -52,7 +52,7 @@ reasons (message version sequence command n) = []
 reasons (failed reason sequence) = reason ∷ []
 
 -- an answer to a 00: every answer but a refusal and `more`
-unfoldable pub answers : Said → List Said
+unfoldable pub answers : Report → List Report
 answers (refused number) = []
 answers more = []
 answers empty = empty ∷ []
@@ -63,7 +63,7 @@ answers (failed reason sequence) = failed reason sequence ∷ []
 pub record Reader : Type 0 where
   pub messages : List Message
   pub failures : List ℕ
-  pub answered : List Said
+  pub answered : List Report
   pub bytes : List ℕ
   pub state : List ℕ
 
@@ -72,7 +72,7 @@ unfoldable pub fresh : List ℕ → Reader
 fresh s = record { messages = []; failures = []; answered = []; bytes = []; state = s }
 
 -- the reader after an answer: the bytes lent at the call's return, the bytes that it read, and the whole state
-abbrev pub extended : Reader → Said → List ℕ → List ℕ → List ℕ → Reader
+abbrev pub extended : Reader → Report → List ℕ → List ℕ → List ℕ → Reader
 extended r answer part bs s = record {
   messages = r .messages ++ handed answer part;
   failures = r .failures ++ reasons answer;
@@ -113,9 +113,9 @@ unfoldable pub begun : List ℕ → Reader
 begun room = fresh (starting room .state)
 
 -- What the tests make of a stream's pieces: the answer at the 00 that closes these bytes
-unfoldable pub frameSaid : List ℕ → Said
-frameSaid [] = empty
-frameSaid (b ∷ bs) = verdictSaid (judge (b ∷ bs))
+unfoldable pub frameReport : List ℕ → Report
+frameReport [] = empty
+frameReport (b ∷ bs) = verdictReport (judge (b ∷ bs))
 
 -- what the verdicts on these lists of bytes give, in order
 unfoldable pub gathered : {A : Type 0} → (Verdict → List A) → List (List ℕ) → List A
@@ -138,5 +138,5 @@ abbrev pub failureReasons : List (List ℕ) → List ℕ
 failureReasons = gathered reasonOf
 
 -- what is said of an unfinished tail
-unfoldable pub tailMeant : List ℕ → TailSaid
+unfoldable pub tailMeant : List ℕ → TailReport
 tailMeant t = cond (ltb longest-form (length t)) longer (unfinished (length t))

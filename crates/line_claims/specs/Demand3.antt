@@ -16,8 +16,8 @@ use Rattle.line.specs.Limits.{longest-data, longest-form}
 use Rattle.line.specs.Message.{Message, InRange}
 use Rattle.line.specs.Frame.{frame}
 use Rattle.line.specs.Judge.{Verdict, failure, good}
-use Rattle.line.specs.Reader.{Said, refused, more, empty, message, failed, verdictSaid, state-length, count, valid, pushed, Settled, settle, finish}
-use Rattle.line.specs.Reader.{Outcome, next, readPiece, reading, starting, TailSaid, unfinished, longer, tailOf, dataRefusal}
+use Rattle.line.specs.Reader.{Report, refused, more, empty, message, failed, verdictReport, state-length, count, valid, pushed, Settled, settle, finish}
+use Rattle.line.specs.Reader.{Outcome, next, readPiece, reading, starting, TailReport, unfinished, longer, tailOf, dataRefusal}
 use Rattle.line.specs.Writer
 use Rattle.line.proofs.State.{valid-ready}
 use Rattle.line.proofs.Lent.{valid-append}
@@ -65,31 +65,31 @@ accepted-stops s piece e = rw e (stops s piece)
 
 -- ---- When a call is refused
 
-abbrev isRefused : Said → Bool
+abbrev isRefused : Report → Bool
 isRefused (refused number) = true
 isRefused more = false
 isRefused empty = false
 isRefused (message version sequence command n) = false
 isRefused (failed reason sequence) = false
 
-verdict-said : (v : Verdict) → isRefused (verdictSaid v) ≡ false
-unfolding verdictSaid
-verdict-said (failure reason sequence) = refl
-verdict-said (good m) = refl
+verdict-report : (v : Verdict) → isRefused (verdictReport v) ≡ false
+unfolding verdictReport
+verdict-report (failure reason sequence) = refl
+verdict-report (good m) = refl
 
-finish-said : (s : List ℕ) → isRefused (finish s .answer) ≡ false
+finish-report : (s : List ℕ) → isRefused (finish s .answer) ≡ false
 unfolding finish settle
-finish-said s =
-    cond-by Says (eqb (count s) 0) _ _ (λ e. refl) (λ e. cond-by Says (ltb longest-form (count s)) _ _ (λ f. refl) (λ f. verdict-said _))
+finish-report s =
+    cond-by Says (eqb (count s) 0) _ _ (λ e. refl) (λ e. cond-by Says (ltb longest-form (count s)) _ _ (λ f. refl) (λ f. verdict-report _))
   where
     Says : Settled → Type 0
     Says x = isRefused (x .answer) ≡ false
 
-piece-said : (s piece : List ℕ) → isRefused (readPiece s piece .answer) ≡ false
+piece-report : (s piece : List ℕ) → isRefused (readPiece s piece .answer) ≡ false
 unfolding readPiece next
-piece-said s [] = refl
-piece-said s (zero ∷ bs) = finish-said s
-piece-said s (suc b ∷ bs) = rw eqb·suc-zero (piece-said (pushed s (suc b)) bs)
+piece-report s [] = refl
+piece-report s (zero ∷ bs) = finish-report s
+piece-report s (suc b ∷ bs) = rw eqb·suc-zero (piece-report (pushed s (suc b)) bs)
 
 not-both : {b : Bool} → b ≡ false → b ≡ true → ⊥
 not-both p q = let z : _≡_ {A = ℕ} 0 1 = cc in omega arith
@@ -98,19 +98,19 @@ not-both p q = let z : _≡_ {A = ℕ} 0 1 = cc in omega arith
 pub refused-exactly : (s piece : List ℕ) → (reading s piece .answer ≡ refused 12) ↔ (valid s ≡ false)
 unfolding reading
 refused-exactly s piece = (
-  cond-by (λ (o : Outcome). o .answer ≡ refused 12 → valid s ≡ false) (valid s) _ _ (λ e a. absurd (not-both (piece-said s piece) (ap isRefused a))) (λ e a. e),
+  cond-by (λ (o : Outcome). o .answer ≡ refused 12 → valid s ≡ false) (valid s) _ _ (λ e a. absurd (not-both (piece-report s piece) (ap isRefused a))) (λ e a. e),
   λ e. rw e,
 )
 
 -- no call says 12 of this part of a state
 pub record NotRefused (part : List ℕ) : Type 0 where
   pub reads : (piece : List ℕ) → reading part piece .answer ≡ refused 12 → ⊥
-  pub tails : tailOf part ≡ TailSaid.refused 12 → ⊥
+  pub tails : tailOf part ≡ TailReport.refused 12 → ⊥
   pub hands : (n : ℕ) → dataRefusal part n ≡ some 12 → ⊥
   pub starts : starting part .refusal ≡ none
 
-abbrev tailRefused : TailSaid → Bool
-tailRefused (TailSaid.refused number) = true
+abbrev tailRefused : TailReport → Bool
+tailRefused (TailReport.refused number) = true
 tailRefused (unfinished n) = false
 tailRefused longer = false
 
@@ -130,7 +130,7 @@ valid-answers part v = record {
 -- every call says 12 of this part of a state, reads nothing, and leaves it
 pub record AllRefused (part : List ℕ) : Type 0 where
   pub reads : (piece : List ℕ) → reading part piece ≡ record { used = 0; answer = refused 12; state = part }
-  pub tails : tailOf part ≡ TailSaid.refused 12
+  pub tails : tailOf part ≡ TailReport.refused 12
   pub hands : (n : ℕ) → dataRefusal part n ≡ some 12
   pub starts : starting part ≡ record { refusal = some 12; state = part }
 

@@ -9,11 +9,11 @@ use Rattle.octets.specs.Bytes.{Byte, Each}
 use Rattle.line.specs.Message.{Message}
 use Rattle.line.specs.Frame.{frame, Wire, over, idle, sent}
 use Rattle.line.specs.Judge.{Verdict, failure, good, judge}
-use Rattle.line.specs.Reader.{Said, refused, more, empty, message, failed, verdictSaid, state-length}
+use Rattle.line.specs.Reader.{Report, refused, more, empty, message, failed, verdictReport, state-length}
 use Rattle.line_claims.specs.Pieces.{split, nonEmpty, withZeros, split-each, split-whole}
 use Rattle.line_claims.specs.CobsClaims.{NonZero}
 use Rattle.line_claims.specs.SpellingClaim.{good-form, good-frame}
-use Rattle.line_claims.specs.Calls.{Call, afterAll, begun, frameSaid, gathered, goodOf, reasonOf, goodMessages, failureReasons}
+use Rattle.line_claims.specs.Calls.{Call, afterAll, begun, frameReport, gathered, goodOf, reasonOf, goodMessages, failureReasons}
 use Rattle.line_claims.specs.ReaderClaim.{any-stream, any-messages, any-failures}
 
 -- ---- pieces of bytes 1 to 255
@@ -61,23 +61,23 @@ pieces-wire ((b ∷ bs) ∷ ps) n e =
     (λ m j f. rw (frame-ahead (b ∷ bs) m (withZeros ps) (n .0) j) (sent (good-form (b ∷ bs) m (n .0) j .1) (pieces-wire ps (n .1) f)))
 
 -- the bytes that answers to a 00 tell, with the messages that they handed out: a 00 for an empty frame, and a message's frame; a failure tells none
-unfoldable pub toldBytes : List Said → List Message → List ℕ
+unfoldable pub toldBytes : List Report → List Message → List ℕ
 toldBytes [] ms = []
-toldBytes (empty ∷ said) ms = 0 ∷ toldBytes said ms
-toldBytes (message version sequence command n ∷ said) [] = []
-toldBytes (message version sequence command n ∷ said) (m ∷ ms) = frame m ++ toldBytes said ms
-toldBytes (failed reason sequence ∷ said) ms = []
-toldBytes (refused number ∷ said) ms = []
-toldBytes (more ∷ said) ms = []
+toldBytes (empty ∷ report) ms = 0 ∷ toldBytes report ms
+toldBytes (message version sequence command n ∷ report) [] = []
+toldBytes (message version sequence command n ∷ report) (m ∷ ms) = frame m ++ toldBytes report ms
+toldBytes (failed reason sequence ∷ report) ms = []
+toldBytes (refused number ∷ report) ms = []
+toldBytes (more ∷ report) ms = []
 
 pieces-told : (ps : List (List ℕ)) → Each (Each NonZero) ps → failureReasons (nonEmpty ps) ≡ []
-    → withZeros ps ≡ toldBytes (map frameSaid ps) (goodMessages (nonEmpty ps))
-unfolding withZeros nonEmpty gathered toldBytes frameSaid verdictSaid
+    → withZeros ps ≡ toldBytes (map frameReport ps) (goodMessages (nonEmpty ps))
+unfolding withZeros nonEmpty gathered toldBytes frameReport verdictReport
 pieces-told [] n e = refl
 pieces-told ([] ∷ ps) n e = rw (← pieces-told ps (n .1) e)
 pieces-told ((b ∷ bs) ∷ ps) n e =
     first-good (b ∷ bs) (failureReasons (nonEmpty ps))
-    (λ v. (b ∷ bs) ++ 0 ∷ withZeros ps ≡ toldBytes (verdictSaid v ∷ map frameSaid ps) (goodOf v ++ goodMessages (nonEmpty ps))) e
+    (λ v. (b ∷ bs) ++ 0 ∷ withZeros ps ≡ toldBytes (verdictReport v ∷ map frameReport ps) (goodOf v ++ goodMessages (nonEmpty ps))) e
     (λ m j f. frame-ahead (b ∷ bs) m (withZeros ps) (n .0) j ∙ ap (λ (w : List ℕ). frame m ++ w) (pieces-told ps (n .1) f))
 
 -- ---- the claims

@@ -16,7 +16,7 @@ use Rattle.line.specs.Frame.{Wire}
 use Rattle.line.specs.Cobs.{uncobs}
 use Rattle.line.specs.Judge.{Verdict, failure, good, wrongLength, bodyOf, checksumOf, magicOf, fields, judgeFields, judgeLength, judgeForm, judge}
 use Rattle.line.specs.Checksum.{checksum}
-use Rattle.line.specs.Reader.{verdictSaid, state-length, frame-place, count, counted, valid, pushes}
+use Rattle.line.specs.Reader.{verdictReport, state-length, frame-offset, count, counted, valid, pushes}
 use Rattle.line.specs.Reader.{overlong, unpacked, Settled, settle, finish, Start, starting, unfinished, longer, tailOf}
 use Rattle.octets.proofs.Conditions.{cond-by}
 use Rattle.line.proofs.State.{Ready, ready-valid, length-counted, count-counted, pushes-append, ready-pushes}
@@ -28,7 +28,7 @@ use Rattle.line_claims.specs.WireClaim.{form, wire-forms, wire-range}
 use Rattle.line_claims.specs.LoanLaws.{lent-enough, front}
 use Rattle.line_claims.specs.Calls.{Read, Call, read, start, lentState, back, handed, reasons, answers, Reader, fresh}
 use Rattle.line_claims.specs.Calls.{restarted, afterStart, after, afterAll, afterReads, begun}
-use Rattle.line_claims.specs.Calls.{tailMeant, frameSaid, gathered, goodOf, reasonOf, goodMessages, failureReasons}
+use Rattle.line_claims.specs.Calls.{tailMeant, frameReport, gathered, goodOf, reasonOf, goodMessages, failureReasons}
 use Rattle.line_claims.specs.Streams.{afterByte, stream, stream-read, bytesRead, call-stream, reads-stream}
 
 gathered-append : {A : Type 0} (f : Verdict → List A) (ps qs : List (List ℕ)) → gathered f (ps ++ qs) ≡ gathered f ps ++ gathered f qs
@@ -51,44 +51,44 @@ reasons-forms (m ∷ ms) r = rw (judge-of-message m (r .0)) (reasons-forms ms (r
 
 -- a message's data as the state at the call's return holds them
 module _ (s : List ℕ) (h : Ready s) where
-  handed-fields : (xs : List ℕ) → wrongLength xs ≡ false → handed (verdictSaid (judgeFields xs)) (overlay frame-place xs s) ≡ goodOf (judgeFields xs)
-  unfolding judgeFields handed verdictSaid fields
+  handed-fields : (xs : List ℕ) → wrongLength xs ≡ false → handed (verdictReport (judgeFields xs)) (overlay frame-offset xs s) ≡ goodOf (judgeFields xs)
+  unfolding judgeFields handed verdictReport fields
   handed-fields xs e =
       cond-by Hands (eqb (checksumOf xs) (checksum (bodyOf xs))) _ _
       (λ f. cond-by Hands (eqb (magicOf xs) magic) _ _ (λ g. rw (data-unpacked s (h .0) xs (h .1) e)) (λ g. refl))
       (λ f. refl)
     where
       Hands : Verdict → Type 0
-      Hands v = handed (verdictSaid v) (overlay frame-place xs s) ≡ goodOf v
+      Hands v = handed (verdictReport v) (overlay frame-offset xs s) ≡ goodOf v
 
   handed-length : (xs : List ℕ) (k : Bool) → wrongLength xs ≡ k
-      → handed (verdictSaid (cond k (failure 3 none) (judgeFields xs))) (cond k s (overlay frame-place xs s)) ≡ goodOf (cond k (failure 3 none) (judgeFields xs))
-  unfolding handed verdictSaid
+      → handed (verdictReport (cond k (failure 3 none) (judgeFields xs))) (cond k s (overlay frame-offset xs s)) ≡ goodOf (cond k (failure 3 none) (judgeFields xs))
+  unfolding handed verdictReport
   handed-length xs true e = refl
   handed-length xs false e = handed-fields xs e
 
-  handed-bytes : (form : Option (List ℕ)) → handed (verdictSaid (judgeForm form)) (unpacked form s) ≡ goodOf (judgeForm form)
-  unfolding judgeForm judgeLength unpacked handed verdictSaid
+  handed-bytes : (form : Option (List ℕ)) → handed (verdictReport (judgeForm form)) (unpacked form s) ≡ goodOf (judgeForm form)
+  unfolding judgeForm judgeLength unpacked handed verdictReport
   handed-bytes none = refl
   handed-bytes (some xs) = handed-length xs (wrongLength xs) refl
 
-  handed-form : (t : List ℕ) → length t ≤ longest-form → handed (verdictSaid (judge t)) (unpacked (uncobs t) s) ≡ goodOf (judge t)
+  handed-form : (t : List ℕ) → length t ≤ longest-form → handed (verdictReport (judge t)) (unpacked (uncobs t) s) ≡ goodOf (judge t)
   unfolding judge
   handed-form t l = rw (le-ltb longest-form (length t) l) (handed-bytes (uncobs t))
 
 -- what a 00 gives is the verdict on the bytes before it
 record Judged (t : List ℕ) (x : Settled) : Type 0 where
-  answered : answers (x .answer) ≡ frameSaid t ∷ []
+  answered : answers (x .answer) ≡ frameReport t ∷ []
   messages : handed (x .answer) (x .state) ≡ goodMessages (nonEmpty (t ∷ []))
   failures : reasons (x .answer) ≡ failureReasons (nonEmpty (t ∷ []))
 
-verdict-answers : (v : Verdict) → answers (verdictSaid v) ≡ verdictSaid v ∷ []
-unfolding verdictSaid answers
+verdict-answers : (v : Verdict) → answers (verdictReport v) ≡ verdictReport v ∷ []
+unfolding verdictReport answers
 verdict-answers (failure reason sequence) = refl
 verdict-answers (good m) = refl
 
-verdict-reasons : (v : Verdict) → reasons (verdictSaid v) ≡ reasonOf v
-unfolding verdictSaid reasons
+verdict-reasons : (v : Verdict) → reasons (verdictReport v) ≡ reasonOf v
+unfolding verdictReport reasons
 verdict-reasons (failure reason sequence) = refl
 verdict-reasons (good m) = refl
 
@@ -101,7 +101,7 @@ cleared s h = (omega (arith, length-counted 0 s (omega arith)), count-counted 0 
 
 module _ (s : List ℕ) (enough : state-length ≤ length s) (clear : count s ≡ 0) where
   judged-some : (b : ℕ) (bs : List ℕ) (k : Bool) → ltb longest-form (length (b ∷ bs)) ≡ k → Judged (b ∷ bs) (finish (pushes s (b ∷ bs)))
-  unfolding frameSaid gathered nonEmpty settle answers handed reasons verdictSaid
+  unfolding frameReport gathered nonEmpty settle answers handed reasons verdictReport
   judged-some b bs true e =
       let l = ltb-true longest-form (length (b ∷ bs)) e in
       let v = judge-over (b ∷ bs) l in
@@ -119,7 +119,7 @@ module _ (s : List ℕ) (enough : state-length ≤ length s) (clear : count s �
       })
 
   judged : (t : List ℕ) → Judged t (finish (pushes s t))
-  unfolding frameSaid gathered nonEmpty pushes answers handed reasons
+  unfolding frameReport gathered nonEmpty pushes answers handed reasons
   judged [] = rw (← finish-empty s clear) (record { answered = refl; messages = refl; failures = refl })
   judged (b ∷ bs) = judged-some b bs (ltb longest-form (length (b ∷ bs))) refl
 
@@ -131,7 +131,7 @@ record Follows (r : Reader) : Type 0 where
   enough : state-length ≤ length base
   clear : count base ≡ 0
   state : r .state ≡ pushes base (split (r .bytes) .rest)
-  answered : r .answered ≡ map frameSaid (split (r .bytes) .closed)
+  answered : r .answered ≡ map frameReport (split (r .bytes) .closed)
   messages : r .messages ≡ goodMessages (nonEmpty (split (r .bytes) .closed))
   failures : r .failures ≡ failureReasons (nonEmpty (split (r .bytes) .closed))
 
@@ -203,7 +203,7 @@ module _ (room : List ℕ) (enough : state-length ≤ length room) (cs : List Ca
       rw (le-leb state-length (length room) enough) (calls-follow cs (fresh (counted 0 room)) (fresh-follows (counted 0 room) (c .0) (c .1)))
 
   -- any stream, whatever the cuts: one answer for each 00 of the bytes read, which is the tests' verdict on the bytes before it
-  pub any-stream : afterAll (begun room) cs .answered ≡ map frameSaid (split (afterAll (begun room) cs .bytes) .closed)
+  pub any-stream : afterAll (begun room) cs .answered ≡ map frameReport (split (afterAll (begun room) cs .bytes) .closed)
   any-stream = follows .answered
 
   -- the messages handed out are those that the tests find good, in order, of the bytes before each 00, unless there are none

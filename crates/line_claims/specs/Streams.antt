@@ -7,7 +7,7 @@ use native.Mathlib.Omega.{arith}
 use lib.Dec.{eqb·suc-zero}
 use lib.ListN.{length, take}
 use lib.Seq.{append-snoc}
-use Rattle.line.specs.Reader.{Said, refused, more, empty, message, failed, state-length, valid, pushed, finish, Outcome, next, readPiece, reading}
+use Rattle.line.specs.Reader.{Report, refused, more, empty, message, failed, state-length, valid, pushed, finish, Outcome, next, readPiece, reading}
 use Rattle.octets.proofs.Conditions.{cond-by}
 use Rattle.line.proofs.State.{Ready, valid-ready, ready-pushed}
 use Rattle.line.proofs.Lent.{dataOf-append, pushed-append, finish-append}
@@ -49,7 +49,7 @@ stream-read r (b ∷ bs) = stream-read (afterByte r b) bs ∙ rw (byte-read r b)
 -- ---- one call
 
 -- what is handed out stands in the bytes lent
-handed-append : (a : Said) (t u : List ℕ) → state-length ≤ length t → handed a (t ++ u) ≡ handed a t
+handed-append : (a : Report) (t u : List ℕ) → state-length ≤ length t → handed a (t ++ u) ≡ handed a t
 unfolding handed
 handed-append (refused number) t u h = refl
 handed-append more t u h = refl

@@ -13,28 +13,28 @@ use Rattle.line.specs.Limits.{longest-data, longest-form}
 use Rattle.line.specs.Message.{Message}
 use Rattle.line.specs.Judge.{Verdict, failure, good, judge}
 use Rattle.line.specs.Reader as LineReader
-use Rattle.line.specs.Reader.{verdictSaid, settle, finish, next, readPiece, reading, kept, count, valid}
+use Rattle.line.specs.Reader.{verdictReport, settle, finish, next, readPiece, reading, kept, count, valid}
 use Rattle.line.specs.Frame.{frame}
 use Rattle.line.specs.Writer as LineWriter
-use Rattle.line.specs.Writer.{said, sending, writing}
+use Rattle.line.specs.Writer.{report, sending, writing}
 use Rattle.line.specs.declared.reader.Reading.{Reading}
 use Rattle.line.specs.declared.writer.Written.{Written}
-use Rattle.oatcastle.specs.Answers.{outcome, telling, answering}
-use Rattle.oatcastle.specs.LineCalls.{readTold, lineReadCall, writeTold, lineWriteCall}
-use Rattle.oatcastle.proofs.AnswerLaws.{Says, Leaves, Tells, tells-says, tells-leaves, answering-short, answering-told}
+use Rattle.oatcastle.specs.Answers.{outcome, writingAnswer, answering}
+use Rattle.oatcastle.specs.LineCalls.{readGiven, lineReadCall, writeGiven, lineWriteCall}
+use Rattle.oatcastle.proofs.AnswerLaws.{Says, Leaves, Writes, writes-says, writes-leaves, answering-short, answering-given}
 
 -- ---- Read: a valid state is not refused
 
 -- an answer that is no refusal
-abbrev pub Spoken : LineReader.Said → Type 0
+abbrev pub Spoken : LineReader.Report → Type 0
 Spoken (LineReader.refused n) = ⊥
 Spoken LineReader.more = Unit {0}
 Spoken LineReader.empty = Unit {0}
 Spoken (LineReader.message version sequence command n) = Unit {0}
 Spoken (LineReader.failed reason sequence) = Unit {0}
 
-spoken-verdict : (v : Verdict) → Spoken (verdictSaid v)
-unfolding verdictSaid
+spoken-verdict : (v : Verdict) → Spoken (verdictReport v)
+unfolding verdictReport
 spoken-verdict (failure reason sequence) = tt
 spoken-verdict (good m) = tt
 
@@ -52,63 +52,63 @@ unfolding readPiece next
 spoken s [] = tt
 spoken s (b ∷ bs) = cond-by (λ (o : LineReader.Outcome). Spoken (o .answer)) (eqb b 0) _ _ (λ _. spoken-finish s) (λ _. spoken (LineReader.pushed s b) bs)
 
-told-read : (used : ℕ) (a : LineReader.Said) → Spoken a → Tells 7 (readTold used a)
-unfolding readTold
-told-read used (LineReader.refused n) p = absurd p
-told-read used LineReader.more p = refl
-told-read used LineReader.empty p = refl
-told-read used (LineReader.message version sequence command n) p = refl
-told-read used (LineReader.failed reason none) p = refl
-told-read used (LineReader.failed reason (some sequence)) p = refl
+given-read : (used : ℕ) (a : LineReader.Report) → Spoken a → Writes 7 (readGiven used a)
+unfolding readGiven
+given-read used (LineReader.refused n) p = absurd p
+given-read used LineReader.more p = refl
+given-read used LineReader.empty p = refl
+given-read used (LineReader.message version sequence command n) p = refl
+given-read used (LineReader.failed reason none) p = refl
+given-read used (LineReader.failed reason (some sequence)) p = refl
 
 module _ (s piece answer : List ℕ) where
   pub read-refused : valid s ≡ false → outcome 12 (s, answer) ≡ lineReadCall s piece answer
-  unfolding lineReadCall reading readTold answering
+  unfolding lineReadCall reading readGiven answering
   read-refused v = rw v
 
   module _ (v : valid s ≡ true) where
-    tells : (used : ℕ) → Tells 7 (readTold used (reading s piece .answer))
+    writes : (used : ℕ) → Writes 7 (readGiven used (reading s piece .answer))
     unfolding reading
-    tells used = rw v (told-read used (readPiece s piece .answer) (spoken s piece))
+    writes used = rw v (given-read used (readPiece s piece .answer) (spoken s piece))
 
     pub read-short : length answer < 7 → outcome 8 (s, answer) ≡ lineReadCall s piece answer
     unfolding lineReadCall
     read-short h =
         let o = reading s piece in
-        let said = readTold (o .used) (o .answer) in
-        answering-short s (o .state) answer said (tells-says 7 said (tells (o .used))) h
+        let report = readGiven (o .used) (o .answer) in
+        answering-short s (o .state) answer report (writes-says 7 report (writes (o .used))) h
 
-    pub read-told : (read : Reading) {r : ℕ} {after told : List ℕ} → 7 ≤ length answer → LineReader.outcome read after ≡ reading s piece
-        → outcome r told ≡ telling (readTold (read .used) (LineReader.said (read .answer))) answer
+    pub read-given : (read : Reading) {r : ℕ} {after told : List ℕ} → 7 ≤ length answer → LineReader.outcome read after ≡ reading s piece
+        → outcome r told ≡ writingAnswer (readGiven (read .used) (LineReader.report (read .answer))) answer
         → outcome r (after, told) ≡ lineReadCall s piece answer
     unfolding lineReadCall
-    read-told read {after} h e f =
-        let said = readTold (read .used) (LineReader.said (read .answer)) in
-        rw (← e) (answering-told s after answer said (tells-leaves 7 s after said (rw (← e) at (tells (read .used)))) h f)
+    read-given read {after} h e f =
+        let report = readGiven (read .used) (LineReader.report (read .answer)) in
+        rw (← e) (answering-given s after answer report (writes-leaves 7 s after report (rw (← e) at (writes (read .used)))) h f)
 
 -- ---- Write
 
 module _ (m : Message) (out answer : List ℕ) where
   pub write-long : longest-data < length (m .payload) → outcome 9 (out, answer) ≡ lineWriteCall m out answer
-  unfolding lineWriteCall writing writeTold answering
+  unfolding lineWriteCall writing writeGiven answering
   write-long h = rw (lt-ltb longest-data (length (m .payload)) h)
 
   -- what the writer's call says and leaves
   abbrev Settles : LineWriter.Outcome → Type 0
-  Settles o = Says 1 (writeTold (o .answer)) × Leaves 1 out (o .out) (writeTold (o .answer))
+  Settles o = Says 1 (writeGiven (o .answer)) × Leaves 1 out (o .out) (writeGiven (o .answer))
 
   module _ (l : length (m .payload) ≤ longest-data) where
     settles : Settles (writing m out)
-    unfolding writing sending writeTold
+    unfolding writing sending writeGiven
     settles =
         rw (le-ltb longest-data (length (m .payload)) l)
         (cond-by Settles (ltb (length out) (length (frame m))) _ _ (λ _. (refl, refl)) (λ _. (refl, refl)))
 
     pub write-short : length answer < 1 → outcome 8 (out, answer) ≡ lineWriteCall m out answer
     unfolding lineWriteCall
-    write-short h = answering-short out (writing m out .out) answer (writeTold (writing m out .answer)) (settles .0) h
+    write-short h = answering-short out (writing m out .out) answer (writeGiven (writing m out .answer)) (settles .0) h
 
-    pub write-told : (w : Written) {r : ℕ} {after told : List ℕ} → 1 ≤ length answer → LineWriter.outcome w after ≡ writing m out
-        → outcome r told ≡ telling (writeTold (said w)) answer → outcome r (after, told) ≡ lineWriteCall m out answer
+    pub write-given : (w : Written) {r : ℕ} {after told : List ℕ} → 1 ≤ length answer → LineWriter.outcome w after ≡ writing m out
+        → outcome r told ≡ writingAnswer (writeGiven (report w)) answer → outcome r (after, told) ≡ lineWriteCall m out answer
     unfolding lineWriteCall
-    write-told w {after} h e f = rw (← e) (answering-told out after answer (writeTold (said w)) (rw (← e) at settles .1) h f)
+    write-given w {after} h e f = rw (← e) (answering-given out after answer (writeGiven (report w)) (rw (← e) at settles .1) h f)

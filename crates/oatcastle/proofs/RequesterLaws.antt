@@ -23,9 +23,9 @@ use Rattle.requester.specs.Valid.{validRequester}
 use Rattle.requester.specs.Calls
 use Rattle.requester.specs.Calls.{Parts, putInto, withRequest, requesting, sending, toldOf, heardOf, outcomeOf, received, receiving, validParts}
 use Rattle.requester.specs.declared.receive.Received.{Received}
-use Rattle.oatcastle.specs.Answers.{outcome, Said, telling, answering}
-use Rattle.oatcastle.specs.RequesterCalls.{putTold, putAnswered, requestCall, sendCall, shortPut, receiptTold, receiptAnswered, listenCall, shortReceipt}
-use Rattle.oatcastle.proofs.AnswerLaws.{Says, Leaves, Tells, tells-says, tells-leaves, answering-short, answering-told}
+use Rattle.oatcastle.specs.Answers.{outcome, Report, writingAnswer, answering}
+use Rattle.oatcastle.specs.RequesterCalls.{putGiven, putAnswered, requestCall, sendCall, shortPut, receiptGiven, receiptAnswered, listenCall, shortReceipt}
+use Rattle.oatcastle.proofs.AnswerLaws.{Says, Leaves, Writes, writes-says, writes-leaves, answering-short, answering-given}
 
 -- ---- Request and send
 
@@ -37,37 +37,37 @@ some-bytes n q = simp length-append (omega arith)
 module _ (r out answer : List ℕ) where
   -- what a call leaves with no room, and what the same call answers with room and too short an answer
   abbrev Short : Calls.Put → Calls.Put → Type 0
-  Short x y = outcome (shortPut (x .said)) ((x .requester, out), answer) ≡ putAnswered y r out answer
+  Short x y = outcome (shortPut (x .report)) ((x .requester, out), answer) ≡ putAnswered y r out answer
 
   abbrev Kept : Calls.Put → Type 0
-  Kept o = Leaves {A = List ℕ × List ℕ} 1 (r, out) (o .requester, o .out) (putTold (o .said))
+  Kept o = Leaves {A = List ℕ × List ℕ} 1 (r, out) (o .requester, o .out) (putGiven (o .report))
 
-  refused-short : (n : ℕ) (z : List ℕ) → Short (Calls.putBy (Calls.PutSaid.refused n) z r) (Calls.putBy (Calls.PutSaid.refused n) out r)
-  unfolding shortPut putTold answering
+  refused-short : (n : ℕ) (z : List ℕ) → Short (Calls.putBy (Calls.PutReport.refused n) z r) (Calls.putBy (Calls.PutReport.refused n) out r)
+  unfolding shortPut putGiven answering
   refused-short n z = refl
 
-  put-says : (bs after : List ℕ) → Says 1 (putTold (putInto bs out r after .said))
-  unfolding putInto putTold
-  put-says bs after = cond-by (λ (o : Calls.Put). Says 1 (putTold (o .said))) (ltb (length out) (length bs)) _ _ (λ _. refl) (λ _. refl)
+  put-says : (bs after : List ℕ) → Says 1 (putGiven (putInto bs out r after .report))
+  unfolding putInto putGiven
+  put-says bs after = cond-by (λ (o : Calls.Put). Says 1 (putGiven (o .report))) (ltb (length out) (length bs)) _ _ (λ _. refl) (λ _. refl)
 
   put-short : (bs after z : List ℕ) → length answer < 1 → length z < length bs → Short (putInto bs z r after) (putInto bs out r after)
   unfolding putInto shortPut
   put-short bs after z l h =
       rw (lt-ltb (length z) (length bs) h)
-      (answering-short (r, out) _ answer (putTold (putInto bs out r after .said)) (put-says bs after) l)
+      (answering-short (r, out) _ answer (putGiven (putInto bs out r after .report)) (put-says bs after) l)
 
-  refused-kept : (n : ℕ) → Kept (Calls.putBy (Calls.PutSaid.refused n) out r)
-  unfolding putTold
+  refused-kept : (n : ℕ) → Kept (Calls.putBy (Calls.PutReport.refused n) out r)
+  unfolding putGiven
   refused-kept n = refl
 
   put-kept : (bs after : List ℕ) → Kept (putInto bs out r after)
-  unfolding putInto putTold
+  unfolding putInto putGiven
   put-kept bs after = cond-by Kept (ltb (length out) (length bs)) _ _ (λ _. refl) (λ _. refl)
 
   -- what was told of what a call answered and left
-  put-told : (o : Calls.Put) → Kept o → {a : Calls.PutSaid} {r' out' : List ℕ} {n : ℕ} {told : List ℕ} → 1 ≤ length answer → Calls.putBy a out' r' ≡ o
-      → outcome n told ≡ telling (putTold a) answer → outcome n ((r', out'), told) ≡ putAnswered o r out answer
-  put-told o k {a} h e f = rw (← e) (answering-told (r, out) _ answer (putTold a) (rw (← e) at k) h f)
+  put-given : (o : Calls.Put) → Kept o → {a : Calls.PutReport} {r' out' : List ℕ} {n : ℕ} {told : List ℕ} → 1 ≤ length answer → Calls.putBy a out' r' ≡ o
+      → outcome n told ≡ writingAnswer (putGiven a) answer → outcome n ((r', out'), told) ≡ putAnswered o r out answer
+  put-given o k {a} h e f = rw (← e) (answering-given (r, out) _ answer (putGiven a) (rw (← e) at k) h f)
 
   module _ (command : ℕ) (d : List ℕ) where
     abbrev asked : List ℕ
@@ -76,23 +76,23 @@ module _ (r out answer : List ℕ) where
     abbrev kept : List ℕ
     kept = withRequest (suc (Layout.numberOf r)) command d r
 
-    pub request-short : (z : List ℕ) {a : Calls.PutSaid} {r' z' : List ℕ} {n : ℕ} → length answer < 1 → length z ≡ 1 → Calls.putBy a z' r' ≡ requesting r command d z
+    pub request-short : (z : List ℕ) {a : Calls.PutReport} {r' z' : List ℕ} {n : ℕ} → length answer < 1 → length z ≡ 1 → Calls.putBy a z' r' ≡ requesting r command d z
         → n ≡ shortPut a → outcome n ((r', out), answer) ≡ requestCall r command d out answer
     unfolding requestCall requesting
     request-short z l h e f =
         let b = some-bytes (suc (Layout.numberOf r)) (record { command = command; payload = d }) in
-        rw (f, ap (λ (o : Calls.Put). o .said) e, ap (λ (o : Calls.Put). o .requester) e)
+        rw (f, ap (λ (o : Calls.Put). o .report) e, ap (λ (o : Calls.Put). o .requester) e)
         (cond-both Short (validRequester r) (λ _.
         cond-both Short (ltb longest-data (length d)) (λ _. refused-short 9 z) (λ _.
         cond-both Short (Layout.isOutstanding r) (λ _. refused-short 17 z) (λ _.
         cond-both Short (leb last-number (Layout.numberOf r)) (λ _. refused-short 14 z) (λ _. put-short asked kept z l (omega arith)))))
         (λ _. refused-short 12 z))
 
-    pub request-told : {a : Calls.PutSaid} {r' out' : List ℕ} {n : ℕ} {told : List ℕ} → 1 ≤ length answer → Calls.putBy a out' r' ≡ requesting r command d out
-        → outcome n told ≡ telling (putTold a) answer → outcome n ((r', out'), told) ≡ requestCall r command d out answer
+    pub request-given : {a : Calls.PutReport} {r' out' : List ℕ} {n : ℕ} {told : List ℕ} → 1 ≤ length answer → Calls.putBy a out' r' ≡ requesting r command d out
+        → outcome n told ≡ writingAnswer (putGiven a) answer → outcome n ((r', out'), told) ≡ requestCall r command d out answer
     unfolding requestCall requesting
-    request-told h e f =
-        put-told (requesting r command d out)
+    request-given h e f =
+        put-given (requesting r command d out)
         (cond-by Kept (validRequester r) _ _ (λ _.
         cond-by Kept (ltb longest-data (length d)) _ _ (λ _. refused-kept 9) (λ _.
         cond-by Kept (Layout.isOutstanding r) _ _ (λ _. refused-kept 17) (λ _.
@@ -104,31 +104,31 @@ module _ (r out answer : List ℕ) where
   sent = requestFrame (Layout.numberOf r) (Layout.outRequest r)
 
   abbrev flagged : List ℕ
-  flagged = overlay Layout.unsent-place (0 ∷ []) r
+  flagged = overlay Layout.unsent-offset (0 ∷ []) r
 
   nothing-short : (z : List ℕ) → length answer < 1 → Short (Calls.putBy (Calls.wrote 0) z r) (Calls.putBy (Calls.wrote 0) out r)
-  unfolding shortPut putTold
-  nothing-short z l = answering-short (r, out) (r, out) answer (putTold (Calls.wrote 0)) refl l
+  unfolding shortPut putGiven
+  nothing-short z l = answering-short (r, out) (r, out) answer (putGiven (Calls.wrote 0)) refl l
 
   nothing-kept : Kept (Calls.putBy (Calls.wrote 0) out r)
-  unfolding putTold
+  unfolding putGiven
   nothing-kept = refl
 
-  pub send-short : (z : List ℕ) {a : Calls.PutSaid} {r' z' : List ℕ} {n : ℕ} → length answer < 1 → length z ≡ 1 → Calls.putBy a z' r' ≡ sending r z
+  pub send-short : (z : List ℕ) {a : Calls.PutReport} {r' z' : List ℕ} {n : ℕ} → length answer < 1 → length z ≡ 1 → Calls.putBy a z' r' ≡ sending r z
       → n ≡ shortPut a → outcome n ((r', out), answer) ≡ sendCall r out answer
   unfolding sendCall sending
   send-short z l h e f =
       let b = some-bytes (Layout.numberOf r) (Layout.outRequest r) in
-      rw (f, ap (λ (o : Calls.Put). o .said) e, ap (λ (o : Calls.Put). o .requester) e)
+      rw (f, ap (λ (o : Calls.Put). o .report) e, ap (λ (o : Calls.Put). o .requester) e)
       (cond-both Short (validRequester r)
       (λ _. cond-both Short (Layout.isUnsent r) (λ _. put-short sent flagged z l (omega arith)) (λ _. nothing-short z l))
       (λ _. refused-short 12 z))
 
-  pub send-told : {a : Calls.PutSaid} {r' out' : List ℕ} {n : ℕ} {told : List ℕ} → 1 ≤ length answer → Calls.putBy a out' r' ≡ sending r out
-      → outcome n told ≡ telling (putTold a) answer → outcome n ((r', out'), told) ≡ sendCall r out answer
+  pub send-given : {a : Calls.PutReport} {r' out' : List ℕ} {n : ℕ} {told : List ℕ} → 1 ≤ length answer → Calls.putBy a out' r' ≡ sending r out
+      → outcome n told ≡ writingAnswer (putGiven a) answer → outcome n ((r', out'), told) ≡ sendCall r out answer
   unfolding sendCall sending
-  send-told h e f =
-      put-told (sending r out)
+  send-given h e f =
+      put-given (sending r out)
       (cond-by Kept (validRequester r) _ _
       (λ _. cond-by Kept (Layout.isUnsent r) _ _ (λ _. put-kept sent flagged) (λ _. nothing-kept))
       (λ _. refused-kept 12))
@@ -137,18 +137,18 @@ module _ (r out answer : List ℕ) where
 -- ---- Receive
 
 -- what is handed out is told in seven numbers
-handed-tells : (used : ℕ) (h : Requester.Handed) (e u : Bool) → Tells 7 (receiptTold used (toldOf h) e u)
-unfolding receiptTold toldOf
+handed-tells : (used : ℕ) (h : Requester.Handed) (e u : Bool) → Writes 7 (receiptGiven used (toldOf h) e u)
+unfolding receiptGiven toldOf
 handed-tells used Requester.nothing e u = refl
 handed-tells used (Requester.answered m) e u = refl
 handed-tells used (Requester.status s o n) e u = refl
 handed-tells used (Requester.alerted m) e u = refl
 
-abbrev saidBy : Calls.Receipt → Said
-saidBy x = receiptTold (x .used) (x .told) (x .ended) (x .unsent)
+abbrev saidBy : Calls.Receipt → Report
+saidBy x = receiptGiven (x .used) (x .told) (x .ended) (x .unsent)
 
 module _ (p : Parts) (answer : List ℕ) where
-  receipt-tells : (piece : List ℕ) → Tells 7 (saidBy (received p piece))
+  receipt-tells : (piece : List ℕ) → Writes 7 (saidBy (received p piece))
   unfolding received
   receipt-tells piece = handed-tells _ _ _ _
 
@@ -171,25 +171,25 @@ module _ (p : Parts) (answer : List ℕ) where
 
   pub listen-short : (t : Received) (piece : List ℕ) {q : Parts} {n : ℕ} → length answer < 7 → Calls.receiptOf t q ≡ receiving p []
       → n ≡ shortReceipt (Calls.told (t .handed)) → outcome n (q, answer) ≡ listenCall p piece answer
-  unfolding receiving listenCall shortReceipt receiptTold answering
+  unfolding receiving listenCall shortReceipt receiptGiven answering
   listen-short t piece l e f =
       let x = received p piece in
       rw (f, ap (λ (y : Calls.Receipt). y .told) e, ap (λ (y : Calls.Receipt). y .parts) e)
       (cond-both (λ (y z : Calls.Receipt). outcome (shortReceipt (y .told)) (y .parts, answer) ≡ receiptAnswered z p answer) (validParts p)
       (λ _. rw (none-received, none-handed)
-      (answering-short p (x .parts) answer (saidBy x) (tells-says 7 (saidBy x) (receipt-tells piece)) l))
+      (answering-short p (x .parts) answer (saidBy x) (writes-says 7 (saidBy x) (receipt-tells piece)) l))
       (λ _. refl))
 
   listen-kept : (piece : List ℕ) → let x = receiving p piece in Leaves 7 p (x .parts) (saidBy x)
-  unfolding receiving receiptTold
+  unfolding receiving receiptGiven
   listen-kept piece =
       let x = received p piece in
       cond-by (λ (y : Calls.Receipt). Leaves 7 p (y .parts) (saidBy y)) (validParts p) _ _
-      (λ _. tells-leaves 7 p (x .parts) (saidBy x) (receipt-tells piece)) (λ _. refl)
+      (λ _. writes-leaves 7 p (x .parts) (saidBy x) (receipt-tells piece)) (λ _. refl)
 
-  pub listen-told : (t : Received) (piece : List ℕ) {q : Parts} {n : ℕ} {told : List ℕ} → 7 ≤ length answer → Calls.receiptOf t q ≡ receiving p piece
-      → outcome n told ≡ telling (receiptTold (t .used) (Calls.told (t .handed)) (t .ended) (t .unsent)) answer → outcome n (q, told) ≡ listenCall p piece answer
+  pub listen-given : (t : Received) (piece : List ℕ) {q : Parts} {n : ℕ} {told : List ℕ} → 7 ≤ length answer → Calls.receiptOf t q ≡ receiving p piece
+      → outcome n told ≡ writingAnswer (receiptGiven (t .used) (Calls.told (t .handed)) (t .ended) (t .unsent)) answer → outcome n (q, told) ≡ listenCall p piece answer
   unfolding listenCall
-  listen-told t piece {q} h e f =
+  listen-given t piece {q} h e f =
       rw (← e)
-      (answering-told p q answer (receiptTold (t .used) (Calls.told (t .handed)) (t .ended) (t .unsent)) (rw (← e) at (listen-kept piece)) h f)
+      (answering-given p q answer (receiptGiven (t .used) (Calls.told (t .handed)) (t .ended) (t .unsent)) (rw (← e) at (listen-kept piece)) h f)

@@ -20,24 +20,24 @@ use Rattle.rot.specs.Writing.{writing}
 use Rattle.rot.specs.declared.reader.Answer.{Answer}
 use Rattle.rot.specs.declared.writer.Written.{Written}
 use Rattle.rot.proofs.Message.{length-message}
-use Rattle.oatcastle.specs.Answers.{outcome, Said, refused, telling, answering}
-use Rattle.oatcastle.specs.RotCalls.{shortNumber, rotReadTold, rotReadAnswered, rotReadCall, rotWriteTold, rotWriteAnswered, rotWriteCall}
-use Rattle.oatcastle.proofs.AnswerLaws.{Says, Leaves, Tells, tells-says, tells-leaves, answering-short, answering-told}
+use Rattle.oatcastle.specs.Answers.{outcome, Report, refused, writingAnswer, answering}
+use Rattle.oatcastle.specs.RotCalls.{shortNumber, rotReadGiven, rotReadAnswered, rotReadCall, rotWriteGiven, rotWriteAnswered, rotWriteCall}
+use Rattle.oatcastle.proofs.AnswerLaws.{Says, Leaves, Writes, writes-says, writes-leaves, answering-short, answering-given}
 
 -- ---- bytes sent to a room, told as k numbers
 
-module _ (k : ℕ) (told : RotAnswers.Said → Said) (bs : List ℕ) (no : told (RotAnswers.refused 8) ≡ refused 8) (yes : Tells k (told (RotAnswers.wrote (length bs)))) where
+module _ (k : ℕ) (told : RotAnswers.Report → Report) (bs : List ℕ) (no : told (RotAnswers.refused 8) ≡ refused 8) (yes : Writes k (told (RotAnswers.wrote (length bs)))) where
   says-sent : (out : List ℕ) → Says k (told (sending bs out .answer))
   unfolding sending
   says-sent out =
       cond-by (λ (o : RotAnswers.Outcome). Says k (told (o .answer))) (ltb (length out) (length bs)) _ _
-      (λ _. rw no refl) (λ _. tells-says k (told (RotAnswers.wrote (length bs))) yes)
+      (λ _. rw no refl) (λ _. writes-says k (told (RotAnswers.wrote (length bs))) yes)
 
   leaves-sent : (out : List ℕ) → Leaves k out (sending bs out .out) (told (sending bs out .answer))
   unfolding sending
   leaves-sent out =
       cond-by (λ (o : RotAnswers.Outcome). Leaves k out (o .out) (told (o .answer))) (ltb (length out) (length bs)) _ _
-      (λ _. rw no refl) (λ _. tells-leaves k out (overlay 0 bs out) (told (RotAnswers.wrote (length bs))) yes)
+      (λ _. rw no refl) (λ _. writes-leaves k out (overlay 0 bs out) (told (RotAnswers.wrote (length bs))) yes)
 
 -- a room with no place for a message
 sent-nowhere : (m : Message) (z : List ℕ) → length z < header-length → sending (message m) z ≡ RotAnswers.outcome (RotAnswers.refused 8) z
@@ -49,75 +49,75 @@ sent-nowhere m z h = rw (lt-ltb (length z) (length (message m)) (rw (length-mess
 module _ (answer : List ℕ) where
   served-short : (m : Message) (z out : List ℕ) → length z < header-length → length answer < 3
       → outcome (shortNumber (served m z .answer)) (out, answer) ≡ rotReadAnswered (served m out) out answer
-  unfolding served shortNumber rotReadTold
+  unfolding served shortNumber rotReadGiven
   served-short m z out h l =
       cond-both (λ (x y : RotAnswers.Outcome). outcome (shortNumber (x .answer)) (out, answer) ≡ rotReadAnswered y out answer) (eqb (m .type) echo-request)
       (λ _. rw (sent-nowhere (echoed m) z h)
-      (answering-short out _ answer _ (says-sent 3 rotReadTold (message (echoed m)) refl refl out) l))
-      (λ _. answering-short out out answer (rotReadTold (RotAnswers.handed (m .type) (length (m .payload)))) refl l)
+      (answering-short out _ answer _ (says-sent 3 rotReadGiven (message (echoed m)) refl refl out) l))
+      (λ _. answering-short out out answer (rotReadGiven (RotAnswers.handed (m .type) (length (m .payload)))) refl l)
 
   judged-short : (j : Judged) (z out : List ℕ) → length z < header-length → length answer < 3
       → outcome (shortNumber (RotReading.answering j z .answer)) (out, answer) ≡ rotReadAnswered (RotReading.answering j out) out answer
-  unfolding RotReading.answering shortNumber rotReadTold answering
+  unfolding RotReading.answering shortNumber rotReadGiven answering
   judged-short (failure n) z out h l = refl
-  judged-short unsent z out h l = answering-short out out answer (rotReadTold RotAnswers.nothing) refl l
+  judged-short unsent z out h l = answering-short out out answer (rotReadGiven RotAnswers.nothing) refl l
   judged-short (good m) z out h l = served-short m z out h l
 
   pub read-short : (t : Answer) (input z out : List ℕ) {r : ℕ} {y : List ℕ} → length z < header-length → length answer < 3
-      → RotAnswers.outcome (RotReading.said t) y ≡ reading input z → r ≡ shortNumber (RotReading.said t)
+      → RotAnswers.outcome (RotReading.report t) y ≡ reading input z → r ≡ shortNumber (RotReading.report t)
       → outcome r (out, answer) ≡ rotReadCall input out answer
   unfolding reading rotReadCall
   read-short t input z out h l e f =
       rw (f, ap (λ (o : RotAnswers.Outcome). o .answer) e) (judged-short (judge input) z out h l)
 
-served-leaves : (m : Message) (out : List ℕ) → Leaves 3 out (served m out .out) (rotReadTold (served m out .answer))
-unfolding served rotReadTold
+served-leaves : (m : Message) (out : List ℕ) → Leaves 3 out (served m out .out) (rotReadGiven (served m out .answer))
+unfolding served rotReadGiven
 served-leaves m out =
-    cond-by (λ (o : RotAnswers.Outcome). Leaves 3 out (o .out) (rotReadTold (o .answer))) (eqb (m .type) echo-request) _ _
-    (λ _. leaves-sent 3 rotReadTold (message (echoed m)) refl refl out) (λ _. refl)
+    cond-by (λ (o : RotAnswers.Outcome). Leaves 3 out (o .out) (rotReadGiven (o .answer))) (eqb (m .type) echo-request) _ _
+    (λ _. leaves-sent 3 rotReadGiven (message (echoed m)) refl refl out) (λ _. refl)
 
-judged-leaves : (j : Judged) (out : List ℕ) → Leaves 3 out (RotReading.answering j out .out) (rotReadTold (RotReading.answering j out .answer))
-unfolding RotReading.answering rotReadTold
+judged-leaves : (j : Judged) (out : List ℕ) → Leaves 3 out (RotReading.answering j out .out) (rotReadGiven (RotReading.answering j out .answer))
+unfolding RotReading.answering rotReadGiven
 judged-leaves (failure n) out = refl
 judged-leaves unsent out = refl
 judged-leaves (good m) out = served-leaves m out
 
-read-leaves : (input out : List ℕ) → Leaves 3 out (reading input out .out) (rotReadTold (reading input out .answer))
+read-leaves : (input out : List ℕ) → Leaves 3 out (reading input out .out) (rotReadGiven (reading input out .answer))
 unfolding reading
 read-leaves input out = judged-leaves (judge input) out
 
-pub read-told : (t : Answer) (input out answer : List ℕ) {r : ℕ} {after told : List ℕ} → 3 ≤ length answer
-    → RotAnswers.outcome (RotReading.said t) after ≡ reading input out → outcome r told ≡ telling (rotReadTold (RotReading.said t)) answer
+pub read-given : (t : Answer) (input out answer : List ℕ) {r : ℕ} {after told : List ℕ} → 3 ≤ length answer
+    → RotAnswers.outcome (RotReading.report t) after ≡ reading input out → outcome r told ≡ writingAnswer (rotReadGiven (RotReading.report t)) answer
     → outcome r (after, told) ≡ rotReadCall input out answer
 unfolding rotReadCall
-read-told t input out answer {after} h e f =
-    rw (← e) (answering-told out after answer (rotReadTold (RotReading.said t)) (rw (← e) at (read-leaves input out)) h f)
+read-given t input out answer {after} h e f =
+    rw (← e) (answering-given out after answer (rotReadGiven (RotReading.report t)) (rw (← e) at (read-leaves input out)) h f)
 
 -- ---- Write
 
 module _ (m : Message) (out answer : List ℕ) where
-  write-leaves : Leaves 1 out (writing m out .out) (rotWriteTold (writing m out .answer))
-  unfolding writing rotWriteTold
+  write-leaves : Leaves 1 out (writing m out .out) (rotWriteGiven (writing m out .answer))
+  unfolding writing rotWriteGiven
   write-leaves =
-      let P : RotAnswers.Outcome → Type 0 = λ o. Leaves 1 out (o .out) (rotWriteTold (o .answer)) in
+      let P : RotAnswers.Outcome → Type 0 = λ o. Leaves 1 out (o .out) (rotWriteGiven (o .answer)) in
       cond-by P (ltb longest-payload (length (m .payload))) _ _ (λ _. refl) (λ _.
-      cond-by P (listed (m .type)) _ _ (λ _. leaves-sent 1 rotWriteTold (message m) refl refl out) (λ _. refl))
+      cond-by P (listed (m .type)) _ _ (λ _. leaves-sent 1 rotWriteGiven (message m) refl refl out) (λ _. refl))
 
-  pub write-told : (w : Written) {r : ℕ} {after told : List ℕ} → 1 ≤ length answer
-      → RotAnswers.outcome (RotWriting.said w) after ≡ writing m out → outcome r told ≡ telling (rotWriteTold (RotWriting.said w)) answer
+  pub write-given : (w : Written) {r : ℕ} {after told : List ℕ} → 1 ≤ length answer
+      → RotAnswers.outcome (RotWriting.report w) after ≡ writing m out → outcome r told ≡ writingAnswer (rotWriteGiven (RotWriting.report w)) answer
       → outcome r (after, told) ≡ rotWriteCall m out answer
   unfolding rotWriteCall
-  write-told w {after} h e f =
-      rw (← e) (answering-told out after answer (rotWriteTold (RotWriting.said w)) (rw (← e) at write-leaves) h f)
+  write-given w {after} h e f =
+      rw (← e) (answering-given out after answer (rotWriteGiven (RotWriting.report w)) (rw (← e) at write-leaves) h f)
 
   pub write-short : (w : Written) (z : List ℕ) {r : ℕ} {y : List ℕ} → length z < header-length → length answer < 1
-      → RotAnswers.outcome (RotWriting.said w) y ≡ writing m z → r ≡ shortNumber (RotWriting.said w)
+      → RotAnswers.outcome (RotWriting.report w) y ≡ writing m z → r ≡ shortNumber (RotWriting.report w)
       → outcome r (out, answer) ≡ rotWriteCall m out answer
-  unfolding writing shortNumber rotWriteTold answering rotWriteCall
+  unfolding writing shortNumber rotWriteGiven answering rotWriteCall
   write-short w z h l e f =
       let P : RotAnswers.Outcome → RotAnswers.Outcome → Type 0 = λ x y. outcome (shortNumber (x .answer)) (out, answer) ≡ rotWriteAnswered y out answer in
       rw (f, ap (λ (o : RotAnswers.Outcome). o .answer) e)
       (cond-both P (ltb longest-payload (length (m .payload))) (λ _. refl) (λ _.
       cond-both P (listed (m .type))
-      (λ _. rw (sent-nowhere m z h) (answering-short out (sending (message m) out .out) answer (rotWriteTold (sending (message m) out .answer)) (says-sent 1 rotWriteTold (message m) refl refl out) l))
+      (λ _. rw (sent-nowhere m z h) (answering-short out (sending (message m) out .out) answer (rotWriteGiven (sending (message m) out .answer)) (says-sent 1 rotWriteGiven (message m) refl refl out) l))
       (λ _. refl)))

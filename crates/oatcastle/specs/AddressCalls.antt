@@ -3,12 +3,12 @@
 use mathlib.Core.List.{List, flatten}
 use Prim.Native.Nat.{ℕ}
 use Rattle.addresses.specs.Addresses.{rows, planRefusal}
-use Rattle.oatcastle.specs.Answers.{Outcome, numbered, given, telling}
+use Rattle.oatcastle.specs.Answers.{Outcome, numbered, given, writingAnswer}
 
 -- ---- The eight rows, one after the other, to a room
 
 unfoldable pub addressesCall : List ℕ → ℕ → ℕ → List ℕ → Outcome (List ℕ)
-addressesCall base count stride room = telling (given (flatten (rows base count stride))) room
+addressesCall base count stride room = writingAnswer (given (flatten (rows base count stride))) room
 
 -- ---- Whether the plan passes
 

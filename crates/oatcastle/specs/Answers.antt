@@ -26,23 +26,23 @@ numbered none = 0
 numbered (some n) = n
 
 -- what a call says: the table's number of a refusal, or what it hands out
-pub data Said : Type 0 where
-  refused : ℕ → Said
-  given : List ℕ → Said
+pub data Report : Type 0 where
+  refused : ℕ → Report
+  given : List ℕ → Report
 
 -- what is handed out stands at the start of a lent list, or 8 where that is shorter; a refused call leaves the list
-unfoldable pub telling : Said → List ℕ → Outcome (List ℕ)
-telling (refused n) lent = outcome n lent
-telling (given xs) lent = cond (ltb (length lent) (length xs)) (outcome 8 lent) (outcome 0 (overlay 0 xs lent))
+unfoldable pub writingAnswer : Report → List ℕ → Outcome (List ℕ)
+writingAnswer (refused n) lent = outcome n lent
+writingAnswer (given xs) lent = cond (ltb (length lent) (length xs)) (outcome 8 lent) (outcome 0 (overlay 0 xs lent))
 
 -- numbers to an answer, where a call changes what else it was lent; a refused call leaves that too
-unfoldable pub answering : {A : Type 0} → Said → A → A → List ℕ → Outcome (A × List ℕ)
+unfoldable pub answering : {A : Type 0} → Report → A → A → List ℕ → Outcome (A × List ℕ)
 answering (refused n) before after answer = outcome n (before, answer)
 answering (given ns) before after answer =
     cond (ltb (length answer) (length ns)) (outcome 8 (before, answer)) (outcome 0 (after, overlay 0 ns answer))
 
 -- bytes to a room and numbers to an answer
-unfoldable pub handing : Said → List ℕ → List ℕ → List ℕ → Outcome (List ℕ × List ℕ)
-handing (refused n) bs room answer = outcome n (room, answer)
-handing (given ns) bs room answer =
+unfoldable pub writingBoth : Report → List ℕ → List ℕ → List ℕ → Outcome (List ℕ × List ℕ)
+writingBoth (refused n) bs room answer = outcome n (room, answer)
+writingBoth (given ns) bs room answer =
     cond (ltb (length room) (length bs)) (outcome 8 (room, answer)) (answering (given ns) room (overlay 0 bs room) answer)

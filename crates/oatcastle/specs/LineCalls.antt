@@ -7,7 +7,7 @@ use Rattle.line.specs.Checksum.{checksum}
 use Rattle.line.specs.Message.{Message}
 use Rattle.line.specs.Reader as LineReader
 use Rattle.line.specs.Writer as LineWriter
-use Rattle.oatcastle.specs.Answers.{Outcome, outcome, numbered, Said, refused, given, telling, answering}
+use Rattle.oatcastle.specs.Answers.{Outcome, outcome, numbered, Report, refused, given, writingAnswer, answering}
 
 -- ---- Start
 
@@ -21,47 +21,47 @@ lineStartCall s = lineStarted (LineReader.starting s)
 -- ---- Read: used, kind, reason, version, sequence, command, length
 -- kind 0: more bytes are wanted; 1: an empty frame; 2: a message; 3: a failure, with its reason, and the request's sequence where the reply carries it
 
-unfoldable pub readTold : ℕ → LineReader.Said → Said
-readTold used (LineReader.refused n) = refused n
-readTold used LineReader.more = given (used ∷ 0 ∷ 0 ∷ 0 ∷ 0 ∷ 0 ∷ 0 ∷ [])
-readTold used LineReader.empty = given (used ∷ 1 ∷ 0 ∷ 0 ∷ 0 ∷ 0 ∷ 0 ∷ [])
-readTold used (LineReader.message version sequence command n) = given (used ∷ 2 ∷ 0 ∷ version ∷ sequence ∷ command ∷ n ∷ [])
-readTold used (LineReader.failed reason none) = given (used ∷ 3 ∷ reason ∷ 0 ∷ 0 ∷ 0 ∷ 0 ∷ [])
-readTold used (LineReader.failed reason (some sequence)) = given (used ∷ 3 ∷ reason ∷ 0 ∷ sequence ∷ 0 ∷ 0 ∷ [])
+unfoldable pub readGiven : ℕ → LineReader.Report → Report
+readGiven used (LineReader.refused n) = refused n
+readGiven used LineReader.more = given (used ∷ 0 ∷ 0 ∷ 0 ∷ 0 ∷ 0 ∷ 0 ∷ [])
+readGiven used LineReader.empty = given (used ∷ 1 ∷ 0 ∷ 0 ∷ 0 ∷ 0 ∷ 0 ∷ [])
+readGiven used (LineReader.message version sequence command n) = given (used ∷ 2 ∷ 0 ∷ version ∷ sequence ∷ command ∷ n ∷ [])
+readGiven used (LineReader.failed reason none) = given (used ∷ 3 ∷ reason ∷ 0 ∷ 0 ∷ 0 ∷ 0 ∷ [])
+readGiven used (LineReader.failed reason (some sequence)) = given (used ∷ 3 ∷ reason ∷ 0 ∷ sequence ∷ 0 ∷ 0 ∷ [])
 
 abbrev pub readAnswered : LineReader.Outcome → List ℕ → List ℕ → Outcome (List ℕ × List ℕ)
-readAnswered o s answer = answering (readTold (o .used) (o .answer)) s (o .state) answer
+readAnswered o s answer = answering (readGiven (o .used) (o .answer)) s (o .state) answer
 
 unfoldable pub lineReadCall : List ℕ → List ℕ → List ℕ → Outcome (List ℕ × List ℕ)
 lineReadCall s piece answer = readAnswered (LineReader.reading s piece) s answer
 
 -- ---- The data of the message just handed out, to a room
 
-unfoldable pub dataTold : Option ℕ → List ℕ → Said
-dataTold none bs = given bs
-dataTold (some n) bs = refused n
+unfoldable pub dataGiven : Option ℕ → List ℕ → Report
+dataGiven none bs = given bs
+dataGiven (some n) bs = refused n
 
 unfoldable pub lineDataCall : List ℕ → ℕ → List ℕ → Outcome (List ℕ)
-lineDataCall s n room = telling (dataTold (LineReader.dataRefusal s n) (LineReader.dataOf s n)) room
+lineDataCall s n room = writingAnswer (dataGiven (LineReader.dataRefusal s n) (LineReader.dataOf s n)) room
 
 -- ---- An unfinished frame: 1 if longer than any form, and how many bytes of it have come
 
-unfoldable pub tailTold : LineReader.TailSaid → Said
-tailTold (LineReader.TailSaid.refused n) = refused n
-tailTold (LineReader.unfinished n) = given (0 ∷ n ∷ [])
-tailTold LineReader.longer = given (1 ∷ 0 ∷ [])
+unfoldable pub tailGiven : LineReader.TailReport → Report
+tailGiven (LineReader.TailReport.refused n) = refused n
+tailGiven (LineReader.unfinished n) = given (0 ∷ n ∷ [])
+tailGiven LineReader.longer = given (1 ∷ 0 ∷ [])
 
 unfoldable pub lineTailCall : List ℕ → List ℕ → Outcome (List ℕ)
-lineTailCall s answer = telling (tailTold (LineReader.tailOf s)) answer
+lineTailCall s answer = writingAnswer (tailGiven (LineReader.tailOf s)) answer
 
 -- ---- Write: the frame's length
 
-unfoldable pub writeTold : LineWriter.Said → Said
-writeTold (LineWriter.wrote n) = given (n ∷ [])
-writeTold (LineWriter.refused n) = refused n
+unfoldable pub writeGiven : LineWriter.Report → Report
+writeGiven (LineWriter.wrote n) = given (n ∷ [])
+writeGiven (LineWriter.refused n) = refused n
 
 abbrev pub writeAnswered : LineWriter.Outcome → List ℕ → List ℕ → Outcome (List ℕ × List ℕ)
-writeAnswered o out answer = answering (writeTold (o .answer)) out (o .out) answer
+writeAnswered o out answer = answering (writeGiven (o .answer)) out (o .out) answer
 
 unfoldable pub lineWriteCall : Message → List ℕ → List ℕ → Outcome (List ℕ × List ℕ)
 lineWriteCall m out answer = writeAnswered (LineWriter.writing m out) out answer
@@ -69,4 +69,4 @@ lineWriteCall m out answer = writeAnswered (LineWriter.writing m out) out answer
 -- ---- The checksum of a message's body
 
 unfoldable pub lineChecksumCall : List ℕ → List ℕ → Outcome (List ℕ)
-lineChecksumCall body answer = telling (given (checksum body ∷ [])) answer
+lineChecksumCall body answer = writingAnswer (given (checksum body ∷ [])) answer

@@ -7,8 +7,8 @@ use Rattle.probes.specs.Probes as Probes
 use Rattle.oatcastle.specs.Answers.{Outcome, outcome, numbered}
 
 -- 0 or 15, and the list
-abbrev pub probeTold : Probes.Outcome → Outcome (List Probe)
-probeTold o = outcome (numbered (o .refusal)) (o .list)
+abbrev pub probeGiven : Probes.Outcome → Outcome (List Probe)
+probeGiven o = outcome (numbered (o .refusal)) (o .list)
 
 unfoldable pub probeUpdateCall : List Probe → List ℕ → List ℕ → Outcome (List Probe)
-probeUpdateCall l indices results = probeTold (Probes.updating l indices results)
+probeUpdateCall l indices results = probeGiven (Probes.updating l indices results)

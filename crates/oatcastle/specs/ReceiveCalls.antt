@@ -5,7 +5,7 @@ use mathlib.Core.Option.{Option, none, some}
 use Prim.Native.Nat.{ℕ}
 use Rattle.supervisor.specs.Calls.{Parts}
 use Rattle.requests.specs.Receive
-use Rattle.oatcastle.specs.Answers.{Outcome, outcome, numbered, Said, refused, given, answering}
+use Rattle.oatcastle.specs.Answers.{Outcome, outcome, numbered, Report, refused, given, answering}
 
 -- ---- Receive
 
@@ -18,15 +18,15 @@ receiveCall image p piece = receiveDone (Receive.receiving image p piece)
 -- ---- Step: used, kind, reason
 -- kind 0: more bytes are wanted; 1: an empty frame; 2: a request; 3: a failure, with its reason
 
-unfoldable pub stepTold : ℕ → Receive.Ended → Said
-stepTold used (Receive.Ended.refused n) = refused n
-stepTold used Receive.Ended.more = given (used ∷ 0 ∷ 0 ∷ [])
-stepTold used Receive.Ended.empty = given (used ∷ 1 ∷ 0 ∷ [])
-stepTold used Receive.request = given (used ∷ 2 ∷ 0 ∷ [])
-stepTold used (Receive.Ended.failed reason) = given (used ∷ 3 ∷ reason ∷ [])
+unfoldable pub stepGiven : ℕ → Receive.Ended → Report
+stepGiven used (Receive.Ended.refused n) = refused n
+stepGiven used Receive.Ended.more = given (used ∷ 0 ∷ 0 ∷ [])
+stepGiven used Receive.Ended.empty = given (used ∷ 1 ∷ 0 ∷ [])
+stepGiven used Receive.request = given (used ∷ 2 ∷ 0 ∷ [])
+stepGiven used (Receive.Ended.failed reason) = given (used ∷ 3 ∷ reason ∷ [])
 
 abbrev pub stepAnswered : Receive.StepDone → Parts → List ℕ → Outcome (Parts × List ℕ)
-stepAnswered o p answer = answering (stepTold (o .used) (o .ended)) p (o .parts) answer
+stepAnswered o p answer = answering (stepGiven (o .used) (o .ended)) p (o .parts) answer
 
 unfoldable pub stepCall : List ℕ → Parts → List ℕ → List ℕ → Outcome (Parts × List ℕ)
 stepCall image p piece answer = stepAnswered (Receive.stepping image p piece) p answer

@@ -5,7 +5,7 @@ use mathlib.Core.List.{List, [], _∷_}
 use Prim.Native.Nat.{ℕ}
 use Rattle.requester.specs.Calls
 use Rattle.requester.specs.Calls.{Parts, Told}
-use Rattle.oatcastle.specs.Answers.{Outcome, outcome, numbered, Said, refused, given, answering}
+use Rattle.oatcastle.specs.Answers.{Outcome, outcome, numbered, Report, refused, given, answering}
 
 -- ---- Start
 
@@ -17,13 +17,13 @@ requesterStartCall p = requesterStarted (Calls.starting p)
 
 -- ---- Request, send: how many bytes were put out
 
-unfoldable pub putTold : Calls.PutSaid → Said
-putTold (Calls.wrote n) = given (n ∷ [])
-putTold (Calls.PutSaid.refused n) = refused n
+unfoldable pub putGiven : Calls.PutReport → Report
+putGiven (Calls.wrote n) = given (n ∷ [])
+putGiven (Calls.PutReport.refused n) = refused n
 
 -- by what the call answers and leaves; the main processor's part and the room change
 abbrev pub putAnswered : Calls.Put → List ℕ → List ℕ → List ℕ → Outcome ((List ℕ × List ℕ) × List ℕ)
-putAnswered o r out answer = answering (putTold (o .said)) (r, out) (o .requester, o .out) answer
+putAnswered o r out answer = answering (putGiven (o .report)) (r, out) (o .requester, o .out) answer
 
 unfoldable pub requestCall : List ℕ → ℕ → List ℕ → List ℕ → List ℕ → Outcome ((List ℕ × List ℕ) × List ℕ)
 requestCall r command d out answer = putAnswered (Calls.requesting r command d out) r out answer
@@ -32,9 +32,9 @@ unfoldable pub sendCall : List ℕ → List ℕ → List ℕ → Outcome ((List 
 sendCall r out answer = putAnswered (Calls.sending r out) r out answer
 
 -- the number of a call with too short an answer: a refusal's own, else 8
-unfoldable pub shortPut : Calls.PutSaid → ℕ
+unfoldable pub shortPut : Calls.PutReport → ℕ
 shortPut (Calls.wrote n) = 8
-shortPut (Calls.PutSaid.refused n) = n
+shortPut (Calls.PutReport.refused n) = n
 
 -- ---- Interrupt
 
@@ -50,15 +50,15 @@ interruptCall r = interruptDone (Calls.interrupting r)
 abbrev pub flag : Bool → ℕ
 flag b = cond b 1 0
 
-unfoldable pub receiptTold : ℕ → Told → Bool → Bool → Said
-receiptTold used (Told.refused n) e u = refused n
-receiptTold used Calls.nothing e u = given (used ∷ 0 ∷ flag e ∷ flag u ∷ 0 ∷ 0 ∷ 0 ∷ [])
-receiptTold used (Calls.answered version sequence command n) e u = given (used ∷ 1 ∷ flag e ∷ flag u ∷ sequence ∷ command ∷ n ∷ [])
-receiptTold used (Calls.status s o n) e u = given (used ∷ 2 ∷ flag e ∷ flag u ∷ s ∷ o ∷ n ∷ [])
-receiptTold used (Calls.alerted version sequence command n) e u = given (used ∷ 3 ∷ flag e ∷ flag u ∷ sequence ∷ command ∷ n ∷ [])
+unfoldable pub receiptGiven : ℕ → Told → Bool → Bool → Report
+receiptGiven used (Told.refused n) e u = refused n
+receiptGiven used Calls.nothing e u = given (used ∷ 0 ∷ flag e ∷ flag u ∷ 0 ∷ 0 ∷ 0 ∷ [])
+receiptGiven used (Calls.answered version sequence command n) e u = given (used ∷ 1 ∷ flag e ∷ flag u ∷ sequence ∷ command ∷ n ∷ [])
+receiptGiven used (Calls.status s o n) e u = given (used ∷ 2 ∷ flag e ∷ flag u ∷ s ∷ o ∷ n ∷ [])
+receiptGiven used (Calls.alerted version sequence command n) e u = given (used ∷ 3 ∷ flag e ∷ flag u ∷ sequence ∷ command ∷ n ∷ [])
 
 abbrev pub receiptAnswered : Calls.Receipt → Parts → List ℕ → Outcome (Parts × List ℕ)
-receiptAnswered x p answer = answering (receiptTold (x .used) (x .told) (x .ended) (x .unsent)) p (x .parts) answer
+receiptAnswered x p answer = answering (receiptGiven (x .used) (x .told) (x .ended) (x .unsent)) p (x .parts) answer
 
 unfoldable pub listenCall : Parts → List ℕ → List ℕ → Outcome (Parts × List ℕ)
 listenCall p piece answer = receiptAnswered (Calls.receiving p piece) p answer

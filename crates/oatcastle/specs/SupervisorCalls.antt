@@ -6,7 +6,7 @@ use mathlib.Core.Option.{Option, none, some}
 use Prim.Native.Nat.{ℕ}
 use Rattle.supervisor.specs.Calls
 use Rattle.supervisor.specs.declared.registers.Kind.{Kind}
-use Rattle.oatcastle.specs.Answers.{Outcome, outcome, numbered, Said, refused, given, telling, answering, handing}
+use Rattle.oatcastle.specs.Answers.{Outcome, outcome, numbered, Report, refused, given, writingAnswer, answering, writingBoth}
 
 -- ---- Start
 
@@ -18,12 +18,12 @@ startCall d p = startDone (Calls.starting d p)
 
 -- ---- Take: how many bytes were moved
 
-unfoldable pub takeTold : Calls.TakeSaid → Said
-takeTold (Calls.moved n) = given (n ∷ [])
-takeTold (Calls.TakeSaid.refused n) = refused n
+unfoldable pub takeGiven : Calls.TakeReport → Report
+takeGiven (Calls.moved n) = given (n ∷ [])
+takeGiven (Calls.TakeReport.refused n) = refused n
 
 abbrev pub takeAnswered : Calls.Take → List ℕ → List ℕ → List ℕ → Outcome ((List ℕ × List ℕ) × List ℕ)
-takeAnswered t outbox room answer = answering (takeTold (t .said)) (outbox, room) (t .outbox, t .room) answer
+takeAnswered t outbox room answer = answering (takeGiven (t .report)) (outbox, room) (t .outbox, t .room) answer
 
 unfoldable pub takeCall : List ℕ → List ℕ → List ℕ → Outcome ((List ℕ × List ℕ) × List ℕ)
 takeCall outbox room answer = takeAnswered (Calls.taking outbox room) outbox room answer
@@ -41,39 +41,39 @@ optionsCall registers options = registersDone (Calls.settingOptions registers op
 
 -- ---- Look a key up: the result, and how many bytes the value has, which go to a room
 
-unfoldable pub lookupTold : Calls.LookupSaid → Said
-lookupTold (Calls.result n k) = given (n ∷ k ∷ [])
-lookupTold (Calls.LookupSaid.refused n) = refused n
+unfoldable pub lookupGiven : Calls.LookupReport → Report
+lookupGiven (Calls.result n k) = given (n ∷ k ∷ [])
+lookupGiven (Calls.LookupReport.refused n) = refused n
 
 unfoldable pub lookupCall : List ℕ → List ℕ → ℕ → ℕ → List ℕ → List ℕ → Outcome (List ℕ × List ℕ)
 lookupCall factory settings key most room answer =
-    handing (lookupTold (Calls.lookupResult factory settings key most)) (Calls.lookupValue factory settings key most) room answer
+    writingBoth (lookupGiven (Calls.lookupResult factory settings key most)) (Calls.lookupValue factory settings key most) room answer
 
 -- ---- Read the line signal, the two flags, a record
 
-abbrev pub bit : Bool → ℕ
-bit b = cond b 1 0
+abbrev pub flag : Bool → ℕ
+flag b = cond b 1 0
 
-unfoldable pub signalTold : Calls.ReadSaid Bool → Said
-signalTold (Calls.is on) = given (bit on ∷ [])
-signalTold (Calls.ReadSaid.refused n) = refused n
+unfoldable pub signalGiven : Calls.ReadReport Bool → Report
+signalGiven (Calls.is on) = given (flag on ∷ [])
+signalGiven (Calls.ReadReport.refused n) = refused n
 
 unfoldable pub signalCall : List ℕ → List ℕ → Outcome (List ℕ)
-signalCall registers answer = telling (signalTold (Calls.signalOf registers)) answer
+signalCall registers answer = writingAnswer (signalGiven (Calls.signalOf registers)) answer
 
 -- reboot asked for, power off asked for
-unfoldable pub flagsTold : Calls.ReadSaid (Bool × Bool) → Said
-flagsTold (Calls.is f) = given (bit (f .0) ∷ bit (f .1) ∷ [])
-flagsTold (Calls.ReadSaid.refused n) = refused n
+unfoldable pub flagsGiven : Calls.ReadReport (Bool × Bool) → Report
+flagsGiven (Calls.is f) = given (flag (f .0) ∷ flag (f .1) ∷ [])
+flagsGiven (Calls.ReadReport.refused n) = refused n
 
 unfoldable pub flagsCall : List ℕ → List ℕ → Outcome (List ℕ)
-flagsCall registers answer = telling (flagsTold (Calls.flagsOf registers)) answer
+flagsCall registers answer = writingAnswer (flagsGiven (Calls.flagsOf registers)) answer
 
 -- whether there is one, its code, the whole length of its rest, and how many bytes of the rest are kept, which go to a room
-unfoldable pub recordTold : Calls.ReadSaid (Option Calls.Read) → Said
-recordTold (Calls.is none) = given (0 ∷ 0 ∷ 0 ∷ 0 ∷ [])
-recordTold (Calls.is (some e)) = given (1 ∷ e .code ∷ e .whole ∷ e .kept ∷ [])
-recordTold (Calls.ReadSaid.refused n) = refused n
+unfoldable pub recordGiven : Calls.ReadReport (Option Calls.Read) → Report
+recordGiven (Calls.is none) = given (0 ∷ 0 ∷ 0 ∷ 0 ∷ [])
+recordGiven (Calls.is (some e)) = given (1 ∷ e .code ∷ e .whole ∷ e .kept ∷ [])
+recordGiven (Calls.ReadReport.refused n) = refused n
 
 unfoldable pub recordCall : List ℕ → Kind → List ℕ → List ℕ → Outcome (List ℕ × List ℕ)
-recordCall registers kind room answer = handing (recordTold (Calls.recordOf registers kind)) (Calls.recordBytes registers kind) room answer
+recordCall registers kind room answer = writingBoth (recordGiven (Calls.recordOf registers kind)) (Calls.recordBytes registers kind) room answer

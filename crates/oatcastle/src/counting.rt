@@ -4,7 +4,7 @@ use counters::Counters;
 use requests::receive::Received;
 ghost use mathlib.Core.Path.{_≡_};
 ghost use Rattle.supervisor.specs.Calls.{parts};
-ghost use Rattle.requests.specs.Receive.{receiptSaid};
+ghost use Rattle.requests.specs.Receive.{receiptReport};
 ghost use Rattle.counters.specs.Count.{zeros};
 ghost use Rattle.counters.specs.Counting.{counting};
 ghost use Rattle.oatcastle.specs.Answers.{outcome, numbered};
@@ -83,7 +83,7 @@ fn receive_numbered(
 }
 
 fn number(received: Received) -> u32
-    ensures { λ r. ⌜ r ≡ numbered (receiptSaid received) ⌝ }
+    ensures { λ r. ⌜ r ≡ numbered (receiptReport received) ⌝ }
 {
     match received {
         Received::Done => 0,

@@ -1,18 +1,18 @@
 // The line layer's calls: the reader, the writer and the checksum.
 // Assumes nothing: no exported function has a `requires`.
-use crate::telling::tell;
-use crate::telling::tell_bytes;
+use crate::answer_writing::write_answer;
+use crate::answer_writing::write_bytes;
 use line::reader::Answer;
 use line::reader::Handed;
 use line::reader::Started;
 use line::reader::Unfinished;
 use line::writer::Written;
 ghost use mathlib.Core.Path.{_≡_};
-ghost use Rattle.line.specs.Reader.{said};
+ghost use Rattle.line.specs.Reader.{report};
 ghost use Rattle.line.specs.Writer as LineWriter;
 ghost use Rattle.line.specs.Writer.{messageOf};
-ghost use Rattle.oatcastle.specs.Answers.{outcome, telling};
-ghost use Rattle.oatcastle.specs.LineCalls.{lineStartCall, readTold, lineReadCall, lineDataCall, lineTailCall, writeTold, lineWriteCall, lineChecksumCall};
+ghost use Rattle.oatcastle.specs.Answers.{outcome, writingAnswer};
+ghost use Rattle.oatcastle.specs.LineCalls.{lineStartCall, readGiven, lineReadCall, lineDataCall, lineTailCall, writeGiven, lineWriteCall, lineChecksumCall};
 
 // How many numbers `oatcastle_line_read` answers.
 const READ_NUMBERS: usize = 7;
@@ -44,19 +44,19 @@ pub extern "C" fn oatcastle_line_read(state: &mut [u8], piece: &[u8], answer: &m
         return 8;
     }
     let read = line::reader::read(state, piece);
-    let said = read.answer;
-    tell_reading(answer, read.used as u64, said)
+    let report = read.answer;
+    answer_reading(answer, read.used as u64, report)
 }
 
 // The numbers of the reader's answer.
-fn tell_reading(answer: &mut [u64], used: u64, read: Answer) -> u32
-    ensures { λ r. ⌜ outcome r (now (answer .exit)) ≡ telling (readTold used (said read)) (now (answer .entry)) ⌝ }
+fn answer_reading(answer: &mut [u64], used: u64, read: Answer) -> u32
+    ensures { λ r. ⌜ outcome r (now (answer .exit)) ≡ writingAnswer (readGiven used (report read)) (now (answer .entry)) ⌝ }
 {
     match read {
         Answer::Refused => 12,
-        Answer::More => tell(answer, [used, 0, 0, 0, 0, 0, 0], READ_NUMBERS),
-        Answer::Empty => tell(answer, [used, 1, 0, 0, 0, 0, 0], READ_NUMBERS),
-        Answer::Message(h) => tell(
+        Answer::More => write_answer(answer, [used, 0, 0, 0, 0, 0, 0], READ_NUMBERS),
+        Answer::Empty => write_answer(answer, [used, 1, 0, 0, 0, 0, 0], READ_NUMBERS),
+        Answer::Message(h) => write_answer(
             answer,
             [
                 used,
@@ -69,12 +69,16 @@ fn tell_reading(answer: &mut [u64], used: u64, read: Answer) -> u32
             ],
             READ_NUMBERS,
         ),
-        Answer::BadForm => tell(answer, [used, 3, 1, 0, 0, 0, 0], READ_NUMBERS),
-        Answer::BadLength => tell(answer, [used, 3, 3, 0, 0, 0, 0], READ_NUMBERS),
+        Answer::BadForm => write_answer(answer, [used, 3, 1, 0, 0, 0, 0], READ_NUMBERS),
+        Answer::BadLength => write_answer(answer, [used, 3, 3, 0, 0, 0, 0], READ_NUMBERS),
         Answer::BadChecksum(sequence) => {
-            tell(answer, [used, 3, 2, 0, sequence, 0, 0], READ_NUMBERS)
+            write_answer(answer, [used, 3, 2, 0, sequence, 0, 0], READ_NUMBERS)
         }
-        Answer::BadMagic(sequence) => tell(answer, [used, 3, 4, 0, sequence, 0, 0], READ_NUMBERS),
+        Answer::BadMagic(sequence) => write_answer(
+            answer,
+            [used, 3, 4, 0, sequence, 0, 0],
+            READ_NUMBERS,
+        ),
     }
 }
 
@@ -87,7 +91,7 @@ pub extern "C" fn oatcastle_line_data(state: &[u8], length: u64, room: &mut [u8]
     match given {
         Handed::Refused => 12,
         Handed::TooLong => 9,
-        Handed::Given => tell_bytes(line::reader::message_data(state, length as usize), room),
+        Handed::Given => write_bytes(line::reader::message_data(state, length as usize), room),
     }
 }
 
@@ -99,8 +103,8 @@ pub extern "C" fn oatcastle_line_tail(state: &[u8], answer: &mut [u64]) -> u32
     let tail = line::reader::tail(state);
     match tail {
         Unfinished::Refused => 12,
-        Unfinished::Bytes(n) => tell(answer, [0, n as u64, 0, 0, 0, 0, 0], 2),
-        Unfinished::Longer => tell(answer, [1, 0, 0, 0, 0, 0, 0], 2),
+        Unfinished::Bytes(n) => write_answer(answer, [0, n as u64, 0, 0, 0, 0, 0], 2),
+        Unfinished::Longer => write_answer(answer, [1, 0, 0, 0, 0, 0, 0], 2),
     }
 }
 
@@ -127,15 +131,15 @@ pub extern "C" fn oatcastle_line_write(
         return 8;
     }
     let written = line::writer::write(version, sequence, command, head, rest, out);
-    tell_written(answer, written)
+    answer_written(answer, written)
 }
 
 // The number of the writer's answer.
-fn tell_written(answer: &mut [u64], written: Written) -> u32
-    ensures { λ r. ⌜ outcome r (now (answer .exit)) ≡ telling (writeTold (LineWriter.said written)) (now (answer .entry)) ⌝ }
+fn answer_written(answer: &mut [u64], written: Written) -> u32
+    ensures { λ r. ⌜ outcome r (now (answer .exit)) ≡ writingAnswer (writeGiven (LineWriter.report written)) (now (answer .entry)) ⌝ }
 {
     match written {
-        Written::Done(n) => tell(answer, [n as u64, 0, 0, 0, 0, 0, 0], 1),
+        Written::Done(n) => write_answer(answer, [n as u64, 0, 0, 0, 0, 0, 0], 1),
         Written::NoRoom => 8,
         Written::TooLong => 9,
     }
@@ -147,5 +151,5 @@ pub extern "C" fn oatcastle_line_checksum(body: &[u8], answer: &mut [u64]) -> u3
     ensures { λ r. ⌜ outcome r (now (answer .exit)) ≡ lineChecksumCall (now (body .entry)) (now (answer .entry)) ⌝ }
 {
     let sum = line::sums::checksum(body) as u64;
-    tell(answer, [sum, 0, 0, 0, 0, 0, 0], 1)
+    write_answer(answer, [sum, 0, 0, 0, 0, 0, 0], 1)
 }

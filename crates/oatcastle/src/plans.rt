@@ -1,6 +1,6 @@
 // The address plan's calls: its rows, and whether it passes.
 // Assumes nothing: no exported function has a `requires`.
-use crate::telling::tell_bytes;
+use crate::answer_writing::write_bytes;
 use addresses::ADDRESS_LENGTH;
 use addresses::Planned;
 use addresses::ROWS;
@@ -26,7 +26,7 @@ pub extern "C" fn oatcastle_addresses(
 {
     let rows = addresses::addresses(*base, count, stride);
     let bytes = joined(rows);
-    tell_bytes(&bytes, room)
+    write_bytes(&bytes, room)
 }
 
 // 16 where the plan's last counted address passes ff:ff:ff:ff:ff:ff.
@@ -55,7 +55,7 @@ fn joined(rows: [[u8; 6]; 8]) -> [u8; 48]
     bytes
 }
 
-// Puts a row, which has six bytes, at a place, where it fits.
+// Puts a row, which has six bytes, at an offset, where it fits.
 fn put_row(row: [u8; 6], bytes: &mut [u8], at: usize)
     ensures { λ _. ⌜ (length row ≡ 6) × (now («bytes» .exit) ≡ put at row (now («bytes» .entry))) ⌝ }
 {

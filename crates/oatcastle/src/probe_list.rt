@@ -3,7 +3,7 @@
 use probes::Probe;
 use probes::Updated;
 ghost use mathlib.Core.Path.{_≡_};
-ghost use Rattle.probes.specs.Probes.{updatedSaid};
+ghost use Rattle.probes.specs.Probes.{updatedReport};
 ghost use Rattle.oatcastle.specs.Answers.{outcome, numbered};
 ghost use Rattle.oatcastle.specs.ProbeCalls.{probeUpdateCall};
 
@@ -20,7 +20,7 @@ pub extern "C" fn oatcastle_probe_update(
 }
 
 fn update_number(updated: Updated) -> u32
-    ensures { λ r. ⌜ r ≡ numbered (updatedSaid updated) ⌝ }
+    ensures { λ r. ⌜ r ≡ numbered (updatedReport updated) ⌝ }
 {
     match updated {
         Updated::Done => 0,

@@ -1,7 +1,7 @@
 // The supervisor's calls that read: a key's value, the line signal, the two flags, the two records.
 // Assumes nothing: no exported function has a `requires`.
-use crate::telling::hand;
-use crate::telling::tell;
+use crate::answer_writing::write_answer;
+use crate::answer_writing::write_both;
 use supervisor::keys;
 use supervisor::keys::Found;
 use supervisor::registers::FlagsRead;
@@ -9,10 +9,10 @@ use supervisor::registers::Kind;
 use supervisor::registers::Recorded;
 use supervisor::registers::SignalRead;
 ghost use mathlib.Core.Path.{_≡_};
-ghost use Rattle.supervisor.specs.Calls.{lookupSaid, recordSaid};
+ghost use Rattle.supervisor.specs.Calls.{lookupReport, recordReport};
 ghost use Rattle.supervisor.specs.declared.registers.Kind.the-variants.{BootFailure, Panic};
-ghost use Rattle.oatcastle.specs.Answers.{outcome, handing};
-ghost use Rattle.oatcastle.specs.SupervisorCalls.{lookupTold, lookupCall, signalCall, flagsCall, recordTold, recordCall};
+ghost use Rattle.oatcastle.specs.Answers.{outcome, writingBoth};
+ghost use Rattle.oatcastle.specs.SupervisorCalls.{lookupGiven, lookupCall, signalCall, flagsCall, recordGiven, recordCall};
 
 // Looks a key up and copies its value.
 #[no_mangle]
@@ -28,19 +28,19 @@ pub extern "C" fn oatcastle_lookup<'a>(
 {
     let value = keys::lookup(factory, settings, key, maxresponse);
     let found = keys::lookup_result(factory, settings, key, maxresponse);
-    hand_value(value, found, room, answer)
+    answer_value(value, found, room, answer)
 }
 
 // A value, and the numbers of a lookup's answer.
-fn hand_value(value: &[u8], found: Found, room: &mut [u8], answer: &mut [u64]) -> u32
-    ensures { λ r. ⌜ outcome r (now (room .exit), now (answer .exit)) ≡ handing (lookupTold (lookupSaid found)) (now (value .entry)) (now (room .entry)) (now (answer .entry)) ⌝ }
+fn answer_value(value: &[u8], found: Found, room: &mut [u8], answer: &mut [u64]) -> u32
+    ensures { λ r. ⌜ outcome r (now (room .exit), now (answer .exit)) ≡ writingBoth (lookupGiven (lookupReport found)) (now (value .entry)) (now (room .entry)) (now (answer .entry)) ⌝ }
 {
     match found {
         Found::Refused => 12,
-        Found::Value(n) => hand(value, room, [0, n as u64, 0, 0, 0, 0, 0], 2, answer),
-        Found::BadKey => hand(value, room, [1, 0, 0, 0, 0, 0, 0], 2, answer),
-        Found::NoValue => hand(value, room, [2, 0, 0, 0, 0, 0, 0], 2, answer),
-        Found::TooLong => hand(value, room, [3, 0, 0, 0, 0, 0, 0], 2, answer),
+        Found::Value(n) => write_both(value, room, [0, n as u64, 0, 0, 0, 0, 0], 2, answer),
+        Found::BadKey => write_both(value, room, [1, 0, 0, 0, 0, 0, 0], 2, answer),
+        Found::NoValue => write_both(value, room, [2, 0, 0, 0, 0, 0, 0], 2, answer),
+        Found::TooLong => write_both(value, room, [3, 0, 0, 0, 0, 0, 0], 2, answer),
     }
 }
 
@@ -52,8 +52,8 @@ pub extern "C" fn oatcastle_signal(registers: &[u8], answer: &mut [u64]) -> u32
     let read = supervisor::registers::signal(registers);
     match read {
         SignalRead::Refused => 12,
-        SignalRead::Asserted => tell(answer, [1, 0, 0, 0, 0, 0, 0], 1),
-        SignalRead::Clear => tell(answer, [0, 0, 0, 0, 0, 0, 0], 1),
+        SignalRead::Asserted => write_answer(answer, [1, 0, 0, 0, 0, 0, 0], 1),
+        SignalRead::Clear => write_answer(answer, [0, 0, 0, 0, 0, 0, 0], 1),
     }
 }
 
@@ -65,7 +65,7 @@ pub extern "C" fn oatcastle_flags(registers: &[u8], answer: &mut [u64]) -> u32
     let read = supervisor::registers::flags(registers);
     match read {
         FlagsRead::Refused => 12,
-        FlagsRead::Read(asked) => tell(
+        FlagsRead::Read(asked) => write_answer(
             answer,
             [asked.reboot as u64, asked.power_off as u64, 0, 0, 0, 0, 0],
             2,
@@ -98,17 +98,17 @@ fn read_record(registers: &[u8], kind: Kind, room: &mut [u8], answer: &mut [u64]
 {
     let kept = supervisor::registers::record_bytes(registers, kind);
     let found = supervisor::registers::record(registers, kind);
-    hand_record(kept, found, room, answer)
+    answer_record(kept, found, room, answer)
 }
 
 // Kept bytes, and the numbers of a record.
-fn hand_record(kept: &[u8], found: Recorded, room: &mut [u8], answer: &mut [u64]) -> u32
-    ensures { λ r. ⌜ outcome r (now (room .exit), now (answer .exit)) ≡ handing (recordTold (recordSaid found)) (now (kept .entry)) (now (room .entry)) (now (answer .entry)) ⌝ }
+fn answer_record(kept: &[u8], found: Recorded, room: &mut [u8], answer: &mut [u64]) -> u32
+    ensures { λ r. ⌜ outcome r (now (room .exit), now (answer .exit)) ≡ writingBoth (recordGiven (recordReport found)) (now (kept .entry)) (now (room .entry)) (now (answer .entry)) ⌝ }
 {
     match found {
         Recorded::Refused => 12,
-        Recorded::Nothing => hand(kept, room, [0, 0, 0, 0, 0, 0, 0], 4, answer),
-        Recorded::Found(e) => hand(
+        Recorded::Nothing => write_both(kept, room, [0, 0, 0, 0, 0, 0, 0], 4, answer),
+        Recorded::Found(e) => write_both(
             kept,
             room,
             [1, e.code as u64, e.whole as u64, e.kept as u64, 0, 0, 0],

@@ -1,13 +1,13 @@
 // The supervisor's calls that receive.
 // Assumes nothing: no exported function has a `requires`.
-use crate::telling::tell;
+use crate::answer_writing::write_answer;
 use requests::receive::Outcome;
 use requests::receive::Received;
 ghost use mathlib.Core.Path.{_≡_};
 ghost use Rattle.supervisor.specs.Calls.{parts};
-ghost use Rattle.requests.specs.Receive.{endedSaid, receiptSaid};
-ghost use Rattle.oatcastle.specs.Answers.{outcome, telling};
-ghost use Rattle.oatcastle.specs.ReceiveCalls.{receiveCall, stepTold, stepCall, shortNumber};
+ghost use Rattle.requests.specs.Receive.{endedReport, receiptReport};
+ghost use Rattle.oatcastle.specs.Answers.{outcome, writingAnswer};
+ghost use Rattle.oatcastle.specs.ReceiveCalls.{receiveCall, stepGiven, stepCall, shortNumber};
 
 // How many numbers `oatcastle_step` answers.
 const STEP_NUMBERS: usize = 3;
@@ -77,11 +77,11 @@ pub extern "C" fn oatcastle_step(
         registers,
     );
     let ended = stepped.outcome;
-    tell_step(answer, stepped.used as u64, ended)
+    answer_step(answer, stepped.used as u64, ended)
 }
 
 fn short_number(received: Received) -> u32
-    ensures { λ r. ⌜ r ≡ shortNumber (receiptSaid received) ⌝ }
+    ensures { λ r. ⌜ r ≡ shortNumber (receiptReport received) ⌝ }
 {
     match received {
         Received::Done => 8,
@@ -90,16 +90,16 @@ fn short_number(received: Received) -> u32
 }
 
 // The numbers of a step's answer.
-fn tell_step(answer: &mut [u64], used: u64, ended: Outcome) -> u32
-    ensures { λ r. ⌜ outcome r (now (answer .exit)) ≡ telling (stepTold used (endedSaid ended)) (now (answer .entry)) ⌝ }
+fn answer_step(answer: &mut [u64], used: u64, ended: Outcome) -> u32
+    ensures { λ r. ⌜ outcome r (now (answer .exit)) ≡ writingAnswer (stepGiven used (endedReport ended)) (now (answer .entry)) ⌝ }
 {
     match ended {
         Outcome::Refused => 12,
-        Outcome::More => tell(answer, [used, 0, 0, 0, 0, 0, 0], STEP_NUMBERS),
-        Outcome::Empty => tell(answer, [used, 1, 0, 0, 0, 0, 0], STEP_NUMBERS),
-        Outcome::Request => tell(answer, [used, 2, 0, 0, 0, 0, 0], STEP_NUMBERS),
+        Outcome::More => write_answer(answer, [used, 0, 0, 0, 0, 0, 0], STEP_NUMBERS),
+        Outcome::Empty => write_answer(answer, [used, 1, 0, 0, 0, 0, 0], STEP_NUMBERS),
+        Outcome::Request => write_answer(answer, [used, 2, 0, 0, 0, 0, 0], STEP_NUMBERS),
         Outcome::Failure(reason) => {
-            tell(answer, [used, 3, reason as u64, 0, 0, 0, 0], STEP_NUMBERS)
+            write_answer(answer, [used, 3, reason as u64, 0, 0, 0, 0], STEP_NUMBERS)
         }
     }
 }

@@ -1,6 +1,6 @@
 // The main processor's calls: start, request, interrupt, send, receive.
 // Assumes nothing: no exported function has a `requires`.
-use crate::telling::tell;
+use crate::answer_writing::write_answer;
 use requester::hearing::Handed;
 use requester::receive::Received;
 use requester::recovery::Interrupted;
@@ -8,9 +8,9 @@ use requester::sending::Requested;
 use requester::sending::Sent;
 use requester::start::Started;
 ghost use mathlib.Core.Path.{_≡_};
-ghost use Rattle.requester.specs.Calls.{parts, requestSaid, sendSaid, told};
-ghost use Rattle.oatcastle.specs.Answers.{outcome, telling};
-ghost use Rattle.oatcastle.specs.RequesterCalls.{requesterStartCall, putTold, requestCall, sendCall, shortPut, interruptCall, flag, receiptTold, listenCall, shortReceipt};
+ghost use Rattle.requester.specs.Calls.{parts, requestReport, sendReport, told};
+ghost use Rattle.oatcastle.specs.Answers.{outcome, writingAnswer};
+ghost use Rattle.oatcastle.specs.RequesterCalls.{requesterStartCall, putGiven, requestCall, sendCall, shortPut, interruptCall, flag, receiptGiven, listenCall, shortReceipt};
 
 // How many numbers `oatcastle_requester_receive` answers.
 const RECEIVE_NUMBERS: usize = 7;
@@ -46,12 +46,12 @@ pub extern "C" fn oatcastle_requester_request(
         return short_requested(requester::sending::request(requester, command, data, &mut none));
     }
     let requested = requester::sending::request(requester, command, data, out);
-    tell_requested(answer, requested)
+    answer_requested(answer, requested)
 }
 
 // The number of a request's answer.
-fn tell_requested(answer: &mut [u64], requested: Requested) -> u32
-    ensures { λ r. ⌜ outcome r (now (answer .exit)) ≡ telling (putTold (requestSaid requested)) (now (answer .entry)) ⌝ }
+fn answer_requested(answer: &mut [u64], requested: Requested) -> u32
+    ensures { λ r. ⌜ outcome r (now (answer .exit)) ≡ writingAnswer (putGiven (requestReport requested)) (now (answer .entry)) ⌝ }
 {
     match requested {
         Requested::Refused => 12,
@@ -59,12 +59,12 @@ fn tell_requested(answer: &mut [u64], requested: Requested) -> u32
         Requested::Outstanding => 17,
         Requested::NoNumber => 14,
         Requested::NoRoom => 8,
-        Requested::Done(n) => tell(answer, [n as u64, 0, 0, 0, 0, 0, 0], 1),
+        Requested::Done(n) => write_answer(answer, [n as u64, 0, 0, 0, 0, 0, 0], 1),
     }
 }
 
 fn short_requested(requested: Requested) -> u32
-    ensures { λ r. ⌜ r ≡ shortPut (requestSaid requested) ⌝ }
+    ensures { λ r. ⌜ r ≡ shortPut (requestReport requested) ⌝ }
 {
     match requested {
         Requested::Refused => 12,
@@ -103,22 +103,22 @@ pub extern "C" fn oatcastle_requester_send(
         return short_sent(requester::sending::send(requester, &mut none));
     }
     let sent = requester::sending::send(requester, out);
-    tell_put(answer, sent)
+    answer_put(answer, sent)
 }
 
 // The number of a send's answer.
-fn tell_put(answer: &mut [u64], sent: Sent) -> u32
-    ensures { λ r. ⌜ outcome r (now (answer .exit)) ≡ telling (putTold (sendSaid sent)) (now (answer .entry)) ⌝ }
+fn answer_put(answer: &mut [u64], sent: Sent) -> u32
+    ensures { λ r. ⌜ outcome r (now (answer .exit)) ≡ writingAnswer (putGiven (sendReport sent)) (now (answer .entry)) ⌝ }
 {
     match sent {
         Sent::Refused => 12,
         Sent::NoRoom => 8,
-        Sent::Done(n) => tell(answer, [n as u64, 0, 0, 0, 0, 0, 0], 1),
+        Sent::Done(n) => write_answer(answer, [n as u64, 0, 0, 0, 0, 0, 0], 1),
     }
 }
 
 fn short_sent(sent: Sent) -> u32
-    ensures { λ r. ⌜ r ≡ shortPut (sendSaid sent) ⌝ }
+    ensures { λ r. ⌜ r ≡ shortPut (sendReport sent) ⌝ }
 {
     match sent {
         Sent::Refused => 12,
@@ -144,7 +144,7 @@ pub extern "C" fn oatcastle_requester_receive(
         return short_received(handed);
     }
     let received = requester::receive::receive(piece, reader, requester);
-    tell_received(answer, received)
+    answer_received(answer, received)
 }
 
 fn short_received(handed: Handed) -> u32
@@ -160,8 +160,8 @@ fn short_received(handed: Handed) -> u32
 }
 
 // The numbers of a receive's answer.
-fn tell_received(answer: &mut [u64], received: Received) -> u32
-    ensures { λ r. ⌜ outcome r (now (answer .exit)) ≡ telling (receiptTold (received .used) (told (received .handed)) (received .ended) (received .unsent)) (now (answer .entry)) ⌝ }
+fn answer_received(answer: &mut [u64], received: Received) -> u32
+    ensures { λ r. ⌜ outcome r (now (answer .exit)) ≡ writingAnswer (receiptGiven (received .used) (told (received .handed)) (received .ended) (received .unsent)) (now (answer .entry)) ⌝ }
 {
     let used = received.used as u64;
     let ended = flag_number(received.ended);
@@ -169,8 +169,8 @@ fn tell_received(answer: &mut [u64], received: Received) -> u32
     let handed = received.handed;
     match handed {
         Handed::Refused => 12,
-        Handed::Nothing => tell(answer, [used, 0, ended, unsent, 0, 0, 0], RECEIVE_NUMBERS),
-        Handed::Answer(h) => tell(
+        Handed::Nothing => write_answer(answer, [used, 0, ended, unsent, 0, 0, 0], RECEIVE_NUMBERS),
+        Handed::Answer(h) => write_answer(
             answer,
             [
                 used,
@@ -183,7 +183,7 @@ fn tell_received(answer: &mut [u64], received: Received) -> u32
             ],
             RECEIVE_NUMBERS,
         ),
-        Handed::Status(s) => tell(
+        Handed::Status(s) => write_answer(
             answer,
             [
                 used,
@@ -196,7 +196,7 @@ fn tell_received(answer: &mut [u64], received: Received) -> u32
             ],
             RECEIVE_NUMBERS,
         ),
-        Handed::Alert(h) => tell(
+        Handed::Alert(h) => write_answer(
             answer,
             [
                 used,

@@ -1,7 +1,7 @@
 // The root-of-trust link's calls: the reader, the payload, the writer and the CRC.
 // Assumes nothing: no exported function has a `requires`.
-use crate::telling::tell;
-use crate::telling::tell_bytes;
+use crate::answer_writing::write_answer;
+use crate::answer_writing::write_bytes;
 use rot::reader::Answer;
 use rot::refusals::number;
 use rot::writer::Written;
@@ -9,8 +9,8 @@ ghost use mathlib.Core.Path.{_≡_};
 ghost use Rattle.rot.specs.Reading as RotReading;
 ghost use Rattle.rot.specs.Writing as RotWriting;
 ghost use Rattle.rot.specs.Writing.{messageOf};
-ghost use Rattle.oatcastle.specs.Answers.{outcome, telling};
-ghost use Rattle.oatcastle.specs.RotCalls.{shortNumber, rotReadTold, rotReadCall, rotPayloadCall, rotWriteTold, rotWriteCall, rotCrcCall};
+ghost use Rattle.oatcastle.specs.Answers.{outcome, writingAnswer};
+ghost use Rattle.oatcastle.specs.RotCalls.{shortNumber, rotReadGiven, rotReadCall, rotPayloadCall, rotWriteGiven, rotWriteCall, rotCrcCall};
 
 // How many numbers `oatcastle_rot_read` answers.
 const ROT_READ_NUMBERS: usize = 3;
@@ -28,7 +28,7 @@ pub extern "C" fn oatcastle_rot_read(input: &[u8], out: &mut [u8], answer: &mut 
         return short_read(rot::reader::read(input, &mut none));
     }
     let read = rot::reader::read(input, out);
-    tell_read(answer, read)
+    answer_read(answer, read)
 }
 
 // Copies the payload of the message that `oatcastle_rot_read` hands out.
@@ -36,7 +36,7 @@ pub extern "C" fn oatcastle_rot_read(input: &[u8], out: &mut [u8], answer: &mut 
 pub extern "C" fn oatcastle_rot_payload(input: &[u8], room: &mut [u8]) -> u32
     ensures { λ r. ⌜ outcome r (now (room .exit)) ≡ rotPayloadCall (now (input .entry)) (now (room .entry)) ⌝ }
 {
-    tell_bytes(rot::reader::payload(input), room)
+    write_bytes(rot::reader::payload(input), room)
 }
 
 // Writes a message of version 1. With too short an answer it is written to no room.
@@ -54,7 +54,7 @@ pub extern "C" fn oatcastle_rot_write(
         return short_written(rot::writer::write(kind, payload, &mut none));
     }
     let written = rot::writer::write(kind, payload, out);
-    tell_sent(answer, written)
+    answer_sent(answer, written)
 }
 
 // The CRC of some bytes.
@@ -63,38 +63,38 @@ pub extern "C" fn oatcastle_rot_crc(bytes: &[u8], answer: &mut [u64]) -> u32
     ensures { λ r. ⌜ outcome r (now (answer .exit)) ≡ rotCrcCall (now («bytes» .entry)) (now (answer .entry)) ⌝ }
 {
     let sum = rot::crc::crc(bytes) as u64;
-    tell(answer, [sum, 0, 0, 0, 0, 0, 0], 1)
+    write_answer(answer, [sum, 0, 0, 0, 0, 0, 0], 1)
 }
 
 // The numbers of the reader's answer.
-fn tell_read(answer: &mut [u64], read: Answer) -> u32
-    ensures { λ r. ⌜ outcome r (now (answer .exit)) ≡ telling (rotReadTold (RotReading.said read)) (now (answer .entry)) ⌝ }
+fn answer_read(answer: &mut [u64], read: Answer) -> u32
+    ensures { λ r. ⌜ outcome r (now (answer .exit)) ≡ writingAnswer (rotReadGiven (RotReading.report read)) (now (answer .entry)) ⌝ }
 {
     match read {
         Answer::Refused(why) => number(why),
-        Answer::Nothing => tell(answer, [0, 0, 0, 0, 0, 0, 0], ROT_READ_NUMBERS),
-        Answer::Message(head) => tell(
+        Answer::Nothing => write_answer(answer, [0, 0, 0, 0, 0, 0, 0], ROT_READ_NUMBERS),
+        Answer::Message(head) => write_answer(
             answer,
             [1, head.kind as u64, head.length as u64, 0, 0, 0, 0],
             ROT_READ_NUMBERS,
         ),
-        Answer::Echoed(n) => tell(answer, [2, 0, n as u64, 0, 0, 0, 0], ROT_READ_NUMBERS),
+        Answer::Echoed(n) => write_answer(answer, [2, 0, n as u64, 0, 0, 0, 0], ROT_READ_NUMBERS),
     }
 }
 
 // The number of the writer's answer.
-fn tell_sent(answer: &mut [u64], written: Written) -> u32
-    ensures { λ r. ⌜ outcome r (now (answer .exit)) ≡ telling (rotWriteTold (RotWriting.said written)) (now (answer .entry)) ⌝ }
+fn answer_sent(answer: &mut [u64], written: Written) -> u32
+    ensures { λ r. ⌜ outcome r (now (answer .exit)) ≡ writingAnswer (rotWriteGiven (RotWriting.report written)) (now (answer .entry)) ⌝ }
 {
     match written {
-        Written::Done(n) => tell(answer, [n as u64, 0, 0, 0, 0, 0, 0], 1),
+        Written::Done(n) => write_answer(answer, [n as u64, 0, 0, 0, 0, 0, 0], 1),
         Written::Refused(why) => number(why),
     }
 }
 
 // A refusal's own number, and 8 for any other answer.
 fn short_read(read: Answer) -> u32
-    ensures { λ r. ⌜ r ≡ shortNumber (RotReading.said read) ⌝ }
+    ensures { λ r. ⌜ r ≡ shortNumber (RotReading.report read) ⌝ }
 {
     match read {
         Answer::Refused(why) => number(why),
@@ -105,7 +105,7 @@ fn short_read(read: Answer) -> u32
 }
 
 fn short_written(written: Written) -> u32
-    ensures { λ r. ⌜ r ≡ shortNumber (RotWriting.said written) ⌝ }
+    ensures { λ r. ⌜ r ≡ shortNumber (RotWriting.report written) ⌝ }
 {
     match written {
         Written::Done(_) => 8,

@@ -1,15 +1,15 @@
 // The supervisor's calls that change what they are lent: start, take, post an alert, set options.
 // Assumes nothing: no exported function has a `requires`.
-use crate::telling::tell;
+use crate::answer_writing::write_answer;
 use supervisor::alerts::Posted;
 use supervisor::layout;
 use supervisor::options::OptionsSet;
 use supervisor::outbox::Taken;
 use supervisor::start::Started;
 ghost use mathlib.Core.Path.{_≡_};
-ghost use Rattle.supervisor.specs.Calls.{parts, startSaid, takeSaid};
-ghost use Rattle.oatcastle.specs.Answers.{outcome, numbered, telling};
-ghost use Rattle.oatcastle.specs.SupervisorCalls.{startCall, takeTold, takeCall, postCall, optionsCall};
+ghost use Rattle.supervisor.specs.Calls.{parts, startReport, takeReport};
+ghost use Rattle.oatcastle.specs.Answers.{outcome, numbered, writingAnswer};
+ghost use Rattle.oatcastle.specs.SupervisorCalls.{startCall, takeGiven, takeCall, postCall, optionsCall};
 
 // Begins the supervisor with start data.
 #[no_mangle]
@@ -28,7 +28,7 @@ pub extern "C" fn oatcastle_start(
 }
 
 fn start_number(started: Started) -> u32
-    ensures { λ r. ⌜ r ≡ numbered (startSaid started) ⌝ }
+    ensures { λ r. ⌜ r ≡ numbered (startReport started) ⌝ }
 {
     match started {
         Started::Done => 0,
@@ -49,15 +49,15 @@ pub extern "C" fn oatcastle_take(outbox: &mut [u8], room: &mut [u8], answer: &mu
         return 8;
     }
     let taken = supervisor::outbox::take(outbox, room);
-    tell_taken(answer, taken)
+    answer_taken(answer, taken)
 }
 
 // The number of a take's answer.
-fn tell_taken(answer: &mut [u64], taken: Taken) -> u32
-    ensures { λ r. ⌜ outcome r (now (answer .exit)) ≡ telling (takeTold (takeSaid taken)) (now (answer .entry)) ⌝ }
+fn answer_taken(answer: &mut [u64], taken: Taken) -> u32
+    ensures { λ r. ⌜ outcome r (now (answer .exit)) ≡ writingAnswer (takeGiven (takeReport taken)) (now (answer .entry)) ⌝ }
 {
     match taken {
-        Taken::Moved(n) => tell(answer, [n as u64, 0, 0, 0, 0, 0, 0], 1),
+        Taken::Moved(n) => write_answer(answer, [n as u64, 0, 0, 0, 0, 0, 0], 1),
         Taken::Refused => 12,
     }
 }

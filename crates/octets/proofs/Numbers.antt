@@ -69,7 +69,7 @@ number-bound (b ∷ bs) h =
     let l = h .0 in
     rw pow-suc (omega arith)
 
--- ---- a number at a place
+-- ---- a number at an offset
 
 -- of k bytes
 pub number-small : (k at : ℕ) (s : List ℕ) → Each Byte s → numberAt k s at < 256 ^ k

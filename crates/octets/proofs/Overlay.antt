@@ -54,7 +54,7 @@ length-overlay at xs s h = simp (length-append, length-take-le at s (omega arith
 overlay-front : (at : ℕ) (xs s : List ℕ) → at ≤ length s → length (take at s ++ xs) ≡ at + length xs
 overlay-front at xs s h = simp (length-append, length-take-le at s h)
 
--- what stands from their place on
+-- what stands from their offset on
 overlay-from : (at : ℕ) (xs s : List ℕ) → at ≤ length s → drop at (overlay at xs s) ≡ xs ++ drop (at + length xs) s
 unfolding overlay
 overlay-from at xs s h = rw append-assoc (drop-at (take at s) _ at (length-take-le at s h))
@@ -115,7 +115,7 @@ overlay-next at xs ys s h =
 
 -- ---- one byte of an overlay
 
--- a byte is the first of what stands from its place on
+-- a byte is the first of what stands from its offset on
 first : (j d : ℕ) (s : List ℕ) → getD s j d ≡ getD (drop j s) 0 d
 first j d s = rw (getD-drop, add-zero)
 
@@ -145,7 +145,7 @@ overlay-run-more at from i src s h l =
     let m = overlay-more at (getD src (from + i) 0) (run from i src) s (omega arith) in
     rw (e, ← run-more from i src h) at m
 
--- a run put at a lower place of its own list, one byte more: the byte to be read is still as it was
+-- a run put at a lower offset of its own list, one byte more: the byte to be read is still as it was
 pub overlay-down-more : (from to i : ℕ) (s : List ℕ) → to ≤ from → from + i < length s
     → set (overlay to (run from i s) s) (to + i) (getD (overlay to (run from i s) s) (from + i) 0) ≡ overlay to (run from (i + 1) s) s
 overlay-down-more from to i s h l =
@@ -153,7 +153,7 @@ overlay-down-more from to i s h l =
     rw (overlay-getD-after to (from + i) 0 (run from i s) s (omega arith) (omega arith))
     (overlay-run-more to from i s s l (omega arith))
 
--- the bytes up to a place past those put
+-- the bytes up to an offset past those put
 pub overlay-take-past : (at n : ℕ) (xs s : List ℕ) → at ≤ length s → at + length xs ≤ n
     → take n (overlay at xs s) ≡ take at s ++ xs ++ drop (at + length xs) (take n s)
 unfolding overlay
@@ -163,7 +163,7 @@ overlay-take-past at n xs s h l =
     let t = take-append-add (take at s ++ xs) (drop (at + length xs) s) k in
     rw (overlay-front at xs s h, run-take (at + length xs) k s, e) at t
 
--- the bytes from a place before those put
+-- the bytes from an offset before those put
 pub overlay-drop-before : (at j : ℕ) (xs s : List ℕ) → at ≤ length s → j ≤ at
     → drop j (overlay at xs s) ≡ drop j (take at s) ++ xs ++ drop (at + length xs) s
 unfolding overlay

@@ -1,4 +1,4 @@
--- Laws of the n bytes of a list from a place on: past the end none, near it as many as there are, else all.
+-- Laws of the n bytes of a list from an offset on: past the end none, near it as many as there are, else all.
 -- Assumes nothing.
 use mathlib.Core.Path.{_≡_}
 use mathlib.Core.List.{List, []}

@@ -1,4 +1,4 @@
--- Lists that have the same bytes from a place on up to another, and what a store leaves the same.
+-- Lists that have the same bytes from an offset on up to another, and what a store leaves the same.
 -- Assumes nothing.
 use mathlib.Core.Path.{_≡_, ap, _∙_}
 use mathlib.Core.List.{List}
@@ -10,7 +10,7 @@ use Rattle.octets.specs.Bytes.{number, bytes, run, numberAt, overlay}
 use Rattle.octets.proofs.Numbers.{length-bytes}
 use Rattle.octets.proofs.Overlay.{run-take, length-overlay, overlay-before, overlay-after, put-fits, number-put}
 
--- s has between the two places what r has there
+-- s has between the two offsets what r has there
 pub record Same (from to : ℕ) (r s : List ℕ) : Type 0 where
   pub runs : (j n : ℕ) → (from ≤ j) × (j + n ≤ to) → run j n s ≡ run j n r
 

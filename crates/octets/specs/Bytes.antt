@@ -24,19 +24,19 @@ unfoldable pub bytes : ℕ → ℕ → List ℕ
 bytes zero v = []
 bytes (suc k) v = v % 256 ∷ bytes k (v / 256)
 
--- the n bytes from a place on, or as many as there are
+-- the n bytes from an offset on, or as many as there are
 abbrev pub run : ℕ → ℕ → List ℕ → List ℕ
 run at n s = take n (drop at s)
 
--- the number in the k bytes from a place on; a byte past the end counts 0
+-- the number in the k bytes from an offset on; a byte past the end counts 0
 abbrev pub numberAt : ℕ → List ℕ → ℕ → ℕ
 numberAt k s at = number (run at k s)
 
--- whether n bytes from a place on lie within a list
+-- whether n bytes from an offset on lie within a list
 abbrev pub fits : ℕ → ℕ → List ℕ → Bool
 fits at n s = leb (at + n) (length s)
 
--- a list with xs in the place of as many of its bytes from a place on
+-- a list with xs in the place of as many of its bytes from an offset on
 unfoldable pub overlay : ℕ → List ℕ → List ℕ → List ℕ
 overlay at xs s = take at s ++ xs ++ drop (at + length xs) s
 
@@ -44,11 +44,11 @@ overlay at xs s = take at s ++ xs ++ drop (at + length xs) s
 unfoldable pub put : ℕ → List ℕ → List ℕ → List ℕ
 put at xs s = cond (fits at (length xs) s) (overlay at xs s) s
 
--- n bytes of src from a place on, put into dst; nothing where src has fewer
+-- n bytes of src from an offset on, put into dst; nothing where src has fewer
 unfoldable pub copied : List ℕ → ℕ → ℕ → List ℕ → ℕ → List ℕ
 copied src from n dst at = cond (fits from n src) (put at (run from n src) dst) dst
 
--- n bytes moved to a lower place, or to their own; nothing where they do not lie within the list
+-- n bytes moved to a lower offset, or to their own; nothing where they do not lie within the list
 unfoldable pub movedDown : List ℕ → ℕ → ℕ → ℕ → List ℕ
 movedDown s from to n = cond (fits from n s && leb to from) (overlay to (run from n s) s) s
 
@@ -59,6 +59,6 @@ equal [] (y ∷ ys) = false
 equal (x ∷ xs) [] = false
 equal (x ∷ xs) (y ∷ ys) = eqb x y && equal xs ys
 
--- whether n bytes of s and n bytes of t, each from a place on, are there and equal
+-- whether n bytes of s and n bytes of t, each from an offset on, are there and equal
 unfoldable pub sameRun : List ℕ → ℕ → List ℕ → ℕ → ℕ → Bool
 sameRun s at t bt n = fits at n s && (fits bt n t && equal (run at n s) (run bt n t))

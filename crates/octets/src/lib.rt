@@ -11,7 +11,7 @@ pub fn min(a: usize, b: usize) -> usize
     if a < b { a } else { b }
 }
 
-// The byte at a place.
+// The byte at an offset.
 pub fn read_u8(s: &[u8], at: usize) -> u8
     ensures { λ r. ⌜ r ≡ numberAt 1 (now (s .entry)) at ⌝ }
 {
@@ -54,7 +54,7 @@ pub fn read_u64(s: &[u8], at: usize) -> u64
     low as u64 + high as u64 * 4294967296
 }
 
-// The numbers of one byte and of two bytes at a place, as an index.
+// The numbers of one byte and of two bytes at an offset, as an index.
 pub fn byte_at(s: &[u8], at: usize) -> usize
     ensures { λ r. ⌜ (r ≡ numberAt 1 (now (s .entry)) at) × (r < 256) ⌝ }
 {
@@ -67,7 +67,7 @@ pub fn word_at(s: &[u8], at: usize) -> usize
     read_u16(s, at) as usize
 }
 
-// The n bytes from a place on, or as many as there are.
+// The n bytes from an offset on, or as many as there are.
 pub fn part<'a>(s: &'a [u8], at: usize, n: usize) -> &'a [u8]
     ensures { λ r. ⌜ now r ≡ run at n (now (s .entry)) ⌝ }
 {
@@ -119,7 +119,7 @@ pub fn write_u64(s: &mut [u8], at: usize, v: u64)
     write_u32(s, at + 4, (v / 4294967296) as u32);
 }
 
-// Puts n bytes of src, from a place on, into dst at a place.
+// Puts n bytes of src, from an offset on, into dst at an offset.
 pub fn copy(src: &[u8], from: usize, n: usize, dst: &mut [u8], at: usize)
     ensures { λ _. ⌜ now (dst .exit) ≡ copied (now (src .entry)) from n (now (dst .entry)) at ⌝ }
 {
@@ -162,7 +162,7 @@ pub fn move_down(s: &mut [u8], from: usize, to: usize, n: usize)
     }
 }
 
-// Whether n bytes of s and n bytes of t, each from a place on, are there and equal.
+// Whether n bytes of s and n bytes of t, each from an offset on, are there and equal.
 pub fn same(s: &[u8], at: usize, t: &[u8], bt: usize, n: usize) -> bool
     ensures { λ r. ⌜ r ≡ sameRun (now (s .entry)) at (now (t .entry)) bt n ⌝ }
 {

@@ -17,7 +17,7 @@ use Rattle.octets.proofs.Conditions.{cond-by, cond-map}
 use Rattle.octets.proofs.Overlay.{overlay-none, overlay-more, overlay-next}
 use Rattle.line.specs.Cobs.{zeros, lastOneAfterFull, groupBytes, uncobs}
 use Rattle.plain.specs.Answers.{Decoding, behind, decodeGroup, decoding}
-use Rattle.plain.specs.Inner.{decodedSaid}
+use Rattle.plain.specs.Inner.{decodedReport}
 use Rattle.plain.specs.declared.Decoded.the-variants.{Bad, Length}
 
 -- ---- the bytes of a form
@@ -95,23 +95,23 @@ decoding-length form = omega (arith, group-length 0 false form)
 
 -- ---- what the decoding says
 
-said-by : (w : Bool) (xs : List ℕ) (k : ℕ) → Length k ≡ cond w (Length (length xs)) Bad → (w ≡ true) × (length xs ≡ k)
-said-by true xs k e = (refl, cc)
-said-by false xs k e = let z : _≡_ {A = ℕ} 0 1 = cc in absurd (omega arith)
+report-by : (w : Bool) (xs : List ℕ) (k : ℕ) → Length k ≡ cond w (Length (length xs)) Bad → (w ≡ true) × (length xs ≡ k)
+report-by true xs k e = (refl, cc)
+report-by false xs k e = let z : _≡_ {A = ℕ} 0 1 = cc in absurd (omega arith)
 
-said-not : (w : Bool) (k : ℕ) → Bad ≡ cond w (Length k) Bad → w ≡ false
-said-not true k e = let z : _≡_ {A = ℕ} 0 1 = cc in absurd (omega arith)
-said-not false k e = refl
+report-not : (w : Bool) (k : ℕ) → Bad ≡ cond w (Length k) Bad → w ≡ false
+report-not true k e = let z : _≡_ {A = ℕ} 0 1 = cc in absurd (omega arith)
+report-not false k e = refl
 
 module _ (form : List ℕ) where
-  pub bad-none : Bad ≡ decodedSaid (decoding form) → uncobs form ≡ none
-  unfolding decodedSaid
-  bad-none e = decoding-bytes form ∙ rw (said-not (decoding form .whole) (length (decoding form .bytes)) e)
+  pub bad-none : Bad ≡ decodedReport (decoding form) → uncobs form ≡ none
+  unfolding decodedReport
+  bad-none e = decoding-bytes form ∙ rw (report-not (decoding form .whole) (length (decoding form .bytes)) e)
 
-  pub length-some : {k : ℕ} → Length k ≡ decodedSaid (decoding form) → (uncobs form ≡ some (decoding form .bytes)) × (length (decoding form .bytes) ≡ k)
-  unfolding decodedSaid
+  pub length-some : {k : ℕ} → Length k ≡ decodedReport (decoding form) → (uncobs form ≡ some (decoding form .bytes)) × (length (decoding form .bytes) ≡ k)
+  unfolding decodedReport
   length-some {k} e =
-      let s = said-by (decoding form .whole) (decoding form .bytes) k e in
+      let s = report-by (decoding form .whole) (decoding form .bytes) k e in
       (decoding-bytes form ∙ rw (s .0), s .1)
 
 -- ---- in the middle of a form
@@ -134,14 +134,14 @@ module _ (form m₀ m : List ℕ) (left : ℕ) (z : Bool) (n i : ℕ) (mid : Mid
     stopped : decoding form ≡ record { whole = w; bytes = mid .decoded }
     stopped = mid .whole ∙ rw (e, append-nil)
 
-    pub stop : (cond w (Length n) Bad ≡ decodedSaid (decoding form)) × (m ≡ overlay 0 (decoding form .bytes) m₀)
-    unfolding decodedSaid
+    pub stop : (cond w (Length n) Bad ≡ decodedReport (decoding form)) × (m ≡ overlay 0 (decoding form .bytes) m₀)
+    unfolding decodedReport
     stop = (rw (stopped, mid .long), rw stopped (mid .stands))
 
-  pub stop-past : length form ≤ i → 0 < left → (Bad ≡ decodedSaid (decoding form)) × (m ≡ overlay 0 (decoding form .bytes) m₀)
+  pub stop-past : length form ≤ i → 0 < left → (Bad ≡ decodedReport (decoding form)) × (m ≡ overlay 0 (decoding form .bytes) m₀)
   stop-past h l = stop false (rw (drop-of-length-le form h) (group-past left z l))
 
-  pub stop-end : length form ≤ i → left ≤ 0 → (Length n ≡ decodedSaid (decoding form)) × (m ≡ overlay 0 (decoding form .bytes) m₀)
+  pub stop-end : length form ≤ i → left ≤ 0 → (Length n ≡ decodedReport (decoding form)) × (m ≡ overlay 0 (decoding form .bytes) m₀)
   unfolding decodeGroup
   stop-end h l =
       let e : left ≡ 0 = omega arith in
@@ -169,10 +169,10 @@ module _ (form m₀ m : List ℕ) (left : ℕ) (z : Bool) (n i : ℕ) (mid : Mid
       none-left : left ≡ 0
       none-left = omega arith
 
-      pub stop-zero : b ≡ 0 → (Bad ≡ decodedSaid (decoding form)) × (m ≡ overlay 0 (decoding form .bytes) m₀)
+      pub stop-zero : b ≡ 0 → (Bad ≡ decodedReport (decoding form)) × (m ≡ overlay 0 (decoding form .bytes) m₀)
       stop-zero f = stop false (rw (at-byte, none-left) (code-zero z b (drop (i + 1) form) f))
 
-      pub stop-last : true ≡ lastOneAfterFull b (drop (i + 1) form) → (Bad ≡ decodedSaid (decoding form)) × (m ≡ overlay 0 (decoding form .bytes) m₀)
+      pub stop-last : true ≡ lastOneAfterFull b (drop (i + 1) form) → (Bad ≡ decodedReport (decoding form)) × (m ≡ overlay 0 (decoding form .bytes) m₀)
       stop-last f = stop false (rw (at-byte, none-left) (code-last z b (drop (i + 1) form) f))
 
       pub middle-code : (b ≡ 0 → ⊥) → false ≡ lastOneAfterFull b (drop (i + 1) form) → i < length m₀

@@ -1,4 +1,4 @@
--- Laws of what begins at a place of a capture, byte by byte.
+-- Laws of what begins at an offset of a capture, byte by byte.
 -- Assumes nothing.
 use mathlib.Core.Path.{_≡_, refl, ap, _∙_}
 use mathlib.Core.List.{List, [], _∷_}
@@ -43,18 +43,18 @@ module _ (w : List ℕ) (i : ℕ) where
   place-end h = rw (drop-of-length-le w h)
 
   module _ (h : i < length w) where
-    at-place : drop i w ≡ getD w i 0 ∷ drop (i + 1) w
-    at-place = rw add-one (drop-cons w i 0 h)
+    at-offset : drop i w ≡ getD w i 0 ∷ drop (i + 1) w
+    at-offset = rw add-one (drop-cons w i 0 h)
 
     place-zero : getD w i 0 ≡ 0 → pieceAt w i ≡ Frame 0
     unfolding pieceAt split firstOf
-    place-zero e = rw (at-place, e)
+    place-zero e = rw (at-offset, e)
 
     place-more : (getD w i 0 ≡ 0 → ⊥) → pieceAt w i ≡ longer 1 (pieceAt w (i + 1))
     unfolding pieceAt
-    place-more e = rw at-place (first-more (getD w i 0) (drop (i + 1) w) e)
+    place-more e = rw at-offset (first-more (getD w i 0) (drop (i + 1) w) e)
 
--- the bytes from a place on up to i are not zero
+-- the bytes from an offset on up to i are not zero
 pub record Reached (w : List ℕ) (at i : ℕ) : Type 0 where
   pub from : at ≤ i
   pub piece : pieceAt w at ≡ longer (i - at) (pieceAt w i)

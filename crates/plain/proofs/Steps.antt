@@ -1,4 +1,4 @@
--- Laws of the listing from a place on: what begins there says what is listed first, and where it goes on.
+-- Laws of the listing from an offset on: what begins there says what is listed first, and where it goes on.
 -- Assumes nothing.
 use mathlib.Core.Path.{_≡_, refl, sym, ap, _∙_}
 use mathlib.Core.List.{List, [], _∷_, _++_, append-assoc}
@@ -12,7 +12,7 @@ use Rattle.plain.specs.Listing.{Entry, Listing, entryOf, entriesFrom, li
 use Rattle.plain.specs.Answers.{firstOf, pieceAt}
 use Rattle.plain.specs.declared.Piece.the-variants.{Frame, Tail}
 
--- what is listed from a place on
+-- what is listed from an offset on
 abbrev pub listedFrom : List ℕ → ℕ → Listing
 listedFrom w at = listed at (split (drop at w))
 
@@ -42,7 +42,7 @@ first v p ps e =
     let s = ap split whole ∙ split-at p after (n .0) in
     record { after = after; whole = whole; closed = cc (s, e); rest = ap (λ x. x .rest) (sym s) }
 
--- ---- one piece from a place on
+-- ---- one piece from an offset on
 
 pub record AtFrame (w : List ℕ) (at n : ℕ) : Type 0 where
   pub within : at + n < length w

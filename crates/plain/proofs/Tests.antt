@@ -18,7 +18,7 @@ use Rattle.line.specs.Message.{magic}
 use Rattle.line.specs.Cobs.{uncobs}
 use Rattle.line.specs.Judge.{Verdict, failure, good, bodyOf, checksumOf, magicOf, sequenceOf, payloadOf, fields, judgeFields, judgeLength, judgeForm, judge}
 use Rattle.plain.specs.Answers.{decoding, decodedInto}
-use Rattle.plain.specs.Inner.{decodedSaid}
+use Rattle.plain.specs.Inner.{decodedReport}
 use Rattle.plain.specs.declared.Decoded.{Decoded}
 use Rattle.plain.specs.declared.Decoded.the-variants.{Bad, Length}
 use Rattle.plain.proofs.Groups.{decoding-length, bad-none, length-some}
@@ -96,7 +96,7 @@ module _ (form m : List ℕ) where
   over-judged h = rw (lt-ltb longest-form (length form) h) (refl, refl)
 
   -- and any other, which was decoded
-  module _ (h : length form ≤ longest-form) {d : Decoded} (said : d ≡ decodedSaid (decoding form)) {m′ : List ℕ} (left : m′ ≡ overlay 0 (decoding form .bytes) m) where
+  module _ (h : length form ≤ longest-form) {d : Decoded} (report : d ≡ decodedReport (decoding form)) {m′ : List ℕ} (left : m′ ≡ overlay 0 (decoding form .bytes) m) where
     judge-form : judge form ≡ judgeForm (uncobs form)
     unfolding judge
     judge-form = rw (le-ltb longest-form (length form) h)
@@ -107,15 +107,15 @@ module _ (form m : List ℕ) where
 
     pub bad-judged : d ≡ Bad → (failure 1 none ≡ judge form) × (m′ ≡ decodedInto form m)
     unfolding judgeForm
-    bad-judged e = (rw (judge-form, bad-none form (sym e ∙ said)), form-left)
+    bad-judged e = (rw (judge-form, bad-none form (sym e ∙ report)), form-left)
 
     module _ {k : ℕ} (e : d ≡ Length k) where
       pub decoded-fits : length form ≤ length m → length m′ ≡ length m → k ≤ length m′
-      decoded-fits r s = omega (arith, length-some form (sym e ∙ said) .1, decoding-length form)
+      decoded-fits r s = omega (arith, length-some form (sym e ∙ report) .1, decoding-length form)
 
       pub tested-judged : {v : Verdict} → v ≡ judgeLength (take k m′) → (v ≡ judge form) × (m′ ≡ decodedInto form m)
       unfolding judgeForm
       tested-judged t =
-          let p = length-some form (sym e ∙ said) in
+          let p = length-some form (sym e ∙ report) in
           let o = rw (p .1) at (overlay-inside 0 (decoding form .bytes) m (omega arith)) in
           (t ∙ rw (judge-form, p .0, left, o), form-left)

@@ -24,7 +24,7 @@ firstOf (p ∷ ps) rest = Frame (length p)
 abbrev pub firstPiece : Pieces → Piece
 firstPiece x = firstOf (x .closed) (x .rest)
 
--- what begins at a place of a capture
+-- what begins at an offset of a capture
 unfoldable pub pieceAt : List ℕ → ℕ → Piece
 pieceAt w at = firstPiece (split (drop at w))
 

@@ -7,5 +7,5 @@ use Rattle.plain.specs.declared.Decoded.{Decoded}
 use Rattle.plain.specs.declared.Decoded.the-variants.{Bad, Length}
 
 -- the length of what a form decodes to, unless it is none
-unfoldable pub decodedSaid : Decoding → Decoded
-decodedSaid d = cond (d .whole) (Length (length (d .bytes))) Bad
+unfoldable pub decodedReport : Decoding → Decoded
+decodedReport d = cond (d .whole) (Length (length (d .bytes))) Bad

@@ -8,7 +8,7 @@ ghost use Rattle.line.specs.Checksum.{checksum};
 ghost use Rattle.line.specs.Cobs.{zeros, lastOneAfterFull};
 ghost use Rattle.line.specs.Judge.{judge, judgeLength};
 ghost use Rattle.plain.specs.Answers.{pieceAt, verdictOf, decoding, decodedInto};
-ghost use Rattle.plain.specs.Inner.{decodedSaid};
+ghost use Rattle.plain.specs.Inner.{decodedReport};
 
 // A COBS form has at most so many bytes, and decodes to no more.
 pub const LONGEST_FORM: usize = 4140;
@@ -20,13 +20,13 @@ const SHORTEST_MESSAGE: usize = 19;
 
 const MAGIC: u32 = 0x01DE19CC;
 
-// What begins at a place of a capture: a frame with so many bytes before its 00, or the unfinished tail of so many bytes.
+// What begins at an offset of a capture: a frame with so many bytes before its 00, or the unfinished tail of so many bytes.
 pub enum Piece {
     Frame(usize),
     Tail(usize),
 }
 
-// A message; its data stand in the array from place 17 on.
+// A message; its data stand in the array from offset 17 on.
 pub struct Head {
     pub version: u32,
     pub sequence: u64,
@@ -43,7 +43,7 @@ pub enum Answer {
     BadMagic(u64),
 }
 
-// What begins at a place of a capture.
+// What begins at an offset of a capture.
 pub fn next(capture: &[u8], at: usize) -> Piece
     ensures { λ r. ⌜ r ≡ pieceAt (now (capture .entry)) at ⌝ }
 {
@@ -87,7 +87,7 @@ fn wide(b: u8) -> usize
 // Decodes a COBS form to the start of out, which has room for as many bytes as the form.
 fn decode(form: &[u8], out: &mut [u8]) -> Decoded
     requires { ⌜ length (now form) ≤ length (now out) ⌝ }
-    ensures { λ r. ⌜ r ≡ decodedSaid (decoding (now (form .entry))) ⌝ }
+    ensures { λ r. ⌜ r ≡ decodedReport (decoding (now (form .entry))) ⌝ }
     ensures { λ r. ⌜ now (out .exit) ≡ overlay 0 (decoding (now (form .entry)) .bytes) (now (out .entry)) ⌝ }
 {
     let mut left: usize = 0; // bytes of the group that are to come

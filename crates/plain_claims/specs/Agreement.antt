@@ -8,9 +8,9 @@ use lib.Dec.{ltb}
 use lib.ListN.{length}
 use Rattle.line.specs.Limits.{longest-form}
 use Rattle.line.specs.Judge.{Verdict, failure, good, judge}
-use Rattle.line.specs.Reader.{Said, refused, more, empty, message, failed, verdictSaid, state-length, TailSaid, unfinished, longer, tailOf}
+use Rattle.line.specs.Reader.{Report, refused, more, empty, message, failed, verdictReport, state-length, TailReport, unfinished, longer, tailOf}
 use Rattle.line_claims.specs.Pieces.{split, nonEmpty}
-use Rattle.line_claims.specs.Calls.{Call, Reader, afterAll, begun, frameSaid, gathered, goodOf, reasonOf, tailMeant}
+use Rattle.line_claims.specs.Calls.{Call, Reader, afterAll, begun, frameReport, gathered, goodOf, reasonOf, tailMeant}
 use Rattle.line_claims.specs.ReaderClaim.{any-stream, any-messages, any-failures, any-tail}
 use Rattle.plain.specs.Listing.{Entry, Listing, entryOf, entriesFrom, listing}
 
@@ -20,23 +20,23 @@ listedBy f [] = []
 listedBy f (e ∷ es) = f (e .verdict) ++ listedBy f es
 
 -- the line reader's answer to a frame
-abbrev pub saidOf : Verdict → List Said
-saidOf v = verdictSaid v ∷ []
+abbrev pub saidOf : Verdict → List Report
+saidOf v = verdictReport v ∷ []
 
 -- the answers other than `empty` and `more`, and no refusal
-abbrev pub toldOf : Said → List Said
+abbrev pub toldOf : Report → List Report
 toldOf (refused number) = []
 toldOf more = []
 toldOf empty = []
 toldOf (message version sequence command n) = message version sequence command n ∷ []
 toldOf (failed reason sequence) = failed reason sequence ∷ []
 
-unfoldable pub told : List Said → List Said
+unfoldable pub told : List Report → List Report
 told [] = []
 told (a ∷ rest) = toldOf a ++ told rest
 
 -- what is told of a tail: its length, or above 4,140 bytes that it is longer
-unfoldable pub tailTold : ℕ → TailSaid
+unfoldable pub tailTold : ℕ → TailReport
 tailTold n = cond (ltb longest-form n) longer (unfinished n)
 
 -- the messages handed out, the failures reported, the answers, each in order, and the tail
@@ -52,13 +52,13 @@ listed-gathered f at [] = refl
 listed-gathered f at ([] ∷ ps) = listed-gathered f (at + 0 + 1) ps
 listed-gathered f at ((b ∷ bs) ∷ ps) = rw (listed-gathered f (at + length (b ∷ bs) + 1) ps)
 
-told-verdict : (v : Verdict) → toldOf (verdictSaid v) ≡ verdictSaid v ∷ []
-unfolding verdictSaid
+told-verdict : (v : Verdict) → toldOf (verdictReport v) ≡ verdictReport v ∷ []
+unfolding verdictReport
 told-verdict (failure reason sequence) = refl
 told-verdict (good m) = refl
 
-told-listed : (at : ℕ) (ps : List (List ℕ)) → told (map frameSaid ps) ≡ listedBy saidOf (entriesFrom at ps)
-unfolding told frameSaid listedBy entriesFrom entryOf
+told-listed : (at : ℕ) (ps : List (List ℕ)) → told (map frameReport ps) ≡ listedBy saidOf (entriesFrom at ps)
+unfolding told frameReport listedBy entriesFrom entryOf
 told-listed at [] = refl
 told-listed at ([] ∷ ps) = told-listed (at + 0 + 1) ps
 told-listed at ((b ∷ bs) ∷ ps) = rw (told-verdict (judge (b ∷ bs)), told-listed (at + length (b ∷ bs) + 1) ps)

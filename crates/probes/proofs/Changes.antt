@@ -1,4 +1,4 @@
--- The changes of two lists from a place on, and what changes leave that are made one after the other.
+-- The changes of two lists from an offset on, and what changes leave that are made one after the other.
 -- Assumes nothing.
 use mathlib.Core.Path.{_≡_, refl, sym, _∙_, ap, subst}
 use mathlib.Core.Bool.{Bool, true, false, not, cond}
@@ -12,9 +12,9 @@ use lib.Dec.{T, eqb}
 use borrow.Author.Tests.{eq-eqb, ne-eqb}
 use Rattle.probes.specs.declared.Probe.{Probe}
 use Rattle.probes.specs.declared.Updated.the-variants.{Done, Refused}
-use Rattle.probes.specs.Probes.{Change, change, changes, good, withResult, latest, recordsFrom, updatedSaid, outcomeOf, updating, resultSet}
+use Rattle.probes.specs.Probes.{Change, change, changes, good, withResult, latest, recordsFrom, updatedReport, outcomeOf, updating, resultSet}
 
--- ---- The changes of two lists from place i on
+-- ---- The changes of two lists from offset i on
 
 one-more : (i : ℕ) → suc i ≡ i + 1
 one-more i = sym (add-suc i zero ∙ ap suc (add-zero i))
@@ -101,9 +101,9 @@ passed true x y t = absurd t
 passed false x y t = refl
 
 pub update-done : (l : List Probe) (is rs : List ℕ) → T (good (length l) is rs) → outcomeOf Done (applied l (changes is rs)) ≡ updating l is rs
-unfolding updatedSaid updating
+unfolding updatedReport updating
 update-done l is rs t = ap (outcomeOf Done) (applied-records l (changes is rs)) ∙ chosen (good (length l) is rs) _ _ t
 
 pub update-refused : (l : List Probe) (is rs : List ℕ) → T (not (good (length l) is rs)) → outcomeOf Refused l ≡ updating l is rs
-unfolding updatedSaid updating
+unfolding updatedReport updating
 update-refused l is rs t = passed (good (length l) is rs) _ _ t

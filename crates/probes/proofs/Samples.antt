@@ -5,7 +5,7 @@ use mathlib.Core.List.{List, [], _∷_, map}
 use Prim.Native.Nat.{ℕ}
 use Rattle.probes.specs.declared.Probe.{Probe}
 use Rattle.probes.specs.declared.Updated.the-variants.{Done, Refused}
-use Rattle.probes.specs.Probes.{Outcome, changes, allGood, good, latest, recordsFrom, updatedSaid, outcomeOf, updating}
+use Rattle.probes.specs.Probes.{Outcome, changes, allGood, good, latest, recordsFrom, updatedReport, outcomeOf, updating}
 
 abbrev probe : ℕ → ℕ → Probe
 probe a r = record { address = a; result = r }
@@ -44,10 +44,10 @@ samples =
     ∷ []
 
 pub samples-hold : map (λ (s : Sample). updating three (s .indices) (s .results)) samples ≡ map (λ (s : Sample). s .outcome) samples
-unfolding changes allGood good latest recordsFrom updatedSaid updating
+unfolding changes allGood good latest recordsFrom updatedReport updating
 samples-hold = refl
 
 -- a list of no records: no changes are done, any are refused
 pub empty-list : (updating [] [] [] ≡ outcomeOf Done []) × (updating [] (0 ∷ []) (0 ∷ []) ≡ outcomeOf Refused [])
-unfolding changes allGood good latest recordsFrom updatedSaid updating
+unfolding changes allGood good latest recordsFrom updatedReport updating
 empty-list = (refl, refl)

@@ -1,4 +1,4 @@
--- The laws of the test of all changes: what it comes to from a place on, and what one bad change makes of it.
+-- The laws of the test of all changes: what it comes to from an offset on, and what one bad change makes of it.
 -- Assumes nothing.
 use mathlib.Core.Path.{_≡_, sym, _∙_, ap}
 use mathlib.Core.Bool.{Bool, true, false, _&&_, _||_}
@@ -33,7 +33,7 @@ module _ (n : ℕ) (is rs : List ℕ) where
       left true c t = tt
       left false c t = t
 
-  -- ---- The changes from place i on
+  -- ---- The changes from offset i on
 
   module _ (i : ℕ) where
     abbrev rest : ℕ → Bool

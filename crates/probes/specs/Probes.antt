@@ -20,7 +20,7 @@ pub record Change : Type 0 where
 abbrev pub change : ℕ → ℕ → Change
 change i r = record { index = i; result = r }
 
--- the changes that two lists give, place by place
+-- the changes that two lists give, pair by pair
 unfoldable pub changes : List ℕ → List ℕ → List Change
 changes [] results = []
 changes (i ∷ indices) [] = []
@@ -61,12 +61,12 @@ pub record Outcome : Type 0 where
   pub list : List Probe
 
 -- the number of each case
-unfoldable pub updatedSaid : Updated → Option ℕ
-updatedSaid Done = none
-updatedSaid Refused = some 15
+unfoldable pub updatedReport : Updated → Option ℕ
+updatedReport Done = none
+updatedReport Refused = some 15
 
 abbrev pub outcomeOf : Updated → List Probe → Outcome
-outcomeOf r l = record { refusal = updatedSaid r; list = l }
+outcomeOf r l = record { refusal = updatedReport r; list = l }
 
 -- each record brought up to date; 15 and the list as it was where a change is not good
 unfoldable pub updating : List Probe → List ℕ → List ℕ → Outcome

@@ -16,7 +16,7 @@ pub enum Updated {
     Refused,
 }
 
-// Gives each part that `indices` names the result at the same place of `results`, the later one where a part is named
+// Gives each part that `indices` names the result at the same index of `results`, the later one where a part is named
 // twice. All changes are tested before the first is made.
 pub fn update(list: &mut [Probe], indices: &[usize], results: &[u8]) -> Updated
     ensures { λ r. ⌜ outcomeOf r (now (list .exit)) ≡ updating (now (list .entry)) (now (indices .entry)) (now (results .entry)) ⌝ }

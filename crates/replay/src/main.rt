@@ -18,7 +18,7 @@ const MOST_READS: u64 = 0xffffffffffffffff;
 
 fn main() {
     let mut data = [0u8; layout::START_LENGTH];
-    data[layout::BSU_PLACE] = 0x41;
+    data[layout::BSU_OFFSET] = 0x41;
     let mut reader = [0u8; line::reader::STATE_LENGTH];
     let mut outbox = [0u8; layout::OUTBOX_LENGTH];
     let mut factory = [0u8; layout::FACTORY_LENGTH];
@@ -129,7 +129,7 @@ fn keep(outbox: &mut [u8], out: &mut [u8], kept: usize) -> usize {
     take_behind(outbox, out, kept)
 }
 
-// Takes pending output into the bytes from a place on; where it ends.
+// Takes pending output into the bytes from an offset on; where it ends.
 fn take_behind(outbox: &mut [u8], out: &mut [u8], at: usize) -> usize {
     if out.len() < at {
         return at;

@@ -16,8 +16,8 @@ use Rattle.requester.specs.Calls.{progressed}
 
 module _ (r : List ℕ) (long : Layout.requester-length ≤ length r) where
   -- the four fields, one after the other
-  pub progress-set : (number recovery unsent kept : ℕ) {t : List ℕ} → t ≡ put Layout.number-place (bytes 8 number) r
-      → set (set (set t Layout.recovery-place recovery) Layout.unsent-place unsent) Layout.kept-place kept ≡ progressed number recovery unsent kept r
+  pub progress-set : (number recovery unsent kept : ℕ) {t : List ℕ} → t ≡ put Layout.number-offset (bytes 8 number) r
+      → set (set (set t Layout.recovery-offset recovery) Layout.unsent-offset unsent) Layout.kept-offset kept ≡ progressed number recovery unsent kept r
   unfolding progressed bytes
   progress-set number recovery unsent kept e =
       rw (
@@ -34,7 +34,7 @@ module _ (r : List ℕ) (long : Layout.requester-length ≤ length r) where
 
   -- zeros, one field after the other
   pub fields-cleared : {t u v : List ℕ} → t ≡ put 0 (bytes 8 0) r → u ≡ put 8 (bytes 4 0) t → v ≡ put 12 (bytes 2 0) u
-      → v ≡ overlay 0 (replicate Layout.data-place 0) r
+      → v ≡ overlay 0 (replicate Layout.data-offset 0) r
   unfolding bytes
   fields-cleared a b c =
       let l = length-overlay 0 (bytes 8 0) r (omega arith) in
@@ -52,22 +52,22 @@ module _ (r : List ℕ) (long : Layout.requester-length ≤ length r) where
 
   -- a request behind the first fields
   pub request-kept : (command : ℕ) (d : List ℕ) {t u : List ℕ} → length d ≤ longest-data
-      → t ≡ put Layout.length-place (bytes 2 (length d)) (set r Layout.command-place command) → u ≡ copied d 0 (length d) t Layout.data-place
-      → u ≡ overlay Layout.command-place (command ∷ bytes 2 (length d) ++ d) r
+      → t ≡ put Layout.length-offset (bytes 2 (length d)) (set r Layout.command-offset command) → u ≡ copied d 0 (length d) t Layout.data-offset
+      → u ≡ overlay Layout.command-offset (command ∷ bytes 2 (length d) ++ d) r
   unfolding bytes
   request-kept command d h a b =
       let head = command ∷ bytes 2 (length d) in
-      let l = length-overlay Layout.command-place (command ∷ []) r (omega arith) in
-      let m = length-overlay Layout.command-place head r (omega arith) in
+      let l = length-overlay Layout.command-offset (command ∷ []) r (omega arith) in
+      let m = length-overlay Layout.command-offset head r (omega arith) in
       rw (
         b,
         a,
-        overlay-one Layout.command-place command r (omega arith),
-        put-fits Layout.length-place (bytes 2 (length d)) (overlay Layout.command-place (command ∷ []) r) (omega arith),
-        overlay-next Layout.command-place (command ∷ []) (bytes 2 (length d)) r (omega arith),
-        copied-fits d 0 (length d) (overlay Layout.command-place head r) Layout.data-place (omega arith) (omega arith),
+        overlay-one Layout.command-offset command r (omega arith),
+        put-fits Layout.length-offset (bytes 2 (length d)) (overlay Layout.command-offset (command ∷ []) r) (omega arith),
+        overlay-next Layout.command-offset (command ∷ []) (bytes 2 (length d)) r (omega arith),
+        copied-fits d 0 (length d) (overlay Layout.command-offset head r) Layout.data-offset (omega arith) (omega arith),
         take-length d,
-        overlay-next Layout.command-place head d r (omega arith),
+        overlay-next Layout.command-offset head d r (omega arith),
       )
 
 -- ---- steps

@@ -27,10 +27,10 @@ use Rattle.requester.specs.Hearing.{dataFit}
 
 module _ (xs : List ℕ) where
   abbrev Fits : Verdict → Type 0
-  Fits v = dataFit (LineReader.verdictSaid v) ≡ true
+  Fits v = dataFit (LineReader.verdictReport v) ≡ true
 
   fields-fit : wrongLength xs ≡ false → Fits (judgeFields xs)
-  unfolding judgeFields fields dataFit LineReader.verdictSaid
+  unfolding judgeFields fields dataFit LineReader.verdictReport
   fields-fit e =
       let l = fit-length xs e in
       let n : length (payloadOf xs) ≤ longest-data = simp (length-drop, length-take) (omega arith) in
@@ -38,16 +38,16 @@ module _ (xs : List ℕ) where
       (λ f. cond-by Fits (eqb (magicOf xs) magic) _ _ (λ g. le-leb _ _ n) (λ g. refl))
       (λ f. refl)
 
-form-fit : (form : Option (List ℕ)) → dataFit (LineReader.verdictSaid (judgeForm form)) ≡ true
-unfolding judgeForm judgeLength dataFit LineReader.verdictSaid
+form-fit : (form : Option (List ℕ)) → dataFit (LineReader.verdictReport (judgeForm form)) ≡ true
+unfolding judgeForm judgeLength dataFit LineReader.verdictReport
 form-fit none = refl
 form-fit (some xs) =
-    cond-by (λ v. dataFit (LineReader.verdictSaid v) ≡ true) (wrongLength xs) _ _ (λ e. refl) (λ e. fields-fit xs e)
+    cond-by (λ v. dataFit (LineReader.verdictReport v) ≡ true) (wrongLength xs) _ _ (λ e. refl) (λ e. fields-fit xs e)
 
-judge-fit : (form : List ℕ) → dataFit (LineReader.verdictSaid (judge form)) ≡ true
-unfolding judge dataFit LineReader.verdictSaid
+judge-fit : (form : List ℕ) → dataFit (LineReader.verdictReport (judge form)) ≡ true
+unfolding judge dataFit LineReader.verdictReport
 judge-fit form =
-    cond-by (λ v. dataFit (LineReader.verdictSaid v) ≡ true) (ltb longest-form (length form)) _ _ (λ e. refl) (λ e. form-fit (uncobs form))
+    cond-by (λ v. dataFit (LineReader.verdictReport v) ≡ true) (ltb longest-form (length form)) _ _ (λ e. refl) (λ e. form-fit (uncobs form))
 
 finish-fit : (s : List ℕ) → dataFit (LineReader.finish s .answer) ≡ true
 unfolding LineReader.finish LineReader.settle dataFit
@@ -105,17 +105,17 @@ pub data-length : (s : List ℕ) (n : ℕ) → LineReader.valid s ≡ true → n
 unfolding LineReader.dataOf LineReader.dataRefusal LineReader.partOf
 data-length s n v h =
     let r = valid-ready s v in
-    rw (v, le-ltb longest-data n h) (length-run LineReader.data-place n s (omega arith))
+    rw (v, le-ltb longest-data n h) (length-run LineReader.data-offset n s (omega arith))
 
 -- ---- the tail
 
 -- what an answer of `tail` tells of a state
-abbrev pub TailTells : List ℕ → LineReader.TailSaid → Type 0
-TailTells s (LineReader.TailSaid.refused n) = LineReader.valid s ≡ false
+abbrev pub TailTells : List ℕ → LineReader.TailReport → Type 0
+TailTells s (LineReader.TailReport.refused n) = LineReader.valid s ≡ false
 TailTells s (LineReader.unfinished n) = (LineReader.valid s ≡ true) × (n ≡ LineReader.count s) × (LineReader.count s ≤ longest-form)
 TailTells s LineReader.longer = (LineReader.valid s ≡ true) × (longest-form < LineReader.count s)
 
-pub tail-tells : (s : List ℕ) {x : LineReader.TailSaid} → x ≡ LineReader.tailOf s → TailTells s x
+pub tail-tells : (s : List ℕ) {x : LineReader.TailReport} → x ≡ LineReader.tailOf s → TailTells s x
 unfolding LineReader.tailOf
 tail-tells s e =
     rw e

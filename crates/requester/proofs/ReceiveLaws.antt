@@ -36,11 +36,11 @@ pub receive-received : (p : Parts) (piece : List ℕ) {x : Receipt} → validPar
 unfolding receiving
 receive-received p piece v e = rw v e
 
-abbrev outcomeBy : ℕ → LineReader.Said → List ℕ → LineReader.Outcome
+abbrev outcomeBy : ℕ → LineReader.Report → List ℕ → LineReader.Outcome
 outcomeBy used a reader = record { used = used; answer = a; state = reader }
 
 -- by the reader's answer and the state that it left
-module _ (p : Parts) (piece : List ℕ) (v : validParts p ≡ true) {used : ℕ} {a : LineReader.Said} {reader : List ℕ} where
+module _ (p : Parts) (piece : List ℕ) (v : validParts p ≡ true) {used : ℕ} {a : LineReader.Report} {reader : List ℕ} where
   module _ {n end : ℕ} (e : n ≡ LineReader.count (p .reader)) (l : n ≤ longest-form) (f : end ≡ min (LineReader.overlong - n) (length piece))
       (w : outcomeBy used a reader ≡ LineReader.reading (p .reader) (take end piece)) where
     short : LineReader.count (p .reader) ≤ longest-form

@@ -25,7 +25,7 @@ use Rattle.requester.proofs.ValidLaws.{RequesterValid, requester-valid}
 
 -- ---- what the writer answered
 
-abbrev answering : Writer.Said → List ℕ → Writer.Outcome
+abbrev answering : Writer.Report → List ℕ → Writer.Outcome
 answering a room = record { answer = a; out = room }
 
 -- bytes that did not fit, or did
@@ -35,7 +35,7 @@ sentIf b bs out = cond b (answering (Writer.refused 8) out) (answering (Writer.w
 abbrev putIf : Bool → List ℕ → List ℕ → List ℕ → List ℕ → Put
 putIf b bs out before after = cond b (putBy (refused 8) out before) (putBy (wrote (length bs)) (overlay 0 bs out) after)
 
-module _ (bs out before after : List ℕ) {a : Writer.Said} {room : List ℕ} where
+module _ (bs out before after : List ℕ) {a : Writer.Report} {room : List ℕ} where
   wrote-by : (b : Bool) (n : ℕ) → a ≡ Writer.wrote n → answering a room ≡ sentIf b bs out → putBy (wrote n) room after ≡ putIf b bs out before after
   wrote-by true n f e = let z : _≡_ {A = ℕ} 0 1 = cc (ap (λ (o : Writer.Outcome). o .answer) e) in absurd (omega arith)
   wrote-by false n f e =
@@ -100,7 +100,7 @@ module _ (r : List ℕ) (command : ℕ) (d out : List ℕ) where
           unfolding requesting
           accepted = rw (v, le-ltb longest-data (length d) h, f, ← e, lt-leb last-number n l, add-one)
 
-          module _ {a : Writer.Said} {room : List ℕ}
+          module _ {a : Writer.Report} {room : List ℕ}
               (w : answering a room ≡ Writer.writing (Writer.messageOf 1 (n + 1) command d []) out) where
             sent : answering a room ≡ Writer.sending (requestFrame (n + 1) asked) out
             sent = written (n + 1) asked out d [] h (append-nil d) w
@@ -127,12 +127,12 @@ step-request (suc (suc (suc (suc n)))) q h l = absurd (omega arith)
 
 module _ (r out : List ℕ) (v : RequesterValid r) {n t : ℕ} (e : n ≡ Layout.numberOf r) (f : t ≡ Layout.recoveryOf r) {o : Writer.Outcome} where
   pub kept-written : {command k : ℕ} → t ≡ 0 → k ≡ Layout.lengthOf r → command ≡ Layout.commandOf r
-      → o ≡ Writer.writing (Writer.messageOf 1 n command (take (Layout.data-place + k - Layout.data-place) (drop Layout.data-place r)) []) out
+      → o ≡ Writer.writing (Writer.messageOf 1 n command (take (Layout.data-offset + k - Layout.data-offset) (drop Layout.data-offset r)) []) out
       → o ≡ Writer.sending (requestFrame (Layout.numberOf r) (Layout.outRequest r)) out
   unfolding Layout.outRequest Layout.keptRequest Layout.stepAt
   kept-written {command} {k} z p q w =
-      let d = run Layout.data-place k r in
-      let l = length-take k (drop Layout.data-place r) in
+      let d = run Layout.data-offset k r in
+      let l = length-take k (drop Layout.data-offset r) in
       rw (← e, ← f, z, ← p, ← q)
       (written n (record { command = command; payload = d }) out d [] (omega (arith, v)) (append-nil d) (rw add-sub-cancel-left at w))
 
@@ -155,12 +155,12 @@ module _ (r out : List ℕ) where
     unfolding Calls.sending
     send-nothing u = rw (v, u)
 
-    module _ (u : Layout.isUnsent r ≡ true) {a : Writer.Said} {room : List ℕ}
+    module _ (u : Layout.isUnsent r ≡ true) {a : Writer.Report} {room : List ℕ}
         (w : answering a room ≡ Writer.sending (requestFrame (Layout.numberOf r) (Layout.outRequest r)) out) where
-      pub send-done : (n : ℕ) → a ≡ Writer.wrote n → putBy (wrote n) room (set r Layout.unsent-place 0) ≡ Calls.sending r out
+      pub send-done : (n : ℕ) → a ≡ Writer.wrote n → putBy (wrote n) room (set r Layout.unsent-offset 0) ≡ Calls.sending r out
       unfolding Calls.sending
       send-done n g =
-          rw (v, u, overlay-one Layout.unsent-place 0 r (omega (arith, requester-valid r v .long)))
+          rw (v, u, overlay-one Layout.unsent-offset 0 r (omega (arith, requester-valid r v .long)))
           (put-wrote _ out r _ w n g)
 
       pub send-short : a ≡ Writer.refused 8 → putBy (refused 8) room r ≡ Calls.sending r out

@@ -24,7 +24,7 @@ use Rattle.requester.specs.Requester.{Heard, ground, other, answer, hear
 use Rattle.requester.specs.Layout
 use Rattle.requester.specs.Calls
 use Rattle.requester.specs.Calls.{told, toldOf, progressed, movedBy, movedTo}
-use Rattle.requester.specs.Hearing.{headMessage, nextOf, outcomeSaid, outcomeTold}
+use Rattle.requester.specs.Hearing.{headMessage, nextOf, outcomeReport, outcomeTold}
 use Rattle.requester.specs.declared.hearing.Handed.the-variants as handed
 use Rattle.requester.specs.declared.hearing.Next.the-variants as next
 use Rattle.requester.proofs.ProgressLaws.{step-number}
@@ -82,12 +82,12 @@ module _ (s : List ℕ) (h : Head) (v : LineReader.valid s ≡ true) (l : h .len
   held = headMessage h (LineReader.dataOf s (h .length))
 
   module _ (original : Bool) where
-    pub fetch-other : (h .command ≡ 0x06 → ⊥) → outcomeSaid (record { handed = handed.Nothing; next = next.Again }) ≡ outcomeTold (fetched original held)
+    pub fetch-other : (h .command ≡ 0x06 → ⊥) → outcomeReport (record { handed = handed.Nothing; next = next.Again }) ≡ outcomeTold (fetched original held)
     unfolding fetched told toldOf nextOf
     fetch-other e = rw (ne-eqb (h .command) 0x06 e)
 
     module _ (a : h .command ≡ 0x06) where
-      pub fetch-length : (h .length ≡ 16 → ⊥) → outcomeSaid (record { handed = handed.Nothing; next = next.Again }) ≡ outcomeTold (fetched original held)
+      pub fetch-length : (h .length ≡ 16 → ⊥) → outcomeReport (record { handed = handed.Nothing; next = next.Again }) ≡ outcomeTold (fetched original held)
       unfolding fetched told toldOf nextOf
       fetch-length e = rw (eq-eqb (h .command) 0x06 a, data-length s (h .length) v l, ne-eqb (h .length) 16 e)
 

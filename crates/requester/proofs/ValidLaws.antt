@@ -14,7 +14,7 @@ use Rattle.requester.specs.Limits.{last-number}
 use Rattle.requester.specs.Requester.{staysOut}
 use Rattle.requester.specs.Layout
 use Rattle.requester.specs.Valid.{validRequester}
-use Rattle.requester.specs.Calls.{Parts, roomy, validParts, startOf, starting}
+use Rattle.requester.specs.Calls.{Parts, longEnough, validParts, startOf, starting}
 use Rattle.requester.specs.Calls
 use Rattle.requester.specs.declared.start.Started.the-variants as started
 use Rattle.requester.proofs.Cases.{untrue, le-and, and-le}
@@ -64,28 +64,28 @@ valid-parts p v = rw (v .reader) (v .requester)
 
 -- ---- room for a start
 
-pub record Roomy (p : Parts) : Type 0 where
+pub record LongEnough (p : Parts) : Type 0 where
   pub reader : LineReader.state-length ≤ length (p .reader)
   pub requester : Layout.requester-length ≤ length (p .requester)
 
-pub is-roomy : (p : Parts) → roomy p ≡ true → Roomy p
-unfolding roomy
-is-roomy p e = let t = le-and _ _ _ e in record { reader = t .0; requester = leb-true _ _ (t .1) }
+pub is-long-enough : (p : Parts) → longEnough p ≡ true → LongEnough p
+unfolding longEnough
+is-long-enough p e = let t = le-and _ _ _ e in record { reader = t .0; requester = leb-true _ _ (t .1) }
 
-pub roomy-is : (p : Parts) → Roomy p → roomy p ≡ true
-unfolding roomy
-roomy-is p r = and-le _ _ _ (r .reader) (le-leb _ _ (r .requester))
+pub long-enough-is : (p : Parts) → LongEnough p → longEnough p ≡ true
+unfolding longEnough
+long-enough-is p r = and-le _ _ _ (r .reader) (le-leb _ _ (r .requester))
 
-pub cramped : (p : Parts) → (Roomy p → ⊥) → startOf started.Refused p ≡ starting p
-unfolding starting Calls.startSaid
-cramped p f = rw (sym (untrue (roomy p) (λ e. f (is-roomy p e))))
+pub cramped : (p : Parts) → (LongEnough p → ⊥) → startOf started.Refused p ≡ starting p
+unfolding starting Calls.startReport
+cramped p f = rw (sym (untrue (longEnough p) (λ e. f (is-long-enough p e))))
 
 reader-begun : (s : List ℕ) → LineReader.state-length ≤ length s → {a : Option ℕ} {t : List ℕ}
     → record { refusal = a; state = t } ≡ LineReader.starting s → t ≡ LineReader.counted 0 s
 unfolding LineReader.starting
 reader-begun s h e = ap (λ (x : LineReader.Start). x .state) (rw (le-leb _ _ h) at e)
 
-pub begun : (p : Parts) → Roomy p → {a : Option ℕ} {reader requester : List ℕ} → record { refusal = a; state = reader } ≡ LineReader.starting (p .reader)
-    → requester ≡ overlay 0 (replicate Layout.data-place 0) (p .requester) → startOf started.Done (Calls.parts reader requester) ≡ starting p
-unfolding starting Calls.startSaid Calls.freshParts
-begun p r e f = rw (roomy-is p r, f, reader-begun (p .reader) (r .reader) e)
+pub begun : (p : Parts) → LongEnough p → {a : Option ℕ} {reader requester : List ℕ} → record { refusal = a; state = reader } ≡ LineReader.starting (p .reader)
+    → requester ≡ overlay 0 (replicate Layout.data-offset 0) (p .requester) → startOf started.Done (Calls.parts reader requester) ≡ starting p
+unfolding starting Calls.startReport Calls.freshParts
+begun p r e f = rw (long-enough-is p r, f, reader-begun (p .reader) (r .reader) e)

@@ -38,62 +38,62 @@ abbrev pub parts : List ℕ → List ℕ → Parts
 parts reader requester = record { reader = reader; requester = requester }
 
 -- every part has its published length
-unfoldable pub roomy : Parts → Bool
-roomy p = leb LineReader.state-length (length (p .reader)) && leb Layout.requester-length (length (p .requester))
+unfoldable pub longEnough : Parts → Bool
+longEnough p = leb LineReader.state-length (length (p .reader)) && leb Layout.requester-length (length (p .requester))
 
 -- no number used, nothing kept, no recovery, nothing to go out
 unfoldable pub freshParts : Parts → Parts
-freshParts p = parts (LineReader.counted 0 (p .reader)) (overlay 0 (replicate Layout.data-place 0) (p .requester))
+freshParts p = parts (LineReader.counted 0 (p .reader)) (overlay 0 (replicate Layout.data-offset 0) (p .requester))
 
 -- the table's number of a refusal; none where the call is carried out
-unfoldable pub startSaid : Started → Option ℕ
-startSaid started.Done = none
-startSaid started.Refused = some 12
+unfoldable pub startReport : Started → Option ℕ
+startReport started.Done = none
+startReport started.Refused = some 12
 
 pub record Start : Type 0 where
   pub refusal : Option ℕ
   pub parts : Parts
 
 abbrev pub startOf : Started → Parts → Start
-startOf r p = record { refusal = startSaid r; parts = p }
+startOf r p = record { refusal = startReport r; parts = p }
 
 -- the room alone is tested
 unfoldable pub starting : Parts → Start
-starting p = cond (roomy p) (record { refusal = none; parts = freshParts p }) (record { refusal = some 12; parts = p })
+starting p = cond (longEnough p) (record { refusal = none; parts = freshParts p }) (record { refusal = some 12; parts = p })
 
 -- ---- The part's first fields: newest number, recovery, whether the frame is to go out, whether a request is kept
 
 unfoldable pub progressed : ℕ → ℕ → ℕ → ℕ → List ℕ → List ℕ
-progressed number recovery unsent kept r = overlay Layout.number-place (bytes 8 number ++ recovery ∷ unsent ∷ kept ∷ []) r
+progressed number recovery unsent kept r = overlay Layout.number-offset (bytes 8 number ++ recovery ∷ unsent ∷ kept ∷ []) r
 
 -- ---- Request, send
 
 -- how many bytes were put out, or the table's number
-pub data PutSaid : Type 0 where
-  wrote : ℕ → PutSaid
-  refused : ℕ → PutSaid
+pub data PutReport : Type 0 where
+  wrote : ℕ → PutReport
+  refused : ℕ → PutReport
 
-unfoldable pub requestSaid : Requested → PutSaid
-requestSaid requested.Refused = refused 12
-requestSaid requested.TooLong = refused 9
-requestSaid requested.Outstanding = refused 17
-requestSaid requested.NoNumber = refused 14
-requestSaid requested.NoRoom = refused 8
-requestSaid (requested.Done n) = wrote n
+unfoldable pub requestReport : Requested → PutReport
+requestReport requested.Refused = refused 12
+requestReport requested.TooLong = refused 9
+requestReport requested.Outstanding = refused 17
+requestReport requested.NoNumber = refused 14
+requestReport requested.NoRoom = refused 8
+requestReport (requested.Done n) = wrote n
 
-unfoldable pub sendSaid : Sent → PutSaid
-sendSaid sent.Refused = refused 12
-sendSaid sent.NoRoom = refused 8
-sendSaid (sent.Done n) = wrote n
+unfoldable pub sendReport : Sent → PutReport
+sendReport sent.Refused = refused 12
+sendReport sent.NoRoom = refused 8
+sendReport (sent.Done n) = wrote n
 
 -- what a call said, the room and the part as it left them
 pub record Put : Type 0 where
-  pub said : PutSaid
+  pub report : PutReport
   pub out : List ℕ
   pub requester : List ℕ
 
-abbrev pub putBy : PutSaid → List ℕ → List ℕ → Put
-putBy a out r = record { said = a; out = out; requester = r }
+abbrev pub putBy : PutReport → List ℕ → List ℕ → Put
+putBy a out r = record { report = a; out = out; requester = r }
 
 -- bytes at the start of the room, where they fit
 unfoldable pub putInto : List ℕ → List ℕ → List ℕ → List ℕ → Put
@@ -103,7 +103,7 @@ putInto bs out before after = cond (ltb (length out) (length bs)) (putBy (refuse
 unfoldable pub withRequest : ℕ → ℕ → List ℕ → List ℕ → List ℕ
 withRequest number command d r =
     cond (staysOut command)
-    (overlay Layout.command-place (command ∷ bytes 2 (length d) ++ d) (progressed number 0 0 1 r))
+    (overlay Layout.command-offset (command ∷ bytes 2 (length d) ++ d) (progressed number 0 0 1 r))
     (progressed number 0 0 0 r)
 
 -- tests 12, 9, 17, 14, 8
@@ -122,16 +122,16 @@ unfoldable pub sending : List ℕ → List ℕ → Put
 sending r out =
     cond (validRequester r)
     (cond (Layout.isUnsent r)
-    (putInto (requestFrame (Layout.numberOf r) (Layout.outRequest r)) out r (overlay Layout.unsent-place (0 ∷ []) r))
+    (putInto (requestFrame (Layout.numberOf r) (Layout.outRequest r)) out r (overlay Layout.unsent-offset (0 ∷ []) r))
     (putBy (wrote 0) out r))
     (putBy (refused 12) out r)
 
 -- ---- Interrupt
 
-unfoldable pub interruptSaid : Interrupted → Option ℕ
-interruptSaid interrupted.Done = none
-interruptSaid interrupted.Refused = some 12
-interruptSaid interrupted.NoNumber = some 14
+unfoldable pub interruptReport : Interrupted → Option ℕ
+interruptReport interrupted.Done = none
+interruptReport interrupted.Refused = some 12
+interruptReport interrupted.NoNumber = some 14
 
 pub record Interrupt : Type 0 where
   pub refusal : Option ℕ
@@ -185,7 +185,7 @@ abbrev pub within : List ℕ → List ℕ → List ℕ
 within reader piece = cond (overran reader) piece (take (LineReader.overlong - LineReader.count reader) piece)
 
 -- what is heard under the newest number, by the line reader's answer and the state that it left
-unfoldable pub heardOf : ℕ → List ℕ → LineReader.Said → Option Heard
+unfoldable pub heardOf : ℕ → List ℕ → LineReader.Report → Option Heard
 heardOf n reader (LineReader.refused k) = none
 heardOf n reader LineReader.more = cond (overran reader) (some ground) none
 heardOf n reader LineReader.empty = none
@@ -211,7 +211,7 @@ idled r = progressed (Layout.numberOf r) 0 0 0 r
 
 unfoldable pub movedTo : Requester.Next → List ℕ → Moved
 movedTo Requester.same r = movedBy false r
-movedTo Requester.again r = movedBy false (overlay Layout.unsent-place (1 ∷ []) r)
+movedTo Requester.again r = movedBy false (overlay Layout.unsent-offset (1 ∷ []) r)
 movedTo (Requester.anew t) r =
     cond (leb last-number (Layout.numberOf r)) (movedBy true (idled r))
     (movedBy false (progressed (suc (Layout.numberOf r)) (Layout.stepNumber t) 1 (Layout.keptOf r) r))

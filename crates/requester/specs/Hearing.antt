@@ -22,10 +22,10 @@ use Rattle.requester.specs.declared.hearing.Outcome.{Outcome}
 abbrev pub headMessage : Head → List ℕ → Message
 headMessage h d = record { version = h .version; sequence = h .sequence; command = h .command; payload = d }
 
-unfoldable pub heardSaid : Heard → Message → Requester.Heard
-heardSaid heard.Ground m = Requester.ground
-heardSaid heard.Other m = Requester.other
-heardSaid heard.Answer m = Requester.answer m
+unfoldable pub heardReport : Heard → Message → Requester.Heard
+heardReport heard.Ground m = Requester.ground
+heardReport heard.Other m = Requester.other
+heardReport heard.Answer m = Requester.answer m
 
 unfoldable pub nextOf : Next → Requester.Next
 nextOf next.Same = Requester.same
@@ -41,14 +41,14 @@ pub record OutcomeTold : Type 0 where
   pub told : Told
   pub next : Requester.Next
 
-abbrev pub outcomeSaid : Outcome → OutcomeTold
-outcomeSaid o = record { told = told (o .handed); next = nextOf (o .next) }
+abbrev pub outcomeReport : Outcome → OutcomeTold
+outcomeReport o = record { told = told (o .handed); next = nextOf (o .next) }
 
 abbrev pub outcomeTold : Requester.Outcome → OutcomeTold
 outcomeTold o = record { told = toldOf (o .handed); next = o .next }
 
 -- the data that an answer of the line reader tells fit a message
-unfoldable pub dataFit : LineReader.Said → Bool
+unfoldable pub dataFit : LineReader.Report → Bool
 dataFit (LineReader.refused n) = true
 dataFit LineReader.more = true
 dataFit LineReader.empty = true

@@ -10,51 +10,51 @@ use Rattle.line.specs.Limits.{longest-data}
 use Rattle.requester.specs.State.{Request, Step, fetch, acknowledge, alert, stepRequest}
 
 -- the newest number, u64
-abbrev pub number-place : ℕ
-number-place = 0
+abbrev pub number-offset : ℕ
+number-offset = 0
 
 -- the recovery's step, u8: 0 none, 1 fetch, 2 acknowledge, 3 alert
-abbrev pub recovery-place : ℕ
-recovery-place = 8
+abbrev pub recovery-offset : ℕ
+recovery-offset = 8
 
 -- whether the frame of the one outstanding is to go out, u8
-abbrev pub unsent-place : ℕ
-unsent-place = 9
+abbrev pub unsent-offset : ℕ
+unsent-offset = 9
 
 -- whether a request is kept, u8, its command u8, how many bytes of data u16, its data
-abbrev pub kept-place : ℕ
-kept-place = 10
+abbrev pub kept-offset : ℕ
+kept-offset = 10
 
-abbrev pub command-place : ℕ
-command-place = 11
+abbrev pub command-offset : ℕ
+command-offset = 11
 
-abbrev pub length-place : ℕ
-length-place = 12
+abbrev pub length-offset : ℕ
+length-offset = 12
 
-abbrev pub data-place : ℕ
-data-place = 14
+abbrev pub data-offset : ℕ
+data-offset = 14
 
 -- the part's published length: 4,118 bytes
 abbrev pub requester-length : ℕ
-requester-length = data-place + longest-data
+requester-length = data-offset + longest-data
 
 abbrev pub numberOf : List ℕ → ℕ
-numberOf r = numberAt 8 r number-place
+numberOf r = numberAt 8 r number-offset
 
 abbrev pub recoveryOf : List ℕ → ℕ
-recoveryOf r = numberAt 1 r recovery-place
+recoveryOf r = numberAt 1 r recovery-offset
 
 abbrev pub unsentOf : List ℕ → ℕ
-unsentOf r = numberAt 1 r unsent-place
+unsentOf r = numberAt 1 r unsent-offset
 
 abbrev pub keptOf : List ℕ → ℕ
-keptOf r = numberAt 1 r kept-place
+keptOf r = numberAt 1 r kept-offset
 
 abbrev pub commandOf : List ℕ → ℕ
-commandOf r = numberAt 1 r command-place
+commandOf r = numberAt 1 r command-offset
 
 abbrev pub lengthOf : List ℕ → ℕ
-lengthOf r = numberAt 2 r length-place
+lengthOf r = numberAt 2 r length-offset
 
 -- the step of a number, and the number of a step
 unfoldable pub stepAt : ℕ → Option Step
@@ -77,7 +77,7 @@ unfoldable pub isOutstanding : List ℕ → Bool
 isOutstanding r = not (eqb (recoveryOf r) 0) || isKept r
 
 unfoldable pub keptRequest : List ℕ → Request
-keptRequest r = record { command = commandOf r; payload = run data-place (lengthOf r) r }
+keptRequest r = record { command = commandOf r; payload = run data-offset (lengthOf r) r }
 
 abbrev pub requestIn : Option Step → Request → Request
 requestIn none q = q

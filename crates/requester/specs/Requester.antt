@@ -199,8 +199,8 @@ dropped s = result nothing (moved false s)
 abbrev pub hears : Heard → State → Result
 hears h s = let o = settled (s .recovery) (isSome (s .kept)) h in result (o .handed) (movedTo (o .next) s)
 
-abbrev pub receiving : State → Option (List ℕ) → State
-receiving s bs = state (s .newest) (s .kept) (s .recovery) (s .unsent) bs
+abbrev pub withReceived : State → Option (List ℕ) → State
+withReceived s bs = state (s .newest) (s .kept) (s .recovery) (s .unsent) bs
 
 -- the 00 behind these bytes: an empty frame is ignored, and so is what is left of one of more than 4,140 bytes
 abbrev pub closes : Option (List ℕ) → State → Result
@@ -211,10 +211,10 @@ closes (some (b ∷ bs)) s = hears (heard (s .newest) (judge (b ∷ bs))) s
 -- one byte more; the 4,141st without a 00 is a ground
 abbrev pub more : Option (List ℕ) → ℕ → State → Result
 more none b s = dropped s
-more (some bs) b s = cond (ltb (length bs) longest-form) (dropped (receiving s (some (bs ++ b ∷ [])))) (hears ground (receiving s none))
+more (some bs) b s = cond (ltb (length bs) longest-form) (dropped (withReceived s (some (bs ++ b ∷ [])))) (hears ground (withReceived s none))
 
 unfoldable pub byte : State → ℕ → Result
-byte s b = cond (eqb b 0) (closes (s .received) (receiving s (some []))) (more (s .received) b s)
+byte s b = cond (eqb b 0) (closes (s .received) (withReceived s (some []))) (more (s .received) b s)
 
 -- ---- A piece of the received stream
 

@@ -1,4 +1,4 @@
--- What the table's 12 asks of the main processor's part (documents 01, "When a call says no", and 02, item 2).
+-- What the table's 12 requires of the main processor's part (documents 01, "When a call says no", and 02, item 2).
 -- Assumes nothing: these are definitions.
 use mathlib.Core.Bool.{Bool, _&&_}
 use mathlib.Core.List.{List}

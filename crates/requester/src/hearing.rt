@@ -1,5 +1,5 @@
 // What a received frame is to the one outstanding, what it hands out, and what comes next.
-// Assumes a valid part, and a reader's answer whose data it holds, as each `requires` says.
+// Assumes a valid part, and a reader's answer whose data it holds, as each `requires` states.
 use crate::layout;
 use crate::number::ReplyNumber;
 use crate::number::RequestNumber;
@@ -16,13 +16,13 @@ ghost use Prim.Native.Nat.{ℕ, _^_, _≤_, _<_};
 ghost use lib.Dec.{eqb};
 ghost use Rattle.line.specs.Limits.{longest-data};
 ghost use Rattle.line.specs.Judge.{good};
-ghost use Rattle.line.specs.Reader.{said, dataOf, valid as readerValid};
+ghost use Rattle.line.specs.Reader.{report, dataOf, valid as readerValid};
 ghost use Rattle.requester.specs.Limits.{all-ones};
 ghost use Rattle.requester.specs.Requester.{heard, ground, nothing, same, outcome, served, fetched, answeredIn};
 ghost use Rattle.requester.specs.Layout.{numberOf, stepOf, isKept};
 ghost use Rattle.requester.specs.Valid.{validRequester};
 ghost use Rattle.requester.specs.Calls.{overran, heardOf, outcomeOf};
-ghost use Rattle.requester.specs.Hearing.{headMessage, heardSaid, nextOf, outcomeSaid, outcomeTold, dataFit};
+ghost use Rattle.requester.specs.Hearing.{headMessage, heardReport, nextOf, outcomeReport, outcomeTold, dataFit};
 
 const ALL_ONES: u64 = 0xffffffffffffffff;
 
@@ -82,7 +82,7 @@ fn fails_decode(expected: ReplyNumber, sequence: u64, command: u8) -> bool
 // By the newest number: a ground for sending the same bytes again, another reply, or the answer.
 fn hear(newest: RequestNumber, head: Head) -> Heard
     requires { ⌜ newest .0 < 2 ^ 63 ⌝ }
-    ensures { λ r. ⌜ ((d : List ℕ) → heardSaid r (headMessage head d) ≡ heard (newest .0) (good (headMessage head d))) ⌝ }
+    ensures { λ r. ⌜ ((d : List ℕ) → heardReport r (headMessage head d) ≡ heard (newest .0) (good (headMessage head d))) ⌝ }
 {
     if head.version != 1 {
         return Heard::Ground;
@@ -120,7 +120,7 @@ fn serve(original: bool, status: u64) -> Next
 fn settle_fetch(reader: &[u8], original: bool, head: Head) -> Outcome
     requires { ⌜ readerValid (now reader) ≡ true ⌝ }
     requires { ⌜ head .length ≤ longest-data ⌝ }
-    ensures { λ r. ⌜ outcomeSaid r ≡ outcomeTold (fetched original (headMessage head (dataOf (now (reader .entry)) (head .length)))) ⌝ }
+    ensures { λ r. ⌜ outcomeReport r ≡ outcomeTold (fetched original (headMessage head (dataOf (now (reader .entry)) (head .length)))) ⌝ }
 {
     if head.command != 0x06 {
         return Outcome {
@@ -153,9 +153,9 @@ fn settle_fetch(reader: &[u8], original: bool, head: Head) -> Outcome
 fn settle_answer(reader: &[u8], requester: &[u8], head: Head) -> Outcome
     requires { ⌜ readerValid (now reader) ≡ true ⌝ }
     requires { ⌜ head .length ≤ longest-data ⌝ }
-    ensures { λ r. ⌜ outcomeSaid r ≡ outcomeTold (answeredIn (stepOf (now (requester .entry))) (isKept (now (requester .entry))) (headMessage head (dataOf (now (reader .entry)) (head .length)))) ⌝ }
+    ensures { λ r. ⌜ outcomeReport r ≡ outcomeTold (answeredIn (stepOf (now (requester .entry))) (isKept (now (requester .entry))) (headMessage head (dataOf (now (reader .entry)) (head .length)))) ⌝ }
 {
-    let step = octets::read_u8(requester, layout::RECOVERY_PLACE);
+    let step = octets::read_u8(requester, layout::RECOVERY_OFFSET);
     if step == layout::NO_STEP {
         return Outcome {
             handed: Handed::Answer(head),
@@ -182,7 +182,7 @@ fn settle_message(reader: &[u8], requester: &[u8], head: Head) -> Outcome
     requires { ⌜ readerValid (now reader) ≡ true ⌝ }
     requires { ⌜ validRequester (now requester) ≡ true ⌝ }
     requires { ⌜ head .length ≤ longest-data ⌝ }
-    ensures { λ r. ⌜ outcomeSaid r ≡ outcomeTold (outcomeOf (now (requester .entry)) (some (heard (numberOf (now (requester .entry))) (good (headMessage head (dataOf (now (reader .entry)) (head .length))))))) ⌝ }
+    ensures { λ r. ⌜ outcomeReport r ≡ outcomeTold (outcomeOf (now (requester .entry)) (some (heard (numberOf (now (requester .entry))) (good (headMessage head (dataOf (now (reader .entry)) (head .length))))))) ⌝ }
 {
     if !progress::is_outstanding(requester) {
         return Outcome {
@@ -190,7 +190,7 @@ fn settle_message(reader: &[u8], requester: &[u8], head: Head) -> Outcome
             next: Next::Same,
         };
     }
-    let newest = octets::read_u64(requester, layout::NUMBER_PLACE);
+    let newest = octets::read_u64(requester, layout::NUMBER_OFFSET);
     let heard = hear(RequestNumber(newest), head);
     match heard {
         Heard::Ground => Outcome {
@@ -207,7 +207,7 @@ fn settle_message(reader: &[u8], requester: &[u8], head: Head) -> Outcome
 
 // A ground for sending the same bytes again.
 fn settle_ground(requester: &[u8]) -> Outcome
-    ensures { λ r. ⌜ outcomeSaid r ≡ outcomeTold (outcomeOf (now (requester .entry)) (some ground)) ⌝ }
+    ensures { λ r. ⌜ outcomeReport r ≡ outcomeTold (outcomeOf (now (requester .entry)) (some ground)) ⌝ }
 {
     if progress::is_outstanding(requester) {
         return Outcome {
@@ -224,7 +224,7 @@ fn settle_ground(requester: &[u8]) -> Outcome
 // No 00 has come: a ground where the frame has passed 4,140 bytes.
 fn settle_more(reader: &[u8], requester: &[u8]) -> Outcome
     requires { ⌜ readerValid (now reader) ≡ true ⌝ }
-    ensures { λ r. ⌜ outcomeSaid r ≡ outcomeTold (outcomeOf (now (requester .entry)) (cond (overran (now (reader .entry))) (some ground) none)) ⌝ }
+    ensures { λ r. ⌜ outcomeReport r ≡ outcomeTold (outcomeOf (now (requester .entry)) (cond (overran (now (reader .entry))) (some ground) none)) ⌝ }
 {
     let tail = line::reader::tail(reader);
     match tail {
@@ -236,7 +236,7 @@ fn settle_more(reader: &[u8], requester: &[u8]) -> Outcome
 
 // Nothing is heard.
 fn settle_none() -> Outcome
-    ensures { λ r. ⌜ outcomeSaid r ≡ outcomeTold (outcome nothing same) ⌝ }
+    ensures { λ r. ⌜ outcomeReport r ≡ outcomeTold (outcome nothing same) ⌝ }
 {
     Outcome {
         handed: Handed::Nothing,
@@ -248,8 +248,8 @@ fn settle_none() -> Outcome
 pub(crate) fn settle(reader: &[u8], requester: &[u8], answer: Answer) -> Outcome
     requires { ⌜ readerValid (now reader) ≡ true ⌝ }
     requires { ⌜ validRequester (now requester) ≡ true ⌝ }
-    requires { ⌜ dataFit (said answer) ≡ true ⌝ }
-    ensures { λ r. ⌜ outcomeSaid r ≡ outcomeTold (outcomeOf (now (requester .entry)) (heardOf (numberOf (now (requester .entry))) (now (reader .entry)) (said answer))) ⌝ }
+    requires { ⌜ dataFit (report answer) ≡ true ⌝ }
+    ensures { λ r. ⌜ outcomeReport r ≡ outcomeTold (outcomeOf (now (requester .entry)) (heardOf (numberOf (now (requester .entry))) (now (reader .entry)) (report answer))) ⌝ }
 {
     match answer {
         Answer::Refused => settle_none(),

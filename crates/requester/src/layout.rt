@@ -11,21 +11,21 @@ pub const LAST_NUMBER: u64 = 0x7ffffffffffffffe;
 
 pub const STATUS_LENGTH: usize = 16;
 
-pub const NUMBER_PLACE: usize = 0;
+pub const NUMBER_OFFSET: usize = 0;
 
-pub const RECOVERY_PLACE: usize = 8;
+pub const RECOVERY_OFFSET: usize = 8;
 
-pub const UNSENT_PLACE: usize = 9;
+pub const UNSENT_OFFSET: usize = 9;
 
-pub const KEPT_PLACE: usize = 10;
+pub const KEPT_OFFSET: usize = 10;
 
-pub const COMMAND_PLACE: usize = 11;
+pub const COMMAND_OFFSET: usize = 11;
 
-pub const LENGTH_PLACE: usize = 12;
+pub const LENGTH_OFFSET: usize = 12;
 
-pub const DATA_PLACE: usize = 14;
+pub const DATA_OFFSET: usize = 14;
 
-pub const REQUESTER_LENGTH: usize = DATA_PLACE + LONGEST_DATA;
+pub const REQUESTER_LENGTH: usize = DATA_OFFSET + LONGEST_DATA;
 
 // The steps of a recovery.
 pub const NO_STEP: u8 = 0;

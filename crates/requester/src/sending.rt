@@ -13,10 +13,10 @@ ghost use Rattle.line.specs.Writer.{outcome, sending as lineSending};
 ghost use Rattle.requester.specs.State.{requestFrame};
 ghost use Rattle.requester.specs.Layout.{requester-length, numberOf, outRequest};
 ghost use Rattle.requester.specs.Valid.{validRequester};
-ghost use Rattle.requester.specs.Calls.{requestSaid, sendSaid, putBy, withRequest, requesting, sending};
+ghost use Rattle.requester.specs.Calls.{requestReport, sendReport, putBy, withRequest, requesting, sending};
 ghost use Rattle.requester.specs.Hearing.{stepCommand};
 
-// What a call of `request` says: how many bytes it put out, or why none.
+// What a call of `request` answers: how many bytes it put out, or why none.
 pub enum Requested {
     Refused,
     TooLong,
@@ -26,7 +26,7 @@ pub enum Requested {
     Done(usize),
 }
 
-// What a call of `send` says: how many bytes it put out, 0 where nothing is to go out, or why none.
+// What a call of `send` answers: how many bytes it put out, 0 where nothing is to go out, or why none.
 pub enum Sent {
     Refused,
     NoRoom,
@@ -35,7 +35,7 @@ pub enum Sent {
 
 // Puts out a request's frame under the next number and keeps the request, unless it never stays outstanding.
 pub fn request(requester: &mut [u8], command: u8, data: &[u8], out: &mut [u8]) -> Requested
-    ensures { λ r. ⌜ putBy (requestSaid r) (now (out .exit)) (now (requester .exit)) ≡ requesting (now (requester .entry)) command (now («data» .entry)) (now (out .entry)) ⌝ }
+    ensures { λ r. ⌜ putBy (requestReport r) (now (out .exit)) (now (requester .exit)) ≡ requesting (now (requester .entry)) command (now («data» .entry)) (now (out .entry)) ⌝ }
 {
     if !valid::requester_is_valid(requester) {
         return Requested::Refused;
@@ -46,7 +46,7 @@ pub fn request(requester: &mut [u8], command: u8, data: &[u8], out: &mut [u8]) -
     if progress::is_outstanding(requester) {
         return Requested::Outstanding;
     }
-    let number = octets::read_u64(requester, layout::NUMBER_PLACE);
+    let number = octets::read_u64(requester, layout::NUMBER_OFFSET);
     if layout::LAST_NUMBER <= number {
         return Requested::NoNumber;
     }
@@ -72,14 +72,14 @@ fn keep(requester: &mut [u8], number: u64, command: u8, data: &[u8])
         return;
     }
     progress::set_progress(requester, number, layout::NO_STEP, 0, 1);
-    requester[layout::COMMAND_PLACE] = command;
-    octets::write_u16(requester, layout::LENGTH_PLACE, data.len() as u16);
-    octets::copy(data, 0, data.len(), requester, layout::DATA_PLACE);
+    requester[layout::COMMAND_OFFSET] = command;
+    octets::write_u16(requester, layout::LENGTH_OFFSET, data.len() as u16);
+    octets::copy(data, 0, data.len(), requester, layout::DATA_OFFSET);
 }
 
 // Puts out the frame of the one outstanding, where it is to go out.
 pub fn send(requester: &mut [u8], out: &mut [u8]) -> Sent
-    ensures { λ r. ⌜ putBy (sendSaid r) (now (out .exit)) (now (requester .exit)) ≡ sending (now (requester .entry)) (now (out .entry)) ⌝ }
+    ensures { λ r. ⌜ putBy (sendReport r) (now (out .exit)) (now (requester .exit)) ≡ sending (now (requester .entry)) (now (out .entry)) ⌝ }
 {
     if !valid::requester_is_valid(requester) {
         return Sent::Refused;
@@ -90,7 +90,7 @@ pub fn send(requester: &mut [u8], out: &mut [u8]) -> Sent
     let written = write_outstanding(requester, out);
     match written {
         Written::Done(n) => {
-            requester[layout::UNSENT_PLACE] = 0;
+            requester[layout::UNSENT_OFFSET] = 0;
             Sent::Done(n)
         }
         Written::NoRoom => Sent::NoRoom,
@@ -103,17 +103,17 @@ fn write_outstanding(requester: &[u8], out: &mut [u8]) -> Written
     requires { ⌜ validRequester (now requester) ≡ true ⌝ }
     ensures { λ r. ⌜ outcome r (now (out .exit)) ≡ lineSending (requestFrame (numberOf (now (requester .entry))) (outRequest (now (requester .entry)))) (now (out .entry)) ⌝ }
 {
-    let number = octets::read_u64(requester, layout::NUMBER_PLACE);
-    let step = octets::read_u8(requester, layout::RECOVERY_PLACE);
-    let n = octets::word_at(requester, layout::LENGTH_PLACE);
+    let number = octets::read_u64(requester, layout::NUMBER_OFFSET);
+    let step = octets::read_u8(requester, layout::RECOVERY_OFFSET);
+    let n = octets::word_at(requester, layout::LENGTH_OFFSET);
     if step == layout::NO_STEP {
-        let command = octets::read_u8(requester, layout::COMMAND_PLACE);
-        let end = layout::DATA_PLACE + n;
+        let command = octets::read_u8(requester, layout::COMMAND_OFFSET);
+        let end = layout::DATA_OFFSET + n;
         return line::writer::write(
             1,
             number,
             command,
-            &requester[layout::DATA_PLACE..end],
+            &requester[layout::DATA_OFFSET..end],
             &requester[0..0],
             out,
         );

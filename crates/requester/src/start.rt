@@ -5,7 +5,7 @@ ghost use mathlib.Core.Path.{_≡_};
 ghost use Prim.Native.Nat.{_≤_};
 ghost use lib.ListN.{length, replicate};
 ghost use Rattle.octets.specs.Bytes.{overlay};
-ghost use Rattle.requester.specs.Layout.{requester-length, data-place};
+ghost use Rattle.requester.specs.Layout.{requester-length, data-offset};
 ghost use Rattle.requester.specs.Calls.{parts, startOf, starting};
 
 pub enum Started {
@@ -31,7 +31,7 @@ pub fn start(reader: &mut [u8], requester: &mut [u8]) -> Started
 // Every field ahead of the data 0.
 fn clear_fields(requester: &mut [u8])
     requires { ⌜ requester-length ≤ length (now requester) ⌝ }
-    ensures { λ _. ⌜ now (requester .exit) ≡ overlay 0 (replicate data-place 0) (now (requester .entry)) ⌝ }
+    ensures { λ _. ⌜ now (requester .exit) ≡ overlay 0 (replicate data-offset 0) (now (requester .entry)) ⌝ }
 {
     octets::write_u64(requester, 0, 0);
     octets::write_u32(requester, 8, 0);

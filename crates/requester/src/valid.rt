@@ -24,20 +24,20 @@ pub fn requester_is_valid(requester: &[u8]) -> bool
     if requester.len() < layout::REQUESTER_LENGTH {
         return false;
     }
-    if layout::LAST_NUMBER < octets::read_u64(requester, layout::NUMBER_PLACE) {
+    if layout::LAST_NUMBER < octets::read_u64(requester, layout::NUMBER_OFFSET) {
         return false;
     }
-    if 3 < octets::byte_at(requester, layout::RECOVERY_PLACE) {
+    if 3 < octets::byte_at(requester, layout::RECOVERY_OFFSET) {
         return false;
     }
-    if 1 < octets::byte_at(requester, layout::UNSENT_PLACE) {
+    if 1 < octets::byte_at(requester, layout::UNSENT_OFFSET) {
         return false;
     }
-    if 1 < octets::byte_at(requester, layout::KEPT_PLACE) {
+    if 1 < octets::byte_at(requester, layout::KEPT_OFFSET) {
         return false;
     }
-    if layout::LONGEST_DATA < octets::word_at(requester, layout::LENGTH_PLACE) {
+    if layout::LONGEST_DATA < octets::word_at(requester, layout::LENGTH_OFFSET) {
         return false;
     }
-    stays_out(octets::read_u8(requester, layout::COMMAND_PLACE))
+    stays_out(octets::read_u8(requester, layout::COMMAND_OFFSET))
 }

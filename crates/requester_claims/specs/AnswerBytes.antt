@@ -106,7 +106,7 @@ abbrev Closes : Option (List ℕ) → ℕ → Message → Type 0
 Closes bs b m = (b ≡ 0) × (xs : List ℕ) × (bs ≡ some xs) × (judge xs ≡ good m)
 
 module _ (s : State) where
-  closes-hands : (b : ℕ) → b ≡ 0 → (bs : Option (List ℕ)) → Hands (Closes bs b) (Requester.closes bs (Requester.receiving s (some [])) .handed)
+  closes-hands : (b : ℕ) → b ≡ 0 → (bs : Option (List ℕ)) → Hands (Closes bs b) (Requester.closes bs (Requester.withReceived s (some [])) .handed)
   closes-hands b z none = tt
   closes-hands b z (some []) = tt
   closes-hands b z (some (x ∷ xs)) =
@@ -160,18 +160,18 @@ later b bs z (some xs) used m w =
 receive-hands : (piece : List ℕ) (s : State) → Hands (Comes piece (s .received) (Requester.receive s piece .used)) (Requester.receive s piece .result .handed)
 unfolding Requester.receive
 receive-hands [] s = tt
-receive-hands (b ∷ bs) s = by (Requester.stops s b) refl (λ x. receive-hands bs (Requester.receiving s x))
+receive-hands (b ∷ bs) s = by (Requester.stops s b) refl (λ x. receive-hands bs (Requester.withReceived s x))
   where
     P : Requester.Received → Type 0
     P x = Hands (Comes (b ∷ bs) (s .received) (x .used)) (x .result .handed)
 
     by : (t : Bool) → Requester.stops s b ≡ t
-        → ((x : Option (List ℕ)) → let r = Requester.receive (Requester.receiving s x) bs in Hands (Comes bs x (r .used)) (r .result .handed))
+        → ((x : Option (List ℕ)) → let r = Requester.receive (Requester.withReceived s x) bs in Hands (Comes bs x (r .used)) (r .result .handed))
         → let r = Requester.receive (Requester.byte s b .state) bs in P (cond t (Requester.received 1 (Requester.byte s b)) (Requester.received (suc (r .used)) (r .result)))
     by true e i = hands-then (Closes (s .received) b) _ (at-once b bs (s .received)) (Requester.byte s b .handed) (byte-hands s b)
     by false e i =
         let x = grown (s .received) b in
-        let r = Requester.receive (Requester.receiving s x) bs in
+        let r = Requester.receive (Requester.withReceived s x) bs in
         rw (quiet-byte s b e)
         (hands-then (Comes bs x (r .used)) _ (later b bs (quiet-positive s b e) (s .received) (r .used)) (r .result .handed) (i x))
 

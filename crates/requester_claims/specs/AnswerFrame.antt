@@ -82,16 +82,16 @@ moved-received Requester.idle s = refl
 hears-since : (h : Heard) (s : State) → Since (s .received) → Since (Requester.hears h s .state .received)
 hears-since h s w = rw (moved-received (settled (s .recovery) (isSome (s .kept)) h .next) s) w
 
-closes-since : (bs : Option (List ℕ)) (s : State) → Since (Requester.closes bs (Requester.receiving s (some [])) .state .received)
+closes-since : (bs : Option (List ℕ)) (s : State) → Since (Requester.closes bs (Requester.withReceived s (some [])) .state .received)
 closes-since none s = tt
 closes-since (some []) s = tt
-closes-since (some (b ∷ bs)) s = hears-since (heard (s .newest) (judge (b ∷ bs))) (Requester.receiving s (some [])) tt
+closes-since (some (b ∷ bs)) s = hears-since (heard (s .newest) (judge (b ∷ bs))) (Requester.withReceived s (some [])) tt
 
 more-since : (bs : Option (List ℕ)) (b : ℕ) (s : State) → NonZero b → Since bs → Since (s .received) → Since (Requester.more bs b s .state .received)
 more-since none b s z w h = h
 more-since (some bs) b s z w h =
     cond-by (λ (x : Requester.Result). Since (x .state .received)) (ltb (length bs) longest-form) _ _
-    (λ _. each-append NonZero bs (b ∷ []) w (z, tt)) (λ _. hears-since ground (Requester.receiving s none) tt)
+    (λ _. each-append NonZero bs (b ∷ []) w (z, tt)) (λ _. hears-since ground (Requester.withReceived s none) tt)
 
 byte-since : (s : State) (b : ℕ) → Byte b → Since (s .received) → Since (Requester.byte s b .state .received)
 unfolding Requester.byte

@@ -95,7 +95,7 @@ module _ (s : State) where
   unfolding toldOf
   nothing-matches = tt
 
-  closes-matches : (bs : Option (List ℕ)) → ResultMatches (Requester.closes bs (Requester.receiving s (some [])))
+  closes-matches : (bs : Option (List ℕ)) → ResultMatches (Requester.closes bs (Requester.withReceived s (some [])))
   closes-matches none = nothing-matches
   closes-matches (some []) = nothing-matches
   closes-matches (some (b ∷ bs)) = settled-matches (s .newest) (s .recovery) (isSome (s .kept)) _ (heard-matches (s .newest) (judge (b ∷ bs)))
@@ -112,12 +112,12 @@ module _ (s : State) where
 receive-matches : (piece : List ℕ) (s : State) → TellsMatching (s .newest) (toldOf (Requester.receive s piece .result .handed))
 unfolding Requester.receive
 receive-matches [] s = nothing-matches s
-receive-matches (b ∷ bs) s = by (Requester.stops s b) refl (λ x. receive-matches bs (Requester.receiving s x))
+receive-matches (b ∷ bs) s = by (Requester.stops s b) refl (λ x. receive-matches bs (Requester.withReceived s x))
   where
     P : Requester.Received → Type 0
     P x = TellsMatching (s .newest) (toldOf (x .result .handed))
 
-    by : (t : Bool) → Requester.stops s b ≡ t → ((x : Option (List ℕ)) → TellsMatching (s .newest) (toldOf (Requester.receive (Requester.receiving s x) bs .result .handed)))
+    by : (t : Bool) → Requester.stops s b ≡ t → ((x : Option (List ℕ)) → TellsMatching (s .newest) (toldOf (Requester.receive (Requester.withReceived s x) bs .result .handed)))
         → let r = Requester.receive (Requester.byte s b .state) bs in P (cond t (Requester.received 1 (Requester.byte s b)) (Requester.received (suc (r .used)) (r .result)))
     by true e i = byte-matches s b
     by false e i = rw (quiet-byte s b e) (i (grown (s .received) b))
@@ -257,16 +257,16 @@ unfolding toldOf
 nothing-balanced s t e = rw e (omega arith)
 
 module _ (s : State) where
-  closes-balanced : (bs : Option (List ℕ)) → Balanced s (Requester.closes bs (Requester.receiving s (some [])))
-  closes-balanced none = nothing-balanced s (Requester.receiving s (some [])) refl
-  closes-balanced (some []) = nothing-balanced s (Requester.receiving s (some [])) refl
-  closes-balanced (some (b ∷ bs)) = hears-balanced (Requester.receiving s (some [])) (heard (s .newest) (judge (b ∷ bs)))
+  closes-balanced : (bs : Option (List ℕ)) → Balanced s (Requester.closes bs (Requester.withReceived s (some [])))
+  closes-balanced none = nothing-balanced s (Requester.withReceived s (some [])) refl
+  closes-balanced (some []) = nothing-balanced s (Requester.withReceived s (some [])) refl
+  closes-balanced (some (b ∷ bs)) = hears-balanced (Requester.withReceived s (some [])) (heard (s .newest) (judge (b ∷ bs)))
 
   more-balanced : (bs : Option (List ℕ)) (b : ℕ) → Balanced s (Requester.more bs b s)
   more-balanced none b = nothing-balanced s s refl
   more-balanced (some bs) b =
       cond-by (Balanced s) (ltb (length bs) longest-form) _ _
-      (λ _. nothing-balanced s (Requester.receiving s (some (bs ++ b ∷ []))) refl) (λ _. hears-balanced (Requester.receiving s none) ground)
+      (λ _. nothing-balanced s (Requester.withReceived s (some (bs ++ b ∷ []))) refl) (λ _. hears-balanced (Requester.withReceived s none) ground)
 
   byte-balanced : (b : ℕ) → Balanced s (Requester.byte s b)
   unfolding Requester.byte
@@ -275,9 +275,9 @@ module _ (s : State) where
 receive-balanced : (piece : List ℕ) (s : State) → Balanced s (Requester.receive s piece .result)
 unfolding Requester.receive
 receive-balanced [] s = nothing-balanced s s refl
-receive-balanced (b ∷ bs) s = by (Requester.stops s b) refl (λ x. receive-balanced bs (Requester.receiving s x))
+receive-balanced (b ∷ bs) s = by (Requester.stops s b) refl (λ x. receive-balanced bs (Requester.withReceived s x))
   where
-    by : (t : Bool) → Requester.stops s b ≡ t → ((x : Option (List ℕ)) → Balanced s (Requester.receive (Requester.receiving s x) bs .result))
+    by : (t : Bool) → Requester.stops s b ≡ t → ((x : Option (List ℕ)) → Balanced s (Requester.receive (Requester.withReceived s x) bs .result))
         → let r = Requester.receive (Requester.byte s b .state) bs in Balanced s (cond t (Requester.received 1 (Requester.byte s b)) (Requester.received (suc (r .used)) (r .result)) .result)
     by true e i = byte-balanced s b
     by false e i = rw (quiet-byte s b e) (i (grown (s .received) b))

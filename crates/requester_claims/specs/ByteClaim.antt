@@ -64,7 +64,7 @@ kept-none s e = rw e
 
 module _ (p : Parts) (v : PartsValid p) (reader : List ℕ) (bs : Option (List ℕ)) (ready : Ready reader) (long : length reader ≡ length (p .reader))
     (e : receivedOf reader ≡ bs) where
-  drop-follows : Follows p (fedBy p reader none) (dropped (Requester.receiving (view p) bs))
+  drop-follows : Follows p (fedBy p reader none) (dropped (Requester.withReceived (view p) bs))
   unfolding fedBy outcomeOf Calls.movedTo view
   drop-follows = record {
     handed = refl;
@@ -76,7 +76,7 @@ module _ (p : Parts) (v : PartsValid p) (reader : List ℕ) (bs : Option (List �
   }
 
   hear-follows : (h : Heard) → Given reader (settled (Layout.stepOf (p .requester)) (Layout.isKept (p .requester)) h .handed)
-      → Follows p (fedBy p reader (some h)) (hears h (Requester.receiving (view p) bs))
+      → Follows p (fedBy p reader (some h)) (hears h (Requester.withReceived (view p) bs))
   unfolding fedBy outcomeOf view
   hear-follows h g =
       let r = p .requester in
@@ -100,7 +100,7 @@ module _ (number : ℕ) (reader : List ℕ) (t : Option Step) (k : Bool) where
   GivenHeard none = Unit {0}
   GivenHeard (some h) = Given reader (settled t k h .handed)
 
-  given-heard : (a : LineReader.Said) → LineReader.valid reader ≡ true → dataFit a ≡ true → GivenHeard (heardOf number reader a)
+  given-heard : (a : LineReader.Report) → LineReader.valid reader ≡ true → dataFit a ≡ true → GivenHeard (heardOf number reader a)
   unfolding heardOf dataFit heard
   given-heard (LineReader.refused n) v f = tt
   given-heard LineReader.more v f = cond-by GivenHeard (overran reader) (some ground) none (λ _. given-ground reader t k) (λ _. tt)
@@ -170,7 +170,7 @@ module _ (p : Parts) (v : PartsValid p) where
           let z = eqb-false n 0 f in
           let h = ltb-false longest-form n e in
           let k : 0 < length (LineReader.kept s) = rw (length-kept s (r .0) h) (positive n z) in
-          rw (e, finished-heard (Layout.numberOf (p .requester)) s r z h, received-some s h, closes-some (LineReader.kept s) (Requester.receiving (view p) (some [])) k)
+          rw (e, finished-heard (Layout.numberOf (p .requester)) s r z h, received-some s h, closes-some (LineReader.kept s) (Requester.withReceived (view p) (some [])) k)
           (hear-follows p v t (some []) finish-ready (finish-leaves s (r .0) .0) (finished-received s r) _ (finish-given z h))
 
   -- any other byte

@@ -23,7 +23,7 @@ use Rattle.requester.specs.Requester.{staysOut}
 use Rattle.requester.specs.Layout
 use Rattle.requester.specs.Calls
 use Rattle.requester.specs.Calls.{Parts, parts, toldOf}
-use Rattle.requester.proofs.ValidLaws.{RequesterValid, requester-valid, valid-requester, PartsValid, valid-parts, Roomy, roomy-is}
+use Rattle.requester.proofs.ValidLaws.{RequesterValid, requester-valid, valid-requester, PartsValid, valid-parts, LongEnough, long-enough-is}
 use Rattle.requester_claims.specs.View.{receivedOf, keptOf, held, view}
 use Rattle.requester_claims.specs.Histories
 use Rattle.requester_claims.specs.Histories.{Call, Answer, Did, didBy, did, refusal, withRequester, putDid, Means, means, putMeans, meant, receiptDid, receiveAnswer}
@@ -96,12 +96,12 @@ to-go-out p = rw (outstanding-some (p .requester))
 
 -- ---- start
 
-module _ (p : Parts) (room : Roomy p) where
+module _ (p : Parts) (room : LongEnough p) where
   abbrev t : List ℕ
-  t = overlay 0 (replicate Layout.data-place 0) (p .requester)
+  t = overlay 0 (replicate Layout.data-offset 0) (p .requester)
 
-  zeros : (j k : ℕ) → j + k ≤ Layout.data-place → run j k t ≡ run j k (replicate Layout.data-place 0)
-  zeros j k h = rw zero-add at (overlay-part 0 j k (replicate Layout.data-place 0) (p .requester) (omega arith) (omega arith))
+  zeros : (j k : ℕ) → j + k ≤ Layout.data-offset → run j k t ≡ run j k (replicate Layout.data-offset 0)
+  zeros j k h = rw zero-add at (overlay-part 0 j k (replicate Layout.data-offset 0) (p .requester) (omega arith) (omega arith))
 
   fresh-held : held t (some []) ≡ fresh
   unfolding fresh keptOf Layout.stepAt number
@@ -110,7 +110,7 @@ module _ (p : Parts) (room : Roomy p) where
   fresh-valid : RequesterValid t
   unfolding staysOut number
   fresh-valid = record {
-    long = omega (arith, length-overlay 0 (replicate Layout.data-place 0) (p .requester) (omega (arith, room .requester)), room .requester);
+    long = omega (arith, length-overlay 0 (replicate Layout.data-offset 0) (p .requester) (omega (arith, room .requester)), room .requester);
     number = rw (zeros 0 8 (omega arith)) (omega arith);
     recovery = rw (zeros 8 1 (omega arith)) (omega arith);
     unsent = rw (zeros 9 1 (omega arith)) (omega arith);
@@ -130,13 +130,13 @@ module _ (p : Parts) (room : Roomy p) where
   start-meets s =
       let c = count-counted 0 (p .reader) (omega (arith, room .reader)) (omega arith) in
       let l = length-counted 0 (p .reader) (omega (arith, room .reader)) in
-      rw (roomy-is p room)
+      rw (long-enough-is p room)
       (record {
         answer = refl;
         out = refl;
         state = rw started-received fresh-held;
         valid = record { reader = ready-valid _ (omega (arith, room .reader), omega arith); requester = valid-requester t fresh-valid };
-        lengths = record { reader = l; requester = length-overlay 0 (replicate Layout.data-place 0) (p .requester) (omega (arith, room .requester)) };
+        lengths = record { reader = l; requester = length-overlay 0 (replicate Layout.data-offset 0) (p .requester) (omega (arith, room .requester)) };
       })
 
 -- what is handed out is no refusal
@@ -234,7 +234,7 @@ module _ (p : Parts) (v : PartsValid p) where
     abbrev frame : List ℕ
     frame = requestFrame (Layout.numberOf r) (Layout.outRequest r)
 
-    flag-meets : Sends (Calls.putInto frame room r (overlay Layout.unsent-place (0 ∷ []) r))
+    flag-meets : Sends (Calls.putInto frame room r (overlay Layout.unsent-offset (0 ∷ []) r))
         (Requester.putOut (length room) frame (view p) (state (Layout.numberOf r) (keptOf r) (Layout.stepOf r) false bs))
     unfolding Calls.putInto
     flag-meets =
@@ -249,7 +249,7 @@ module _ (p : Parts) (v : PartsValid p) where
     send-meets = rw (v .requester, outstanding-is r) (by (Layout.isOutstanding r) (eqb (Layout.unsentOf r) 1) refl)
       where
         by : (a b : Bool) → eqb (Layout.unsentOf r) 1 ≡ b
-            → Sends (cond (a && b) (Calls.putInto frame room r (overlay Layout.unsent-place (0 ∷ []) r)) (Calls.putBy (Calls.wrote 0) room r))
+            → Sends (cond (a && b) (Calls.putInto frame room r (overlay Layout.unsent-offset (0 ∷ []) r)) (Calls.putBy (Calls.wrote 0) room r))
             (Requester.sentOf (length room) (cond a (some (Layout.outRequest r)) none) (view p))
         by true true e = rw e (rw e at flag-meets)
         by true false e = rw e (rw e at nothing-meets)

@@ -18,7 +18,7 @@ use Rattle.requester_claims.specs.OneByte.{Fed, feed, stopsAt, Walked, w
 use Rattle.requester_claims.specs.ByteClaim.{feed-follows, feed-quiet, received-walk}
 use Rattle.requester_claims.specs.CallClaims.{told-received}
 use Rattle.requester_claims.specs.LentCalls.{whole, too-little}
-use Rattle.requester_claims.specs.History.{one-call, valid-roomy, started}
+use Rattle.requester_claims.specs.History.{one-call, valid-long-enough, started}
 
 -- ---- what receives hand out
 
@@ -158,7 +158,7 @@ call-stream x c v = by (enough call (c .lent)) refl
     P d = answeredBy x c (d .answer) (d .out) (d .parts) ≡ stream x (take (usedOf (d .answer)) (c .piece))
 
     by : (t : Bool) → enough call (c .lent) ≡ t → P (made p (record { lent = c .lent; call = call }))
-    by true e = rw (whole (c .lent) p (valid-roomy p v) call e) (did-stream x c v)
+    by true e = rw (whole (c .lent) p (valid-long-enough p v) call e) (did-stream x c v)
     by false e = rw (too-little (c .lent) p call e) refl
 
 -- ---- receives, one after the other

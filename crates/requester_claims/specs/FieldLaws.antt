@@ -28,16 +28,16 @@ unfolding number
 number-byte v = omega arith
 
 -- the request kept lies behind the first fields
-module _ {r s : List ℕ} (same : Same Layout.command-place Layout.requester-length r s) (size : Layout.lengthOf r ≤ longest-data) where
+module _ {r s : List ℕ} (same : Same Layout.command-offset Layout.requester-length r s) (size : Layout.lengthOf r ≤ longest-data) where
   command-same : Layout.commandOf s ≡ Layout.commandOf r
-  command-same = number-same same 1 Layout.command-place (omega arith)
+  command-same = number-same same 1 Layout.command-offset (omega arith)
 
   length-same : Layout.lengthOf s ≡ Layout.lengthOf r
-  length-same = number-same same 2 Layout.length-place (omega arith)
+  length-same = number-same same 2 Layout.length-offset (omega arith)
 
   request-same : Layout.keptRequest s ≡ Layout.keptRequest r
   unfolding Layout.keptRequest
-  request-same = rw (command-same, length-same, same .runs Layout.data-place (Layout.lengthOf r) (omega arith))
+  request-same = rw (command-same, length-same, same .runs Layout.data-offset (Layout.lengthOf r) (omega arith))
 
 -- ---- the first fields
 
@@ -63,7 +63,7 @@ module _ (n t u k : ℕ) (r : List ℕ) (v : RequesterValid r) where
   unfolding progressed bytes
   progressed-kept = ap number (overlay-part 0 10 1 (bytes 8 n ++ t ∷ u ∷ k ∷ []) r (omega arith) (omega arith)) ∙ number-byte k
 
-  progressed-same : Same Layout.command-place Layout.requester-length r fields
+  progressed-same : Same Layout.command-offset Layout.requester-length r fields
   unfolding progressed bytes
   progressed-same = same-after 0 (bytes 8 n ++ t ∷ u ∷ k ∷ []) r (omega arith) (omega arith)
 
@@ -100,37 +100,37 @@ module _ (n t u k : ℕ) (r : List ℕ) (v : RequesterValid r) where
 
 module _ (u : ℕ) (r : List ℕ) (v : RequesterValid r) where
   abbrev flagged : List ℕ
-  flagged = overlay Layout.unsent-place (u ∷ []) r
+  flagged = overlay Layout.unsent-offset (u ∷ []) r
 
-  before : Same 0 Layout.unsent-place r flagged
-  before = same-before Layout.unsent-place (u ∷ []) r (omega (arith, v .long)) (omega arith)
+  before : Same 0 Layout.unsent-offset r flagged
+  before = same-before Layout.unsent-offset (u ∷ []) r (omega (arith, v .long)) (omega arith)
 
-  after : Same Layout.kept-place Layout.requester-length r flagged
-  after = same-after Layout.unsent-place (u ∷ []) r (omega (arith, v .long)) (omega arith)
+  after : Same Layout.kept-offset Layout.requester-length r flagged
+  after = same-after Layout.unsent-offset (u ∷ []) r (omega (arith, v .long)) (omega arith)
 
   flagged-unsent : Layout.unsentOf flagged ≡ u
-  flagged-unsent = ap number (overlay-inside Layout.unsent-place (u ∷ []) r (omega (arith, v .long))) ∙ number-byte u
+  flagged-unsent = ap number (overlay-inside Layout.unsent-offset (u ∷ []) r (omega (arith, v .long))) ∙ number-byte u
 
   pub flagged-held : (bs : Option (List ℕ)) → held flagged bs ≡ state (Layout.numberOf r) (keptOf r) (Layout.stepOf r) (eqb u 1) bs
   unfolding keptOf
   flagged-held bs =
       rw (
-        number-same before 8 Layout.number-place (omega arith),
-        number-same before 1 Layout.recovery-place (omega arith),
+        number-same before 8 Layout.number-offset (omega arith),
+        number-same before 1 Layout.recovery-offset (omega arith),
         flagged-unsent,
-        number-same after 1 Layout.kept-place (omega arith),
+        number-same after 1 Layout.kept-offset (omega arith),
         request-same (same-within after (omega arith)) (v .size),
       )
 
   pub flagged-long : length flagged ≡ length r
-  flagged-long = length-overlay Layout.unsent-place (u ∷ []) r (omega (arith, v .long))
+  flagged-long = length-overlay Layout.unsent-offset (u ∷ []) r (omega (arith, v .long))
 
   pub flagged-valid : u ≤ 1 → RequesterValid flagged
   flagged-valid h =
-      let a = number-same before 8 Layout.number-place (omega arith) in
-      let b = number-same before 1 Layout.recovery-place (omega arith) in
+      let a = number-same before 8 Layout.number-offset (omega arith) in
+      let b = number-same before 1 Layout.recovery-offset (omega arith) in
       let c = flagged-unsent in
-      let d = number-same after 1 Layout.kept-place (omega arith) in
+      let d = number-same after 1 Layout.kept-offset (omega arith) in
       let e = length-same (same-within after (omega arith)) (v .size) in
       record {
         long = omega (arith, flagged-long, v .long);
@@ -146,39 +146,39 @@ module _ (u : ℕ) (r : List ℕ) (v : RequesterValid r) where
 
 module _ (command : ℕ) (d r : List ℕ) (v : RequesterValid r) (l : length d ≤ longest-data) where
   abbrev asked : List ℕ
-  asked = overlay Layout.command-place (command ∷ bytes 2 (length d) ++ d) r
+  asked = overlay Layout.command-offset (command ∷ bytes 2 (length d) ++ d) r
 
-  ahead : Same 0 Layout.command-place r asked
-  ahead = same-before Layout.command-place (command ∷ bytes 2 (length d) ++ d) r (omega (arith, v .long)) (omega arith)
+  ahead : Same 0 Layout.command-offset r asked
+  ahead = same-before Layout.command-offset (command ∷ bytes 2 (length d) ++ d) r (omega (arith, v .long)) (omega arith)
 
   asked-command : Layout.commandOf asked ≡ command
   unfolding bytes
   asked-command =
-      ap number (overlay-part Layout.command-place 0 1 (command ∷ bytes 2 (length d) ++ d) r (omega (arith, v .long)) (omega arith)) ∙ number-byte command
+      ap number (overlay-part Layout.command-offset 0 1 (command ∷ bytes 2 (length d) ++ d) r (omega (arith, v .long)) (omega arith)) ∙ number-byte command
 
   asked-length : Layout.lengthOf asked ≡ length d
   unfolding bytes
   asked-length =
-      ap number (overlay-part Layout.command-place 1 2 (command ∷ bytes 2 (length d) ++ d) r (omega (arith, v .long)) (omega arith)) ∙ number-bytes 2 (length d) (omega arith)
+      ap number (overlay-part Layout.command-offset 1 2 (command ∷ bytes 2 (length d) ++ d) r (omega (arith, v .long)) (omega arith)) ∙ number-bytes 2 (length d) (omega arith)
 
-  asked-data : run Layout.data-place (length d) asked ≡ d
+  asked-data : run Layout.data-offset (length d) asked ≡ d
   unfolding bytes
   asked-data =
-      overlay-part Layout.command-place 3 (length d) (command ∷ bytes 2 (length d) ++ d) r (omega (arith, v .long)) (omega arith) ∙ take-length d
+      overlay-part Layout.command-offset 3 (length d) (command ∷ bytes 2 (length d) ++ d) r (omega (arith, v .long)) (omega arith) ∙ take-length d
 
   pub asked-long : length asked ≡ length r
   unfolding bytes
-  asked-long = length-overlay Layout.command-place (command ∷ bytes 2 (length d) ++ d) r (omega (arith, v .long))
+  asked-long = length-overlay Layout.command-offset (command ∷ bytes 2 (length d) ++ d) r (omega (arith, v .long))
 
   pub asked-held : (bs : Option (List ℕ))
       → held asked bs ≡ state (Layout.numberOf r) (cond (Layout.isKept r) (some (record { command = command; payload = d })) none) (Layout.stepOf r) (eqb (Layout.unsentOf r) 1) bs
   unfolding keptOf Layout.keptRequest
   asked-held bs =
       rw (
-        number-same ahead 8 Layout.number-place (omega arith),
-        number-same ahead 1 Layout.recovery-place (omega arith),
-        number-same ahead 1 Layout.unsent-place (omega arith),
-        number-same ahead 1 Layout.kept-place (omega arith),
+        number-same ahead 8 Layout.number-offset (omega arith),
+        number-same ahead 1 Layout.recovery-offset (omega arith),
+        number-same ahead 1 Layout.unsent-offset (omega arith),
+        number-same ahead 1 Layout.kept-offset (omega arith),
         asked-command,
         asked-length,
         asked-data,
@@ -186,10 +186,10 @@ module _ (command : ℕ) (d r : List ℕ) (v : RequesterValid r) (l : length d �
 
   pub asked-valid : staysOut command ≡ true → RequesterValid asked
   asked-valid s =
-      let a = number-same ahead 8 Layout.number-place (omega arith) in
-      let b = number-same ahead 1 Layout.recovery-place (omega arith) in
-      let c = number-same ahead 1 Layout.unsent-place (omega arith) in
-      let e = number-same ahead 1 Layout.kept-place (omega arith) in
+      let a = number-same ahead 8 Layout.number-offset (omega arith) in
+      let b = number-same ahead 1 Layout.recovery-offset (omega arith) in
+      let c = number-same ahead 1 Layout.unsent-offset (omega arith) in
+      let e = number-same ahead 1 Layout.kept-offset (omega arith) in
       let f = asked-length in
       record {
         long = omega (arith, asked-long, v .long);

@@ -51,7 +51,7 @@ abbrev pub refusal : Option ℕ → Answer
 refusal none = done
 refusal (some n) = refused n
 
-abbrev pub putAnswer : Calls.PutSaid → Answer
+abbrev pub putAnswer : Calls.PutReport → Answer
 putAnswer (Calls.wrote n) = put n
 putAnswer (Calls.refused n) = refused n
 
@@ -59,7 +59,7 @@ abbrev pub withRequester : Parts → List ℕ → Parts
 withRequester p r = parts (p .reader) r
 
 abbrev pub putDid : Parts → Calls.Put → Did
-putDid p t = didBy (putAnswer (t .said)) (t .out) (withRequester p (t .requester))
+putDid p t = didBy (putAnswer (t .report)) (t .out) (withRequester p (t .requester))
 
 abbrev pub receiveAnswer : ℕ → Told → Bool → Bool → Answer
 receiveAnswer used (Told.refused n) e u = refused n

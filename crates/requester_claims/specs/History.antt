@@ -19,7 +19,7 @@ use Rattle.requester.specs.Layout
 use Rattle.requester.specs.Valid.{validRequester}
 use Rattle.requester.specs.Calls
 use Rattle.requester.specs.Calls.{Parts, parts}
-use Rattle.requester.proofs.ValidLaws.{requester-valid, PartsValid, Roomy, is-roomy}
+use Rattle.requester.proofs.ValidLaws.{requester-valid, PartsValid, LongEnough, is-long-enough}
 use Rattle.line.proofs.State.{valid-ready}
 use Rattle.requester_claims.specs.View.{view}
 use Rattle.requester_claims.specs.Histories
@@ -44,7 +44,7 @@ module _ (p : Parts) where
 
   held : (c : Call) → Held c (did p c)
   unfolding did Calls.starting Calls.requesting Calls.putInto Calls.interrupting Calls.sending Calls.receiving Calls.received receiptDid dataGiven
-  held Histories.start = cond-by P (Calls.roomy p) _ _ (λ _. tt) (λ _. (refl, refl))
+  held Histories.start = cond-by P (Calls.longEnough p) _ _ (λ _. tt) (λ _. (refl, refl))
     where
       P : Calls.Start → Type 0
       P t = Held Histories.start (didBy (refusal (t .refusal)) [] (t .parts))
@@ -127,15 +127,15 @@ never-12 s m e f = let h : meant s (m .call) .answer ≡ refused 12 = rw e at f 
 
 -- ---- one call
 
-pub valid-roomy : (p : Parts) → PartsValid p → Roomy p
-valid-roomy p v = record { reader = valid-ready (p .reader) (v .reader) .0; requester = requester-valid (p .requester) (v .requester) .long }
+pub valid-long-enough : (p : Parts) → PartsValid p → LongEnough p
+valid-long-enough p v = record { reader = valid-ready (p .reader) (v .reader) .0; requester = requester-valid (p .requester) (v .requester) .long }
 
 -- whatever is lent: the answer, what is written outside the state, and the valid parts that are left
 pub one-call : (p : Parts) (m : Made) → PartsValid p → Meets p (made p m) (meantMade (view p) m)
 unfolding meantMade
 one-call p m v =
     cond-by (Meets p (made p m)) (enough (m .call) (m .lent)) _ _
-    (λ e. rw (whole (m .lent) p (valid-roomy p v) (m .call) e) (call-meets p v (m .call)))
+    (λ e. rw (whole (m .lent) p (valid-long-enough p v) (m .call) e) (call-meets p v (m .call)))
     (λ e. rw (too-little (m .lent) p (m .call) e) (record { answer = refl; out = refl; state = refl; valid = v; lengths = lengths-same }))
 
 -- valid parts never earn 12
@@ -166,11 +166,11 @@ module _ (p : Parts) (l : Lent) where
   undone n e = subst (λ a. WhereRefused a (λ _. ⊥)) (sym e) tt
 
   -- a start that is accepted had the published length of each part
-  accepted : (x : Bool) → Calls.roomy (lentOf l p) ≡ x → made p begin .answer ≡ done → Roomy p × (enough Histories.start l ≡ true)
+  accepted : (x : Bool) → Calls.longEnough (lentOf l p) ≡ x → made p begin .answer ≡ done → LongEnough p × (enough Histories.start l ≡ true)
   unfolding made did Calls.starting enough
   accepted false e h = absurd (undone 12 (rw e at h))
   accepted true e h =
-      let r = is-roomy (lentOf l p) e in
+      let r = is-long-enough (lentOf l p) e in
       let g = room-enough l p e in
       let b = and-eq-true-iff _ _ .0 g in
       let f = front LineReader.state-length (l .reader) (p .reader) (b .0) in

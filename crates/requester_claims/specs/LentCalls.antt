@@ -16,7 +16,7 @@ use Rattle.requester.specs.Valid.{validRequester}
 use Rattle.requester.specs.Calls
 use Rattle.requester.specs.Calls.{Parts, parts, Told}
 use Rattle.requester.proofs.Cases.{untrue}
-use Rattle.requester.proofs.ValidLaws.{requester-valid, parts-valid, Roomy, is-roomy}
+use Rattle.requester.proofs.ValidLaws.{requester-valid, parts-valid, LongEnough, is-long-enough}
 use Rattle.requester.proofs.ReaderLaws.{read-leaves}
 use Rattle.requester_claims.specs.Histories
 use Rattle.requester_claims.specs.Histories.{Call, Lent, didBy, did, lentOf, enoughReader, enoughRequester, enough, untouched, made, dataGiven, receiptDid}
@@ -40,7 +40,7 @@ receiving-long p piece =
     cond-by (λ (x : Calls.Receipt). length (x .parts .reader) ≡ length (p .reader)) (Calls.validParts p) _ _
     (λ v. read-leaves (Calls.within (p .reader) piece) (p .reader) (valid-ready (p .reader) (parts-valid p v .reader)) .long) (λ _. refl)
 
-module _ (l : Lent) (p : Parts) (room : Roomy p) where
+module _ (l : Lent) (p : Parts) (room : LongEnough p) where
   abbrev q : Parts
   q = lentOf l p
 
@@ -133,9 +133,9 @@ module _ (l : Lent) (p : Parts) where
   requester-enough : validRequester (lentOf l p .requester) ≡ true → enoughRequester l ≡ true
   requester-enough v = lent-enough Layout.requester-length (p .requester) (l .requester) (omega arith) (requester-valid _ v .long)
 
-  pub room-enough : Calls.roomy (lentOf l p) ≡ true → (enoughReader l && enoughRequester l) ≡ true
+  pub room-enough : Calls.longEnough (lentOf l p) ≡ true → (enoughReader l && enoughRequester l) ≡ true
   room-enough e =
-      let r = is-roomy (lentOf l p) e in
+      let r = is-long-enough (lentOf l p) e in
       and-eq-true-iff _ _ .1 (
         lent-enough LineReader.state-length (p .reader) (l .reader) (omega arith) (r .reader),
         lent-enough Layout.requester-length (p .requester) (l .requester) (omega arith) (r .requester),

@@ -32,7 +32,7 @@ use Rattle.requester.proofs.ReaderLaws.{read-leaves}
 
 -- what is said of a part, with more behind it
 abbrev putBehind : List ℕ → Calls.Put → Calls.Put
-putBehind u t = Calls.putBy (t .said) (t .out) (t .requester ++ u)
+putBehind u t = Calls.putBy (t .report) (t .out) (t .requester ++ u)
 
 abbrev interruptBehind : List ℕ → Calls.Interrupt → Calls.Interrupt
 interruptBehind u t = Calls.interruptBy (t .refusal) (t .requester ++ u)
@@ -50,44 +50,44 @@ module _ (t u : List ℕ) (long : Layout.requester-length ≤ length t) where
       rw (
         le-leb Layout.requester-length (length t) long,
         le-leb Layout.requester-length (length (t ++ u)) (simp length-append (omega arith)),
-        number-behind 8 Layout.number-place (omega arith),
-        number-behind 1 Layout.recovery-place (omega arith),
-        number-behind 1 Layout.unsent-place (omega arith),
-        number-behind 1 Layout.kept-place (omega arith),
-        number-behind 2 Layout.length-place (omega arith),
-        number-behind 1 Layout.command-place (omega arith),
+        number-behind 8 Layout.number-offset (omega arith),
+        number-behind 1 Layout.recovery-offset (omega arith),
+        number-behind 1 Layout.unsent-offset (omega arith),
+        number-behind 1 Layout.kept-offset (omega arith),
+        number-behind 2 Layout.length-offset (omega arith),
+        number-behind 1 Layout.command-offset (omega arith),
       )
 
   outstanding-behind : Layout.isOutstanding (t ++ u) ≡ Layout.isOutstanding t
   unfolding Layout.isOutstanding
-  outstanding-behind = rw (number-behind 1 Layout.recovery-place (omega arith), number-behind 1 Layout.kept-place (omega arith))
+  outstanding-behind = rw (number-behind 1 Layout.recovery-offset (omega arith), number-behind 1 Layout.kept-offset (omega arith))
 
   unsent-behind : Layout.isUnsent (t ++ u) ≡ Layout.isUnsent t
   unfolding Layout.isUnsent
-  unsent-behind = rw (outstanding-behind, number-behind 1 Layout.unsent-place (omega arith))
+  unsent-behind = rw (outstanding-behind, number-behind 1 Layout.unsent-offset (omega arith))
 
   request-behind : Layout.lengthOf t ≤ longest-data → Layout.outRequest (t ++ u) ≡ Layout.outRequest t
   unfolding Layout.outRequest Layout.keptRequest
   request-behind h =
       rw (
-        number-behind 1 Layout.recovery-place (omega arith),
-        number-behind 1 Layout.command-place (omega arith),
-        number-behind 2 Layout.length-place (omega arith),
-        run-append t u Layout.data-place (Layout.lengthOf t) (omega arith),
+        number-behind 1 Layout.recovery-offset (omega arith),
+        number-behind 1 Layout.command-offset (omega arith),
+        number-behind 2 Layout.length-offset (omega arith),
+        run-append t u Layout.data-offset (Layout.lengthOf t) (omega arith),
       )
 
   progressed-behind : (a b c d : ℕ) → progressed a b c d (t ++ u) ≡ progressed a b c d t ++ u
   unfolding progressed bytes
   progressed-behind a b c d = overlay-append t u 0 (bytes 8 a ++ b ∷ c ∷ d ∷ []) (omega arith)
 
-  flag-behind : (x : ℕ) → overlay Layout.unsent-place (x ∷ []) (t ++ u) ≡ overlay Layout.unsent-place (x ∷ []) t ++ u
-  flag-behind x = overlay-append t u Layout.unsent-place (x ∷ []) (omega arith)
+  flag-behind : (x : ℕ) → overlay Layout.unsent-offset (x ∷ []) (t ++ u) ≡ overlay Layout.unsent-offset (x ∷ []) t ++ u
+  flag-behind x = overlay-append t u Layout.unsent-offset (x ∷ []) (omega arith)
 
   kept-behind : (n command : ℕ) (d : List ℕ) → length d ≤ longest-data → Calls.withRequest n command d (t ++ u) ≡ Calls.withRequest n command d t ++ u
   unfolding Calls.withRequest bytes
   kept-behind n command d h =
       cond-map (λ x. x ++ u) (staysOut command)
-      (λ _. rw (progressed-behind n 0 0 1) (overlay-append (progressed n 0 0 1 t) u Layout.command-place (command ∷ bytes 2 (length d) ++ d) (omega (arith, length-progressed t long n 0 0 1))))
+      (λ _. rw (progressed-behind n 0 0 1) (overlay-append (progressed n 0 0 1 t) u Layout.command-offset (command ∷ bytes 2 (length d) ++ d) (omega (arith, length-progressed t long n 0 0 1))))
       (λ _. progressed-behind n 0 0 0)
 
   put-behind : (bs room x : List ℕ) {after : List ℕ} → after ≡ x ++ u → Calls.putInto bs room (t ++ u) after ≡ putBehind u (Calls.putInto bs room t x)
@@ -97,7 +97,7 @@ module _ (t u : List ℕ) (long : Layout.requester-length ≤ length t) where
   pub requesting-behind : (command : ℕ) (d room : List ℕ) → Calls.requesting (t ++ u) command d room ≡ putBehind u (Calls.requesting t command d room)
   unfolding Calls.requesting
   requesting-behind command d room =
-      rw (valid-behind, outstanding-behind, number-behind 8 Layout.number-place (omega arith))
+      rw (valid-behind, outstanding-behind, number-behind 8 Layout.number-offset (omega arith))
       (cond-map (putBehind u) (validRequester t) (λ _.
       cond-map (putBehind u) (ltb longest-data (length d)) (λ _. refl) (λ e.
       cond-map (putBehind u) (Layout.isOutstanding t) (λ _. refl) (λ _.
@@ -108,7 +108,7 @@ module _ (t u : List ℕ) (long : Layout.requester-length ≤ length t) where
   pub sending-behind : (room : List ℕ) → Calls.sending (t ++ u) room ≡ putBehind u (Calls.sending t room)
   unfolding Calls.sending
   sending-behind room =
-      rw (valid-behind, unsent-behind, number-behind 8 Layout.number-place (omega arith))
+      rw (valid-behind, unsent-behind, number-behind 8 Layout.number-offset (omega arith))
       (cond-map (putBehind u) (validRequester t) (λ v.
       rw (request-behind (requester-valid t v .size))
       (cond-map (putBehind u) (Layout.isUnsent t) (λ _. put-behind (requestFrame (Layout.numberOf t) (Layout.outRequest t)) room _ (flag-behind 0)) (λ _. refl)))
@@ -117,7 +117,7 @@ module _ (t u : List ℕ) (long : Layout.requester-length ≤ length t) where
   pub interrupting-behind : Calls.interrupting (t ++ u) ≡ interruptBehind u (Calls.interrupting t)
   unfolding Calls.interrupting
   interrupting-behind =
-      rw (valid-behind, number-behind 1 Layout.recovery-place (omega arith), number-behind 8 Layout.number-place (omega arith), number-behind 1 Layout.kept-place (omega arith))
+      rw (valid-behind, number-behind 1 Layout.recovery-offset (omega arith), number-behind 8 Layout.number-offset (omega arith), number-behind 1 Layout.kept-offset (omega arith))
       (cond-map (interruptBehind u) (validRequester t) (λ _.
       cond-map (interruptBehind u) (eqb (Layout.recoveryOf t) 0) (λ _.
       cond-map (interruptBehind u) (leb last-number (Layout.numberOf t)) (λ _. refl) (λ _. rw (progressed-behind (suc (Layout.numberOf t)) _ 1 (Layout.keptOf t))))
@@ -127,22 +127,22 @@ module _ (t u : List ℕ) (long : Layout.requester-length ≤ length t) where
   outcome-behind : (h : Option Heard) → outcomeOf (t ++ u) h ≡ outcomeOf t h
   unfolding outcomeOf
   outcome-behind none = refl
-  outcome-behind (some h) = rw (number-behind 1 Layout.recovery-place (omega arith), number-behind 1 Layout.kept-place (omega arith))
+  outcome-behind (some h) = rw (number-behind 1 Layout.recovery-offset (omega arith), number-behind 1 Layout.kept-offset (omega arith))
 
   moved-behind : (x : Requester.Next) → Calls.movedTo x (t ++ u) ≡ movedBehind u (Calls.movedTo x t)
   unfolding Calls.movedTo
   moved-behind Requester.same = refl
   moved-behind Requester.again = rw (flag-behind 1)
   moved-behind (Requester.anew s) =
-      rw (number-behind 8 Layout.number-place (omega arith), number-behind 1 Layout.kept-place (omega arith))
+      rw (number-behind 8 Layout.number-offset (omega arith), number-behind 1 Layout.kept-offset (omega arith))
       (cond-map (movedBehind u) (leb last-number (Layout.numberOf t)) (λ _. rw (progressed-behind (Layout.numberOf t) 0 0 0))
       (λ _. rw (progressed-behind (suc (Layout.numberOf t)) _ 1 (Layout.keptOf t))))
-  moved-behind Requester.idle = rw (number-behind 8 Layout.number-place (omega arith), progressed-behind (Layout.numberOf t) 0 0 0)
+  moved-behind Requester.idle = rw (number-behind 8 Layout.number-offset (omega arith), progressed-behind (Layout.numberOf t) 0 0 0)
 
   moved-long : (x : Requester.Next) → length (Calls.movedTo x t .requester) ≡ length t
   unfolding Calls.movedTo
   moved-long Requester.same = refl
-  moved-long Requester.again = length-overlay Layout.unsent-place (1 ∷ []) t (omega arith)
+  moved-long Requester.again = length-overlay Layout.unsent-offset (1 ∷ []) t (omega arith)
   moved-long (Requester.anew s) =
       cond-by (λ (m : Calls.Moved). length (m .requester) ≡ length t) (leb last-number (Layout.numberOf t)) _ _
       (λ _. length-progressed t long _ 0 0 0) (λ _. length-progressed t long _ _ 1 _)
@@ -161,7 +161,7 @@ read-behind (suc b ∷ bs) s u r =
     let p = ready-pushed s (suc b) r in
     rw (eqb·suc-zero, pushed-append s u (r .0) (suc b)) (rw (read-behind bs (LineReader.pushed s (suc b)) u (omega (arith, r .0), p .1)))
 
-heard-behind : (n : ℕ) (s u : List ℕ) → LineReader.state-length ≤ length s → (a : LineReader.Said) → heardOf n (s ++ u) a ≡ heardOf n s a
+heard-behind : (n : ℕ) (s u : List ℕ) → LineReader.state-length ≤ length s → (a : LineReader.Report) → heardOf n (s ++ u) a ≡ heardOf n s a
 unfolding heardOf
 heard-behind n s u h (LineReader.refused k) = refl
 heard-behind n s u h LineReader.more = rw (count-append s u h)
@@ -194,7 +194,7 @@ module _ (p : Parts) (a u : List ℕ) (reader : LineReader.state-length ≤ leng
       rw (
         count-append (p .reader) a reader,
         read-behind q (p .reader) a r,
-        number-behind (p .requester) u requester 8 Layout.number-place (omega arith),
+        number-behind (p .requester) u requester 8 Layout.number-offset (omega arith),
         heard-behind (Layout.numberOf (p .requester)) (o .state) a (w .ready .0) (o .answer),
         outcome-behind (p .requester) u requester h,
         moved-behind (p .requester) u requester (x .next),
@@ -207,7 +207,7 @@ module _ (p : Parts) (a u : List ℕ) (reader : LineReader.state-length ≤ leng
       rw valid-parts-behind (cond-map (receiptBehind a u) (Calls.validParts p) (λ v. received-behind v piece) (λ _. refl))
 
   pub starting-behind : Calls.starting (partsBehind a u p) ≡ record { refusal = Calls.starting p .refusal; parts = partsBehind a u (Calls.starting p .parts) }
-  unfolding Calls.starting Calls.roomy Calls.freshParts LineReader.counted bytes
+  unfolding Calls.starting Calls.longEnough Calls.freshParts LineReader.counted bytes
   starting-behind =
       rw (
         le-leb LineReader.state-length (length (p .reader)) reader,
@@ -215,5 +215,5 @@ module _ (p : Parts) (a u : List ℕ) (reader : LineReader.state-length ≤ leng
         le-leb Layout.requester-length (length (p .requester)) requester,
         le-leb Layout.requester-length (length (p .requester ++ u)) (simp length-append (omega arith)),
         overlay-append (p .reader) a 0 (bytes 2 0) (omega arith),
-        overlay-append (p .requester) u 0 (replicate Layout.data-place 0) (omega arith),
+        overlay-append (p .requester) u 0 (replicate Layout.data-offset 0) (omega arith),
       )

@@ -24,9 +24,9 @@ grown none b = none
 grown (some bs) b = some (bs ++ b ∷ [])
 
 quiet-more : (s : State) (b : ℕ) (bs : Option (List ℕ)) → s .received ≡ bs → Requester.fills bs ≡ false
-    → Requester.more bs b s ≡ dropped (Requester.receiving s (grown bs b))
+    → Requester.more bs b s ≡ dropped (Requester.withReceived s (grown bs b))
 unfolding grown
-quiet-more s b none e f = ap (λ (x : Option (List ℕ)). dropped (Requester.receiving s x)) e
+quiet-more s b none e f = ap (λ (x : Option (List ℕ)). dropped (Requester.withReceived s x)) e
 quiet-more s b (some bs) e f = rw (lt-ltb (length bs) longest-form (leb-false longest-form (length bs) f))
 
 byte-more : (s : State) (b : ℕ) → eqb b 0 ≡ false → byte s b ≡ Requester.more (s .received) b s
@@ -34,7 +34,7 @@ unfolding byte
 byte-more s b e = rw e
 
 -- it changes the receive progress alone, and hands nothing out
-pub quiet-byte : (s : State) (b : ℕ) → Requester.stops s b ≡ false → byte s b ≡ dropped (Requester.receiving s (grown (s .received) b))
+pub quiet-byte : (s : State) (b : ℕ) → Requester.stops s b ≡ false → byte s b ≡ dropped (Requester.withReceived s (grown (s .received) b))
 quiet-byte s b e =
     let h = either (eqb b 0) (Requester.fills (s .received)) e in
     byte-more s b (h .0) ∙ quiet-more s b (s .received) refl (h .1)

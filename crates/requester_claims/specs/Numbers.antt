@@ -105,16 +105,16 @@ moved-goes (Requester.anew t) s =
 moved-goes Requester.idle s = stays refl (inr refl) (inl refl)
 
 -- the receive progress does not matter
-progress-goes : {s t : State} {fs : List Frame} (bs : Option (List ℕ)) → Goes (Requester.receiving s bs) t fs → Goes s t fs
+progress-goes : {s t : State} {fs : List Frame} (bs : Option (List ℕ)) → Goes (Requester.withReceived s bs) t fs → Goes s t fs
 progress-goes bs (stays a b c) = stays a b c
 progress-goes bs (takes a b) = takes a b
 
 -- a byte
 module _ (s : State) where
-  hears-goes : (bs : Option (List ℕ)) (h : Heard) → Goes s (Requester.hears h (Requester.receiving s bs) .state) []
-  hears-goes bs h = progress-goes bs (moved-goes (settled (s .recovery) (isSome (s .kept)) h .next) (Requester.receiving s bs))
+  hears-goes : (bs : Option (List ℕ)) (h : Heard) → Goes s (Requester.hears h (Requester.withReceived s bs) .state) []
+  hears-goes bs h = progress-goes bs (moved-goes (settled (s .recovery) (isSome (s .kept)) h .next) (Requester.withReceived s bs))
 
-  closes-goes : (bs : Option (List ℕ)) → Goes s (Requester.closes bs (Requester.receiving s (some [])) .state) []
+  closes-goes : (bs : Option (List ℕ)) → Goes s (Requester.closes bs (Requester.withReceived s (some [])) .state) []
   closes-goes none = stays refl (inl refl) (inl refl)
   closes-goes (some []) = stays refl (inl refl) (inl refl)
   closes-goes (some (b ∷ bs)) = hears-goes (some []) (heard (s .newest) (judge (b ∷ bs)))
@@ -133,12 +133,12 @@ receive-goes : (piece : List ℕ) (s : State) → Goes s (Requester.receive s pi
 unfolding Requester.receive
 receive-goes [] s = nothing-goes s
 receive-goes (b ∷ bs) s =
-    by (Requester.stops s b) refl (λ x. receive-goes bs (Requester.receiving s x))
+    by (Requester.stops s b) refl (λ x. receive-goes bs (Requester.withReceived s x))
   where
     P : Requester.Received → Type 0
     P x = Goes s (x .result .state) []
 
-    by : (t : Bool) → Requester.stops s b ≡ t → ((x : Option (List ℕ)) → Goes (Requester.receiving s x) (Requester.receive (Requester.receiving s x) bs .result .state) [])
+    by : (t : Bool) → Requester.stops s b ≡ t → ((x : Option (List ℕ)) → Goes (Requester.withReceived s x) (Requester.receive (Requester.withReceived s x) bs .result .state) [])
         → let r = Requester.receive (Requester.byte s b .state) bs in P (cond t (Requester.received 1 (Requester.byte s b)) (Requester.received (suc (r .used)) (r .result)))
     by true e i = byte-goes s b
     by false e i = rw (quiet-byte s b e) (progress-goes (grown (s .received) b) (i (grown (s .received) b)))

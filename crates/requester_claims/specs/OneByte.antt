@@ -33,7 +33,7 @@ abbrev pub readerAfter : List ℕ → ℕ → List ℕ
 readerAfter s zero = LineReader.finish s .state
 readerAfter s (suc b) = LineReader.pushed s (suc b)
 
-abbrev pub saidAfter : List ℕ → ℕ → LineReader.Said
+abbrev pub saidAfter : List ℕ → ℕ → LineReader.Report
 saidAfter s zero = LineReader.finish s .answer
 saidAfter s (suc b) = LineReader.more
 

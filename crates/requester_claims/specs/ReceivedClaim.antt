@@ -38,7 +38,7 @@ module _ (s : List ℕ) where
 
   pub length-kept : LineReader.state-length ≤ length s → LineReader.count s ≤ longest-form → length (LineReader.kept s) ≡ LineReader.count s
   unfolding LineReader.kept
-  length-kept h l = length-run LineReader.frame-place (LineReader.count s) s (omega arith)
+  length-kept h l = length-run LineReader.frame-offset (LineReader.count s) s (omega arith)
 
 -- a byte put behind a run
 run-put : (at n b : ℕ) (s : List ℕ) → at + n < length s → run at (n + 1) (overlay (at + n) (b ∷ []) s) ≡ run at n s ++ (b ∷ [])
@@ -54,11 +54,11 @@ module _ (s : List ℕ) (b : ℕ) (r : Ready s) where
   n = LineReader.count s
 
   abbrev put : List ℕ
-  put = overlay (LineReader.frame-place + n) (b ∷ []) s
+  put = overlay (LineReader.frame-offset + n) (b ∷ []) s
 
   module _ (h : n < longest-form) where
     put-long : length put ≡ length s
-    put-long = length-overlay (LineReader.frame-place + n) (b ∷ []) s (omega (arith, r .0))
+    put-long = length-overlay (LineReader.frame-offset + n) (b ∷ []) s (omega (arith, r .0))
 
     pub pushed-count : LineReader.count (LineReader.pushed s b) ≡ n + 1
     unfolding LineReader.pushed
@@ -74,7 +74,7 @@ module _ (s : List ℕ) (b : ℕ) (r : Ready s) where
           received-some (LineReader.counted (n + 1) put) (omega arith),
           c,
           run-counted (n + 1) put (omega (arith, r .0)) (n + 1),
-          run-put LineReader.frame-place n b s (omega (arith, r .0)),
+          run-put LineReader.frame-offset n b s (omega (arith, r .0)),
         )
 
   module _ (h : longest-form ≤ n) where
@@ -97,23 +97,23 @@ finished-received s r =
 -- by the answer of the line reader and the state that it leaves, in which the data of a message stand
 module _ (number : ℕ) (s : List ℕ) (r : Ready s) where
   abbrev Says : List ℕ → Verdict → Type 0
-  Says t v = heardOf number t (LineReader.verdictSaid v) ≡ some (heard number v)
+  Says t v = heardOf number t (LineReader.verdictReport v) ≡ some (heard number v)
 
-  verdict-fields : (xs : List ℕ) → wrongLength xs ≡ false → Says (overlay LineReader.frame-place xs s) (judgeFields xs)
-  unfolding judgeFields fields heardOf LineReader.verdictSaid
+  verdict-fields : (xs : List ℕ) → wrongLength xs ≡ false → Says (overlay LineReader.frame-offset xs s) (judgeFields xs)
+  unfolding judgeFields fields heardOf LineReader.verdictReport
   verdict-fields xs e =
-      let t = overlay LineReader.frame-place xs s in
+      let t = overlay LineReader.frame-offset xs s in
       cond-by (Says t) (eqb (checksumOf xs) (checksum (bodyOf xs))) _ _
       (λ f. cond-by (Says t) (eqb (magicOf xs) magic) _ _ (λ g. rw (data-unpacked s (r .0) xs (r .1) e)) (λ g. refl))
       (λ f. refl)
 
-  verdict-length : (xs : List ℕ) (k : Bool) → wrongLength xs ≡ k → Says (cond k s (overlay LineReader.frame-place xs s)) (cond k (failure 3 none) (judgeFields xs))
-  unfolding heardOf LineReader.verdictSaid
+  verdict-length : (xs : List ℕ) (k : Bool) → wrongLength xs ≡ k → Says (cond k s (overlay LineReader.frame-offset xs s)) (cond k (failure 3 none) (judgeFields xs))
+  unfolding heardOf LineReader.verdictReport
   verdict-length xs true e = refl
   verdict-length xs false e = verdict-fields xs e
 
   verdict-bytes : (form : Option (List ℕ)) → Says (LineReader.unpacked form s) (judgeForm form)
-  unfolding judgeForm judgeLength heardOf LineReader.unpacked LineReader.verdictSaid
+  unfolding judgeForm judgeLength heardOf LineReader.unpacked LineReader.verdictReport
   verdict-bytes none = refl
   verdict-bytes (some xs) = verdict-length xs (wrongLength xs) refl
 

@@ -25,7 +25,7 @@ use Rattle.supervisor.specs.Layout
 use Rattle.supervisor.specs.Local
 use Rattle.supervisor.specs.Valid.{validOutbox, validFactory, validSettings, validAlert, validRegisters}
 use Rattle.supervisor.proofs.KeyLaws.{value-short}
-use Rattle.supervisor.proofs.PlaceLaws.{place-within, longest-short, Lies, setting-lies}
+use Rattle.supervisor.proofs.OffsetLaws.{place-within, longest-short, Lies, setting-lies}
 use Rattle.supervisor.proofs.ValidLaws.{all-each, each-all, outbox-valid, valid-outbox, SettingValid, SettingsValid, settings-valid, valid-settings}
 use Rattle.supervisor.proofs.ValidLaws.{alert-valid, valid-alert, RecordValid, RegistersValid, registers-valid}
 use Rattle.supervisor.proofs.KeptRegisters.{FlagsValid, FailureValid, PanicValid, groups-valid, numbers-kept, flags-kept, failure-kept, panic-kept, waiting-kept, retained-kept, kept-valid}
@@ -39,63 +39,63 @@ use Rattle.requests.proofs.TakenLaws.{retaining-held, retained-settled,
 
 -- the first byte that is pending, by whether a 00 is owed
 abbrev pub begun : Bool → ℕ
-begun owing = cond owing 0 1
+begun terminator-owed = cond terminator-owed 0 1
 
--- the two places that say which bytes are pending
+-- the two offsets that say which bytes are pending
 abbrev pub places : ℕ → ℕ → List ℕ
 places from to = bytes 2 from ++ bytes 2 to
 
 -- a 00 and the bytes
 abbrev pub filled : List ℕ → List ℕ → List ℕ
-filled bs o = overlay Layout.outbox-bytes-place (0 ∷ bs) o
+filled bs o = overlay Layout.outbox-bytes-offset (0 ∷ bs) o
 
 -- a reply, or none
 module _ (o bs : List ℕ) (valid : validOutbox o ≡ true) (short : length bs ≤ longest-form + 1) where
   abbrev first : ℕ
-  first = begun (eqb (Layout.outboxOwing o) 1)
+  first = begun (eqb (Layout.outboxTerminatorOwed o) 1)
 
   pub first-low : first ≤ 1
-  first-low = cond-by (λ n. n ≤ 1) (eqb (Layout.outboxOwing o) 1) 0 1 (λ _. omega arith) (λ _. omega arith)
+  first-low = cond-by (λ n. n ≤ 1) (eqb (Layout.outboxTerminatorOwed o) 1) 0 1 (λ _. omega arith) (λ _. omega arith)
 
   filled-long : length (filled bs o) ≡ length o
-  filled-long = let v = outbox-valid o valid in length-overlay Layout.outbox-bytes-place (0 ∷ bs) o (omega arith)
+  filled-long = let v = outbox-valid o valid in length-overlay Layout.outbox-bytes-offset (0 ∷ bs) o (omega arith)
 
   pub sent-long : length (Receive.sentBox bs o) ≡ length o
   unfolding Receive.sentBox bytes
   sent-long =
       let v = outbox-valid o valid in
-      length-overlay Layout.outbox-from-place (places _ _) (filled bs o) (omega (arith, filled-long)) ∙ filled-long
+      length-overlay Layout.outbox-from-offset (places _ _) (filled bs o) (omega (arith, filled-long)) ∙ filled-long
 
   pub sent-from : Layout.outboxFrom (Receive.sentBox bs o) ≡ first
   unfolding Receive.sentBox bytes
   sent-from =
-      ap number (overlay-part Layout.outbox-from-place 0 2 (places _ _) (filled bs o) (omega arith) (omega arith))
+      ap number (overlay-part Layout.outbox-from-offset 0 2 (places _ _) (filled bs o) (omega arith) (omega arith))
       ∙ number-bytes 2 _ (omega (arith, first-low))
 
   pub sent-to : Layout.outboxTo (Receive.sentBox bs o) ≡ suc (length bs)
   unfolding Receive.sentBox bytes
   sent-to =
-      ap number (overlay-part Layout.outbox-from-place 2 2 (places _ _) (filled bs o) (omega arith) (omega arith)) ∙ number-bytes 2 _ (omega arith)
+      ap number (overlay-part Layout.outbox-from-offset 2 2 (places _ _) (filled bs o) (omega arith) (omega arith)) ∙ number-bytes 2 _ (omega arith)
 
-  -- all behind the two places
-  pub sent-rest : Same Layout.outbox-owing-place Layout.outbox-length (filled bs o) (Receive.sentBox bs o)
+  -- all behind the two offsets
+  pub sent-rest : Same Layout.outbox-terminator-owed-offset Layout.outbox-length (filled bs o) (Receive.sentBox bs o)
   unfolding Receive.sentBox bytes
-  sent-rest = same-after Layout.outbox-from-place (places _ _) (filled bs o) (omega arith) (omega arith)
+  sent-rest = same-after Layout.outbox-from-offset (places _ _) (filled bs o) (omega arith) (omega arith)
 
-  pub sent-owing : Layout.outboxOwing (Receive.sentBox bs o) ≡ Layout.outboxOwing o
-  sent-owing =
+  pub sent-owed : Layout.outboxTerminatorOwed (Receive.sentBox bs o) ≡ Layout.outboxTerminatorOwed o
+  sent-owed =
       let v = outbox-valid o valid in
-      let early : Same 0 Layout.outbox-bytes-place o (filled bs o) = same-before Layout.outbox-bytes-place (0 ∷ bs) o (omega arith) (omega arith) in
-      number-same sent-rest 1 Layout.outbox-owing-place (omega arith) ∙ number-same early 1 Layout.outbox-owing-place (omega arith)
+      let early : Same 0 Layout.outbox-bytes-offset o (filled bs o) = same-before Layout.outbox-bytes-offset (0 ∷ bs) o (omega arith) (omega arith) in
+      number-same sent-rest 1 Layout.outbox-terminator-owed-offset (omega arith) ∙ number-same early 1 Layout.outbox-terminator-owed-offset (omega arith)
 
   pub box-valid : validOutbox (Receive.sentBox bs o) ≡ true
-  box-valid = let v = outbox-valid o valid in valid-outbox _ (omega (arith, first-low, sent-long, sent-from, sent-to, sent-owing))
+  box-valid = let v = outbox-valid o valid in valid-outbox _ (omega (arith, first-low, sent-long, sent-from, sent-to, sent-owed))
 
 -- ---- the registers
 
 -- what stands before the flags and behind the records is the same
-middle-valid : {r s : List ℕ} → RegistersValid r → length s ≡ length r → Same 0 Layout.reboot-place r s
-    → Same Layout.alert-count-place Layout.registers-length r s → FlagsValid s → FailureValid s → PanicValid s → validRegisters s ≡ true
+middle-valid : {r s : List ℕ} → RegistersValid r → length s ≡ length r → Same 0 Layout.reboot-offset r s
+    → Same Layout.alert-count-offset Layout.registers-length r s → FlagsValid s → FailureValid s → PanicValid s → validRegisters s ≡ true
 middle-valid v long before after flags failure panic =
     groups-valid (omega arith) (numbers-kept before v (omega arith)) flags failure panic (waiting-kept after v (omega arith)) (retained-kept after v (omega arith))
 
@@ -119,40 +119,40 @@ module _ (r : List ℕ) (v : validRegisters r ≡ true) where
           rw (j, set) (omega arith)
 
   -- a flag that is set
-  pub flag-valid : (at : ℕ) → (Layout.reboot-place ≤ at) × (at ≤ Layout.power-off-place) → validRegisters (overlay at (1 ∷ []) r) ≡ true
+  pub flag-valid : (at : ℕ) → (Layout.reboot-offset ≤ at) × (at ≤ Layout.power-off-offset) → validRegisters (overlay at (1 ∷ []) r) ≡ true
   flag-valid at h =
       let w = registers-valid r v in
-      let after : Same Layout.boot-failure-place Layout.registers-length r (overlay at (bytes 1 1) r)
+      let after : Same Layout.boot-failure-offset Layout.registers-length r (overlay at (bytes 1 1) r)
       = stored-after 1 at 1 r (omega arith) (omega arith) in
       let small : (i : ℕ) → numberAt 1 r i ≤ 1 → numberAt 1 (overlay at (bytes 1 1) r) i ≤ 1 = λ i. flag-small at i (omega arith) in
       rw (one-byte 1 (omega arith)) at
       (middle-valid w (stored-long 1 at 1 r (omega arith)) (stored-before 1 at 1 r (omega arith) (omega arith)) (same-within after (omega arith))
-      (small Layout.reboot-place (w .reboot), small Layout.power-off-place (w .power-off)) (failure-kept after w (omega arith)) (panic-kept after w (omega arith)))
+      (small Layout.reboot-offset (w .reboot), small Layout.power-off-offset (w .power-off)) (failure-kept after w (omega arith)) (panic-kept after w (omega arith)))
 
   -- no reply retained
-  dropped-valid : validRegisters (overlay Layout.retained-place (0 ∷ []) r) ≡ true
+  dropped-valid : validRegisters (overlay Layout.retained-offset (0 ∷ []) r) ≡ true
   dropped-valid =
       let w = registers-valid r v in
-      let at = Layout.retained-place in
+      let at = Layout.retained-offset in
       let s = overlay at (bytes 1 0) r in
       let before : Same 0 at r s = stored-before 1 at 0 r (omega arith) (omega arith) in
       let after : Same (at + 1) Layout.registers-length r s = stored-after 1 at 0 r (omega arith) (omega arith) in
       let set = stored-number 1 at 0 r (omega arith) (omega arith) in
-      let text = number-same after 2 Layout.retained-alert-place (omega arith) in
+      let text = number-same after 2 Layout.retained-alert-offset (omega arith) in
       let long = stored-long 1 at 0 r (omega arith) in
       rw (one-byte 0 (omega arith)) at
       (groups-valid (omega arith) (numbers-kept before w (omega arith)) (flags-kept before w (omega arith)) (failure-kept before w (omega arith))
       (panic-kept before w (omega arith)) (waiting-kept before w (omega arith)) (omega arith))
 
   -- a status without a bit above 1
-  pub status-valid : (n : ℕ) → n ≤ 3 → validRegisters (overlay Layout.status-place (bytes 8 n) r) ≡ true
+  pub status-valid : (n : ℕ) → n ≤ 3 → validRegisters (overlay Layout.status-offset (bytes 8 n) r) ≡ true
   status-valid n small =
       let w = registers-valid r v in
-      let at = Layout.status-place in
+      let at = Layout.status-offset in
       let s = overlay at (bytes 8 n) r in
       let new = stored-number 8 at n r (omega arith) (omega arith) in
-      let after : Same Layout.options-place Layout.registers-length r s = stored-after 8 at n r (omega arith) (omega arith) in
-      let options = number-same after 8 Layout.options-place (omega arith) in
+      let after : Same Layout.options-offset Layout.registers-length r s = stored-after 8 at n r (omega arith) (omega arith) in
+      let options = number-same after 8 Layout.options-offset (omega arith) in
       let waiting = waiting-kept after w (omega arith) in
       kept-valid
       (record {
@@ -162,7 +162,7 @@ module _ (r : List ℕ) (v : validRegisters r ≡ true) where
       })
       w (omega arith) (waiting .alerts)
 
-pub asked-valid : (r : List ℕ) → validRegisters r ≡ true → (at : ℕ) → (Layout.reboot-place ≤ at) × (at ≤ Layout.power-off-place)
+pub asked-valid : (r : List ℕ) → validRegisters r ≡ true → (at : ℕ) → (Layout.reboot-offset ≤ at) × (at ≤ Layout.power-off-offset)
     → validRegisters (Receive.askedFor r at) ≡ true
 unfolding Receive.askedFor
 asked-valid r v at h = dropped-valid (overlay at (1 ∷ []) r) (flag-valid r v at h)
@@ -197,42 +197,42 @@ module _ (r : List ℕ) (at code : ℕ) (rest : List ℕ) (room : at + Layout.re
   pub recorded-code : code < 65536 → Layout.recordCode (Receive.withRecord r at code rest) at ≡ code
   unfolding Receive.withRecord bytes
   recorded-code h =
-      ap number (overlay-part at Layout.record-code-place 2 (entry code rest) r (omega arith) (omega (arith, length-entry code rest))) ∙ number-bytes 2 code h
+      ap number (overlay-part at Layout.record-code-offset 2 (entry code rest) r (omega arith) (omega (arith, length-entry code rest))) ∙ number-bytes 2 code h
 
   pub recorded-whole : length rest < 65536 → Layout.recordWhole (Receive.withRecord r at code rest) at ≡ length rest
   unfolding Receive.withRecord bytes
   recorded-whole h =
-      ap number (overlay-part at Layout.record-whole-place 2 (entry code rest) r (omega arith) (omega (arith, length-entry code rest))) ∙ number-bytes 2 (length rest) h
+      ap number (overlay-part at Layout.record-whole-offset 2 (entry code rest) r (omega arith) (omega (arith, length-entry code rest))) ∙ number-bytes 2 (length rest) h
 
   -- the bytes that are kept
-  pub recorded-rest : run (at + Layout.record-kept-place) (length (take Limits.most-kept rest)) (Receive.withRecord r at code rest) ≡ take Limits.most-kept rest
+  pub recorded-rest : run (at + Layout.record-kept-offset) (length (take Limits.most-kept rest)) (Receive.withRecord r at code rest) ≡ take Limits.most-kept rest
   unfolding Receive.withRecord bytes
   recorded-rest =
       let n = length (take Limits.most-kept rest) in
-      overlay-part at Layout.record-kept-place n (entry code rest) r (omega arith) (omega arith) ∙ take-length (take Limits.most-kept rest)
+      overlay-part at Layout.record-kept-offset n (entry code rest) r (omega arith) (omega arith) ∙ take-length (take Limits.most-kept rest)
 
   recorded-valid : (most : ℕ) → length rest ≤ most → most < 65536 → RecordValid (Receive.withRecord r at code rest) at most
   recorded-valid most short small = let whole = recorded-whole (omega arith) in omega (arith, recorded-held)
 
 module _ (r : List ℕ) (code : ℕ) (rest : List ℕ) (v : validRegisters r ≡ true) where
-  pub boot-failure-valid : code < 256 → length rest ≤ Limits.longest-boot-failure → validRegisters (Receive.withRecord r Layout.boot-failure-place code rest) ≡ true
+  pub boot-failure-valid : code < 256 → length rest ≤ Limits.longest-boot-failure → validRegisters (Receive.withRecord r Layout.boot-failure-offset code rest) ≡ true
   boot-failure-valid byte short =
       let w = registers-valid r v in
-      let at = Layout.boot-failure-place in
+      let at = Layout.boot-failure-offset in
       let room : at + Layout.record-length ≤ length r = omega arith in
       let before : Same 0 at r (Receive.withRecord r at code rest) = recorded-before r at code rest room (omega arith) in
-      let after : Same Layout.panic-place Layout.registers-length r (Receive.withRecord r at code rest) = recorded-after r at code rest room (omega arith) in
+      let after : Same Layout.panic-offset Layout.registers-length r (Receive.withRecord r at code rest) = recorded-after r at code rest room (omega arith) in
       let reason = recorded-code r at code rest room (omega arith) in
       middle-valid w (recorded-long r at code rest room) (same-within before (omega arith)) (same-within after (omega arith)) (flags-kept before w (omega arith))
       (record { reason = omega arith; entry = recorded-valid r at code rest room _ short (omega arith) }) (panic-kept after w (omega arith))
 
-  pub panic-valid : length rest ≤ Limits.longest-panic → validRegisters (Receive.withRecord r Layout.panic-place code rest) ≡ true
+  pub panic-valid : length rest ≤ Limits.longest-panic → validRegisters (Receive.withRecord r Layout.panic-offset code rest) ≡ true
   panic-valid short =
       let w = registers-valid r v in
-      let at = Layout.panic-place in
+      let at = Layout.panic-offset in
       let room : at + Layout.record-length ≤ length r = omega arith in
       let before : Same 0 at r (Receive.withRecord r at code rest) = recorded-before r at code rest room (omega arith) in
-      let after : Same Layout.alert-count-place Layout.registers-length r (Receive.withRecord r at code rest) = recorded-after r at code rest room (omega arith) in
+      let after : Same Layout.alert-count-offset Layout.registers-length r (Receive.withRecord r at code rest) = recorded-after r at code rest room (omega arith) in
       middle-valid w (recorded-long r at code rest room) (same-within before (omega arith)) after (flags-kept before w (omega arith))
       (failure-kept before w (omega arith)) (recorded-valid r at code rest room _ short (omega arith))
 
@@ -252,65 +252,65 @@ abbrev pub rest-length : ℕ
 rest-length = (Limits.most-alerts - 1) * Layout.alert-length
 
 module _ (r : List ℕ) (long : Layout.registers-length ≤ length r) where
-  pub length-rest : length (run (Layout.alert-place 1) rest-length r) ≡ rest-length
-  length-rest = length-run (Layout.alert-place 1) rest-length r (omega arith)
+  pub length-rest : length (run (Layout.alert-offset 1) rest-length r) ≡ rest-length
+  length-rest = length-run (Layout.alert-offset 1) rest-length r (omega arith)
 
   pub moved-long : length (Receive.movedAlerts r) ≡ length r
   unfolding Receive.movedAlerts
-  moved-long = length-overlay Layout.alerts-place _ r (omega (arith, length-rest))
+  moved-long = length-overlay Layout.alerts-offset _ r (omega (arith, length-rest))
 
-  pub moved-before : {from to : ℕ} → to ≤ Layout.alerts-place → Same from to r (Receive.movedAlerts r)
+  pub moved-before : {from to : ℕ} → to ≤ Layout.alerts-offset → Same from to r (Receive.movedAlerts r)
   unfolding Receive.movedAlerts
-  moved-before h = same-before Layout.alerts-place _ r (omega arith) h
+  moved-before h = same-before Layout.alerts-offset _ r (omega arith) h
 
-  pub moved-after : {from to : ℕ} → Layout.retained-place ≤ from → Same from to r (Receive.movedAlerts r)
+  pub moved-after : {from to : ℕ} → Layout.retained-offset ≤ from → Same from to r (Receive.movedAlerts r)
   unfolding Receive.movedAlerts
-  moved-after h = same-after Layout.alerts-place _ r (omega arith) (omega (arith, length-rest))
+  moved-after h = same-after Layout.alerts-offset _ r (omega arith) (omega (arith, length-rest))
 
   -- what stands in an alert stood in the one behind it
   pub moved-run : (i j n : ℕ) → i < Limits.most-alerts - 1 → j + n ≤ Layout.alert-length
-      → run (Layout.alert-place i + j) n (Receive.movedAlerts r) ≡ run (Layout.alert-place (i + 1) + j) n r
+      → run (Layout.alert-offset i + j) n (Receive.movedAlerts r) ≡ run (Layout.alert-offset (i + 1) + j) n r
   unfolding Receive.movedAlerts
   moved-run i j n low h =
       let k = i * Layout.alert-length + j in
-      let d : Layout.alerts-place + k ≡ Layout.alert-place i + j = omega arith in
-      let e : Layout.alert-place 1 + k ≡ Layout.alert-place (i + 1) + j = omega arith in
-      let p = overlay-part Layout.alerts-place k n (run (Layout.alert-place 1) rest-length r) r (omega arith) (omega (arith, length-rest)) in
-      rw (d, run-run (Layout.alert-place 1) rest-length k n r (omega arith), e) at p
+      let d : Layout.alerts-offset + k ≡ Layout.alert-offset i + j = omega arith in
+      let e : Layout.alert-offset 1 + k ≡ Layout.alert-offset (i + 1) + j = omega arith in
+      let p = overlay-part Layout.alerts-offset k n (run (Layout.alert-offset 1) rest-length r) r (omega arith) (omega (arith, length-rest)) in
+      rw (d, run-run (Layout.alert-offset 1) rest-length k n r (omega arith), e) at p
 
 -- one alert fewer, or none still
 pub fewer-valid : (r : List ℕ) (n : ℕ) → validRegisters r ≡ true → n ≤ Layout.alertCount r - 1
-    → validRegisters (overlay Layout.alert-count-place (bytes 1 n) (Receive.movedAlerts r)) ≡ true
+    → validRegisters (overlay Layout.alert-count-offset (bytes 1 n) (Receive.movedAlerts r)) ≡ true
 fewer-valid r n v h =
     let w = registers-valid r v in
-    let at = Layout.alert-count-place in
+    let at = Layout.alert-count-offset in
     let t = Receive.movedAlerts r in
     let s = overlay at (bytes 1 n) t in
     let long = moved-long r (w .long) in
     let room : at + 1 ≤ length t = omega arith in
     let early : Same 0 at t s = stored-before 1 at n t room (omega arith) in
-    let late : Same Layout.alerts-place Layout.registers-length t s = stored-after 1 at n t room (omega arith) in
+    let late : Same Layout.alerts-offset Layout.registers-length t s = stored-after 1 at n t room (omega arith) in
     let before : Same 0 at r s = same-then (moved-before r (w .long) (omega arith)) early in
-    let after : Same Layout.retained-place Layout.registers-length r s = same-then (moved-after r (w .long) (omega arith)) (same-within late (omega arith)) in
+    let after : Same Layout.retained-offset Layout.registers-length r s = same-then (moved-after r (w .long) (omega arith)) (same-within late (omega arith)) in
     let numbers = numbers-kept before w (omega arith) in
     let count = stored-number 1 at n t room (omega arith) in
     kept-valid (record { long = stored-long 1 at n t room ∙ long; flags-and-records = same-within before (omega arith); retained = after }) w (omega arith)
     (rw count
     (each-all (validAlert s) n (λ i k.
     let a = alert-valid r (i + 1) (all-each (validAlert r) _ (w .rest .alerts) (i + 1) (omega arith)) in
-    let size = number-same late 2 (Layout.alert-place i) (omega arith) ∙ ap number (simp add-zero at (moved-run r (w .long) i 0 2 (omega arith) (omega arith))) in
-    let action = number-same late 1 (Layout.alert-place i + Layout.alert-action-place) (omega arith)
-    ∙ ap number (moved-run r (w .long) i Layout.alert-action-place 1 (omega arith) (omega arith)) in
+    let size = number-same late 2 (Layout.alert-offset i) (omega arith) ∙ ap number (simp add-zero at (moved-run r (w .long) i 0 2 (omega arith) (omega arith))) in
+    let action = number-same late 1 (Layout.alert-offset i + Layout.alert-action-offset) (omega arith)
+    ∙ ap number (moved-run r (w .long) i Layout.alert-action-offset 1 (omega arith) (omega arith)) in
     valid-alert s i (omega arith))))
 
-pub retained-before : (r : List ℕ) (sequence : ℕ) → Layout.registers-length ≤ length r → {from to : ℕ} → to ≤ Layout.retained-place
+pub retained-before : (r : List ℕ) (sequence : ℕ) → Layout.registers-length ≤ length r → {from to : ℕ} → to ≤ Layout.retained-offset
     → Same from to r (Receive.withRetained r sequence)
 unfolding Receive.withRetained
-retained-before r sequence long h = same-before Layout.retained-place _ r (omega arith) h
+retained-before r sequence long h = same-before Layout.retained-offset _ r (omega arith) h
 
 module _ (r : List ℕ) (sequence : ℕ) (v : validRegisters r ≡ true) where
   -- whether a reply is retained
-  retained-held : numberAt 1 (Receive.withRetained r sequence) Layout.retained-place ≡ 1
+  retained-held : numberAt 1 (Receive.withRetained r sequence) Layout.retained-offset ≡ 1
   unfolding Receive.withRetained
   retained-held = let w = registers-valid r v in retaining-held r sequence _ (omega arith)
 
@@ -318,7 +318,7 @@ module _ (r : List ℕ) (sequence : ℕ) (v : validRegisters r ≡ true) where
   retained-valid =
       let w = registers-valid r v in
       let a = retained-settled r sequence v in
-      let before : Same 0 Layout.retained-place r (Receive.withRetained r sequence) = retained-before r sequence (w .long) (omega arith) in
+      let before : Same 0 Layout.retained-offset r (Receive.withRetained r sequence) = retained-before r sequence (w .long) (omega arith) in
       let held = retained-held in
       groups-valid (omega arith) (numbers-kept before w (omega arith)) (flags-kept before w (omega arith)) (failure-kept before w (omega arith))
       (panic-kept before w (omega arith)) (waiting-kept before w (omega arith)) (omega arith)
@@ -327,8 +327,8 @@ module _ (r : List ℕ) (sequence : ℕ) (v : validRegisters r ≡ true) where
   unfolding Receive.withTaken
   taken-valid =
       let w = registers-valid r v in
-      let before : Same 0 Layout.retained-place r (Receive.withRetained r sequence) = retained-before r sequence (w .long) (omega arith) in
-      let count = number-same before 1 Layout.alert-count-place (omega arith) in
+      let before : Same 0 Layout.retained-offset r (Receive.withRetained r sequence) = retained-before r sequence (w .long) (omega arith) in
+      let count = number-same before 1 Layout.alert-count-offset (omega arith) in
       status-valid _ (fewer-valid (Receive.withRetained r sequence) (Layout.alertCount r - 1) retained-valid (omega arith)) _
       (taken-small (Layout.statusOf r) (Layout.alertCount r) (w .status))
 
@@ -338,10 +338,10 @@ module _ (r : List ℕ) (sequence : ℕ) (v : validRegisters r ≡ true) where
 
 -- ---- the settings
 
-pub length-setting : (v : List ℕ) → length (Layout.settingBytes v) ≡ Layout.setting-value-place + length v
+pub length-setting : (v : List ℕ) → length (Layout.settingBytes v) ≡ Layout.setting-value-offset + length v
 length-setting v = simp (length-append, length-bytes) (omega arith)
 
-module _ (s v : List ℕ) (at : ℕ) (room : at + (Layout.setting-value-place + length v) ≤ length s) where
+module _ (s v : List ℕ) (at : ℕ) (room : at + (Layout.setting-value-offset + length v) ≤ length s) where
   pub setting-long : length (Receive.withValue s at v) ≡ length s
   unfolding Receive.withValue
   setting-long = length-overlay at (Layout.settingBytes v) s (omega (arith, length-setting v))
@@ -350,7 +350,7 @@ module _ (s v : List ℕ) (at : ℕ) (room : at + (Layout.setting-value-place + 
   unfolding Receive.withValue
   setting-before h = same-before at (Layout.settingBytes v) s (omega arith) h
 
-  pub setting-after : {from to : ℕ} → at + (Layout.setting-value-place + length v) ≤ from → Same from to s (Receive.withValue s at v)
+  pub setting-after : {from to : ℕ} → at + (Layout.setting-value-offset + length v) ≤ from → Same from to s (Receive.withValue s at v)
   unfolding Receive.withValue
   setting-after h = same-after at (Layout.settingBytes v) s (omega arith) (omega (arith, length-setting v))
 
@@ -362,32 +362,32 @@ module _ (s v : List ℕ) (at : ℕ) (room : at + (Layout.setting-value-place + 
   pub setting-size : length v < 65536 → Layout.settingLength (Receive.withValue s at v) at ≡ length v
   unfolding Receive.withValue bytes
   setting-size h =
-      ap number (overlay-part at Layout.setting-length-place 2 (Layout.settingBytes v) s (omega arith) (omega (arith, length-setting v))) ∙ number-bytes 2 (length v) h
+      ap number (overlay-part at Layout.setting-length-offset 2 (Layout.settingBytes v) s (omega arith) (omega (arith, length-setting v))) ∙ number-bytes 2 (length v) h
 
-  pub setting-value : run (at + Layout.setting-value-place) (length v) (Receive.withValue s at v) ≡ v
+  pub setting-value : run (at + Layout.setting-value-offset) (length v) (Receive.withValue s at v) ≡ v
   unfolding Receive.withValue bytes
   setting-value =
-      overlay-part at Layout.setting-value-place (length v) (Layout.settingBytes v) s (omega arith) (omega (arith, length-setting v)) ∙ take-length v
+      overlay-part at Layout.setting-value-offset (length v) (Layout.settingBytes v) s (omega arith) (omega (arith, length-setting v)) ∙ take-length v
 
 -- what stands before its value is the same
-pub setting-kept : {s t : List ℕ} {at most : ℕ} → Same at (at + Layout.setting-value-place) s t → SettingValid s at most → SettingValid t at most
+pub setting-kept : {s t : List ℕ} {at most : ℕ} → Same at (at + Layout.setting-value-offset) s t → SettingValid s at most → SettingValid t at most
 setting-kept {at = at} same g =
     let held = number-same same 1 at (omega arith) in
-    let size = number-same same 2 (at + Layout.setting-length-place) (omega arith) in
+    let size = number-same same 2 (at + Layout.setting-length-offset) (omega arith) in
     omega arith
 
 module _ (s v : List ℕ) (w : SettingsValid s) (key : ℕ) (h : Limits.SettingsKey key) (short : length v ≤ Limits.longest-setting key) where
   abbrev here : ℕ
-  here = Layout.setting-place key
+  here = Layout.setting-offset key
 
-  pub value-room : Layout.setting-place key + (Layout.setting-value-place + length v) ≤ length s
+  pub value-room : Layout.setting-offset key + (Layout.setting-value-offset + length v) ≤ length s
   value-room = omega (arith, place-within key h, w .long)
 
   pub value-small : length v < 65536
   value-small = omega (arith, longest-short key)
 
-  setting-left : (j : ℕ) → Lies j key → SettingValid s (Layout.setting-place j) (Limits.longest-setting j)
-      → SettingValid (Receive.withValue s here v) (Layout.setting-place j) (Limits.longest-setting j)
+  setting-left : (j : ℕ) → Lies j key → SettingValid s (Layout.setting-offset j) (Limits.longest-setting j)
+      → SettingValid (Receive.withValue s here v) (Layout.setting-offset j) (Limits.longest-setting j)
   setting-left j (inl l) g = setting-kept (setting-before s v here value-room (omega arith)) g
   setting-left j (inr (inl e)) g = rw e (omega (arith, setting-held s v here value-room, setting-size s v here value-room value-small))
   setting-left j (inr (inr l)) g = setting-kept (setting-after s v here value-room (omega arith)) g
@@ -423,7 +423,7 @@ run-short at n most s h = omega (arith, length-take n (drop at s))
 pub block-short : (f image d : List ℕ) → length (Receive.blockBytes f image d) ≤ Limits.longest-block
 unfolding Receive.blockBytes
 block-short f image d =
-    cond-by (λ l. length l ≤ Limits.longest-block) (equal (run 0 32 d) (run Layout.hash-place 32 f)) _ []
+    cond-by (λ l. length l ≤ Limits.longest-block) (equal (run 0 32 d) (run Layout.hash-offset 32 f)) _ []
     (λ _. run-short (numberAt 8 d 32) Limits.longest-block Limits.longest-block image (omega arith)) (λ _. omega arith)
 
 -- the result and the value of a key
@@ -431,17 +431,17 @@ pub value-data-short : (f s d : List ℕ) → validFactory f ≡ true → validS
 unfolding Receive.valueBytes
 value-data-short f s d v w = simp (length-append, length-bytes) (omega (arith, value-short f s (numberAt 1 d 0) (numberAt 2 d 1) v w))
 
-pub item-short : (f : List ℕ) (index : ℕ) → validFactory f ≡ true → length (Receive.itemBytes f index) ≤ Layout.item-data-length-place + Limits.longest-item-data
+pub item-short : (f : List ℕ) (index : ℕ) → validFactory f ≡ true → length (Receive.itemBytes f index) ≤ Layout.item-data-length-offset + Limits.longest-item-data
 unfolding Receive.itemBytes
 item-short f index v =
-    let at = Layout.item-place index in
-    let head = run at Layout.item-data-length-place f in
-    let tail = run (at + Layout.item-data-place) (Receive.itemDataLength f at) f in
-    cond-by (λ l. length l ≤ Layout.item-data-length-place + Limits.longest-item-data) (ltb index (Layout.itemCount f)) (head ++ tail) (1 ∷ replicate 33 0)
+    let at = Layout.item-offset index in
+    let head = run at Layout.item-data-length-offset f in
+    let tail = run (at + Layout.item-data-offset) (Receive.itemDataLength f at) f in
+    cond-by (λ l. length l ≤ Layout.item-data-length-offset + Limits.longest-item-data) (ltb index (Layout.itemCount f)) (head ++ tail) (1 ∷ replicate 33 0)
     (λ e.
     let held = item-held f index v (ltb-true _ _ e) in
-    let a = run-short at Layout.item-data-length-place Layout.item-data-length-place f (omega arith) in
-    let b = run-short (at + Layout.item-data-place) (Receive.itemDataLength f at) Limits.longest-item-data f (held .size) in
+    let a = run-short at Layout.item-data-length-offset Layout.item-data-length-offset f (omega arith) in
+    let b = run-short (at + Layout.item-data-offset) (Receive.itemDataLength f at) Limits.longest-item-data f (held .size) in
     simp length-append (omega arith))
     (λ _. omega arith)
 
@@ -451,7 +451,7 @@ pub alert-data-short : (r : List ℕ) (sequence : ℕ) → validRegisters r ≡ 
 alert-data-short r sequence v =
     let s = Receive.alertRegisters r sequence in
     let a = settled r sequence v {s = s} refl in
-    run-short (Layout.retained-alert-place + Layout.alert-action-place) (1 + Layout.alertTextLength s Layout.retained-alert-place) (1 + Limits.longest-alert) s (omega arith)
+    run-short (Layout.retained-alert-offset + Layout.alert-action-offset) (1 + Layout.alertTextLength s Layout.retained-alert-offset) (1 + Limits.longest-alert) s (omega arith)
 
 -- a reply with data that a message may have, and with one byte
 pub reply-short : (reply : Receive.Head) (command : ℕ) (payload : List ℕ) → length payload ≤ longest-data
@@ -499,8 +499,8 @@ acknowledged-valid i reply r v h =
     let w = inner-valid i v in
     changed-valid _ _ _ _ (w .outbox) (reply-short reply 0x01 [] (omega arith)) (w .settings) h
 
-pub silently-valid : (i : Receive.Inner) (r : List ℕ) → Receive.validInner i ≡ true → validRegisters r ≡ true → Receive.validInner (Receive.silently i r) ≡ true
-unfolding Receive.silently
+pub silently-valid : (i : Receive.Inner) (r : List ℕ) → Receive.validInner i ≡ true → validRegisters r ≡ true → Receive.validInner (Receive.noReply i r) ≡ true
+unfolding Receive.noReply
 silently-valid i r v h =
     let w = inner-valid i v in
     changed-valid _ [] _ _ (w .outbox) (omega arith) (w .settings) h
@@ -515,16 +515,16 @@ module _ (image f : List ℕ) (i : Receive.Inner) (sequence : ℕ) (d : List ℕ
 
   command-valid : (x : Command) → Receive.validInner (Receive.leftBy x image f i sequence d) ≡ true
   unfolding Receive.leftBy Receive.keySetAnswered Receive.alertAnswered
-  command-valid Command.reboot = silently-valid i _ v (asked-valid r (w .registers) Layout.reboot-place (omega arith))
-  command-valid Command.power-off = silently-valid i _ v (asked-valid r (w .registers) Layout.power-off-place (omega arith))
-  command-valid Command.bsu = answering-valid i _ 0x03 _ v (run-short Layout.bsu-place 1 longest-data f (omega arith))
-  command-valid Command.identity = answering-valid i _ 0x04 _ v (run-short Layout.identity-place 26 longest-data f (omega arith))
-  command-valid Command.mac = answering-valid i _ 0x05 _ v (run-short Layout.mac-place 9 longest-data f (omega arith))
+  command-valid Command.reboot = silently-valid i _ v (asked-valid r (w .registers) Layout.reboot-offset (omega arith))
+  command-valid Command.power-off = silently-valid i _ v (asked-valid r (w .registers) Layout.power-off-offset (omega arith))
+  command-valid Command.bsu = answering-valid i _ 0x03 _ v (run-short Layout.bsu-offset 1 longest-data f (omega arith))
+  command-valid Command.identity = answering-valid i _ 0x04 _ v (run-short Layout.identity-offset 26 longest-data f (omega arith))
+  command-valid Command.mac = answering-valid i _ 0x05 _ v (run-short Layout.mac-offset 9 longest-data f (omega arith))
   command-valid Command.boot-failure =
       silently-valid i _ v (boot-failure-valid r (numberAt 1 d 0) (drop 1 d) (w .registers) byte (omega (arith, length-drop 1 d)))
   command-valid Command.panic =
       acknowledged-valid i _ _ v (panic-valid r (numberAt 2 d 0) (drop 2 d) (w .registers) (omega (arith, length-drop 2 d)))
-  command-valid Command.status = answering-valid i _ 0x06 _ v (run-short Layout.status-place 16 longest-data r (omega arith))
+  command-valid Command.status = answering-valid i _ 0x06 _ v (run-short Layout.status-offset 16 longest-data r (omega arith))
   command-valid Command.start-acknowledged =
       let s = registers-valid r (w .registers) in
       acknowledged-valid i _ _ v (status-valid r (w .registers) _ (omega (arith, clear-small (Layout.statusOf r) 0)))

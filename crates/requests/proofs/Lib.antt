@@ -6,4 +6,4 @@ pub mod RecordLaws
 pub mod TakenLaws
 pub mod ReceiveLaws
 pub mod KeptLaws
-pub mod TurnLaws
+pub mod StepLaws

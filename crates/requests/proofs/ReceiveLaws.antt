@@ -41,7 +41,7 @@ key-set-long command n e h = leb-true 1 n (rw h at e)
 pub record ItemHeld (f : List ℕ) (index : ℕ) : Type 0 where
   pub low : index < Limits.most-items
   pub long : Layout.factory-length ≤ length f
-  pub size : itemDataLength f (Layout.item-place index) ≤ Limits.longest-item-data
+  pub size : itemDataLength f (Layout.item-offset index) ≤ Limits.longest-item-data
 
 pub item-held : (f : List ℕ) (index : ℕ) → validFactory f ≡ true → index < Layout.itemCount f → ItemHeld f index
 unfolding itemDataLength
@@ -51,13 +51,13 @@ item-held f index e h =
     record {
       low = omega arith;
       long = v .long;
-      size = cond-by (λ n. n ≤ Limits.longest-item-data) (eqb (numberAt 1 f (Layout.item-place index)) 0) _ 0 (λ _. g .size) (λ _. omega arith);
+      size = cond-by (λ n. n ≤ Limits.longest-item-data) (eqb (numberAt 1 f (Layout.item-offset index)) 0) _ 0 (λ _. g .size) (λ _. omega arith);
     }
 
-pub item-there : (f : List ℕ) (index n : ℕ) → index < Layout.itemCount f → n ≡ itemDataLength f (Layout.item-place index)
-    → let at = Layout.item-place index in
-    let from = at + Layout.item-data-place in
-    take (at + Layout.item-data-length-place - at) (drop at f) ++ take (from + n - from) (drop from f) ≡ itemBytes f index
+pub item-there : (f : List ℕ) (index n : ℕ) → index < Layout.itemCount f → n ≡ itemDataLength f (Layout.item-offset index)
+    → let at = Layout.item-offset index in
+    let from = at + Layout.item-data-offset in
+    take (at + Layout.item-data-length-offset - at) (drop at f) ++ take (from + n - from) (drop from f) ≡ itemBytes f index
 unfolding itemBytes
 item-there f index n h e = rw (lt-ltb index (Layout.itemCount f) h, e) (simp add-sub-cancel-left)
 
@@ -67,20 +67,20 @@ item-none f index h = rw (le-ltb index (Layout.itemCount f) h)
 
 -- ---- a block of the image
 
-same-hash : (f d : List ℕ) → Layout.hash-place + 32 ≤ length f
-    → sameRun d 0 f Layout.hash-place 32 ≡ equal (run 0 32 d) (run Layout.hash-place 32 f)
+same-hash : (f d : List ℕ) → Layout.hash-offset + 32 ≤ length f
+    → sameRun d 0 f Layout.hash-offset 32 ≡ equal (run 0 32 d) (run Layout.hash-offset 32 f)
 same-hash f d h =
     alike _ _
-    (λ e. rw (sameRun-true d 0 f Layout.hash-place 32 e .2) (equal-refl (run Layout.hash-place 32 f)))
+    (λ e. rw (sameRun-true d 0 f Layout.hash-offset 32 e .2) (equal-refl (run Layout.hash-offset 32 f)))
     (λ e.
     let q = equal-true _ _ e in
     let l = length-take 32 d in
-    let m = ap length q ∙ length-run Layout.hash-place 32 f h in
-    sameRun-equal d 0 f Layout.hash-place 32 (omega arith) h q)
+    let m = ap length q ∙ length-run Layout.hash-offset 32 f h in
+    sameRun-equal d 0 f Layout.hash-offset 32 (omega arith) h q)
 
 -- by what the code's test of the hash answered
-module _ (f image d : List ℕ) (v : validFactory f ≡ true) (r : Bool) (e : r ≡ sameRun d 0 f Layout.hash-place 32) where
-  hash-told : equal (run 0 32 d) (run Layout.hash-place 32 f) ≡ r
+module _ (f image d : List ℕ) (v : validFactory f ≡ true) (r : Bool) (e : r ≡ sameRun d 0 f Layout.hash-offset 32) where
+  hash-told : equal (run 0 32 d) (run Layout.hash-offset 32 f) ≡ r
   hash-told = let l = factory-valid f v .long in sym (e ∙ same-hash f d (omega arith))
 
   pub block-same : not r ≡ false → run (numberAt 8 d 32) Limits.longest-block image ≡ blockBytes f image d

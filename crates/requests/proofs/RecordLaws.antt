@@ -12,7 +12,7 @@ use Rattle.octets.specs.Bytes.{bytes, run, overlay, put, copied}
 use Rattle.octets.proofs.Numbers.{length-bytes, one-byte}
 use Rattle.octets.proofs.Overlay.{length-overlay, overlay-one, overlay-next, put-fits, copied-fits}
 use Rattle.supervisor.specs.Limits.{most-kept}
-use Rattle.supervisor.specs.Layout.{registers-length, panic-place, record-code-place, record-whole-place, record-kept-place, setting-length-place, setting-value-place}
+use Rattle.supervisor.specs.Layout.{registers-length, panic-offset, record-code-offset, record-whole-offset, record-kept-offset, setting-length-offset, setting-value-offset}
 use Rattle.requests.specs.Receive.{withRecord, withValue, keyStored, storingAt}
 
 -- ---- bytes put, and more behind them
@@ -51,14 +51,14 @@ take-least (suc n) (x ∷ l) = rw suc-min-suc (ap (λ (t : List ℕ). x ∷ t) (
 
 -- ---- a record
 
-pub record-put : (r d : List ℕ) (at code from : ℕ) {whole kept : ℕ} {s t u : List ℕ} → at ≤ panic-place → registers-length ≤ length r → from ≤ length d
-    → whole ≡ length d - from → kept ≡ min whole most-kept → s ≡ put (at + record-code-place) (bytes 2 code) (set r at 1)
-    → t ≡ put (at + record-whole-place) (bytes 2 whole) s → u ≡ copied d from kept t (at + record-kept-place) → u ≡ withRecord r at code (drop from d)
+pub record-put : (r d : List ℕ) (at code from : ℕ) {whole kept : ℕ} {s t u : List ℕ} → at ≤ panic-offset → registers-length ≤ length r → from ≤ length d
+    → whole ≡ length d - from → kept ≡ min whole most-kept → s ≡ put (at + record-code-offset) (bytes 2 code) (set r at 1)
+    → t ≡ put (at + record-whole-offset) (bytes 2 whole) s → u ≡ copied d from kept t (at + record-kept-offset) → u ≡ withRecord r at code (drop from d)
 unfolding withRecord
 record-put r d at code from {whole} {kept} low long l w k f g h =
     let head = bytes 1 1 ++ bytes 2 code in
     let a = length-marked 2 code in
-    let b : length (head ++ bytes 2 whole) ≡ record-kept-place = simp (length-append, length-bytes) in
+    let b : length (head ++ bytes 2 whole) ≡ record-kept-offset = simp (length-append, length-bytes) in
     let m = length-drop from d in
     let n : whole ≡ length (drop from d) = omega arith in
     rw (
@@ -66,8 +66,8 @@ record-put r d at code from {whole} {kept} low long l w k f g h =
       g,
       f,
       marked 2 code at r (omega arith),
-      next-number at (at + record-whole-place) head r (omega arith) 2 whole (omega arith),
-      next-run at (at + record-kept-place) (head ++ bytes 2 whole) r (omega arith) d from kept (omega arith) (omega arith),
+      next-number at (at + record-whole-offset) head r (omega arith) 2 whole (omega arith),
+      next-run at (at + record-kept-offset) (head ++ bytes 2 whole) r (omega arith) d from kept (omega arith) (omega arith),
       k,
       n,
       take-least,
@@ -81,8 +81,8 @@ module _ (s d : List ℕ) (at most : ℕ) where
   unfolding storingAt
   value-long h = rw (length-drop 1 d, lt-ltb most (length d - 1) h)
 
-  pub value-put : {t u : List ℕ} → 1 ≤ length d → length d - 1 ≤ most → at + (setting-value-place + most) ≤ length s
-      → t ≡ put (at + setting-length-place) (bytes 2 (length d - 1)) (set s at 1) → u ≡ copied d 1 (length d - 1) t (at + setting-value-place)
+  pub value-put : {t u : List ℕ} → 1 ≤ length d → length d - 1 ≤ most → at + (setting-value-offset + most) ≤ length s
+      → t ≡ put (at + setting-length-offset) (bytes 2 (length d - 1)) (set s at 1) → u ≡ copied d 1 (length d - 1) t (at + setting-value-offset)
       → keyStored 0 u ≡ storingAt s at most (drop 1 d)
   unfolding storingAt withValue
   value-put one short l f g =
@@ -95,7 +95,7 @@ module _ (s d : List ℕ) (at most : ℕ) where
         ← e,
         le-ltb most n (omega arith),
         marked 2 n at s (omega arith),
-        next-run at (at + setting-value-place) (bytes 1 1 ++ bytes 2 n) s (omega arith) d 1 n (omega arith) (omega arith),
+        next-run at (at + setting-value-offset) (bytes 1 1 ++ bytes 2 n) s (omega arith) d 1 n (omega arith) (omega arith),
         take-length,
         append-assoc,
       )

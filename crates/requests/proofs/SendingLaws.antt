@@ -17,72 +17,72 @@ use Rattle.octets.proofs.Overlay.{length-overlay, overlay-before, overlay-one, 
 use Rattle.line.specs.Limits.{longest-data, longest-form}
 use Rattle.line.specs.Message.{Message}
 use Rattle.line.specs.Frame.{frame}
-use Rattle.line.specs.Writer.{wrote, refused, Outcome, said, outcome, messageOf, sending, writing}
+use Rattle.line.specs.Writer.{wrote, refused, Outcome, report, outcome, messageOf, sending, writing}
 use Rattle.line.specs.declared.writer.Written.{Written}
 use Rattle.line.specs.declared.writer.Written.the-variants.{Done}
 use Rattle.line.proofs.FrameLength.{frame-fits}
 use Rattle.line.proofs.Rest.{rest-mid, rest-overlay}
-use Rattle.supervisor.specs.Layout.{outbox-length, outbox-from-place, outbox-to-place, outbox-owing-place, outbox-bytes-place, outboxOwing}
+use Rattle.supervisor.specs.Layout.{outbox-length, outbox-from-offset, outbox-to-offset, outbox-terminator-owed-offset, outbox-bytes-offset, outboxTerminatorOwed}
 use Rattle.requests.specs.Receive.{sentBox, Head, replyBytes}
 
 -- ---- the frame
 
-abbrev reply-place : ℕ
-reply-place = outbox-bytes-place + 1
+abbrev reply-offset : ℕ
+reply-offset = outbox-bytes-offset + 1
 
 -- the frame that a message has room for is written
 frame-written : (m : Message) (o : List ℕ) → outbox-length ≤ length o → length (m .payload) ≤ longest-data
-    → writing m (drop reply-place o) ≡ record { answer = wrote (length (frame m)); out = overlay 0 (frame m) (drop reply-place o) }
+    → writing m (drop reply-offset o) ≡ record { answer = wrote (length (frame m)); out = overlay 0 (frame m) (drop reply-offset o) }
 unfolding writing sending
 frame-written m o long short =
-    let k : length (frame m) ≤ length (drop reply-place o) = rw length-drop (omega (arith, frame-fits m short)) in
-    rw (le-ltb longest-data (length (m .payload)) short, le-ltb (length (drop reply-place o)) (length (frame m)) k)
+    let k : length (frame m) ≤ length (drop reply-offset o) = rw length-drop (omega (arith, frame-fits m short)) in
+    rw (le-ltb longest-data (length (m .payload)) short, le-ltb (length (drop reply-offset o)) (length (frame m)) k)
 
 -- what a call of the writer on the rest of the outbox answers and leaves
 module _ (h : Head) (command : ℕ) (head rest o : List ℕ) (long : outbox-length ≤ length o) (short : length head + length rest ≤ longest-data)
-    (r : Written) {t : List ℕ} (done : outcome r t ≡ writing (messageOf (h .version) (h .number .0) command head rest) (midOf reply-place (length o - reply-place) o)) where
+    (r : Written) {t : List ℕ} (done : outcome r t ≡ writing (messageOf (h .version) (h .number .0) command head rest) (midOf reply-offset (length o - reply-offset) o)) where
   abbrev reply : List ℕ
   reply = replyBytes h command (head ++ rest)
 
   allowed : length (head ++ rest) ≤ longest-data
   allowed = rw length-append short
 
-  written : outcome r t ≡ record { answer = wrote (length reply); out = overlay 0 reply (drop reply-place o) }
+  written : outcome r t ≡ record { answer = wrote (length reply); out = overlay 0 reply (drop reply-offset o) }
   written = rw rest-mid at done ∙ frame-written (messageOf (h .version) (h .number .0) command head rest) o long allowed
 
-  answered : said r ≡ wrote (length reply)
+  answered : report r ≡ wrote (length reply)
   answered = ap (λ (w : Outcome). w .answer) written
 
   pub reply-written : {n : ℕ} → r ≡ Done n
-      → (n ≡ length reply) × ((n ≤ longest-form + 1) × (putMid reply-place (length o - reply-place) o t ≡ overlay reply-place reply o))
-  unfolding said
+      → (n ≡ length reply) × ((n ≤ longest-form + 1) × (putMid reply-offset (length o - reply-offset) o t ≡ overlay reply-offset reply o))
+  unfolding report
   reply-written {n} e =
       let k : n ≡ length reply = cc answered in
-      (k, (omega (arith, frame-fits (messageOf (h .version) (h .number .0) command head rest) allowed), rw (ap (λ (w : Outcome). w .out) written) (rest-overlay o reply-place reply)))
+      (k, (omega (arith, frame-fits (messageOf (h .version) (h .number .0) command head rest) allowed), rw (ap (λ (w : Outcome). w .out) written) (rest-overlay o reply-offset reply)))
 
-  pub reply-refused : {v : Written} → r ≡ v → (k : ℕ) → said v ≡ refused k → ⊥
+  pub reply-refused : {v : Written} → r ≡ v → (k : ℕ) → report v ≡ refused k → ⊥
   reply-refused e k f = let z : _≡_ {A = ℕ} 0 1 = cc answered in omega arith
 
 -- ---- the pending bytes
 
--- the two places that say which bytes are pending are stored one after the other
-pub pending-set : (o : List ℕ) (n : ℕ) {owing first : ℕ} {t u : List ℕ} → outbox-length ≤ length o → owing ≡ outboxOwing o → first ≡ cond (eqb owing 1) 0 1
-    → t ≡ put outbox-from-place (bytes 2 first) (set o outbox-bytes-place 0) → u ≡ put outbox-to-place (bytes 2 (n + 1)) t
-    → u ≡ overlay outbox-from-place (bytes 2 (cond (eqb (outboxOwing o) 1) 0 1) ++ bytes 2 (suc n)) (overlay outbox-bytes-place (0 ∷ []) o)
+-- the two offsets that say which bytes are pending are stored one after the other
+pub pending-set : (o : List ℕ) (n : ℕ) {terminator-owed first : ℕ} {t u : List ℕ} → outbox-length ≤ length o → terminator-owed ≡ outboxTerminatorOwed o → first ≡ cond (eqb terminator-owed 1) 0 1
+    → t ≡ put outbox-from-offset (bytes 2 first) (set o outbox-bytes-offset 0) → u ≡ put outbox-to-offset (bytes 2 (n + 1)) t
+    → u ≡ overlay outbox-from-offset (bytes 2 (cond (eqb (outboxTerminatorOwed o) 1) 0 1) ++ bytes 2 (suc n)) (overlay outbox-bytes-offset (0 ∷ []) o)
 pending-set o n {first = first} long e f p q =
-    let s = overlay outbox-bytes-place (0 ∷ []) o in
+    let s = overlay outbox-bytes-offset (0 ∷ []) o in
     let a = bytes 2 first in
     let b = bytes 2 (suc n) in
     let j = length-bytes 2 first in
     let k = length-bytes 2 (suc n) in
-    let l : length s ≡ length o = length-overlay outbox-bytes-place (0 ∷ []) o (omega arith) in
-    let m : length (overlay outbox-from-place a s) ≡ length s = length-overlay outbox-from-place a s (omega arith) in
-    rw (q, p, add-one, overlay-one outbox-bytes-place 0 o (omega arith), put-fits outbox-from-place a s (omega arith), put-fits outbox-to-place b (overlay outbox-from-place a s) (omega arith), ← e, ← f)
-    (rw (j, zero-add) at (overlay-next outbox-from-place a b s (omega arith)))
+    let l : length s ≡ length o = length-overlay outbox-bytes-offset (0 ∷ []) o (omega arith) in
+    let m : length (overlay outbox-from-offset a s) ≡ length s = length-overlay outbox-from-offset a s (omega arith) in
+    rw (q, p, add-one, overlay-one outbox-bytes-offset 0 o (omega arith), put-fits outbox-from-offset a s (omega arith), put-fits outbox-to-offset b (overlay outbox-from-offset a s) (omega arith), ← e, ← f)
+    (rw (j, zero-add) at (overlay-next outbox-from-offset a b s (omega arith)))
 
 -- a 00 ahead of the bytes, which are there already
-pub sent : (bs o : List ℕ) {n : ℕ} {t u : List ℕ} → outbox-length ≤ length o → n ≡ length bs → t ≡ overlay reply-place bs o
-    → u ≡ overlay outbox-from-place (bytes 2 (cond (eqb (outboxOwing t) 1) 0 1) ++ bytes 2 (suc n)) (overlay outbox-bytes-place (0 ∷ []) t)
+pub sent : (bs o : List ℕ) {n : ℕ} {t u : List ℕ} → outbox-length ≤ length o → n ≡ length bs → t ≡ overlay reply-offset bs o
+    → u ≡ overlay outbox-from-offset (bytes 2 (cond (eqb (outboxTerminatorOwed t) 1) 0 1) ++ bytes 2 (suc n)) (overlay outbox-bytes-offset (0 ∷ []) t)
     → u ≡ sentBox bs o
 unfolding sentBox
 sent bs o long e p q =
@@ -90,7 +90,7 @@ sent bs o long e p q =
       q,
       p,
       e,
-      overlay-before reply-place outbox-owing-place 1 bs o (omega arith) (omega arith),
-      overlay-swap outbox-bytes-place reply-place (0 ∷ []) bs o (omega arith) (omega arith),
-      overlay-next outbox-bytes-place (0 ∷ []) bs o (omega arith),
+      overlay-before reply-offset outbox-terminator-owed-offset 1 bs o (omega arith) (omega arith),
+      overlay-swap outbox-bytes-offset reply-offset (0 ∷ []) bs o (omega arith) (omega arith),
+      overlay-next outbox-bytes-offset (0 ∷ []) bs o (omega arith),
     )

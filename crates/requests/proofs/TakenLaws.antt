@@ -24,12 +24,12 @@ use Rattle.requests.proofs.RecordLaws.{marked, length-marked, next-numb
 
 -- ---- whether a reply is retained
 
-module _ (r : List ℕ) (sequence : ℕ) {n : ℕ} (e : n ≡ numberAt 1 r Layout.retained-place) where
+module _ (r : List ℕ) (sequence : ℕ) {n : ℕ} (e : n ≡ numberAt 1 r Layout.retained-offset) where
   pub none-kept : (n ≡ 1 → ⊥) → false ≡ isRetained r sequence
   unfolding isRetained
   none-kept f = rw (← e, ne-eqb _ _ f)
 
-  pub kept-by : {s : ℕ} → n ≡ 1 → s ≡ numberAt 8 r Layout.retained-sequence-place → eqb s sequence ≡ isRetained r sequence
+  pub kept-by : {s : ℕ} → n ≡ 1 → s ≡ numberAt 8 r Layout.retained-sequence-offset → eqb s sequence ≡ isRetained r sequence
   unfolding isRetained
   kept-by f g = rw (← e, eq-eqb _ _ f, g)
 
@@ -41,11 +41,11 @@ three-zeros = refl
 
 module _ (r : List ℕ) (sequence : ℕ) (long : Layout.registers-length ≤ length r) where
   -- action 0 and no text
-  pub none-retained : {s t : List ℕ} → Layout.alertCount r ≡ 0 → s ≡ put Layout.retained-sequence-place (bytes 8 sequence) (set r Layout.retained-place 1)
-      → t ≡ put Layout.retained-alert-place (bytes 2 0) s → set t (Layout.retained-alert-place + Layout.alert-action-place) 0 ≡ withRetained r sequence
+  pub none-retained : {s t : List ℕ} → Layout.alertCount r ≡ 0 → s ≡ put Layout.retained-sequence-offset (bytes 8 sequence) (set r Layout.retained-offset 1)
+      → t ≡ put Layout.retained-alert-offset (bytes 2 0) s → set t (Layout.retained-alert-offset + Layout.alert-action-offset) 0 ≡ withRetained r sequence
   unfolding withRetained
   none-retained e f g =
-      let at = Layout.retained-place in
+      let at = Layout.retained-offset in
       let head = bytes 1 1 ++ bytes 8 sequence in
       let a = length-marked 8 sequence in
       let b : length (head ++ bytes 2 0) ≡ 11 = simp (length-append, length-bytes) in
@@ -54,7 +54,7 @@ module _ (r : List ℕ) (sequence : ℕ) (long : Layout.registers-length ≤ len
         g,
         f,
         marked 8 sequence at r (omega arith),
-        next-number at Layout.retained-alert-place head r (omega arith) 2 0 (omega arith),
+        next-number at Layout.retained-alert-offset head r (omega arith) 2 0 (omega arith),
         m,
         eq-eqb (Layout.alertCount r) 0 e,
       )
@@ -62,27 +62,27 @@ module _ (r : List ℕ) (sequence : ℕ) (long : Layout.registers-length ≤ len
 
   -- the oldest alert, by way of a room of its length
   pub oldest-retained : (room : List ℕ) {s t u : List ℕ} → length room ≡ Layout.alert-length → (Layout.alertCount r ≡ 0 → ⊥)
-      → s ≡ put Layout.retained-sequence-place (bytes 8 sequence) (set r Layout.retained-place 1)
-      → t ≡ copied s Layout.alerts-place Layout.alert-length room 0 → u ≡ copied t 0 Layout.alert-length s Layout.retained-alert-place
+      → s ≡ put Layout.retained-sequence-offset (bytes 8 sequence) (set r Layout.retained-offset 1)
+      → t ≡ copied s Layout.alerts-offset Layout.alert-length room 0 → u ≡ copied t 0 Layout.alert-length s Layout.retained-alert-offset
       → u ≡ withRetained r sequence
   unfolding withRetained
   oldest-retained room {s} {t} l e f g h =
-      let at = Layout.retained-place in
+      let at = Layout.retained-offset in
       let head = bytes 1 1 ++ bytes 8 sequence in
       let a = length-marked 8 sequence in
       let i : s ≡ overlay at head r = f ∙ marked 8 sequence at r (omega arith) in
       let j = ap length i ∙ length-overlay at head r (omega arith) in
-      let slot = run Layout.alerts-place Layout.alert-length r in
-      let k = length-run Layout.alerts-place Layout.alert-length r (omega arith) in
+      let slot = run Layout.alerts-offset Layout.alert-length r in
+      let k = length-run Layout.alerts-offset Layout.alert-length r (omega arith) in
       let m : t ≡ overlay 0 slot room
-      = g ∙ copied-fits s Layout.alerts-place Layout.alert-length room 0 (omega arith) (omega arith)
-      ∙ ap (λ (x : List ℕ). overlay 0 x room) (rw i (overlay-before at Layout.alerts-place Layout.alert-length head r (omega arith) (omega arith))) in
+      = g ∙ copied-fits s Layout.alerts-offset Layout.alert-length room 0 (omega arith) (omega arith)
+      ∙ ap (λ (x : List ℕ). overlay 0 x room) (rw i (overlay-before at Layout.alerts-offset Layout.alert-length head r (omega arith) (omega arith))) in
       let n = ap length m ∙ length-overlay 0 slot room (omega arith) in
       let o : run 0 Layout.alert-length t ≡ slot = rw m (rw k at (overlay-inside 0 slot room (omega arith))) in
       rw (
         h,
         i,
-        next-run at Layout.retained-alert-place head r (omega arith) t 0 Layout.alert-length (omega arith) (omega arith),
+        next-run at Layout.retained-alert-offset head r (omega arith) t 0 Layout.alert-length (omega arith) (omega arith),
         o,
         ne-eqb (Layout.alertCount r) 0 e,
         append-assoc,
@@ -92,17 +92,17 @@ module _ (r : List ℕ) (sequence : ℕ) (long : Layout.registers-length ≤ len
 
   pub alert-taken : {count status left next : ℕ} {s t u : List ℕ} → count ≡ Layout.alertCount r → count < 256 → status ≡ Layout.statusOf r
       → s ≡ withRetained r sequence → length s ≡ length r
-      → t ≡ movedDown s (Layout.alert-place 1) Layout.alerts-place ((most-alerts - 1) * Layout.alert-length) → length t ≡ length s
+      → t ≡ movedDown s (Layout.alert-offset 1) Layout.alerts-offset ((most-alerts - 1) * Layout.alert-length) → length t ≡ length s
       → left ≡ count - 1 → next ≡ cond (leb count 1) (clearBit status 1) status
-      → u ≡ put Layout.status-place (bytes 8 next) (set t Layout.alert-count-place left) → u ≡ withTaken r sequence
+      → u ≡ put Layout.status-offset (bytes 8 next) (set t Layout.alert-count-offset left) → u ≡ withTaken r sequence
   unfolding withTaken movedAlerts
   alert-taken {left} {next} {s} {t} n byte o e l f m a h i =
-      let k = length-set t Layout.alert-count-place left in
-      number-stored 8 Layout.status-place (set t Layout.alert-count-place left) (omega arith) h i
+      let k = length-set t Layout.alert-count-offset left in
+      number-stored 8 Layout.status-offset (set t Layout.alert-count-offset left) (omega arith) h i
       ∙ rw (
-        overlay-one Layout.alert-count-place left t (omega arith),
+        overlay-one Layout.alert-count-offset left t (omega arith),
         f,
-        movedDown-fits s (Layout.alert-place 1) Layout.alerts-place ((most-alerts - 1) * Layout.alert-length) (omega arith) (omega arith),
+        movedDown-fits s (Layout.alert-offset 1) Layout.alerts-offset ((most-alerts - 1) * Layout.alert-length) (omega arith) (omega arith),
         e,
         ← one-byte left (omega arith),
         a,
@@ -119,25 +119,25 @@ pub length-retained : (sequence : ℕ) (zs : List ℕ) → length (retainedBytes
 length-retained sequence zs = simp (length-append, length-bytes) (omega arith)
 
 abbrev pub retaining : List ℕ → ℕ → List ℕ → List ℕ
-retaining r sequence zs = overlay Layout.retained-place (retainedBytes sequence zs) r
+retaining r sequence zs = overlay Layout.retained-offset (retainedBytes sequence zs) r
 
-module _ (r : List ℕ) (sequence : ℕ) (zs : List ℕ) (room : Layout.retained-place ≤ length r) where
-  pub retaining-held : numberAt 1 (retaining r sequence zs) Layout.retained-place ≡ 1
+module _ (r : List ℕ) (sequence : ℕ) (zs : List ℕ) (room : Layout.retained-offset ≤ length r) where
+  pub retaining-held : numberAt 1 (retaining r sequence zs) Layout.retained-offset ≡ 1
   unfolding bytes
   retaining-held =
-      ap number (rw add-zero at (overlay-part Layout.retained-place 0 1 (retainedBytes sequence zs) r room (omega arith)))
+      ap number (rw add-zero at (overlay-part Layout.retained-offset 0 1 (retainedBytes sequence zs) r room (omega arith)))
       ∙ number-bytes 1 1 (omega arith)
 
-  pub retaining-sequence : sequence < 2 ^ 64 → numberAt 8 (retaining r sequence zs) Layout.retained-sequence-place ≡ sequence
+  pub retaining-sequence : sequence < 2 ^ 64 → numberAt 8 (retaining r sequence zs) Layout.retained-sequence-offset ≡ sequence
   unfolding bytes
   retaining-sequence h =
-      ap number (overlay-part Layout.retained-place 1 8 (retainedBytes sequence zs) r room (omega arith)) ∙ number-bytes 8 sequence (omega arith)
+      ap number (overlay-part Layout.retained-offset 1 8 (retainedBytes sequence zs) r room (omega arith)) ∙ number-bytes 8 sequence (omega arith)
 
-  pub retaining-alert : (j n : ℕ) → j + n ≤ length zs → run (Layout.retained-alert-place + j) n (retaining r sequence zs) ≡ run j n zs
+  pub retaining-alert : (j n : ℕ) → j + n ≤ length zs → run (Layout.retained-alert-offset + j) n (retaining r sequence zs) ≡ run j n zs
   unfolding bytes
   retaining-alert j n h =
-      let e : Layout.retained-place + (9 + j) ≡ Layout.retained-alert-place + j = omega arith in
-      let part = overlay-part Layout.retained-place (9 + j) n (retainedBytes sequence zs) r room (omega (arith, length-retained sequence zs)) in
+      let e : Layout.retained-offset + (9 + j) ≡ Layout.retained-alert-offset + j = omega arith in
+      let part = overlay-part Layout.retained-offset (9 + j) n (retainedBytes sequence zs) r room (omega (arith, length-retained sequence zs)) in
       rw (e, ← drop-drop j 9 (retainedBytes sequence zs)) at part
 
 -- ---- the text of the reply
@@ -149,7 +149,7 @@ no-text = omega arith
 -- registers as long as others, whose retained alert has no more than the longest text
 pub record Settled (r s : List ℕ) : Type 0 where
   pub same : length s ≡ length r
-  pub text : Layout.alertTextLength s Layout.retained-alert-place ≤ longest-alert
+  pub text : Layout.alertTextLength s Layout.retained-alert-offset ≤ longest-alert
 
 module _ (r : List ℕ) (sequence : ℕ) (v : validRegisters r ≡ true) where
   kept-settled : (zs : List ℕ) → 2 ≤ length zs → length zs ≤ Layout.alert-length → number (take 2 zs) ≤ longest-alert → Settled r (retaining r sequence zs)
@@ -157,7 +157,7 @@ module _ (r : List ℕ) (sequence : ℕ) (v : validRegisters r ≡ true) where
       let long = registers-valid r v .long in
       let n = length-retained sequence zs in
       record {
-        same = length-overlay Layout.retained-place (retainedBytes sequence zs) r (omega arith);
+        same = length-overlay Layout.retained-offset (retainedBytes sequence zs) r (omega arith);
         text = rw (rw add-zero at (retaining-alert r sequence zs (omega arith) 0 2 (omega arith))) h;
       }
 
@@ -165,22 +165,22 @@ module _ (r : List ℕ) (sequence : ℕ) (v : validRegisters r ≡ true) where
   unfolding withRetained
   retained-settled =
       let g = registers-valid r v in
-      let slot = run Layout.alerts-place Layout.alert-length r in
+      let slot = run Layout.alerts-offset Layout.alert-length r in
       cond-by (λ zs. Settled r (retaining r sequence zs)) (eqb (Layout.alertCount r) 0) (replicate 3 0) slot
       (λ e. kept-settled (replicate 3 0) (omega arith) (omega arith) no-text)
       (λ e.
       let some : Layout.alertCount r ≡ 0 → ⊥ = eqb-false (Layout.alertCount r) 0 e in
-      let k = length-run Layout.alerts-place Layout.alert-length r (omega arith) in
+      let k = length-run Layout.alerts-offset Layout.alert-length r (omega arith) in
       let oldest = alert-valid r 0 (all-each _ _ (g .rest .alerts) 0 (omega arith)) in
-      kept-settled slot (omega arith) (omega arith) (rw (take-take 2 Layout.alert-length (drop Layout.alerts-place r) (omega arith)) (oldest .size)))
+      kept-settled slot (omega arith) (omega arith) (rw (take-take 2 Layout.alert-length (drop Layout.alerts-offset r) (omega arith)) (oldest .size)))
 
   -- bytes put before what is retained
-  before-settled : (at : ℕ) (xs : List ℕ) {s : List ℕ} → at + length xs ≤ Layout.retained-place → Settled r s → Settled r (overlay at xs s)
+  before-settled : (at : ℕ) (xs : List ℕ) {s : List ℕ} → at + length xs ≤ Layout.retained-offset → Settled r s → Settled r (overlay at xs s)
   before-settled at xs {s} h a =
       let long = registers-valid r v .long in
       record {
         same = length-overlay at xs s (omega arith) ∙ a .same;
-        text = rw (overlay-after at Layout.retained-alert-place 2 xs s (omega arith) (omega arith)) (a .text);
+        text = rw (overlay-after at Layout.retained-alert-offset 2 xs s (omega arith) (omega arith)) (a .text);
       }
 
   taken-settled : Settled r (withTaken r sequence)
@@ -188,9 +188,9 @@ module _ (r : List ℕ) (sequence : ℕ) (v : validRegisters r ≡ true) where
   taken-settled =
       let long = registers-valid r v .long in
       let a = retained-settled in
-      before-settled Layout.status-place _ (rw length-bytes (omega arith))
-      (before-settled Layout.alert-count-place _ (rw length-bytes (omega arith))
-      (before-settled Layout.alerts-place _ (rw (length-run (Layout.alert-place 1) ((most-alerts - 1) * Layout.alert-length) (withRetained r sequence) (omega arith)) (omega arith)) a))
+      before-settled Layout.status-offset _ (rw length-bytes (omega arith))
+      (before-settled Layout.alert-count-offset _ (rw length-bytes (omega arith))
+      (before-settled Layout.alerts-offset _ (rw (length-run (Layout.alert-offset 1) ((most-alerts - 1) * Layout.alert-length) (withRetained r sequence) (omega arith)) (omega arith)) a))
 
   pub settled : {s : List ℕ} → s ≡ alertRegisters r sequence → Settled r s
   unfolding alertRegisters
@@ -202,8 +202,8 @@ module _ (r : List ℕ) (sequence : ℕ) (v : validRegisters r ≡ true) where
 
 -- the reply, from the registers as they are then
 pub alert-sent : (o r : List ℕ) (reply : Head) (sequence : ℕ) {n : ℕ} {s p : List ℕ} → s ≡ alertRegisters r sequence
-    → n ≡ Layout.alertTextLength s Layout.retained-alert-place
-    → p ≡ sentBox (replyBytes reply 0x07 (run (Layout.retained-alert-place + Layout.alert-action-place) (n + 1) s)) o
+    → n ≡ Layout.alertTextLength s Layout.retained-alert-offset
+    → p ≡ sentBox (replyBytes reply 0x07 (run (Layout.retained-alert-offset + Layout.alert-action-offset) (n + 1) s)) o
     → alertParts p s ≡ alertAnswered o r reply sequence
 unfolding alertAnswered
 alert-sent o r reply sequence {n} e f g =

@@ -27,11 +27,11 @@ use Rattle.requests.specs.declared.receive.Received.the-variants as rece
 
 -- ---- Sending
 
--- the bytes of a reply, or none, become the pending ones: place 0 of the outbox' bytes is for a 00 that is owed
+-- the bytes of a reply, or none, become the pending ones: offset 0 of the outbox' bytes is for a 00 that is owed
 unfoldable pub sentBox : List ℕ → List ℕ → List ℕ
 sentBox bs o =
-    overlay Layout.outbox-from-place (bytes 2 (cond (eqb (Layout.outboxOwing o) 1) 0 1) ++ bytes 2 (suc (length bs)))
-    (overlay Layout.outbox-bytes-place (0 ∷ bs) o)
+    overlay Layout.outbox-from-offset (bytes 2 (cond (eqb (Layout.outboxTerminatorOwed o) 1) 0 1) ++ bytes 2 (suc (length bs)))
+    (overlay Layout.outbox-bytes-offset (0 ∷ bs) o)
 
 -- a reply's head: version and number
 abbrev pub Head : Type 0
@@ -67,12 +67,12 @@ unfoldable pub acknowledged : Inner → Head → List ℕ → Inner
 acknowledged i reply r = inner (sentBox (replyBytes reply 0x01 []) (i .outbox)) (i .settings) r
 
 -- no reply, and other registers
-unfoldable pub silently : Inner → List ℕ → Inner
-silently i r = inner (sentBox [] (i .outbox)) (i .settings) r
+unfoldable pub noReply : Inner → List ℕ → Inner
+noReply i r = inner (sentBox [] (i .outbox)) (i .settings) r
 
--- a reboot or a power-off asked for, by the place of its flag: the flag is set, and no reply is retained
+-- a reboot or a power-off asked for, by the offset of its flag: the flag is set, and no reply is retained
 unfoldable pub askedFor : List ℕ → ℕ → List ℕ
-askedFor r flag = overlay Layout.retained-place (0 ∷ []) (overlay flag (1 ∷ []) r)
+askedFor r flag = overlay Layout.retained-offset (0 ∷ []) (overlay flag (1 ∷ []) r)
 
 -- a record, with its code and its rest
 unfoldable pub withRecord : List ℕ → ℕ → ℕ → List ℕ → List ℕ
@@ -81,25 +81,25 @@ withRecord r at code rest =
 
 -- the retained reply's action and text
 abbrev pub retainedData : List ℕ → List ℕ
-retainedData r = run (Layout.retained-alert-place + Layout.alert-action-place) (1 + Layout.alertTextLength r Layout.retained-alert-place) r
+retainedData r = run (Layout.retained-alert-offset + Layout.alert-action-offset) (1 + Layout.alertTextLength r Layout.retained-alert-offset) r
 
 -- the oldest alert is retained, and the others move down; or action 0 and no text is retained
 unfoldable pub withRetained : List ℕ → ℕ → List ℕ
 withRetained r sequence =
-    overlay Layout.retained-place (bytes 1 1 ++ (bytes 8 sequence ++ cond (eqb (Layout.alertCount r) 0) (replicate 3 0) (run Layout.alerts-place Layout.alert-length r))) r
+    overlay Layout.retained-offset (bytes 1 1 ++ (bytes 8 sequence ++ cond (eqb (Layout.alertCount r) 0) (replicate 3 0) (run Layout.alerts-offset Layout.alert-length r))) r
 
 unfoldable pub movedAlerts : List ℕ → List ℕ
-movedAlerts r = overlay Layout.alerts-place (run (Layout.alert-place 1) ((Limits.most-alerts - 1) * Layout.alert-length) r) r
+movedAlerts r = overlay Layout.alerts-offset (run (Layout.alert-offset 1) ((Limits.most-alerts - 1) * Layout.alert-length) r) r
 
 unfoldable pub withTaken : List ℕ → ℕ → List ℕ
 withTaken r sequence =
-    overlay Layout.status-place (bytes 8 (cond (leb (Layout.alertCount r) 1) (Requests.clearBit (Layout.statusOf r) 1) (Layout.statusOf r)))
-    (overlay Layout.alert-count-place (bytes 1 (Layout.alertCount r - 1))
+    overlay Layout.status-offset (bytes 8 (cond (leb (Layout.alertCount r) 1) (Requests.clearBit (Layout.statusOf r) 1) (Layout.statusOf r)))
+    (overlay Layout.alert-count-offset (bytes 1 (Layout.alertCount r - 1))
     (movedAlerts (withRetained r sequence)))
 
 -- whether a reply is retained with this sequence
 unfoldable pub isRetained : List ℕ → ℕ → Bool
-isRetained r sequence = eqb (numberAt 1 r Layout.retained-place) 1 && eqb (numberAt 8 r Layout.retained-sequence-place) sequence
+isRetained r sequence = eqb (numberAt 1 r Layout.retained-offset) 1 && eqb (numberAt 8 r Layout.retained-sequence-offset) sequence
 
 -- the registers after an alert request: as they are where its reply is retained
 unfoldable pub alertRegisters : List ℕ → ℕ → List ℕ
@@ -118,17 +118,17 @@ alertAnswered o r reply sequence =
 
 -- an item's reply: result, name and type, and its data where the result is 0
 unfoldable pub itemDataLength : List ℕ → ℕ → ℕ
-itemDataLength f at = cond (eqb (numberAt 1 f at) 0) (numberAt 1 f (at + Layout.item-data-length-place)) 0
+itemDataLength f at = cond (eqb (numberAt 1 f at) 0) (numberAt 1 f (at + Layout.item-data-length-offset)) 0
 
 unfoldable pub itemBytes : List ℕ → ℕ → List ℕ
 itemBytes f index =
     cond (ltb index (Layout.itemCount f))
-    (run (Layout.item-place index) Layout.item-data-length-place f
-    ++ run (Layout.item-place index + Layout.item-data-place) (itemDataLength f (Layout.item-place index)) f)
+    (run (Layout.item-offset index) Layout.item-data-length-offset f
+    ++ run (Layout.item-offset index + Layout.item-data-offset) (itemDataLength f (Layout.item-offset index)) f)
     (1 ∷ replicate 33 0)
 
 unfoldable pub blockBytes : List ℕ → List ℕ → List ℕ → List ℕ
-blockBytes f image d = cond (equal (run 0 32 d) (run Layout.hash-place 32 f)) (take Limits.longest-block (drop (numberAt 8 d 32) image)) []
+blockBytes f image d = cond (equal (run 0 32 d) (run Layout.hash-offset 32 f)) (take Limits.longest-block (drop (numberAt 8 d 32) image)) []
 
 unfoldable pub valueBytes : List ℕ → List ℕ → List ℕ → List ℕ
 valueBytes f s d =
@@ -152,7 +152,7 @@ unfoldable pub storing : List ℕ → ℕ → List ℕ → KeyStored
 storing s key v =
     cond (ltb Limits.highest-key key) (keyStored 1 s)
     (cond (ltb key Limits.first-setting) (keyStored 2 s)
-    (storingAt s (Layout.setting-place key) (Limits.longest-setting key) v))
+    (storingAt s (Layout.setting-offset key) (Limits.longest-setting key) v))
 
 pub record KeySet : Type 0 where
   pub outbox : List ℕ
@@ -170,17 +170,17 @@ keySetAnswered o s reply d =
 
 -- what each command leaves
 unfoldable pub leftBy : Command → List ℕ → List ℕ → Inner → ℕ → List ℕ → Inner
-leftBy Command.reboot image f i sequence d = silently i (askedFor (i .registers) Layout.reboot-place)
-leftBy Command.power-off image f i sequence d = silently i (askedFor (i .registers) Layout.power-off-place)
-leftBy Command.bsu image f i sequence d = answering i (replyHead sequence) 0x03 (run Layout.bsu-place 1 f)
-leftBy Command.identity image f i sequence d = answering i (replyHead sequence) 0x04 (run Layout.identity-place 26 f)
-leftBy Command.mac image f i sequence d = answering i (replyHead sequence) 0x05 (run Layout.mac-place 9 f)
-leftBy Command.boot-failure image f i sequence d = silently i (withRecord (i .registers) Layout.boot-failure-place (numberAt 1 d 0) (drop 1 d))
+leftBy Command.reboot image f i sequence d = noReply i (askedFor (i .registers) Layout.reboot-offset)
+leftBy Command.power-off image f i sequence d = noReply i (askedFor (i .registers) Layout.power-off-offset)
+leftBy Command.bsu image f i sequence d = answering i (replyHead sequence) 0x03 (run Layout.bsu-offset 1 f)
+leftBy Command.identity image f i sequence d = answering i (replyHead sequence) 0x04 (run Layout.identity-offset 26 f)
+leftBy Command.mac image f i sequence d = answering i (replyHead sequence) 0x05 (run Layout.mac-offset 9 f)
+leftBy Command.boot-failure image f i sequence d = noReply i (withRecord (i .registers) Layout.boot-failure-offset (numberAt 1 d 0) (drop 1 d))
 leftBy Command.panic image f i sequence d =
-    acknowledged i (replyHead sequence) (withRecord (i .registers) Layout.panic-place (numberAt 2 d 0) (drop 2 d))
-leftBy Command.status image f i sequence d = answering i (replyHead sequence) 0x06 (run Layout.status-place 16 (i .registers))
+    acknowledged i (replyHead sequence) (withRecord (i .registers) Layout.panic-offset (numberAt 2 d 0) (drop 2 d))
+leftBy Command.status image f i sequence d = answering i (replyHead sequence) 0x06 (run Layout.status-offset 16 (i .registers))
 leftBy Command.start-acknowledged image f i sequence d =
-    acknowledged i (replyHead sequence) (overlay Layout.status-place (bytes 8 (Requests.clearBit (Layout.statusOf (i .registers)) 0)) (i .registers))
+    acknowledged i (replyHead sequence) (overlay Layout.status-offset (bytes 8 (Requests.clearBit (Layout.statusOf (i .registers)) 0)) (i .registers))
 leftBy Command.alert image f i sequence d =
     let a = alertAnswered (i .outbox) (i .registers) (replyHead sequence) sequence in inner (a .outbox) (i .settings) (a .registers)
 leftBy Command.image-block image f i sequence d = answering i (replyHead sequence) 0x09 (blockBytes f image d)
@@ -206,7 +206,7 @@ abbrev pub messageBy : ℕ → ℕ → ℕ → List ℕ → Message
 messageBy version sequence command d = record { version = version; sequence = sequence; command = command; payload = d }
 
 -- the table's verdict by the line reader's answer and the state that it left; none where no frame ended that is not empty
-unfoldable pub verdictOf : List ℕ → LineReader.Said → Option Verdict
+unfoldable pub verdictOf : List ℕ → LineReader.Report → Option Verdict
 verdictOf reader (LineReader.refused n) = none
 verdictOf reader LineReader.more = none
 verdictOf reader LineReader.empty = none
@@ -227,7 +227,7 @@ abbrev pub innerOf : Parts → Inner
 innerOf p = inner (p .outbox) (p .settings) (p .registers)
 
 -- by the line reader's answer and the state that it left
-unfoldable pub answered : List ℕ → Parts → List ℕ → LineReader.Said → Parts
+unfoldable pub answered : List ℕ → Parts → List ℕ → LineReader.Report → Parts
 answered image p reader a = partsWith p reader (innerAfter image (p .factory) (innerOf p) (verdictOf reader a))
 
 unfoldable pub feed : List ℕ → Parts → ℕ → Parts
@@ -243,7 +243,7 @@ fed image p (b ∷ bs) = fed image (feed image p b) bs
 
 -- ---- The calls
 
--- what 12 asks of the parts that a request may change, and of all parts
+-- what 12 requires of the parts that a request may change, and of all parts
 unfoldable pub validInner : Inner → Bool
 validInner i = validOutbox (i .outbox) && (validSettings (i .settings) && validRegisters (i .registers))
 
@@ -258,18 +258,18 @@ pub data Ended : Type 0 where
   request : Ended
   failed : ℕ → Ended
 
-unfoldable pub endedSaid : Outcome → Ended
-endedSaid outcome.Refused = Ended.refused 12
-endedSaid outcome.More = Ended.more
-endedSaid outcome.Empty = Ended.empty
-endedSaid outcome.Request = request
-endedSaid (outcome.Failure reason) = Ended.failed reason
+unfoldable pub endedReport : Outcome → Ended
+endedReport outcome.Refused = Ended.refused 12
+endedReport outcome.More = Ended.more
+endedReport outcome.Empty = Ended.empty
+endedReport outcome.Request = request
+endedReport (outcome.Failure reason) = Ended.failed reason
 
 abbrev pub endedBy : Verdict → Ended
 endedBy (failure reason sequence) = Ended.failed reason
 endedBy (good m) = request
 
-unfoldable pub ended : List ℕ → LineReader.Said → Ended
+unfoldable pub ended : List ℕ → LineReader.Report → Ended
 ended reader (LineReader.refused n) = Ended.refused n
 ended reader LineReader.more = Ended.more
 ended reader LineReader.empty = Ended.empty
@@ -284,27 +284,27 @@ pub record StepDone : Type 0 where
   pub parts : Parts
 
 abbrev pub stepOf : Stepped → Parts → StepDone
-stepOf r p = record { used = r .used; ended = endedSaid (r .outcome); parts = p }
+stepOf r p = record { used = r .used; ended = endedReport (r .outcome); parts = p }
 
-unfoldable pub turned : List ℕ → Parts → List ℕ → StepDone
-turned image p piece =
+unfoldable pub validStep : List ℕ → Parts → List ℕ → StepDone
+validStep image p piece =
     let o = LineReader.readPiece (p .reader) piece in
     record { used = o .used; ended = ended (o .state) (o .answer); parts = answered image p (o .state) (o .answer) }
 
 unfoldable pub stepping : List ℕ → Parts → List ℕ → StepDone
-stepping image p piece = cond (validParts p) (turned image p piece) (record { used = 0; ended = Ended.refused 12; parts = p })
+stepping image p piece = cond (validParts p) (validStep image p piece) (record { used = 0; ended = Ended.refused 12; parts = p })
 
 -- a call of `receive` reads its whole piece; the table's number of a refusal, none where it is carried out
 pub record Receipt : Type 0 where
   pub refusal : Option ℕ
   pub parts : Parts
 
-unfoldable pub receiptSaid : Received → Option ℕ
-receiptSaid received.Done = none
-receiptSaid received.Refused = some 12
+unfoldable pub receiptReport : Received → Option ℕ
+receiptReport received.Done = none
+receiptReport received.Refused = some 12
 
 abbrev pub receiptOf : Received → Parts → Receipt
-receiptOf r p = record { refusal = receiptSaid r; parts = p }
+receiptOf r p = record { refusal = receiptReport r; parts = p }
 
 unfoldable pub receiving : List ℕ → Parts → List ℕ → Receipt
 receiving image p piece = cond (validParts p) (record { refusal = none; parts = fed image p piece }) (record { refusal = some 12; parts = p })

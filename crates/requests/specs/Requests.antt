@@ -78,8 +78,8 @@ pub record Carried : Type 0 where
   pub state : State
   pub reply : Option (ℕ × List ℕ)
 
-abbrev pub silent : State → Carried
-silent s = record { state = s; reply = none }
+abbrev pub noReply : State → Carried
+noReply s = record { state = s; reply = none }
 
 abbrev pub replied : State → ℕ → List ℕ → Carried
 replied s c bs = record { state = s; reply = some (c, bs) }
@@ -93,14 +93,14 @@ clearBit n k = cond (eqb (bit n k) 1) (n - 2 ^ k) n
 
 -- 0x01, 0x02: counted as asked for, the retained alert reply is dropped, no reply; alerts that wait stay (document 02, item 1)
 unfoldable pub reboot : State → Carried
-reboot s = silent (withRetained (withReboot s true) none)
+reboot s = noReply (withRetained (withReboot s true) none)
 
 unfoldable pub powerOff : State → Carried
-powerOff s = silent (withRetained (withPowerOff s true) none)
+powerOff s = noReply (withRetained (withPowerOff s true) none)
 
 -- 0x06: reason u8, rest free; recorded, no reply
 unfoldable pub bootFailure : State → List ℕ → Carried
-bootFailure s bs = silent (withBootFailure s (some (recorded (numberAt 1 bs 0) (drop 1 bs))))
+bootFailure s bs = noReply (withBootFailure s (some (recorded (numberAt 1 bs 0) (drop 1 bs))))
 
 -- 0x07: cause u16, rest free; recorded; acknowledged
 unfoldable pub panicked : State → List ℕ → Carried
@@ -193,7 +193,7 @@ effect Command.key-set image s m = keySet s (m .payload)
 
 -- a valid request, which has a listed command
 abbrev pub carriedBy : Option Command → List ℕ → State → Message → Carried
-carriedBy none image s m = silent s
+carriedBy none image s m = noReply s
 carriedBy (some x) image s m = effect x image s m
 
 unfoldable pub carried : List ℕ → State → Message → Carried
@@ -202,14 +202,14 @@ carried image s m = carriedBy (commandOf (m .command)) image s m
 -- ---- Sending: what is unsent is discarded; a 00 goes first where one is owed, or alone where there is no reply
 
 abbrev pub owed : Bool → List ℕ
-owed owing = cond owing (0 ∷ []) []
+owed terminator-owed = cond terminator-owed (0 ∷ []) []
 
 unfoldable pub replyFrame : Option Reply → List ℕ
 replyFrame none = []
 replyFrame (some r) = frame (record { version = r .version; sequence = r .sequence; command = r .command; payload = r .payload })
 
 unfoldable pub sent : State → Option Reply → State
-sent s reply = withPending s (owed (s .owing) ++ replyFrame reply)
+sent s reply = withPending s (owed (s .terminator-owed) ++ replyFrame reply)
 
 -- the reply to a valid request carries its sequence with the top bit set
 unfoldable pub replyOf : ℕ → Option (ℕ × List ℕ) → Option Reply

@@ -1,5 +1,5 @@
 // An alert request: the retained reply again, or the oldest alert.
-// Assumes valid registers, as each `requires` says.
+// Assumes valid registers, as each `requires` states.
 use crate::head::ReplyHead;
 use crate::sending::send_part;
 use supervisor::layout;
@@ -26,14 +26,14 @@ pub(crate) fn alert(
     ensures { λ _. ⌜ alertParts (now (outbox .exit)) (now (registers .exit)) ≡ alertAnswered (now (outbox .entry)) (now (registers .entry)) reply (number .0) ⌝ }
 {
     settle_alert(registers, number);
-    let at = layout::RETAINED_ALERT_PLACE;
+    let at = layout::RETAINED_ALERT_OFFSET;
     let n = octets::word_at(registers, at) + 1;
     send_part(
         outbox,
         reply,
         0x07,
         registers,
-        at + layout::ALERT_ACTION_PLACE,
+        at + layout::ALERT_ACTION_OFFSET,
         n,
     );
 }
@@ -52,10 +52,10 @@ fn settle_alert(registers: &mut [u8], number: RequestNumber)
 fn is_retained(registers: &[u8], number: RequestNumber) -> bool
     ensures { λ r. ⌜ r ≡ isRetained (now (registers .entry)) (number .0) ⌝ }
 {
-    if octets::byte_at(registers, layout::RETAINED_PLACE) != 1 {
+    if octets::byte_at(registers, layout::RETAINED_OFFSET) != 1 {
         return false;
     }
-    let sequence = octets::read_u64(registers, layout::RETAINED_SEQUENCE_PLACE);
+    let sequence = octets::read_u64(registers, layout::RETAINED_SEQUENCE_OFFSET);
     sequence == number.0
 }
 
@@ -64,17 +64,21 @@ fn take_alert(registers: &mut [u8], number: RequestNumber)
     requires { ⌜ validRegisters (now registers) ≡ true ⌝ }
     ensures { λ _. ⌜ now (registers .exit) ≡ withTaken (now (registers .entry)) (number .0) ⌝ }
 {
-    let count = octets::byte_at(registers, layout::ALERT_COUNT_PLACE);
-    let status = octets::read_u64(registers, layout::STATUS_PLACE);
+    let count = octets::byte_at(registers, layout::ALERT_COUNT_OFFSET);
+    let status = octets::read_u64(registers, layout::STATUS_OFFSET);
     retain(registers, count, number);
     octets::move_down(
         registers,
-        layout::ALERTS_PLACE + layout::ALERT_LENGTH,
-        layout::ALERTS_PLACE,
+        layout::ALERTS_OFFSET + layout::ALERT_LENGTH,
+        layout::ALERTS_OFFSET,
         (layout::MOST_ALERTS - 1) * layout::ALERT_LENGTH,
     );
-    registers[layout::ALERT_COUNT_PLACE] = one_less(count);
-    octets::write_u64(registers, layout::STATUS_PLACE, status_after(count, status));
+    registers[layout::ALERT_COUNT_OFFSET] = one_less(count);
+    octets::write_u64(
+        registers,
+        layout::STATUS_OFFSET,
+        status_after(count, status),
+    );
 }
 
 fn one_less(count: usize) -> u8
@@ -113,17 +117,17 @@ fn retain(registers: &mut [u8], count: usize, number: RequestNumber)
     requires { ⌜ count ≡ alertCount (now registers) ⌝ }
     ensures { λ _. ⌜ now (registers .exit) ≡ withRetained (now (registers .entry)) (number .0) ⌝ }
 {
-    registers[layout::RETAINED_PLACE] = 1;
-    octets::write_u64(registers, layout::RETAINED_SEQUENCE_PLACE, number.0);
+    registers[layout::RETAINED_OFFSET] = 1;
+    octets::write_u64(registers, layout::RETAINED_SEQUENCE_OFFSET, number.0);
     if count == 0 {
-        octets::write_u16(registers, layout::RETAINED_ALERT_PLACE, 0);
-        registers[layout::RETAINED_ALERT_PLACE + layout::ALERT_ACTION_PLACE] = 0;
+        octets::write_u16(registers, layout::RETAINED_ALERT_OFFSET, 0);
+        registers[layout::RETAINED_ALERT_OFFSET + layout::ALERT_ACTION_OFFSET] = 0;
         return;
     }
     let mut oldest = [0u8; layout::ALERT_LENGTH];
     octets::copy(
         registers,
-        layout::ALERTS_PLACE,
+        layout::ALERTS_OFFSET,
         layout::ALERT_LENGTH,
         &mut oldest,
         0,
@@ -133,6 +137,6 @@ fn retain(registers: &mut [u8], count: usize, number: RequestNumber)
         0,
         layout::ALERT_LENGTH,
         registers,
-        layout::RETAINED_ALERT_PLACE,
+        layout::RETAINED_ALERT_OFFSET,
     );
 }

@@ -1,5 +1,5 @@
 // Requests that change no more than the pending reply.
-// Assumes valid parts, as each `requires` says.
+// Assumes valid parts, as each `requires` states.
 use crate::head::ReplyHead;
 use crate::sending::send;
 use crate::sending::send_part;
@@ -25,7 +25,7 @@ pub(crate) fn send_block(
     requires { ⌜ validFactory (now factory) ≡ true ⌝ }
     ensures { λ _. ⌜ now (outbox .exit) ≡ sentBox (replyBytes reply 0x09 (blockBytes (now (factory .entry)) (now (image .entry)) (now («data» .entry)))) (now (outbox .entry)) ⌝ }
 {
-    if !octets::same(data, 0, factory, layout::HASH_PLACE, 32) {
+    if !octets::same(data, 0, factory, layout::HASH_OFFSET, 32) {
         send_part(outbox, reply, 0x09, image, 0, 0);
         return;
     }
@@ -70,32 +70,32 @@ pub(crate) fn send_item(outbox: &mut [u8], reply: ReplyHead, factory: &[u8], ind
     requires { ⌜ validFactory (now factory) ≡ true ⌝ }
     ensures { λ _. ⌜ now (outbox .exit) ≡ sentBox (replyBytes reply 0x0b (itemBytes (now (factory .entry)) index)) (now (outbox .entry)) ⌝ }
 {
-    let count = octets::read_u32(factory, layout::ITEM_COUNT_PLACE) as usize;
+    let count = octets::read_u32(factory, layout::ITEM_COUNT_OFFSET) as usize;
     if count <= index {
         let result = [1u8];
         let nothing = [0u8; 33];
         send(outbox, reply, 0x0b, &result[0..1], &nothing[0..33]);
         return;
     }
-    let at = layout::ITEMS_PLACE + index * layout::ITEM_LENGTH;
-    let from = at + layout::ITEM_DATA_PLACE;
+    let at = layout::ITEMS_OFFSET + index * layout::ITEM_LENGTH;
+    let from = at + layout::ITEM_DATA_OFFSET;
     let n = item_data_length(factory, at);
     send(
         outbox,
         reply,
         0x0b,
-        &factory[at..at + layout::ITEM_DATA_LENGTH_PLACE],
+        &factory[at..at + layout::ITEM_DATA_LENGTH_OFFSET],
         &factory[from..from + n],
     );
 }
 
-// How many bytes of data the reply for the item at a place has: those of a result 0.
+// How many bytes of data the reply for the item at an offset has: those of a result 0.
 fn item_data_length(factory: &[u8], at: usize) -> usize
     requires { ⌜ at < 65536 ⌝ }
     ensures { λ r. ⌜ r ≡ itemDataLength (now (factory .entry)) at ⌝ }
 {
     if octets::byte_at(factory, at) == 0 {
-        return octets::byte_at(factory, at + layout::ITEM_DATA_LENGTH_PLACE);
+        return octets::byte_at(factory, at + layout::ITEM_DATA_LENGTH_OFFSET);
     }
     0
 }

@@ -10,13 +10,13 @@ ghost use mathlib.Core.Path.{_≡_};
 ghost use mathlib.Core.Bool.{true};
 ghost use Prim.Native.Nat.{_≤_};
 ghost use lib.ListN.{length};
-ghost use Rattle.line.specs.Reader.{said};
+ghost use Rattle.line.specs.Reader.{report};
 ghost use Rattle.supervisor.specs.Layout.{outbox-length};
 ghost use Rattle.supervisor.specs.Valid.{validFactory};
 ghost use Rattle.supervisor.specs.Calls.{parts};
-ghost use Rattle.requests.specs.Receive.{inner, validInner, innerAfter, verdictOf, ended, endedSaid, validParts, stepOf, stepping, turned, receiptOf, receiving};
+ghost use Rattle.requests.specs.Receive.{inner, validInner, innerAfter, verdictOf, ended, endedReport, validParts, stepOf, stepping, validStep, receiptOf, receiving};
 
-// What a call of `step` says; `endedSaid` in specs/Receive.antt gives document 01's numbers.
+// What a call of `step` answers; `endedReport` in specs/Receive.antt gives document 01's numbers.
 pub enum Outcome {
     Refused,
     More,
@@ -31,7 +31,7 @@ pub struct Stepped {
     pub outcome: Outcome,
 }
 
-// What a call of `receive` says.
+// What a call of `receive` answers.
 pub enum Received {
     Done,
     Refused,
@@ -55,7 +55,7 @@ pub fn step(
             outcome: Outcome::Refused,
         };
     }
-    turn(image, piece, reader, outbox, factory, settings, registers)
+    valid_step(image, piece, reader, outbox, factory, settings, registers)
 }
 
 // Reads a whole piece, frame by frame.
@@ -75,7 +75,7 @@ pub fn receive(
     }
     let mut at = 0;
     while at < piece.len() {
-        let done = turn(
+        let done = valid_step(
             image,
             &piece[at..],
             reader,
@@ -115,8 +115,8 @@ fn are_valid(
     valid::registers_are_valid(registers)
 }
 
-// One turn of valid parts: what the line reader reads of a piece, and what comes of the frame that it ends.
-fn turn(
+// One step of valid parts: what the line reader reads of a piece, and what comes of the frame that it ends.
+fn valid_step(
     image: &[u8],
     piece: &[u8],
     reader: &mut [u8],
@@ -126,7 +126,7 @@ fn turn(
     registers: &mut [u8],
 ) -> Stepped
     requires { ⌜ validParts (parts (now reader) (now outbox) (now factory) (now settings) (now registers)) ≡ true ⌝ }
-    ensures { λ r. ⌜ stepOf r (parts (now (reader .exit)) (now (outbox .exit)) (now (factory .entry)) (now (settings .exit)) (now (registers .exit))) ≡ turned (now (image .entry)) (parts (now (reader .entry)) (now (outbox .entry)) (now (factory .entry)) (now (settings .entry)) (now (registers .entry))) (now (piece .entry)) ⌝ }
+    ensures { λ r. ⌜ stepOf r (parts (now (reader .exit)) (now (outbox .exit)) (now (factory .entry)) (now (settings .exit)) (now (registers .exit))) ≡ validStep (now (image .entry)) (parts (now (reader .entry)) (now (outbox .entry)) (now (factory .entry)) (now (settings .entry)) (now (registers .entry))) (now (piece .entry)) ⌝ }
     ensures { λ _. ⌜ validParts (parts (now (reader .exit)) (now (outbox .exit)) (now (factory .entry)) (now (settings .exit)) (now (registers .exit))) ≡ true ⌝ }
 {
     let read = line::reader::read(reader, piece);
@@ -149,8 +149,8 @@ fn settle(
     requires { ⌜ outbox-length ≤ length (now outbox) ⌝ }
     requires { ⌜ validFactory (now factory) ≡ true ⌝ }
     requires { ⌜ validInner (inner (now outbox) (now settings) (now registers)) ≡ true ⌝ }
-    ensures { λ r. ⌜ endedSaid r ≡ ended (now (reader .entry)) (said answer) ⌝ }
-    ensures { λ _. ⌜ inner (now (outbox .exit)) (now (settings .exit)) (now (registers .exit)) ≡ innerAfter (now (image .entry)) (now (factory .entry)) (inner (now (outbox .entry)) (now (settings .entry)) (now (registers .entry))) (verdictOf (now (reader .entry)) (said answer)) ⌝ }
+    ensures { λ r. ⌜ endedReport r ≡ ended (now (reader .entry)) (report answer) ⌝ }
+    ensures { λ _. ⌜ inner (now (outbox .exit)) (now (settings .exit)) (now (registers .exit)) ≡ innerAfter (now (image .entry)) (now (factory .entry)) (inner (now (outbox .entry)) (now (settings .entry)) (now (registers .entry))) (verdictOf (now (reader .entry)) (report answer)) ⌝ }
     ensures { λ _. ⌜ validInner (inner (now (outbox .exit)) (now (settings .exit)) (now (registers .exit))) ≡ true ⌝ }
 {
     match answer {

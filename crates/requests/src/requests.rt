@@ -1,5 +1,5 @@
 // Requests: the supervisor's tests on a message, and what each valid request does.
-// Assumes valid parts, as each `requires` says.
+// Assumes valid parts, as each `requires` states.
 use crate::alert::alert;
 use crate::answers::send_block;
 use crate::answers::send_item;
@@ -23,7 +23,7 @@ ghost use Rattle.line.specs.Limits.{longest-data};
 ghost use Rattle.supervisor.specs.Layout.{outbox-length};
 ghost use Rattle.supervisor.specs.Valid.{validFactory};
 ghost use Rattle.requests.specs.Requests.{tested, known, lengthAllowed};
-ghost use Rattle.requests.specs.Receive.{inner, validInner, carriedInner, innerBy, messageBy, endedBy, endedSaid};
+ghost use Rattle.requests.specs.Receive.{inner, validInner, carriedInner, innerBy, messageBy, endedBy, endedReport};
 
 // A message that the line layer found good: failure 5, 6, 3 or 7, or what the request does.
 pub(crate) fn request(
@@ -41,7 +41,7 @@ pub(crate) fn request(
     requires { ⌜ validFactory (now factory) ≡ true ⌝ }
     requires { ⌜ validInner (inner (now outbox) (now settings) (now registers)) ≡ true ⌝ }
     requires { ⌜ length (now «data») ≤ longest-data ⌝ }
-    ensures { λ r. ⌜ endedSaid r ≡ endedBy (tested (messageBy version (number .0) command (now («data» .entry)))) ⌝ }
+    ensures { λ r. ⌜ endedReport r ≡ endedBy (tested (messageBy version (number .0) command (now («data» .entry)))) ⌝ }
     ensures { λ _. ⌜ inner (now (outbox .exit)) (now (settings .exit)) (now (registers .exit)) ≡ innerBy (now (image .entry)) (now (factory .entry)) (inner (now (outbox .entry)) (now (settings .entry)) (now (registers .entry))) (tested (messageBy version (number .0) command (now («data» .entry)))) ⌝ }
     ensures { λ _. ⌜ validInner (inner (now (outbox .exit)) (now (settings .exit)) (now (registers .exit))) ≡ true ⌝ }
 {
@@ -132,14 +132,14 @@ fn carry(
     let reason = octets::byte_at(data, 0);
     let reply = head::head_to(number);
     match command {
-        0x01 => ask_for(outbox, registers, layout::REBOOT_PLACE),
-        0x02 => ask_for(outbox, registers, layout::POWER_OFF_PLACE),
-        0x03 => send_part(outbox, reply, 0x03, factory, layout::BSU_PLACE, 1),
-        0x04 => send_part(outbox, reply, 0x04, factory, layout::IDENTITY_PLACE, 26),
-        0x05 => send_part(outbox, reply, 0x05, factory, layout::MAC_PLACE, 9),
+        0x01 => ask_for(outbox, registers, layout::REBOOT_OFFSET),
+        0x02 => ask_for(outbox, registers, layout::POWER_OFF_OFFSET),
+        0x03 => send_part(outbox, reply, 0x03, factory, layout::BSU_OFFSET, 1),
+        0x04 => send_part(outbox, reply, 0x04, factory, layout::IDENTITY_OFFSET, 26),
+        0x05 => send_part(outbox, reply, 0x05, factory, layout::MAC_OFFSET, 9),
         0x06 => boot_failure(outbox, registers, reason as u16, data),
         0x07 => panic(outbox, registers, reply, data),
-        0x08 => send_part(outbox, reply, 0x06, registers, layout::STATUS_PLACE, 16),
+        0x08 => send_part(outbox, reply, 0x06, registers, layout::STATUS_OFFSET, 16),
         0x09 => start_acknowledged(outbox, registers, reply),
         0x0a => alert(outbox, registers, reply, number),
         0x0d => send_block(outbox, reply, factory, image, data),

@@ -1,5 +1,5 @@
 // Sending: a reply, or none, takes the place of what is unsent.
-// Assumes that the outbox has its published length and that the data fit a message, as each `requires` says.
+// Assumes that the outbox has its published length and that the data fit a message, as each `requires` states.
 use crate::head::ReplyHead;
 use crate::receive::Outcome;
 use line::writer::Written;
@@ -12,8 +12,8 @@ ghost use lib.Dec.{eqb};
 ghost use lib.ListN.{length};
 ghost use Rattle.octets.specs.Bytes.{bytes, run, overlay};
 ghost use Rattle.line.specs.Limits.{longest-data, longest-form};
-ghost use Rattle.supervisor.specs.Layout.{outbox-length, outbox-from-place, outbox-bytes-place, outboxOwing};
-ghost use Rattle.requests.specs.Receive.{sentBox, replyBytes, failed, endedSaid};
+ghost use Rattle.supervisor.specs.Layout.{outbox-length, outbox-from-offset, outbox-bytes-offset, outboxTerminatorOwed};
+ghost use Rattle.requests.specs.Receive.{sentBox, replyBytes, failed, endedReport};
 
 // A reply whose data are head and then rest.
 pub(crate) fn send(outbox: &mut [u8], reply: ReplyHead, command: u8, head: &[u8], rest: &[u8])
@@ -39,7 +39,7 @@ fn write_reply(outbox: &mut [u8], reply: ReplyHead, command: u8, head: &[u8], re
     requires { ⌜ length (now head) + length (now rest) ≤ longest-data ⌝ }
     ensures { λ r. ⌜ r ≡ length (replyBytes reply command (now (head .entry) ++ now (rest .entry))) ⌝ }
     ensures { λ r. ⌜ r ≤ longest-form + 1 ⌝ }
-    ensures { λ _. ⌜ now (outbox .exit) ≡ overlay (outbox-bytes-place + 1) (replyBytes reply command (now (head .entry) ++ now (rest .entry))) (now (outbox .entry)) ⌝ }
+    ensures { λ _. ⌜ now (outbox .exit) ≡ overlay (outbox-bytes-offset + 1) (replyBytes reply command (now (head .entry) ++ now (rest .entry))) (now (outbox .entry)) ⌝ }
 {
     let number = reply.number;
     let written = line::writer::write(
@@ -48,7 +48,7 @@ fn write_reply(outbox: &mut [u8], reply: ReplyHead, command: u8, head: &[u8], re
         command,
         head,
         rest,
-        &mut outbox[layout::OUTBOX_BYTES_PLACE + 1..],
+        &mut outbox[layout::OUTBOX_BYTES_OFFSET + 1..],
     );
     match written {
         Written::Done(n) => n,
@@ -61,19 +61,19 @@ fn write_reply(outbox: &mut [u8], reply: ReplyHead, command: u8, head: &[u8], re
 fn set_pending(outbox: &mut [u8], n: usize)
     requires { ⌜ outbox-length ≤ length (now outbox) ⌝ }
     requires { ⌜ n ≤ longest-form + 1 ⌝ }
-    ensures { λ _. ⌜ now (outbox .exit) ≡ overlay outbox-from-place (bytes 2 (cond (eqb (outboxOwing (now (outbox .entry))) 1) 0 1) ++ bytes 2 (suc n)) (overlay outbox-bytes-place (0 ∷ []) (now (outbox .entry))) ⌝ }
+    ensures { λ _. ⌜ now (outbox .exit) ≡ overlay outbox-from-offset (bytes 2 (cond (eqb (outboxTerminatorOwed (now (outbox .entry))) 1) 0 1) ++ bytes 2 (suc n)) (overlay outbox-bytes-offset (0 ∷ []) (now (outbox .entry))) ⌝ }
 {
-    let from = first(octets::byte_at(outbox, layout::OUTBOX_OWING_PLACE));
-    outbox[layout::OUTBOX_BYTES_PLACE] = 0;
-    octets::write_u16(outbox, layout::OUTBOX_FROM_PLACE, from);
-    octets::write_u16(outbox, layout::OUTBOX_TO_PLACE, (n + 1) as u16);
+    let from = first(octets::byte_at(outbox, layout::OUTBOX_TERMINATOR_OWED_OFFSET));
+    outbox[layout::OUTBOX_BYTES_OFFSET] = 0;
+    octets::write_u16(outbox, layout::OUTBOX_FROM_OFFSET, from);
+    octets::write_u16(outbox, layout::OUTBOX_TO_OFFSET, (n + 1) as u16);
 }
 
 // Where the pending bytes begin.
-fn first(owing: usize) -> u16
-    ensures { λ r. ⌜ r ≡ cond (eqb owing 1) 0 1 ⌝ }
+fn first(owed: usize) -> u16
+    ensures { λ r. ⌜ r ≡ cond (eqb owed 1) 0 1 ⌝ }
 {
-    if owing == 1 { 0 } else { 1 }
+    if owed == 1 { 0 } else { 1 }
 }
 
 // A reply whose data are n bytes of a store.
@@ -114,7 +114,7 @@ pub(crate) fn acknowledge(outbox: &mut [u8], reply: ReplyHead)
 // A decode failure with its reason.
 pub(crate) fn fail(outbox: &mut [u8], reply: ReplyHead, reason: u8) -> Outcome
     requires { ⌜ outbox-length ≤ length (now outbox) ⌝ }
-    ensures { λ r. ⌜ endedSaid r ≡ failed reason ⌝ }
+    ensures { λ r. ⌜ endedReport r ≡ failed reason ⌝ }
     ensures { λ _. ⌜ now (outbox .exit) ≡ sentBox (replyBytes reply 0x02 (bytes 1 reason)) (now (outbox .entry)) ⌝ }
 {
     send_byte(outbox, reply, 0x02, reason);

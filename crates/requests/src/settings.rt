@@ -1,12 +1,12 @@
 // A key set: the value of a key in the settings store.
-// Assumes that the store has its published length, as each `requires` says.
+// Assumes that the store has its published length, as each `requires` states.
 use crate::head::ReplyHead;
 use crate::sending::send_byte;
 use supervisor::layout;
 ghost use mathlib.Core.Path.{_≡_};
 ghost use Prim.Native.Nat.{_+_, _≤_, _<_};
 ghost use lib.ListN.{length, drop};
-ghost use Rattle.supervisor.specs.Layout.{outbox-length, settings-length, setting-value-place};
+ghost use Rattle.supervisor.specs.Layout.{outbox-length, settings-length, setting-value-offset};
 ghost use Rattle.requests.specs.Receive.{keyStored, storing, storingAt, keySetParts, keySetAnswered};
 
 // A key set: key u8, rest the value.
@@ -32,13 +32,13 @@ fn store(settings: &mut [u8], key: u8, data: &[u8]) -> u8
     if key < layout::FIRST_SETTING {
         return 2;
     }
-    let at = layout::setting_place(key);
+    let at = layout::setting_offset(key);
     store_at(settings, at, layout::longest_setting(key), data)
 }
 
-// Stores the data behind the key in the setting at a place, if they are not too long.
+// Stores the data behind the key in the setting at an offset, if they are not too long.
 fn store_at(settings: &mut [u8], at: usize, most: usize, data: &[u8]) -> u8
-    requires { ⌜ at + (setting-value-place + most) ≤ length (now settings) ⌝ }
+    requires { ⌜ at + (setting-value-offset + most) ≤ length (now settings) ⌝ }
     requires { ⌜ most < 65536 ⌝ }
     requires { ⌜ 1 ≤ length (now «data») ⌝ }
     ensures { λ r. ⌜ keyStored r (now (settings .exit)) ≡ storingAt (now (settings .entry)) at most (drop 1 (now («data» .entry))) ⌝ }
@@ -48,7 +48,7 @@ fn store_at(settings: &mut [u8], at: usize, most: usize, data: &[u8]) -> u8
         return 3;
     }
     settings[at] = 1;
-    octets::write_u16(settings, at + layout::SETTING_LENGTH_PLACE, n as u16);
-    octets::copy(data, 1, n, settings, at + layout::SETTING_VALUE_PLACE);
+    octets::write_u16(settings, at + layout::SETTING_LENGTH_OFFSET, n as u16);
+    octets::copy(data, 1, n, settings, at + layout::SETTING_VALUE_OFFSET);
     0
 }

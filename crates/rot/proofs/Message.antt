@@ -22,7 +22,7 @@ pub length-message : (m : Message) → length (message m) ≡ header-length + le
 unfolding message
 length-message m = simp (length-append, length-start, length-bytes) (omega arith)
 
--- t is s with xs at its start, and at is the place behind them: bytes put there, and a whole list copied there
+-- t is s with xs at its start, and at is the offset behind them: bytes put there, and a whole list copied there
 module _ (xs ys s : List ℕ) (at : ℕ) {t : List ℕ} (e : length xs ≡ at) (laid : t ≡ overlay 0 xs s) (room : at + length ys ≤ length s) where
   long : length t ≡ length s
   long = rw laid (length-overlay 0 xs s (omega arith))

@@ -1,4 +1,4 @@
--- Laws of the CRC's register: eight bits of the message at once, by the table; bytes read from a place on.
+-- Laws of the CRC's register: eight bits of the message at once, by the table; bytes read from an offset on.
 -- Assumes nothing.
 use mathlib.Core.Path.{_≡_, refl, sym, ap, _∙_}
 use mathlib.Core.Bool.{Bool, true, false, cond}
@@ -44,7 +44,7 @@ pub crc-lt : (bs : List ℕ) → crc bs < 2 ^ 32
 unfolding crc
 crc-lt bs = omega arith
 
--- ---- bytes of two lists, and of a list from a place on
+-- ---- bytes of two lists, and of a list from an offset on
 
 pub after-append : (c : ℕ) (xs ys : List ℕ) → afterBytes c (xs ++ ys) ≡ afterBytes (afterBytes c xs) ys
 unfolding afterBytes

@@ -10,7 +10,7 @@ use lib.Dec.{eqb}
 use lib.ListN.{length, getD}
 use borrow.Author.Tests.{eqb-true}
 
--- whether each entry is what the rule says of its place, places counted from i
+-- whether each entry is what the rule says of its index, counted from i
 abbrev pub follows : (ℕ → ℕ) → ℕ → List ℕ → Bool
 follows rule i [] = true
 follows rule i (x ∷ xs) = eqb x (rule i) && follows rule (suc i) xs

@@ -20,21 +20,21 @@ numberOf refusal.CutShort = 24
 numberOf refusal.BadCrc = 25
 numberOf refusal.BadType = 26
 
-pub data Said : Type 0 where
-  refused : ℕ → Said
+pub data Report : Type 0 where
+  refused : ℕ → Report
   -- nothing was sent
-  nothing : Said
+  nothing : Report
   -- a message is handed out: its type, and how many bytes its payload has
-  handed : ℕ → ℕ → Said
+  handed : ℕ → ℕ → Report
   -- so many bytes were written
-  wrote : ℕ → Said
+  wrote : ℕ → Report
 
 -- what a call said, and the room as it left it
 pub record Outcome : Type 0 where
-  pub answer : Said
+  pub answer : Report
   pub out : List ℕ
 
-abbrev pub outcome : Said → List ℕ → Outcome
+abbrev pub outcome : Report → List ℕ → Outcome
 outcome a out = record { answer = a; out = out }
 
 -- bytes at the start of the room; 8 where they do not fit, and nothing changes

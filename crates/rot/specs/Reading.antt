@@ -1,4 +1,4 @@
--- What a call of the reader says and leaves: the first failing test speaks (document 02, item 7).
+-- What a call of the reader says and leaves: the first failing test decides (document 02, item 7).
 -- Assumes nothing: these are definitions.
 use mathlib.Core.Bool.{cond}
 use mathlib.Core.List.{List, [], _++_}
@@ -9,7 +9,7 @@ use Rattle.octets.specs.Bytes.{run, numberAt}
 use Rattle.rot.specs.Limits.{start-length, header-length, longest-payload}
 use Rattle.rot.specs.Crc.{crc}
 use Rattle.rot.specs.Message.{null-protocol, version-1, echo-request, listed, Message, message, echoed}
-use Rattle.rot.specs.Answers.{Said, refused, nothing, handed, wrote, Outcome, outcome, sending, numberOf}
+use Rattle.rot.specs.Answers.{Report, refused, nothing, handed, wrote, Outcome, outcome, sending, numberOf}
 use Rattle.rot.specs.declared.reader.Answer.{Answer}
 use Rattle.rot.specs.declared.reader.Answer.the-variants as answer
 use Rattle.rot.specs.declared.reader.Verdict.{Verdict}
@@ -88,11 +88,11 @@ answering (good m) out = served m out
 unfoldable pub reading : List ℕ → List ℕ → Outcome
 reading input out = answering (judge input) out
 
-unfoldable pub said : Answer → Said
-said (answer.Refused why) = refused (numberOf why)
-said answer.Nothing = nothing
-said (answer.Message head) = handed (head .kind) (head .length)
-said (answer.Echoed n) = wrote n
+unfoldable pub report : Answer → Report
+report (answer.Refused why) = refused (numberOf why)
+report answer.Nothing = nothing
+report (answer.Message head) = handed (head .kind) (head .length)
+report (answer.Echoed n) = wrote n
 
 -- A call of `payload`: that of the message that `read` hands out; an empty part where it hands out none.
 unfoldable pub handedPart : Judged → List ℕ

@@ -7,13 +7,13 @@ use lib.ListN.{length}
 use Prim.Native.Nat.{ℕ}
 use Rattle.rot.specs.Limits.{longest-payload}
 use Rattle.rot.specs.Message.{listed, Message, message}
-use Rattle.rot.specs.Answers.{Said, refused, wrote, Outcome, outcome, sending, numberOf}
+use Rattle.rot.specs.Answers.{Report, refused, wrote, Outcome, outcome, sending, numberOf}
 use Rattle.rot.specs.declared.writer.Written.{Written}
 use Rattle.rot.specs.declared.writer.Written.the-variants as answer
 
-unfoldable pub said : Written → Said
-said (answer.Done n) = wrote n
-said (answer.Refused why) = refused (numberOf why)
+unfoldable pub report : Written → Report
+report (answer.Done n) = wrote n
+report (answer.Refused why) = refused (numberOf why)
 
 abbrev pub messageOf : ℕ → List ℕ → Message
 messageOf type payload = record { type = type; payload = payload }

@@ -1,8 +1,8 @@
 // The lengths and numbers of the root-of-trust link, each in one place; specs/Limits.antt and specs/Message.antt have the same.
 // Assumes nothing.
-pub(crate) const TYPE_PLACE: usize = 1;
+pub(crate) const TYPE_OFFSET: usize = 1;
 
-pub(crate) const LENGTH_PLACE: usize = 2;
+pub(crate) const LENGTH_OFFSET: usize = 2;
 
 pub(crate) const START_LENGTH: usize = 4;
 

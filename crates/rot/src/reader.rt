@@ -12,7 +12,7 @@ ghost use Rattle.rot.specs.Message.{echo-response};
 ghost use Rattle.rot.specs.Crc.{crc};
 ghost use Rattle.rot.specs.Answers.{outcome};
 ghost use Rattle.rot.specs.Writing.{messageOf, writing};
-ghost use Rattle.rot.specs.Reading.{lengthOf, crcField, checked, judgeCrc, judgeLength, judge, judgedAs, said, reading, payloadPart};
+ghost use Rattle.rot.specs.Reading.{lengthOf, crcField, checked, judgeCrc, judgeLength, judge, judgedAs, report, reading, payloadPart};
 
 // A message that is handed out: its type, and how long its payload is, which lies in the input.
 pub struct Head {
@@ -20,7 +20,7 @@ pub struct Head {
     pub length: usize,
 }
 
-// What a call of `read` says; `said` in specs/Reading.antt gives document 02's numbers and values.
+// What a call of `read` answers; `report` in specs/Reading.antt gives document 02's numbers and values.
 pub enum Answer {
     Refused(Refusal),
     Nothing,
@@ -37,14 +37,14 @@ enum Verdict {
 
 // Reads what came. An echo request is answered in `out`, which stays as it is otherwise.
 pub fn read(input: &[u8], out: &mut [u8]) -> Answer
-    ensures { λ r. ⌜ outcome (said r) (now (out .exit)) ≡ reading (now (input .entry)) (now (out .entry)) ⌝ }
+    ensures { λ r. ⌜ outcome (report r) (now (out .exit)) ≡ reading (now (input .entry)) (now (out .entry)) ⌝ }
 {
     let verdict = judge(input);
     match verdict {
         Verdict::Refused(why) => Answer::Refused(why),
         Verdict::Nothing => Answer::Nothing,
         Verdict::Good(kind) => {
-            let n = octets::word_at(input, limits::LENGTH_PLACE);
+            let n = octets::word_at(input, limits::LENGTH_OFFSET);
             if kind == limits::ECHO_REQUEST {
                 return echo(octets::part(input, limits::HEADER_LENGTH, n), out);
             }
@@ -65,7 +65,7 @@ pub fn payload<'a>(input: &'a [u8]) -> &'a [u8]
             if kind == limits::ECHO_REQUEST {
                 return &input[0..0];
             }
-            let n = octets::word_at(input, limits::LENGTH_PLACE);
+            let n = octets::word_at(input, limits::LENGTH_OFFSET);
             octets::part(input, limits::HEADER_LENGTH, n)
         }
     }
@@ -73,7 +73,7 @@ pub fn payload<'a>(input: &'a [u8]) -> &'a [u8]
 
 // The answer to an echo request with this payload.
 fn echo(payload: &[u8], out: &mut [u8]) -> Answer
-    ensures { λ r. ⌜ outcome (said r) (now (out .exit)) ≡ writing (messageOf echo-response (now (payload .entry))) (now (out .entry)) ⌝ }
+    ensures { λ r. ⌜ outcome (report r) (now (out .exit)) ≡ writing (messageOf echo-response (now (payload .entry))) (now (out .entry)) ⌝ }
 {
     let written = writer::write(limits::ECHO_RESPONSE, payload, out);
     match written {
@@ -106,7 +106,7 @@ fn judge(input: &[u8]) -> Verdict
 fn judge_length(input: &[u8]) -> Verdict
     ensures { λ r. ⌜ judgedAs (now (input .entry)) r ≡ judgeLength (now (input .entry)) ⌝ }
 {
-    let n = octets::word_at(input, limits::LENGTH_PLACE);
+    let n = octets::word_at(input, limits::LENGTH_OFFSET);
     if limits::LONGEST_PAYLOAD < n {
         return Verdict::Refused(Refusal::TooLong);
     }
@@ -121,7 +121,7 @@ fn judge_message(input: &[u8], n: usize) -> Verdict
     requires { ⌜ n ≡ lengthOf (now input) ⌝ }
     ensures { λ r. ⌜ judgedAs (now (input .entry)) r ≡ judgeCrc (now (input .entry)) ⌝ }
 {
-    let kind = octets::read_u8(input, limits::TYPE_PLACE);
+    let kind = octets::read_u8(input, limits::TYPE_OFFSET);
     let has_crc = has_its_crc(input, n);
     let is_listed = writer::is_listed(kind);
     if !has_crc {

@@ -10,9 +10,9 @@ ghost use Rattle.octets.specs.Bytes.{overlay};
 ghost use Rattle.rot.specs.Limits.{header-length, longest-payload};
 ghost use Rattle.rot.specs.Message.{listed, crcOf, message};
 ghost use Rattle.rot.specs.Answers.{outcome};
-ghost use Rattle.rot.specs.Writing.{said, messageOf, writing};
+ghost use Rattle.rot.specs.Writing.{report, messageOf, writing};
 
-// What a call of `write` says: how many bytes it wrote, or why it wrote none.
+// What a call of `write` answers: how many bytes it wrote, or why it wrote none.
 pub enum Written {
     Done(usize),
     Refused(Refusal),
@@ -20,7 +20,7 @@ pub enum Written {
 
 // Writes a message of version 1.
 pub fn write(kind: u8, payload: &[u8], out: &mut [u8]) -> Written
-    ensures { λ r. ⌜ outcome (said r) (now (out .exit)) ≡ writing (messageOf kind (now (payload .entry))) (now (out .entry)) ⌝ }
+    ensures { λ r. ⌜ outcome (report r) (now (out .exit)) ≡ writing (messageOf kind (now (payload .entry))) (now (out .entry)) ⌝ }
 {
     if limits::LONGEST_PAYLOAD < payload.len() {
         return Written::Refused(Refusal::TooLong);
@@ -53,8 +53,8 @@ fn put(kind: u8, payload: &[u8], out: &mut [u8])
 {
     let crc = crc_for(kind, payload);
     out[0] = limits::VERSION_1;
-    out[limits::TYPE_PLACE] = kind;
-    octets::write_u16(out, limits::LENGTH_PLACE, payload.len() as u16);
+    out[limits::TYPE_OFFSET] = kind;
+    octets::write_u16(out, limits::LENGTH_OFFSET, payload.len() as u16);
     octets::write_u32(out, limits::START_LENGTH, crc);
     octets::copy(payload, 0, payload.len(), out, limits::HEADER_LENGTH);
 }

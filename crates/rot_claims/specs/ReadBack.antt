@@ -16,7 +16,7 @@ use Rattle.octets.proofs.Conditions.{cond-by}
 use Rattle.rot.specs.Limits.{start-length, header-length, longest-payload}
 use Rattle.rot.specs.Crc.{crc}
 use Rattle.rot.specs.Message.{version-1, echo-request, echo-response, listed, Message, start, crcOf, message, echoed}
-use Rattle.rot.specs.Answers.{Said, refused, handed, wrote, Outcome, outcome, sending}
+use Rattle.rot.specs.Answers.{Report, refused, handed, wrote, Outcome, outcome, sending}
 use Rattle.rot.specs.Reading.{protocolOf, typeOf, lengthOf, crcField, payloadOf, checked, Judged, failure, unsent, good, judgeType, judgeCrc, judgeLength, judgeProtocol, judge, served, answering, reading, handedPart, payloadPart}
 use Rattle.rot.specs.Writing.{messageOf, writing}
 use Rattle.rot.proofs.Register.{crc-lt}
@@ -111,7 +111,7 @@ read-as m input e = record {
 abbrev Sent : List ℕ → ℕ → Outcome → Type 0
 Sent bs n o = o .answer ≡ wrote n → take n (o .out) ≡ bs
 
-unsaid : (k n : ℕ) → Said.refused k ≡ wrote n → ⊥
+unsaid : (k n : ℕ) → Report.refused k ≡ wrote n → ⊥
 unsaid k n e = let z : _≡_ {A = ℕ} 0 1 = cc in omega arith
 
 sent-bytes : (bs out : List ℕ) (n : ℕ) → Sent bs n (sending bs out)

@@ -12,7 +12,7 @@ use borrow.Author.Tests.{leb-true, leb-false, le-leb}
 use Rattle.supervisor.specs.Local.{highest, atMost}
 use Rattle.supervisor.proofs.ValidLaws.{alike}
 
--- how many bits reach up to a place; none where no bit is set
+-- how many bits reach up to a position; none where no bit is set
 abbrev width : Option ℕ → ℕ
 width none = 0
 width (some k) = suc k
@@ -53,6 +53,6 @@ compared zs a most k (some j) e f =
     alike (leb a zs) (leb j most)
     (λ t. let l = leb-true a zs t in le-leb j most (omega arith)) (λ t. let l = leb-true j most t in le-leb a zs (omega arith))
 
--- at least so many leading zeros: the highest set bit is at most at the place that they leave
+-- at least so many leading zeros: the highest set bit is at most at the position that they leave
 pub zeros-highest : (k x a most : ℕ) → x < 2 ^ k → a + suc most ≡ k → leb a (leadingZeros k x) ≡ atMost most (highest k x)
 zeros-highest k x a most h e = compared (leadingZeros k x) a most k (highest k x) (zeros k x h) e

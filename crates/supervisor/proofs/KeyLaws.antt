@@ -14,16 +14,16 @@ use Rattle.supervisor.specs.Limits
 use Rattle.supervisor.specs.Limits.{highest-key}
 use Rattle.supervisor.specs.Layout
 use Rattle.supervisor.specs.Valid.{validFactory, validSettings}
-use Rattle.supervisor.specs.Calls.{settingAt, placeOf, resultAt, lookupResult, within, valueAt, lookupValue}
-use Rattle.supervisor.specs.declared.keys.Place.{Place}
-use Rattle.supervisor.proofs.PlaceLaws.{longest-short, settings-key}
+use Rattle.supervisor.specs.Calls.{settingAt, locationOf, resultAt, lookupResult, within, valueAt, lookupValue}
+use Rattle.supervisor.specs.declared.keys.Location.{Location}
+use Rattle.supervisor.proofs.OffsetLaws.{longest-short, settings-key}
 use Rattle.supervisor.proofs.ValidLaws.{FactoryValid, SettingsValid, factory-valid, settings-valid}
 
--- ---- the value at a key's place
+-- ---- the value at a key's location
 
 module _
-    (f s : List ℕ) (key most : ℕ) (p : Place) (v : (validFactory f && validSettings s) ≡ true) (k : key ≤ highest-key)
-    (e : p ≡ placeOf f s key) where
+    (f s : List ℕ) (key most : ℕ) (p : Location) (v : (validFactory f && validSettings s) ≡ true) (k : key ≤ highest-key)
+    (e : p ≡ locationOf f s key) where
   pub result-found : lookupResult f s key most ≡ resultAt most p
   unfolding lookupResult
   result-found = rw (v, le-ltb highest-key key k, e)
@@ -39,21 +39,21 @@ within-short most at n s h =
     cond-by (λ v. length v ≤ Limits.longest-value) (ltb most n) [] (run at n s) (λ _. omega arith) (λ _. omega (arith, length-take n (drop at s)))
 
 module _ (f s : List ℕ) (most : ℕ) where
-  -- the value at a place
-  abbrev Short : Place → Type 0
+  -- the value at an offset
+  abbrev Short : Location → Type 0
   Short p = length (valueAt f s most p) ≤ Limits.longest-value
 
   setting-short : (at : ℕ) → Layout.settingLength s at ≤ Limits.longest-value → Short (settingAt s at)
   unfolding settingAt valueAt
-  setting-short at h = cond-by Short (eqb (Layout.settingHeld s at) 1) _ _ (λ _. within-short most (at + Layout.setting-value-place) _ s h) (λ _. omega arith)
+  setting-short at h = cond-by Short (eqb (Layout.settingHeld s at) 1) _ _ (λ _. within-short most (at + Layout.setting-value-offset) _ s h) (λ _. omega arith)
 
-  place-short : (key : ℕ) → FactoryValid f → SettingsValid s → key ≤ highest-key → Short (placeOf f s key)
-  unfolding placeOf valueAt
+  place-short : (key : ℕ) → FactoryValid f → SettingsValid s → key ≤ highest-key → Short (locationOf f s key)
+  unfolding locationOf valueAt
   place-short key v w h =
-      cond-by Short (eqb key 0) _ _ (λ _. within-short most Layout.pong-place 4 f (omega arith)) (λ a.
-      cond-by Short (eqb key 1) _ _ (λ _. within-short most Layout.image-id-place (Layout.imageIdLength f) f (omega arith)) (λ b.
-      cond-by Short (eqb key 2) _ _ (λ _. within-short most Layout.item-count-place 8 f (omega arith)) (λ c.
-      setting-short (Layout.setting-place key) (omega (arith, w .each key (settings-key key a b c h), longest-short key)))))
+      cond-by Short (eqb key 0) _ _ (λ _. within-short most Layout.pong-offset 4 f (omega arith)) (λ a.
+      cond-by Short (eqb key 1) _ _ (λ _. within-short most Layout.image-id-offset (Layout.imageIdLength f) f (omega arith)) (λ b.
+      cond-by Short (eqb key 2) _ _ (λ _. within-short most Layout.item-count-offset 8 f (omega arith)) (λ c.
+      setting-short (Layout.setting-offset key) (omega (arith, w .each key (settings-key key a b c h), longest-short key)))))
 
 pub value-short : (f s : List ℕ) (key most : ℕ) → validFactory f ≡ true → validSettings s ≡ true → length (lookupValue f s key most) ≤ Limits.longest-value
 unfolding lookupValue

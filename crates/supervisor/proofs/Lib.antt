@@ -1,7 +1,7 @@
 -- Laws of the supervisor's definitions, which the proofs of its functions and the claims cite.
 -- Assumes nothing.
 pub mod Cases
-pub mod PlaceLaws
+pub mod OffsetLaws
 pub mod ValidLaws
 pub mod KeptRegisters
 pub mod StartLaws

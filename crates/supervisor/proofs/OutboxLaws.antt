@@ -12,14 +12,14 @@ use lib.Seq.{getD-take, getD-drop}
 use Rattle.octets.specs.Bytes.{bytes, run, numberAt, overlay, put, copied}
 use Rattle.octets.proofs.Numbers.{length-bytes, number-one}
 use Rattle.octets.proofs.Overlay.{length-run, length-overlay, overlay-none, overlay-one, put-fits, copied-fits}
-use Rattle.supervisor.specs.Layout.{outbox-from-place, outbox-owing-place, outbox-bytes-place, outboxFrom, outboxTo}
+use Rattle.supervisor.specs.Layout.{outbox-from-offset, outbox-terminator-owed-offset, outbox-bytes-offset, outboxFrom, outboxTo}
 use Rattle.supervisor.specs.Valid.{validOutbox}
-use Rattle.supervisor.specs.Calls.{takeSaid, takeOf, lastNonZero, afterTaken, takeable, takenBytes, taking}
+use Rattle.supervisor.specs.Calls.{takeReport, takeOf, lastNonZeroFlag, afterTaken, takeable, takenBytes, taking}
 use Rattle.supervisor.specs.declared.outbox.Taken.the-variants.{Moved, Refused}
 use Rattle.supervisor.proofs.ValidLaws.{outbox-valid}
 
 pub take-refused : (o room : List ℕ) → validOutbox o ≡ false → takeOf Refused o room ≡ taking o room
-unfolding takeSaid taking
+unfolding takeReport taking
 take-refused o room e = rw e
 
 -- the last of n bytes
@@ -30,7 +30,7 @@ last-of-run at n o p h =
     (number-one o (at + n - 1) (omega arith))
 
 after-some : (bs o : List ℕ) → 0 < length bs
-    → overlay outbox-owing-place (lastNonZero bs ∷ []) (overlay outbox-from-place (bytes 2 (outboxFrom o + length bs)) o) ≡ afterTaken bs o
+    → overlay outbox-terminator-owed-offset (lastNonZeroFlag bs ∷ []) (overlay outbox-from-offset (bytes 2 (outboxFrom o + length bs)) o) ≡ afterTaken bs o
 unfolding afterTaken
 after-some [] o h = absurd (omega arith)
 after-some (b ∷ bs) o h = refl
@@ -42,35 +42,35 @@ module _ (o room : List ℕ) {from to n : ℕ} (valid : validOutbox o ≡ true) 
   same = cc
 
   pub take-none : n ≡ 0 → takeOf (Moved 0) o room ≡ taking o room
-  unfolding takeSaid taking afterTaken
+  unfolding takeReport taking afterTaken
   take-none z = rw (valid, ← same, z, overlay-none)
 
-  there : outbox-bytes-place + from + n ≤ length o
+  there : outbox-bytes-offset + from + n ≤ length o
   there =
       let v = outbox-valid o valid in
       omega (arith, min-le-right (length room) (to - from))
 
-  room-after : copied o (outbox-bytes-place + from) n room 0 ≡ overlay 0 (takenBytes o room) room
-  room-after = rw (← same, ← first) (copied-fits o (outbox-bytes-place + from) n room 0 there (omega (arith, min-le-left (length room) (to - from))))
+  room-after : copied o (outbox-bytes-offset + from) n room 0 ≡ overlay 0 (takenBytes o room) room
+  room-after = rw (← same, ← first) (copied-fits o (outbox-bytes-offset + from) n room 0 there (omega (arith, min-le-left (length room) (to - from))))
 
   -- where the pending bytes now begin is stored, then whether a 00 is owed
   outbox-after : 0 < n
-      → set (put outbox-from-place (bytes 2 (from + n)) o) outbox-owing-place (cond (eqb (numberAt 1 o (outbox-bytes-place + from + n - 1)) 0) 0 1)
+      → set (put outbox-from-offset (bytes 2 (from + n)) o) outbox-terminator-owed-offset (cond (eqb (numberAt 1 o (outbox-bytes-offset + from + n - 1)) 0) 0 1)
       ≡ afterTaken (takenBytes o room) o
   outbox-after p =
-      let at = outbox-bytes-place + from in
+      let at = outbox-bytes-offset + from in
       let h = there in
       let place = bytes 2 (from + n) in
       let k : length place ≡ 2 = length-bytes 2 (from + n) in
       let q : length (run at n o) ≡ n = length-run at n o h in
-      let l : length (overlay outbox-from-place place o) ≡ length o = length-overlay outbox-from-place place o (omega arith) in
-      rw (← same, ← first, put-fits outbox-from-place place o (omega arith), overlay-one outbox-owing-place _ (overlay outbox-from-place place o) (omega arith))
+      let l : length (overlay outbox-from-offset place o) ≡ length o = length-overlay outbox-from-offset place o (omega arith) in
+      rw (← same, ← first, put-fits outbox-from-offset place o (omega arith), overlay-one outbox-terminator-owed-offset _ (overlay outbox-from-offset place o) (omega arith))
       (rw (last-of-run at n o p h, q, ← first) at (after-some (run at n o) o (omega arith)))
 
-  pub take-some : {last owed : ℕ} {s t : List ℕ} → (n ≡ 0 → ⊥) → last ≡ numberAt 1 o (outbox-bytes-place + from + n - 1)
-      → s ≡ copied o (outbox-bytes-place + from) n room 0 → t ≡ put outbox-from-place (bytes 2 (from + n)) o → owed ≡ cond (eqb last 0) 0 1
-      → takeOf (Moved n) (set t outbox-owing-place owed) s ≡ taking o room
-  unfolding takeSaid taking
+  pub take-some : {last owed : ℕ} {s t : List ℕ} → (n ≡ 0 → ⊥) → last ≡ numberAt 1 o (outbox-bytes-offset + from + n - 1)
+      → s ≡ copied o (outbox-bytes-offset + from) n room 0 → t ≡ put outbox-from-offset (bytes 2 (from + n)) o → owed ≡ cond (eqb last 0) 0 1
+      → takeOf (Moved n) (set t outbox-terminator-owed-offset owed) s ≡ taking o room
+  unfolding takeReport taking
   take-some z f g h k =
       let p : 0 < n = omega arith in
       rw valid (cc (same, room-after, outbox-after p))

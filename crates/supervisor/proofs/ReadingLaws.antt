@@ -1,4 +1,4 @@
--- Laws of reading the registers: the record at a place.
+-- Laws of reading the registers: the record at an offset.
 -- Assumes nothing.
 use mathlib.Core.Path.{_≡_}
 use mathlib.Core.List.{List}

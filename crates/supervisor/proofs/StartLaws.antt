@@ -19,7 +19,7 @@ use Rattle.octets.proofs.Conditions.{cond-by}
 use Rattle.supervisor.specs.Layout
 use Rattle.supervisor.specs.Local.{pong}
 use Rattle.supervisor.specs.Valid.{goodStart}
-use Rattle.supervisor.specs.Calls.{Parts, parts, Start, roomy, freshParts, startSaid, startOf, starting}
+use Rattle.supervisor.specs.Calls.{Parts, parts, Start, longEnough, freshParts, startReport, startOf, starting}
 use Rattle.supervisor.specs.declared.start.Started.{Started}
 use Rattle.supervisor.specs.declared.start.Started.the-variants as answer
 
@@ -97,7 +97,7 @@ stored n k m xs ys zs s t u v a b c h p q r =
 -- ---- what start answers
 
 -- every part has its published length
-pub record Roomy (p : Parts) : Type 0 where
+pub record LongEnough (p : Parts) : Type 0 where
   pub reader : Reader.state-length ≤ length (p .reader)
   pub outbox : Layout.outbox-length ≤ length (p .outbox)
   pub factory : Layout.factory-length ≤ length (p .factory)
@@ -117,27 +117,27 @@ all-long reader outbox factory settings registers h =
     let v = and-eq-true-iff _ _ .0 (u .1) in
     (leb-true _ _ (s .0), leb-true _ _ (t .0), leb-true _ _ (u .0), leb-true _ _ (v .0), leb-true _ _ (v .1))
 
-pub roomy-is : (p : Parts) → roomy p ≡ true → Roomy p
-unfolding roomy
-roomy-is p e = omega (arith, all-long (length (p .reader)) (length (p .outbox)) (length (p .factory)) (length (p .settings)) (length (p .registers)) e)
+pub long-enough-is : (p : Parts) → longEnough p ≡ true → LongEnough p
+unfolding longEnough
+long-enough-is p e = omega (arith, all-long (length (p .reader)) (length (p .outbox)) (length (p .factory)) (length (p .settings)) (length (p .registers)) e)
 
-pub is-roomy : (p : Parts) → Roomy p → roomy p ≡ true
-unfolding roomy
-is-roomy p r = rw (le-leb _ _ (r .reader), le-leb _ _ (r .outbox), le-leb _ _ (r .factory), le-leb _ _ (r .settings), le-leb _ _ (r .registers))
+pub is-long-enough : (p : Parts) → LongEnough p → longEnough p ≡ true
+unfolding longEnough
+is-long-enough p r = rw (le-leb _ _ (r .reader), le-leb _ _ (r .outbox), le-leb _ _ (r .factory), le-leb _ _ (r .settings), le-leb _ _ (r .registers))
 
 -- an answer with the parts as they are
 abbrev kept : Started → Parts → Start
 kept a p = startOf a (parts (p .reader) (p .outbox) (p .factory) (p .settings) (p .registers))
 
 -- a part is too short
-pub cramped : (d : List ℕ) (p : Parts) → (Roomy p → ⊥) → kept answer.Refused p ≡ starting d p
-unfolding starting startSaid
-cramped d p f = cond-by (λ t. kept answer.Refused p ≡ t) (roomy p) _ _ (λ e. absurd (f (roomy-is p e))) (λ e. refl)
+pub cramped : (d : List ℕ) (p : Parts) → (LongEnough p → ⊥) → kept answer.Refused p ≡ starting d p
+unfolding starting startReport
+cramped d p f = cond-by (λ t. kept answer.Refused p ≡ t) (longEnough p) _ _ (λ e. absurd (f (long-enough-is p e))) (λ e. refl)
 
 -- the start data are not allowed
-pub unfit : (d : List ℕ) (p : Parts) → Roomy p → goodStart d ≡ false → kept answer.BadData p ≡ starting d p
-unfolding starting startSaid
-unfit d p r e = rw (is-roomy p r, e)
+pub unfit : (d : List ℕ) (p : Parts) → LongEnough p → goodStart d ≡ false → kept answer.BadData p ≡ starting d p
+unfolding starting startReport
+unfit d p r e = rw (is-long-enough p r, e)
 
 -- the reader's part
 reader-begun : (s t : List ℕ) (a : Reader-Started) → Reader.state-length ≤ length s → Reader.started a t ≡ Reader.starting s
@@ -146,16 +146,16 @@ unfolding Reader.starting
 reader-begun s t a h e = ap (λ (o : Reader.Start). o .state) (rw (le-leb _ _ h) at e)
 
 -- each part as it was set
-pub begun : (d : List ℕ) (p q : Parts) (a : Reader-Started) → Roomy p → goodStart d ≡ true
+pub begun : (d : List ℕ) (p q : Parts) (a : Reader-Started) → LongEnough p → goodStart d ≡ true
     → Reader.started a (q .reader) ≡ Reader.starting (p .reader)
     → q .outbox ≡ put 0 (zeros Layout.outbox-length) (p .outbox)
     → q .factory ≡ overlay 0 (d ++ bytes 4 0 ++ pong) (p .factory)
     → q .settings ≡ put 0 (zeros Layout.settings-length) (p .settings)
     → q .registers ≡ overlay 0 (bytes 8 1 ++ zeros (Layout.registers-length - 8)) (p .registers)
     → kept answer.Done q ≡ starting d p
-unfolding starting startSaid freshParts
+unfolding starting startReport freshParts
 begun d p q a r e reader outbox factory settings registers =
     let x = reader-begun (p .reader) (q .reader) a (r .reader) reader in
     let y = outbox ∙ cleared-fits Layout.outbox-length (p .outbox) (r .outbox) in
     let z = settings ∙ cleared-fits Layout.settings-length (p .settings) (r .settings) in
-    rw (is-roomy p r, e, x, y, factory, z, registers)
+    rw (is-long-enough p r, e, x, y, factory, z, registers)

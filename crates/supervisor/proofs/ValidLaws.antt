@@ -88,13 +88,13 @@ each-all p (suc n) f = and (Valid.all p n) (p n) (each-all p n (λ i l. f i (ome
 -- ---- start data
 
 pub record ItemGood (d : List ℕ) (i : ℕ) : Type 0 where
-  pub result : (numberAt 1 d (Layout.item-place i) ≡ 0) ⊎ (numberAt 1 d (Layout.item-place i) ≡ 2) ⊎ (numberAt 1 d (Layout.item-place i) ≡ 3)
-  pub size : numberAt 1 d (Layout.item-place i + Layout.item-data-length-place) ≤ Limits.longest-item-data
+  pub result : (numberAt 1 d (Layout.item-offset i) ≡ 0) ⊎ (numberAt 1 d (Layout.item-offset i) ≡ 2) ⊎ (numberAt 1 d (Layout.item-offset i) ≡ 3)
+  pub size : numberAt 1 d (Layout.item-offset i + Layout.item-data-length-offset) ≤ Limits.longest-item-data
 
 pub item-good : (d : List ℕ) (i : ℕ) → Valid.goodItem d i ≡ true → ItemGood d i
 unfolding Valid.goodItem
 item-good d i e =
-    let t = both (Valid.resultAllowed (numberAt 1 d (Layout.item-place i))) _ e in
+    let t = both (Valid.resultAllowed (numberAt 1 d (Layout.item-offset i))) _ e in
     record {
       result = ⊎-map (eqb-true _ _) (λ o. ⊎-map (eqb-true _ _) (eqb-true _ _) (either _ _ o)) (either _ _ (t .0));
       size = leb-true _ _ (t .1);
@@ -103,12 +103,12 @@ item-good d i e =
 pub good-item : (d : List ℕ) (i : ℕ) → ItemGood d i → Valid.goodItem d i ≡ true
 unfolding Valid.goodItem
 good-item d i g =
-    and (Valid.resultAllowed (numberAt 1 d (Layout.item-place i))) _
+    and (Valid.resultAllowed (numberAt 1 d (Layout.item-offset i))) _
     (or _ _ (⊎-map (eq-eqb _ _) (λ o. or _ _ (⊎-map (eq-eqb _ _) (eq-eqb _ _) o)) (g .result)))
     (le-leb _ _ (g .size))
 
 pub record StartGood (d : List ℕ) : Type 0 where
-  pub bsu : (numberAt 1 d Layout.bsu-place ≡ 0x41) ⊎ (numberAt 1 d Layout.bsu-place ≡ 0x42)
+  pub bsu : (numberAt 1 d Layout.bsu-offset ≡ 0x41) ⊎ (numberAt 1 d Layout.bsu-offset ≡ 0x42)
   pub image : Layout.imageIdLength d ≤ Limits.longest-image-id
   pub count : Layout.itemCount d ≤ Limits.most-items
   pub items : Valid.goodItems d (Layout.itemCount d) ≡ true
@@ -116,7 +116,7 @@ pub record StartGood (d : List ℕ) : Type 0 where
 pub start-good : (d : List ℕ) → Valid.goodStart d ≡ true → StartGood d
 unfolding Valid.goodStart
 start-good d e =
-    let a = both (Valid.bsuAllowed (numberAt 1 d Layout.bsu-place)) _ e in
+    let a = both (Valid.bsuAllowed (numberAt 1 d Layout.bsu-offset)) _ e in
     let b = le-and _ _ _ (a .1) in
     let c = le-and _ _ _ (b .1) in
     record { bsu = ⊎-map (eqb-true _ _) (eqb-true _ _) (either _ _ (a .0)); image = b .0; count = c .0; items = c .1 }
@@ -124,7 +124,7 @@ start-good d e =
 pub good-start : (d : List ℕ) → StartGood d → Valid.goodStart d ≡ true
 unfolding Valid.goodStart
 good-start d g =
-    and (Valid.bsuAllowed (numberAt 1 d Layout.bsu-place)) _
+    and (Valid.bsuAllowed (numberAt 1 d Layout.bsu-offset)) _
     (or _ _ (⊎-map (eq-eqb _ _) (eq-eqb _ _) (g .bsu)))
     (and-le _ _ _ (g .image) (and-le _ _ _ (g .count) (g .items)))
 
@@ -134,7 +134,7 @@ pub record OutboxValid (o : List ℕ) : Type 0 where
   pub long : Layout.outbox-length ≤ length o
   pub order : Layout.outboxFrom o ≤ Layout.outboxTo o
   pub most : Layout.outboxTo o ≤ Limits.most-pending
-  pub owing : Layout.outboxOwing o ≤ 1
+  pub terminator-owed : Layout.outboxTerminatorOwed o ≤ 1
 
 pub outbox-valid : (o : List ℕ) → Valid.validOutbox o ≡ true → OutboxValid o
 unfolding Valid.validOutbox
@@ -142,26 +142,26 @@ outbox-valid o e =
     let a = le-and _ _ _ e in
     let b = le-and _ _ _ (a .1) in
     let c = le-and _ _ _ (b .1) in
-    record { long = a .0; order = b .0; most = c .0; owing = leb-true _ _ (c .1) }
+    record { long = a .0; order = b .0; most = c .0; terminator-owed = leb-true _ _ (c .1) }
 
 pub valid-outbox : (o : List ℕ) → OutboxValid o → Valid.validOutbox o ≡ true
 unfolding Valid.validOutbox
-valid-outbox o v = and-le _ _ _ (v .long) (and-le _ _ _ (v .order) (and-le _ _ _ (v .most) (le-leb _ _ (v .owing))))
+valid-outbox o v = and-le _ _ _ (v .long) (and-le _ _ _ (v .order) (and-le _ _ _ (v .most) (le-leb _ _ (v .terminator-owed))))
 
 -- ---- the factory store
 
 pub record FactoryValid (f : List ℕ) : Type 0 where
   pub long : Layout.factory-length ≤ length f
   pub start : StartGood f
-  pub version : numberAt 4 f Layout.inventory-version-place ≡ 0
-  pub text : run Layout.pong-place 4 f ≡ pong
+  pub version : numberAt 4 f Layout.inventory-version-offset ≡ 0
+  pub text : run Layout.pong-offset 4 f ≡ pong
 
 pub factory-valid : (f : List ℕ) → Valid.validFactory f ≡ true → FactoryValid f
 unfolding Valid.validFactory
 factory-valid f e =
     let a = le-and _ _ _ e in
     let b = both (Valid.goodStart f) _ (a .1) in
-    let c = both (eqb (numberAt 4 f Layout.inventory-version-place) 0) _ (b .1) in
+    let c = both (eqb (numberAt 4 f Layout.inventory-version-offset) 0) _ (b .1) in
     record { long = a .0; start = start-good f (b .0); version = eqb-true _ _ (c .0); text = equal-true _ _ (c .1) }
 
 pub valid-factory : (f : List ℕ) → FactoryValid f → Valid.validFactory f ≡ true
@@ -169,7 +169,7 @@ unfolding Valid.validFactory
 valid-factory f v =
     and-le _ _ _ (v .long)
     (and (Valid.goodStart f) _ (good-start f (v .start))
-    (and (eqb (numberAt 4 f Layout.inventory-version-place) 0) _ (eq-eqb _ _ (v .version))
+    (and (eqb (numberAt 4 f Layout.inventory-version-offset) 0) _ (eq-eqb _ _ (v .version))
     (rw (v .text) (equal-refl pong))))
 
 -- ---- the settings store
@@ -188,7 +188,7 @@ valid-setting s at most v = and-le _ _ _ (v .held) (le-leb _ _ (v .size))
 
 pub record SettingsValid (s : List ℕ) : Type 0 where
   pub long : Layout.settings-length ≤ length s
-  pub each : (key : ℕ) → Limits.SettingsKey key → SettingValid s (Layout.setting-place key) (Limits.longest-setting key)
+  pub each : (key : ℕ) → Limits.SettingsKey key → SettingValid s (Layout.setting-offset key) (Limits.longest-setting key)
 
 pub settings-valid : (s : List ℕ) → Valid.validSettings s ≡ true → SettingsValid s
 unfolding Valid.validSettings
@@ -230,34 +230,34 @@ unfolding Valid.validText
 valid-text r at h = le-leb _ _ h
 
 pub record AlertValid (r : List ℕ) (i : ℕ) : Type 0 where
-  pub size : Layout.alertTextLength r (Layout.alert-place i) ≤ Limits.longest-alert
-  pub action : 1 ≤ Layout.alertAction r (Layout.alert-place i)
+  pub size : Layout.alertTextLength r (Layout.alert-offset i) ≤ Limits.longest-alert
+  pub action : 1 ≤ Layout.alertAction r (Layout.alert-offset i)
 
 pub alert-valid : (r : List ℕ) (i : ℕ) → Valid.validAlert r i ≡ true → AlertValid r i
 unfolding Valid.validAlert
 alert-valid r i e =
-    let a = both (Valid.validText r (Layout.alert-place i)) _ e in
+    let a = both (Valid.validText r (Layout.alert-offset i)) _ e in
     record { size = text-valid _ _ (a .0); action = leb-true _ _ (a .1) }
 
 pub valid-alert : (r : List ℕ) (i : ℕ) → AlertValid r i → Valid.validAlert r i ≡ true
 unfolding Valid.validAlert
-valid-alert r i v = and (Valid.validText r (Layout.alert-place i)) _ (valid-text _ _ (v .size)) (le-leb _ _ (v .action))
+valid-alert r i v = and (Valid.validText r (Layout.alert-offset i)) _ (valid-text _ _ (v .size)) (le-leb _ _ (v .action))
 
 pub record RecordsAndAlertsValid (r : List ℕ) : Type 0 where
-  pub reason : Layout.recordCode r Layout.boot-failure-place ≤ 255
-  pub boot-failure : RecordValid r Layout.boot-failure-place Limits.longest-boot-failure
-  pub panic : RecordValid r Layout.panic-place Limits.longest-panic
+  pub reason : Layout.recordCode r Layout.boot-failure-offset ≤ 255
+  pub boot-failure : RecordValid r Layout.boot-failure-offset Limits.longest-boot-failure
+  pub panic : RecordValid r Layout.panic-offset Limits.longest-panic
   pub count : Layout.alertCount r ≤ Limits.most-alerts
   pub alerts : Valid.validAlerts r (Layout.alertCount r) ≡ true
-  pub retained : numberAt 1 r Layout.retained-place ≤ 1
-  pub text : Layout.alertTextLength r Layout.retained-alert-place ≤ Limits.longest-alert
+  pub retained : numberAt 1 r Layout.retained-offset ≤ 1
+  pub text : Layout.alertTextLength r Layout.retained-alert-offset ≤ Limits.longest-alert
 
 pub records-and-alerts-valid : (r : List ℕ) → Valid.validRecordsAndAlerts r ≡ true → RecordsAndAlertsValid r
 unfolding Valid.validRecordsAndAlerts
 records-and-alerts-valid r e =
     let a = le-and _ _ _ e in
-    let b = both (Valid.validRecord r Layout.boot-failure-place Limits.longest-boot-failure) _ (a .1) in
-    let c = both (Valid.validRecord r Layout.panic-place Limits.longest-panic) _ (b .1) in
+    let b = both (Valid.validRecord r Layout.boot-failure-offset Limits.longest-boot-failure) _ (a .1) in
+    let c = both (Valid.validRecord r Layout.panic-offset Limits.longest-panic) _ (b .1) in
     let d = le-and _ _ _ (c .1) in
     let f = both (Valid.validAlerts r (Layout.alertCount r)) _ (d .1) in
     let g = le-and _ _ _ (f .1) in
@@ -283,8 +283,8 @@ pub record RegistersValid (r : List ℕ) : Type 0 where
   pub long : Layout.registers-length ≤ length r
   pub status : Layout.statusOf r ≤ 3
   pub options : Layout.optionsOf r ≤ Limits.all-options
-  pub reboot : numberAt 1 r Layout.reboot-place ≤ 1
-  pub power-off : numberAt 1 r Layout.power-off-place ≤ 1
+  pub reboot : numberAt 1 r Layout.reboot-offset ≤ 1
+  pub power-off : numberAt 1 r Layout.power-off-offset ≤ 1
   pub rest : RecordsAndAlertsValid r
 
 pub registers-valid : (r : List ℕ) → Valid.validRegisters r ≡ true → RegistersValid r

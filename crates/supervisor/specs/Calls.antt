@@ -23,8 +23,8 @@ use Rattle.supervisor.specs.declared.options.OptionsSet.{OptionsSet}
 use Rattle.supervisor.specs.declared.options.OptionsSet.the-variants as options-set
 use Rattle.supervisor.specs.declared.keys.Found.{Found}
 use Rattle.supervisor.specs.declared.keys.Found.the-variants as found
-use Rattle.supervisor.specs.declared.keys.Place.{Place}
-use Rattle.supervisor.specs.declared.keys.Place.the-variants as place
+use Rattle.supervisor.specs.declared.keys.Location.{Location}
+use Rattle.supervisor.specs.declared.keys.Location.the-variants as location
 use Rattle.supervisor.specs.declared.registers.SignalRead.{SignalRead}
 use Rattle.supervisor.specs.declared.registers.SignalRead.the-variants as signal
 use Rattle.supervisor.specs.declared.registers.FlagsRead.{FlagsRead}
@@ -48,8 +48,8 @@ abbrev pub parts : List ℕ → List ℕ → List ℕ → List ℕ → List ℕ 
 parts reader outbox factory settings registers = record { reader = reader; outbox = outbox; factory = factory; settings = settings; registers = registers }
 
 -- every part has its published length
-unfoldable pub roomy : Parts → Bool
-roomy p =
+unfoldable pub longEnough : Parts → Bool
+longEnough p =
     leb Reader.state-length (length (p .reader))
     && (leb Layout.outbox-length (length (p .outbox))
     && (leb Layout.factory-length (length (p .factory))
@@ -67,76 +67,76 @@ freshParts d p = record {
 }
 
 -- the table's number of a refusal; none where the call is carried out
-unfoldable pub startSaid : Started → Option ℕ
-startSaid started.Done = none
-startSaid started.Refused = some 12
-startSaid started.BadData = some 11
+unfoldable pub startReport : Started → Option ℕ
+startReport started.Done = none
+startReport started.Refused = some 12
+startReport started.BadData = some 11
 
 pub record Start : Type 0 where
   pub refusal : Option ℕ
   pub parts : Parts
 
 abbrev pub startOf : Started → Parts → Start
-startOf r p = record { refusal = startSaid r; parts = p }
+startOf r p = record { refusal = startReport r; parts = p }
 
 -- the room alone is tested for 12, then the start data for 11
 unfoldable pub starting : List ℕ → Parts → Start
 starting d p =
-    cond (roomy p)
+    cond (longEnough p)
     (cond (goodStart d) (record { refusal = none; parts = freshParts d p }) (record { refusal = some 11; parts = p }))
     (record { refusal = some 12; parts = p })
 
 -- ---- Take
 
 -- how many bytes were moved, or the table's number
-pub data TakeSaid : Type 0 where
-  moved : ℕ → TakeSaid
-  refused : ℕ → TakeSaid
+pub data TakeReport : Type 0 where
+  moved : ℕ → TakeReport
+  refused : ℕ → TakeReport
 
-unfoldable pub takeSaid : Taken → TakeSaid
-takeSaid (taken.Moved n) = moved n
-takeSaid taken.Refused = refused 12
+unfoldable pub takeReport : Taken → TakeReport
+takeReport (taken.Moved n) = moved n
+takeReport taken.Refused = refused 12
 
 pub record Take : Type 0 where
-  pub said : TakeSaid
+  pub report : TakeReport
   pub outbox : List ℕ
   pub room : List ℕ
 
 abbrev pub takeOf : Taken → List ℕ → List ℕ → Take
-takeOf r outbox room = record { said = takeSaid r; outbox = outbox; room = room }
+takeOf r outbox room = record { report = takeReport r; outbox = outbox; room = room }
 
 -- whether the last of some bytes is not zero
-abbrev pub lastNonZero : List ℕ → ℕ
-lastNonZero bs = cond (eqb (getD bs (length bs - 1) 0) 0) 0 1
+abbrev pub lastNonZeroFlag : List ℕ → ℕ
+lastNonZeroFlag bs = cond (eqb (getD bs (length bs - 1) 0) 0) 0 1
 
 -- the outbox after bytes were taken
 unfoldable pub afterTaken : List ℕ → List ℕ → List ℕ
 afterTaken [] o = o
 afterTaken (b ∷ bs) o =
-    overlay Layout.outbox-owing-place (lastNonZero (b ∷ bs) ∷ [])
-    (overlay Layout.outbox-from-place (bytes 2 (Layout.outboxFrom o + length (b ∷ bs))) o)
+    overlay Layout.outbox-terminator-owed-offset (lastNonZeroFlag (b ∷ bs) ∷ [])
+    (overlay Layout.outbox-from-offset (bytes 2 (Layout.outboxFrom o + length (b ∷ bs))) o)
 
 -- the smaller of the room and the bytes pending
 abbrev pub takeable : List ℕ → List ℕ → ℕ
 takeable o room = min (length room) (Layout.outboxTo o - Layout.outboxFrom o)
 
 abbrev pub takenBytes : List ℕ → List ℕ → List ℕ
-takenBytes o room = run (Layout.outbox-bytes-place + Layout.outboxFrom o) (takeable o room) o
+takenBytes o room = run (Layout.outbox-bytes-offset + Layout.outboxFrom o) (takeable o room) o
 
 unfoldable pub taking : List ℕ → List ℕ → Take
 taking o room =
     cond (validOutbox o)
-    (record { said = moved (takeable o room); outbox = afterTaken (takenBytes o room) o; room = overlay 0 (takenBytes o room) room })
-    (record { said = refused 12; outbox = o; room = room })
+    (record { report = moved (takeable o room); outbox = afterTaken (takenBytes o room) o; room = overlay 0 (takenBytes o room) room })
+    (record { report = refused 12; outbox = o; room = room })
 
 -- ---- Post an alert
 
-unfoldable pub postSaid : Posted → Option ℕ
-postSaid posted.Done = none
-postSaid posted.Refused = some 12
-postSaid posted.BadAction = some 13
-postSaid posted.TooLong = some 9
-postSaid posted.Full = some 10
+unfoldable pub postReport : Posted → Option ℕ
+postReport posted.Done = none
+postReport posted.Refused = some 12
+postReport posted.BadAction = some 13
+postReport posted.TooLong = some 9
+postReport posted.Full = some 10
 
 -- a call that changes the registers alone
 pub record Registered : Type 0 where
@@ -149,9 +149,9 @@ registered n r = record { refusal = n; registers = r }
 -- the alert behind those that wait, one more that waits, status bit 1
 unfoldable pub withAlert : List ℕ → ℕ → List ℕ → List ℕ
 withAlert r action text =
-    overlay Layout.status-place (bytes 8 (Local.setBit (Layout.statusOf r) 1))
-    (overlay Layout.alert-count-place (bytes 1 (Layout.alertCount r + 1))
-    (overlay (Layout.alert-place (Layout.alertCount r)) (bytes 2 (length text) ++ (bytes 1 action ++ text)) r))
+    overlay Layout.status-offset (bytes 8 (Local.setBit (Layout.statusOf r) 1))
+    (overlay Layout.alert-count-offset (bytes 1 (Layout.alertCount r + 1))
+    (overlay (Layout.alert-offset (Layout.alertCount r)) (bytes 2 (length text) ++ (bytes 1 action ++ text)) r))
 
 -- tests 12, 13, 9, 10
 unfoldable pub posting : List ℕ → ℕ → List ℕ → Registered
@@ -164,105 +164,105 @@ posting r action text =
 
 -- ---- Set options
 
-unfoldable pub optionsSaid : OptionsSet → Option ℕ
-optionsSaid options-set.Done = none
-optionsSaid options-set.Refused = some 12
-optionsSaid options-set.BadOption = some 13
+unfoldable pub optionsReport : OptionsSet → Option ℕ
+optionsReport options-set.Done = none
+optionsReport options-set.Refused = some 12
+optionsReport options-set.BadOption = some 13
 
 unfoldable pub settingOptions : List ℕ → ℕ → Registered
 settingOptions r options =
     cond (validRegisters r)
-    (cond (Local.optionsAllowed options) (registered none (overlay Layout.options-place (bytes 8 options) r)) (registered (some 13) r))
+    (cond (Local.optionsAllowed options) (registered none (overlay Layout.options-offset (bytes 8 options) r)) (registered (some 13) r))
     (registered (some 12) r)
 
 -- ---- Look a key up
 
 -- where a key's value lies: from which byte of a store, and how many
-unfoldable pub settingAt : List ℕ → ℕ → Place
-settingAt s at = cond (eqb (Layout.settingHeld s at) 1) (place.Settings (at + Layout.setting-value-place) (Layout.settingLength s at)) place.Nowhere
+unfoldable pub settingAt : List ℕ → ℕ → Location
+settingAt s at = cond (eqb (Layout.settingHeld s at) 1) (location.Settings (at + Layout.setting-value-offset) (Layout.settingLength s at)) location.Nowhere
 
 -- of a key from 0 to 5
-unfoldable pub placeOf : List ℕ → List ℕ → ℕ → Place
-placeOf f s key =
-    cond (eqb key 0) (place.Factory Layout.pong-place 4)
-    (cond (eqb key 1) (place.Factory Layout.image-id-place (Layout.imageIdLength f))
-    (cond (eqb key 2) (place.Factory Layout.item-count-place 8)
-    (settingAt s (Layout.setting-place key))))
+unfoldable pub locationOf : List ℕ → List ℕ → ℕ → Location
+locationOf f s key =
+    cond (eqb key 0) (location.Factory Layout.pong-offset 4)
+    (cond (eqb key 1) (location.Factory Layout.image-id-offset (Layout.imageIdLength f))
+    (cond (eqb key 2) (location.Factory Layout.item-count-offset 8)
+    (settingAt s (Layout.setting-offset key))))
 
 -- the result of a lookup and how many bytes were found, or the table's number
-pub data LookupSaid : Type 0 where
-  result : ℕ → ℕ → LookupSaid
-  refused : ℕ → LookupSaid
+pub data LookupReport : Type 0 where
+  result : ℕ → ℕ → LookupReport
+  refused : ℕ → LookupReport
 
-unfoldable pub lookupSaid : Found → LookupSaid
-lookupSaid found.Refused = refused 12
-lookupSaid (found.Value n) = result 0 n
-lookupSaid found.BadKey = result 1 0
-lookupSaid found.NoValue = result 2 0
-lookupSaid found.TooLong = result 3 0
+unfoldable pub lookupReport : Found → LookupReport
+lookupReport found.Refused = refused 12
+lookupReport (found.Value n) = result 0 n
+lookupReport found.BadKey = result 1 0
+lookupReport found.NoValue = result 2 0
+lookupReport found.TooLong = result 3 0
 
 -- the number of a lookup's result
-abbrev pub resultNumber : LookupSaid → ℕ
+abbrev pub resultNumber : LookupReport → ℕ
 resultNumber (result n k) = n
 resultNumber (refused n) = n
 
-abbrev pub sized : ℕ → ℕ → LookupSaid
+abbrev pub sized : ℕ → ℕ → LookupReport
 sized most n = cond (ltb most n) (result 3 0) (result 0 n)
 
-unfoldable pub resultAt : ℕ → Place → LookupSaid
-resultAt most (place.Factory at n) = sized most n
-resultAt most (place.Settings at n) = sized most n
-resultAt most place.Nowhere = result 2 0
+unfoldable pub resultAt : ℕ → Location → LookupReport
+resultAt most (location.Factory at n) = sized most n
+resultAt most (location.Settings at n) = sized most n
+resultAt most location.Nowhere = result 2 0
 
-unfoldable pub lookupResult : List ℕ → List ℕ → ℕ → ℕ → LookupSaid
+unfoldable pub lookupResult : List ℕ → List ℕ → ℕ → ℕ → LookupReport
 lookupResult f s key most =
     cond (validFactory f && validSettings s)
-    (cond (ltb Limits.highest-key key) (result 1 0) (resultAt most (placeOf f s key)))
+    (cond (ltb Limits.highest-key key) (result 1 0) (resultAt most (locationOf f s key)))
     (refused 12)
 
 abbrev pub within : ℕ → ℕ → List ℕ → List ℕ
 within most n v = cond (ltb most n) [] v
 
-unfoldable pub valueAt : List ℕ → List ℕ → ℕ → Place → List ℕ
-valueAt f s most (place.Factory at n) = within most n (run at n f)
-valueAt f s most (place.Settings at n) = within most n (run at n s)
-valueAt f s most place.Nowhere = []
+unfoldable pub valueAt : List ℕ → List ℕ → ℕ → Location → List ℕ
+valueAt f s most (location.Factory at n) = within most n (run at n f)
+valueAt f s most (location.Settings at n) = within most n (run at n s)
+valueAt f s most location.Nowhere = []
 
 -- a result other than 0 and a refusal hand out an empty part
 unfoldable pub lookupValue : List ℕ → List ℕ → ℕ → ℕ → List ℕ
 lookupValue f s key most =
     cond (validFactory f && validSettings s)
-    (cond (ltb Limits.highest-key key) [] (valueAt f s most (placeOf f s key)))
+    (cond (ltb Limits.highest-key key) [] (valueAt f s most (locationOf f s key)))
     []
 
 -- ---- Read the line signal, the two flags, a record
 
 -- what is read, or the table's number
-pub data ReadSaid (A : Type 0) : Type 0 where
-  is : A → ReadSaid A
-  refused : ℕ → ReadSaid A
+pub data ReadReport (A : Type 0) : Type 0 where
+  is : A → ReadReport A
+  refused : ℕ → ReadReport A
 
-unfoldable pub signalSaid : SignalRead → ReadSaid Bool
-signalSaid signal.Refused = ReadSaid.refused 12
-signalSaid signal.Asserted = is true
-signalSaid signal.Clear = is false
+unfoldable pub signalReport : SignalRead → ReadReport Bool
+signalReport signal.Refused = ReadReport.refused 12
+signalReport signal.Asserted = is true
+signalReport signal.Clear = is false
 
 -- asserted exactly when status is not 0
-unfoldable pub signalOf : List ℕ → ReadSaid Bool
-signalOf r = cond (validRegisters r) (is (not (eqb (Layout.statusOf r) 0))) (ReadSaid.refused 12)
+unfoldable pub signalOf : List ℕ → ReadReport Bool
+signalOf r = cond (validRegisters r) (is (not (eqb (Layout.statusOf r) 0))) (ReadReport.refused 12)
 
 -- reboot asked for, power off asked for
-unfoldable pub flagsSaid : FlagsRead → ReadSaid (Bool × Bool)
-flagsSaid flags.Refused = ReadSaid.refused 12
-flagsSaid (flags.Read a) = is (a .reboot, a .«power_off»)
+unfoldable pub flagsReport : FlagsRead → ReadReport (Bool × Bool)
+flagsReport flags.Refused = ReadReport.refused 12
+flagsReport (flags.Read a) = is (a .reboot, a .«power_off»)
 
-unfoldable pub flagsOf : List ℕ → ReadSaid (Bool × Bool)
+unfoldable pub flagsOf : List ℕ → ReadReport (Bool × Bool)
 flagsOf r =
-    cond (validRegisters r) (is (eqb (numberAt 1 r Layout.reboot-place) 1, eqb (numberAt 1 r Layout.power-off-place) 1)) (ReadSaid.refused 12)
+    cond (validRegisters r) (is (eqb (numberAt 1 r Layout.reboot-offset) 1, eqb (numberAt 1 r Layout.power-off-offset) 1)) (ReadReport.refused 12)
 
-unfoldable pub recordPlace : Kind → ℕ
-recordPlace kind.BootFailure = Layout.boot-failure-place
-recordPlace kind.Panic = Layout.panic-place
+unfoldable pub recordOffset : Kind → ℕ
+recordOffset kind.BootFailure = Layout.boot-failure-offset
+recordOffset kind.Panic = Layout.panic-offset
 
 -- a record: its code, the whole length of its rest, and how many bytes of the rest are kept
 pub record Read : Type 0 where
@@ -270,10 +270,10 @@ pub record Read : Type 0 where
   pub whole : ℕ
   pub kept : ℕ
 
-unfoldable pub recordSaid : Recorded → ReadSaid (Option Read)
-recordSaid recorded.Refused = ReadSaid.refused 12
-recordSaid recorded.Nothing = is none
-recordSaid (recorded.Found e) = is (some (record { code = e .code; whole = e .whole; kept = e .kept }))
+unfoldable pub recordReport : Recorded → ReadReport (Option Read)
+recordReport recorded.Refused = ReadReport.refused 12
+recordReport recorded.Nothing = is none
+recordReport (recorded.Found e) = is (some (record { code = e .code; whole = e .whole; kept = e .kept }))
 
 abbrev pub keptOf : List ℕ → ℕ → ℕ
 keptOf r at = min (Layout.recordWhole r at) Limits.most-kept
@@ -282,12 +282,12 @@ unfoldable pub recordAt : List ℕ → ℕ → Option Read
 recordAt r at =
     cond (eqb (Layout.recordHeld r at) 1) (some (record { code = Layout.recordCode r at; whole = Layout.recordWhole r at; kept = keptOf r at })) none
 
-unfoldable pub recordOf : List ℕ → Kind → ReadSaid (Option Read)
-recordOf r k = cond (validRegisters r) (is (recordAt r (recordPlace k))) (ReadSaid.refused 12)
+unfoldable pub recordOf : List ℕ → Kind → ReadReport (Option Read)
+recordOf r k = cond (validRegisters r) (is (recordAt r (recordOffset k))) (ReadReport.refused 12)
 
 -- the kept bytes; an empty part where there is no record and in a refusal
 unfoldable pub recordBytes : List ℕ → Kind → List ℕ
 recordBytes r k =
     cond (validRegisters r)
-    (cond (eqb (Layout.recordHeld r (recordPlace k)) 1) (run (recordPlace k + Layout.record-kept-place) (keptOf r (recordPlace k)) r) [])
+    (cond (eqb (Layout.recordHeld r (recordOffset k)) 1) (run (recordOffset k + Layout.record-kept-offset) (keptOf r (recordOffset k)) r) [])
     []

@@ -8,106 +8,106 @@ use Rattle.supervisor.specs.Limits.{most-items, longest-item-data, longe
 
 -- ---- The outbox: the pending bytes run from `outbox-from` up to `outbox-to` among the bytes at `outbox-bytes`.
 
-abbrev pub outbox-from-place : ℕ
-outbox-from-place = 0
+abbrev pub outbox-from-offset : ℕ
+outbox-from-offset = 0
 
-abbrev pub outbox-to-place : ℕ
-outbox-to-place = 2
+abbrev pub outbox-to-offset : ℕ
+outbox-to-offset = 2
 
-abbrev pub outbox-owing-place : ℕ
-outbox-owing-place = 4
+abbrev pub outbox-terminator-owed-offset : ℕ
+outbox-terminator-owed-offset = 4
 
-abbrev pub outbox-bytes-place : ℕ
-outbox-bytes-place = 5
+abbrev pub outbox-bytes-offset : ℕ
+outbox-bytes-offset = 5
 
 abbrev pub outbox-length : ℕ
-outbox-length = outbox-bytes-place + most-pending
+outbox-length = outbox-bytes-offset + most-pending
 
 abbrev pub outboxFrom : List ℕ → ℕ
-outboxFrom o = numberAt 2 o outbox-from-place
+outboxFrom o = numberAt 2 o outbox-from-offset
 
 abbrev pub outboxTo : List ℕ → ℕ
-outboxTo o = numberAt 2 o outbox-to-place
+outboxTo o = numberAt 2 o outbox-to-offset
 
-abbrev pub outboxOwing : List ℕ → ℕ
-outboxOwing o = numberAt 1 o outbox-owing-place
+abbrev pub outboxTerminatorOwed : List ℕ → ℕ
+outboxTerminatorOwed o = numberAt 1 o outbox-terminator-owed-offset
 
 -- ---- The factory store begins with the start data, byte for byte; the version of key 2 and the text of key 0 follow.
 
-abbrev pub bsu-place : ℕ
-bsu-place = 0
+abbrev pub bsu-offset : ℕ
+bsu-offset = 0
 
 -- model[11], revision u32, serial[11]
-abbrev pub identity-place : ℕ
-identity-place = 1
+abbrev pub identity-offset : ℕ
+identity-offset = 1
 
 -- base[6], count u16, stride u8
-abbrev pub mac-place : ℕ
-mac-place = 27
+abbrev pub mac-offset : ℕ
+mac-offset = 27
 
-abbrev pub hash-place : ℕ
-hash-place = 36
+abbrev pub hash-offset : ℕ
+hash-offset = 36
 
-abbrev pub image-id-length-place : ℕ
-image-id-length-place = 68
+abbrev pub image-id-length-offset : ℕ
+image-id-length-offset = 68
 
-abbrev pub image-id-place : ℕ
-image-id-place = 69
+abbrev pub image-id-offset : ℕ
+image-id-offset = 69
 
-abbrev pub items-place : ℕ
-items-place = image-id-place + longest-image-id
+abbrev pub items-offset : ℕ
+items-offset = image-id-offset + longest-image-id
 
 -- an item: result u8, name[32], type u8, how many bytes of data u8, data
-abbrev pub item-data-length-place : ℕ
-item-data-length-place = 34
+abbrev pub item-data-length-offset : ℕ
+item-data-length-offset = 34
 
-abbrev pub item-data-place : ℕ
-item-data-place = 35
+abbrev pub item-data-offset : ℕ
+item-data-offset = 35
 
 abbrev pub item-length : ℕ
-item-length = item-data-place + longest-item-data
+item-length = item-data-offset + longest-item-data
 
-abbrev pub item-place : ℕ → ℕ
-item-place i = items-place + i * item-length
+abbrev pub item-offset : ℕ → ℕ
+item-offset i = items-offset + i * item-length
 
 -- how many items there are, u32
-abbrev pub item-count-place : ℕ
-item-count-place = items-place + most-items * item-length
+abbrev pub item-count-offset : ℕ
+item-count-offset = items-offset + most-items * item-length
 
 abbrev pub start-length : ℕ
-start-length = item-count-place + 4
+start-length = item-count-offset + 4
 
-abbrev pub inventory-version-place : ℕ
-inventory-version-place = start-length
+abbrev pub inventory-version-offset : ℕ
+inventory-version-offset = start-length
 
-abbrev pub pong-place : ℕ
-pong-place = inventory-version-place + 4
+abbrev pub pong-offset : ℕ
+pong-offset = inventory-version-offset + 4
 
 abbrev pub factory-length : ℕ
-factory-length = pong-place + 4
+factory-length = pong-offset + 4
 
 abbrev pub itemCount : List ℕ → ℕ
-itemCount f = numberAt 4 f item-count-place
+itemCount f = numberAt 4 f item-count-offset
 
 abbrev pub imageIdLength : List ℕ → ℕ
-imageIdLength f = numberAt 1 f image-id-length-place
+imageIdLength f = numberAt 1 f image-id-length-offset
 
 -- ---- The settings store: for each key whether it has a value, u8, how many bytes, u16, and the bytes.
 
-abbrev pub setting-length-place : ℕ
-setting-length-place = 1
+abbrev pub setting-length-offset : ℕ
+setting-length-offset = 1
 
-abbrev pub setting-value-place : ℕ
-setting-value-place = 3
+abbrev pub setting-value-offset : ℕ
+setting-value-offset = 3
 
 -- of settings with these longest values
 abbrev pub settings-size : List ℕ → ℕ
 settings-size [] = 0
-settings-size (longest ∷ others) = setting-value-place + longest + settings-size others
+settings-size (longest ∷ others) = setting-value-offset + longest + settings-size others
 
 -- a key's setting lies behind those of the keys before it
-unfoldable pub setting-place : ℕ → ℕ
-setting-place key = settings-size (take (key - first-setting) longest-settings)
+unfoldable pub setting-offset : ℕ → ℕ
+setting-offset key = settings-size (take (key - first-setting) longest-settings)
 
 abbrev pub settings-length : ℕ
 settings-length = settings-size longest-settings
@@ -116,100 +116,100 @@ settings-length = settings-size longest-settings
 abbrev pub settingBytes : List ℕ → List ℕ
 settingBytes v = bytes 1 1 ++ (bytes 2 (length v) ++ v)
 
--- of the setting at a place
+-- of the setting at an offset
 abbrev pub settingHeld : List ℕ → ℕ → ℕ
 settingHeld s at = numberAt 1 s at
 
 abbrev pub settingLength : List ℕ → ℕ → ℕ
-settingLength s at = numberAt 2 s (at + setting-length-place)
+settingLength s at = numberAt 2 s (at + setting-length-offset)
 
 -- ---- The registers: status u64, options u64, the two flags, the two records, the alerts that wait, the retained reply.
 
-abbrev pub status-place : ℕ
-status-place = 0
+abbrev pub status-offset : ℕ
+status-offset = 0
 
-abbrev pub options-place : ℕ
-options-place = 8
+abbrev pub options-offset : ℕ
+options-offset = 8
 
-abbrev pub reboot-place : ℕ
-reboot-place = 16
+abbrev pub reboot-offset : ℕ
+reboot-offset = 16
 
-abbrev pub power-off-place : ℕ
-power-off-place = 17
+abbrev pub power-off-offset : ℕ
+power-off-offset = 17
 
 -- a record: whether there is one u8, its code u16, the whole length of its rest u16, and the rest's first bytes
-abbrev pub record-code-place : ℕ
-record-code-place = 1
+abbrev pub record-code-offset : ℕ
+record-code-offset = 1
 
-abbrev pub record-whole-place : ℕ
-record-whole-place = 3
+abbrev pub record-whole-offset : ℕ
+record-whole-offset = 3
 
-abbrev pub record-kept-place : ℕ
-record-kept-place = 5
+abbrev pub record-kept-offset : ℕ
+record-kept-offset = 5
 
 abbrev pub record-length : ℕ
-record-length = record-kept-place + most-kept
+record-length = record-kept-offset + most-kept
 
-abbrev pub boot-failure-place : ℕ
-boot-failure-place = 18
+abbrev pub boot-failure-offset : ℕ
+boot-failure-offset = 18
 
-abbrev pub panic-place : ℕ
-panic-place = boot-failure-place + record-length
+abbrev pub panic-offset : ℕ
+panic-offset = boot-failure-offset + record-length
 
 -- how many alerts wait, u8, and the alerts, the oldest first
-abbrev pub alert-count-place : ℕ
-alert-count-place = panic-place + record-length
+abbrev pub alert-count-offset : ℕ
+alert-count-offset = panic-offset + record-length
 
-abbrev pub alerts-place : ℕ
-alerts-place = alert-count-place + 1
+abbrev pub alerts-offset : ℕ
+alerts-offset = alert-count-offset + 1
 
 -- an alert: how many bytes of text u16, its action u8, its text
-abbrev pub alert-action-place : ℕ
-alert-action-place = 2
+abbrev pub alert-action-offset : ℕ
+alert-action-offset = 2
 
-abbrev pub alert-text-place : ℕ
-alert-text-place = 3
+abbrev pub alert-text-offset : ℕ
+alert-text-offset = 3
 
 abbrev pub alert-length : ℕ
-alert-length = alert-text-place + longest-alert
+alert-length = alert-text-offset + longest-alert
 
-abbrev pub alert-place : ℕ → ℕ
-alert-place i = alerts-place + i * alert-length
+abbrev pub alert-offset : ℕ → ℕ
+alert-offset i = alerts-offset + i * alert-length
 
 -- whether a reply is retained u8, the request's sequence u64, and its alert
-abbrev pub retained-place : ℕ
-retained-place = alerts-place + most-alerts * alert-length
+abbrev pub retained-offset : ℕ
+retained-offset = alerts-offset + most-alerts * alert-length
 
-abbrev pub retained-sequence-place : ℕ
-retained-sequence-place = retained-place + 1
+abbrev pub retained-sequence-offset : ℕ
+retained-sequence-offset = retained-offset + 1
 
-abbrev pub retained-alert-place : ℕ
-retained-alert-place = retained-place + 9
+abbrev pub retained-alert-offset : ℕ
+retained-alert-offset = retained-offset + 9
 
 abbrev pub registers-length : ℕ
-registers-length = retained-alert-place + alert-length
+registers-length = retained-alert-offset + alert-length
 
 abbrev pub statusOf : List ℕ → ℕ
-statusOf r = numberAt 8 r status-place
+statusOf r = numberAt 8 r status-offset
 
 abbrev pub optionsOf : List ℕ → ℕ
-optionsOf r = numberAt 8 r options-place
+optionsOf r = numberAt 8 r options-offset
 
 abbrev pub alertCount : List ℕ → ℕ
-alertCount r = numberAt 1 r alert-count-place
+alertCount r = numberAt 1 r alert-count-offset
 
 abbrev pub alertTextLength : List ℕ → ℕ → ℕ
 alertTextLength r at = numberAt 2 r at
 
 abbrev pub alertAction : List ℕ → ℕ → ℕ
-alertAction r at = numberAt 1 r (at + alert-action-place)
+alertAction r at = numberAt 1 r (at + alert-action-offset)
 
--- of the record at a place
+-- of the record at an offset
 abbrev pub recordHeld : List ℕ → ℕ → ℕ
 recordHeld r at = numberAt 1 r at
 
 abbrev pub recordCode : List ℕ → ℕ → ℕ
-recordCode r at = numberAt 2 r (at + record-code-place)
+recordCode r at = numberAt 2 r (at + record-code-offset)
 
 abbrev pub recordWhole : List ℕ → ℕ → ℕ
-recordWhole r at = numberAt 2 r (at + record-whole-place)
+recordWhole r at = numberAt 2 r (at + record-whole-offset)

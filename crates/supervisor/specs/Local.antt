@@ -8,7 +8,7 @@ use lib.Dec.{leb, ltb, eqb}
 use lib.ListN.{length, take, drop, getD}
 use Rattle.octets.specs.Bytes.{bytes}
 use Rattle.supervisor.specs.Limits.{most-items, longest-item-data, longest-image-id, highest-key, most-alerts, longest-alert, highest-option}
-use Rattle.supervisor.specs.State.{Item, Factory, State, setting, withStatus, withOptions, withWaiting, withPending, withOwing, fresh}
+use Rattle.supervisor.specs.State.{Item, Factory, State, setting, withStatus, withOptions, withWaiting, withPending, withTerminatorOwed, fresh}
 
 -- ---- Start data: refused as 11
 
@@ -34,7 +34,7 @@ start f = cond (badStart f) (refused 11) (left (fresh f))
 
 -- ---- Bits of a number
 
--- the bit at a place
+-- the bit at a position
 abbrev pub bit : ℕ → ℕ → ℕ
 bit n k = n / 2 ^ k % 2
 
@@ -111,7 +111,7 @@ unfoldable pub taken : State → ℕ → List ℕ
 taken s room = take room (s .pending)
 
 unfoldable pub afterTake : State → ℕ → State
-afterTake s room = withOwing (withPending s (drop room (s .pending))) (lastNonZero (s .owing) (taken s room))
+afterTake s room = withTerminatorOwed (withPending s (drop room (s .pending))) (lastNonZero (s .terminator-owed) (taken s room))
 
 -- ---- The line signal
 

@@ -68,7 +68,7 @@ pub record State : Type 0 where
   pub received : Option (List ℕ)
   pub pending : List ℕ
   -- a byte has been taken and the last was non-zero
-  pub owing : Bool
+  pub terminator-owed : Bool
 
 -- a state with another value of one field
 abbrev pub withStatus : State → ℕ → State
@@ -85,7 +85,7 @@ withStatus s status = record {
   retained = s .retained;
   received = s .received;
   pending = s .pending;
-  owing = s .owing;
+  terminator-owed = s .terminator-owed;
 }
 
 abbrev pub withOptions : State → ℕ → State
@@ -102,7 +102,7 @@ withOptions s options = record {
   retained = s .retained;
   received = s .received;
   pending = s .pending;
-  owing = s .owing;
+  terminator-owed = s .terminator-owed;
 }
 
 abbrev pub withReboot : State → Bool → State
@@ -119,7 +119,7 @@ withReboot s asked = record {
   retained = s .retained;
   received = s .received;
   pending = s .pending;
-  owing = s .owing;
+  terminator-owed = s .terminator-owed;
 }
 
 abbrev pub withPowerOff : State → Bool → State
@@ -136,7 +136,7 @@ withPowerOff s asked = record {
   retained = s .retained;
   received = s .received;
   pending = s .pending;
-  owing = s .owing;
+  terminator-owed = s .terminator-owed;
 }
 
 abbrev pub withBootFailure : State → Option Recorded → State
@@ -153,7 +153,7 @@ withBootFailure s entry = record {
   retained = s .retained;
   received = s .received;
   pending = s .pending;
-  owing = s .owing;
+  terminator-owed = s .terminator-owed;
 }
 
 abbrev pub withPanic : State → Option Recorded → State
@@ -170,7 +170,7 @@ withPanic s entry = record {
   retained = s .retained;
   received = s .received;
   pending = s .pending;
-  owing = s .owing;
+  terminator-owed = s .terminator-owed;
 }
 
 abbrev pub withSettings : State → Settings → State
@@ -187,7 +187,7 @@ withSettings s settings = record {
   retained = s .retained;
   received = s .received;
   pending = s .pending;
-  owing = s .owing;
+  terminator-owed = s .terminator-owed;
 }
 
 abbrev pub withWaiting : State → List Alert → State
@@ -204,7 +204,7 @@ withWaiting s alerts = record {
   retained = s .retained;
   received = s .received;
   pending = s .pending;
-  owing = s .owing;
+  terminator-owed = s .terminator-owed;
 }
 
 abbrev pub withRetained : State → Option Retained → State
@@ -221,7 +221,7 @@ withRetained s reply = record {
   retained = reply;
   received = s .received;
   pending = s .pending;
-  owing = s .owing;
+  terminator-owed = s .terminator-owed;
 }
 
 abbrev pub withReceived : State → Option (List ℕ) → State
@@ -238,7 +238,7 @@ withReceived s bytes = record {
   retained = s .retained;
   received = bytes;
   pending = s .pending;
-  owing = s .owing;
+  terminator-owed = s .terminator-owed;
 }
 
 abbrev pub withPending : State → List ℕ → State
@@ -255,11 +255,11 @@ withPending s bytes = record {
   retained = s .retained;
   received = s .received;
   pending = bytes;
-  owing = s .owing;
+  terminator-owed = s .terminator-owed;
 }
 
-abbrev pub withOwing : State → Bool → State
-withOwing s owing = record {
+abbrev pub withTerminatorOwed : State → Bool → State
+withTerminatorOwed s terminator-owed = record {
   status = s .status;
   options = s .options;
   reboot-asked = s .reboot-asked;
@@ -272,7 +272,7 @@ withOwing s owing = record {
   retained = s .retained;
   received = s .received;
   pending = s .pending;
-  owing = owing;
+  terminator-owed = terminator-owed;
 }
 
 -- the state that start leaves
@@ -290,5 +290,5 @@ fresh f = record {
   retained = none;
   received = some [];
   pending = [];
-  owing = false;
+  terminator-owed = false;
 }

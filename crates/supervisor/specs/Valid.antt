@@ -1,4 +1,4 @@
--- What the table's 11 asks of start data and its 12 of each lent part (document 01, "When a call says no").
+-- What the table's 11 requires of start data and its 12 of each lent part (document 01, "When a call says no").
 -- Assumes nothing: these are definitions.
 use mathlib.Core.Bool.{Bool, true, _&&_, _||_}
 use mathlib.Core.List.{List}
@@ -23,8 +23,8 @@ resultAllowed n = eqb n 0 || (eqb n 2 || eqb n 3)
 
 unfoldable pub goodItem : List ℕ → ℕ → Bool
 goodItem d i =
-    resultAllowed (numberAt 1 d (Layout.item-place i))
-    && leb (numberAt 1 d (Layout.item-place i + Layout.item-data-length-place)) Limits.longest-item-data
+    resultAllowed (numberAt 1 d (Layout.item-offset i))
+    && leb (numberAt 1 d (Layout.item-offset i + Layout.item-data-length-offset)) Limits.longest-item-data
 
 -- the first n items
 abbrev pub goodItems : List ℕ → ℕ → Bool
@@ -35,7 +35,7 @@ bsuAllowed n = eqb n 0x41 || eqb n 0x42
 
 unfoldable pub goodStart : List ℕ → Bool
 goodStart d =
-    bsuAllowed (numberAt 1 d Layout.bsu-place)
+    bsuAllowed (numberAt 1 d Layout.bsu-offset)
     && (leb (Layout.imageIdLength d) Limits.longest-image-id
     && (leb (Layout.itemCount d) Limits.most-items
     && goodItems d (Layout.itemCount d)))
@@ -47,21 +47,21 @@ validOutbox o =
     leb Layout.outbox-length (length o)
     && (leb (Layout.outboxFrom o) (Layout.outboxTo o)
     && (leb (Layout.outboxTo o) Limits.most-pending
-    && leb (Layout.outboxOwing o) 1))
+    && leb (Layout.outboxTerminatorOwed o) 1))
 
 unfoldable pub validFactory : List ℕ → Bool
 validFactory f =
     leb Layout.factory-length (length f)
     && (goodStart f
-    && (eqb (numberAt 4 f Layout.inventory-version-place) 0
-    && equal (run Layout.pong-place 4 f) pong))
+    && (eqb (numberAt 4 f Layout.inventory-version-offset) 0
+    && equal (run Layout.pong-offset 4 f) pong))
 
 unfoldable pub validSetting : List ℕ → ℕ → ℕ → Bool
 validSetting s at most = leb (Layout.settingHeld s at) 1 && leb (Layout.settingLength s at) most
 
 -- of a key
 abbrev pub validValue : List ℕ → ℕ → Bool
-validValue s key = validSetting s (Layout.setting-place key) (Limits.longest-setting key)
+validValue s key = validSetting s (Layout.setting-offset key) (Limits.longest-setting key)
 
 -- of the first n settings keys
 abbrev pub validValues : List ℕ → ℕ → Bool
@@ -81,7 +81,7 @@ validText r at = leb (Layout.alertTextLength r at) Limits.longest-alert
 
 -- an alert that waits has an action from 1 to 255
 unfoldable pub validAlert : List ℕ → ℕ → Bool
-validAlert r i = validText r (Layout.alert-place i) && leb 1 (Layout.alertAction r (Layout.alert-place i))
+validAlert r i = validText r (Layout.alert-offset i) && leb 1 (Layout.alertAction r (Layout.alert-offset i))
 
 -- the first n alerts
 abbrev pub validAlerts : List ℕ → ℕ → Bool
@@ -90,13 +90,13 @@ validAlerts r = all (validAlert r)
 -- the reason of a boot failure is one byte
 unfoldable pub validRecordsAndAlerts : List ℕ → Bool
 validRecordsAndAlerts r =
-    leb (Layout.recordCode r Layout.boot-failure-place) 255
-    && (validRecord r Layout.boot-failure-place Limits.longest-boot-failure
-    && (validRecord r Layout.panic-place Limits.longest-panic
+    leb (Layout.recordCode r Layout.boot-failure-offset) 255
+    && (validRecord r Layout.boot-failure-offset Limits.longest-boot-failure
+    && (validRecord r Layout.panic-offset Limits.longest-panic
     && (leb (Layout.alertCount r) Limits.most-alerts
     && (validAlerts r (Layout.alertCount r)
-    && (leb (numberAt 1 r Layout.retained-place) 1
-    && validText r Layout.retained-alert-place)))))
+    && (leb (numberAt 1 r Layout.retained-offset) 1
+    && validText r Layout.retained-alert-offset)))))
 
 -- status has no bit but 0 and 1, and options none above 8
 unfoldable pub validRegisters : List ℕ → Bool
@@ -104,6 +104,6 @@ validRegisters r =
     leb Layout.registers-length (length r)
     && (leb (Layout.statusOf r) 3
     && (leb (Layout.optionsOf r) Limits.all-options
-    && (leb (numberAt 1 r Layout.reboot-place) 1
-    && (leb (numberAt 1 r Layout.power-off-place) 1
+    && (leb (numberAt 1 r Layout.reboot-offset) 1
+    && (leb (numberAt 1 r Layout.power-off-offset) 1
     && validRecordsAndAlerts r))))

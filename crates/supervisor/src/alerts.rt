@@ -8,7 +8,7 @@ ghost use lib.ListN.{length};
 ghost use Rattle.supervisor.specs.Limits.{longest-alert, most-alerts};
 ghost use Rattle.supervisor.specs.Layout.{registers-length, statusOf, alertCount};
 ghost use Rattle.supervisor.specs.Local.{setBit};
-ghost use Rattle.supervisor.specs.Calls.{registered, postSaid, withAlert, posting};
+ghost use Rattle.supervisor.specs.Calls.{registered, postReport, withAlert, posting};
 
 pub enum Posted {
     Done,
@@ -20,7 +20,7 @@ pub enum Posted {
 
 // Posts an alert.
 pub fn post(registers: &mut [u8], action: u8, text: &[u8]) -> Posted
-    ensures { λ r. ⌜ registered (postSaid r) (now (registers .exit)) ≡ posting (now (registers .entry)) action (now (text .entry)) ⌝ }
+    ensures { λ r. ⌜ registered (postReport r) (now (registers .exit)) ≡ posting (now (registers .entry)) action (now (text .entry)) ⌝ }
 {
     if !valid::registers_are_valid(registers) {
         return Posted::Refused;
@@ -31,7 +31,7 @@ pub fn post(registers: &mut [u8], action: u8, text: &[u8]) -> Posted
     if layout::LONGEST_ALERT < text.len() {
         return Posted::TooLong;
     }
-    let count = octets::byte_at(registers, layout::ALERT_COUNT_PLACE);
+    let count = octets::byte_at(registers, layout::ALERT_COUNT_OFFSET);
     if count < layout::MOST_ALERTS {
         add_alert(registers, count, action, text);
         return Posted::Done;
@@ -48,19 +48,19 @@ fn add_alert(registers: &mut [u8], count: usize, action: u8, text: &[u8])
     requires { ⌜ length (now text) ≤ longest-alert ⌝ }
     ensures { λ _. ⌜ now (registers .exit) ≡ withAlert (now (registers .entry)) action (now (text .entry)) ⌝ }
 {
-    let status = octets::read_u64(registers, layout::STATUS_PLACE);
-    let at = layout::ALERTS_PLACE + count * layout::ALERT_LENGTH;
+    let status = octets::read_u64(registers, layout::STATUS_OFFSET);
+    let at = layout::ALERTS_OFFSET + count * layout::ALERT_LENGTH;
     octets::write_u16(registers, at, text.len() as u16);
-    registers[at + layout::ALERT_ACTION_PLACE] = action;
+    registers[at + layout::ALERT_ACTION_OFFSET] = action;
     octets::copy(
         text,
         0,
         text.len(),
         registers,
-        at + layout::ALERT_TEXT_PLACE,
+        at + layout::ALERT_TEXT_OFFSET,
     );
-    registers[layout::ALERT_COUNT_PLACE] = (count + 1) as u8;
-    octets::write_u64(registers, layout::STATUS_PLACE, with_bit_1(status));
+    registers[layout::ALERT_COUNT_OFFSET] = (count + 1) as u8;
+    octets::write_u64(registers, layout::STATUS_OFFSET, with_bit_1(status));
 }
 
 fn with_bit_1(status: u64) -> u64

@@ -6,7 +6,7 @@ ghost use mathlib.Core.Path.{_≡_};
 ghost use mathlib.Core.Bool.{_&&_};
 ghost use Prim.Native.Nat.{_<_};
 ghost use Rattle.supervisor.specs.Valid.{validFactory, validSettings};
-ghost use Rattle.supervisor.specs.Calls.{resultNumber, lookupSaid, lookupResult, lookupValue, placeOf, settingAt, sized, within};
+ghost use Rattle.supervisor.specs.Calls.{resultNumber, lookupReport, lookupResult, lookupValue, locationOf, settingAt, sized, within};
 ghost use Rattle.octets.specs.Bytes.{run};
 
 pub enum Found {
@@ -18,7 +18,7 @@ pub enum Found {
 }
 
 // Where a key's value lies: from which byte, and how many.
-pub(crate) enum Place {
+pub(crate) enum Location {
     Factory(usize, usize),
     Settings(usize, usize),
     Nowhere,
@@ -36,15 +36,15 @@ pub fn lookup<'a>(factory: &'a [u8], settings: &'a [u8], key: u8, most: u16) -> 
     }
     let p = find(factory, settings, key);
     match p {
-        Place::Factory(at, n) => part(factory, at, n, most),
-        Place::Settings(at, n) => part(settings, at, n, most),
-        Place::Nowhere => &factory[0..0],
+        Location::Factory(at, n) => part(factory, at, n, most),
+        Location::Settings(at, n) => part(settings, at, n, most),
+        Location::Nowhere => &factory[0..0],
     }
 }
 
 // The result of a lookup.
 pub fn lookup_result(factory: &[u8], settings: &[u8], key: u8, most: u16) -> Found
-    ensures { λ r. ⌜ lookupSaid r ≡ lookupResult (now (factory .entry)) (now (settings .entry)) key most ⌝ }
+    ensures { λ r. ⌜ lookupReport r ≡ lookupResult (now (factory .entry)) (now (settings .entry)) key most ⌝ }
 {
     if !stores_are_valid(factory, settings) {
         return Found::Refused;
@@ -54,9 +54,9 @@ pub fn lookup_result(factory: &[u8], settings: &[u8], key: u8, most: u16) -> Fou
     }
     let p = find(factory, settings, key);
     match p {
-        Place::Factory(_, n) => size(n, most),
-        Place::Settings(_, n) => size(n, most),
-        Place::Nowhere => Found::NoValue,
+        Location::Factory(_, n) => size(n, most),
+        Location::Settings(_, n) => size(n, most),
+        Location::Nowhere => Found::NoValue,
     }
 }
 
@@ -85,41 +85,41 @@ pub fn result_number(factory: &[u8], settings: &[u8], key: u8, most: u16) -> u8
 }
 
 // Where the value of a key from 0 to 5 lies.
-fn find(factory: &[u8], settings: &[u8], key: u8) -> Place
-    ensures { λ r. ⌜ r ≡ placeOf (now (factory .entry)) (now (settings .entry)) key ⌝ }
+fn find(factory: &[u8], settings: &[u8], key: u8) -> Location
+    ensures { λ r. ⌜ r ≡ locationOf (now (factory .entry)) (now (settings .entry)) key ⌝ }
 {
     if key == 0 {
-        return Place::Factory(layout::PONG_PLACE, 4);
+        return Location::Factory(layout::PONG_OFFSET, 4);
     }
     if key == 1 {
-        return Place::Factory(
-            layout::IMAGE_ID_PLACE,
-            octets::byte_at(factory, layout::IMAGE_ID_LENGTH_PLACE),
+        return Location::Factory(
+            layout::IMAGE_ID_OFFSET,
+            octets::byte_at(factory, layout::IMAGE_ID_LENGTH_OFFSET),
         );
     }
     if key == 2 {
-        return Place::Factory(layout::ITEM_COUNT_PLACE, 8);
+        return Location::Factory(layout::ITEM_COUNT_OFFSET, 8);
     }
-    setting(settings, layout::setting_place(key))
+    setting(settings, layout::setting_offset(key))
 }
 
-// Where the value of the setting at a place lies, if it has one.
-fn setting(settings: &[u8], at: usize) -> Place
+// Where the value of the setting at an offset lies, if it has one.
+fn setting(settings: &[u8], at: usize) -> Location
     requires { ⌜ at < 65536 ⌝ }
     ensures { λ r. ⌜ r ≡ settingAt (now (settings .entry)) at ⌝ }
 {
     if octets::byte_at(settings, at) == 1 {
-        return Place::Settings(
-            at + layout::SETTING_VALUE_PLACE,
-            octets::word_at(settings, at + layout::SETTING_LENGTH_PLACE),
+        return Location::Settings(
+            at + layout::SETTING_VALUE_OFFSET,
+            octets::word_at(settings, at + layout::SETTING_LENGTH_OFFSET),
         );
     }
-    Place::Nowhere
+    Location::Nowhere
 }
 
 // What a lookup says of a value of n bytes.
 fn size(n: usize, most: u16) -> Found
-    ensures { λ r. ⌜ lookupSaid r ≡ sized most n ⌝ }
+    ensures { λ r. ⌜ lookupReport r ≡ sized most n ⌝ }
 {
     if (most as usize) < n {
         return Found::TooLong;
@@ -127,7 +127,7 @@ fn size(n: usize, most: u16) -> Found
     Found::Value(n)
 }
 
-// The n bytes of s from a place on, if they are at most `most`.
+// The n bytes of s from an offset on, if they are at most `most`.
 fn part<'a>(s: &'a [u8], at: usize, n: usize, most: u16) -> &'a [u8]
     ensures { λ r. ⌜ now r ≡ within most n (run at n (now (s .entry))) ⌝ }
 {

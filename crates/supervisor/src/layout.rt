@@ -3,9 +3,9 @@
 ghost use mathlib.Core.Path.{_≡_};
 ghost use Prim.Native.Nat.{_≤_};
 ghost use Rattle.supervisor.specs.Limits.{longest-setting, longest-value};
-ghost use Rattle.supervisor.specs.Layout.{setting-place, settings-length};
+ghost use Rattle.supervisor.specs.Layout.{setting-offset, settings-length};
 
-// Limits of document 01.
+// Limits of document 01, as document 02 has moved them.
 pub const MOST_ITEMS: usize = 64;
 
 pub const LONGEST_ITEM_DATA: usize = 64;
@@ -45,57 +45,57 @@ pub const ALL_OPTIONS: u64 = 511;
 // The outbox.
 pub const MOST_PENDING: usize = 4142;
 
-pub const OUTBOX_FROM_PLACE: usize = 0;
+pub const OUTBOX_FROM_OFFSET: usize = 0;
 
-pub const OUTBOX_TO_PLACE: usize = 2;
+pub const OUTBOX_TO_OFFSET: usize = 2;
 
-pub const OUTBOX_OWING_PLACE: usize = 4;
+pub const OUTBOX_TERMINATOR_OWED_OFFSET: usize = 4;
 
-pub const OUTBOX_BYTES_PLACE: usize = 5;
+pub const OUTBOX_BYTES_OFFSET: usize = 5;
 
-pub const OUTBOX_LENGTH: usize = OUTBOX_BYTES_PLACE + MOST_PENDING;
+pub const OUTBOX_LENGTH: usize = OUTBOX_BYTES_OFFSET + MOST_PENDING;
 
 // The factory store; its first START_LENGTH bytes are the start data.
-pub const BSU_PLACE: usize = 0;
+pub const BSU_OFFSET: usize = 0;
 
-pub const IDENTITY_PLACE: usize = 1;
+pub const IDENTITY_OFFSET: usize = 1;
 
-pub const MAC_PLACE: usize = 27;
+pub const MAC_OFFSET: usize = 27;
 
-pub const HASH_PLACE: usize = 36;
+pub const HASH_OFFSET: usize = 36;
 
-pub const IMAGE_ID_LENGTH_PLACE: usize = 68;
+pub const IMAGE_ID_LENGTH_OFFSET: usize = 68;
 
-pub const IMAGE_ID_PLACE: usize = 69;
+pub const IMAGE_ID_OFFSET: usize = 69;
 
-pub const ITEMS_PLACE: usize = IMAGE_ID_PLACE + LONGEST_IMAGE_ID;
+pub const ITEMS_OFFSET: usize = IMAGE_ID_OFFSET + LONGEST_IMAGE_ID;
 
-pub const ITEM_DATA_LENGTH_PLACE: usize = 34;
+pub const ITEM_DATA_LENGTH_OFFSET: usize = 34;
 
-pub const ITEM_DATA_PLACE: usize = 35;
+pub const ITEM_DATA_OFFSET: usize = 35;
 
-pub const ITEM_LENGTH: usize = ITEM_DATA_PLACE + LONGEST_ITEM_DATA;
+pub const ITEM_LENGTH: usize = ITEM_DATA_OFFSET + LONGEST_ITEM_DATA;
 
-pub const ITEM_COUNT_PLACE: usize = ITEMS_PLACE + MOST_ITEMS * ITEM_LENGTH;
+pub const ITEM_COUNT_OFFSET: usize = ITEMS_OFFSET + MOST_ITEMS * ITEM_LENGTH;
 
-pub const START_LENGTH: usize = ITEM_COUNT_PLACE + 4;
+pub const START_LENGTH: usize = ITEM_COUNT_OFFSET + 4;
 
-pub const INVENTORY_VERSION_PLACE: usize = START_LENGTH;
+pub const INVENTORY_VERSION_OFFSET: usize = START_LENGTH;
 
-pub const PONG_PLACE: usize = INVENTORY_VERSION_PLACE + 4;
+pub const PONG_OFFSET: usize = INVENTORY_VERSION_OFFSET + 4;
 
-pub const FACTORY_LENGTH: usize = PONG_PLACE + 4;
+pub const FACTORY_LENGTH: usize = PONG_OFFSET + 4;
 
 // The settings store.
-pub const SETTING_LENGTH_PLACE: usize = 1;
+pub const SETTING_LENGTH_OFFSET: usize = 1;
 
-pub const SETTING_VALUE_PLACE: usize = 3;
+pub const SETTING_VALUE_OFFSET: usize = 3;
 
-pub const KEY_4_PLACE: usize = SETTING_VALUE_PLACE + LONGEST_KEY_3;
+pub const KEY_4_OFFSET: usize = SETTING_VALUE_OFFSET + LONGEST_KEY_3;
 
-pub const KEY_5_PLACE: usize = KEY_4_PLACE + SETTING_VALUE_PLACE + LONGEST_KEY_4;
+pub const KEY_5_OFFSET: usize = KEY_4_OFFSET + SETTING_VALUE_OFFSET + LONGEST_KEY_4;
 
-pub const SETTINGS_LENGTH: usize = KEY_5_PLACE + SETTING_VALUE_PLACE + LONGEST_KEY_5;
+pub const SETTINGS_LENGTH: usize = KEY_5_OFFSET + SETTING_VALUE_OFFSET + LONGEST_KEY_5;
 
 // The longest value of a settings key.
 pub fn longest_setting(key: u8) -> usize
@@ -114,56 +114,56 @@ pub fn longest_setting(key: u8) -> usize
 }
 
 // Where the setting of a key lies.
-pub fn setting_place(key: u8) -> usize
-    ensures { λ r. ⌜ (r ≡ setting-place key) × (r ≤ settings-length) ⌝ }
+pub fn setting_offset(key: u8) -> usize
+    ensures { λ r. ⌜ (r ≡ setting-offset key) × (r ≤ settings-length) ⌝ }
 {
     if key <= FIRST_SETTING {
         return 0;
     }
     if key == 4 {
-        return KEY_4_PLACE;
+        return KEY_4_OFFSET;
     }
     if key == 5 {
-        return KEY_5_PLACE;
+        return KEY_5_OFFSET;
     }
     SETTINGS_LENGTH
 }
 
 // The registers.
-pub const STATUS_PLACE: usize = 0;
+pub const STATUS_OFFSET: usize = 0;
 
-pub const OPTIONS_PLACE: usize = 8;
+pub const OPTIONS_OFFSET: usize = 8;
 
-pub const REBOOT_PLACE: usize = 16;
+pub const REBOOT_OFFSET: usize = 16;
 
-pub const POWER_OFF_PLACE: usize = 17;
+pub const POWER_OFF_OFFSET: usize = 17;
 
-pub const BOOT_FAILURE_PLACE: usize = 18;
+pub const BOOT_FAILURE_OFFSET: usize = 18;
 
-pub const RECORD_CODE_PLACE: usize = 1;
+pub const RECORD_CODE_OFFSET: usize = 1;
 
-pub const RECORD_WHOLE_PLACE: usize = 3;
+pub const RECORD_WHOLE_OFFSET: usize = 3;
 
-pub const RECORD_KEPT_PLACE: usize = 5;
+pub const RECORD_KEPT_OFFSET: usize = 5;
 
-pub const RECORD_LENGTH: usize = RECORD_KEPT_PLACE + MOST_KEPT;
+pub const RECORD_LENGTH: usize = RECORD_KEPT_OFFSET + MOST_KEPT;
 
-pub const PANIC_PLACE: usize = BOOT_FAILURE_PLACE + RECORD_LENGTH;
+pub const PANIC_OFFSET: usize = BOOT_FAILURE_OFFSET + RECORD_LENGTH;
 
-pub const ALERT_COUNT_PLACE: usize = PANIC_PLACE + RECORD_LENGTH;
+pub const ALERT_COUNT_OFFSET: usize = PANIC_OFFSET + RECORD_LENGTH;
 
-pub const ALERTS_PLACE: usize = ALERT_COUNT_PLACE + 1;
+pub const ALERTS_OFFSET: usize = ALERT_COUNT_OFFSET + 1;
 
-pub const ALERT_ACTION_PLACE: usize = 2;
+pub const ALERT_ACTION_OFFSET: usize = 2;
 
-pub const ALERT_TEXT_PLACE: usize = 3;
+pub const ALERT_TEXT_OFFSET: usize = 3;
 
-pub const ALERT_LENGTH: usize = ALERT_TEXT_PLACE + LONGEST_ALERT;
+pub const ALERT_LENGTH: usize = ALERT_TEXT_OFFSET + LONGEST_ALERT;
 
-pub const RETAINED_PLACE: usize = ALERTS_PLACE + MOST_ALERTS * ALERT_LENGTH;
+pub const RETAINED_OFFSET: usize = ALERTS_OFFSET + MOST_ALERTS * ALERT_LENGTH;
 
-pub const RETAINED_SEQUENCE_PLACE: usize = RETAINED_PLACE + 1;
+pub const RETAINED_SEQUENCE_OFFSET: usize = RETAINED_OFFSET + 1;
 
-pub const RETAINED_ALERT_PLACE: usize = RETAINED_PLACE + 9;
+pub const RETAINED_ALERT_OFFSET: usize = RETAINED_OFFSET + 9;
 
-pub const REGISTERS_LENGTH: usize = RETAINED_ALERT_PLACE + ALERT_LENGTH;
+pub const REGISTERS_LENGTH: usize = RETAINED_ALERT_OFFSET + ALERT_LENGTH;

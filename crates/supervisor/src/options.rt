@@ -4,7 +4,7 @@ use crate::layout;
 use crate::valid;
 ghost use mathlib.Core.Path.{_≡_};
 ghost use Rattle.supervisor.specs.Local.{optionsAllowed};
-ghost use Rattle.supervisor.specs.Calls.{registered, optionsSaid, settingOptions};
+ghost use Rattle.supervisor.specs.Calls.{registered, optionsReport, settingOptions};
 
 pub enum OptionsSet {
     Done,
@@ -14,7 +14,7 @@ pub enum OptionsSet {
 
 // Sets the options, if the highest option bit set is at most 8.
 pub fn set_options(registers: &mut [u8], options: u64) -> OptionsSet
-    ensures { λ r. ⌜ registered (optionsSaid r) (now (registers .exit)) ≡ settingOptions (now (registers .entry)) options ⌝ }
+    ensures { λ r. ⌜ registered (optionsReport r) (now (registers .exit)) ≡ settingOptions (now (registers .entry)) options ⌝ }
 {
     if !valid::registers_are_valid(registers) {
         return OptionsSet::Refused;
@@ -22,7 +22,7 @@ pub fn set_options(registers: &mut [u8], options: u64) -> OptionsSet
     if !are_allowed(options) {
         return OptionsSet::BadOption;
     }
-    octets::write_u64(registers, layout::OPTIONS_PLACE, options);
+    octets::write_u64(registers, layout::OPTIONS_OFFSET, options);
     OptionsSet::Done
 }
 

@@ -20,22 +20,22 @@ pub fn take(outbox: &mut [u8], room: &mut [u8]) -> Taken
     if !valid::outbox_is_valid(outbox) {
         return Taken::Refused;
     }
-    let from = octets::word_at(outbox, layout::OUTBOX_FROM_PLACE);
-    let pending = octets::word_at(outbox, layout::OUTBOX_TO_PLACE) - from;
+    let from = octets::word_at(outbox, layout::OUTBOX_FROM_OFFSET);
+    let pending = octets::word_at(outbox, layout::OUTBOX_TO_OFFSET) - from;
     let n = octets::min(room.len(), pending);
     if n == 0 {
         return Taken::Moved(0);
     }
-    let at = layout::OUTBOX_BYTES_PLACE + from;
+    let at = layout::OUTBOX_BYTES_OFFSET + from;
     let last = octets::read_u8(outbox, at + n - 1);
     octets::copy(outbox, at, n, room, 0);
-    octets::write_u16(outbox, layout::OUTBOX_FROM_PLACE, (from + n) as u16);
-    outbox[layout::OUTBOX_OWING_PLACE] = owing(last);
+    octets::write_u16(outbox, layout::OUTBOX_FROM_OFFSET, (from + n) as u16);
+    outbox[layout::OUTBOX_TERMINATOR_OWED_OFFSET] = terminator_owed(last);
     Taken::Moved(n)
 }
 
 // Whether a 00 is owed behind a byte.
-fn owing(last: u8) -> u8
+fn terminator_owed(last: u8) -> u8
     ensures { λ r. ⌜ r ≡ cond (eqb last 0) 0 1 ⌝ }
 {
     if last == 0 { 0 } else { 1 }

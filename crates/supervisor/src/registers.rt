@@ -5,8 +5,8 @@ use crate::valid;
 ghost use mathlib.Core.Path.{_≡_};
 ghost use Prim.Native.Nat.{_≤_, _<_};
 ghost use Rattle.supervisor.specs.Limits.{most-kept};
-ghost use Rattle.supervisor.specs.Layout.{panic-place};
-ghost use Rattle.supervisor.specs.Calls.{signalSaid, signalOf, flagsSaid, flagsOf, recordPlace, recordSaid, recordOf, recordBytes, keptOf};
+ghost use Rattle.supervisor.specs.Layout.{panic-offset};
+ghost use Rattle.supervisor.specs.Calls.{signalReport, signalOf, flagsReport, flagsOf, recordOffset, recordReport, recordOf, recordBytes, keptOf};
 
 pub enum SignalRead {
     Refused,
@@ -45,12 +45,12 @@ pub enum Recorded {
 
 // The line signal: asserted exactly when status is not 0.
 pub fn signal(registers: &[u8]) -> SignalRead
-    ensures { λ r. ⌜ signalSaid r ≡ signalOf (now (registers .entry)) ⌝ }
+    ensures { λ r. ⌜ signalReport r ≡ signalOf (now (registers .entry)) ⌝ }
 {
     if !valid::registers_are_valid(registers) {
         return SignalRead::Refused;
     }
-    if octets::read_u64(registers, layout::STATUS_PLACE) == 0 {
+    if octets::read_u64(registers, layout::STATUS_OFFSET) == 0 {
         return SignalRead::Clear;
     }
     SignalRead::Asserted
@@ -58,30 +58,30 @@ pub fn signal(registers: &[u8]) -> SignalRead
 
 // The two flags.
 pub fn flags(registers: &[u8]) -> FlagsRead
-    ensures { λ r. ⌜ flagsSaid r ≡ flagsOf (now (registers .entry)) ⌝ }
+    ensures { λ r. ⌜ flagsReport r ≡ flagsOf (now (registers .entry)) ⌝ }
 {
     if !valid::registers_are_valid(registers) {
         return FlagsRead::Refused;
     }
-    let reboot = octets::byte_at(registers, layout::REBOOT_PLACE) == 1;
-    let power_off = octets::byte_at(registers, layout::POWER_OFF_PLACE) == 1;
+    let reboot = octets::byte_at(registers, layout::REBOOT_OFFSET) == 1;
+    let power_off = octets::byte_at(registers, layout::POWER_OFF_OFFSET) == 1;
     FlagsRead::Read(Asked { reboot, power_off })
 }
 
 // A record, or that there is none.
 pub fn record(registers: &[u8], kind: Kind) -> Recorded
-    ensures { λ r. ⌜ recordSaid r ≡ recordOf (now (registers .entry)) kind ⌝ }
+    ensures { λ r. ⌜ recordReport r ≡ recordOf (now (registers .entry)) kind ⌝ }
 {
     if !valid::registers_are_valid(registers) {
         return Recorded::Refused;
     }
-    let at = place(kind);
+    let at = record_offset(kind);
     if octets::byte_at(registers, at) != 1 {
         return Recorded::Nothing;
     }
     Recorded::Found(Entry {
-        code: octets::word_at(registers, at + layout::RECORD_CODE_PLACE),
-        whole: octets::word_at(registers, at + layout::RECORD_WHOLE_PLACE),
+        code: octets::word_at(registers, at + layout::RECORD_CODE_OFFSET),
+        whole: octets::word_at(registers, at + layout::RECORD_WHOLE_OFFSET),
         kept: kept(registers, at),
     })
 }
@@ -93,21 +93,21 @@ pub fn record_bytes<'a>(registers: &'a [u8], kind: Kind) -> &'a [u8]
     if !valid::registers_are_valid(registers) {
         return &registers[0..0];
     }
-    let at = place(kind);
+    let at = record_offset(kind);
     if octets::byte_at(registers, at) != 1 {
         return &registers[0..0];
     }
-    let from = at + layout::RECORD_KEPT_PLACE;
+    let from = at + layout::RECORD_KEPT_OFFSET;
     let n = kept(registers, at);
     &registers[from..from + n]
 }
 
-fn place(kind: Kind) -> usize
-    ensures { λ r. ⌜ (r ≡ recordPlace kind) × (r ≤ panic-place) ⌝ }
+fn record_offset(kind: Kind) -> usize
+    ensures { λ r. ⌜ (r ≡ recordOffset kind) × (r ≤ panic-offset) ⌝ }
 {
     match kind {
-        Kind::BootFailure => layout::BOOT_FAILURE_PLACE,
-        Kind::Panic => layout::PANIC_PLACE,
+        Kind::BootFailure => layout::BOOT_FAILURE_OFFSET,
+        Kind::Panic => layout::PANIC_OFFSET,
     }
 }
 
@@ -115,7 +115,7 @@ fn kept(registers: &[u8], at: usize) -> usize
     requires { ⌜ at < 65536 ⌝ }
     ensures { λ r. ⌜ (r ≡ keptOf (now (registers .entry)) at) × (r ≤ most-kept) ⌝ }
 {
-    let whole = octets::word_at(registers, at + layout::RECORD_WHOLE_PLACE);
+    let whole = octets::word_at(registers, at + layout::RECORD_WHOLE_OFFSET);
     if whole < layout::MOST_KEPT {
         whole
     } else {

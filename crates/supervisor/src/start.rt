@@ -61,8 +61,8 @@ fn set_factory(data: &[u8; layout::START_LENGTH], factory: &mut [u8])
     ensures { λ _. ⌜ now (factory .exit) ≡ overlay 0 (now («data» .entry) ++ bytes 4 0 ++ pong) (now (factory .entry)) ⌝ }
 {
     octets::copy(data, 0, layout::START_LENGTH, factory, 0);
-    octets::write_u32(factory, layout::INVENTORY_VERSION_PLACE, 0);
-    octets::copy(b"pong", 0, 4, factory, layout::PONG_PLACE);
+    octets::write_u32(factory, layout::INVENTORY_VERSION_OFFSET, 0);
+    octets::copy(b"pong", 0, 4, factory, layout::PONG_OFFSET);
 }
 
 // Status 1, and every other register 0.
@@ -71,5 +71,5 @@ fn set_registers(registers: &mut [u8])
     ensures { λ _. ⌜ now (registers .exit) ≡ overlay 0 (bytes 8 1 ++ replicate (registers-length - 8) 0) (now (registers .entry)) ⌝ }
 {
     clear(registers, layout::REGISTERS_LENGTH);
-    octets::write_u64(registers, layout::STATUS_PLACE, 1);
+    octets::write_u64(registers, layout::STATUS_OFFSET, 1);
 }

@@ -1,5 +1,5 @@
 // The tests for 11 and 12: start data, and each lent part.
-// Assumes nothing of the bytes tested; some inner functions want a small place or number, as their `requires` say.
+// Assumes nothing of the bytes tested; some inner functions want a small offset or number, as their `requires` say.
 use crate::layout;
 ghost use mathlib.Core.Path.{_≡_};
 ghost use Prim.Native.Nat.{_<_};
@@ -11,7 +11,7 @@ fn item_is_good(d: &[u8], i: usize) -> bool
     requires { ⌜ i < 4294967296 ⌝ }
     ensures { λ r. ⌜ r ≡ goodItem (now (d .entry)) i ⌝ }
 {
-    let at = layout::ITEMS_PLACE + i * layout::ITEM_LENGTH;
+    let at = layout::ITEMS_OFFSET + i * layout::ITEM_LENGTH;
     let result = octets::byte_at(d, at);
     if result != 0 {
         if result != 2 {
@@ -20,7 +20,7 @@ fn item_is_good(d: &[u8], i: usize) -> bool
             }
         }
     }
-    octets::byte_at(d, at + layout::ITEM_DATA_LENGTH_PLACE) <= layout::LONGEST_ITEM_DATA
+    octets::byte_at(d, at + layout::ITEM_DATA_LENGTH_OFFSET) <= layout::LONGEST_ITEM_DATA
 }
 
 // Whether the first n items are good.
@@ -41,16 +41,16 @@ fn items_are_good(d: &[u8], n: usize) -> bool
 pub(crate) fn start_is_good(d: &[u8]) -> bool
     ensures { λ r. ⌜ r ≡ goodStart (now (d .entry)) ⌝ }
 {
-    let bsu = octets::byte_at(d, layout::BSU_PLACE);
+    let bsu = octets::byte_at(d, layout::BSU_OFFSET);
     if bsu != 0x41 {
         if bsu != 0x42 {
             return false;
         }
     }
-    if layout::LONGEST_IMAGE_ID < octets::byte_at(d, layout::IMAGE_ID_LENGTH_PLACE) {
+    if layout::LONGEST_IMAGE_ID < octets::byte_at(d, layout::IMAGE_ID_LENGTH_OFFSET) {
         return false;
     }
-    let count = octets::read_u32(d, layout::ITEM_COUNT_PLACE) as usize;
+    let count = octets::read_u32(d, layout::ITEM_COUNT_OFFSET) as usize;
     if layout::MOST_ITEMS < count {
         return false;
     }
@@ -63,14 +63,14 @@ pub fn outbox_is_valid(outbox: &[u8]) -> bool
     if outbox.len() < layout::OUTBOX_LENGTH {
         return false;
     }
-    let to = octets::word_at(outbox, layout::OUTBOX_TO_PLACE);
-    if to < octets::word_at(outbox, layout::OUTBOX_FROM_PLACE) {
+    let to = octets::word_at(outbox, layout::OUTBOX_TO_OFFSET);
+    if to < octets::word_at(outbox, layout::OUTBOX_FROM_OFFSET) {
         return false;
     }
     if layout::MOST_PENDING < to {
         return false;
     }
-    octets::byte_at(outbox, layout::OUTBOX_OWING_PLACE) <= 1
+    octets::byte_at(outbox, layout::OUTBOX_TERMINATOR_OWED_OFFSET) <= 1
 }
 
 pub fn factory_is_valid(factory: &[u8]) -> bool
@@ -82,10 +82,10 @@ pub fn factory_is_valid(factory: &[u8]) -> bool
     if !start_is_good(factory) {
         return false;
     }
-    if octets::read_u32(factory, layout::INVENTORY_VERSION_PLACE) != 0 {
+    if octets::read_u32(factory, layout::INVENTORY_VERSION_OFFSET) != 0 {
         return false;
     }
-    octets::same(factory, layout::PONG_PLACE, b"pong", 0, 4)
+    octets::same(factory, layout::PONG_OFFSET, b"pong", 0, 4)
 }
 
 fn setting_is_valid(settings: &[u8], at: usize, most: usize) -> bool
@@ -95,7 +95,7 @@ fn setting_is_valid(settings: &[u8], at: usize, most: usize) -> bool
     if 1 < octets::byte_at(settings, at) {
         return false;
     }
-    octets::word_at(settings, at + layout::SETTING_LENGTH_PLACE) <= most
+    octets::word_at(settings, at + layout::SETTING_LENGTH_OFFSET) <= most
 }
 
 pub fn settings_are_valid(settings: &[u8]) -> bool
@@ -113,7 +113,7 @@ fn values_are_valid(settings: &[u8]) -> bool
     let mut i = 0;
     while i < layout::SETTING_COUNT {
         let key = layout::FIRST_SETTING + i;
-        let at = layout::setting_place(key);
+        let at = layout::setting_offset(key);
         if !setting_is_valid(settings, at, layout::longest_setting(key)) {
             return false;
         }
@@ -129,7 +129,7 @@ fn record_is_valid(registers: &[u8], at: usize, most: usize) -> bool
     if 1 < octets::byte_at(registers, at) {
         return false;
     }
-    octets::word_at(registers, at + layout::RECORD_WHOLE_PLACE) <= most
+    octets::word_at(registers, at + layout::RECORD_WHOLE_OFFSET) <= most
 }
 
 fn text_is_valid(registers: &[u8], at: usize) -> bool
@@ -142,11 +142,11 @@ fn alert_is_valid(registers: &[u8], i: usize) -> bool
     requires { ⌜ i < 256 ⌝ }
     ensures { λ r. ⌜ r ≡ validAlert (now (registers .entry)) i ⌝ }
 {
-    let at = layout::ALERTS_PLACE + i * layout::ALERT_LENGTH;
+    let at = layout::ALERTS_OFFSET + i * layout::ALERT_LENGTH;
     if !text_is_valid(registers, at) {
         return false;
     }
-    1 <= octets::byte_at(registers, at + layout::ALERT_ACTION_PLACE)
+    1 <= octets::byte_at(registers, at + layout::ALERT_ACTION_OFFSET)
 }
 
 fn alerts_are_valid(registers: &[u8], n: usize) -> bool
@@ -169,16 +169,16 @@ pub fn registers_are_valid(registers: &[u8]) -> bool
     if registers.len() < layout::REGISTERS_LENGTH {
         return false;
     }
-    if 3 < octets::read_u64(registers, layout::STATUS_PLACE) {
+    if 3 < octets::read_u64(registers, layout::STATUS_OFFSET) {
         return false;
     }
-    if layout::ALL_OPTIONS < octets::read_u64(registers, layout::OPTIONS_PLACE) {
+    if layout::ALL_OPTIONS < octets::read_u64(registers, layout::OPTIONS_OFFSET) {
         return false;
     }
-    if 1 < octets::byte_at(registers, layout::REBOOT_PLACE) {
+    if 1 < octets::byte_at(registers, layout::REBOOT_OFFSET) {
         return false;
     }
-    if 1 < octets::byte_at(registers, layout::POWER_OFF_PLACE) {
+    if 1 < octets::byte_at(registers, layout::POWER_OFF_OFFSET) {
         return false;
     }
     records_and_alerts_are_valid(registers)
@@ -190,30 +190,30 @@ fn records_and_alerts_are_valid(registers: &[u8]) -> bool
     if 255
         < octets::word_at(
             registers,
-            layout::BOOT_FAILURE_PLACE + layout::RECORD_CODE_PLACE,
+            layout::BOOT_FAILURE_OFFSET + layout::RECORD_CODE_OFFSET,
         )
     {
         return false;
     }
     if !record_is_valid(
         registers,
-        layout::BOOT_FAILURE_PLACE,
+        layout::BOOT_FAILURE_OFFSET,
         layout::LONGEST_BOOT_FAILURE,
     ) {
         return false;
     }
-    if !record_is_valid(registers, layout::PANIC_PLACE, layout::LONGEST_PANIC) {
+    if !record_is_valid(registers, layout::PANIC_OFFSET, layout::LONGEST_PANIC) {
         return false;
     }
-    let count = octets::byte_at(registers, layout::ALERT_COUNT_PLACE);
+    let count = octets::byte_at(registers, layout::ALERT_COUNT_OFFSET);
     if layout::MOST_ALERTS < count {
         return false;
     }
     if !alerts_are_valid(registers, count) {
         return false;
     }
-    if 1 < octets::byte_at(registers, layout::RETAINED_PLACE) {
+    if 1 < octets::byte_at(registers, layout::RETAINED_OFFSET) {
         return false;
     }
-    text_is_valid(registers, layout::RETAINED_ALERT_PLACE)
+    text_is_valid(registers, layout::RETAINED_ALERT_OFFSET)
 }

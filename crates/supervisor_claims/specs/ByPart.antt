@@ -1,4 +1,4 @@
--- The parts by name: the bytes and the published length of each, what 12 asks of it, and what holds of every part.
+-- The parts by name: the bytes and the published length of each, what 12 requires of it, and what holds of every part.
 -- Assumes nothing.
 use mathlib.Core.Path.{_≡_, refl}
 use mathlib.Core.Bool.{Bool, true, _&&_, and-eq-true-iff}
@@ -47,7 +47,7 @@ part p Part.factory = p .factory
 part p Part.settings = p .settings
 part p Part.registers = p .registers
 
--- whether a part is as 12 asks
+-- whether a part is as 12 requires
 abbrev pub validPart : Part → List ℕ → Bool
 validPart Part.reader s = LineReader.valid s
 validPart Part.outbox s = validOutbox s
@@ -131,7 +131,7 @@ published-some Part.factory = omega arith
 published-some Part.settings = omega arith
 published-some Part.registers = omega arith
 
--- a part as 12 asks has its published length
+-- a part as 12 requires has its published length
 pub part-long : (i : Part) (s : List ℕ) → validPart i s ≡ true → published i ≤ length s
 part-long Part.reader s v = valid-ready s v .0
 part-long Part.outbox s v = outbox-valid s v .long

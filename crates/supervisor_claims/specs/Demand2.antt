@@ -28,7 +28,7 @@ pub use Rattle.supervisor_claims.specs.claims.WithdrawnKeys.{reached, va
 pub use Rattle.supervisor_claims.specs.claims.LastSetLaws.{set-successful}
 -- step receives the bytes up to and with the first 00; with the bytes left it is receive
 pub use Rattle.supervisor_claims.specs.claims.History.{step-receives, step-then-receive, steps-receive}
--- 12 exactly where a part that a call takes is not as 12 asks, and so where too little of one is lent; then nothing changes
+-- 12 exactly where a part that a call takes is not as 12 requires, and so where too little of one is lent; then nothing changes
 pub use Rattle.supervisor_claims.specs.claims.Refusals.{refused-12, refused-exactly, refused-holds}
 pub use Rattle.supervisor_claims.specs.claims.LentCalls.{made-12}
 -- a stream is its frames, carried out or answered in order, once each, then the tail: on a fresh state, in the middle of a frame, after any calls

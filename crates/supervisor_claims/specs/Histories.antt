@@ -99,18 +99,18 @@ stepAnswer used Ended.empty = stepped used Ended.empty
 stepAnswer used Ended.request = stepped used Ended.request
 stepAnswer used (Ended.failed reason) = stepped used (Ended.failed reason)
 
-abbrev pub takeAnswer : Calls.TakeSaid → Answer
-takeAnswer (Calls.TakeSaid.moved n) = moved n
-takeAnswer (Calls.TakeSaid.refused n) = refused n
+abbrev pub takeAnswer : Calls.TakeReport → Answer
+takeAnswer (Calls.TakeReport.moved n) = moved n
+takeAnswer (Calls.TakeReport.refused n) = refused n
 
-abbrev pub lookupAnswer : Calls.LookupSaid → Answer
-lookupAnswer (Calls.LookupSaid.result n k) = found n k
-lookupAnswer (Calls.LookupSaid.refused n) = refused n
+abbrev pub lookupAnswer : Calls.LookupReport → Answer
+lookupAnswer (Calls.LookupReport.result n k) = found n k
+lookupAnswer (Calls.LookupReport.refused n) = refused n
 
 -- what was read
-abbrev pub readAnswer : {A : Type 0} → (A → Answer) → Calls.ReadSaid A → Answer
-readAnswer answer (Calls.ReadSaid.is x) = answer x
-readAnswer answer (Calls.ReadSaid.refused n) = refused n
+abbrev pub readAnswer : {A : Type 0} → (A → Answer) → Calls.ReadReport A → Answer
+readAnswer answer (Calls.ReadReport.is x) = answer x
+readAnswer answer (Calls.ReadReport.refused n) = refused n
 
 abbrev pub flagsAsked : Bool × Bool → Answer
 flagsAsked b = asked (b .0) (b .1)
@@ -119,7 +119,7 @@ unfoldable pub did : Parts → Call → Did
 did p (start d) = let t = Calls.starting d p in didBy (refusal (t .refusal)) [] (t .parts)
 did p (receive image piece) = let r = Receive.receiving image p piece in didBy (refusal (r .refusal)) [] (r .parts)
 did p (step image piece) = let r = Receive.stepping image p piece in didBy (stepAnswer (r .used) (r .ended)) [] (r .parts)
-did p (local (take room)) = let t = Calls.taking (p .outbox) room in didBy (takeAnswer (t .said)) (t .room) (withOutbox p (t .outbox))
+did p (local (take room)) = let t = Calls.taking (p .outbox) room in didBy (takeAnswer (t .report)) (t .room) (withOutbox p (t .outbox))
 did p (local (post action text)) = let c = Calls.posting (p .registers) action text in didBy (refusal (c .refusal)) [] (withRegisters p (c .registers))
 did p (local (setOptions options)) = let c = Calls.settingOptions (p .registers) options in didBy (refusal (c .refusal)) [] (withRegisters p (c .registers))
 did p (local (lookup key most)) =
@@ -157,9 +157,9 @@ unfoldable pub frameEnds : Option (List ℕ) → List ℕ → Ended
 frameEnds received [] = Ended.more
 frameEnds received (b ∷ bs) = cond (eqb b 0) (endedMeant (Requests.verdictSince received)) (frameEnds (Requests.more received b) bs)
 
-abbrev pub recordOf : State → Kind → Option Recorded
-recordOf s kind.BootFailure = s .boot-failure
-recordOf s kind.Panic = s .panic
+abbrev pub recordKept : State → Kind → Option Recorded
+recordKept s kind.BootFailure = s .boot-failure
+recordKept s kind.Panic = s .panic
 
 abbrev pub recordMeans : State → Option Recorded → Means
 recordMeans s none = means (recorded none) [] s
@@ -178,7 +178,7 @@ meant s (local (setOptions options)) = doneMeans s (Local.setOptions s options)
 meant s (local (lookup key most)) = let f = Local.lookup s key most in means (found (f .result) (length (f .value))) (f .value) s
 meant s (local signal) = means (asserted (Local.asserted s)) [] s
 meant s (local flags) = means (asked (s .reboot-asked) (s .power-off-asked)) [] s
-meant s (local (readRecord k)) = recordMeans s (recordOf s k)
+meant s (local (readRecord k)) = recordMeans s (recordKept s k)
 
 -- ---- Calls that are lent some of the parts' bytes
 

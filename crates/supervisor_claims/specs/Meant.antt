@@ -13,7 +13,7 @@ use Rattle.supervisor.specs.declared.registers.Kind.{Kind}
 use Rattle.supervisor_claims.specs.ByPart.{Part, part, validPart, withPart, Every, every-with}
 use Rattle.supervisor_claims.specs.View.{view}
 
--- every part is as 12 asks
+-- every part is as 12 requires
 abbrev pub Valid : Calls.Parts → Type 0
 Valid p = Every (λ i. validPart i (part p i) ≡ true)
 

@@ -32,7 +32,7 @@ lengths-same = every (λ i. refl)
 pub lengths-then : {p q r : Parts} → Lengths p q → Lengths q r → Lengths p r
 lengths-then l m = every (λ i. of m i ∙ of l i)
 
--- another part that is as 12 asks, holds bytes and is as long
+-- another part that is as 12 requires, holds bytes and is as long
 pub sound-with : (p : Parts) (i : Part) (t : List ℕ) → Sound p → validPart i t ≡ true → Each Byte t → length t ≡ length (part p i)
     → Sound (withPart p i t) × Lengths p (withPart p i t)
 sound-with p i t s v b n = (
@@ -48,8 +48,8 @@ Long p = Every (λ i. published i ≤ length (part p i))
 pub valid-long : {p : Parts} → Valid p → Long p
 valid-long {p} v = every (λ i. part-long i (part p i) (of v i))
 
-pub valid-room : {p : Parts} → Valid p → Calls.roomy p ≡ true
-unfolding Calls.roomy
+pub valid-room : {p : Parts} → Valid p → Calls.longEnough p ≡ true
+unfolding Calls.longEnough
 valid-room {p} v = every-true _ (every (λ i. le-leb _ _ (of (valid-long {p = p} v) i)))
 
 -- q holds the state s, is sound, and its parts are as long as p's

@@ -22,49 +22,49 @@ listed f (suc n) = listed f n ++ (f n ∷ [])
 
 unfoldable pub itemAt : List ℕ → ℕ → Item
 itemAt f i = record {
-  result = numberAt 1 f (Layout.item-place i);
-  name = run (Layout.item-place i + 1) 32 f;
-  type = numberAt 1 f (Layout.item-place i + 33);
-  payload = run (Layout.item-place i + Layout.item-data-place) (numberAt 1 f (Layout.item-place i + Layout.item-data-length-place)) f;
+  result = numberAt 1 f (Layout.item-offset i);
+  name = run (Layout.item-offset i + 1) 32 f;
+  type = numberAt 1 f (Layout.item-offset i + 33);
+  payload = run (Layout.item-offset i + Layout.item-data-offset) (numberAt 1 f (Layout.item-offset i + Layout.item-data-length-offset)) f;
 }
 
 unfoldable pub factoryOf : List ℕ → Factory
 factoryOf f = record {
-  bsu = numberAt 1 f Layout.bsu-place;
-  model = run Layout.identity-place 11 f;
-  revision = numberAt 4 f (Layout.identity-place + 11);
-  serial = run (Layout.identity-place + 15) 11 f;
-  base = run Layout.mac-place 6 f;
-  count = numberAt 2 f (Layout.mac-place + 6);
-  stride = numberAt 1 f (Layout.mac-place + 8);
-  hash = run Layout.hash-place 32 f;
-  image-id = run Layout.image-id-place (Layout.imageIdLength f) f;
+  bsu = numberAt 1 f Layout.bsu-offset;
+  model = run Layout.identity-offset 11 f;
+  revision = numberAt 4 f (Layout.identity-offset + 11);
+  serial = run (Layout.identity-offset + 15) 11 f;
+  base = run Layout.mac-offset 6 f;
+  count = numberAt 2 f (Layout.mac-offset + 6);
+  stride = numberAt 1 f (Layout.mac-offset + 8);
+  hash = run Layout.hash-offset 32 f;
+  image-id = run Layout.image-id-offset (Layout.imageIdLength f) f;
   items = listed (itemAt f) (Layout.itemCount f);
 }
 
 -- ---- the settings store
 
 unfoldable pub settingOf : List ℕ → ℕ → Option (List ℕ)
-settingOf s at = cond (eqb (Layout.settingHeld s at) 1) (some (run (at + Layout.setting-value-place) (Layout.settingLength s at) s)) none
+settingOf s at = cond (eqb (Layout.settingHeld s at) 1) (some (run (at + Layout.setting-value-offset) (Layout.settingLength s at) s)) none
 
 unfoldable pub settingsOf : List ℕ → Settings
-settingsOf s = listed (λ i. settingOf s (Layout.setting-place (Limits.first-setting + i))) Limits.setting-count
+settingsOf s = listed (λ i. settingOf s (Layout.setting-offset (Limits.first-setting + i))) Limits.setting-count
 
 -- ---- the registers
 
 unfoldable pub recordedOf : List ℕ → ℕ → Option Recorded
 recordedOf r at =
     cond (eqb (Layout.recordHeld r at) 1)
-    (some (record { code = Layout.recordCode r at; whole = Layout.recordWhole r at; kept = run (at + Layout.record-kept-place) (keptOf r at) r }))
+    (some (record { code = Layout.recordCode r at; whole = Layout.recordWhole r at; kept = run (at + Layout.record-kept-offset) (keptOf r at) r }))
     none
 
 unfoldable pub alertOf : List ℕ → ℕ → Alert
-alertOf r at = record { action = Layout.alertAction r at; text = run (at + Layout.alert-text-place) (Layout.alertTextLength r at) r }
+alertOf r at = record { action = Layout.alertAction r at; text = run (at + Layout.alert-text-offset) (Layout.alertTextLength r at) r }
 
 unfoldable pub retainedOf : List ℕ → Option Retained
 retainedOf r =
-    cond (eqb (numberAt 1 r Layout.retained-place) 1)
-    (some (record { sequence = numberAt 8 r Layout.retained-sequence-place; alert = alertOf r Layout.retained-alert-place }))
+    cond (eqb (numberAt 1 r Layout.retained-offset) 1)
+    (some (record { sequence = numberAt 8 r Layout.retained-sequence-offset; alert = alertOf r Layout.retained-alert-offset }))
     none
 
 -- ---- the line reader's part: its bytes since the last 00, none where they are more than a form has
@@ -75,21 +75,21 @@ receivedOf s = cond (ltb LineLimits.longest-form (LineReader.count s)) none (som
 -- ---- the outbox
 
 unfoldable pub pendingOf : List ℕ → List ℕ
-pendingOf o = run (Layout.outbox-bytes-place + Layout.outboxFrom o) (Layout.outboxTo o - Layout.outboxFrom o) o
+pendingOf o = run (Layout.outbox-bytes-offset + Layout.outboxFrom o) (Layout.outboxTo o - Layout.outboxFrom o) o
 
 unfoldable pub view : Parts → State
 view p = record {
   status = Layout.statusOf (p .registers);
   options = Layout.optionsOf (p .registers);
-  reboot-asked = eqb (numberAt 1 (p .registers) Layout.reboot-place) 1;
-  power-off-asked = eqb (numberAt 1 (p .registers) Layout.power-off-place) 1;
-  boot-failure = recordedOf (p .registers) Layout.boot-failure-place;
-  panic = recordedOf (p .registers) Layout.panic-place;
+  reboot-asked = eqb (numberAt 1 (p .registers) Layout.reboot-offset) 1;
+  power-off-asked = eqb (numberAt 1 (p .registers) Layout.power-off-offset) 1;
+  boot-failure = recordedOf (p .registers) Layout.boot-failure-offset;
+  panic = recordedOf (p .registers) Layout.panic-offset;
   factory = factoryOf (p .factory);
   settings = settingsOf (p .settings);
-  waiting = listed (λ i. alertOf (p .registers) (Layout.alert-place i)) (Layout.alertCount (p .registers));
+  waiting = listed (λ i. alertOf (p .registers) (Layout.alert-offset i)) (Layout.alertCount (p .registers));
   retained = retainedOf (p .registers);
   received = receivedOf (p .reader);
   pending = pendingOf (p .outbox);
-  owing = eqb (Layout.outboxOwing (p .outbox)) 1;
+  terminator-owed = eqb (Layout.outboxTerminatorOwed (p .outbox)) 1;
 }

@@ -17,7 +17,7 @@ use Rattle.text_lines.specs.Fields.{field, digit, withDigit, withDigits,
 use Rattle.text_lines.specs.Pieces.{values, adds, addedAt, added, roomAfter, countAfter}
 use Rattle.text_lines.specs.Digest.{digestOn}
 
--- all from a place on
+-- all from an offset on
 pub rest : (at : ℕ) (s : List ℕ) → run at (length s) s ≡ drop at s
 rest at s = take-all (length s) (drop at s) (simp length-drop (omega arith))
 

@@ -1,4 +1,4 @@
--- `audit::list` meets its contract. The loop's invariant: the text up to a place of the capture is written, and the text is that and what is left.
+-- `audit::list` meets its contract. The loop's invariant: the text up to an offset of the capture is written, and the text is that and what is left.
 -- Assumes nothing.
 use mathlib.Core.Path.{_≡_, refl, sym, _∙_}
 use Prim.Native.Nat.{_+_, _-_, _≤_, _<_}

@@ -1,17 +1,17 @@
 -- `counters::are_refused` meets its contract.
 -- Assumes nothing.
 use borrow.Author.Needs.{needs}
-use Rattle.requests.specs.Receive.{receiptSaid}
+use Rattle.requests.specs.Receive.{receiptReport}
 use Rattle.counters.proofs.CountLaws.{tested-parts}
 use Rattle.counters.proofs.are_refused.Statement.{statement}
 use Rattle.counters.proofs.are_refused.Tie as tie
 
 returns : tie.Need-returns
-unfolding receiptSaid
+unfolding receiptReport
 returns c = rw (c .enum-told .given .1) at (tested-parts _ _ (c .before .before .before .before .before .before .before .before .before .before .receive .ensures))
 
 returns-2 : tie.Need-returns-2
-unfolding receiptSaid
+unfolding receiptReport
 returns-2 c = rw (c .enum-told2 .given .1) at (tested-parts _ _ (c .before .before .before .before .before .before .before .before .before .before .receive .ensures))
 
 pub are-refused-spec : {M : Type 1} → statement M

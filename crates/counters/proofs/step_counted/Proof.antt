@@ -41,7 +41,7 @@ use denote.Triple.Walked.{says, Stays, gave-ref, stay-none-slice, gave-slice, wa
 use denote.Triple.Clauses.{ensured, lasts}
 use denote.Exit.{yes}
 use Rattle.supervisor.specs.Calls.{parts}
-use Rattle.requests.specs.Receive.{endedSaid, stepOf, stepping}
+use Rattle.requests.specs.Receive.{endedReport, stepOf, stepping}
 use Rattle.counters.specs.Count.{bumpedFor}
 use Rattle.counters.specs.declared.Counters.{Counters}
 use Rattle.requests.specs.declared.receive.Outcome.{Outcome}
@@ -128,7 +128,7 @@ module _ {M : Type 1} (𝓤 : URA M) (H : Heap 𝓤) (A : Atoms 𝓤) (W : Given
   abbrev Post : Val → SProp 𝓤
   Post = walkOf 𝓤 H A f.ended stayed (f.clauses 𝓤 H A at-mem run) .post ((κs, (q-block, (q-image, (q-piece, (q-reader, (q-outbox, (q-factory, (q-settings, (q-registers, tt)))))))), tt, a, vals), tt)
 
-  exits : (r : Stepped) → Is R.the-row r (res r ∷ []) → (z : Counters) (reader′ outbox′ settings′ registers′ : List ℕ) → stepOf r (parts reader′ outbox′ (factory .now) settings′ registers′) ≡ stepping (image .now) (parts (reader .now) (outbox .now) (factory .now) (settings .now) (registers .now)) (piece .now) → z ≡ bumpedFor h (endedSaid (r .outcome)) → length reader′ ≡ length (reader .now) → length outbox′ ≡ length (outbox .now) → length settings′ ≡ length (settings .now) → length registers′ ≡ length (registers .now)
+  exits : (r : Stepped) → Is R.the-row r (res r ∷ []) → (z : Counters) (reader′ outbox′ settings′ registers′ : List ℕ) → stepOf r (parts reader′ outbox′ (factory .now) settings′ registers′) ≡ stepping (image .now) (parts (reader .now) (outbox .now) (factory .now) (settings .now) (registers .now)) (piece .now) → z ≡ bumpedFor h (endedReport (r .outcome)) → length reader′ ≡ length (reader .now) → length outbox′ ≡ length (outbox .now) → length settings′ ≡ length (settings .now) → length registers′ ≡ length (registers .now)
       → ent 𝓤 (⋆ 𝓤 H A (‵ (flft κ-block q-block) ∷ (‵ (flft κ-image q-image) ⊛ ‵ (flft κ-piece q-piece) ⊛ ‵ (flft κ-reader q-reader) ⊛ ‵ (flft κ-outbox q-outbox) ⊛ ‵ (flft κ-factory q-factory) ⊛ ‵ (flft κ-settings q-settings) ⊛ ‵ (flft κ-registers q-registers) ⊛ ‵ ftrue) ∷ ‵ (fres γ (T.the-row .coded .code z)) ∷ ‵ (finally u8 (reader .name) reader′) ∷ ‵ (finally u8 (outbox .name) outbox′) ∷ ‵ (finally u8 (settings .name) settings′) ∷ ‵ (finally u8 (registers .name) registers′) ∷ ‵ (Own-image) ∷ ‵ (Own-piece) ∷ ‵ (Own-factory) ∷ [])) (Post (res r))
   exits r is z reader′ outbox′ settings′ registers′ e₁ e₂ len-reader len-outbox len-settings len-registers =
       qed W (‵ (flft κ-block q-block) ∷ (‵ (flft κ-image q-image) ⊛ ‵ (flft κ-piece q-piece) ⊛ ‵ (flft κ-reader q-reader) ⊛ ‵ (flft κ-outbox q-outbox) ⊛ ‵ (flft κ-factory q-factory) ⊛ ‵ (flft κ-settings q-settings) ⊛ ‵ (flft κ-registers q-registers) ⊛ ‵ ftrue) ∷ ‵ (fres γ (T.the-row .coded .code z)) ∷ ‵ (finally u8 (reader .name) reader′) ∷ ‵ (finally u8 (outbox .name) outbox′) ∷ ‵ (finally u8 (settings .name) settings′) ∷ ‵ (finally u8 (registers .name) registers′) ∷ ‵ (Own-image) ∷ ‵ (Own-piece) ∷ ‵ (Own-factory) ∷ []) ∵
@@ -169,7 +169,7 @@ module _ {M : Type 1} (𝓤 : URA M) (H : Heap 𝓤) (A : Atoms 𝓤) (W : Given
         split ! $ move ! (1 ∷ []) $ use1 W (some (λ (zs : Unit {0} × (Unit {0} × (List ℕ × (List ℕ × (Unit {0} × (List ℕ × (List ℕ × Unit {0}))))))). ‵ (lasts g.ended κs-in a-in zs) ⊛ raw (fact 𝓤 (stepOf r (parts (zs .1 .1 .0) (zs .1 .1 .1 .0) (factory .now) (zs .1 .1 .1 .1 .1 .0) (zs .1 .1 .1 .1 .1 .1 .0)) ≡ stepping (image .now) (parts (reader .now) (outbox .now) (factory .now) (settings .now) (registers .now)) (piece .now))))) (id⊢ 𝓤 _) $ pick ! (λ zs. split ! $ move ! (1 ∷ []) $ heard ! (stepOf r (parts (zs .1 .1 .0) (zs .1 .1 .1 .0) (factory .now) (zs .1 .1 .1 .1 .1 .0) (zs .1 .1 .1 .1 .1 .1 .0)) ≡ stepping (image .now) (parts (reader .now) (outbox .now) (factory .now) (settings .now) (registers .now)) (piece .now)) (λ e₁. move ! (0 ∷ []) $ fsplit ! $ drop ! $ move ! (0 ∷ []) $ fsplit ! $ drop ! $ move ! (0 ∷ []) $ fsplit ! $ fsplit ! $ move ! (1 ∷ []) $ feqL ! (λ len-reader. move ! (1 ∷ []) $ fsplit ! $ fsplit ! $ move ! (1 ∷ []) $ feqL ! (λ len-outbox. move ! (1 ∷ []) $ fsplit ! $ drop ! $ move ! (0 ∷ []) $ fsplit ! $ fsplit ! $ move ! (1 ∷ []) $ feqL ! (λ len-settings. move ! (1 ∷ []) $ fsplit ! $ fsplit ! $ move ! (1 ∷ []) $ feqL ! (λ len-registers. move ! (1 ∷ []) $ drop ! $ move ! (4 ∷ []) $ split ! $ move ! (1 ∷ []) $ peeks ! R.the-row (Is R.the-row) (shows 𝓤 H A R.the-row) r (v ∷ []) (λ is. land ! (from ! (stop !)) (init ! 26 refl (LL.lawful R.the-type R′.the-laws 𝓤 H A W .typed r _ is .0)) $ drop ! $ rewrite ! 25 (λ (x : Val). ‵ (fat fullShare R′.mir l9 0 x)) (ap only (LL.tells R.the-type R′.the-laws r (v ∷ []) is)) refl $
         -- `bump`: the block goes to it for good, at its own lifetime, share and name
         assigns ! (addr ! (from ! (hop ! (look ! 41 refl) (stop !)))) (from ! (stop !)) (init ! 5 refl (tt, tt)) $ nothing ! $ owned ! E.the-row (Is E.the-row) ((EL.makes E.the-type E′.the-plain) 𝓤 H A) (r .outcome) _ (is-outcome r v is) $ fjoin ! $ move ! (49 ∷ 0 ∷ []) $ fjoin ! $ move ! (49 ∷ 0 ∷ []) $ use2 W (raw (Bump 𝓤 H A at-mem run .pre (to-bump (r .outcome)))) (goes-bump (r .outcome)) $ calls-at ! fm (Bump 𝓤 H A at-mem run) known-bump (to-bump (r .outcome)) (and-then ! (load ! (from ! (stop !)) (look ! 6 refl)) (and-then ! (load ! (from ! (fld ! refl (stop !))) (look-in ! 26 (sub ! 1 refl (whole !)))) (no-more !))) (λ w.
-        use1 W (later (some (λ (z : Unit {0}). ((‵ (flft κ-block q-block) ⊛ ‵ ftrue) ⊛ ‵ (unit .own z (w ∷ []))) ⊛ raw (ensured 𝓤 H A bm.ended (bm.clauses 𝓤 H A at-mem run) (κ-block, tt) (x, (r .outcome, tt)) tt z)))) (id⊢ 𝓤 _) $ await ! tt $ pick ! (λ z. split ! $ move ! (1 ∷ []) $ use1 W (some (λ (ws : Counters × (Unit {0} × Unit {0})). ‵ (lasts bm.ended (κ-block, tt) (x, (r .outcome, tt)) ws) ⊛ raw (fact 𝓤 (ws .0 ≡ bumpedFor h (endedSaid (r .outcome)))))) (id⊢ 𝓤 _) $ pick ! (λ ws. split ! $ move ! (1 ∷ []) $ heard ! (ws .0 ≡ bumpedFor h (endedSaid (r .outcome))) (λ e₃. fsplit ! $ move ! (2 ∷ []) $ split ! $ move ! (1 ∷ []) $ peeks ! unit (Is unit) (shows 𝓤 H A unit) z (w ∷ []) (λ is-z. drop ! $ land ! (from ! (stop !)) (init ! 10 refl (nothing-lawful 𝓤 H A W .typed z _ is-z .0)) $ move ! (0 ∷ []) $ split ! $
+        use1 W (later (some (λ (z : Unit {0}). ((‵ (flft κ-block q-block) ⊛ ‵ ftrue) ⊛ ‵ (unit .own z (w ∷ []))) ⊛ raw (ensured 𝓤 H A bm.ended (bm.clauses 𝓤 H A at-mem run) (κ-block, tt) (x, (r .outcome, tt)) tt z)))) (id⊢ 𝓤 _) $ await ! tt $ pick ! (λ z. split ! $ move ! (1 ∷ []) $ use1 W (some (λ (ws : Counters × (Unit {0} × Unit {0})). ‵ (lasts bm.ended (κ-block, tt) (x, (r .outcome, tt)) ws) ⊛ raw (fact 𝓤 (ws .0 ≡ bumpedFor h (endedReport (r .outcome)))))) (id⊢ 𝓤 _) $ pick ! (λ ws. split ! $ move ! (1 ∷ []) $ heard ! (ws .0 ≡ bumpedFor h (endedReport (r .outcome))) (λ e₃. fsplit ! $ move ! (2 ∷ []) $ split ! $ move ! (1 ∷ []) $ peeks ! unit (Is unit) (shows 𝓤 H A unit) z (w ∷ []) (λ is-z. drop ! $ land ! (from ! (stop !)) (init ! 10 refl (nothing-lawful 𝓤 H A W .typed z _ is-z .0)) $ move ! (0 ∷ []) $ split ! $
         -- the result
         assigns ! (of-opd ! (load ! (from ! (stop !)) (look ! 29 refl))) (from ! (stop !)) (init ! 47 refl (LL.lawful R.the-type R′.the-laws 𝓤 H A W .typed r _ (is-whole r v is) .0)) $ returns ! (look ! 47 refl) $ forget ! 9 refl $ forget ! 11 refl $ forget ! 13 refl $ forget ! 15 refl $ forget ! 17 refl $ forget ! 19 refl $ forget ! 21 refl $ forget ! 23 refl $ forget ! 25 refl $ forget ! 27 refl $ forget ! 29 refl $ forget ! 31 refl $ forget ! 33 refl $ forget ! 35 refl $ forget ! 37 refl $ forget ! 39 refl $ forget ! 41 refl $ forget ! 43 refl $ forget ! 45 refl $ forget ! 47 refl $
         move ! (47 ∷ 48 ∷ []) $ free1 ! $ move ! (45 ∷ 46 ∷ []) $ free1 ! $ move ! (43 ∷ 44 ∷ []) $ free1 ! $ move ! (41 ∷ 42 ∷ []) $ free1 ! $ move ! (39 ∷ 40 ∷ []) $ free1 ! $ move ! (37 ∷ 38 ∷ []) $ free1 ! $ move ! (35 ∷ 36 ∷ []) $ free1 ! $ move ! (33 ∷ 34 ∷ []) $ free1 ! $ move ! (31 ∷ 32 ∷ []) $ free1 ! $ move ! (29 ∷ 30 ∷ []) $ free1 ! $ move ! (27 ∷ 28 ∷ []) $ free1 ! $ move ! (25 ∷ 26 ∷ []) $ free1 ! $ move ! (23 ∷ 24 ∷ []) $ free1 ! $ move ! (21 ∷ 22 ∷ []) $ free1 ! $ move ! (19 ∷ 20 ∷ []) $ free1 ! $ move ! (17 ∷ 18 ∷ []) $ free1 ! $ move ! (15 ∷ 16 ∷ []) $ free1 ! $ move ! (13 ∷ 14 ∷ []) $ free1 ! $ move ! (11 ∷ 12 ∷ []) $ free1 ! $ move ! (9 ∷ 10 ∷ []) $ free1 ! $ free0 ! $ keep ! (0 ∷ 4 ∷ 2 ∷ 8 ∷ 7 ∷ 6 ∷ 5 ∷ 11 ∷ 10 ∷ 9 ∷ []) $ by ! (exits r (is-whole r v is) (ws .0) (zs .1 .1 .0) (zs .1 .1 .1 .0) (zs .1 .1 .1 .1 .1 .0) (zs .1 .1 .1 .1 .1 .1 .0) e₁ e₃ len-reader len-outbox len-settings len-registers)))))))))))))))))))))))))))))))))))

@@ -1,4 +1,4 @@
--- `probes::changes_are_good` meets its contract: the whole test comes to that of the changes from place i on.
+-- `probes::changes_are_good` meets its contract: the whole test comes to that of the changes from offset i on.
 -- Assumes nothing.
 use mathlib.Core.Path.{_≡_, sym, _∙_}
 use Prim.Native.Nat.{_-_}

@@ -95,9 +95,9 @@ module _ {M : Type 1} (𝓤 : URA M) (H : Heap 𝓤) (A : Atoms 𝓤) (W : Given
 
   exits : (zs : List Probe) → length zs ≡ length ys → zs ≡ resultSet ys i v → Room P.the-row (length ys)
       → ent 𝓤 (⋆ 𝓤 H A (‵ (fobs γ (codedHoleys P.the-row .code (heres P.the-row zs))) ∷ ‵ (fbor κ (Held P.the-row (length zs) b o γ)) ∷ ‵ (flft κ q) ∷ [])) (Post vunit)
-  exits zs e said room =
+  exits zs e report room =
       qed W (‵ (fobs γ (codedHoleys P.the-row .code (heres P.the-row zs))) ∷ ‵ (fbor κ (Held P.the-row (length zs) b o γ)) ∷ ‵ (flft κ q) ∷ []) ∵
-      suffices ! _ (ends-at 𝓤 H A f.ended stayed (f.clauses 𝓤 H A mem run) W bound vunit tt (zs, (tt, (tt, tt))) (e, (tt, (tt, tt)))) $ says ! said $
+      suffices ! _ (ends-at 𝓤 H A f.ended stayed (f.clauses 𝓤 H A mem run) W bound vunit tt (zs, (tt, (tt, tt))) (e, (tt, (tt, tt)))) $ says ! report $
       nothing ! $ move ! (3 ∷ 0 ∷ []) $ join ! $
       frame ! $ fjoin ! $ pureI ! (at-slice P.the-row (x zs) (s ∷ [])) (tt, (tt, tt)) (ap (λ (m : ℕ). sliceVal (b, o) m ∷ []) (sym e), subst (Room P.the-row) (sym e) room) $ fjoin ! $
       nothing ! $ nothing ! $ fjoin ! $ nothing ! $ fjoin ! $ move ! (1 ∷ 0 ∷ []) $ fjoin ! $ frame ! $
@@ -118,7 +118,7 @@ module _ {M : Type 1} (𝓤 : URA M) (H : Heap 𝓤) (A : Atoms 𝓤) (W : Given
         first ! $ branches ! (load ! (from ! (stop !)) (look ! 4 refl))
         (λ t.
         let within : i < length ys = ltb→lt i (length ys) t in
-        -- _7 is the record's place
+        -- _7 is the record's offset
         assigns ! (bin ! (load ! (from ! (stop !)) (look ! 10 refl)) (lit ! tt) (scaled-fits i (length ys) 2 within (room .1))) (from ! (stop !)) (init ! 2 refl (tt, scaled-fits i (length ys) 2 within (room .1))) $
         assigns ! (bin ! (load ! (from ! (fld ! refl (stop !))) (look-in ! 12 (sub ! 0 refl (whole !)))) (load ! (from ! (stop !)) (look ! 2 refl)) tt) (from ! (stop !)) (init ! 0 refl (tt, tt)) $
         rewrite ! 0 (λ (p : ℕ). ‵ (fat fullShare tyPtr l₇ 0 (vptr b p))) (sym (place-is 2 o i)) refl $

@@ -151,9 +151,9 @@ module _ {M : Type 1} (𝓤 : URA M) (H : Heap 𝓤) (A : Atoms 𝓤) (W : Given
   Post = walkOf 𝓤 H A f.ended stayed (f.clauses 𝓤 H A mem run) .post bound
 
   exits : (r : Updated) (zs : List Probe) → length zs ≡ length ys → outcomeOf r zs ≡ updating ys is rs → ent 𝓤 (⋆ 𝓤 H A (tokens₃ ∷ ‵ (Own γ κ₀ zs) ∷ [])) (Post (U′.lowered r))
-  exits r zs e said =
+  exits r zs e report =
       qed W (tokens₃ ∷ ‵ (Own γ κ₀ zs) ∷ []) ∵
-      suffices ! _ (ends-at 𝓤 H A f.ended stayed (f.clauses 𝓤 H A mem run) W bound (U′.lowered r) r (zs, (tt, (tt, tt))) (e, (tt, (tt, tt)))) $ says ! said $ frame ! $
+      suffices ! _ (ends-at 𝓤 H A f.ended stayed (f.clauses 𝓤 H A mem run) W bound (U′.lowered r) r (zs, (tt, (tt, tt))) (e, (tt, (tt, tt)))) $ says ! report $ frame ! $
       rewrite ! 0 (λ (m : ℕ). ‵ (MutSlice (named 0) κ₀ P.the-row .own (x γ zs) (sliceVal (b, o) m ∷ []))) e refl $
       nothing ! $ nothing ! $ fjoin ! $ nothing ! $ fjoin ! $ move ! (1 ∷ 0 ∷ []) $ fjoin ! $ frame ! $ owned ! U.the-row (Is U.the-row) (EL.makes U.the-type U′.the-plain 𝓤 H A) r _ (is-made r) $ done !
 
@@ -170,8 +170,8 @@ module _ {M : Type 1} (𝓤 : URA M) (H : Heap 𝓤) (A : Atoms 𝓤) (W : Given
   asks-test : ent 𝓤 (onEntry 𝓤 H A test.signature (κ₁, (κ₂, tt)) (q₁, (q₂, tt)) (n, tested) tested-at) (Test 𝓤 H A mem run .pre to-test)
   asks-test = qed W (tokens₂ ∷ ‵ (owns (usize ∷ ShrSlice (named 0) κ₁ usize ∷ ShrSlice (named 1) κ₂ u8 ∷ []) (n, tested) tested-at) ∷ []) ∵ join ! $ frame ! $ done !
 
-  test-said : (r : Bool) → ent 𝓤 (ensured 𝓤 H A test.ended (test.clauses 𝓤 H A mem run) (κ₁, (κ₂, tt)) (n, tested) tt r) (fact 𝓤 (r ≡ good n is rs))
-  test-said r = exE 𝓤 _ (λ ws. snd∗ 𝓤 (sem 𝓤 H A (lasts test.ended (κ₁, (κ₂, tt)) (n, tested) ws)) (fact 𝓤 (r ≡ good n is rs)))
+  test-report : (r : Bool) → ent 𝓤 (ensured 𝓤 H A test.ended (test.clauses 𝓤 H A mem run) (κ₁, (κ₂, tt)) (n, tested) tt r) (fact 𝓤 (r ≡ good n is rs))
+  test-report r = exE 𝓤 _ (λ ws. snd∗ 𝓤 (sem 𝓤 H A (lasts test.ended (κ₁, (κ₂, tt)) (n, tested) ws)) (fact 𝓤 (r ≡ good n is rs)))
 
   -- the call of `set_result`: the list lent again for the lifetime ν, under the name δ
   abbrev to-set : ℕ → GName → List Probe → ℕ → ℕ → SetResult 𝓤 H A mem run .Ghost
@@ -329,7 +329,7 @@ module _ {M : Type 1} (𝓤 : URA M) (H : Heap 𝓤) (A : Atoms 𝓤) (W : Given
         calls-at ! (fmOf 𝓤 H (W .laws) 𝓣) (Test 𝓤 H A mem run) known-test to-test
         (and-then ! (load ! (from ! (stop !)) (look ! 25 refl)) (and-then ! (load ! (from ! (stop !)) (look ! 33 refl)) (and-then ! (load ! (from ! (stop !)) (look ! 31 refl)) (no-more !)))) (λ w.
         use1 W (later (some (λ (r : Bool). (tokens₂ ⊛ ‵ (bool .own r (w ∷ []))) ⊛ raw (ensured 𝓤 H A test.ended (test.clauses 𝓤 H A mem run) (κ₁, (κ₂, tt)) (n, tested) tt r)))) (id⊢ 𝓤 _) $ await ! tt $ pick ! (λ r.
-        split ! $ move ! (1 ∷ []) $ use1 W (raw (fact 𝓤 (r ≡ good n is rs))) (test-said r) $ heard ! (r ≡ good n is rs) (λ e. split ! $ move ! (1 ∷ []) $ feqL ! (λ is-bool.
+        split ! $ move ! (1 ∷ []) $ use1 W (raw (fact 𝓤 (r ≡ good n is rs))) (test-report r) $ heard ! (r ≡ good n is rs) (λ e. split ! $ move ! (1 ∷ []) $ feqL ! (λ is-bool.
         land ! (from ! (stop !)) (init ! 27 refl (subst (λ (u : Val). T (hasTy tyBool u) × WT u) (sym (ap only is-bool)) (tt, tt))) $ rewrite ! 27 (λ (u : Val). ‵ (fat fullShare tyBool l₅ 0 u)) (ap only is-bool) refl $
         assigns ! (un ! (load ! (from ! (stop !)) (look ! 27 refl)) tt) (from ! (stop !)) (init ! 23 refl (tt, tt)) $
         first ! $ branches ! (load ! (from ! (stop !)) (look ! 23 refl))

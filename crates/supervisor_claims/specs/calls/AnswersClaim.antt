@@ -91,34 +91,34 @@ block-meant f image d = refl
 pub block-sendable : (f image d : List ℕ) → Each Byte image → Sendable (blockBytes f image d)
 unfolding blockBytes
 block-sendable f image d h =
-    cond-by Sendable (equal (run 0 32 d) (run Layout.hash-place 32 f)) _ []
+    cond-by Sendable (equal (run 0 32 d) (run Layout.hash-offset 32 f)) _ []
     (λ e. run-sendable (numberAt 8 d 32) Limits.longest-block image (omega arith) h) (λ e. (omega arith, tt))
 
 -- ---- the factory store
 
 module _ (f : List ℕ) (valid : validFactory f ≡ true) (b : Each Byte f) where
-  pub bsu-meant : run Layout.bsu-place 1 f ≡ bytes 1 (factoryOf f .bsu)
+  pub bsu-meant : run Layout.bsu-offset 1 f ≡ bytes 1 (factoryOf f .bsu)
   unfolding factoryOf
-  bsu-meant = let v = factory-valid f valid in sym (number-run 1 Layout.bsu-place f (omega arith) b)
+  bsu-meant = let v = factory-valid f valid in sym (number-run 1 Layout.bsu-offset f (omega arith) b)
 
-  pub identity-meant : run Layout.identity-place 26 f ≡ factoryOf f .model ++ (bytes 4 (factoryOf f .revision) ++ factoryOf f .serial)
+  pub identity-meant : run Layout.identity-offset 26 f ≡ factoryOf f .model ++ (bytes 4 (factoryOf f .revision) ++ factoryOf f .serial)
   unfolding factoryOf
   identity-meant =
       let v = factory-valid f valid in
-      rw (number-run 4 (Layout.identity-place + 11) f (omega arith) b) (run-three Layout.identity-place 11 4 11 f)
+      rw (number-run 4 (Layout.identity-offset + 11) f (omega arith) b) (run-three Layout.identity-offset 11 4 11 f)
 
-  pub mac-meant : run Layout.mac-place 9 f ≡ factoryOf f .base ++ (bytes 2 (factoryOf f .count) ++ bytes 1 (factoryOf f .stride))
+  pub mac-meant : run Layout.mac-offset 9 f ≡ factoryOf f .base ++ (bytes 2 (factoryOf f .count) ++ bytes 1 (factoryOf f .stride))
   unfolding factoryOf
   mac-meant =
       let v = factory-valid f valid in
-      rw (number-run 2 (Layout.mac-place + 6) f (omega arith) b, number-run 1 (Layout.mac-place + 8) f (omega arith) b)
-      (run-three Layout.mac-place 6 2 1 f)
+      rw (number-run 2 (Layout.mac-offset + 6) f (omega arith) b, number-run 1 (Layout.mac-offset + 8) f (omega arith) b)
+      (run-three Layout.mac-offset 6 2 1 f)
 
   -- an item that is there
-  item-run : (index : ℕ) → ItemHeld f index → let at = Layout.item-place index in
-      run at Layout.item-data-length-place f ≡ bytes 1 (numberAt 1 f at) ++ (run (at + 1) 32 f ++ bytes 1 (numberAt 1 f (at + 33)))
+  item-run : (index : ℕ) → ItemHeld f index → let at = Layout.item-offset index in
+      run at Layout.item-data-length-offset f ≡ bytes 1 (numberAt 1 f at) ++ (run (at + 1) 32 f ++ bytes 1 (numberAt 1 f (at + 33)))
   item-run index held =
-      let at = Layout.item-place index in
+      let at = Layout.item-offset index in
       let e : at + 1 + 32 ≡ at + 33 = omega arith in
       rw (number-run 1 at f (omega arith) b, number-run 1 (at + 33) f (omega arith) b, ← e) (run-three at 1 32 1 f)
 
@@ -126,19 +126,19 @@ module _ (f : List ℕ) (valid : validFactory f ≡ true) (b : Each Byte f) wher
   unfolding itemBytes itemDataLength Requests.inventoried factoryOf itemAt
   item-meant index =
       let n = Layout.itemCount f in
-      let at = Layout.item-place index in
+      let at = Layout.item-offset index in
       cond-by (λ bs. bs ≡ Requests.inventoried (Requests.itemOf (listed (itemAt f) n) index)) (ltb index n) _ _
       (λ e.
       let l = ltb-true index n e in
-      rw (listed-item (itemAt f) n index l, item-run index (item-held f index valid l), run-chosen (at + Layout.item-data-place)) (simp append-assoc))
+      rw (listed-item (itemAt f) n index l, item-run index (item-held f index valid l), run-chosen (at + Layout.item-data-offset)) (simp append-assoc))
       (λ e. rw (listed-none (itemAt f) n index (ltb-false index n e)))
 
   pub item-sendable : (index : ℕ) → Sendable (itemBytes f index)
   unfolding itemBytes
   item-sendable index =
-      let at = Layout.item-place index in
-      let n = Layout.item-data-length-place in
-      let bt = at + Layout.item-data-place in
+      let at = Layout.item-offset index in
+      let n = Layout.item-data-length-offset in
+      let bt = at + Layout.item-data-offset in
       let k = itemDataLength f at in
       let short = item-short f index valid in (
         omega arith,
@@ -149,10 +149,10 @@ module _ (f : List ℕ) (valid : validFactory f ≡ true) (b : Each Byte f) wher
 -- ---- the registers
 
 pub status-meant : (r : List ℕ) → validRegisters r ≡ true → Each Byte r
-    → run Layout.status-place 16 r ≡ bytes 8 (Layout.statusOf r) ++ bytes 8 (Layout.optionsOf r)
+    → run Layout.status-offset 16 r ≡ bytes 8 (Layout.statusOf r) ++ bytes 8 (Layout.optionsOf r)
 status-meant r valid b =
     let v = registers-valid r valid in
-    rw (number-run 8 Layout.status-place r (omega arith) b, number-run 8 Layout.options-place r (omega arith) b) (run-add Layout.status-place 8 8 r)
+    rw (number-run 8 Layout.status-offset r (omega arith) b, number-run 8 Layout.options-offset r (omega arith) b) (run-add Layout.status-offset 8 8 r)
 
 -- ---- a key's value
 
@@ -166,7 +166,7 @@ unfolding Local.lookup
 found-small s key most =
     cond-by (λ (x : Local.Found). x .result ≤ 3) (ltb Limits.highest-key key) _ _ (λ e. omega arith) (λ e. fitted-small most (Local.valueOf s key))
 
--- the bytes at a place q
+-- the bytes at a location q
 abbrev BytesAt : {Q : Type 0} → (Q → List ℕ) → Q → Type 0
 BytesAt value q = Each Byte (value q)
 
@@ -179,16 +179,16 @@ module _ (f s : List ℕ) (fb : Each Byte f) (sb : Each Byte s) (most : ℕ) whe
   unfolding Calls.settingAt Calls.valueAt
   setting-each at =
       cond-by (BytesAt (Calls.valueAt f s most)) (eqb (Layout.settingHeld s at) 1) _ _
-      (λ e. part-each (at + Layout.setting-value-place) (Layout.settingLength s at) s sb) (λ e. tt)
+      (λ e. part-each (at + Layout.setting-value-offset) (Layout.settingLength s at) s sb) (λ e. tt)
 
-  place-each : (key : ℕ) → BytesAt (Calls.valueAt f s most) (Calls.placeOf f s key)
-  unfolding Calls.placeOf Calls.valueAt
+  place-each : (key : ℕ) → BytesAt (Calls.valueAt f s most) (Calls.locationOf f s key)
+  unfolding Calls.locationOf Calls.valueAt
   place-each key =
       let P = BytesAt (Calls.valueAt f s most) in
-      cond-by P (eqb key 0) _ _ (λ e. part-each Layout.pong-place 4 f fb) (λ e.
-      cond-by P (eqb key 1) _ _ (λ e. part-each Layout.image-id-place (Layout.imageIdLength f) f fb) (λ e.
-      cond-by P (eqb key 2) _ _ (λ e. part-each Layout.item-count-place 8 f fb) (λ e.
-      setting-each (Layout.setting-place key))))
+      cond-by P (eqb key 0) _ _ (λ e. part-each Layout.pong-offset 4 f fb) (λ e.
+      cond-by P (eqb key 1) _ _ (λ e. part-each Layout.image-id-offset (Layout.imageIdLength f) f fb) (λ e.
+      cond-by P (eqb key 2) _ _ (λ e. part-each Layout.item-count-offset 8 f fb) (λ e.
+      setting-each (Layout.setting-offset key))))
 
   value-each : (key : ℕ) → Each Byte (Calls.lookupValue f s key most)
   unfolding Calls.lookupValue

@@ -26,7 +26,7 @@ use Rattle.supervisor.specs.Calls
 use Rattle.supervisor.specs.Calls.{Parts}
 use Rattle.supervisor.specs.declared.registers.Kind.{Kind}
 use Rattle.supervisor.specs.declared.registers.Kind.the-variants as kind
-use Rattle.supervisor.proofs.StartLaws.{Roomy, roomy-is}
+use Rattle.supervisor.proofs.StartLaws.{LongEnough, long-enough-is}
 use Rattle.supervisor.proofs.ValidLaws.{outbox-valid, registers-valid}
 use Rattle.requests.specs.Receive
 use Rattle.supervisor_claims.specs.View.{factoryOf, view}
@@ -42,7 +42,7 @@ use Rattle.supervisor_claims.specs.calls.RegistersClaim.{post-meant, opt
 use Rattle.supervisor_claims.specs.calls.LookupClaim.{lookup-meant}
 use Rattle.supervisor_claims.specs.Sound.{Bytes, Sound, Lengths, lengths-same, sound-with, valid-room, Leaves}
 use Rattle.supervisor_claims.specs.claims.LentCalls.{valid-parts}
-use Rattle.supervisor_claims.specs.calls.StepClaim.{step-used, step-fed, step-ends, turned-stepped}
+use Rattle.supervisor_claims.specs.calls.StepClaim.{step-used, step-fed, step-ends, valid-step-stepped}
 use Rattle.supervisor_claims.specs.calls.ReceiveClaim.{fed-leaves}
 
 -- a call on p did what document 01 has of it
@@ -76,7 +76,7 @@ module _ (d : List ℕ) (typed : Typed (Histories.start d)) (p : Parts) (b : Byt
         length-overlay 0 (d ++ bytes 4 0 ++ pong) (p .factory) (omega arith),
       )
 
-  fresh-keeps : Roomy p → Bytes (Calls.freshParts d p) × Lengths p (Calls.freshParts d p)
+  fresh-keeps : LongEnough p → Bytes (Calls.freshParts d p) × Lengths p (Calls.freshParts d p)
   unfolding Calls.freshParts LineReader.counted
   fresh-keeps r =
       let o = cleared-keeps 0 Layout.outbox-length [] (p .outbox) refl (r .outbox) tt (b .outbox) in
@@ -90,15 +90,15 @@ module _ (d : List ℕ) (typed : Typed (Histories.start d)) (p : Parts) (b : Byt
   start-keeps : Bytes (Calls.starting d p .parts) × Lengths p (Calls.starting d p .parts)
   unfolding Calls.starting
   start-keeps =
-      cond-by Kept (Calls.roomy p) _ _
-      (λ e. cond-by Kept (goodStart d) _ _ (λ f. fresh-keeps (roomy-is p e)) (λ f. (b, lengths-same)))
+      cond-by Kept (Calls.longEnough p) _ _
+      (λ e. cond-by Kept (goodStart d) _ _ (λ f. fresh-keeps (long-enough-is p e)) (λ f. (b, lengths-same)))
       (λ e. (b, lengths-same))
     where
       Kept : Calls.Start → Type 0
       Kept t = Bytes (t .parts) × Lengths p (t .parts)
 
   -- on any parts of sufficient length
-  pub start-leaves : Calls.roomy p ≡ true → Local.badStart (factoryOf d) ≡ false
+  pub start-leaves : Calls.longEnough p ≡ true → Local.badStart (factoryOf d) ≡ false
       → (Calls.starting d p .refusal ≡ none) × Leaves p (Calls.starting d p .parts) (fresh (factoryOf d))
   start-leaves r e =
       let s = start-fresh d (typed .0) p r e in
@@ -128,12 +128,12 @@ module _ (p : Parts) (s : Sound p) where
   taken-keeps [] o h b = (b, refl)
   taken-keeps (x ∷ bs) o h b =
       let n = Layout.outboxFrom o + length (x ∷ bs) in
-      let last = Calls.lastNonZero (x ∷ bs) in
-      let on = overlay Layout.outbox-from-place (bytes 2 n) o in
-      let long : length on ≡ length o = stored-long 2 Layout.outbox-from-place n o (omega arith) in
+      let last = Calls.lastNonZeroFlag (x ∷ bs) in
+      let on = overlay Layout.outbox-from-offset (bytes 2 n) o in
+      let long : length on ≡ length o = stored-long 2 Layout.outbox-from-offset n o (omega arith) in
       let flag : last < 256 = cond-by Byte (eqb (getD (x ∷ bs) (length (x ∷ bs) - 1) 0) 0) 0 1 (λ e. omega arith) (λ e. omega arith) in (
-        overlay-each Byte Layout.outbox-owing-place (last ∷ []) on (flag, tt) (overlay-each Byte Layout.outbox-from-place _ o (bytes-each 2 n) b),
-        length-overlay Layout.outbox-owing-place (last ∷ []) on (omega arith) ∙ long,
+        overlay-each Byte Layout.outbox-terminator-owed-offset (last ∷ []) on (flag, tt) (overlay-each Byte Layout.outbox-from-offset _ o (bytes-each 2 n) b),
+        length-overlay Layout.outbox-terminator-owed-offset (last ∷ []) on (omega arith) ∙ long,
       )
 
   take-keeps : (room : List ℕ) → Keeps (p .outbox) (Calls.taking (p .outbox) room .outbox)
@@ -190,8 +190,8 @@ module _ (p : Parts) (s : Sound p) where
       rw (s .valid .registers)
       (cond-by KeepsRegisters (Local.optionsAllowed options) _ _
       (λ e. (
-        overlay-each Byte Layout.options-place _ _ (bytes-each 8 options) (s .bytes .registers),
-        stored-long 8 Layout.options-place options (p .registers) (omega arith),
+        overlay-each Byte Layout.options-offset _ _ (bytes-each 8 options) (s .bytes .registers),
+        stored-long 8 Layout.options-offset options (p .registers) (omega arith),
       ))
       (λ e. unchanged))
 
@@ -207,9 +207,9 @@ module _ (p : Parts) (s : Sound p) where
 
   record-meets : (k : Kind) → Meets p (did p (Histories.local (Histories.readRecord k))) (meant (view p) (Histories.local (Histories.readRecord k)))
   unfolding did meant
-  record-meets k = go (Histories.recordOf (view p) k) (kinds k)
+  record-meets k = go (Histories.recordKept (view p) k) (kinds k)
     where
-      kinds : (k : Kind) → RecordedAs p k (Histories.recordOf (view p) k)
+      kinds : (k : Kind) → RecordedAs p k (Histories.recordKept (view p) k)
       kinds kind.BootFailure = boot-failure-meant p (s .valid)
       kinds kind.Panic = panic-meant p (s .valid)
 
@@ -227,23 +227,23 @@ module _ (p : Parts) (s : Sound p) where
         rw (valid-parts p (s .valid))
         (record { answer = refl; out = refl; leaves = fed-leaves image p piece (typed .0) s (typed .1) })
 
-    turned-used : Receive.turned image p piece .used ≡ upTo piece
-    unfolding Receive.turned
-    turned-used = step-used piece (p .reader)
+    valid-step-used : Receive.validStep image p piece .used ≡ upTo piece
+    unfolding Receive.validStep
+    valid-step-used = step-used piece (p .reader)
 
-    turned-ended : Receive.turned image p piece .ended ≡ frameEnds (view p .received) piece
-    unfolding Receive.turned view
-    turned-ended = step-ends piece (p .reader) (s .valid .reader)
+    valid-step-ended : Receive.validStep image p piece .ended ≡ frameEnds (view p .received) piece
+    unfolding Receive.validStep view
+    valid-step-ended = step-ends piece (p .reader) (s .valid .reader)
 
-    turned-parts : Receive.turned image p piece .parts ≡ Receive.fed image p (ListN.take (upTo piece) piece)
-    unfolding Receive.turned
-    turned-parts = step-fed image piece p
+    valid-step-parts : Receive.validStep image p piece .parts ≡ Receive.fed image p (ListN.take (upTo piece) piece)
+    unfolding Receive.validStep
+    valid-step-parts = step-fed image piece p
 
     step-meets : Meets p (did p (Histories.step image piece)) (meant (view p) (Histories.step image piece))
     unfolding did meant Receive.stepping
     step-meets =
         let n = upTo piece in
-        rw (valid-parts p (s .valid), turned-stepped image p piece, turned-used, turned-ended, turned-parts)
+        rw (valid-parts p (s .valid), valid-step-stepped image p piece, valid-step-used, valid-step-ended, valid-step-parts)
         (record {
           answer = refl;
           out = refl;

@@ -81,7 +81,7 @@ module _ (p : Parts) (s : Sound p) (image : List ℕ) (each : Each Byte image) (
   none-sendable = (omega arith, tt)
 
   boot-failure-does : Does Command.boot-failure
-  unfolding Receive.leftBy Receive.silently Requests.effect Requests.bootFailure Requests.replyOf Requests.replyFrame
+  unfolding Receive.leftBy Receive.noReply Requests.effect Requests.bootFailure Requests.replyOf Requests.replyFrame
   boot-failure-does =
       let w = registers-valid (p .registers) (s .valid .registers) in
       let d = m .payload in
@@ -89,7 +89,7 @@ module _ (p : Parts) (s : Sound p) (image : List ℕ) (each : Each Byte image) (
       let size = length-drop 1 d in
       let fits = q .fits in
       registers-changed (boot-failure-view p w (numberAt 1 d 0) (drop 1 d) (omega arith) (omega arith)) refl
-      (record-like p w Layout.boot-failure-place (numberAt 1 d 0) (drop 1 d) (omega arith) (each-drop Byte 1 d (q .payload))) tt
+      (record-like p w Layout.boot-failure-offset (numberAt 1 d 0) (drop 1 d) (omega arith) (each-drop Byte 1 d (q .payload))) tt
 
   panic-does : Does Command.panic
   unfolding Receive.leftBy Receive.acknowledged Requests.effect Requests.panicked Requests.replyOf Requests.replyFrame
@@ -100,7 +100,7 @@ module _ (p : Parts) (s : Sound p) (image : List ℕ) (each : Each Byte image) (
       let size = length-drop 2 d in
       let fits = q .fits in
       registers-changed (panic-view p w (numberAt 2 d 0) (drop 2 d) (omega arith) (omega arith)) refl
-      (record-like p w Layout.panic-place (numberAt 2 d 0) (drop 2 d) (omega arith) (each-drop Byte 2 d (q .payload))) none-sendable
+      (record-like p w Layout.panic-offset (numberAt 2 d 0) (drop 2 d) (omega arith) (each-drop Byte 2 d (q .payload))) none-sendable
 
   start-does : Does Command.start-acknowledged
   unfolding Receive.leftBy Receive.acknowledged Requests.effect Requests.startAcknowledged Requests.replyOf Requests.replyFrame
@@ -114,7 +114,7 @@ module _ (p : Parts) (s : Sound p) (image : List ℕ) (each : Each Byte image) (
       let like = alert-asked p (s .valid) (m .sequence) below .like in
       rw (alert-reply p (s .valid) (m .sequence) below (s .bytes .registers)) (
         omega (arith, alert-data-short (p .registers) (m .sequence) (s .valid .registers)),
-        each-run (Layout.retained-alert-place + Layout.alert-action-place) (1 + Layout.alertTextLength r Layout.retained-alert-place) r (like .bytes (s .bytes .registers)),
+        each-run (Layout.retained-alert-offset + Layout.alert-action-offset) (1 + Layout.alertTextLength r Layout.retained-alert-offset) r (like .bytes (s .bytes .registers)),
       )
 
   alert-does : Does Command.alert
@@ -137,18 +137,18 @@ module _ (p : Parts) (s : Sound p) (image : List ℕ) (each : Each Byte image) (
       }
 
   pub command-does : (x : Command) → Does x
-  unfolding Receive.leftBy Receive.silently Requests.effect Requests.reboot Requests.powerOff Requests.replyOf Requests.replyFrame view
+  unfolding Receive.leftBy Receive.noReply Requests.effect Requests.reboot Requests.powerOff Requests.replyOf Requests.replyFrame view
   command-does Command.reboot =
-      registers-changed (reboot-view p (s .valid .registers)) refl (asked-like p (s .valid .registers) Layout.reboot-place (omega arith)) tt
+      registers-changed (reboot-view p (s .valid .registers)) refl (asked-like p (s .valid .registers) Layout.reboot-offset (omega arith)) tt
   command-does Command.power-off =
-      registers-changed (power-off-view p (s .valid .registers)) refl (asked-like p (s .valid .registers) Layout.power-off-place (omega arith)) tt
-  command-does Command.bsu = answers 0x03 (bsu-meant f fv fb) (run-sendable Layout.bsu-place 1 f (omega arith) fb)
-  command-does Command.identity = answers 0x04 (identity-meant f fv fb) (run-sendable Layout.identity-place 26 f (omega arith) fb)
-  command-does Command.mac = answers 0x05 (mac-meant f fv fb) (run-sendable Layout.mac-place 9 f (omega arith) fb)
+      registers-changed (power-off-view p (s .valid .registers)) refl (asked-like p (s .valid .registers) Layout.power-off-offset (omega arith)) tt
+  command-does Command.bsu = answers 0x03 (bsu-meant f fv fb) (run-sendable Layout.bsu-offset 1 f (omega arith) fb)
+  command-does Command.identity = answers 0x04 (identity-meant f fv fb) (run-sendable Layout.identity-offset 26 f (omega arith) fb)
+  command-does Command.mac = answers 0x05 (mac-meant f fv fb) (run-sendable Layout.mac-offset 9 f (omega arith) fb)
   command-does Command.boot-failure = boot-failure-does
   command-does Command.panic = panic-does
   command-does Command.status =
-      answers 0x06 (status-meant (p .registers) (s .valid .registers) (s .bytes .registers)) (run-sendable Layout.status-place 16 (p .registers) (omega arith) (s .bytes .registers))
+      answers 0x06 (status-meant (p .registers) (s .valid .registers) (s .bytes .registers)) (run-sendable Layout.status-offset 16 (p .registers) (omega arith) (s .bytes .registers))
   command-does Command.start-acknowledged = start-does
   command-does Command.alert = alert-does
   command-does Command.image-block = answers 0x09 (block-meant f image (m .payload)) (block-sendable f image (m .payload) each)

@@ -21,7 +21,7 @@ use Rattle.supervisor.specs.Calls.{Parts}
 use Rattle.requests.specs.Commands.{Command, isListed, commandOf}
 use Rattle.requests.specs.Requests
 use Rattle.requests.specs.Receive
-use Rattle.requests.proofs.KeptLaws.{carried-valid, inner-valid, valid-inner, sent-long, sent-owing, box-valid}
+use Rattle.requests.proofs.KeptLaws.{carried-valid, inner-valid, valid-inner, sent-long, sent-owed, box-valid}
 use Rattle.supervisor_claims.specs.View.{receivedOf, view}
 use Rattle.requests.specs.Requests.{verdictSince}
 use Rattle.supervisor_claims.specs.ByPart.{Part, withPart}
@@ -42,7 +42,7 @@ sent-leaves p s r short each =
     let v = s .valid .outbox in
     let bs = Requests.replyFrame r in
     let k = sound-with p Part.outbox (Receive.sentBox bs o) s (box-valid o bs v short) (sent-bytes o bs v short (s .bytes .outbox) each) (sent-long o bs v short) in
-    (rw (sent-pending o bs v short, sent-owing o bs v short), k .0, k .1)
+    (rw (sent-pending o bs v short, sent-owed o bs v short), k .0, k .1)
 
 -- the frame of a reply with data that a message may have
 frame-sendable : (sequence : ℕ) (r : Option (ℕ × List ℕ)) → SendableReply r

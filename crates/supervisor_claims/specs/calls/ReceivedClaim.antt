@@ -45,7 +45,7 @@ module _ (s : List ℕ) where
 
   length-kept : LineReader.state-length ≤ length s → LineReader.count s ≤ longest-form → length (LineReader.kept s) ≡ LineReader.count s
   unfolding LineReader.kept
-  length-kept h l = length-run LineReader.frame-place (LineReader.count s) s (omega arith)
+  length-kept h l = length-run LineReader.frame-offset (LineReader.count s) s (omega arith)
 
 -- one byte more, or one too many
 more-room : (bs : List ℕ) (b : ℕ) → length bs < longest-form → more (some bs) b ≡ some (bs ++ (b ∷ []))
@@ -66,16 +66,16 @@ run-put at n b s h =
 
 module _ (s : List ℕ) (b : ℕ) (r : Ready s) where
   received-room : LineReader.count s < longest-form
-      → receivedOf (LineReader.counted (LineReader.count s + 1) (overlay (LineReader.frame-place + LineReader.count s) (b ∷ []) s)) ≡ more (receivedOf s) b
+      → receivedOf (LineReader.counted (LineReader.count s + 1) (overlay (LineReader.frame-offset + LineReader.count s) (b ∷ []) s)) ≡ more (receivedOf s) b
   unfolding LineReader.kept
   received-room h =
       let n = LineReader.count s in
-      let o = overlay (LineReader.frame-place + n) (b ∷ []) s in
-      let l : length o ≡ length s = length-overlay (LineReader.frame-place + n) (b ∷ []) s (omega arith) in
+      let o = overlay (LineReader.frame-offset + n) (b ∷ []) s in
+      let l : length o ≡ length s = length-overlay (LineReader.frame-offset + n) (b ∷ []) s (omega arith) in
       let c = count-counted (n + 1) o (omega arith) (omega arith) in
       let k = length-kept s (r .0) (omega arith) in
       rw (received-some (LineReader.counted (n + 1) o) (omega arith), received-some s (omega arith), more-room (LineReader.kept s) b (omega arith))
-      (rw (c, run-counted (n + 1) o (omega arith) (n + 1), run-put LineReader.frame-place n b s (omega arith)))
+      (rw (c, run-counted (n + 1) o (omega arith) (n + 1), run-put LineReader.frame-offset n b s (omega arith)))
 
   received-over : longest-form ≤ LineReader.count s → receivedOf (LineReader.counted LineReader.overlong s) ≡ more (receivedOf s) b
   unfolding more
@@ -115,30 +115,30 @@ meant-some (b ∷ bs) h = refl
 -- by the answer of the line reader and the state that it leaves, in which the data of a message stand
 module _ (s : List ℕ) (r : Ready s) where
   verdict-fields : (xs : List ℕ) → wrongLength xs ≡ false
-      → verdictOf (overlay LineReader.frame-place xs s) (LineReader.verdictSaid (judgeFields xs)) ≡ some (testedWhere (judgeFields xs))
-  unfolding judgeFields fields verdictOf LineReader.verdictSaid
+      → verdictOf (overlay LineReader.frame-offset xs s) (LineReader.verdictReport (judgeFields xs)) ≡ some (testedWhere (judgeFields xs))
+  unfolding judgeFields fields verdictOf LineReader.verdictReport
   verdict-fields xs e =
       cond-by Says (eqb (checksumOf xs) (checksum (bodyOf xs))) _ _
       (λ f. cond-by Says (eqb (magicOf xs) magic) _ _ (λ g. rw (data-unpacked s (r .0) xs (r .1) e)) (λ g. refl))
       (λ f. refl)
     where
       Says : Verdict → Type 0
-      Says v = verdictOf (overlay LineReader.frame-place xs s) (LineReader.verdictSaid v) ≡ some (testedWhere v)
+      Says v = verdictOf (overlay LineReader.frame-offset xs s) (LineReader.verdictReport v) ≡ some (testedWhere v)
 
   verdict-length : (xs : List ℕ) (k : Bool) → wrongLength xs ≡ k → let v = cond k (failure 3 none) (judgeFields xs) in
-      verdictOf (cond k s (overlay LineReader.frame-place xs s)) (LineReader.verdictSaid v) ≡ some (testedWhere v)
-  unfolding verdictOf LineReader.verdictSaid
+      verdictOf (cond k s (overlay LineReader.frame-offset xs s)) (LineReader.verdictReport v) ≡ some (testedWhere v)
+  unfolding verdictOf LineReader.verdictReport
   verdict-length xs true e = refl
   verdict-length xs false e = verdict-fields xs e
 
   verdict-bytes : (form : Option (List ℕ))
-      → verdictOf (LineReader.unpacked form s) (LineReader.verdictSaid (judgeForm form)) ≡ some (testedWhere (judgeForm form))
-  unfolding judgeForm judgeLength verdictOf LineReader.unpacked LineReader.verdictSaid
+      → verdictOf (LineReader.unpacked form s) (LineReader.verdictReport (judgeForm form)) ≡ some (testedWhere (judgeForm form))
+  unfolding judgeForm judgeLength verdictOf LineReader.unpacked LineReader.verdictReport
   verdict-bytes none = refl
   verdict-bytes (some xs) = verdict-length xs (wrongLength xs) refl
 
   verdict-form : (form : List ℕ) → length form ≤ longest-form
-      → verdictOf (LineReader.unpacked (uncobs form) s) (LineReader.verdictSaid (judge form)) ≡ some (verdict form)
+      → verdictOf (LineReader.unpacked (uncobs form) s) (LineReader.verdictReport (judge form)) ≡ some (verdict form)
   unfolding judge verdict
   verdict-form form l = rw (le-ltb longest-form (length form) l) (verdict-bytes (uncobs form))
 
@@ -246,16 +246,16 @@ unfolding LineReader.pushed
 pushed-each s b l h =
     let n = LineReader.count s in
     cond-by (Each Byte) (ltb n longest-form) _ _
-    (λ e. counted-each (n + 1) _ (overlay-each Byte (LineReader.frame-place + n) (b ∷ []) s (l, tt) h)) (λ e. counted-each LineReader.overlong s h)
+    (λ e. counted-each (n + 1) _ (overlay-each Byte (LineReader.frame-offset + n) (b ∷ []) s (l, tt) h)) (λ e. counted-each LineReader.overlong s h)
 
 unpacked-each : (o : Option (List ℕ)) (s : List ℕ) → ((xs : List ℕ) → o ≡ some xs → Each Byte xs) → Each Byte s → Each Byte (LineReader.unpacked o s)
 unfolding LineReader.unpacked
 unpacked-each none s f h = h
-unpacked-each (some xs) s f h = cond-by (Each Byte) (wrongLength xs) _ _ (λ e. h) (λ e. overlay-each Byte LineReader.frame-place xs s (f xs refl) h)
+unpacked-each (some xs) s f h = cond-by (Each Byte) (wrongLength xs) _ _ (λ e. h) (λ e. overlay-each Byte LineReader.frame-offset xs s (f xs refl) h)
 
 kept-each : (s : List ℕ) → Each Byte s → Each Byte (LineReader.kept s)
 unfolding LineReader.kept
-kept-each s h = each-take Byte (LineReader.count s) _ (each-drop Byte LineReader.frame-place s h)
+kept-each s h = each-take Byte (LineReader.count s) _ (each-drop Byte LineReader.frame-offset s h)
 
 finished-each : (s : List ℕ) → Each Byte s → Each Byte (LineReader.finish s .state)
 unfolding LineReader.finish LineReader.settle

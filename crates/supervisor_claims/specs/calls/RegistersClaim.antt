@@ -69,24 +69,24 @@ module _ (p : Calls.Parts) (v : Valid p) where
 
   -- ---- set options
 
-  set : (options : ℕ) → options ≤ 511 → let s = overlay Layout.options-place (bytes 8 options) (p .registers) in
+  set : (options : ℕ) → options ≤ 511 → let s = overlay Layout.options-offset (bytes 8 options) (p .registers) in
       Does p (Calls.registered none s) (Local.left (withOptions (view p) options))
   unfolding view
   set options small =
       let r = p .registers in
       let w = registers-valid r (v .registers) in
-      let s = overlay Layout.options-place (bytes 8 options) r in
-      let room : Layout.options-place + 8 ≤ length r = omega arith in
-      let before : Same 0 Layout.options-place r s = stored-before 8 Layout.options-place options r room (omega arith) in
-      let after : Same Layout.reboot-place Layout.registers-length r s = stored-after 8 Layout.options-place options r room (omega arith) in
+      let s = overlay Layout.options-offset (bytes 8 options) r in
+      let room : Layout.options-offset + 8 ≤ length r = omega arith in
+      let before : Same 0 Layout.options-offset r s = stored-before 8 Layout.options-offset options r room (omega arith) in
+      let after : Same Layout.reboot-offset Layout.registers-length r s = stored-after 8 Layout.options-offset options r room (omega arith) in
       let kept : Kept r s = record {
-        long = stored-long 8 Layout.options-place options r room;
+        long = stored-long 8 Layout.options-offset options r room;
         flags-and-records = same-within after (omega arith);
         retained = same-within after (omega arith);
       } in
-      let status = number-same before 8 Layout.status-place (omega arith) in
-      let new = stored-number 8 Layout.options-place options r room (omega arith) in
-      let count = number-same after 1 Layout.alert-count-place (omega arith) in
+      let status = number-same before 8 Layout.status-offset (omega arith) in
+      let new = stored-number 8 Layout.options-offset options r room (omega arith) in
+      let count = number-same after 1 Layout.alert-count-offset (omega arith) in
       let n = Layout.alertCount r in (
         refl,
         kept-view p kept w ∙ rw (status, new, count, alerts-same after n (omega arith) (w .rest .alerts)),
@@ -111,14 +111,14 @@ module _ (p : Calls.Parts) (v : Valid p) where
   flags-meant = rw (v .registers)
 
   -- a record of either kind
-  record-meant : (k : Kind) → Calls.recordPlace k + Layout.record-length ≤ Layout.registers-length
-      → RecordedAs p k (recordedOf (p .registers) (Calls.recordPlace k))
+  record-meant : (k : Kind) → Calls.recordOffset k + Layout.record-length ≤ Layout.registers-length
+      → RecordedAs p k (recordedOf (p .registers) (Calls.recordOffset k))
   unfolding Calls.recordOf Calls.recordAt Calls.recordBytes recordedOf
   record-meant k l =
       let r = p .registers in
-      let at = Calls.recordPlace k in
+      let at = Calls.recordOffset k in
       let w = registers-valid r (v .registers) in
-      let n = length-run (at + Layout.record-kept-place) (Calls.keptOf r at) r (omega arith) in
+      let n = length-run (at + Layout.record-kept-offset) (Calls.keptOf r at) r (omega arith) in
       (Calls.recordAt r at, rw (v .registers), rw (v .registers) (reads (eqb (Layout.recordHeld r at) 1) _ _ _ _ (sym n)))
     where
       reads : (t : Bool) (code whole kept : ℕ) (bs : List ℕ) → kept ≡ length bs
@@ -128,9 +128,9 @@ module _ (p : Calls.Parts) (v : Valid p) where
       reads false code whole kept bs n = refl
 
   pub boot-failure-meant : RecordedAs p kind.BootFailure (view p .boot-failure)
-  unfolding Calls.recordPlace view
+  unfolding Calls.recordOffset view
   boot-failure-meant = record-meant kind.BootFailure (omega arith)
 
   pub panic-meant : RecordedAs p kind.Panic (view p .panic)
-  unfolding Calls.recordPlace view
+  unfolding Calls.recordOffset view
   panic-meant = record-meant kind.Panic (omega arith)

@@ -55,24 +55,24 @@ reply-sendable reply command payload h =
 -- ---- the outbox
 
 module _ (o bs : List ℕ) (valid : validOutbox o ≡ true) (short : length bs ≤ longest-form + 1) where
-  pub sent-pending : pendingOf (sentBox bs o) ≡ owed (eqb (Layout.outboxOwing o) 1) ++ bs
+  pub sent-pending : pendingOf (sentBox bs o) ≡ owed (eqb (Layout.outboxTerminatorOwed o) 1) ++ bs
   unfolding pendingOf
   sent-pending =
-      let owes = eqb (Layout.outboxOwing o) 1 in
+      let owes = eqb (Layout.outboxTerminatorOwed o) 1 in
       let low = first-low o bs valid short in
-      rw (sent-from o bs valid short, sent-to o bs valid short, sent-rest o bs valid short .runs (Layout.outbox-bytes-place + begun owes) (suc (length bs) - begun owes) (omega arith))
+      rw (sent-from o bs valid short, sent-to o bs valid short, sent-rest o bs valid short .runs (Layout.outbox-bytes-offset + begun owes) (suc (length bs) - begun owes) (omega arith))
       (begins owes)
     where
-      room : Layout.outbox-bytes-place ≤ length o
+      room : Layout.outbox-bytes-offset ≤ length o
       room = let v = outbox-valid o valid in omega arith
 
-      begins : (t : Bool) → run (Layout.outbox-bytes-place + begun t) (suc (length bs) - begun t) (filled bs o) ≡ owed t ++ bs
-      begins true = rw sub-zero (overlay-inside Layout.outbox-bytes-place (0 ∷ bs) o room)
-      begins false = rw sub-one (overlay-part Layout.outbox-bytes-place 1 (length bs) (0 ∷ bs) o room (omega arith) ∙ take-length bs)
+      begins : (t : Bool) → run (Layout.outbox-bytes-offset + begun t) (suc (length bs) - begun t) (filled bs o) ≡ owed t ++ bs
+      begins true = rw sub-zero (overlay-inside Layout.outbox-bytes-offset (0 ∷ bs) o room)
+      begins false = rw sub-one (overlay-part Layout.outbox-bytes-offset 1 (length bs) (0 ∷ bs) o room (omega arith) ∙ take-length bs)
 
   pub sent-bytes : Each Byte o → Each Byte bs → Each Byte (sentBox bs o)
   unfolding sentBox
   sent-bytes h k =
-      overlay-each Byte Layout.outbox-from-place (places _ _) (filled bs o)
+      overlay-each Byte Layout.outbox-from-offset (places _ _) (filled bs o)
       (each-append Byte (bytes 2 _) (bytes 2 _) (bytes-each 2 _) (bytes-each 2 _))
-      (overlay-each Byte Layout.outbox-bytes-place (0 ∷ bs) o (omega arith, k) h)
+      (overlay-each Byte Layout.outbox-bytes-offset (0 ∷ bs) o (omega arith, k) h)

@@ -21,8 +21,8 @@ use Rattle.supervisor.specs.Local
 use Rattle.supervisor.specs.Local.{pong}
 use Rattle.supervisor.specs.Valid.{goodStart}
 use Rattle.supervisor.specs.Calls
-use Rattle.supervisor.proofs.PlaceLaws.{place-within}
-use Rattle.supervisor.proofs.StartLaws.{Roomy, roomy-is}
+use Rattle.supervisor.proofs.OffsetLaws.{place-within}
+use Rattle.supervisor.proofs.StartLaws.{LongEnough, long-enough-is}
 use Rattle.supervisor.proofs.ValidLaws.{OutboxValid, FactoryValid, SettingValid, SettingsValid, RecordValid, RegistersValid}
 use Rattle.supervisor.proofs.ValidLaws.{all-none, start-good, valid-outbox, valid-factory, valid-settings, valid-registers}
 use Rattle.supervisor_claims.specs.View.{listed, factoryOf, settingOf, settingsOf, recordedOf, retainedOf, receivedOf, pendingOf, view}
@@ -45,7 +45,7 @@ module _ (s : List ℕ) (z : Clear 0 Layout.settings-length s) where
   unfolding settingsOf
   settings-none =
       listed-same _ (λ i. none) Limits.setting-count (λ i l.
-      let at = Layout.setting-place (Limits.first-setting + i) in
+      let at = Layout.setting-offset (Limits.first-setting + i) in
       let h = place-within (Limits.first-setting + i) (record { least = omega arith; most = omega arith }) in
       setting-none s at (z 1 at (omega arith) (omega (arith, h))))
       ∙ listed-replicate none Limits.setting-count
@@ -53,13 +53,13 @@ module _ (s : List ℕ) (z : Clear 0 Layout.settings-length s) where
   settings-clear : Layout.settings-length ≤ length s → SettingsValid s
   settings-clear h = record {
     long = h;
-    each = λ key i. setting-clear (Layout.setting-place key) (Limits.longest-setting key) (omega (arith, place-within key i));
+    each = λ key i. setting-clear (Layout.setting-offset key) (Limits.longest-setting key) (omega (arith, place-within key i));
   }
     where
-      setting-clear : (at most : ℕ) → at + Layout.setting-value-place ≤ Layout.settings-length → SettingValid s at most
+      setting-clear : (at most : ℕ) → at + Layout.setting-value-offset ≤ Layout.settings-length → SettingValid s at most
       setting-clear at most h = record {
         held = omega (arith, z 1 at (omega arith) (omega arith));
-        size = omega (arith, z 2 (at + Layout.setting-length-place) (omega arith) (omega arith));
+        size = omega (arith, z 2 (at + Layout.setting-length-offset) (omega arith) (omega arith));
       }
 
 module _ (r : List ℕ) (status : Layout.statusOf r ≡ 1) (z : Clear 8 Layout.registers-length r) where
@@ -67,39 +67,39 @@ module _ (r : List ℕ) (status : Layout.statusOf r ≡ 1) (z : Clear 8 Layout.r
   registers-clear h = record {
     long = h;
     status = omega arith;
-    options = omega (arith, z 8 Layout.options-place (omega arith) (omega arith));
-    reboot = omega (arith, z 1 Layout.reboot-place (omega arith) (omega arith));
-    power-off = omega (arith, z 1 Layout.power-off-place (omega arith) (omega arith));
+    options = omega (arith, z 8 Layout.options-offset (omega arith) (omega arith));
+    reboot = omega (arith, z 1 Layout.reboot-offset (omega arith) (omega arith));
+    power-off = omega (arith, z 1 Layout.power-off-offset (omega arith) (omega arith));
     rest = record {
-      reason = omega (arith, z 2 (Layout.boot-failure-place + Layout.record-code-place) (omega arith) (omega arith));
-      boot-failure = record-clear Layout.boot-failure-place 4103 (omega arith) (omega arith);
-      panic = record-clear Layout.panic-place 4102 (omega arith) (omega arith);
+      reason = omega (arith, z 2 (Layout.boot-failure-offset + Layout.record-code-offset) (omega arith) (omega arith));
+      boot-failure = record-clear Layout.boot-failure-offset 4103 (omega arith) (omega arith);
+      panic = record-clear Layout.panic-offset 4102 (omega arith) (omega arith);
       count = omega (arith, count);
       alerts = rw count (all-none _);
-      retained = omega (arith, z 1 Layout.retained-place (omega arith) (omega arith));
-      text = omega (arith, z 2 Layout.retained-alert-place (omega arith) (omega arith));
+      retained = omega (arith, z 1 Layout.retained-offset (omega arith) (omega arith));
+      text = omega (arith, z 2 Layout.retained-alert-offset (omega arith) (omega arith));
     };
   }
     where
-      record-clear : (at most : ℕ) → 8 ≤ at → at + Layout.record-kept-place ≤ Layout.registers-length → RecordValid r at most
+      record-clear : (at most : ℕ) → 8 ≤ at → at + Layout.record-kept-offset ≤ Layout.registers-length → RecordValid r at most
       record-clear at most k l = record {
         held = omega (arith, z 1 at (omega arith) (omega arith));
-        size = omega (arith, z 2 (at + Layout.record-whole-place) (omega arith) (omega arith));
+        size = omega (arith, z 2 (at + Layout.record-whole-offset) (omega arith) (omega arith));
       }
 
       count : Layout.alertCount r ≡ 0
-      count = z 1 Layout.alert-count-place (omega arith) (omega arith)
+      count = z 1 Layout.alert-count-offset (omega arith) (omega arith)
 
 module _ (o : List ℕ) (z : Clear 0 Layout.outbox-length o) where
   outbox-clear : Layout.outbox-length ≤ length o → OutboxValid o
   outbox-clear h =
-      let from = z 2 Layout.outbox-from-place (omega arith) (omega arith) in
-      let to = z 2 Layout.outbox-to-place (omega arith) (omega arith) in
-      record { long = h; order = omega arith; most = omega arith; owing = omega (arith, z 1 Layout.outbox-owing-place (omega arith) (omega arith)) }
+      let from = z 2 Layout.outbox-from-offset (omega arith) (omega arith) in
+      let to = z 2 Layout.outbox-to-offset (omega arith) (omega arith) in
+      record { long = h; order = omega arith; most = omega arith; terminator-owed = omega (arith, z 1 Layout.outbox-terminator-owed-offset (omega arith) (omega arith)) }
 
   pending-none : pendingOf o ≡ []
   unfolding pendingOf
-  pending-none = rw (z 2 Layout.outbox-from-place (omega arith) (omega arith), z 2 Layout.outbox-to-place (omega arith) (omega arith))
+  pending-none = rw (z 2 Layout.outbox-from-offset (omega arith) (omega arith), z 2 Layout.outbox-to-offset (omega arith) (omega arith))
 
 module _ (s : List ℕ) (h : Reader.state-length ≤ length s) where
   received-none : receivedOf (Reader.counted 0 s) ≡ some []
@@ -127,18 +127,18 @@ begun-view f q b =
     let z = b .registers in
     rw (
       b .status,
-      z 8 Layout.options-place (omega arith) (omega arith),
-      z 1 Layout.reboot-place (omega arith) (omega arith),
-      z 1 Layout.power-off-place (omega arith) (omega arith),
-      recorded-none r Layout.boot-failure-place (z 1 Layout.boot-failure-place (omega arith) (omega arith)),
-      recorded-none r Layout.panic-place (z 1 Layout.panic-place (omega arith) (omega arith)),
+      z 8 Layout.options-offset (omega arith) (omega arith),
+      z 1 Layout.reboot-offset (omega arith) (omega arith),
+      z 1 Layout.power-off-offset (omega arith) (omega arith),
+      recorded-none r Layout.boot-failure-offset (z 1 Layout.boot-failure-offset (omega arith) (omega arith)),
+      recorded-none r Layout.panic-offset (z 1 Layout.panic-offset (omega arith) (omega arith)),
       b .factory,
       settings-none (q .settings) (b .settings),
-      z 1 Layout.alert-count-place (omega arith) (omega arith),
-      z 1 Layout.retained-place (omega arith) (omega arith),
+      z 1 Layout.alert-count-offset (omega arith) (omega arith),
+      z 1 Layout.retained-offset (omega arith) (omega arith),
       b .reader,
       pending-none (q .outbox) (b .outbox),
-      b .outbox 1 Layout.outbox-owing-place (omega arith) (omega arith),
+      b .outbox 1 Layout.outbox-terminator-owed-offset (omega arith) (omega arith),
     )
 
 -- the first eight bytes are status
@@ -168,13 +168,13 @@ module _ (d : List ℕ) (size : length d ≡ Layout.start-length) (good : goodSt
       record {
         long = omega arith;
         start = start-good (stored d f) (good-bad (stored d f) (omega arith) ∙ rw (stored-factory, ← good-bad d (omega arith)) good);
-        version = ap number (overlay-middle Layout.inventory-version-place 4 d (bytes 4 0) pong f size four) ∙ number-bytes 4 0 (omega arith);
-        text = rw append-nil at (overlay-middle Layout.pong-place 4 (d ++ bytes 4 0) pong [] f (omega arith) refl);
+        version = ap number (overlay-middle Layout.inventory-version-offset 4 d (bytes 4 0) pong f size four) ∙ number-bytes 4 0 (omega arith);
+        text = rw append-nil at (overlay-middle Layout.pong-offset 4 (d ++ bytes 4 0) pong [] f (omega arith) refl);
       }
 
 -- ---- the parts that start leaves
 
-module _ (d : List ℕ) (size : length d ≡ Layout.start-length) (good : goodStart d ≡ true) (p : Calls.Parts) (r : Roomy p) where
+module _ (d : List ℕ) (size : length d ≡ Layout.start-length) (good : goodStart d ≡ true) (p : Calls.Parts) (r : LongEnough p) where
   parts-begun : Begun (factoryOf d) (Calls.freshParts d p)
   unfolding Calls.freshParts stored
   parts-begun = record {
@@ -203,11 +203,11 @@ module _ (d : List ℕ) (size : length d ≡ Layout.start-length) (good : goodSt
 
 -- ---- the claims
 
-module _ (d : List ℕ) (size : length d ≡ Layout.start-length) (p : Calls.Parts) (roomy : Calls.roomy p ≡ true) where
+module _ (d : List ℕ) (size : length d ≡ Layout.start-length) (p : Calls.Parts) (longEnough : Calls.longEnough p ≡ true) where
   -- start data that document 01 refuses are refused as 11, and nothing changes
   pub start-refused : Local.badStart (factoryOf d) ≡ true → Calls.starting d p ≡ record { refusal = some 11; parts = p }
   unfolding Calls.starting
-  start-refused e = rw (roomy, good-bad d (omega arith), e)
+  start-refused e = rw (longEnough, good-bad d (omega arith), e)
 
   -- all other are accepted, and leave valid parts that hold the fresh state
   pub start-fresh : Local.badStart (factoryOf d) ≡ false
@@ -215,8 +215,8 @@ module _ (d : List ℕ) (size : length d ≡ Layout.start-length) (p : Calls.Par
   unfolding Calls.starting
   start-fresh e =
       let good : goodStart d ≡ true = good-bad d (omega arith) ∙ ap not e in
-      let r = roomy-is p roomy in
-      rw (roomy, good) (refl, begun-view _ _ (parts-begun d size good p r), parts-valid d size good p r)
+      let r = long-enough-is p longEnough in
+      rw (longEnough, good) (refl, begun-view _ _ (parts-begun d size good p r), parts-valid d size good p r)
 
   -- both at once: the refusal with nothing changed, or valid parts that hold the state
   abbrev pub Starts : Calls.Start → Local.Done → Type 0

@@ -49,15 +49,15 @@ step-fed image (suc b ∷ bs) p =
 -- ---- the frame's end
 
 -- an answer to a 00
-abbrev Ends : LineReader.Said → Type 0
+abbrev Ends : LineReader.Report → Type 0
 Ends (LineReader.refused n) = ⊥
 Ends LineReader.more = ⊥
 Ends LineReader.empty = Unit {0}
 Ends (LineReader.message version sequence command n) = Unit {0}
 Ends (LineReader.failed reason sequence) = Unit {0}
 
-verdict-ends : (v : Verdict) → Ends (LineReader.verdictSaid v)
-unfolding LineReader.verdictSaid
+verdict-ends : (v : Verdict) → Ends (LineReader.verdictReport v)
+unfolding LineReader.verdictReport
 verdict-ends (failure reason sequence) = tt
 verdict-ends (good m) = tt
 
@@ -70,7 +70,7 @@ finish-ends s =
     P : LineReader.Settled → Type 0
     P x = Ends (x .answer)
 
-ended-verdict : (reader : List ℕ) (a : LineReader.Said) → Ends a → Receive.ended reader a ≡ endedMeant (Receive.verdictOf reader a)
+ended-verdict : (reader : List ℕ) (a : LineReader.Report) → Ends a → Receive.ended reader a ≡ endedMeant (Receive.verdictOf reader a)
 unfolding Receive.ended Receive.verdictOf
 ended-verdict reader (LineReader.refused n) h = absurd h
 ended-verdict reader LineReader.more h = absurd h
@@ -91,14 +91,14 @@ step-ends (suc b ∷ bs) s v =
 
 -- ---- no refusal
 
-abbrev Accepts : LineReader.Said → Type 0
+abbrev Accepts : LineReader.Report → Type 0
 Accepts (LineReader.refused n) = ⊥
 Accepts LineReader.more = Unit {0}
 Accepts LineReader.empty = Unit {0}
 Accepts (LineReader.message version sequence command n) = Unit {0}
 Accepts (LineReader.failed reason sequence) = Unit {0}
 
-ends-accepts : (a : LineReader.Said) → Ends a → Accepts a
+ends-accepts : (a : LineReader.Report) → Ends a → Accepts a
 ends-accepts (LineReader.refused n) h = h
 ends-accepts LineReader.more h = tt
 ends-accepts LineReader.empty h = tt
@@ -115,20 +115,20 @@ verdict-stepped : (used : ℕ) (v : Verdict) → stepAnswer used (Receive.endedB
 verdict-stepped used (failure reason sequence) = refl
 verdict-stepped used (good m) = refl
 
-said-stepped : (used : ℕ) (reader : List ℕ) (a : LineReader.Said) → Accepts a
+report-stepped : (used : ℕ) (reader : List ℕ) (a : LineReader.Report) → Accepts a
     → stepAnswer used (Receive.ended reader a) ≡ stepped used (Receive.ended reader a)
 unfolding Receive.ended
-said-stepped used reader (LineReader.refused n) h = absurd h
-said-stepped used reader LineReader.more h = refl
-said-stepped used reader LineReader.empty h = refl
-said-stepped used reader (LineReader.message version sequence command n) h =
+report-stepped used reader (LineReader.refused n) h = absurd h
+report-stepped used reader LineReader.more h = refl
+report-stepped used reader LineReader.empty h = refl
+report-stepped used reader (LineReader.message version sequence command n) h =
     verdict-stepped used (Requests.tested (Receive.messageBy version sequence command (LineReader.dataOf reader n)))
-said-stepped used reader (LineReader.failed reason sequence) h = refl
+report-stepped used reader (LineReader.failed reason sequence) h = refl
 
 -- on parts of any kind
-pub turned-stepped : (image : List ℕ) (p : Parts) (piece : List ℕ) → let t = Receive.turned image p piece in
+pub valid-step-stepped : (image : List ℕ) (p : Parts) (piece : List ℕ) → let t = Receive.validStep image p piece in
     stepAnswer (t .used) (t .ended) ≡ stepped (t .used) (t .ended)
-unfolding Receive.turned
-turned-stepped image p piece =
+unfolding Receive.validStep
+valid-step-stepped image p piece =
     let o = LineReader.readPiece (p .reader) piece in
-    said-stepped (o .used) (o .state) (o .answer) (accepts piece (p .reader))
+    report-stepped (o .used) (o .state) (o .answer) (accepts piece (p .reader))

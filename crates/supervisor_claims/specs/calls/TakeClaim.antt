@@ -24,43 +24,43 @@ use Rattle.supervisor_claims.specs.Meant.{Valid, valid-with, withOutbox}
 
 -- where the pending bytes begin, and whether the last byte taken was not zero, written anew
 moved-on : List ℕ → ℕ → List ℕ
-moved-on o n = overlay Layout.outbox-from-place (bytes 2 n) o
+moved-on o n = overlay Layout.outbox-from-offset (bytes 2 n) o
 
 noted : List ℕ → ℕ → ℕ → List ℕ
-noted o n x = overlay Layout.outbox-owing-place (x ∷ []) (moved-on o n)
+noted o n x = overlay Layout.outbox-terminator-owed-offset (x ∷ []) (moved-on o n)
 
-module _ (o : List ℕ) (n x : ℕ) (h : Layout.outbox-bytes-place ≤ length o) where
+module _ (o : List ℕ) (n x : ℕ) (h : Layout.outbox-bytes-offset ≤ length o) where
   length-moved-on : length (moved-on o n) ≡ length o
   unfolding moved-on
-  length-moved-on = length-overlay Layout.outbox-from-place (bytes 2 n) o (omega (arith, length-bytes 2 n))
+  length-moved-on = length-overlay Layout.outbox-from-offset (bytes 2 n) o (omega (arith, length-bytes 2 n))
 
   length-noted : length (noted o n x) ≡ length o
   unfolding noted
-  length-noted = length-overlay Layout.outbox-owing-place (x ∷ []) (moved-on o n) (omega (arith, length-moved-on)) ∙ length-moved-on
+  length-noted = length-overlay Layout.outbox-terminator-owed-offset (x ∷ []) (moved-on o n) (omega (arith, length-moved-on)) ∙ length-moved-on
 
   noted-from : n < 65536 → Layout.outboxFrom (noted o n x) ≡ n
   unfolding noted moved-on
   noted-from l =
-      let inside = overlay-inside Layout.outbox-from-place (bytes 2 n) o (omega arith) in
-      ap number (overlay-before Layout.outbox-owing-place Layout.outbox-from-place 2 (x ∷ []) (moved-on o n) (omega (arith, length-moved-on)) (omega arith))
+      let inside = overlay-inside Layout.outbox-from-offset (bytes 2 n) o (omega arith) in
+      ap number (overlay-before Layout.outbox-terminator-owed-offset Layout.outbox-from-offset 2 (x ∷ []) (moved-on o n) (omega (arith, length-moved-on)) (omega arith))
       ∙ ap number (rw (length-bytes 2 n) at inside)
       ∙ number-bytes 2 n l
 
   noted-to : Layout.outboxTo (noted o n x) ≡ Layout.outboxTo o
   unfolding noted moved-on
   noted-to =
-      ap number (overlay-before Layout.outbox-owing-place Layout.outbox-to-place 2 (x ∷ []) (moved-on o n) (omega (arith, length-moved-on)) (omega arith))
-      ∙ ap number (overlay-after Layout.outbox-from-place Layout.outbox-to-place 2 (bytes 2 n) o (omega arith) (omega (arith, length-bytes 2 n)))
+      ap number (overlay-before Layout.outbox-terminator-owed-offset Layout.outbox-to-offset 2 (x ∷ []) (moved-on o n) (omega (arith, length-moved-on)) (omega arith))
+      ∙ ap number (overlay-after Layout.outbox-from-offset Layout.outbox-to-offset 2 (bytes 2 n) o (omega arith) (omega (arith, length-bytes 2 n)))
 
-  noted-owing : Layout.outboxOwing (noted o n x) ≡ x
+  noted-owed : Layout.outboxTerminatorOwed (noted o n x) ≡ x
   unfolding noted number
-  noted-owing = ap number (overlay-inside Layout.outbox-owing-place (x ∷ []) (moved-on o n) (omega (arith, length-moved-on))) ∙ add-zero x
+  noted-owed = ap number (overlay-inside Layout.outbox-terminator-owed-offset (x ∷ []) (moved-on o n) (omega (arith, length-moved-on))) ∙ add-zero x
 
-  noted-rest : (at k : ℕ) → Layout.outbox-bytes-place ≤ at → run at k (noted o n x) ≡ run at k o
+  noted-rest : (at k : ℕ) → Layout.outbox-bytes-offset ≤ at → run at k (noted o n x) ≡ run at k o
   unfolding noted moved-on
   noted-rest at k l =
-      overlay-after Layout.outbox-owing-place at k (x ∷ []) (moved-on o n) (omega (arith, length-moved-on)) (omega arith)
-      ∙ overlay-after Layout.outbox-from-place at k (bytes 2 n) o (omega arith) (omega (arith, length-bytes 2 n))
+      overlay-after Layout.outbox-terminator-owed-offset at k (x ∷ []) (moved-on o n) (omega (arith, length-moved-on)) (omega arith)
+      ∙ overlay-after Layout.outbox-from-offset at k (bytes 2 n) o (omega arith) (omega (arith, length-bytes 2 n))
 
 -- the flag's number, and what it says
 flag-le : (t : Bool) → cond t 0 1 ≤ 1
@@ -75,21 +75,21 @@ flag-says false = refl
 record Left (o bs after : List ℕ) : Type 0 where
   valid : OutboxValid after
   pending : pendingOf after ≡ drop (length bs) (pendingOf o)
-  owing : eqb (Layout.outboxOwing after) 1 ≡ Local.lastNonZero (eqb (Layout.outboxOwing o) 1) bs
+  terminator-owed : eqb (Layout.outboxTerminatorOwed after) 1 ≡ Local.lastNonZero (eqb (Layout.outboxTerminatorOwed o) 1) bs
 
 leaves-some : (o : List ℕ) (b : ℕ) (bs : List ℕ) → OutboxValid o → length (b ∷ bs) ≤ Layout.outboxTo o - Layout.outboxFrom o
-    → Left o (b ∷ bs) (noted o (Layout.outboxFrom o + length (b ∷ bs)) (Calls.lastNonZero (b ∷ bs)))
+    → Left o (b ∷ bs) (noted o (Layout.outboxFrom o + length (b ∷ bs)) (Calls.lastNonZeroFlag (b ∷ bs)))
 unfolding pendingOf Local.lastNonZero
 leaves-some o b bs v h =
     let k = suc (length bs) in
     let n = Layout.outboxFrom o + k in
-    let place = Layout.outbox-bytes-place in
+    let place = Layout.outbox-bytes-offset in
     let last : k - 1 ≡ length bs = omega arith in
-    let x = Calls.lastNonZero (b ∷ bs) in
+    let x = Calls.lastNonZeroFlag (b ∷ bs) in
     let l : place ≤ length o = omega arith in
     let from = noted-from o n x l (omega arith) in
     let to = noted-to o n x l in
-    let owing = noted-owing o n x l in
+    let terminator-owed = noted-owed o n x l in
     let begin : place + n ≡ place + Layout.outboxFrom o + k = omega arith in
     let size : Layout.outboxTo o - n ≡ Layout.outboxTo o - Layout.outboxFrom o - k = omega arith in
     let rest = noted-rest o n x l (place + n) (Layout.outboxTo o - n) (omega arith) in
@@ -98,15 +98,15 @@ leaves-some o b bs v h =
         long = rw (length-noted o n x l) (v .long);
         order = rw (from, to) (omega arith);
         most = rw to (v .most);
-        owing = rw owing (flag-le (eqb (getD (b ∷ bs) (k - 1) 0) 0));
+        terminator-owed = rw terminator-owed (flag-le (eqb (getD (b ∷ bs) (k - 1) 0) 0));
       };
       pending = rw (from, to, rest, begin, size) (drop-run k (place + Layout.outboxFrom o) _ o h);
-      owing = rw (owing, last) (flag-says (eqb (getD (b ∷ bs) (length bs) 0) 0));
+      terminator-owed = rw (terminator-owed, last) (flag-says (eqb (getD (b ∷ bs) (length bs) 0) 0));
     }
 
 leaves : (o bs : List ℕ) → OutboxValid o → length bs ≤ Layout.outboxTo o - Layout.outboxFrom o → Left o bs (Calls.afterTaken bs o)
 unfolding Calls.afterTaken Local.lastNonZero noted moved-on
-leaves o [] v h = record { valid = v; pending = refl; owing = refl }
+leaves o [] v h = record { valid = v; pending = refl; terminator-owed = refl }
 leaves o (b ∷ bs) v h = leaves-some o b bs v h
 
 -- the bytes taken are the first of those pending
@@ -118,7 +118,7 @@ taken-first o room = take-min (length room) _ _
 
 module _ (p : Calls.Parts) (v : Valid p) where
   pub take-meant : (room : List ℕ) → let t = Calls.taking (p .outbox) room in
-      (t .said ≡ Calls.moved (length (Local.taken (view p) (length room))))
+      (t .report ≡ Calls.moved (length (Local.taken (view p) (length room))))
       × (t .room ≡ overlay 0 (Local.taken (view p) (length room)) room)
       × (view (withOutbox p (t .outbox)) ≡ Local.afterTake (view p) (length room))
       × Valid (withOutbox p (t .outbox))
@@ -129,11 +129,11 @@ module _ (p : Calls.Parts) (v : Valid p) where
       let n = Calls.takeable o room in
       let bs = take (length room) (pendingOf o) in
       let bytes = taken-first o room in
-      let size : length bs ≡ n = rw bytes (length-run (Layout.outbox-bytes-place + Layout.outboxFrom o) n o (omega arith)) in
+      let size : length bs ≡ n = rw bytes (length-run (Layout.outbox-bytes-offset + Layout.outboxFrom o) n o (omega arith)) in
       let left = leaves o bs w (omega arith) in
       rw (v .outbox, ← bytes, ← size) (
         refl,
         refl,
-        rw (left .pending, left .owing, drop-taken (length room) (pendingOf o)),
+        rw (left .pending, left .terminator-owed, drop-taken (length room) (pendingOf o)),
         valid-with p Part.outbox _ v (valid-outbox _ (left .valid)),
       )

@@ -34,7 +34,7 @@ use Rattle.supervisor_claims.specs.Histories.{Lent, Made, enough, meantM
 use Rattle.supervisor_claims.specs.FrameHistory.{reads, starts, receivedBy, startsAnew, joined, joinedAll, framesBy, framed, allFramed, carriedOut}
 use Rattle.supervisor_claims.specs.LastSet.{request, requestsIn, requestsOf}
 use Rattle.supervisor_claims.specs.laws.CallsKeep.{calls-keep}
-use Rattle.supervisor_claims.specs.claims.LastSetLaws.{requests-append, requests-behind, frames-owing}
+use Rattle.supervisor_claims.specs.claims.LastSetLaws.{requests-append, requests-behind, frames-owed}
 use Rattle.supervisor_claims.specs.claims.FramesClaim.{stream-carried, stream-closes, by-frames}
 use Rattle.supervisor_claims.specs.claims.History.{history, one-call}
 use Rattle.supervisor_claims.specs.claims.RetainedClaim.{retained-stays, reboot-forgets, power-off-forgets}
@@ -120,7 +120,7 @@ module _ (s : State) where
   local-keeps (Histories.lookup key most) = same
   local-keeps Histories.signal = same
   local-keeps Histories.flags = same
-  local-keeps (Histories.readRecord k) = record-keeps k (Histories.recordOf s k)
+  local-keeps (Histories.readRecord k) = record-keeps k (Histories.recordKept s k)
 
 -- a frame that fails leaves both
 pub failed-keeps : (image : List ℕ) (s : State) (f : List ℕ) (reason : ℕ) (sequence : Option ℕ) → verdict f ≡ failure reason sequence
@@ -246,7 +246,7 @@ module _ (p : Parts) (b : Bytes p) (l : Lent) (d : List ℕ) (typed : Typed (His
       → let q = reached p l d ms in
       let before = made q (record { lent = j; call = Histories.receive image bs }) in
       let after = made q (record { lent = j; call = Histories.receive image (bs ++ (0 ∷ [])) }) in
-      (after .answer ≡ done) × (view (after .parts) .pending ≡ owed (view q .owing) ++ alertReply n (oldest (view (before .parts) .waiting)))
+      (after .answer ≡ done) × (view (after .parts) .pending ≡ owed (view q .terminator-owed) ++ alertReply n (oldest (view (before .parts) .waiting)))
   unfolding meantMade meant enough carriedOut
   fresh-alert-answered n j image bs c e v os rs r split-so drops no-alert =
       let f = factoryOf d in
@@ -263,10 +263,10 @@ module _ (p : Parts) (b : Bytes p) (l : Lent) (d : List ℕ) (typed : Typed (His
       none-retained (a .retained) (frames-retained w s (calls-retained f ms) image bs ∙ rw split-so (behind-none os rs r drops no-alert)) in
       let waits : view (made q (record { lent = j; call = Histories.receive image bs }) .parts) .waiting ≡ a .waiting =
       ap (λ (z : State). z .waiting) (x .leaves .0) ∙ rw (hist .1) (ap (λ (z : State). z .waiting) (sym (stream-carried w s since image bs))) in
-      let answered : stream image s (bs ++ (0 ∷ [])) .pending ≡ owed (s .owing) ++ alertReply n (oldest (a .waiting)) =
+      let answered : stream image s (bs ++ (0 ∷ [])) .pending ≡ owed (s .terminator-owed) ++ alertReply n (oldest (a .waiting)) =
       ap (λ (z : State). z .pending) (stream-closes w s since image bs)
       ∙ framed-pending image a (split (w ++ bs) .rest) (alertOf n) v
-      ∙ rw (taken-reply image a n kept, frames-owing image (framesBy w bs) s) in
+      ∙ rw (taken-reply image a n kept, frames-owed image (framesBy w bs) s) in
       (y .answer, ap (λ (z : State). z .pending) (y .leaves .0) ∙ rw (hist .1, waits) answered)
 
 -- ---- a reboot or power-off among the calls
@@ -329,7 +329,7 @@ pub fresh-after-reboot : (p : Parts) → Bytes p → (l : Lent) (d : List ℕ) �
     → let q = reached p l d (ms ++ ((record { lent = k; call = first }) ∷ ns)) in
     let before = made q (record { lent = j; call = Histories.receive image bs }) in
     let after = made q (record { lent = j; call = Histories.receive image (bs ++ (0 ∷ [])) }) in
-    (after .answer ≡ done) × (view (after .parts) .pending ≡ owed (view q .owing) ++ alertReply n (oldest (view (before .parts) .waiting)))
+    (after .answer ≡ done) × (view (after .parts) .pending ≡ owed (view q .terminator-owed) ++ alertReply n (oldest (view (before .parts) .waiting)))
 fresh-after-reboot p b l d typed accepted ms t k image₁ cs c₁ e₁ r v₁ drops ns u h n j image bs c e no-alert v =
     let first : Made = record { lent = k; call = Histories.receive image₁ (cs ++ (0 ∷ [])) } in
     let w₀ = joinedAll [] ms in

@@ -83,7 +83,7 @@ module _ (image : List ℕ) (i : Each Byte image) (l : Lent) where
         by true e = rw (e, back-lent l p)
         by false e = rw (e, back-lent l p)
 
-    -- whatever its bytes are, it is done where the parts that are lent are as 12 asks
+    -- whatever its bytes are, it is done where the parts that are lent are as 12 requires
     told-so : (piece : List ℕ) → toldBy (made p (receiving piece)) ≡ record { answer = doneWhere (Receive.validParts (lentOf l p)); out = [] }
     unfolding made did Receive.receiving
     told-so piece = by (Receive.validParts (lentOf l p)) refl

@@ -101,9 +101,9 @@ undone n e = subst (λ a. WhereRefused a (λ _. ⊥)) (sym e) tt
 
 module _ (p : Parts) (b : Bytes p) (l : Lent) (d : List ℕ) (typed : Typed (Histories.start d)) where
   -- a start that is accepted had room and start data that are not refused
-  accepted : (x y : Bool) → Calls.roomy (lentOf l p) ≡ x → Local.badStart (factoryOf d) ≡ y → did (lentOf l p) (Histories.start d) .answer ≡ done
+  accepted : (x y : Bool) → Calls.longEnough (lentOf l p) ≡ x → Local.badStart (factoryOf d) ≡ y → did (lentOf l p) (Histories.start d) .answer ≡ done
       → Leaves (lentOf l p) (did (lentOf l p) (Histories.start d) .parts) (fresh (factoryOf d))
-  unfolding did fit Calls.roomy
+  unfolding did fit Calls.longEnough
   accepted false y r e h = absurd (undone 12 (sym (ap (λ (x : Did). x .answer) (refused-12 (lentOf l p) (Histories.start d) r)) ∙ h))
   accepted true true r e h = absurd (undone 11 (rw (start-refused d (typed .0) (lentOf l p) r e) at h))
   accepted true false r e h = start-leaves d typed (lentOf l p) (lent-bytes l p b) r e .1
@@ -154,7 +154,7 @@ cut image p a b h i k = go (Receive.validParts p) refl
 -- on any parts: what receive leaves of the bytes up to and with the first 00
 pub step-receives : (image : List ℕ) (p : Parts) (piece : List ℕ)
     → did p (Histories.step image piece) .parts ≡ did p (Histories.receive image (take (upTo piece) piece)) .parts
-unfolding did Receive.receiving Receive.stepping Receive.turned
+unfolding did Receive.receiving Receive.stepping Receive.validStep
 step-receives image p piece = go (Receive.validParts p) refl
   where
     go : (t : Bool) → Receive.validParts p ≡ t

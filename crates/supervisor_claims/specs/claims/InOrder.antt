@@ -15,7 +15,7 @@ use Rattle.octets.proofs.Conditions.{cond-both}
 use Rattle.line.specs.Limits.{longest-form}
 use Rattle.line.specs.Message.{Message}
 use Rattle.line.specs.Judge.{Verdict, failure, good, judge}
-use Rattle.supervisor.specs.State.{Retained, State, withReceived, withPending, withOwing}
+use Rattle.supervisor.specs.State.{Retained, State, withReceived, withPending, withTerminatorOwed}
 use Rattle.supervisor.specs.Local.{lookup, valueOf}
 use Rattle.requests.specs.Commands.{Command, commandOf}
 use Rattle.requests.specs.Requests
@@ -33,19 +33,19 @@ stream-append image s (b ∷ bs) cs = stream-append image (byte image s b) bs cs
 
 -- a state with these as given
 abbrev pub lined : State → Option (List ℕ) → List ℕ → Bool → State
-lined s received pending owing = withOwing (withPending (withReceived s received) pending) owing
+lined s received pending terminator-owed = withTerminatorOwed (withPending (withReceived s received) pending) terminator-owed
 
 -- c is what d is, with these as given
-pub record Lined (received : Option (List ℕ)) (pending : List ℕ) (owing : Bool) (c d : Carried) : Type 0 where
-  pub state : c .state ≡ lined (d .state) received pending owing
+pub record Lined (received : Option (List ℕ)) (pending : List ℕ) (terminator-owed : Bool) (c d : Carried) : Type 0 where
+  pub state : c .state ≡ lined (d .state) received pending terminator-owed
   pub reply : c .reply ≡ d .reply
 
-module _ (received : Option (List ℕ)) (pending : List ℕ) (owing : Bool) (s : State) where
+module _ (received : Option (List ℕ)) (pending : List ℕ) (terminator-owed : Bool) (s : State) where
   abbrev Alike : Carried → Carried → Type 0
-  Alike = Lined received pending owing
+  Alike = Lined received pending terminator-owed
 
   abbrev other : State
-  other = lined s received pending owing
+  other = lined s received pending terminator-owed
 
   alert-lined : (sequence : ℕ) (r : Option Retained) → Alike (Requests.alertAsked other sequence r) (Requests.alertAsked s sequence r)
   unfolding Requests.alertAsked Requests.alertTaken
@@ -70,7 +70,7 @@ module _ (received : Option (List ℕ)) (pending : List ℕ) (owing : Bool) (s :
   effect-lined image m Command.inventory = record { state = refl; reply = refl }
   effect-lined image m Command.key-set = record { state = refl; reply = refl }
 
-  pub carried-lined : (image : List ℕ) (m : Message) → Lined received pending owing (carried image other m) (carried image s m)
+  pub carried-lined : (image : List ℕ) (m : Message) → Lined received pending terminator-owed (carried image other m) (carried image s m)
   unfolding carried
   carried-lined image m = by (commandOf (m .command))
     where
@@ -90,50 +90,50 @@ replyBy image s (failure reason sequence) = some (failedOf reason sequence)
 replyBy image s (good m) = replyOf (m .sequence) (carried image s m .reply)
 
 module _ (image : List ℕ) (s : State) where
-  pub done-lined : (received : Option (List ℕ)) (pending : List ℕ) (owing : Bool) (v : Verdict)
-      → doneBy image (lined s received pending owing) v ≡ lined (doneBy image s v) received pending owing
+  pub done-lined : (received : Option (List ℕ)) (pending : List ℕ) (terminator-owed : Bool) (v : Verdict)
+      → doneBy image (lined s received pending terminator-owed) v ≡ lined (doneBy image s v) received pending terminator-owed
   unfolding doneBy
-  done-lined received pending owing (failure reason sequence) = refl
-  done-lined received pending owing (good m) = carried-lined received pending owing s image m .state
+  done-lined received pending terminator-owed (failure reason sequence) = refl
+  done-lined received pending terminator-owed (good m) = carried-lined received pending terminator-owed s image m .state
 
-  pub reply-lined : (received : Option (List ℕ)) (pending : List ℕ) (owing : Bool) (v : Verdict)
-      → replyBy image (lined s received pending owing) v ≡ replyBy image s v
+  pub reply-lined : (received : Option (List ℕ)) (pending : List ℕ) (terminator-owed : Bool) (v : Verdict)
+      → replyBy image (lined s received pending terminator-owed) v ≡ replyBy image s v
   unfolding replyBy
-  reply-lined received pending owing (failure reason sequence) = refl
-  reply-lined received pending owing (good m) = ap (replyOf (m .sequence)) (carried-lined received pending owing s image m .reply)
+  reply-lined received pending terminator-owed (failure reason sequence) = refl
+  reply-lined received pending terminator-owed (good m) = ap (replyOf (m .sequence)) (carried-lined received pending terminator-owed s image m .reply)
 
   -- pending is then a 00 where one is owed, and the reply; the receive progress and the last taken byte are as before
   pub judged-is : (v : Verdict)
-      → judged image s v ≡ lined (doneBy image s v) (s .received) (owed (s .owing) ++ replyFrame (replyBy image s v)) (s .owing)
+      → judged image s v ≡ lined (doneBy image s v) (s .received) (owed (s .terminator-owed) ++ replyFrame (replyBy image s v)) (s .terminator-owed)
   unfolding judged sent doneBy replyBy
   judged-is (failure reason sequence) = refl
   judged-is (good m) =
-      let c = carried-lined (s .received) (s .pending) (s .owing) s image m .state in
+      let c = carried-lined (s .received) (s .pending) (s .terminator-owed) s image m .state in
       let r : carried image s m .state .received ≡ s .received = ap (λ (x : State). x .received) c in
-      let o : carried image s m .state .owing ≡ s .owing = ap (λ (x : State). x .owing) c in
+      let o : carried image s m .state .terminator-owed ≡ s .terminator-owed = ap (λ (x : State). x .terminator-owed) c in
       rw (r, o)
 
 pub judged-receiving : (image : List ℕ) (s : State) (r : Option (List ℕ)) (v : Verdict)
     → judged image (withReceived s r) v ≡ withReceived (judged image s v) r
 judged-receiving image s r v =
     rw (judged-is image (withReceived s r) v, judged-is image s v)
-    (rw (done-lined image s r (s .pending) (s .owing) v, reply-lined image s r (s .pending) (s .owing) v))
+    (rw (done-lined image s r (s .pending) (s .terminator-owed) v, reply-lined image s r (s .pending) (s .terminator-owed) v))
 
 -- ---- frames
 
 module _ (image : List ℕ) (s : State) (b : ℕ) (bs : List ℕ) where
   -- a valid request is carried out, and its reply, if it earns one, is pending
   pub request-carried : (m : Message) → verdict (b ∷ bs) ≡ good m → let c = carried image s m in
-      framed image s (b ∷ bs) ≡ withPending (c .state) (owed (s .owing) ++ replyFrame (replyOf (m .sequence) (c .reply)))
+      framed image s (b ∷ bs) ≡ withPending (c .state) (owed (s .terminator-owed) ++ replyFrame (replyOf (m .sequence) (c .reply)))
   unfolding framed judged sent
   request-carried m e =
-      let c = carried-lined (s .received) (s .pending) (s .owing) s image m .state in
-      let o : carried image s m .state .owing ≡ s .owing = ap (λ (x : State). x .owing) c in
+      let c = carried-lined (s .received) (s .pending) (s .terminator-owed) s image m .state in
+      let o : carried image s m .state .terminator-owed ≡ s .terminator-owed = ap (λ (x : State). x .terminator-owed) c in
       rw (e, o)
 
   -- any other frame that is not empty changes nothing but the pending bytes
   pub failure-only-pending : (reason : ℕ) (sequence : Option ℕ) → verdict (b ∷ bs) ≡ failure reason sequence
-      → framed image s (b ∷ bs) ≡ withPending s (owed (s .owing) ++ replyFrame (some (failedOf reason sequence)))
+      → framed image s (b ∷ bs) ≡ withPending s (owed (s .terminator-owed) ++ replyFrame (some (failedOf reason sequence)))
   unfolding framed judged sent
   failure-only-pending reason sequence e = rw e
 

@@ -202,13 +202,13 @@ module _ (image : List ℕ) {k : ℕ} (h : SettingsKey k) where
 -- ---- received bytes and calls
 
 -- owing is as before
-pub frames-owing : (image : List ℕ) (fs : List (List ℕ)) (s : State) → allFramed image s fs .owing ≡ s .owing
+pub frames-owed : (image : List ℕ) (fs : List (List ℕ)) (s : State) → allFramed image s fs .terminator-owed ≡ s .terminator-owed
 unfolding allFramed framed
-frames-owing image [] s = refl
-frames-owing image ([] ∷ fs) s = frames-owing image fs s
-frames-owing image ((b ∷ bs) ∷ fs) s =
+frames-owed image [] s = refl
+frames-owed image ([] ∷ fs) s = frames-owed image fs s
+frames-owed image ((b ∷ bs) ∷ fs) s =
     let v = verdict (b ∷ bs) in
-    frames-owing image fs (judged image s v) ∙ ap (λ (x : State). x .owing) (judged-is image s v)
+    frames-owed image fs (judged image s v) ∙ ap (λ (x : State). x .terminator-owed) (judged-is image s v)
 
 -- key k holds the value of its last successful set among the requests of the bytes w
 abbrev pub Holds : ℕ → List ℕ → State → Type 0

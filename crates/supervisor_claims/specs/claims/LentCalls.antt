@@ -41,7 +41,7 @@ asks-long (Histories.receive image piece) i s v = part-long i s v
 asks-long (Histories.step image piece) i s v = part-long i s v
 asks-long (Histories.local c) i s v = part-long i s v
 
--- where the parts as lent are as 12 asks, enough of them is lent
+-- where the parts as lent are as 12 requires, enough of them is lent
 fit-enough : (l : Lent) (p : Parts) (c : Call) → fit (lentOf l p) c ≡ true → enough c l ≡ true
 unfolding fit enough
 fit-enough l p c v =

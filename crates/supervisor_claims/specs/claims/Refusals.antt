@@ -1,4 +1,4 @@
--- Refusals: 12 exactly where a part that a call takes is not as 12 asks; a refused call changes nothing. The parts' lengths.
+-- Refusals: 12 exactly where a part that a call takes is not as 12 requires; a refused call changes nothing. The parts' lengths.
 -- Assumes nothing.
 use mathlib.Core.Path.{_≡_, refl, sym, ap, _∙_}
 use mathlib.Core.Bool.{Bool, true, false, _&&_, and-true, and-false}
@@ -21,7 +21,7 @@ use Rattle.supervisor_claims.specs.ByPart.{Part, published, part, validP
 use Rattle.supervisor_claims.specs.Meant.{withRegisters}
 use Rattle.supervisor_claims.specs.Histories
 use Rattle.supervisor_claims.specs.Histories.{LocalCall, Call, Answer, refused, Did, didBy, did, refusal, ofTaken, untouched}
-use Rattle.supervisor_claims.specs.calls.StepClaim.{turned-stepped}
+use Rattle.supervisor_claims.specs.calls.StepClaim.{valid-step-stepped}
 
 -- all parts together have at most 65,536 bytes
 pub parts-fit : LineReader.state-length + Layout.outbox-length + Layout.factory-length + Layout.settings-length + Layout.registers-length ≤ 65536
@@ -34,7 +34,7 @@ asks (Histories.receive image piece) i s = validPart i s
 asks (Histories.step image piece) i s = validPart i s
 asks (Histories.local c) i s = validPart i s
 
--- whether the parts that a call takes are as 12 asks
+-- whether the parts that a call takes are as 12 requires
 unfoldable pub fit : Parts → Call → Bool
 fit p c = ofTaken c (λ i. asks c i (part p i))
 
@@ -51,8 +51,8 @@ valid-parts-are p =
     (and-swap (validFactory (p .factory)) (validOutbox (p .outbox)) (validSettings (p .settings) && validRegisters (p .registers)))
 
 module _ (p : Parts) {t : Bool} where
-  room-test : (d : List ℕ) → fit p (Histories.start d) ≡ t → Calls.roomy p ≡ t
-  unfolding fit Calls.roomy
+  room-test : (d : List ℕ) → fit p (Histories.start d) ≡ t → Calls.longEnough p ≡ t
+  unfolding fit Calls.longEnough
   room-test d e = e
 
   receive-test : (image piece : List ℕ) → fit p (Histories.receive image piece) ≡ t → Receive.validParts p ≡ t
@@ -98,10 +98,10 @@ WhereRefused (Histories.recorded r) X = Unit {0}
 abbrev pub Not12 : Answer → Type 0
 Not12 a = WhereRefused a (λ n. n ≡ 12 → ⊥)
 
--- a key's place is no refusal
+-- a key's location is no refusal
 module _ (X : ℕ → Type 0) (most : ℕ) where
-  abbrev FoundHeld : {Q : Type 0} → (Q → Calls.LookupSaid) → Q → Type 0
-  FoundHeld said q = WhereRefused (Histories.lookupAnswer (said q)) X
+  abbrev FoundHeld : {Q : Type 0} → (Q → Calls.LookupReport) → Q → Type 0
+  FoundHeld report q = WhereRefused (Histories.lookupAnswer (report q)) X
 
   sized-held : (n : ℕ) → WhereRefused (Histories.lookupAnswer (Calls.sized most n)) X
   sized-held n = cond-by (λ a. WhereRefused (Histories.lookupAnswer a) X) (ltb most n) _ _ (λ e. tt) (λ e. tt)
@@ -111,20 +111,20 @@ module _ (X : ℕ → Type 0) (most : ℕ) where
   setting-held s at =
       cond-by (FoundHeld (Calls.resultAt most)) (eqb (Layout.settingHeld s at) 1) _ _ (λ e. sized-held (Layout.settingLength s at)) (λ e. tt)
 
-  pub found-held : (f s : List ℕ) (key : ℕ) → FoundHeld (Calls.resultAt most) (Calls.placeOf f s key)
-  unfolding Calls.resultAt Calls.placeOf
+  pub found-held : (f s : List ℕ) (key : ℕ) → FoundHeld (Calls.resultAt most) (Calls.locationOf f s key)
+  unfolding Calls.resultAt Calls.locationOf
   found-held f s key =
       let P = FoundHeld (Calls.resultAt most) in
       cond-by P (eqb key 0) _ _ (λ e. sized-held 4) (λ e.
       cond-by P (eqb key 1) _ _ (λ e. sized-held (Layout.imageIdLength f)) (λ e.
       cond-by P (eqb key 2) _ _ (λ e. sized-held 8) (λ e.
-      setting-held s (Layout.setting-place key))))
+      setting-held s (Layout.setting-offset key))))
 
 -- a refusal, where there is one: its number is not 12, and nothing has changed
 abbrev Other : Parts → Call → Did → Type 0
 Other p c d = WhereRefused (d .answer) (λ n. (n ≡ 12 → ⊥) × (d .parts ≡ p) × (d .out ≡ untouched c))
 
--- where the parts are as 12 asks
+-- where the parts are as 12 requires
 module _ (p : Parts) where
   abbrev registers-other : LocalCall → Calls.Registered → Type 0
   registers-other c r = Other p (Histories.local c) (didBy (refusal (r .refusal)) [] (withRegisters p (r .registers)))
@@ -137,7 +137,7 @@ module _ (p : Parts) where
       P : Calls.Start → Type 0
       P t = Other p (Histories.start d) (didBy (refusal (t .refusal)) [] (t .parts))
   fit-other (Histories.receive image piece) e = rw (receive-test p image piece e) tt
-  fit-other (Histories.step image piece) e = rw (receive-test p image piece e, turned-stepped image p piece) tt
+  fit-other (Histories.step image piece) e = rw (receive-test p image piece e, valid-step-stepped image p piece) tt
   fit-other (Histories.local (Histories.take room)) e = rw (outbox-test p room e) tt
   fit-other (Histories.local (Histories.post action text)) e =
       let P = registers-other (Histories.post action text) in
@@ -152,7 +152,7 @@ module _ (p : Parts) where
       rw (stores-test p key most e)
       (cond-both P (ltb Limits.highest-key key) (λ f. tt) (λ f. found-held _ most (p .factory) (p .settings) key))
     where
-      P : Calls.LookupSaid → List ℕ → Type 0
+      P : Calls.LookupReport → List ℕ → Type 0
       P a bs = Other p (Histories.local (Histories.lookup key most)) (didBy (Histories.lookupAnswer a) bs p)
   fit-other (Histories.local Histories.signal) e = rw e tt
   fit-other (Histories.local Histories.flags) e = rw e tt

@@ -77,7 +77,7 @@ pending-short : (o : List ℕ) → validOutbox o ≡ true → length (pendingOf 
 unfolding pendingOf
 pending-short o v =
     let w = outbox-valid o v in
-    omega (arith, length-take (Layout.outboxTo o - Layout.outboxFrom o) (drop (Layout.outbox-bytes-place + Layout.outboxFrom o) o))
+    omega (arith, length-take (Layout.outboxTo o - Layout.outboxFrom o) (drop (Layout.outbox-bytes-offset + Layout.outboxFrom o) o))
 
 view-pending-short : (p : Parts) → Sound p → length (view p .pending) ≤ most-pending
 unfolding view

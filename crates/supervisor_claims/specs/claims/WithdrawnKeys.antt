@@ -30,7 +30,7 @@ use Rattle.supervisor_claims.specs.laws.Progress.{Since}
 use Rattle.supervisor_claims.specs.FrameHistory.{framesBy, joinedAll, framed, allFramed}
 use Rattle.supervisor_claims.specs.claims.FramesClaim.{stream-closes, by-frames}
 use Rattle.supervisor_claims.specs.LastSet.{requestsOf, lastSet, lookupOf, lookupReply}
-use Rattle.supervisor_claims.specs.claims.LastSetLaws.{value-held, frames-owing, Holds, fresh-holds, frames-hold, calls-hold}
+use Rattle.supervisor_claims.specs.claims.LastSetLaws.{value-held, frames-owed, Holds, fresh-holds, frames-hold, calls-hold}
 use Rattle.supervisor_claims.specs.claims.History.{history, one-call}
 
 -- ---- a lookup carried out
@@ -59,19 +59,19 @@ unfolding verdict Judge.judge Judge.judgeForm Judge.judgeLength Cobs.uncobs Cobs
 empty-none m e = let z : _≡_ {A = ℕ} 0 1 = cc in omega arith
 
 pub framed-pending : (image : List ℕ) (s : State) (f : List ℕ) (m : Message) → verdict f ≡ good m
-    → framed image s f .pending ≡ owed (s .owing) ++ replyFrame (replyOf (m .sequence) (carried image s m .reply))
+    → framed image s f .pending ≡ owed (s .terminator-owed) ++ replyFrame (replyOf (m .sequence) (carried image s m .reply))
 framed-pending image s [] m e = absurd (empty-none m e)
 framed-pending image s (b ∷ bs) m e = ap (λ (x : State). x .pending) (request-carried image s b bs m e)
 
 -- the 00 of a lookup behind the bytes w and bs, where key k holds its last set among the requests of w
 stream-answers : {k : ℕ} (h : SettingsKey k) (w : List ℕ) (s : State) → Since (split w .rest) s → Holds k w s
     → (image bs : List ℕ) (n most : ℕ) → most < 65536 → verdict (split (w ++ bs) .rest) ≡ good (lookupOf n k most)
-    → stream image s (bs ++ (0 ∷ [])) .pending ≡ owed (s .owing) ++ lookupReply n most (lastSet k (requestsOf (w ++ bs)))
+    → stream image s (bs ++ (0 ∷ [])) .pending ≡ owed (s .terminator-owed) ++ lookupReply n most (lastSet k (requestsOf (w ++ bs)))
 stream-answers h w s since holds image bs n most i e =
     let a = allFramed image s (framesBy w bs) in
     ap (λ (x : State). x .pending) (stream-closes w s since image bs)
     ∙ framed-pending image a (split (w ++ bs) .rest) (lookupOf n _ most) e
-    ∙ rw (reply-found image a n most h i, value-held a h, frames-hold h w s holds image bs .value, frames-owing image (framesBy w bs) s)
+    ∙ rw (reply-found image a n most h i, value-held a h, frames-hold h w s holds image bs .value, frames-owed image (framesBy w bs) s)
 
 -- ---- the claims: a start that is accepted, on any bytes, then any calls
 
@@ -100,7 +100,7 @@ module _ (p : Parts) (b : Bytes p) (l : Lent) (d : List ℕ) (typed : Typed (His
       → let call = Histories.receive image (bs ++ (0 ∷ [])) in Typed call → enough call j ≡ true
       → let w = joinedAll [] ms ++ bs in verdict (split w .rest) ≡ good (lookupOf n k most)
       → let q = reached p l d ms in let r = made q (record { lent = j; call = call }) in
-      (r .answer ≡ done) × (view (r .parts) .pending ≡ owed (view q .owing) ++ lookupReply n most (lastSet k (requestsOf w)))
+      (r .answer ≡ done) × (view (r .parts) .pending ≡ owed (view q .terminator-owed) ++ lookupReply n most (lastSet k (requestsOf w)))
   unfolding meantMade meant
   last-set h n most i j image bs c e v =
       let hist = history p b l d typed accepted ms t in
@@ -114,7 +114,7 @@ module _ (p : Parts) (b : Bytes p) (l : Lent) (d : List ℕ) (typed : Typed (His
       → let call = Histories.receive image (bs ++ (0 ∷ [])) in Typed call → enough call j ≡ true
       → let w = joinedAll [] ms ++ bs in verdict (split w .rest) ≡ good (lookupOf n 5 most)
       → let q = reached p l d ms in let r = made q (record { lent = j; call = call }) in
-      (r .answer ≡ done) × (view (r .parts) .pending ≡ owed (view q .owing) ++ lookupReply n most (lastSet 5 (requestsOf w)))
+      (r .answer ≡ done) × (view (r .parts) .pending ≡ owed (view q .terminator-owed) ++ lookupReply n most (lastSet 5 (requestsOf w)))
   withdrawn-list-answered n most = last-set {k = 5} (record { least = omega arith; most = omega arith }) n most
 
   -- a lookup by the local call: the same results

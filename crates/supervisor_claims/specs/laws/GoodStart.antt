@@ -62,11 +62,11 @@ module _ (d : List ℕ) (long : Layout.start-length ≤ length d) where
   item-bad : (i : ℕ) → i < Limits.most-items → Valid.goodItem d i ≡ not (Local.badItem (itemAt d i))
   unfolding Valid.goodItem Local.badItem itemAt
   item-bad i h =
-      let at = Layout.item-place i in
-      let size = numberAt 1 d (at + Layout.item-data-length-place) in
+      let at = Layout.item-offset i in
+      let size = numberAt 1 d (at + Layout.item-data-length-offset) in
       let result = numberAt 1 d at in
-      rw (not-more-run Limits.longest-item-data (at + Layout.item-data-place) size d (omega arith))
-      (item-test (ltb Limits.longest-item-data (length (run (at + Layout.item-data-place) size d))) (eqb result 0) (eqb result 2) (eqb result 3))
+      rw (not-more-run Limits.longest-item-data (at + Layout.item-data-offset) size d (omega arith))
+      (item-test (ltb Limits.longest-item-data (length (run (at + Layout.item-data-offset) size d))) (eqb result 0) (eqb result 2) (eqb result 3))
 
   items-bad : (n : ℕ) → n ≤ Limits.most-items → Valid.goodItems d n ≡ not (Local.anyBad (listed (itemAt d) n))
   unfolding Valid.all Local.anyBad listed
@@ -78,9 +78,9 @@ module _ (d : List ℕ) (long : Layout.start-length ≤ length d) where
   good-bad =
       let n = Layout.itemCount d in
       rw (
-        not-more-run Limits.longest-image-id Layout.image-id-place (Layout.imageIdLength d) d (omega arith),
+        not-more-run Limits.longest-image-id Layout.image-id-offset (Layout.imageIdLength d) d (omega arith),
         length-listed (itemAt d) n,
         not-more n Limits.most-items,
       )
-      (start-test (ltb Limits.most-items n) (Local.anyBad (listed (itemAt d) n)) _ (Valid.bsuAllowed (numberAt 1 d Layout.bsu-place)) (Valid.goodItems d n)
+      (start-test (ltb Limits.most-items n) (Local.anyBad (listed (itemAt d) n)) _ (Valid.bsuAllowed (numberAt 1 d Layout.bsu-offset)) (Valid.goodItems d n)
       (λ e. items-bad n (ltb-false Limits.most-items n e)))

@@ -1,4 +1,4 @@
--- The view and what 12 asks read the published bytes alone: parts of which some bytes are lent, and parts with bytes behind them.
+-- The view and what 12 requires read the published bytes alone: parts of which some bytes are lent, and parts with bytes behind them.
 -- Assumes nothing.
 use mathlib.Core.Path.{_≡_, refl, ap, _∙_}
 use mathlib.Core.Bool.{Bool, true, false, cond, not, _||_}
@@ -27,7 +27,7 @@ use Rattle.supervisor.proofs.ValidLaws.{OutboxValid, FactoryValid, SettingsVali
 use Rattle.supervisor.proofs.ValidLaws.{outbox-valid, valid-outbox, factory-valid, valid-factory, settings-valid, valid-settings, registers-valid}
 use Rattle.supervisor.proofs.ValidLaws.{start-good, good-start}
 use Rattle.supervisor.proofs.KeptRegisters.{groups-valid, numbers-kept, flags-kept, failure-kept, panic-kept, waiting-kept, retained-kept}
-use Rattle.supervisor.proofs.PlaceLaws.{place-within}
+use Rattle.supervisor.proofs.OffsetLaws.{place-within}
 use Rattle.requests.proofs.KeptLaws.{setting-kept}
 use Rattle.supervisor_claims.specs.ByPart.{Part, published, part, Every, every, of, part-by, every-by, parts-same, published-some}
 use Rattle.supervisor_claims.specs.View.{factoryOf, settingsOf, receivedOf, pendingOf, view}
@@ -53,7 +53,7 @@ module _ {s t : List ℕ} (same : Same 0 LineReader.state-length s t) (r : Ready
       rw count-alike
       (cond-both (λ x y. x ≡ y) (ltb LineLimits.longest-form n) (λ e. refl) (λ e.
       let l = ltb-false LineLimits.longest-form n e in
-      ap some (same .runs LineReader.frame-place n (omega arith))))
+      ap some (same .runs LineReader.frame-offset n (omega arith))))
 
   reader-alike : LineReader.state-length ≤ length t → LineReader.valid t ≡ true
   reader-alike h = ready-valid t (h, omega (arith, count-alike))
@@ -67,17 +67,17 @@ module _ {o q : List ℕ} (same : Same 0 Layout.outbox-length o q) (v : OutboxVa
       let from = Layout.outboxFrom o in
       let n = Layout.outboxTo o - from in
       rw (
-        number-same same 2 Layout.outbox-from-place (omega arith),
-        number-same same 2 Layout.outbox-to-place (omega arith),
-        same .runs (Layout.outbox-bytes-place + from) n (omega arith),
+        number-same same 2 Layout.outbox-from-offset (omega arith),
+        number-same same 2 Layout.outbox-to-offset (omega arith),
+        same .runs (Layout.outbox-bytes-offset + from) n (omega arith),
       )
 
   outbox-alike : Layout.outbox-length ≤ length q → validOutbox q ≡ true
   outbox-alike h =
-      let from = number-same same 2 Layout.outbox-from-place (omega arith) in
-      let to = number-same same 2 Layout.outbox-to-place (omega arith) in
-      let owing = number-same same 1 Layout.outbox-owing-place (omega arith) in
-      valid-outbox q (record { long = h; order = omega arith; most = omega arith; owing = omega arith })
+      let from = number-same same 2 Layout.outbox-from-offset (omega arith) in
+      let to = number-same same 2 Layout.outbox-to-offset (omega arith) in
+      let terminator-owed = number-same same 1 Layout.outbox-terminator-owed-offset (omega arith) in
+      valid-outbox q (record { long = h; order = omega arith; most = omega arith; terminator-owed = omega arith })
 
 -- ---- the factory store
 
@@ -91,8 +91,8 @@ module _ {f g : List ℕ} (same : Same 0 Layout.factory-length f g) (v : Factory
       (record {
         long = h;
         start = start-good g (good-bad g (omega arith) ∙ rw (contents-alike, ← good-bad f (omega arith)) (good-start f (v .start)));
-        version = number-same same 4 Layout.inventory-version-place (omega arith) ∙ v .version;
-        text = same .runs Layout.pong-place 4 (omega arith) ∙ v .text;
+        version = number-same same 4 Layout.inventory-version-offset (omega arith) ∙ v .version;
+        text = same .runs Layout.pong-offset 4 (omega arith) ∙ v .text;
       })
 
 -- ---- the settings store
@@ -104,7 +104,7 @@ module _ {s t : List ℕ} (same : Same 0 Layout.settings-length s t) (v : Settin
       listed-same _ _ Limits.setting-count (λ i l.
       let key = Limits.first-setting + i in
       let h : Limits.SettingsKey key = record { least = omega arith; most = omega arith } in
-      setting-same same (Layout.setting-place key) (Limits.longest-setting key) (v .each key h) (omega (arith, place-within key h)))
+      setting-same same (Layout.setting-offset key) (Limits.longest-setting key) (v .each key h) (omega (arith, place-within key h)))
 
   settings-alike : Layout.settings-length ≤ length t → validSettings t ≡ true
   settings-alike h =
@@ -139,20 +139,20 @@ module _ {p q : Parts} (a : Alike p q) (v : Valid p) where
       let r : Same 0 Layout.registers-length (p .registers) (q .registers) = same Part.registers in
       let o : Same 0 Layout.outbox-length (p .outbox) (q .outbox) = same Part.outbox in
       rw (
-        number-same r 8 Layout.status-place (omega arith),
-        number-same r 8 Layout.options-place (omega arith),
-        number-same r 1 Layout.reboot-place (omega arith),
-        number-same r 1 Layout.power-off-place (omega arith),
-        recorded-same r Layout.boot-failure-place (omega arith),
-        recorded-same r Layout.panic-place (omega arith),
+        number-same r 8 Layout.status-offset (omega arith),
+        number-same r 8 Layout.options-offset (omega arith),
+        number-same r 1 Layout.reboot-offset (omega arith),
+        number-same r 1 Layout.power-off-offset (omega arith),
+        recorded-same r Layout.boot-failure-offset (omega arith),
+        recorded-same r Layout.panic-offset (omega arith),
         contents-alike (same Part.factory) (factory-valid (p .factory) (v .factory)),
         values-alike (same Part.settings) (settings-valid (p .settings) (v .settings)),
-        number-same r 1 Layout.alert-count-place (omega arith),
+        number-same r 1 Layout.alert-count-offset (omega arith),
         alerts-same r (Layout.alertCount (p .registers)) (omega arith) (w .rest .alerts),
         retained-same r (omega arith) (w .rest .text),
         received-alike (same Part.reader) (valid-ready (p .reader) (v .reader)),
         pending-alike o (outbox-valid (p .outbox) (v .outbox)),
-        number-same o 1 Layout.outbox-owing-place (omega arith),
+        number-same o 1 Layout.outbox-terminator-owed-offset (omega arith),
       )
 
   long-alike : Long q

@@ -32,7 +32,7 @@ use Rattle.supervisor_claims.specs.laws.RegisterLaws.{alertsOf, alert-sa
 abbrev alertBytes : ℕ → List ℕ → List ℕ
 alertBytes action text = bytes 2 (length text) ++ (bytes 1 action ++ text)
 
-length-alert : (action : ℕ) (text : List ℕ) → length (alertBytes action text) ≡ Layout.alert-text-place + length text
+length-alert : (action : ℕ) (text : List ℕ) → length (alertBytes action text) ≡ Layout.alert-text-offset + length text
 unfolding bytes
 length-alert action text = omega arith
 
@@ -73,10 +73,10 @@ allowed r action text v h e f g = record {
 
 -- the alert's bytes behind those that wait, then one more that waits
 abbrev slotted : List ℕ → ℕ → List ℕ → List ℕ
-slotted r action text = overlay (Layout.alert-place (Layout.alertCount r)) (alertBytes action text) r
+slotted r action text = overlay (Layout.alert-offset (Layout.alertCount r)) (alertBytes action text) r
 
 abbrev counted : List ℕ → ℕ → List ℕ → List ℕ
-counted r action text = overlay Layout.alert-count-place (bytes 1 (Layout.alertCount r + 1)) (slotted r action text)
+counted r action text = overlay Layout.alert-count-offset (bytes 1 (Layout.alertCount r + 1)) (slotted r action text)
 
 set-small : (n : ℕ) → n ≤ 3 → Local.setBit n 1 ≤ 3
 unfolding Local.setBit
@@ -87,29 +87,29 @@ module _ {r : List ℕ} {action : ℕ} {text : List ℕ} (c : Posting r action t
   slotted-long = length-overlay _ (alertBytes action text) r (omega (arith, length-alert action text))
 
   counted-long : length (counted r action text) ≡ length r
-  counted-long = stored-long 1 Layout.alert-count-place _ (slotted r action text) (omega (arith, slotted-long)) ∙ slotted-long
+  counted-long = stored-long 1 Layout.alert-count-offset _ (slotted r action text) (omega (arith, slotted-long)) ∙ slotted-long
 
-  before-slot : Same 0 (Layout.alert-place (Layout.alertCount r)) r (slotted r action text)
+  before-slot : Same 0 (Layout.alert-offset (Layout.alertCount r)) r (slotted r action text)
   before-slot = same-before _ _ r (omega arith) (omega arith)
 
-  after-status : Same Layout.options-place Layout.registers-length (counted r action text) (Calls.withAlert r action text)
+  after-status : Same Layout.options-offset Layout.registers-length (counted r action text) (Calls.withAlert r action text)
   unfolding Calls.withAlert
-  after-status = stored-after 8 Layout.status-place _ _ (omega (arith, counted-long)) (omega arith)
+  after-status = stored-after 8 Layout.status-offset _ _ (omega (arith, counted-long)) (omega arith)
 
   -- the options, the flags and the records
-  front : Same Layout.options-place Layout.alert-count-place r (Calls.withAlert r action text)
+  front : Same Layout.options-offset Layout.alert-count-offset r (Calls.withAlert r action text)
   front =
       let l = slotted-long in
       same-then (same-within before-slot (omega arith))
-      (same-then (stored-before 1 Layout.alert-count-place _ _ (omega arith) (omega arith)) (same-within after-status (omega arith)))
+      (same-then (stored-before 1 Layout.alert-count-offset _ _ (omega arith) (omega arith)) (same-within after-status (omega arith)))
 
   -- the new alert and all behind it; the older ones
-  slots : Same Layout.alerts-place Layout.registers-length (slotted r action text) (Calls.withAlert r action text)
+  slots : Same Layout.alerts-offset Layout.registers-length (slotted r action text) (Calls.withAlert r action text)
   slots =
       let l = slotted-long in
-      same-then (stored-after 1 Layout.alert-count-place _ _ (omega arith) (omega arith)) (same-within after-status (omega arith))
+      same-then (stored-after 1 Layout.alert-count-offset _ _ (omega arith) (omega arith)) (same-within after-status (omega arith))
 
-  older : Same Layout.alerts-place (Layout.alert-place (Layout.alertCount r)) r (Calls.withAlert r action text)
+  older : Same Layout.alerts-offset (Layout.alert-offset (Layout.alertCount r)) r (Calls.withAlert r action text)
   older = same-then (same-within before-slot (omega arith)) (same-within slots (omega arith))
 
   pub posted-kept : Kept r (Calls.withAlert r action text)
@@ -117,7 +117,7 @@ module _ {r : List ℕ} {action : ℕ} {text : List ℕ} (c : Posting r action t
   posted-kept =
       let l = length-alert action text in
       record {
-        long = stored-long 8 Layout.status-place _ (counted r action text) (omega (arith, counted-long)) ∙ counted-long;
+        long = stored-long 8 Layout.status-offset _ (counted r action text) (omega (arith, counted-long)) ∙ counted-long;
         flags-and-records = same-within front (omega arith);
         retained = same-then (same-after _ _ r (omega arith) (omega arith)) (same-within slots (omega arith));
       }
@@ -126,22 +126,22 @@ module _ {r : List ℕ} {action : ℕ} {text : List ℕ} (c : Posting r action t
   unfolding Calls.withAlert
   posted-status =
       let small = set-small (Layout.statusOf r) (c .valid .status) in
-      stored-number 8 Layout.status-place _ (counted r action text) (omega (arith, counted-long)) (omega arith)
+      stored-number 8 Layout.status-offset _ (counted r action text) (omega (arith, counted-long)) (omega arith)
 
   pub posted-options : Layout.optionsOf (Calls.withAlert r action text) ≡ Layout.optionsOf r
-  posted-options = number-same front 8 Layout.options-place (omega arith)
+  posted-options = number-same front 8 Layout.options-offset (omega arith)
 
   pub posted-count : Layout.alertCount (Calls.withAlert r action text) ≡ Layout.alertCount r + 1
   posted-count =
-      number-same after-status 1 Layout.alert-count-place (omega arith)
-      ∙ stored-number 1 Layout.alert-count-place _ (slotted r action text) (omega (arith, slotted-long)) (omega arith)
+      number-same after-status 1 Layout.alert-count-offset (omega arith)
+      ∙ stored-number 1 Layout.alert-count-offset _ (slotted r action text) (omega (arith, slotted-long)) (omega arith)
 
   pub posted-alerts : alertsOf (Calls.withAlert r action text) (Layout.alertCount r + 1)
       ≡ alertsOf r (Layout.alertCount r) ++ (record { action = action; text = text } ∷ [])
   unfolding listed
   posted-alerts =
       let n = Layout.alertCount r in
-      let at = Layout.alert-place n in
+      let at = Layout.alert-offset n in
       let size = put-length at action text r (omega arith) (c .byte) (c .short) in
       rw (
         add-one n,
@@ -153,11 +153,11 @@ module _ {r : List ℕ} {action : ℕ} {text : List ℕ} (c : Posting r action t
   pub posted-valid : validRegisters (Calls.withAlert r action text) ≡ true
   posted-valid =
       let n = Layout.alertCount r in
-      let at = Layout.alert-place n in
+      let at = Layout.alert-offset n in
       let length-put = put-length at action text r (omega arith) (c .byte) (c .short) in
       let action-put = put-action at action text r (omega arith) (c .byte) (c .short) in
       let length-left = number-same slots 2 at (omega arith) in
-      let action-left = number-same slots 1 (at + Layout.alert-action-place) (omega arith) in
+      let action-left = number-same slots 1 (at + Layout.alert-action-offset) (omega arith) in
       let new = valid-alert (Calls.withAlert r action text) n (omega arith) in
       let small = set-small (Layout.statusOf r) (c .valid .status) in
       kept-valid posted-kept (c .valid) (omega (arith, posted-status, posted-options, posted-count))

@@ -50,7 +50,7 @@ module _ (s : State) where
   local-stays (Histories.lookup key most) = (refl, refl, tt)
   local-stays Histories.signal = (refl, refl, tt)
   local-stays Histories.flags = (refl, refl, tt)
-  local-stays (Histories.readRecord k) = record-stays (Histories.recordOf s k)
+  local-stays (Histories.readRecord k) = record-stays (Histories.recordKept s k)
 
 -- ---- the bytes since the last 00
 

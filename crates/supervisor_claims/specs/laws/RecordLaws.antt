@@ -47,33 +47,33 @@ flag r at = eqb (numberAt 1 r at) 1
 
 module _ (p : Calls.Parts) (w : RegistersValid (p .registers)) where
   -- bytes put among the flags and records
-  module _ (at : ℕ) (xs : List ℕ) (h : (Layout.reboot-place ≤ at) × (at + length xs ≤ Layout.alert-count-place)) where
+  module _ (at : ℕ) (xs : List ℕ) (h : (Layout.reboot-offset ≤ at) × (at + length xs ≤ Layout.alert-count-offset)) where
     abbrev put : List ℕ
     put = overlay at xs (p .registers)
 
-    before : Same Layout.status-place at (p .registers) put
+    before : Same Layout.status-offset at (p .registers) put
     before = same-before at xs (p .registers) (omega arith) (omega arith)
 
     after : Same (at + length xs) Layout.registers-length (p .registers) put
     after = same-after at xs (p .registers) (omega arith) (omega arith)
 
     put-view : view (withRegisters p put)
-        ≡ noted (view p) (flag put Layout.reboot-place) (flag put Layout.power-off-place)
-        (recordedOf put Layout.boot-failure-place) (recordedOf put Layout.panic-place)
+        ≡ noted (view p) (flag put Layout.reboot-offset) (flag put Layout.power-off-offset)
+        (recordedOf put Layout.boot-failure-offset) (recordedOf put Layout.panic-offset)
     unfolding view
     put-view =
-        let behind = same-within after {a = Layout.alert-count-place} {b = Layout.registers-length} (omega arith) in
+        let behind = same-within after {a = Layout.alert-count-offset} {b = Layout.registers-length} (omega arith) in
         rw (
-          number-same before 8 Layout.status-place (omega arith),
-          number-same before 8 Layout.options-place (omega arith),
-          number-same behind 1 Layout.alert-count-place (omega arith),
+          number-same before 8 Layout.status-offset (omega arith),
+          number-same before 8 Layout.options-offset (omega arith),
+          number-same behind 1 Layout.alert-count-offset (omega arith),
           alerts-same behind (Layout.alertCount (p .registers)) (omega arith) (w .rest .alerts),
           retained-same behind (omega arith) (w .rest .text),
         )
 
   -- ---- a flag
 
-  module _ (at : ℕ) (h : (Layout.reboot-place ≤ at) × (at ≤ Layout.power-off-place)) where
+  module _ (at : ℕ) (h : (Layout.reboot-offset ≤ at) × (at ≤ Layout.power-off-offset)) where
     abbrev asked : List ℕ
     asked = overlay at (1 ∷ []) (p .registers)
 
@@ -82,12 +82,12 @@ module _ (p : Calls.Parts) (w : RegistersValid (p .registers)) where
     flag-put = rw (overlay-inside at (1 ∷ []) (p .registers) (omega arith))
 
     flag-view : view (withRegisters p asked)
-        ≡ noted (view p) (flag asked Layout.reboot-place) (flag asked Layout.power-off-place) (view p .boot-failure) (view p .panic)
+        ≡ noted (view p) (flag asked Layout.reboot-offset) (flag asked Layout.power-off-offset) (view p .boot-failure) (view p .panic)
     unfolding view
     flag-view =
         let behind = after at (1 ∷ []) (omega arith) in
         put-view at (1 ∷ []) (omega arith)
-        ∙ rw (recorded-same behind Layout.boot-failure-place (omega arith), recorded-same behind Layout.panic-place (omega arith))
+        ∙ rw (recorded-same behind Layout.boot-failure-offset (omega arith), recorded-same behind Layout.panic-offset (omega arith))
 
 -- ---- a reboot or a power-off asked for: a flag, and no retained reply
 
@@ -96,20 +96,20 @@ abbrev forgotten : State → State
 forgotten s = withRetained s none
 
 forgotten-view : (p : Calls.Parts) → RegistersValid (p .registers)
-    → view (withRegisters p (overlay Layout.retained-place (0 ∷ []) (p .registers))) ≡ forgotten (view p)
+    → view (withRegisters p (overlay Layout.retained-offset (0 ∷ []) (p .registers))) ≡ forgotten (view p)
 unfolding view retainedOf number
 forgotten-view p w =
     let r = p .registers in
-    let at = Layout.retained-place in
-    let before : Same Layout.status-place at r (overlay at (0 ∷ []) r) = same-before at (0 ∷ []) r (omega arith) (omega arith) in
+    let at = Layout.retained-offset in
+    let before : Same Layout.status-offset at r (overlay at (0 ∷ []) r) = same-before at (0 ∷ []) r (omega arith) (omega arith) in
     rw (
-      number-same before 8 Layout.status-place (omega arith),
-      number-same before 8 Layout.options-place (omega arith),
-      number-same before 1 Layout.reboot-place (omega arith),
-      number-same before 1 Layout.power-off-place (omega arith),
-      recorded-same before Layout.boot-failure-place (omega arith),
-      recorded-same before Layout.panic-place (omega arith),
-      number-same before 1 Layout.alert-count-place (omega arith),
+      number-same before 8 Layout.status-offset (omega arith),
+      number-same before 8 Layout.options-offset (omega arith),
+      number-same before 1 Layout.reboot-offset (omega arith),
+      number-same before 1 Layout.power-off-offset (omega arith),
+      recorded-same before Layout.boot-failure-offset (omega arith),
+      recorded-same before Layout.panic-offset (omega arith),
+      number-same before 1 Layout.alert-count-offset (omega arith),
       alerts-same before (Layout.alertCount r) (omega arith) (w .rest .alerts),
       overlay-inside at (0 ∷ []) r (omega arith),
     )
@@ -118,10 +118,10 @@ module _ (p : Calls.Parts) (v : validRegisters (p .registers) ≡ true) where
   abbrev w : RegistersValid (p .registers)
   w = registers-valid (p .registers) v
 
-  module _ (at : ℕ) (h : (Layout.reboot-place ≤ at) × (at ≤ Layout.power-off-place)) where
-    -- whichever of the two flags stands at the place
+  module _ (at : ℕ) (h : (Layout.reboot-offset ≤ at) × (at ≤ Layout.power-off-offset)) where
+    -- whichever of the two flags stands at the offset
     asked-view : view (withRegisters p (Receive.askedFor (p .registers) at))
-        ≡ forgotten (noted (view p) (flag (asked p w at h) Layout.reboot-place) (flag (asked p w at h) Layout.power-off-place) (view p .boot-failure) (view p .panic))
+        ≡ forgotten (noted (view p) (flag (asked p w at h) Layout.reboot-offset) (flag (asked p w at h) Layout.power-off-offset) (view p .boot-failure) (view p .panic))
     unfolding Receive.askedFor
     asked-view =
         forgotten-view (withRegisters p (asked p w at h)) (registers-valid (asked p w at h) (flag-valid (p .registers) v at h))
@@ -133,43 +133,43 @@ module _ (p : Calls.Parts) (v : validRegisters (p .registers) ≡ true) where
         let long = w .long in
         let same = length-overlay at (1 ∷ []) (p .registers) (omega arith) in
         like-then (like-put at (1 ∷ []) (p .registers) (omega arith) (λ _. (omega arith, tt)))
-        (like-put Layout.retained-place (0 ∷ []) (asked p w at h) (omega arith) (λ _. (omega arith, tt)))
+        (like-put Layout.retained-offset (0 ∷ []) (asked p w at h) (omega arith) (λ _. (omega arith, tt)))
 
-  pub reboot-view : view (withRegisters p (Receive.askedFor (p .registers) Layout.reboot-place)) ≡ Requests.reboot (view p) .state
+  pub reboot-view : view (withRegisters p (Receive.askedFor (p .registers) Layout.reboot-offset)) ≡ Requests.reboot (view p) .state
   unfolding view Requests.reboot
   reboot-view =
-      let at = Layout.reboot-place in
+      let at = Layout.reboot-offset in
       asked-view at (omega arith)
-      ∙ rw (flag-put p w at (omega arith), number-same (after p w at (1 ∷ []) (omega arith)) 1 Layout.power-off-place (omega arith))
+      ∙ rw (flag-put p w at (omega arith), number-same (after p w at (1 ∷ []) (omega arith)) 1 Layout.power-off-offset (omega arith))
 
-  pub power-off-view : view (withRegisters p (Receive.askedFor (p .registers) Layout.power-off-place)) ≡ Requests.powerOff (view p) .state
+  pub power-off-view : view (withRegisters p (Receive.askedFor (p .registers) Layout.power-off-offset)) ≡ Requests.powerOff (view p) .state
   unfolding view Requests.powerOff
   power-off-view =
-      let at = Layout.power-off-place in
+      let at = Layout.power-off-offset in
       asked-view at (omega arith)
-      ∙ rw (flag-put p w at (omega arith), number-same (before p w at (1 ∷ []) (omega arith)) 1 Layout.reboot-place (omega arith))
+      ∙ rw (flag-put p w at (omega arith), number-same (before p w at (1 ∷ []) (omega arith)) 1 Layout.reboot-offset (omega arith))
 
 module _ (p : Calls.Parts) (w : RegistersValid (p .registers)) where
   -- ---- a record
 
-  module _ (at code : ℕ) (rest : List ℕ) (h : (Layout.boot-failure-place ≤ at) × (at ≤ Layout.panic-place)) where
+  module _ (at code : ℕ) (rest : List ℕ) (h : (Layout.boot-failure-offset ≤ at) × (at ≤ Layout.panic-offset)) where
     abbrev telling : List ℕ
     telling = Receive.withRecord (p .registers) at code rest
 
-    record-before : Same Layout.status-place at (p .registers) telling
+    record-before : Same Layout.status-offset at (p .registers) telling
     record-before = recorded-before (p .registers) at code rest (omega arith) (omega arith)
 
     record-after : Same (at + Layout.record-length) Layout.registers-length (p .registers) telling
     record-after = recorded-after (p .registers) at code rest (omega arith) (omega arith)
 
     record-view : view (withRegisters p telling)
-        ≡ noted (view p) (view p .reboot-asked) (view p .power-off-asked) (recordedOf telling Layout.boot-failure-place) (recordedOf telling Layout.panic-place)
+        ≡ noted (view p) (view p .reboot-asked) (view p .power-off-asked) (recordedOf telling Layout.boot-failure-offset) (recordedOf telling Layout.panic-offset)
     unfolding view Receive.withRecord
     record-view =
         put-view p w at (entry code rest) (omega (arith, length-entry code rest))
         ∙ rw (
-          number-same record-before 1 Layout.reboot-place (omega arith),
-          number-same record-before 1 Layout.power-off-place (omega arith),
+          number-same record-before 1 Layout.reboot-offset (omega arith),
+          number-same record-before 1 Layout.power-off-offset (omega arith),
         )
 
     pub record-like : Each Byte rest → Like (p .registers) telling
@@ -179,52 +179,52 @@ module _ (p : Calls.Parts) (w : RegistersValid (p .registers)) where
         (λ _. each-number 1 1 _ (each-number 2 code _ (each-number 2 (length rest) _ (each-take Byte Limits.most-kept rest e))))
 
   module _ (code : ℕ) (rest : List ℕ) (small : code < 65536) (short : length rest < 65536) where
-    pub boot-failure-view : view (withRegisters p (Receive.withRecord (p .registers) Layout.boot-failure-place code rest))
+    pub boot-failure-view : view (withRegisters p (Receive.withRecord (p .registers) Layout.boot-failure-offset code rest))
         ≡ noted (view p) (view p .reboot-asked) (view p .power-off-asked) (some (Requests.recorded code rest)) (view p .panic)
     unfolding view
     boot-failure-view =
-        let at = Layout.boot-failure-place in
+        let at = Layout.boot-failure-offset in
         record-view at code rest (omega arith)
         ∙ rw (
           put-record (p .registers) at code rest (omega arith) small short,
-          recorded-same (record-after at code rest (omega arith)) Layout.panic-place (omega arith),
+          recorded-same (record-after at code rest (omega arith)) Layout.panic-offset (omega arith),
         )
 
-    pub panic-view : view (withRegisters p (Receive.withRecord (p .registers) Layout.panic-place code rest))
+    pub panic-view : view (withRegisters p (Receive.withRecord (p .registers) Layout.panic-offset code rest))
         ≡ noted (view p) (view p .reboot-asked) (view p .power-off-asked) (view p .boot-failure) (some (Requests.recorded code rest))
     unfolding view
     panic-view =
-        let at = Layout.panic-place in
+        let at = Layout.panic-offset in
         record-view at code rest (omega arith)
         ∙ rw (
-          recorded-same (record-before at code rest (omega arith)) Layout.boot-failure-place (omega arith),
+          recorded-same (record-before at code rest (omega arith)) Layout.boot-failure-offset (omega arith),
           put-record (p .registers) at code rest (omega arith) small short,
         )
 
   -- ---- the start acknowledged
 
-  pub acknowledged-view : view (withRegisters p (overlay Layout.status-place (bytes 8 (Requests.clearBit (Layout.statusOf (p .registers)) 0)) (p .registers)))
+  pub acknowledged-view : view (withRegisters p (overlay Layout.status-offset (bytes 8 (Requests.clearBit (Layout.statusOf (p .registers)) 0)) (p .registers)))
       ≡ Requests.startAcknowledged (view p) .state
   unfolding view Requests.startAcknowledged
   acknowledged-view =
       let r = p .registers in
       let status = Requests.clearBit (Layout.statusOf r) 0 in
       let small = clear-small (Layout.statusOf r) 0 in
-      let room : Layout.status-place + 8 ≤ length r = omega arith in
-      let s = overlay Layout.status-place (bytes 8 status) r in
-      let behind : Same Layout.options-place Layout.registers-length r s = stored-after 8 Layout.status-place status r room (omega arith) in
+      let room : Layout.status-offset + 8 ≤ length r = omega arith in
+      let s = overlay Layout.status-offset (bytes 8 status) r in
+      let behind : Same Layout.options-offset Layout.registers-length r s = stored-after 8 Layout.status-offset status r room (omega arith) in
       let kept : Kept r s = record {
-        long = stored-long 8 Layout.status-place status r room;
+        long = stored-long 8 Layout.status-offset status r room;
         flags-and-records = same-within behind (omega arith);
         retained = same-within behind (omega arith);
       } in
       kept-view p kept w
       ∙ rw (
-        stored-number 8 Layout.status-place status r room (omega arith),
-        number-same behind 8 Layout.options-place (omega arith),
-        number-same behind 1 Layout.alert-count-place (omega arith),
+        stored-number 8 Layout.status-offset status r room (omega arith),
+        number-same behind 8 Layout.options-offset (omega arith),
+        number-same behind 1 Layout.alert-count-offset (omega arith),
         alerts-same behind (Layout.alertCount r) (omega arith) (w .rest .alerts),
       )
 
-  pub acknowledged-like : (status : ℕ) → Like (p .registers) (overlay Layout.status-place (bytes 8 status) (p .registers))
-  acknowledged-like status = like-stored 8 Layout.status-place status (p .registers) (omega arith)
+  pub acknowledged-like : (status : ℕ) → Like (p .registers) (overlay Layout.status-offset (bytes 8 status) (p .registers))
+  acknowledged-like status = like-stored 8 Layout.status-offset status (p .registers) (omega arith)

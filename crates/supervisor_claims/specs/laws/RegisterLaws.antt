@@ -19,7 +19,7 @@ use Rattle.octets.proofs.SameBytes.{Same, number-same}
 
 -- the first n alerts
 abbrev pub alertsOf : List ℕ → ℕ → List Alert
-alertsOf r = listed (λ i. alertOf r (Layout.alert-place i))
+alertsOf r = listed (λ i. alertOf r (Layout.alert-offset i))
 
 -- ---- what lies where two lists are the same
 
@@ -29,9 +29,9 @@ module _ {from to : ℕ} {r s : List ℕ} (same : Same from to r s) where
   recorded-same at h =
       rw (
         number-same same 1 at (omega arith),
-        number-same same 2 (at + Layout.record-code-place) (omega arith),
-        number-same same 2 (at + Layout.record-whole-place) (omega arith),
-        same .runs (at + Layout.record-kept-place) (Calls.keptOf r at) (omega arith),
+        number-same same 2 (at + Layout.record-code-offset) (omega arith),
+        number-same same 2 (at + Layout.record-whole-offset) (omega arith),
+        same .runs (at + Layout.record-kept-offset) (Calls.keptOf r at) (omega arith),
       )
 
   pub alert-same : (at : ℕ) → (from ≤ at) × (at + Layout.alert-length ≤ to) → Layout.alertTextLength r at ≤ Limits.longest-alert
@@ -40,25 +40,25 @@ module _ {from to : ℕ} {r s : List ℕ} (same : Same from to r s) where
   alert-same at h k =
       rw (
         number-same same 2 at (omega arith),
-        number-same same 1 (at + Layout.alert-action-place) (omega arith),
-        same .runs (at + Layout.alert-text-place) (Layout.alertTextLength r at) (omega arith),
+        number-same same 1 (at + Layout.alert-action-offset) (omega arith),
+        same .runs (at + Layout.alert-text-offset) (Layout.alertTextLength r at) (omega arith),
       )
 
-  pub retained-same : (from ≤ Layout.retained-place) × (Layout.registers-length ≤ to)
-      → Layout.alertTextLength r Layout.retained-alert-place ≤ Limits.longest-alert → retainedOf s ≡ retainedOf r
+  pub retained-same : (from ≤ Layout.retained-offset) × (Layout.registers-length ≤ to)
+      → Layout.alertTextLength r Layout.retained-alert-offset ≤ Limits.longest-alert → retainedOf s ≡ retainedOf r
   unfolding retainedOf
   retained-same h k =
       rw (
-        number-same same 1 Layout.retained-place (omega arith),
-        number-same same 8 Layout.retained-sequence-place (omega arith),
-        alert-same Layout.retained-alert-place (omega arith) k,
+        number-same same 1 Layout.retained-offset (omega arith),
+        number-same same 8 Layout.retained-sequence-offset (omega arith),
+        alert-same Layout.retained-alert-offset (omega arith) k,
       )
 
-  pub alerts-same : (n : ℕ) → (from ≤ Layout.alerts-place) × (Layout.alert-place n ≤ to) → validAlerts r n ≡ true → alertsOf s n ≡ alertsOf r n
+  pub alerts-same : (n : ℕ) → (from ≤ Layout.alerts-offset) × (Layout.alert-offset n ≤ to) → validAlerts r n ≡ true → alertsOf s n ≡ alertsOf r n
   alerts-same n h v =
       listed-same _ _ n (λ i k.
       let a = alert-valid r i (all-each (validAlert r) n v i k) in
-      alert-same (Layout.alert-place i) (omega arith) (a .size))
+      alert-same (Layout.alert-offset i) (omega arith) (a .size))
 
 -- the state with another status, other options and other alerts that wait
 abbrev pub changed : State → ℕ → ℕ → List Alert → State
@@ -69,9 +69,9 @@ pub kept-view : (p : Calls.Parts) {s : List ℕ} → Kept (p .registers) s → R
 unfolding view
 kept-view p k v =
     rw (
-      number-same (k .flags-and-records) 1 Layout.reboot-place (omega arith),
-      number-same (k .flags-and-records) 1 Layout.power-off-place (omega arith),
-      recorded-same (k .flags-and-records) Layout.boot-failure-place (omega arith),
-      recorded-same (k .flags-and-records) Layout.panic-place (omega arith),
+      number-same (k .flags-and-records) 1 Layout.reboot-offset (omega arith),
+      number-same (k .flags-and-records) 1 Layout.power-off-offset (omega arith),
+      recorded-same (k .flags-and-records) Layout.boot-failure-offset (omega arith),
+      recorded-same (k .flags-and-records) Layout.panic-offset (omega arith),
       retained-same (k .retained) (omega arith) (v .rest .text),
     )

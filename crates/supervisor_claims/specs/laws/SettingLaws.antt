@@ -16,7 +16,7 @@ use Rattle.octets.proofs.SameBytes.{Same, number-same}
 use Rattle.supervisor.specs.Limits
 use Rattle.supervisor.specs.Layout
 use Rattle.supervisor.specs.State.{Settings, withSetting}
-use Rattle.supervisor.proofs.PlaceLaws.{place-within, Lies, setting-lies}
+use Rattle.supervisor.proofs.OffsetLaws.{place-within, Lies, setting-lies}
 use Rattle.supervisor.proofs.ValidLaws.{SettingValid, SettingsValid}
 use Rattle.requests.specs.Requests
 use Rattle.requests.specs.Receive
@@ -27,28 +27,28 @@ use Rattle.supervisor_claims.specs.laws.PartLaws.{Like, like-itself, lik
 
 -- ---- the view of a value that was put
 
-put-setting : (s v : List ℕ) (at : ℕ) → at + (Layout.setting-value-place + length v) ≤ length s → length v < 65536 → settingOf (Receive.withValue s at v) at ≡ some v
+put-setting : (s v : List ℕ) (at : ℕ) → at + (Layout.setting-value-offset + length v) ≤ length s → length v < 65536 → settingOf (Receive.withValue s at v) at ≡ some v
 unfolding settingOf
 put-setting s v at room short = rw (setting-held s v at room, setting-size s v at room short, setting-value s v at room)
 
 -- ---- the other settings
 
 pub setting-same : {from to : ℕ} {s t : List ℕ} → Same from to s t → (at most : ℕ) → SettingValid s at most
-    → (from ≤ at) × (at + Layout.setting-value-place + most ≤ to) → settingOf t at ≡ settingOf s at
+    → (from ≤ at) × (at + Layout.setting-value-offset + most ≤ to) → settingOf t at ≡ settingOf s at
 unfolding settingOf
 setting-same {s} same at most v h =
     rw (
       number-same same 1 at (omega arith),
-      number-same same 2 (at + Layout.setting-length-place) (omega arith),
-      same .runs (at + Layout.setting-value-place) (Layout.settingLength s at) (omega arith),
+      number-same same 2 (at + Layout.setting-length-offset) (omega arith),
+      same .runs (at + Layout.setting-value-offset) (Layout.settingLength s at) (omega arith),
     )
 
-module _ (s v : List ℕ) (at : ℕ) (room : at + (Layout.setting-value-place + length v) ≤ length s) {bt most : ℕ} (valid : SettingValid s bt most) where
-  before-value : bt + Layout.setting-value-place + most ≤ at → settingOf (Receive.withValue s at v) bt ≡ settingOf s bt
+module _ (s v : List ℕ) (at : ℕ) (room : at + (Layout.setting-value-offset + length v) ≤ length s) {bt most : ℕ} (valid : SettingValid s bt most) where
+  before-value : bt + Layout.setting-value-offset + most ≤ at → settingOf (Receive.withValue s at v) bt ≡ settingOf s bt
   before-value h = setting-same (setting-before s v at room {from = bt} h) bt most valid (omega arith)
 
-  after-value : at + (Layout.setting-value-place + length v) ≤ bt → settingOf (Receive.withValue s at v) bt ≡ settingOf s bt
-  after-value h = setting-same (setting-after s v at room {to = bt + Layout.setting-value-place + most} h) bt most valid (omega arith)
+  after-value : at + (Layout.setting-value-offset + length v) ≤ bt → settingOf (Receive.withValue s at v) bt ≡ settingOf s bt
+  after-value h = setting-same (setting-after s v at room {to = bt + Layout.setting-value-offset + most} h) bt most valid (omega arith)
 
 -- ---- what a store does and answers is what the meaning has
 
@@ -66,8 +66,8 @@ module _ (s v : List ℕ) (w : SettingsValid s) (each : Each Byte v) where
   unstored : (n : ℕ) → n < 256 → Stores s (Receive.keyStored n s) (told n (settingsOf s))
   unstored n h = record { settings = refl; result = refl; small = h; like = like-itself s }
 
-  -- at the place of a key
-  stored-at : (at most : ℕ) (x : Settings) → at + (Layout.setting-value-place + most) ≤ Layout.settings-length
+  -- at the offset of a key
+  stored-at : (at most : ℕ) (x : Settings) → at + (Layout.setting-value-offset + most) ≤ Layout.settings-length
       → (length v ≤ most → settingsOf (Receive.withValue s at v) ≡ x)
       → Stores s (Receive.storingAt s at most v) (cond (ltb most (length v)) (told 3 (settingsOf s)) (told 0 x))
   unfolding Receive.storingAt Receive.withValue
@@ -84,20 +84,20 @@ module _ (s v : List ℕ) (w : SettingsValid s) (each : Each Byte v) where
   -- of a key
   module _ (key : ℕ) (h : Limits.SettingsKey key) (short : length v ≤ Limits.longest-setting key) where
     abbrev after : List ℕ
-    after = Receive.withValue s (Layout.setting-place key) v
+    after = Receive.withValue s (Layout.setting-offset key) v
 
     other-value : (j : ℕ) → Limits.SettingsKey j → Lies j key → (j ≡ key → ⊥)
-        → settingOf after (Layout.setting-place j) ≡ settingOf s (Layout.setting-place j)
-    other-value j i (inl l) n = before-value s v (Layout.setting-place key) (value-room s v w key h short) (w .each j i) (omega arith)
+        → settingOf after (Layout.setting-offset j) ≡ settingOf s (Layout.setting-offset j)
+    other-value j i (inl l) n = before-value s v (Layout.setting-offset key) (value-room s v w key h short) (w .each j i) (omega arith)
     other-value j i (inr (inl e)) n = absurd (n e)
-    other-value j i (inr (inr l)) n = after-value s v (Layout.setting-place key) (value-room s v w key h short) (w .each j i) (omega arith)
+    other-value j i (inr (inr l)) n = after-value s v (Layout.setting-offset key) (value-room s v w key h short) (w .each j i) (omega arith)
 
     pub settings-put : settingsOf after ≡ withSetting (settingsOf s) key v
     unfolding settingsOf
     settings-put =
         let e : Limits.first-setting + (key - Limits.first-setting) ≡ key = omega (arith, h) in
         listed-set _ _ (some v) Limits.setting-count (key - Limits.first-setting) (omega (arith, h))
-        (rw e (put-setting s v (Layout.setting-place key) (value-room s v w key h short) (value-small s v w key h short)))
+        (rw e (put-setting s v (Layout.setting-offset key) (value-room s v w key h short) (value-small s v w key h short)))
         (λ j l n.
         let i : Limits.SettingsKey (Limits.first-setting + j) = record { least = omega arith; most = omega arith } in
         other-value (Limits.first-setting + j) i (setting-lies (Limits.first-setting + j) key i h) (λ o. n (omega (arith, o))))

@@ -43,7 +43,7 @@ pub all-taken : (s : State) → allTaken s ≡ s .pending
 unfolding taken
 all-taken s = take-all (length (s .pending)) (s .pending) (omega arith)
 
-pub after-all : (s : State) → afterAll s ≡ lined s (s .received) [] (lastNonZero (s .owing) (s .pending))
+pub after-all : (s : State) → afterAll s ≡ lined s (s .received) [] (lastNonZero (s .terminator-owed) (s .pending))
 unfolding afterTake
 after-all s = rw (all-taken s, drop-all (length (s .pending)) (s .pending) (omega arith))
 
@@ -102,13 +102,13 @@ after-append image s (f ∷ fs) gs = after-append image (afterFrame image s f) f
 
 pub record Quiet (s : State) : Type 0 where
   pub pending : s .pending ≡ []
-  pub owing : s .owing ≡ false
+  pub terminator-owed : s .terminator-owed ≡ false
 
 frame-quiet : (image : List ℕ) (s : State) (f : List ℕ) → Quiet s → Quiet (afterFrame image s f)
 unfolding afterFrame
 frame-quiet image s f q =
-    let d = done-lined image s (s .received) (s .pending) (s .owing) (verdict f) in
-    record { pending = ap (λ (x : State). x .pending) d ∙ q .pending; owing = ap (λ (x : State). x .owing) d ∙ q .owing }
+    let d = done-lined image s (s .received) (s .pending) (s .terminator-owed) (verdict f) in
+    record { pending = ap (λ (x : State). x .pending) d ∙ q .pending; terminator-owed = ap (λ (x : State). x .terminator-owed) d ∙ q .terminator-owed }
 
 frames-quiet : (image : List ℕ) (s : State) (fs : List (List ℕ)) → Quiet s → Quiet (afterFrames image s fs)
 unfolding afterFrames
@@ -132,16 +132,16 @@ unfolding replyFrame lastNonZero
 reply-last none = refl
 reply-last (some r) = frame-last (record { version = r .version; sequence = r .sequence; command = r .command; payload = r .payload })
 
-took-is : (s : State) → tookAll s ≡ record { taken = s .pending; state = lined s (s .received) [] (lastNonZero (s .owing) (s .pending)) }
+took-is : (s : State) → tookAll s ≡ record { taken = s .pending; state = lined s (s .received) [] (lastNonZero (s .terminator-owed) (s .pending)) }
 took-is s = rw (all-taken s, after-all s)
 
 quiet-taken : (s : State) (r : Option (List ℕ)) → Quiet s → tookAll (withReceived s r) ≡ record { taken = []; state = withReceived s r }
 unfolding lastNonZero
-quiet-taken s r q = took-is (withReceived s r) ∙ rw (q .pending, q .owing)
+quiet-taken s r q = took-is (withReceived s r) ∙ rw (q .pending, q .terminator-owed)
 
-reply-taken : (s : State) (r : Option (List ℕ)) (owing : Bool) (reply : Option Reply) → Quiet s → owing ≡ false
-    → tookAll (lined s r (owed owing ++ replyFrame reply) owing) ≡ record { taken = replyFrame reply; state = withReceived s r }
-reply-taken s r owing reply q e = rw e (took-is (lined s r (replyFrame reply) false) ∙ rw (reply-last reply, q .pending, q .owing))
+reply-taken : (s : State) (r : Option (List ℕ)) (terminator-owed : Bool) (reply : Option Reply) → Quiet s → terminator-owed ≡ false
+    → tookAll (lined s r (owed terminator-owed ++ replyFrame reply) terminator-owed) ≡ record { taken = replyFrame reply; state = withReceived s r }
+reply-taken s r terminator-owed reply q e = rw e (took-is (lined s r (replyFrame reply) false) ∙ rw (reply-last reply, q .pending, q .terminator-owed))
 
 module _ (image : List ℕ) (s : State) (q : Quiet s) where
   judged-taken : (r : Option (List ℕ)) (f : List ℕ)
@@ -149,7 +149,7 @@ module _ (image : List ℕ) (s : State) (q : Quiet s) where
   unfolding afterFrame replyTo
   judged-taken r f =
       ap (λ (x : State). tookAll (withReceived x r)) (judged-is image s (verdict f))
-      ∙ reply-taken (afterFrame image s f) r (s .owing) (replyTo image s f) (frame-quiet image s f q) (q .owing)
+      ∙ reply-taken (afterFrame image s f) r (s .terminator-owed) (replyTo image s f) (frame-quiet image s f q) (q .terminator-owed)
 
   -- a 00 behind bytes
   turn-close : (bs : List ℕ) → turn image (withReceived s (tailOf bs)) 0
@@ -198,14 +198,14 @@ module _ (image : List ℕ) (s : State) (q : Quiet s) where
       (ap (λ (x : Session). joined x (session image (x .state) cs)) (turn-replied bs c) ∙ session-replied cs (bs ++ (c ∷ [])) ∙ rw append-snoc)
 
 -- what is taken is the replies to the frames that are not empty, in order, and the state is as those frames leave it, with nothing pending
-module _ (image : List ℕ) (s : State) (bs : List ℕ) (idle : s .received ≡ some []) (pending : s .pending ≡ []) (owing : s .owing ≡ false) where
+module _ (image : List ℕ) (s : State) (bs : List ℕ) (idle : s .received ≡ some []) (pending : s .pending ≡ []) (terminator-owed : s .terminator-owed ≡ false) where
   all-replied : session image s bs ≡ record {
     taken = replies image s (nonEmpty (split bs .closed));
     state = withReceived (afterFrames image s (nonEmpty (split bs .closed))) (tailOf (split bs .rest));
   }
   unfolding replies afterFrames nonEmpty split tailOf
   all-replied =
-      let q : Quiet s = record { pending = pending; owing = owing } in
+      let q : Quiet s = record { pending = pending; terminator-owed = terminator-owed } in
       let z : s ≡ withReceived s (some []) = rw (← idle) in
       ap (λ (x : State). session image x bs) z ∙ session-replied image s q bs []
 

@@ -46,7 +46,7 @@ status-after status [] = refl
 status-after status (a ∷ []) = refl
 status-after status (a ∷ b ∷ rest) = rw (lt-leb (suc (suc (length rest))) 1 (omega arith))
 
--- ---- bytes at another place
+-- ---- bytes at another offset
 
 -- s has from bt on what r has from at on
 record Moved (size at bt : ℕ) (r s : List ℕ) : Type 0 where
@@ -58,19 +58,19 @@ unfolding alertOf
 alert-moved {at} {r = r} moved h =
     rw (
       ap number (simp add-zero at (moved .runs 0 2 (omega arith))),
-      ap number (moved .runs Layout.alert-action-place 1 (omega arith)),
-      moved .runs Layout.alert-text-place (Layout.alertTextLength r at) (omega arith),
+      ap number (moved .runs Layout.alert-action-offset 1 (omega arith)),
+      moved .runs Layout.alert-text-offset (Layout.alertTextLength r at) (omega arith),
     )
 
 -- ---- the registers of an alert request that takes an alert, or none
 
 -- the bytes of the alert that is retained: the oldest one's, or action 0 and no text
 abbrev firstBytes : List ℕ → List ℕ
-firstBytes r = cond (eqb (Layout.alertCount r) 0) (replicate 3 0) (run Layout.alerts-place Layout.alert-length r)
+firstBytes r = cond (eqb (Layout.alertCount r) 0) (replicate 3 0) (run Layout.alerts-offset Layout.alert-length r)
 
 -- the registers before the status is stored
 abbrev counted : List ℕ → ℕ → List ℕ
-counted r sequence = overlay Layout.alert-count-place (bytes 1 (Layout.alertCount r - 1)) (Receive.movedAlerts (Receive.withRetained r sequence))
+counted r sequence = overlay Layout.alert-count-offset (bytes 1 (Layout.alertCount r - 1)) (Receive.movedAlerts (Receive.withRetained r sequence))
 
 abbrev statusThen : List ℕ → ℕ
 statusThen r = cond (leb (Layout.alertCount r) 1) (Requests.clearBit (Layout.statusOf r) 1) (Layout.statusOf r)
@@ -81,19 +81,19 @@ three-zeros = (omega arith, (omega arith, (omega arith, tt)))
 module _ (r : List ℕ) (sequence : ℕ) (w : RegistersValid r) where
   first-long : (3 ≤ length (firstBytes r)) × (length (firstBytes r) ≤ Layout.alert-length)
   first-long =
-      let n = length-run Layout.alerts-place Layout.alert-length r (omega arith) in
+      let n = length-run Layout.alerts-offset Layout.alert-length r (omega arith) in
       cond-by (λ zs. (3 ≤ length zs) × (length zs ≤ Layout.alert-length)) (eqb (Layout.alertCount r) 0) (replicate 3 0) _
       (λ e. omega arith) (λ e. omega arith)
 
   first-bytes : Each Byte r → Each Byte (firstBytes r)
   first-bytes b =
       cond-by (Each Byte) (eqb (Layout.alertCount r) 0) (replicate 3 0) _
-      (λ e. three-zeros) (λ e. each-run Layout.alerts-place Layout.alert-length r b)
+      (λ e. three-zeros) (λ e. each-run Layout.alerts-offset Layout.alert-length r b)
 
   retained-like : Like r (Receive.withRetained r sequence)
   unfolding Receive.withRetained
   retained-like =
-      like-put Layout.retained-place (retainedBytes sequence (firstBytes r)) r (omega (arith, first-long, length-retained sequence (firstBytes r)))
+      like-put Layout.retained-offset (retainedBytes sequence (firstBytes r)) r (omega (arith, first-long, length-retained sequence (firstBytes r)))
       (λ b. each-number 1 1 _ (each-number 8 sequence _ (first-bytes b)))
 
   retained-long : Layout.registers-length ≤ length (Receive.withRetained r sequence)
@@ -103,17 +103,17 @@ module _ (r : List ℕ) (sequence : ℕ) (w : RegistersValid r) where
   unfolding Receive.movedAlerts
   moved-like =
       let s = Receive.withRetained r sequence in
-      like-put Layout.alerts-place (run (Layout.alert-place 1) rest-length s) s (omega (arith, length-rest s retained-long, retained-long))
-      (each-run (Layout.alert-place 1) rest-length s)
+      like-put Layout.alerts-offset (run (Layout.alert-offset 1) rest-length s) s (omega (arith, length-rest s retained-long, retained-long))
+      (each-run (Layout.alert-offset 1) rest-length s)
 
   counted-like : Like r (counted r sequence)
   counted-like =
       let l = like-then retained-like moved-like in
-      like-then l (like-stored 1 Layout.alert-count-place _ _ (omega (arith, l .long)))
+      like-then l (like-stored 1 Layout.alert-count-offset _ _ (omega (arith, l .long)))
 
   pub taken-like : Like r (Receive.withTaken r sequence)
   unfolding Receive.withTaken
-  taken-like = like-then counted-like (like-stored 8 Layout.status-place _ (counted r sequence) (omega (arith, counted-like .long)))
+  taken-like = like-then counted-like (like-stored 8 Layout.status-offset _ (counted r sequence) (omega (arith, counted-like .long)))
 
   -- ---- what stays
 
@@ -121,24 +121,24 @@ module _ (r : List ℕ) (sequence : ℕ) (w : RegistersValid r) where
   counted-room = omega (arith, retained-long, moved-like .long)
 
   -- the alerts and the retained reply
-  counted-after : Same Layout.alerts-place Layout.registers-length (Receive.movedAlerts (Receive.withRetained r sequence)) (counted r sequence)
-  counted-after = stored-after 1 Layout.alert-count-place _ _ (omega (arith, counted-room)) (omega arith)
+  counted-after : Same Layout.alerts-offset Layout.registers-length (Receive.movedAlerts (Receive.withRetained r sequence)) (counted r sequence)
+  counted-after = stored-after 1 Layout.alert-count-offset _ _ (omega (arith, counted-room)) (omega arith)
 
-  taken-after : Same Layout.options-place Layout.registers-length (counted r sequence) (Receive.withTaken r sequence)
+  taken-after : Same Layout.options-offset Layout.registers-length (counted r sequence) (Receive.withTaken r sequence)
   unfolding Receive.withTaken
-  taken-after = stored-after 8 Layout.status-place _ _ (omega (arith, counted-like .long)) (omega arith)
+  taken-after = stored-after 8 Layout.status-offset _ _ (omega (arith, counted-like .long)) (omega arith)
 
   -- the options, the flags and the records
-  front : Same Layout.options-place Layout.alert-count-place r (Receive.withTaken r sequence)
+  front : Same Layout.options-offset Layout.alert-count-offset r (Receive.withTaken r sequence)
   front =
       same-then (retained-before r sequence (w .long) (omega arith))
       (same-then (moved-before (Receive.withRetained r sequence) retained-long (omega arith))
-      (same-then (stored-before 1 Layout.alert-count-place _ _ (omega (arith, counted-room)) (omega arith)) (same-within taken-after (omega arith))))
+      (same-then (stored-before 1 Layout.alert-count-offset _ _ (omega (arith, counted-room)) (omega arith)) (same-within taken-after (omega arith))))
 
-  slots : Same Layout.alerts-place Layout.registers-length (Receive.movedAlerts (Receive.withRetained r sequence)) (Receive.withTaken r sequence)
+  slots : Same Layout.alerts-offset Layout.registers-length (Receive.movedAlerts (Receive.withRetained r sequence)) (Receive.withTaken r sequence)
   slots = same-then counted-after (same-within taken-after (omega arith))
 
-  kept : Same Layout.retained-place Layout.registers-length (Receive.withRetained r sequence) (Receive.withTaken r sequence)
+  kept : Same Layout.retained-offset Layout.registers-length (Receive.withRetained r sequence) (Receive.withTaken r sequence)
   kept = same-then (moved-after (Receive.withRetained r sequence) retained-long (omega arith)) (same-within slots (omega arith))
 
   -- ---- the status and the count
@@ -147,63 +147,63 @@ module _ (r : List ℕ) (sequence : ℕ) (w : RegistersValid r) where
   unfolding Receive.withTaken
   taken-status =
       let small = taken-small (Layout.statusOf r) (Layout.alertCount r) (w .status) in
-      stored-number 8 Layout.status-place (statusThen r) (counted r sequence) (omega (arith, counted-like .long)) (omega arith)
+      stored-number 8 Layout.status-offset (statusThen r) (counted r sequence) (omega (arith, counted-like .long)) (omega arith)
 
   taken-count : Layout.alertCount (Receive.withTaken r sequence) ≡ Layout.alertCount r - 1
   taken-count =
-      number-same taken-after 1 Layout.alert-count-place (omega arith)
-      ∙ stored-number 1 Layout.alert-count-place (Layout.alertCount r - 1) _ (omega (arith, counted-room)) (omega arith)
+      number-same taken-after 1 Layout.alert-count-offset (omega arith)
+      ∙ stored-number 1 Layout.alert-count-offset (Layout.alertCount r - 1) _ (omega (arith, counted-room)) (omega arith)
 
   -- ---- the alerts that wait
 
-  valid-at : (i : ℕ) → i < Layout.alertCount r → Layout.alertTextLength r (Layout.alert-place i) ≤ Limits.longest-alert
+  valid-at : (i : ℕ) → i < Layout.alertCount r → Layout.alertTextLength r (Layout.alert-offset i) ≤ Limits.longest-alert
   valid-at i h = alert-valid r i (all-each (validAlert r) _ (w .rest .alerts) i h) .size
 
-  moved-down : (i : ℕ) → i + 1 < Limits.most-alerts → Moved Layout.alert-length (Layout.alert-place (suc i)) (Layout.alert-place i) r (Receive.withTaken r sequence)
+  moved-down : (i : ℕ) → i + 1 < Limits.most-alerts → Moved Layout.alert-length (Layout.alert-offset (suc i)) (Layout.alert-offset i) r (Receive.withTaken r sequence)
   moved-down i h = record {
     runs = λ j n k.
         let e : i + 1 ≡ suc i = omega arith in
-        let before : Same 0 Layout.retained-place r (Receive.withRetained r sequence) = retained-before r sequence (w .long) (omega arith) in
-        slots .runs (Layout.alert-place i + j) n (omega arith)
+        let before : Same 0 Layout.retained-offset r (Receive.withRetained r sequence) = retained-before r sequence (w .long) (omega arith) in
+        slots .runs (Layout.alert-offset i + j) n (omega arith)
         ∙ rw e at (moved-run (Receive.withRetained r sequence) retained-long i j n (omega arith) k)
-        ∙ before .runs (Layout.alert-place (suc i) + j) n (omega arith);
+        ∙ before .runs (Layout.alert-offset (suc i) + j) n (omega arith);
   }
 
   taken-waiting : alertsOf (Receive.withTaken r sequence) (Layout.alertCount r - 1) ≡ Requests.others (alertsOf r (Layout.alertCount r))
   taken-waiting =
-      listed-same _ (λ i. alertOf r (Layout.alert-place (suc i))) _ (λ i h.
+      listed-same _ (λ i. alertOf r (Layout.alert-offset (suc i))) _ (λ i h.
       alert-moved (moved-down i (omega arith)) (valid-at (suc i) (omega arith)))
-      ∙ listed-others (λ i. alertOf r (Layout.alert-place i)) (Layout.alertCount r)
+      ∙ listed-others (λ i. alertOf r (Layout.alert-offset i)) (Layout.alertCount r)
 
   -- ---- the retained reply
 
-  retained-run : (j n : ℕ) → j + n ≤ length (firstBytes r) → run (Layout.retained-alert-place + j) n (Receive.withTaken r sequence) ≡ run j n (firstBytes r)
+  retained-run : (j n : ℕ) → j + n ≤ length (firstBytes r) → run (Layout.retained-alert-offset + j) n (Receive.withTaken r sequence) ≡ run j n (firstBytes r)
   unfolding Receive.withRetained
   retained-run j n h =
-      kept .runs (Layout.retained-alert-place + j) n (omega (arith, first-long)) ∙ retaining-alert r sequence (firstBytes r) (omega arith) j n h
+      kept .runs (Layout.retained-alert-offset + j) n (omega (arith, first-long)) ∙ retaining-alert r sequence (firstBytes r) (omega arith) j n h
 
-  none-taken : Layout.alertCount r ≡ 0 → alertOf (Receive.withTaken r sequence) Layout.retained-alert-place ≡ Requests.oldest []
+  none-taken : Layout.alertCount r ≡ 0 → alertOf (Receive.withTaken r sequence) Layout.retained-alert-offset ≡ Requests.oldest []
   unfolding alertOf number Requests.oldest
   none-taken e =
       let f = eq-eqb (Layout.alertCount r) 0 e in
-      let part : (j n : ℕ) → j + n ≤ 3 → run (Layout.retained-alert-place + j) n (Receive.withTaken r sequence) ≡ run j n (replicate 3 0)
+      let part : (j n : ℕ) → j + n ≤ 3 → run (Layout.retained-alert-offset + j) n (Receive.withTaken r sequence) ≡ run j n (replicate 3 0)
       = λ j n h. rw f at (retained-run j n (rw f h)) in
       rw (rw add-zero at (part 0 2 (omega arith)), part 2 1 (omega arith))
 
-  first-taken : (Layout.alertCount r ≡ 0 → ⊥) → alertOf (Receive.withTaken r sequence) Layout.retained-alert-place ≡ alertOf r (Layout.alert-place 0)
+  first-taken : (Layout.alertCount r ≡ 0 → ⊥) → alertOf (Receive.withTaken r sequence) Layout.retained-alert-offset ≡ alertOf r (Layout.alert-offset 0)
   first-taken e =
       let f = ne-eqb (Layout.alertCount r) 0 e in
-      let size = length-run Layout.alerts-place Layout.alert-length r (omega arith) in
-      let moved : Moved Layout.alert-length (Layout.alert-place 0) Layout.retained-alert-place r (Receive.withTaken r sequence)
+      let size = length-run Layout.alerts-offset Layout.alert-length r (omega arith) in
+      let moved : Moved Layout.alert-length (Layout.alert-offset 0) Layout.retained-alert-offset r (Receive.withTaken r sequence)
       = record {
-        runs = λ j n h. rw f at (retained-run j n (rw f (omega arith))) ∙ run-run Layout.alerts-place Layout.alert-length j n r h;
+        runs = λ j n h. rw f at (retained-run j n (rw f (omega arith))) ∙ run-run Layout.alerts-offset Layout.alert-length j n r h;
       } in
       alert-moved moved (valid-at 0 (omega arith))
 
-  oldest-taken : (n : ℕ) → Layout.alertCount r ≡ n → alertOf (Receive.withTaken r sequence) Layout.retained-alert-place ≡ Requests.oldest (alertsOf r n)
+  oldest-taken : (n : ℕ) → Layout.alertCount r ≡ n → alertOf (Receive.withTaken r sequence) Layout.retained-alert-offset ≡ Requests.oldest (alertsOf r n)
   unfolding listed Requests.oldest
   oldest-taken zero e = none-taken e
-  oldest-taken (suc n) e = rw (listed-first (λ i. alertOf r (Layout.alert-place i)) n) (first-taken (λ f. omega arith))
+  oldest-taken (suc n) e = rw (listed-first (λ i. alertOf r (Layout.alert-offset i)) n) (first-taken (λ f. omega arith))
 
   taken-retained : sequence < 2 ^ 64
       → retainedOf (Receive.withTaken r sequence) ≡ some (record { sequence = sequence; alert = Requests.oldest (alertsOf r (Layout.alertCount r)) })
@@ -211,26 +211,26 @@ module _ (r : List ℕ) (sequence : ℕ) (w : RegistersValid r) where
   taken-retained h =
       let zs = firstBytes r in
       rw (
-        number-same kept 1 Layout.retained-place (omega arith) ∙ retaining-held r sequence zs (omega arith),
-        number-same kept 8 Layout.retained-sequence-place (omega arith) ∙ retaining-sequence r sequence zs (omega arith) h,
+        number-same kept 1 Layout.retained-offset (omega arith) ∙ retaining-held r sequence zs (omega arith),
+        number-same kept 8 Layout.retained-sequence-offset (omega arith) ∙ retaining-sequence r sequence zs (omega arith) h,
         oldest-taken (Layout.alertCount r) refl,
       )
 
 -- ---- the reply's data
 
-retained-data : (s : List ℕ) → Layout.registers-length ≤ length s → Layout.alertTextLength s Layout.retained-alert-place ≤ Limits.longest-alert → Each Byte s
-    → Receive.retainedData s ≡ Requests.alertData (alertOf s Layout.retained-alert-place)
+retained-data : (s : List ℕ) → Layout.registers-length ≤ length s → Layout.alertTextLength s Layout.retained-alert-offset ≤ Limits.longest-alert → Each Byte s
+    → Receive.retainedData s ≡ Requests.alertData (alertOf s Layout.retained-alert-offset)
 unfolding alertOf
 retained-data s long h b =
-    let at = Layout.retained-alert-place + Layout.alert-action-place in
-    rw (number-run 1 at s (omega arith) b) (run-add at 1 (Layout.alertTextLength s Layout.retained-alert-place) s)
+    let at = Layout.retained-alert-offset + Layout.alert-action-offset in
+    rw (number-run 1 at s (omega arith) b) (run-add at 1 (Layout.alertTextLength s Layout.retained-alert-offset) s)
 
 -- ---- an alert request
 
 -- registers that hold what a request leaves, and the alert of its reply
 pub record Asked (p : Calls.Parts) (s : List ℕ) (c : Requests.Carried) : Type 0 where
   pub state : view (withRegisters p s) ≡ c .state
-  pub reply : c .reply ≡ some (0x07, Requests.alertData (alertOf s Layout.retained-alert-place))
+  pub reply : c .reply ≡ some (0x07, Requests.alertData (alertOf s Layout.retained-alert-offset))
   pub like : Like (p .registers) s
 
 module _ (p : Calls.Parts) (v : Valid p) (sequence : ℕ) (h : sequence < 2 ^ 64) where
@@ -246,11 +246,11 @@ module _ (p : Calls.Parts) (v : Valid p) (sequence : ℕ) (h : sequence < 2 ^ 64
       record {
         state = rw (
           status,
-          number-same same 8 Layout.options-place (omega arith),
-          number-same same 1 Layout.reboot-place (omega arith),
-          number-same same 1 Layout.power-off-place (omega arith),
-          recorded-same same Layout.boot-failure-place (omega arith),
-          recorded-same same Layout.panic-place (omega arith),
+          number-same same 8 Layout.options-offset (omega arith),
+          number-same same 1 Layout.reboot-offset (omega arith),
+          number-same same 1 Layout.power-off-offset (omega arith),
+          recorded-same same Layout.boot-failure-offset (omega arith),
+          recorded-same same Layout.panic-offset (omega arith),
           taken-count r sequence w,
           taken-waiting r sequence w,
           taken-retained r sequence w h,
@@ -261,7 +261,7 @@ module _ (p : Calls.Parts) (v : Valid p) (sequence : ℕ) (h : sequence < 2 ^ 64
 
   -- the retained reply again, or another
   by-retained : (t : Bool) (n : ℕ) → let r = p .registers in
-      let a = alertOf r Layout.retained-alert-place in
+      let a = alertOf r Layout.retained-alert-offset in
       Asked p (cond (t && eqb n sequence) r (Receive.withTaken r sequence))
       (Requests.alertAsked (view p) sequence (cond t (some (record { sequence = n; alert = a })) none))
   unfolding Requests.alertAsked
@@ -270,7 +270,7 @@ module _ (p : Calls.Parts) (v : Valid p) (sequence : ℕ) (h : sequence < 2 ^ 64
 
   pub alert-asked : Asked p (Receive.alertRegisters (p .registers) sequence) (Requests.alertAsked (view p) sequence (view p .retained))
   unfolding Receive.alertRegisters Receive.isRetained view retainedOf
-  alert-asked = by-retained (eqb (numberAt 1 (p .registers) Layout.retained-place) 1) (numberAt 8 (p .registers) Layout.retained-sequence-place)
+  alert-asked = by-retained (eqb (numberAt 1 (p .registers) Layout.retained-offset) 1) (numberAt 8 (p .registers) Layout.retained-sequence-offset)
 
   pub alert-reply : Each Byte (p .registers)
       → Requests.alertAsked (view p) sequence (view p .retained) .reply ≡ some (0x07, Receive.retainedData (Receive.alertRegisters (p .registers) sequence))

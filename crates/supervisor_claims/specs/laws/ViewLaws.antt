@@ -88,18 +88,18 @@ module _ (s t : List ℕ) (same : take Layout.start-length s ≡ take Layout.sta
   value-same : (k at : ℕ) → at + k ≤ Layout.start-length → numberAt k s at ≡ numberAt k t at
   value-same k at h = number-same (same-first Layout.start-length t s same) k at (omega arith)
 
-  item-same : (i : ℕ) → i < Limits.most-items → numberAt 1 t (Layout.item-place i + Layout.item-data-length-place) ≤ Limits.longest-item-data
+  item-same : (i : ℕ) → i < Limits.most-items → numberAt 1 t (Layout.item-offset i + Layout.item-data-length-offset) ≤ Limits.longest-item-data
       → itemAt s i ≡ itemAt t i
   unfolding itemAt
   item-same i l h =
-      let at = Layout.item-place i in
-      let size = numberAt 1 t (at + Layout.item-data-length-place) in
+      let at = Layout.item-offset i in
+      let size = numberAt 1 t (at + Layout.item-data-length-offset) in
       rw (
         value-same 1 at (omega arith),
         bytes-same (at + 1) 32 (omega arith),
         value-same 1 (at + 33) (omega arith),
-        value-same 1 (at + Layout.item-data-length-place) (omega arith),
-        bytes-same (at + Layout.item-data-place) size (omega arith),
+        value-same 1 (at + Layout.item-data-length-offset) (omega arith),
+        bytes-same (at + Layout.item-data-offset) size (omega arith),
       )
 
   items-same : StartGood t → listed (itemAt s) (Layout.itemCount t) ≡ listed (itemAt t) (Layout.itemCount t)
@@ -110,17 +110,17 @@ module _ (s t : List ℕ) (same : take Layout.start-length s ≡ take Layout.sta
   pub factory-same : StartGood t → factoryOf s ≡ factoryOf t
   unfolding factoryOf
   factory-same g = rw (
-    value-same 1 Layout.bsu-place (omega arith),
-    bytes-same Layout.identity-place 11 (omega arith),
-    value-same 4 (Layout.identity-place + 11) (omega arith),
-    bytes-same (Layout.identity-place + 15) 11 (omega arith),
-    bytes-same Layout.mac-place 6 (omega arith),
-    value-same 2 (Layout.mac-place + 6) (omega arith),
-    value-same 1 (Layout.mac-place + 8) (omega arith),
-    bytes-same Layout.hash-place 32 (omega arith),
-    value-same 1 Layout.image-id-length-place (omega arith),
-    bytes-same Layout.image-id-place (Layout.imageIdLength t) (omega arith),
-    value-same 4 Layout.item-count-place (omega arith),
+    value-same 1 Layout.bsu-offset (omega arith),
+    bytes-same Layout.identity-offset 11 (omega arith),
+    value-same 4 (Layout.identity-offset + 11) (omega arith),
+    bytes-same (Layout.identity-offset + 15) 11 (omega arith),
+    bytes-same Layout.mac-offset 6 (omega arith),
+    value-same 2 (Layout.mac-offset + 6) (omega arith),
+    value-same 1 (Layout.mac-offset + 8) (omega arith),
+    bytes-same Layout.hash-offset 32 (omega arith),
+    value-same 1 Layout.image-id-length-offset (omega arith),
+    bytes-same Layout.image-id-offset (Layout.imageIdLength t) (omega arith),
+    value-same 4 Layout.item-count-offset (omega arith),
     items-same g,
   )
 
@@ -139,7 +139,7 @@ unfolding Zero number
 number-each [] h = refl
 number-each (x ∷ xs) h = rw (h .0, number-each xs (h .1))
 
--- every number between two places is 0
+-- every number between two offsets is 0
 abbrev pub Clear : ℕ → ℕ → List ℕ → Type 0
 Clear from to s = (k at : ℕ) → from ≤ at → at + k ≤ to → numberAt k s at ≡ 0
 

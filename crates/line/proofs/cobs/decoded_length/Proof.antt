@@ -9,14 +9,14 @@ use borrow.Author.Needs.{needs}
 use denote.Ref.{now}
 use Rattle.line.specs.declared.cobs.Measured.the-variants.{Length}
 use Rattle.line.specs.Cobs.{uncobs}
-use Rattle.line.specs.Decoding.{bit, measured}
-use Rattle.line.proofs.Decoding.{bit-not, Counted, decodedOf, counted-start, counted-zero, counted-short, counted-last, counted-group, counted-ones, counted-end}
+use Rattle.line.specs.Decoding.{one-if, measured}
+use Rattle.line.proofs.Decoding.{one-if-not, Counted, decodedOf, counted-start, counted-zero, counted-short, counted-last, counted-group, counted-ones, counted-end}
 use Rattle.line.proofs.cobs.decoded_length.Statement.{statement}
 use Rattle.line.proofs.cobs.decoded_length.Tie as tie
 
 abbrev Inv-loop : tie.InvT-loop
 Inv-loop s n full₀ zero₀ i₀ full zero i =
-    (i ≤ n) × (full + bit zero ≤ i) × (measured (uncobs (take n s)) ≡ Counted s n i zero (decodedOf i full zero))
+    (i ≤ n) × (full + one-if zero ≤ i) × (measured (uncobs (take n s)) ≡ Counted s n i zero (decodedOf i full zero))
 
 abbrev μ-loop : tie.MeasureT-loop
 μ-loop s n full₀ zero₀ i₀ full zero i = n - i
@@ -92,7 +92,7 @@ loop-again-3 c =
     let in-loop = at-wide .before .before .before .before .before .before in
     let turn = in-loop .before .loop in
     let start = in-loop .before .before .before in
-    let next = bit-not (leb (at-wide .wide .result) 254) in (
+    let next = one-if-not (leb (at-wide .wide .result) 254) in (
       search needs,
       omega arith,
       rw (c .held .ensures .0) (turn .inv .2

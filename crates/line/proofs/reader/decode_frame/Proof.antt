@@ -4,7 +4,7 @@ use borrow.Author.Needs.{needs}
 use denote.Ref.{now}
 use Rattle.octets.specs.Bytes.{run}
 use Rattle.line.specs.Decoding.{plain}
-use Rattle.line.specs.Reader.{frame-place}
+use Rattle.line.specs.Reader.{frame-offset}
 use Rattle.line.proofs.Rest.{rest-mid, rest-overlay}
 use Rattle.line.proofs.reader.decode_frame.Statement.{statement}
 use Rattle.line.proofs.reader.decode_frame.Tie as tie
@@ -12,7 +12,7 @@ use Rattle.line.proofs.reader.decode_frame.Tie as tie
 returns : tie.Need-returns
 returns c =
     let a = c .before .before .before .before .before .args in
-    cc (rest-mid (now (a .state)) frame-place, rest-overlay (now (a .state)) frame-place (plain (run frame-place (a .n) (now (a .state)))))
+    cc (rest-mid (now (a .state)) frame-offset, rest-overlay (now (a .state)) frame-offset (plain (run frame-offset (a .n) (now (a .state)))))
 
 pub decode-frame-spec : {M : Type 1} → statement M
 decode-frame-spec =

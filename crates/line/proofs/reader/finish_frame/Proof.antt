@@ -5,19 +5,19 @@ use mathlib.Core.Option.{none}
 use native.Mathlib.Omega.{arith}
 use borrow.Author.Needs.{needs}
 use denote.Ref.{now}
-use Rattle.line.specs.Reader.{said, empty, failed, settled}
+use Rattle.line.specs.Reader.{report, empty, failed, settled}
 use Rattle.line.proofs.Held.{finish-empty, finish-over, finish-form}
 use Rattle.line.proofs.reader.finish_frame.Statement.{statement}
 use Rattle.line.proofs.reader.finish_frame.Tie as tie
 
 returns : tie.Need-returns
-unfolding said
+unfolding report
 returns c =
     let reset = c .before .before .before in
     ap (settled empty) (reset .set-count .ensures) ∙ finish-empty _ (omega arith)
 
 returns-2 : tie.Need-returns-2
-unfolding said
+unfolding report
 returns-2 c =
     let reset = c .before .before .before .before in
     ap (settled (failed 1 none)) (reset .set-count .ensures) ∙ finish-over _ (omega arith)

@@ -2,7 +2,7 @@
 -- Assumes nothing.
 use borrow.Author.Needs.{needs}
 use denote.Ref.{now}
-use Rattle.line.specs.Reader.{frame-place}
+use Rattle.line.specs.Reader.{frame-offset}
 use Rattle.line.proofs.Rest.{rest-mid}
 use Rattle.line.proofs.reader.frame_length.Statement.{statement}
 use Rattle.line.proofs.reader.frame_length.Tie as tie
@@ -12,4 +12,4 @@ frame-length-spec =
     tie.close
     (tie.spec
     (λ c. search needs) (λ c. search needs) (λ c. search needs) (λ c κs. search needs)
-    (λ c. cc (rest-mid (now (c .before .before .before .args .state)) frame-place)))
+    (λ c. cc (rest-mid (now (c .before .before .before .args .state)) frame-offset)))

@@ -6,7 +6,7 @@ use borrow.Author.Needs.{needs}
 use borrow.Author.Tests.{not-true, not-false}
 use denote.Ref.{now}
 use lib.ListN.{length}
-use Rattle.line.specs.Reader.{said}
+use Rattle.line.specs.Reader.{report}
 use Rattle.line.proofs.Rest.{rest-mid}
 use Rattle.line.proofs.State.{valid-ready}
 use Rattle.line.proofs.Reading.{ahead, ahead-most, reading-refused, reading-ready, reading-more, reading-stop}
@@ -14,7 +14,7 @@ use Rattle.line.proofs.reader.read.Statement.{statement}
 use Rattle.line.proofs.reader.read.Tie as tie
 
 returns : tie.Need-returns
-unfolding said
+unfolding report
 returns c = reading-refused _ _ (sym (c .before .is-valid .ensures) ∙ not-true _ (c .if1 .taken))
 
 -- the search goes through the whole piece
@@ -31,7 +31,7 @@ append-requires c κs =
     (r .0, (r .1, omega (arith, found run, ahead-most piece)))
 
 returns-2 : tie.Need-returns-2
-unfolding said
+unfolding report
 returns-2 c =
     let pushed = c .before .before .before in
     let run = pushed .before .before in

@@ -3,13 +3,13 @@
 use native.Mathlib.Omega.{arith}
 use borrow.Author.Needs.{needs}
 use denote.Ref.{now}
-use Rattle.line.specs.Reader.{said}
+use Rattle.line.specs.Reader.{report}
 use Rattle.line.proofs.Judging.{form-fits, settle-bad, settle-short, settle-long, settle-fits}
 use Rattle.line.proofs.reader.settle_form.Statement.{statement}
 use Rattle.line.proofs.reader.settle_form.Tie as tie
 
 returns : tie.Need-returns
-unfolding said
+unfolding report
 returns c =
     let found = c .before .before .before .before in
     let a = found .before .before .before .args in
@@ -17,7 +17,7 @@ returns c =
     (c .if1 .taken)
 
 returns-2 : tie.Need-returns-2
-unfolding said
+unfolding report
 returns-2 c =
     let found = c .before .before .before .before .before in
     let a = found .before .before .before .args in
@@ -25,14 +25,14 @@ returns-2 c =
     (c .if2 .taken)
 
 returns-3 : tie.Need-returns-3
-unfolding said
+unfolding report
 returns-3 c =
     let found = c .before .before in
     let a = found .before .before .before .args in
     settle-bad _ _ (form-fits (now (a .state)) (a .n) (omega arith) (omega arith)) (found .frame-length .ensures) (c .enum-told .given .1)
 
 returns-4 : tie.Need-returns-4
-unfolding said
+unfolding report
 returns-4 c =
     let found = c .before .before .before .before .before .before .before .before .before .before .before in
     let a = found .before .before .before .args in

@@ -2,16 +2,16 @@
 -- Assumes nothing.
 use borrow.Author.Needs.{needs}
 use borrow.Author.Tests.{le-leb, lt-leb}
-use Rattle.line.specs.Reader.{startSaid, starting}
+use Rattle.line.specs.Reader.{startReport, starting}
 use Rattle.line.proofs.reader.start.Statement.{statement}
 use Rattle.line.proofs.reader.start.Tie as tie
 
 returns : tie.Need-returns
-unfolding startSaid starting
+unfolding startReport starting
 returns c = rw (lt-leb _ _ (c .if1 .taken))
 
 returns-2 : tie.Need-returns-2
-unfolding startSaid starting
+unfolding startReport starting
 returns-2 c = rw (le-leb _ _ (c .before .before .before .before .if1 .left), c .before .before .set-count .ensures)
 
 pub start-spec : {M : Type 1} → statement M

@@ -3,16 +3,16 @@
 use mathlib.Core.Path.{sym, _∙_}
 use borrow.Author.Needs.{needs}
 use borrow.Author.Tests.{not-true, not-false, lt-ltb, le-ltb}
-use Rattle.line.specs.Reader.{tailSaid, tailOf}
+use Rattle.line.specs.Reader.{tailReport, tailOf}
 use Rattle.line.proofs.reader.tail.Statement.{statement}
 use Rattle.line.proofs.reader.tail.Tie as tie
 
 returns : tie.Need-returns
-unfolding tailSaid tailOf
+unfolding tailReport tailOf
 returns c = rw (sym (c .before .is-valid .ensures) ∙ not-true _ (c .if1 .taken))
 
 returns-2 : tie.Need-returns-2
-unfolding tailSaid tailOf
+unfolding tailReport tailOf
 returns-2 c =
     rw (
       sym (c .before .before .before .is-valid .ensures) ∙ not-false _ (c .before .before .if1 .left),
@@ -21,7 +21,7 @@ returns-2 c =
     )
 
 returns-3 : tie.Need-returns-3
-unfolding tailSaid tailOf
+unfolding tailReport tailOf
 returns-3 c =
     rw (
       sym (c .before .before .before .is-valid .ensures) ∙ not-false _ (c .before .before .if1 .left),

@@ -1,4 +1,4 @@
--- `line::sums::add` meets its contract. The loop keeps what is added so far, and that the sums from the place on are as they were.
+-- `line::sums::add` meets its contract. The loop keeps what is added so far, and that the sums from the offset on are as they were.
 -- Assumes nothing.
 use mathlib.Core.Path.{_≡_, refl, _∙_}
 use mathlib.Core.List.{_++_}

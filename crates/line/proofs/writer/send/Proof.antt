@@ -16,18 +16,18 @@ use Rattle.line.proofs.writer.send.Tie as tie
 short : (c : tie.Then1) → let a = c .before .before .before .before .args in length (now (a .out)) ≤ length (cobs (take (a .n) (now (a .m))))
 short c = ltb-false _ _ (sym (c .before .has-room .ensures) ∙ not-true _ (c .if1 .taken))
 
-roomy : (c : tie.Else1) → let a = c .before .before .before .before .args in length (cobs (take (a .n) (now (a .m)))) < length (now (a .out))
-roomy c = ltb-true _ _ (sym (c .before .has-room .ensures) ∙ not-false _ (c .if1 .left))
+longEnough : (c : tie.Else1) → let a = c .before .before .before .before .args in length (cobs (take (a .n) (now (a .m)))) < length (now (a .out))
+longEnough c = ltb-true _ _ (sym (c .before .has-room .ensures) ∙ not-false _ (c .if1 .left))
 
 pub send-spec : {M : Type 1} → statement M
 send-spec =
     tie.close
     (tie.spec (λ c κs. search needs) (λ c. let a = c .before .before .before .before .args in send-refused (cobs (take (a .n) (now (a .m)))) _ refl (short c))
-    (λ c κs. let r = roomy (c .before) in search needs)
-    (λ c. omega (arith, roomy (c .before .before .before .before), c .before .before .encode .ensures .1))
-    (λ c. omega (arith, roomy (c .before .before .before .before), c .before .before .encode .ensures .1))
+    (λ c κs. let r = longEnough (c .before) in search needs)
+    (λ c. omega (arith, longEnough (c .before .before .before .before), c .before .before .encode .ensures .1))
+    (λ c. omega (arith, longEnough (c .before .before .before .before), c .before .before .encode .ensures .1))
     (λ c. search needs)
     (λ c.
-    let r = roomy (c .before .before .before .before) in
+    let r = longEnough (c .before .before .before .before) in
     let e = c .before .before .encode .ensures in
     send-done _ _ (e .1) (omega arith) (e .0)))

@@ -7,7 +7,7 @@ use Rattle.oatcastle.proofs.frames.oatcastle_line_checksum.Tie as tie
 
 returns : tie.Need-returns
 unfolding lineChecksumCall
-returns c = rw (← c .before .before .before .before .checksum .ensures) (c .before .before .tell .ensures)
+returns c = rw (← c .before .before .before .before .checksum .ensures) (c .before .before .write-answer .ensures)
 
 pub oatcastle-line-checksum-spec : {M : Type 1} → statement M
 oatcastle-line-checksum-spec = tie.close (tie.spec (λ c κs. search needs) (λ c. search needs) (λ c κs. search needs) (λ c. search needs) returns)

@@ -1,28 +1,28 @@
 -- `oatcastle::frames::oatcastle_line_data` meets its contract.
 -- Assumes nothing.
 use borrow.Author.Needs.{needs}
-use Rattle.line.specs.Reader.{dataSaid}
-use Rattle.oatcastle.specs.Answers.{telling}
-use Rattle.oatcastle.specs.LineCalls.{dataTold, lineDataCall}
+use Rattle.line.specs.Reader.{dataReport}
+use Rattle.oatcastle.specs.Answers.{writingAnswer}
+use Rattle.oatcastle.specs.LineCalls.{dataGiven, lineDataCall}
 use Rattle.oatcastle.proofs.frames.oatcastle_line_data.Statement.{statement}
 use Rattle.oatcastle.proofs.frames.oatcastle_line_data.Tie as tie
 
 returns : tie.Need-returns
-unfolding lineDataCall dataTold dataSaid telling
+unfolding lineDataCall dataGiven dataReport writingAnswer
 returns c = rw (← c .before .before .message-data-given .ensures, c .enum-told .given .1)
 
 returns-2 : tie.Need-returns-2
-unfolding lineDataCall dataTold dataSaid telling
+unfolding lineDataCall dataGiven dataReport writingAnswer
 returns-2 c = rw (← c .before .before .message-data-given .ensures, c .enum-told2 .given .1)
 
 returns-3 : tie.Need-returns-3
-unfolding lineDataCall dataTold dataSaid
+unfolding lineDataCall dataGiven dataReport
 returns-3 c =
     let told = c .before .before in
     let bytes = told .before .before in
     let arm = bytes .before in
     let asked = arm .before .before in
-    rw (← asked .message-data-given .ensures, arm .enum-told3 .given .1, ← bytes .message-data .ensures) (told .tell-bytes .ensures)
+    rw (← asked .message-data-given .ensures, arm .enum-told3 .given .1, ← bytes .message-data .ensures) (told .write-bytes .ensures)
 
 pub oatcastle-line-data-spec : {M : Type 1} → statement M
 oatcastle-line-data-spec =

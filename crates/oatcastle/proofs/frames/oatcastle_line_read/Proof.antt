@@ -3,7 +3,7 @@
 use borrow.Author.Needs.{needs}
 use Rattle.supervisor.proofs.Cases.{refused}
 use Rattle.supervisor.proofs.ValidLaws.{passed}
-use Rattle.oatcastle.proofs.LineLaws.{read-refused, read-short, read-told}
+use Rattle.oatcastle.proofs.LineLaws.{read-refused, read-short, read-given}
 use Rattle.oatcastle.proofs.frames.oatcastle_line_read.Statement.{statement}
 use Rattle.oatcastle.proofs.frames.oatcastle_line_read.Tie as tie
 
@@ -19,7 +19,7 @@ returns-3 c =
     let read = told .before .before .before .before in
     let first = read .before .before .before in
     let tested = first .before in
-    read-told _ _ _ (passed _ _ (tested .is-valid .ensures) (first .if1 .left)) _ (search needs) (read .read .ensures) (told .tell-reading .ensures)
+    read-given _ _ _ (passed _ _ (tested .is-valid .ensures) (first .if1 .left)) _ (search needs) (read .read .ensures) (told .answer-reading .ensures)
 
 pub oatcastle-line-read-spec : {M : Type 1} → statement M
 oatcastle-line-read-spec =

@@ -1,17 +1,17 @@
 -- `oatcastle::frames::oatcastle_line_start` meets its contract.
 -- Assumes nothing.
 use borrow.Author.Needs.{needs}
-use Rattle.line.specs.Reader.{startSaid}
+use Rattle.line.specs.Reader.{startReport}
 use Rattle.oatcastle.specs.LineCalls.{lineStartCall}
 use Rattle.oatcastle.proofs.frames.oatcastle_line_start.Statement.{statement}
 use Rattle.oatcastle.proofs.frames.oatcastle_line_start.Tie as tie
 
 returns : tie.Need-returns
-unfolding lineStartCall startSaid
+unfolding lineStartCall startReport
 returns c = rw (← c .before .before .before .before .start .ensures, c .enum-told .given .1)
 
 returns-2 : tie.Need-returns-2
-unfolding lineStartCall startSaid
+unfolding lineStartCall startReport
 returns-2 c = rw (← c .before .before .before .before .start .ensures, c .enum-told2 .given .1)
 
 pub oatcastle-line-start-spec : {M : Type 1} → statement M

@@ -1,31 +1,31 @@
 -- `oatcastle::frames::oatcastle_line_tail` meets its contract.
 -- Assumes nothing.
 use borrow.Author.Needs.{needs}
-use Rattle.line.specs.Reader.{tailSaid}
-use Rattle.oatcastle.specs.Answers.{telling}
-use Rattle.oatcastle.specs.LineCalls.{tailTold, lineTailCall}
+use Rattle.line.specs.Reader.{tailReport}
+use Rattle.oatcastle.specs.Answers.{writingAnswer}
+use Rattle.oatcastle.specs.LineCalls.{tailGiven, lineTailCall}
 use Rattle.oatcastle.proofs.frames.oatcastle_line_tail.Statement.{statement}
 use Rattle.oatcastle.proofs.frames.oatcastle_line_tail.Tie as tie
 
 returns : tie.Need-returns
-unfolding lineTailCall tailTold tailSaid telling
+unfolding lineTailCall tailGiven tailReport writingAnswer
 returns c = rw (← c .before .before .tail .ensures, c .enum-told .given .1)
 
 returns-2 : tie.Need-returns-2
-unfolding lineTailCall tailTold tailSaid
+unfolding lineTailCall tailGiven tailReport
 returns-2 c =
     let told = c .before .before in
     let arm = told .before .before .before in
     let asked = arm .before .before in
-    rw (← asked .tail .ensures, arm .tail2 .given .1) (told .tell .ensures)
+    rw (← asked .tail .ensures, arm .tail2 .given .1) (told .write-answer .ensures)
 
 returns-3 : tie.Need-returns-3
-unfolding lineTailCall tailTold tailSaid
+unfolding lineTailCall tailGiven tailReport
 returns-3 c =
     let told = c .before .before in
     let arm = told .before .before in
     let asked = arm .before .before in
-    rw (← asked .tail .ensures, arm .enum-told2 .given .1) (told .tell2 .ensures)
+    rw (← asked .tail .ensures, arm .enum-told2 .given .1) (told .write-answer2 .ensures)
 
 pub oatcastle-line-tail-spec : {M : Type 1} → statement M
 oatcastle-line-tail-spec =

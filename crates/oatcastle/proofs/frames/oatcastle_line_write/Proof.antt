@@ -2,7 +2,7 @@
 -- Assumes nothing.
 use borrow.Author.Needs.{needs}
 use lib.ListN.{length-append}
-use Rattle.oatcastle.proofs.LineLaws.{write-long, write-short, write-told}
+use Rattle.oatcastle.proofs.LineLaws.{write-long, write-short, write-given}
 use Rattle.oatcastle.proofs.frames.oatcastle_line_write.Statement.{statement}
 use Rattle.oatcastle.proofs.frames.oatcastle_line_write.Tie as tie
 
@@ -20,7 +20,7 @@ returns-4 c =
     let told = c .before .before in
     let written = told .before .before .before .before in
     let third = written .before .before in
-    write-told _ _ _ (rw length-append (search needs)) _ (third .if3 .left) (written .write .ensures) (told .tell-written .ensures)
+    write-given _ _ _ (rw length-append (search needs)) _ (third .if3 .left) (written .write .ensures) (told .answer-written .ensures)
 
 pub oatcastle-line-write-spec : {M : Type 1} → statement M
 oatcastle-line-write-spec =

@@ -10,7 +10,7 @@ unfolding addressesCall
 returns c =
     let told = c .before .before in
     let joined = told .before .before .before in
-    rw (← joined .before .addresses .ensures, ← joined .joined .ensures) (told .tell-bytes .ensures)
+    rw (← joined .before .addresses .ensures, ← joined .joined .ensures) (told .write-bytes .ensures)
 
 pub oatcastle-addresses-spec : {M : Type 1} → statement M
 oatcastle-addresses-spec =

@@ -1,17 +1,17 @@
 -- `oatcastle::plans::oatcastle_plan` meets its contract.
 -- Assumes nothing.
 use borrow.Author.Needs.{needs}
-use Rattle.addresses.specs.Addresses.{planSaid}
+use Rattle.addresses.specs.Addresses.{planReport}
 use Rattle.oatcastle.specs.AddressCalls.{planCall}
 use Rattle.oatcastle.proofs.plans.oatcastle_plan.Statement.{statement}
 use Rattle.oatcastle.proofs.plans.oatcastle_plan.Tie as tie
 
 returns : tie.Need-returns
-unfolding planCall planSaid
+unfolding planCall planReport
 returns c = rw (← c .before .before .plan .ensures, c .enum-told .given .1)
 
 returns-2 : tie.Need-returns-2
-unfolding planCall planSaid
+unfolding planCall planReport
 returns-2 c = rw (← c .before .before .plan .ensures, c .enum-told2 .given .1)
 
 pub oatcastle-plan-spec : {M : Type 1} → statement M

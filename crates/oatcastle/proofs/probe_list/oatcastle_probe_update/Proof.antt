@@ -40,7 +40,7 @@ use denote.Triple.Table.{entered, cited}
 use denote.Triple.Walked.{says, Stays, gave-slice, stay-dropped, walkOf, Walks, ends-at, walked, goes-gave-slice, goes-dropped, walk-meets}
 use Rattle.probes.specs.declared.Probe.{Probe}
 use Rattle.probes.specs.declared.Updated.{Updated}
-use Rattle.probes.specs.Probes.{updatedSaid, outcomeOf, updating}
+use Rattle.probes.specs.Probes.{updatedReport, outcomeOf, updating}
 use Rattle.probes.proofs.Probe as P
 use Rattle.probes.proofs.Updated as U
 use Rattle.probes.proofs.Updated.Laws as U′
@@ -48,7 +48,7 @@ use Rattle.probes.proofs.update as update
 use Rattle.probes.proofs.update.Symbol as update-symbol
 use Rattle.probes.proofs.update.Met as update-met
 use Rattle.oatcastle.specs.Answers.{outcome, numbered}
-use Rattle.oatcastle.specs.ProbeCalls.{probeTold, probeUpdateCall}
+use Rattle.oatcastle.specs.ProbeCalls.{probeGiven, probeUpdateCall}
 use Rattle.oatcastle.proofs.probe_list.update_number as number
 use Rattle.oatcastle.proofs.probe_list.update_number.Symbol as number-symbol
 use Rattle.oatcastle.proofs.probe_list.update_number.Met as number-met
@@ -61,10 +61,10 @@ abbrev stayed : Stays (f.ended .signature .params) (f.ended .kept)
 stayed = (gave-slice (0 ∷ []) tt (plain (λ _. P.the-row)), (stay-dropped (shrSliceOf (1 ∷ []) tt (plain (λ _. usize))) yes, (stay-dropped (shrSliceOf (2 ∷ []) tt (plain (λ _. u8))) yes, tt)))
 
 -- what the two callees ensure comes to what is promised
-told : (ys : List Probe) (is rs : List ℕ) (r : Updated) (zs : List Probe) (m : ℕ) → outcomeOf r zs ≡ updating ys is rs → m ≡ numbered (updatedSaid r)
+told : (ys : List Probe) (is rs : List ℕ) (r : Updated) (zs : List Probe) (m : ℕ) → outcomeOf r zs ≡ updating ys is rs → m ≡ numbered (updatedReport r)
     → outcome m zs ≡ probeUpdateCall ys is rs
 unfolding probeUpdateCall
-told ys is rs r zs m e e′ = ap (λ (k : ℕ). outcome k zs) e′ ∙ ap probeTold e
+told ys is rs r zs m e e′ = ap (λ (k : ℕ). outcome k zs) e′ ∙ ap probeGiven e
 
 -- the contracts that the proof cites
 module _ {M : Type 1} (𝓤 : URA M) (H : Heap 𝓤) (A : Atoms 𝓤) (mem : Memory → SProp 𝓤) (run : Routine → Fun 𝓤) where
@@ -109,9 +109,9 @@ module _ {M : Type 1} (𝓤 : URA M) (H : Heap 𝓤) (A : Atoms 𝓤) (W : Given
 
   exits : (m : ℕ) (u : Val) (zs : List Probe) → length zs ≡ length ys → outcome m zs ≡ probeUpdateCall ys is rs
       → ent 𝓤 (⋆ 𝓤 H A (tokens ∷ ‵ (finally P.the-row (list .name) zs) ∷ ‵ (u32 .own m (u ∷ [])) ∷ [])) (Post u)
-  exits m u zs e said =
+  exits m u zs e report =
       qed W (tokens ∷ ‵ (finally P.the-row (list .name) zs) ∷ ‵ (u32 .own m (u ∷ [])) ∷ []) ∵
-      suffices ! _ (ends-at 𝓤 H A f.ended stayed (f.clauses 𝓤 H A mem run) W bound u m (zs, (tt, (tt, tt))) (e, (tt, (tt, tt)))) $ says ! said $ frame ! $
+      suffices ! _ (ends-at 𝓤 H A f.ended stayed (f.clauses 𝓤 H A mem run) W bound u m (zs, (tt, (tt, tt))) (e, (tt, (tt, tt)))) $ says ! report $ frame ! $
       nothing ! $ nothing ! $ fjoin ! $ nothing ! $ fjoin ! $ move ! (1 ∷ 0 ∷ []) $ fjoin ! $ frame ! $ done !
 
   -- the call of `update`
@@ -125,8 +125,8 @@ module _ {M : Type 1} (𝓤 : URA M) (H : Heap 𝓤) (A : Atoms 𝓤) (W : Given
   asks-number : (r : Updated) (w : Val) → ent 𝓤 (sem 𝓤 H A (U.the-row .own r (w ∷ []))) (Number 𝓤 H A mem run .pre (to-number r w))
   asks-number r w = qed W (‵ (U.the-row .own r (w ∷ [])) ∷ []) ∵ nothing ! $ move ! (1 ∷ 0 ∷ []) $ fjoin ! $ nothing ! $ join ! $ frame ! $ done !
 
-  number-said : (r : Updated) (m : ℕ) → ent 𝓤 (ensured 𝓤 H A number.ended (number.clauses 𝓤 H A mem run) tt (r, tt) tt m) (fact 𝓤 (m ≡ numbered (updatedSaid r)))
-  number-said r m = exE 𝓤 _ (λ ws. snd∗ 𝓤 (sem 𝓤 H A (lasts number.ended tt (r, tt) ws)) (fact 𝓤 (m ≡ numbered (updatedSaid r))))
+  number-report : (r : Updated) (m : ℕ) → ent 𝓤 (ensured 𝓤 H A number.ended (number.clauses 𝓤 H A mem run) tt (r, tt) tt m) (fact 𝓤 (m ≡ numbered (updatedReport r)))
+  number-report r m = exE 𝓤 _ (λ ws. snd∗ 𝓤 (sem 𝓤 H A (lasts number.ended tt (r, tt) ws)) (fact 𝓤 (m ≡ numbered (updatedReport r))))
 
   module _ (𝓣 : Tables 𝓤 H) (known-update : Triple 𝓤 (𝓣 .C update-symbol.name) (Update 𝓤 H A mem run)) (known-number : Triple 𝓤 (𝓣 .C number-symbol.name) (Number 𝓤 H A mem run))
       (room₀ : Room P.the-row (length ys)) (room₁ : Room usize (length is)) (room₂ : Room u8 (length rs)) where
@@ -149,7 +149,7 @@ module _ {M : Type 1} (𝓤 : URA M) (H : Heap 𝓤) (A : Atoms 𝓤) (W : Given
         use1 W (raw (Number 𝓤 H A mem run .pre (to-number r w))) (asks-number r w) $
         calls-at ! (fmOf 𝓤 H (W .laws) 𝓣) (Number 𝓤 H A mem run) known-number (to-number r w) (and-then ! (load ! (from ! (stop !)) (look ! 8 refl)) (no-more !)) (λ u.
         use1 W (later (some (λ (m : ℕ). (‵ ftrue ⊛ ‵ (u32 .own m (u ∷ []))) ⊛ raw (ensured 𝓤 H A number.ended (number.clauses 𝓤 H A mem run) tt (r, tt) tt m)))) (id⊢ 𝓤 _) $ await ! tt $ pick ! (λ m.
-        split ! $ move ! (1 ∷ []) $ use1 W (raw (fact 𝓤 (m ≡ numbered (updatedSaid r)))) (number-said r m) $ heard ! (m ≡ numbered (updatedSaid r)) (λ e′. split ! $ move ! (1 ∷ []) $
+        split ! $ move ! (1 ∷ []) $ use1 W (raw (fact 𝓤 (m ≡ numbered (updatedReport r)))) (number-report r m) $ heard ! (m ≡ numbered (updatedReport r)) (λ e′. split ! $ move ! (1 ∷ []) $
         -- [the number; true; the tokens; the last list; true; the locals, 5 further on]
         peeks ! u32 (Is u32) (shows 𝓤 H A u32) m (u ∷ []) (λ is-number. land ! (from ! (stop !)) (init ! 17 refl (uint-lawful 𝓤 H A W w32 .typed m _ is-number .0)) $
         returns ! (look ! 17 refl) $ forget ! 5 refl $ forget ! 7 refl $ forget ! 9 refl $ forget ! 11 refl $ forget ! 13 refl $ forget ! 15 refl $ forget ! 17 refl $

@@ -1,31 +1,31 @@
 -- `oatcastle::readings::oatcastle_signal` meets its contract.
 -- Assumes nothing.
 use borrow.Author.Needs.{needs}
-use Rattle.supervisor.specs.Calls.{signalSaid}
-use Rattle.oatcastle.specs.Answers.{telling}
-use Rattle.oatcastle.specs.SupervisorCalls.{signalTold, signalCall}
+use Rattle.supervisor.specs.Calls.{signalReport}
+use Rattle.oatcastle.specs.Answers.{writingAnswer}
+use Rattle.oatcastle.specs.SupervisorCalls.{signalGiven, signalCall}
 use Rattle.oatcastle.proofs.readings.oatcastle_signal.Statement.{statement}
 use Rattle.oatcastle.proofs.readings.oatcastle_signal.Tie as tie
 
 returns : tie.Need-returns
-unfolding signalCall signalTold signalSaid telling
+unfolding signalCall signalGiven signalReport writingAnswer
 returns c = rw (← c .before .before .signal .ensures, c .enum-told .given .1)
 
 returns-2 : tie.Need-returns-2
-unfolding signalCall signalTold signalSaid
+unfolding signalCall signalGiven signalReport
 returns-2 c =
     let told = c .before .before in
     let arm = told .before .before in
     let asked = arm .before .before in
-    rw (← asked .signal .ensures, arm .enum-told2 .given .1) (told .tell .ensures)
+    rw (← asked .signal .ensures, arm .enum-told2 .given .1) (told .write-answer .ensures)
 
 returns-3 : tie.Need-returns-3
-unfolding signalCall signalTold signalSaid
+unfolding signalCall signalGiven signalReport
 returns-3 c =
     let told = c .before .before in
     let arm = told .before .before in
     let asked = arm .before .before in
-    rw (← asked .signal .ensures, arm .enum-told3 .given .1) (told .tell2 .ensures)
+    rw (← asked .signal .ensures, arm .enum-told3 .given .1) (told .write-answer2 .ensures)
 
 pub oatcastle-signal-spec : {M : Type 1} → statement M
 oatcastle-signal-spec =

@@ -1,17 +1,17 @@
 -- `oatcastle::receiving::oatcastle_receive` meets its contract.
 -- Assumes nothing.
 use borrow.Author.Needs.{needs}
-use Rattle.requests.specs.Receive.{receiptSaid}
+use Rattle.requests.specs.Receive.{receiptReport}
 use Rattle.oatcastle.specs.ReceiveCalls.{receiveCall}
 use Rattle.oatcastle.proofs.receiving.oatcastle_receive.Statement.{statement}
 use Rattle.oatcastle.proofs.receiving.oatcastle_receive.Tie as tie
 
 returns : tie.Need-returns
-unfolding receiveCall receiptSaid
+unfolding receiveCall receiptReport
 returns c = rw (← c .before .before .before .before .before .before .before .before .before .before .receive .ensures, c .enum-told .given .1)
 
 returns-2 : tie.Need-returns-2
-unfolding receiveCall receiptSaid
+unfolding receiveCall receiptReport
 returns-2 c = rw (← c .before .before .before .before .before .before .before .before .before .before .receive .ensures, c .enum-told2 .given .1)
 
 pub oatcastle-receive-spec : {M : Type 1} → statement M

@@ -1,7 +1,7 @@
 -- `oatcastle::receiving::oatcastle_step` meets its contract.
 -- Assumes nothing.
 use borrow.Author.Needs.{needs}
-use Rattle.oatcastle.proofs.ReceiveCallLaws.{step-short, step-told}
+use Rattle.oatcastle.proofs.ReceiveCallLaws.{step-short, step-given}
 use Rattle.oatcastle.proofs.receiving.oatcastle_step.Statement.{statement}
 use Rattle.oatcastle.proofs.receiving.oatcastle_step.Tie as tie
 
@@ -16,7 +16,7 @@ returns-2 c =
     let told = c .before .before in
     let stepped = told .before .before .before .before .before .before .before .before .before .before in
     let first = stepped .before .before .before .before .before in
-    step-told _ _ _ _ _ (first .if1 .left) (stepped .step .ensures) (told .tell-step .ensures)
+    step-given _ _ _ _ _ (first .if1 .left) (stepped .step .ensures) (told .answer-step .ensures)
 
 pub oatcastle-step-spec : {M : Type 1} → statement M
 oatcastle-step-spec =

@@ -1,21 +1,21 @@
 -- `oatcastle::requesting::oatcastle_requester_interrupt` meets its contract.
 -- Assumes nothing.
 use borrow.Author.Needs.{needs}
-use Rattle.requester.specs.Calls.{interruptSaid}
+use Rattle.requester.specs.Calls.{interruptReport}
 use Rattle.oatcastle.specs.RequesterCalls.{interruptCall}
 use Rattle.oatcastle.proofs.requesting.oatcastle_requester_interrupt.Statement.{statement}
 use Rattle.oatcastle.proofs.requesting.oatcastle_requester_interrupt.Tie as tie
 
 returns : tie.Need-returns
-unfolding interruptCall interruptSaid
+unfolding interruptCall interruptReport
 returns c = rw (← c .before .before .before .before .interrupt .ensures, c .enum-told .given .1)
 
 returns-2 : tie.Need-returns-2
-unfolding interruptCall interruptSaid
+unfolding interruptCall interruptReport
 returns-2 c = rw (← c .before .before .before .before .interrupt .ensures, c .enum-told2 .given .1)
 
 returns-3 : tie.Need-returns-3
-unfolding interruptCall interruptSaid
+unfolding interruptCall interruptReport
 returns-3 c = rw (← c .before .before .before .before .interrupt .ensures, c .enum-told3 .given .1)
 
 pub oatcastle-requester-interrupt-spec : {M : Type 1} → statement M

@@ -1,7 +1,7 @@
 -- `oatcastle::requesting::oatcastle_requester_receive` meets its contract.
 -- Assumes nothing.
 use borrow.Author.Needs.{needs}
-use Rattle.oatcastle.proofs.RequesterLaws.{listen-short, listen-told}
+use Rattle.oatcastle.proofs.RequesterLaws.{listen-short, listen-given}
 use Rattle.oatcastle.proofs.requesting.oatcastle_requester_receive.Statement.{statement}
 use Rattle.oatcastle.proofs.requesting.oatcastle_requester_receive.Tie as tie
 
@@ -14,7 +14,7 @@ returns-2 : tie.Need-returns-2
 returns-2 c =
     let told = c .before .before in
     let received = told .before .before .before .before .before .before in
-    listen-told _ _ _ _ (received .before .before .before .if1 .left) (received .receive2 .ensures) (told .tell-received .ensures)
+    listen-given _ _ _ _ (received .before .before .before .if1 .left) (received .receive2 .ensures) (told .answer-received .ensures)
 
 pub oatcastle-requester-receive-spec : {M : Type 1} → statement M
 oatcastle-requester-receive-spec =

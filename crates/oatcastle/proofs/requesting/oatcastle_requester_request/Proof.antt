@@ -3,7 +3,7 @@
 use borrow.Author.Needs.{needs}
 use mathlib.Core.Path.{refl}
 use mathlib.Core.List.{[], _∷_}
-use Rattle.oatcastle.proofs.RequesterLaws.{request-short, request-told}
+use Rattle.oatcastle.proofs.RequesterLaws.{request-short, request-given}
 use Rattle.oatcastle.proofs.requesting.oatcastle_requester_request.Statement.{statement}
 use Rattle.oatcastle.proofs.requesting.oatcastle_requester_request.Tie as tie
 
@@ -16,7 +16,7 @@ returns-2 : tie.Need-returns-2
 returns-2 c =
     let told = c .before .before in
     let put = told .before .before .before .before .before .before in
-    request-told _ _ _ _ _ (put .before .before .before .if1 .left) (put .request2 .ensures) (told .tell-requested .ensures)
+    request-given _ _ _ _ _ (put .before .before .before .if1 .left) (put .request2 .ensures) (told .answer-requested .ensures)
 
 pub oatcastle-requester-request-spec : {M : Type 1} → statement M
 oatcastle-requester-request-spec =

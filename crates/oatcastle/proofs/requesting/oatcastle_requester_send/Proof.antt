@@ -3,7 +3,7 @@
 use borrow.Author.Needs.{needs}
 use mathlib.Core.Path.{refl}
 use mathlib.Core.List.{[], _∷_}
-use Rattle.oatcastle.proofs.RequesterLaws.{send-short, send-told}
+use Rattle.oatcastle.proofs.RequesterLaws.{send-short, send-given}
 use Rattle.oatcastle.proofs.requesting.oatcastle_requester_send.Statement.{statement}
 use Rattle.oatcastle.proofs.requesting.oatcastle_requester_send.Tie as tie
 
@@ -16,7 +16,7 @@ returns-2 : tie.Need-returns-2
 returns-2 c =
     let told = c .before .before in
     let put = told .before .before .before .before .before .before in
-    send-told _ _ _ (put .before .before .before .if1 .left) (put .send2 .ensures) (told .tell-put .ensures)
+    send-given _ _ _ (put .before .before .before .if1 .left) (put .send2 .ensures) (told .answer-put .ensures)
 
 pub oatcastle-requester-send-spec : {M : Type 1} → statement M
 oatcastle-requester-send-spec =

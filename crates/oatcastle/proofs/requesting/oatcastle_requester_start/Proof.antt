@@ -1,17 +1,17 @@
 -- `oatcastle::requesting::oatcastle_requester_start` meets its contract.
 -- Assumes nothing.
 use borrow.Author.Needs.{needs}
-use Rattle.requester.specs.Calls.{startSaid}
+use Rattle.requester.specs.Calls.{startReport}
 use Rattle.oatcastle.specs.RequesterCalls.{requesterStartCall}
 use Rattle.oatcastle.proofs.requesting.oatcastle_requester_start.Statement.{statement}
 use Rattle.oatcastle.proofs.requesting.oatcastle_requester_start.Tie as tie
 
 returns : tie.Need-returns
-unfolding requesterStartCall startSaid
+unfolding requesterStartCall startReport
 returns c = rw (← c .before .before .before .before .before .before .start .ensures, c .enum-told .given .1)
 
 returns-2 : tie.Need-returns-2
-unfolding requesterStartCall startSaid
+unfolding requesterStartCall startReport
 returns-2 c = rw (← c .before .before .before .before .before .before .start .ensures, c .enum-told2 .given .1)
 
 pub oatcastle-requester-start-spec : {M : Type 1} → statement M

@@ -7,7 +7,7 @@ use Rattle.oatcastle.proofs.rot_link.oatcastle_rot_crc.Tie as tie
 
 returns : tie.Need-returns
 unfolding rotCrcCall
-returns c = rw (← c .before .before .before .before .crc .ensures) (c .before .before .tell .ensures)
+returns c = rw (← c .before .before .before .before .crc .ensures) (c .before .before .write-answer .ensures)
 
 pub oatcastle-rot-crc-spec : {M : Type 1} → statement M
 oatcastle-rot-crc-spec =

@@ -3,7 +3,7 @@
 use borrow.Author.Needs.{needs}
 use native.Mathlib.Omega.{arith}
 use mathlib.Core.List.{[], _∷_}
-use Rattle.oatcastle.proofs.RotLaws.{read-short, read-told}
+use Rattle.oatcastle.proofs.RotLaws.{read-short, read-given}
 use Rattle.oatcastle.proofs.rot_link.oatcastle_rot_read.Statement.{statement}
 use Rattle.oatcastle.proofs.rot_link.oatcastle_rot_read.Tie as tie
 
@@ -16,7 +16,7 @@ returns-2 : tie.Need-returns-2
 returns-2 c =
     let told = c .before .before in
     let read = told .before .before .before .before in
-    read-told _ _ _ _ (read .before .before .if1 .left) (read .read2 .ensures) (told .tell-read .ensures)
+    read-given _ _ _ _ (read .before .before .if1 .left) (read .read2 .ensures) (told .answer-read .ensures)
 
 pub oatcastle-rot-read-spec : {M : Type 1} → statement M
 oatcastle-rot-read-spec =

@@ -3,7 +3,7 @@
 use borrow.Author.Needs.{needs}
 use native.Mathlib.Omega.{arith}
 use mathlib.Core.List.{[], _∷_}
-use Rattle.oatcastle.proofs.RotLaws.{write-short, write-told}
+use Rattle.oatcastle.proofs.RotLaws.{write-short, write-given}
 use Rattle.oatcastle.proofs.rot_link.oatcastle_rot_write.Statement.{statement}
 use Rattle.oatcastle.proofs.rot_link.oatcastle_rot_write.Tie as tie
 
@@ -16,7 +16,7 @@ returns-2 : tie.Need-returns-2
 returns-2 c =
     let told = c .before .before in
     let written = told .before .before .before .before in
-    write-told _ _ _ _ (written .before .before .if1 .left) (written .write2 .ensures) (told .tell-sent .ensures)
+    write-given _ _ _ _ (written .before .before .if1 .left) (written .write2 .ensures) (told .answer-sent .ensures)
 
 pub oatcastle-rot-write-spec : {M : Type 1} → statement M
 oatcastle-rot-write-spec =

@@ -1,17 +1,17 @@
 -- `oatcastle::rot_link::short_written` meets its contract.
 -- Assumes nothing.
 use borrow.Author.Needs.{needs}
-use Rattle.rot.specs.Writing.{said}
+use Rattle.rot.specs.Writing.{report}
 use Rattle.oatcastle.specs.RotCalls.{shortNumber}
 use Rattle.oatcastle.proofs.rot_link.short_written.Statement.{statement}
 use Rattle.oatcastle.proofs.rot_link.short_written.Tie as tie
 
 returns : tie.Need-returns
-unfolding said shortNumber
+unfolding report shortNumber
 returns c = rw (c .enum-told .given .1)
 
 returns-2 : tie.Need-returns-2
-unfolding said shortNumber
+unfolding report shortNumber
 returns-2 c = rw (c .before .before .written .given .1) (c .number .ensures)
 
 pub short-written-spec : {M : Type 1} → statement M

@@ -1,21 +1,21 @@
 -- `oatcastle::supervision::oatcastle_set_options` meets its contract.
 -- Assumes nothing.
 use borrow.Author.Needs.{needs}
-use Rattle.supervisor.specs.Calls.{optionsSaid}
+use Rattle.supervisor.specs.Calls.{optionsReport}
 use Rattle.oatcastle.specs.SupervisorCalls.{optionsCall}
 use Rattle.oatcastle.proofs.supervision.oatcastle_set_options.Statement.{statement}
 use Rattle.oatcastle.proofs.supervision.oatcastle_set_options.Tie as tie
 
 returns : tie.Need-returns
-unfolding optionsCall optionsSaid
+unfolding optionsCall optionsReport
 returns c = rw (← c .before .before .before .before .set-options .ensures, c .enum-told .given .1)
 
 returns-2 : tie.Need-returns-2
-unfolding optionsCall optionsSaid
+unfolding optionsCall optionsReport
 returns-2 c = rw (← c .before .before .before .before .set-options .ensures, c .enum-told2 .given .1)
 
 returns-3 : tie.Need-returns-3
-unfolding optionsCall optionsSaid
+unfolding optionsCall optionsReport
 returns-3 c = rw (← c .before .before .before .before .set-options .ensures, c .enum-told3 .given .1)
 
 pub oatcastle-set-options-spec : {M : Type 1} → statement M

@@ -3,7 +3,7 @@
 use borrow.Author.Needs.{needs}
 use Rattle.supervisor.proofs.Cases.{refused}
 use Rattle.supervisor.proofs.ValidLaws.{passed}
-use Rattle.oatcastle.proofs.SupervisorLaws.{take-refused, take-short, take-told}
+use Rattle.oatcastle.proofs.SupervisorLaws.{take-refused, take-short, take-given}
 use Rattle.oatcastle.proofs.supervision.oatcastle_take.Statement.{statement}
 use Rattle.oatcastle.proofs.supervision.oatcastle_take.Tie as tie
 
@@ -19,7 +19,7 @@ returns-3 c =
     let taken = told .before .before .before .before .before .before in
     let first = taken .before .before .before .before in
     let tested = first .before in
-    take-told _ _ _ (passed _ _ (tested .outbox-is-valid .ensures) (first .if1 .left)) _ (search needs) (taken .take .ensures) (told .tell-taken .ensures)
+    take-given _ _ _ (passed _ _ (tested .outbox-is-valid .ensures) (first .if1 .left)) _ (search needs) (taken .take .ensures) (told .answer-taken .ensures)
 
 pub oatcastle-take-spec : {M : Type 1} → statement M
 oatcastle-take-spec =

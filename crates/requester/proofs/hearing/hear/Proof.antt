@@ -2,25 +2,25 @@
 -- Assumes nothing.
 use borrow.Author.Needs.{needs}
 use mathlib.Core.Path.{sym, ap, _∙_}
-use Rattle.requester.specs.Hearing.{headMessage, heardSaid}
+use Rattle.requester.specs.Hearing.{headMessage, heardReport}
 use Rattle.requester.specs.declared.number.ReplyNumber.{ReplyNumber}
 use Rattle.requester.proofs.SettlingLaws.{hear-version, hear-request, hear-failure, hear-answer, hear-other}
 use Rattle.requester.proofs.hearing.hear.Statement.{statement}
 use Rattle.requester.proofs.hearing.hear.Tie as tie
 
 returns : tie.Need-returns
-unfolding heardSaid
+unfolding heardReport
 returns c = λ d. sym (hear-version _ (headMessage (c .before .before .args .head) d) (c .if1 .taken))
 
 returns-2 : tie.Need-returns-2
-unfolding heardSaid
+unfolding heardReport
 returns-2 c =
     let if1 = c .before .before in
     let start = if1 .before .before in
     λ d. sym (hear-request _ (headMessage (start .args .head) d) (if1 .if1 .left) (c .if2 .taken))
 
 returns-3 : tie.Need-returns-3
-unfolding heardSaid
+unfolding heardReport
 returns-3 c =
     let fails-decode = c .before in
     let reply-to = fails-decode .before in
@@ -31,7 +31,7 @@ returns-3 c =
     λ d. sym (hear-failure _ (headMessage (start .args .head) d) (if1 .if1 .left) (if2 .if2 .left) (rw e at (sym (fails-decode .fails-decode .ensures) ∙ c .if3 .taken)))
 
 returns-4 : tie.Need-returns-4
-unfolding heardSaid
+unfolding heardReport
 returns-4 c =
     let if3 = c .before .before .before in
     let fails-decode = if3 .before in
@@ -43,7 +43,7 @@ returns-4 c =
     λ d. sym (hear-other _ (headMessage (start .args .head) d) (if1 .if1 .left) (if2 .if2 .left) (rw e at (sym (fails-decode .fails-decode .ensures) ∙ if3 .if3 .left)) (λ z. c .if4 .taken (z ∙ sym e)))
 
 returns-5 : tie.Need-returns-5
-unfolding heardSaid
+unfolding heardReport
 returns-5 c =
     let if3 = c .before .before .before in
     let fails-decode = if3 .before in

@@ -5,7 +5,7 @@ use native.Mathlib.Omega.{arith}
 use denote.Ref.{now}
 use Rattle.line.specs.Reader.{dataOf}
 use Rattle.requester.specs.Calls.{told, toldOf, outcomeOf}
-use Rattle.requester.specs.Hearing.{heardSaid, nextOf}
+use Rattle.requester.specs.Hearing.{heardReport, nextOf}
 use Rattle.requester.proofs.Cases.{refused, passed}
 use Rattle.requester.proofs.ValidLaws.{requester-valid}
 use Rattle.requester.proofs.SettlingLaws.{settles-none, settles-out}
@@ -27,7 +27,7 @@ settle-answer-requires c κs =
     (start .pre .0, start .pre .1 .1)
 
 returns-2 : tie.Need-returns-2
-unfolding outcomeOf told toldOf nextOf heardSaid
+unfolding outcomeOf told toldOf nextOf heardReport
 returns-2 c =
     let hear = c .before .before in
     let read-u64 = hear .before in
@@ -38,7 +38,7 @@ returns-2 c =
     rw (settles-out _ _ (passed _ _ (is-outstanding .is-outstanding .ensures) (if1 .if1 .left)), ← read-u64 .read-u64 .ensures, ← h)
 
 returns-3 : tie.Need-returns-3
-unfolding outcomeOf told toldOf nextOf heardSaid
+unfolding outcomeOf told toldOf nextOf heardReport
 returns-3 c =
     let hear = c .before .before in
     let read-u64 = hear .before in
@@ -49,7 +49,7 @@ returns-3 c =
     rw (settles-out _ _ (passed _ _ (is-outstanding .is-outstanding .ensures) (if1 .if1 .left)), ← read-u64 .read-u64 .ensures, ← h)
 
 returns-4 : tie.Need-returns-4
-unfolding outcomeOf heardSaid
+unfolding outcomeOf heardReport
 returns-4 c =
     let enum-told3 = c .before in
     let hear = enum-told3 .before .before in

@@ -2,7 +2,7 @@
 -- Assumes nothing.
 use borrow.Author.Needs.{needs}
 use native.Mathlib.Omega.{arith}
-use Rattle.line.specs.Reader.{tailSaid}
+use Rattle.line.specs.Reader.{tailReport}
 use Rattle.requester.specs.Calls.{told}
 use Rattle.requester.proofs.Cases.{refused, passed}
 use Rattle.requester.proofs.ValidLaws.{valid-parts}
@@ -16,7 +16,7 @@ unfolding told
 returns c = receive-refused _ _ (invalid-requester _ (refused _ _ (c .before .requester-is-valid .ensures) (c .if1 .taken)))
 
 listen-requires : tie.Need-listen-requires
-unfolding tailSaid
+unfolding tailReport
 listen-requires c κs =
     let tail2 = c .before .before .before in
     let tail = tail2 .before .before in
@@ -26,7 +26,7 @@ listen-requires c κs =
     (valid-parts _ (record { reader = t .0; requester = passed _ _ (requester-is-valid .requester-is-valid .ensures) (if1 .if1 .left) }), (t .1, omega arith))
 
 skip-requires : tie.Need-skip-requires
-unfolding tailSaid
+unfolding tailReport
 skip-requires c κs =
     let enum-told2 = c .before .before in
     let tail = enum-told2 .before .before in
@@ -36,11 +36,11 @@ skip-requires c κs =
     (valid-parts _ (record { reader = t .0; requester = passed _ _ (requester-is-valid .requester-is-valid .ensures) (if1 .if1 .left) }), t .1)
 
 returns-2 : tie.Need-returns-2
-unfolding told tailSaid
+unfolding told tailReport
 returns-2 c = receive-refused _ _ (invalid-reader _ (tail-tells _ (rw (c .enum-told .given .1) at (c .before .before .tail .ensures))))
 
 returns-3 : tie.Need-returns-3
-unfolding tailSaid
+unfolding tailReport
 returns-3 c =
     let listen = c .before .before .before .before in
     let tail2 = listen .before .before .before .before in
@@ -51,7 +51,7 @@ returns-3 c =
     receive-received _ _ (valid-parts _ (record { reader = t .0; requester = passed _ _ (requester-is-valid .requester-is-valid .ensures) (if1 .if1 .left) })) (listen .listen .ensures)
 
 returns-4 : tie.Need-returns-4
-unfolding tailSaid
+unfolding tailReport
 returns-4 c =
     let skip = c .before .before in
     let enum-told2 = skip .before .before .before in

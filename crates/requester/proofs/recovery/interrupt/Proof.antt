@@ -6,18 +6,18 @@ use mathlib.Core.Option.{none}
 use native.Mathlib.Numerals.{add-one}
 use borrow.Author.Tests.{eq-eqb, ne-eqb, le-leb, lt-leb}
 use Rattle.requester.specs.Layout.{stepNumber}
-use Rattle.requester.specs.Calls.{interruptSaid, interruptBy, interrupting}
+use Rattle.requester.specs.Calls.{interruptReport, interruptBy, interrupting}
 use Rattle.requester.proofs.Cases.{refused, passed}
 use Rattle.requester.proofs.ValidLaws.{requester-valid}
 use Rattle.requester.proofs.recovery.interrupt.Statement.{statement}
 use Rattle.requester.proofs.recovery.interrupt.Tie as tie
 
 returns : tie.Need-returns
-unfolding interrupting interruptSaid
+unfolding interrupting interruptReport
 returns c = rw (refused _ _ (c .before .requester-is-valid .ensures) (c .if1 .taken))
 
 returns-2 : tie.Need-returns-2
-unfolding interrupting interruptSaid
+unfolding interrupting interruptReport
 returns-2 c =
     let byte-at = c .before in
     let if1 = byte-at .before .before in
@@ -25,7 +25,7 @@ returns-2 c =
     rw (passed _ _ (requester-is-valid .requester-is-valid .ensures) (if1 .if1 .left), ← byte-at .byte-at .ensures .0, ne-eqb _ _ (c .if2 .taken))
 
 returns-3 : tie.Need-returns-3
-unfolding interrupting interruptSaid
+unfolding interrupting interruptReport
 returns-3 c =
     let read-u64 = c .before in
     let if2 = read-u64 .before .before in
@@ -47,7 +47,7 @@ set-progress-requires c κs =
     requester-valid _ (passed _ _ (requester-is-valid .requester-is-valid .ensures) (if1 .if1 .left)) .long
 
 returns-4 : tie.Need-returns-4
-unfolding interrupting interruptSaid stepNumber
+unfolding interrupting interruptReport stepNumber
 returns-4 c =
     let set-progress = c .before .before in
     let read-u8 = set-progress .before .before in

@@ -3,8 +3,8 @@
 use borrow.Author.Needs.{needs}
 use mathlib.Core.Path.{sym, ap, _∙_}
 use denote.Ref.{now}
-use Rattle.line.specs.Writer.{said}
-use Rattle.requester.specs.Calls.{requestSaid}
+use Rattle.line.specs.Writer.{report}
+use Rattle.requester.specs.Calls.{requestReport}
 use Rattle.requester.proofs.Cases.{refused, passed}
 use Rattle.requester.proofs.ValidLaws.{requester-valid}
 use Rattle.requester.proofs.SendingLaws.{request-refused, request-long, request-out, request-spent, request-done, request-short, request-never}
@@ -12,15 +12,15 @@ use Rattle.requester.proofs.sending.request.Statement.{statement}
 use Rattle.requester.proofs.sending.request.Tie as tie
 
 returns : tie.Need-returns
-unfolding requestSaid
+unfolding requestReport
 returns c = request-refused _ _ _ _ (refused _ _ (c .before .requester-is-valid .ensures) (c .if1 .taken))
 
 returns-2 : tie.Need-returns-2
-unfolding requestSaid
+unfolding requestReport
 returns-2 c = request-long _ _ _ _ (passed _ _ (c .before .before .requester-is-valid .ensures) (c .before .if1 .left)) (c .if2 .taken)
 
 returns-3 : tie.Need-returns-3
-unfolding requestSaid
+unfolding requestReport
 returns-3 c =
     let is-outstanding = c .before in
     let if2 = is-outstanding .before .before in
@@ -29,7 +29,7 @@ returns-3 c =
     request-out _ _ _ _ (passed _ _ (requester-is-valid .requester-is-valid .ensures) (if1 .if1 .left)) (if2 .if2 .left) (sym (is-outstanding .is-outstanding .ensures) ∙ c .if3 .taken)
 
 returns-4 : tie.Need-returns-4
-unfolding requestSaid
+unfolding requestReport
 returns-4 c =
     let read-u64 = c .before in
     let if3 = read-u64 .before .before in
@@ -47,7 +47,7 @@ keep-requires c κs =
     (requester-valid _ (passed _ _ (requester-is-valid .requester-is-valid .ensures) (if1 .if1 .left)) .long, if2 .if2 .left)
 
 returns-5 : tie.Need-returns-5
-unfolding requestSaid said
+unfolding requestReport report
 returns-5 c =
     let keep = c .before .before in
     let written = keep .before .before .before in
@@ -60,10 +60,10 @@ returns-5 c =
     let if1 = if2 .before in
     let requester-is-valid = if1 .before in
     request-done _ _ _ _ (passed _ _ (requester-is-valid .requester-is-valid .ensures) (if1 .if1 .left)) (if2 .if2 .left) (sym (is-outstanding .is-outstanding .ensures) ∙ if3 .if3 .left) (read-u64 .read-u64 .ensures) (if4 .if4 .left)
-    (write .write .ensures) _ (ap said (written .written .given .1)) (keep .keep .ensures)
+    (write .write .ensures) _ (ap report (written .written .given .1)) (keep .keep .ensures)
 
 returns-6 : tie.Need-returns-6
-unfolding requestSaid said
+unfolding requestReport report
 returns-6 c =
     let write = c .before .before .before .before in
     let if4 = write .before .before .before in
@@ -74,10 +74,10 @@ returns-6 c =
     let if1 = if2 .before in
     let requester-is-valid = if1 .before in
     request-short _ _ _ _ (passed _ _ (requester-is-valid .requester-is-valid .ensures) (if1 .if1 .left)) (if2 .if2 .left) (sym (is-outstanding .is-outstanding .ensures) ∙ if3 .if3 .left) (read-u64 .read-u64 .ensures) (if4 .if4 .left)
-    (write .write .ensures) (ap said (c .enum-told .given .1))
+    (write .write .ensures) (ap report (c .enum-told .given .1))
 
 returns-7 : tie.Need-returns-7
-unfolding said
+unfolding report
 returns-7 c =
     let write = c .before .before .before .before in
     let if4 = write .before .before .before in
@@ -89,7 +89,7 @@ returns-7 c =
     let requester-is-valid = if1 .before in
     let start = requester-is-valid .before .before .before .before .before in
     absurd (request-never (now (start .args .requester)) (start .args .command) (now (start .args .«data»)) (now (start .args .out)) (passed _ _ (requester-is-valid .requester-is-valid .ensures) (if1 .if1 .left)) (if2 .if2 .left) (sym (is-outstanding .is-outstanding .ensures) ∙ if3 .if3 .left) (read-u64 .read-u64 .ensures) (if4 .if4 .left)
-    (write .write .ensures) (ap said (c .enum-told2 .given .1)))
+    (write .write .ensures) (ap report (c .enum-told2 .given .1)))
 
 pub request-spec : {M : Type 1} → statement M
 request-spec =

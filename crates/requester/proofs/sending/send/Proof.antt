@@ -3,8 +3,8 @@
 use borrow.Author.Needs.{needs}
 use mathlib.Core.Path.{ap}
 use native.Mathlib.Omega.{arith}
-use Rattle.line.specs.Writer.{said}
-use Rattle.requester.specs.Calls.{sendSaid}
+use Rattle.line.specs.Writer.{report}
+use Rattle.requester.specs.Calls.{sendReport}
 use Rattle.requester.proofs.Cases.{refused, passed}
 use Rattle.requester.proofs.ValidLaws.{requester-valid}
 use Rattle.requester.proofs.SendingLaws.{send-refused, send-nothing, send-done, send-short, send-never}
@@ -12,11 +12,11 @@ use Rattle.requester.proofs.sending.send.Statement.{statement}
 use Rattle.requester.proofs.sending.send.Tie as tie
 
 returns : tie.Need-returns
-unfolding sendSaid
+unfolding sendReport
 returns c = send-refused _ _ (refused _ _ (c .before .requester-is-valid .ensures) (c .if1 .taken))
 
 returns-2 : tie.Need-returns-2
-unfolding sendSaid
+unfolding sendReport
 returns-2 c =
     let is-unsent = c .before in
     let if1 = is-unsent .before .before in
@@ -36,7 +36,7 @@ slice-write-requester c =
     omega (arith, requester-valid _ (passed _ _ (requester-is-valid .requester-is-valid .ensures) (if1 .if1 .left)) .long)
 
 returns-3 : tie.Need-returns-3
-unfolding sendSaid said
+unfolding sendReport report
 returns-3 c =
     let written = c .before in
     let write-outstanding = written .before .before .before .before in
@@ -44,27 +44,27 @@ returns-3 c =
     let is-unsent = if2 .before in
     let if1 = is-unsent .before .before in
     let requester-is-valid = if1 .before in
-    send-done _ _ (passed _ _ (requester-is-valid .requester-is-valid .ensures) (if1 .if1 .left)) (passed _ _ (is-unsent .is-unsent .ensures) (if2 .if2 .left)) (write-outstanding .write-outstanding .ensures) _ (ap said (written .written .given .1))
+    send-done _ _ (passed _ _ (requester-is-valid .requester-is-valid .ensures) (if1 .if1 .left)) (passed _ _ (is-unsent .is-unsent .ensures) (if2 .if2 .left)) (write-outstanding .write-outstanding .ensures) _ (ap report (written .written .given .1))
 
 returns-4 : tie.Need-returns-4
-unfolding sendSaid said
+unfolding sendReport report
 returns-4 c =
     let write-outstanding = c .before .before .before .before in
     let if2 = write-outstanding .before .before .before in
     let is-unsent = if2 .before in
     let if1 = is-unsent .before .before in
     let requester-is-valid = if1 .before in
-    send-short _ _ (passed _ _ (requester-is-valid .requester-is-valid .ensures) (if1 .if1 .left)) (passed _ _ (is-unsent .is-unsent .ensures) (if2 .if2 .left)) (write-outstanding .write-outstanding .ensures) (ap said (c .enum-told .given .1))
+    send-short _ _ (passed _ _ (requester-is-valid .requester-is-valid .ensures) (if1 .if1 .left)) (passed _ _ (is-unsent .is-unsent .ensures) (if2 .if2 .left)) (write-outstanding .write-outstanding .ensures) (ap report (c .enum-told .given .1))
 
 returns-5 : tie.Need-returns-5
-unfolding said
+unfolding report
 returns-5 c =
     let write-outstanding = c .before .before .before .before in
     let if2 = write-outstanding .before .before .before in
     let is-unsent = if2 .before in
     let if1 = is-unsent .before .before in
     let requester-is-valid = if1 .before in
-    absurd (send-never _ _ (passed _ _ (requester-is-valid .requester-is-valid .ensures) (if1 .if1 .left)) (passed _ _ (is-unsent .is-unsent .ensures) (if2 .if2 .left)) (write-outstanding .write-outstanding .ensures) (ap said (c .enum-told2 .given .1)))
+    absurd (send-never _ _ (passed _ _ (requester-is-valid .requester-is-valid .ensures) (if1 .if1 .left)) (passed _ _ (is-unsent .is-unsent .ensures) (if2 .if2 .left)) (write-outstanding .write-outstanding .ensures) (ap report (c .enum-told2 .given .1)))
 
 pub send-spec : {M : Type 1} → statement M
 send-spec =

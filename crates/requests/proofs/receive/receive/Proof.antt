@@ -7,8 +7,8 @@ use borrow.Author.Needs.{needs}
 use Rattle.supervisor.specs.Calls.{parts}
 use Rattle.supervisor.proofs.Cases.{refused}
 use Rattle.supervisor.proofs.ValidLaws.{passed}
-use Rattle.requests.specs.Receive.{receiptSaid, receiving}
-use Rattle.requests.proofs.TurnLaws.{Held, begun, over, turn-used, went}
+use Rattle.requests.specs.Receive.{receiptReport, receiving}
+use Rattle.requests.proofs.StepLaws.{Held, begun, over, valid-step-used, went}
 use Rattle.requests.proofs.receive.receive.Statement.{statement}
 use Rattle.requests.proofs.receive.receive.Tie as tie
 
@@ -20,20 +20,20 @@ abbrev μ-loop : tie.MeasureT-loop
 μ-loop image piece reader₀ outbox₀ factory settings₀ registers₀ at₀ reader outbox settings registers at = length piece - at
 
 returns : tie.Need-returns Inv-loop μ-loop
-unfolding receiving receiptSaid
+unfolding receiving receiptReport
 returns c = rw (refused _ _ (c .before .are-valid .ensures) (c .if1 .taken))
 
 loop-holds : tie.Need-loop-holds Inv-loop μ-loop
 loop-holds c = begun _ _ _ (passed _ _ (c .before .are-valid .ensures) (c .if1 .left))
 
-turn-requires : tie.Need-turn-requires Inv-loop μ-loop
-turn-requires c κs = c .before .before .before .before .before .before .loop .inv .valid
+valid-step-requires : tie.Need-valid-step-requires Inv-loop μ-loop
+valid-step-requires c κs = c .before .before .before .before .before .before .loop .inv .valid
 
 add-at : tie.Need-add-at Inv-loop μ-loop
 add-at c =
     let called = c .before .before .before .before .before .before .before .before in
     let told = called .before .before .before .before .before .before in
-    let u = turn-used (told .before .loop .inv) (told .loop-test .taken) (called .turn .ensures .0) in
+    let u = valid-step-used (told .before .loop .inv) (told .loop-test .taken) (called .valid-step .ensures .0) in
     let start = told .before .before .before .before .before .before .before .before .before .before .before .before .before .before .before in
     omega (arith, start .good .1 .0)
 
@@ -41,14 +41,14 @@ loop-less : tie.Need-loop-less Inv-loop μ-loop
 loop-less c =
     let called = c .before .before .before .before .before .before .before .before in
     let told = called .before .before .before .before .before .before in
-    let u = turn-used (told .before .loop .inv) (told .loop-test .taken) (called .turn .ensures .0) in
+    let u = valid-step-used (told .before .loop .inv) (told .loop-test .taken) (called .valid-step .ensures .0) in
     omega arith
 
 loop-again : tie.Need-loop-again Inv-loop μ-loop
 loop-again c =
     let called = c .before .before .before .before .before .before .before .before in
     let told = called .before .before .before .before .before .before in
-    went (told .before .loop .inv) (told .loop-test .taken) (called .turn .ensures .0) (called .turn .ensures .1) (search needs) (search needs) (search needs) (search needs)
+    went (told .before .loop .inv) (told .loop-test .taken) (called .valid-step .ensures .0) (called .valid-step .ensures .1) (search needs) (search needs) (search needs) (search needs)
 
 returns-2 : tie.Need-returns-2 Inv-loop μ-loop
 returns-2 c = over (c .before .loop .inv) (c .loop-test .left)
@@ -58,5 +58,5 @@ receive-spec =
     tie.close
     (tie.spec
     Inv-loop μ-loop (λ c κs. search needs) (λ c. search needs) (λ c. search needs) (λ c. search needs) (λ c. search needs) returns loop-holds
-    (λ c. search needs) (λ c. search needs) (λ c. search needs) turn-requires add-at loop-less loop-again
+    (λ c. search needs) (λ c. search needs) (λ c. search needs) valid-step-requires add-at loop-less loop-again
     (λ c. search needs) (λ c. search needs) (λ c. search needs) (λ c. search needs) returns-2)

@@ -7,14 +7,14 @@ use Prim.Native.Nat.{ℕ}
 use borrow.Author.Needs.{needs}
 use denote.Ref.{now}
 use Rattle.octets.specs.Bytes.{bytes}
-use Rattle.line.specs.Reader.{Said, said}
+use Rattle.line.specs.Reader.{Report, report}
 use Rattle.line.specs.Reader as LineReader
-use Rattle.requests.specs.Receive.{Ended, sentBox, Head, failureHead, replyBytes, inner, innerAfter, verdictOf, ended, endedSaid}
-use Rattle.requests.proofs.TurnLaws.{Settled, data-short, settled-failure, settled-message}
+use Rattle.requests.specs.Receive.{Ended, sentBox, Head, failureHead, replyBytes, inner, innerAfter, verdictOf, ended, endedReport}
+use Rattle.requests.proofs.StepLaws.{Settled, data-short, settled-failure, settled-message}
 use Rattle.requests.proofs.receive.settle.Statement.{statement}
 use Rattle.requests.proofs.receive.settle.Tie as tie
 
-by-fail : (c : tie.Start) (reason : ℕ) (sequence : Option ℕ) {t : Said} {h : Head} {g : Ended} {o : List ℕ}
+by-fail : (c : tie.Start) (reason : ℕ) (sequence : Option ℕ) {t : Report} {h : Head} {g : Ended} {o : List ℕ}
     → t ≡ LineReader.failed reason sequence → h ≡ failureHead sequence
     → (g ≡ Ended.failed reason) × (o ≡ sentBox (replyBytes h 0x02 (bytes 1 reason)) (now (c .args .outbox)))
     → Settled (now (c .args .image)) (now (c .args .factory)) (inner (now (c .args .outbox)) (now (c .args .settings)) (now (c .args .registers))) (now (c .args .reader)) t g
@@ -24,15 +24,15 @@ by-fail c reason sequence =
     settled-failure (now (a .image)) (now (a .factory)) (now (a .outbox)) (now (a .settings)) (now (a .registers)) (now (a .reader)) reason sequence (c .pre .1 .1)
 
 returns : tie.Need-returns
-unfolding endedSaid ended innerAfter verdictOf said
+unfolding endedReport ended innerAfter verdictOf report
 returns c = rw (c .enum-told .given .1) (refl, (refl, c .before .before .before .before .before .before .before .before .pre .1 .1))
 
 returns-2 : tie.Need-returns-2
-unfolding endedSaid ended innerAfter verdictOf said
+unfolding endedReport ended innerAfter verdictOf report
 returns-2 c = rw (c .enum-told2 .given .1) (refl, (refl, c .before .before .before .before .before .before .before .before .pre .1 .1))
 
 returns-3 : tie.Need-returns-3
-unfolding endedSaid ended innerAfter verdictOf said
+unfolding endedReport ended innerAfter verdictOf report
 returns-3 c = rw (c .enum-told3 .given .1) (refl, (refl, c .before .before .before .before .before .before .before .before .pre .1 .1))
 
 request-requires : tie.Need-request-requires
@@ -42,42 +42,42 @@ request-requires c κs =
     (p .0, (p .1 .0, (p .1 .1, rw (told .message-data .ensures) (data-short _ _))))
 
 returns-4 : tie.Need-returns-4
-unfolding said
+unfolding report
 returns-4 c =
     let called = c .before .before .before .before .before .before in
     let given = called .before .before .before .before in
     let told = given .before .before in
     let a = told .before .before .before .before .before .before .before .before .args in
     settled-message (now (a .image)) (now (a .factory)) (inner (now (a .outbox)) (now (a .settings)) (now (a .registers))) (now (a .reader)) _ _ _ _
-    (ap said (told .answer .given .1)) (given .message-data .ensures) (called .request .ensures)
+    (ap report (told .answer .given .1)) (given .message-data .ensures) (called .request .ensures)
 
 returns-5 : tie.Need-returns-5
-unfolding said
+unfolding report
 returns-5 c =
     let called = c .before .before in
     let told = called .before .before .before in
-    by-fail (told .before .before .before .before .before .before .before .before) 1 none (ap said (told .enum-told4 .given .1)) (called .before .unnumbered .ensures) (called .fail .ensures)
+    by-fail (told .before .before .before .before .before .before .before .before) 1 none (ap report (told .enum-told4 .given .1)) (called .before .unnumbered .ensures) (called .fail .ensures)
 
 returns-6 : tie.Need-returns-6
-unfolding said
+unfolding report
 returns-6 c =
     let called = c .before .before in
     let told = called .before .before .before in
-    by-fail (told .before .before .before .before .before .before .before .before) 3 none (ap said (told .enum-told5 .given .1)) (called .before .unnumbered2 .ensures) (called .fail2 .ensures)
+    by-fail (told .before .before .before .before .before .before .before .before) 3 none (ap report (told .enum-told5 .given .1)) (called .before .unnumbered2 .ensures) (called .fail2 .ensures)
 
 returns-7 : tie.Need-returns-7
-unfolding said
+unfolding report
 returns-7 c =
     let called = c .before .before in
     let told = called .before .before .before .before in
-    by-fail (told .before .before .before .before .before .before .before .before) 2 (some _) (ap said (told .answer2 .given .1)) (called .before .head-to .ensures) (called .fail3 .ensures)
+    by-fail (told .before .before .before .before .before .before .before .before) 2 (some _) (ap report (told .answer2 .given .1)) (called .before .head-to .ensures) (called .fail3 .ensures)
 
 returns-8 : tie.Need-returns-8
-unfolding said
+unfolding report
 returns-8 c =
     let called = c .before .before in
     let told = called .before .before .before .before in
-    by-fail (told .before .before .before .before .before .before .before .before) 4 (some _) (ap said (told .answer3 .given .1)) (called .before .head-to2 .ensures) (called .fail4 .ensures)
+    by-fail (told .before .before .before .before .before .before .before .before) 4 (some _) (ap report (told .answer3 .given .1)) (called .before .head-to2 .ensures) (called .fail4 .ensures)
 
 pub settle-spec : {M : Type 1} → statement M
 settle-spec =

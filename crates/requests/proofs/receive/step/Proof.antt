@@ -3,27 +3,27 @@
 use borrow.Author.Needs.{needs}
 use Rattle.supervisor.proofs.Cases.{refused}
 use Rattle.supervisor.proofs.ValidLaws.{passed}
-use Rattle.requests.specs.Receive.{endedSaid, stepping}
+use Rattle.requests.specs.Receive.{endedReport, stepping}
 use Rattle.requests.proofs.receive.step.Statement.{statement}
 use Rattle.requests.proofs.receive.step.Tie as tie
 
 returns : tie.Need-returns
-unfolding stepping endedSaid
+unfolding stepping endedReport
 returns c = rw (refused _ _ (c .before .are-valid .ensures) (c .if1 .taken))
 
-turn-requires : tie.Need-turn-requires
-turn-requires c κs = let told = c .before .before .before .before in passed _ _ (told .before .are-valid .ensures) (told .if1 .left)
+valid-step-requires : tie.Need-valid-step-requires
+valid-step-requires c κs = let told = c .before .before .before .before in passed _ _ (told .before .are-valid .ensures) (told .if1 .left)
 
 returns-2 : tie.Need-returns-2
 unfolding stepping
 returns-2 c =
     let called = c .before .before .before .before .before .before .before .before in
     let told = called .before .before .before .before .before in
-    rw (passed _ _ (told .before .are-valid .ensures) (told .if1 .left)) (called .turn .ensures .0)
+    rw (passed _ _ (told .before .are-valid .ensures) (told .if1 .left)) (called .valid-step .ensures .0)
 
 pub step-spec : {M : Type 1} → statement M
 step-spec =
     tie.close
     (tie.spec
     (λ c κs. search needs) (λ c. search needs) (λ c. search needs) (λ c. search needs) (λ c. search needs) returns
-    turn-requires (λ c. search needs) (λ c. search needs) (λ c. search needs) (λ c. search needs) returns-2)
+    valid-step-requires (λ c. search needs) (λ c. search needs) (λ c. search needs) (λ c. search needs) returns-2)

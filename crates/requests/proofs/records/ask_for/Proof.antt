@@ -6,7 +6,7 @@ use denote.Ref.{now}
 use lib.ListN.{set, length-set}
 use borrow.Author.Needs.{needs}
 use Rattle.octets.proofs.Overlay.{overlay-one}
-use Rattle.supervisor.specs.Layout.{retained-place}
+use Rattle.supervisor.specs.Layout.{retained-offset}
 use Rattle.requests.specs.Receive.{askedFor}
 use Rattle.requests.proofs.records.ask_for.Statement.{statement}
 use Rattle.requests.proofs.records.ask_for.Tie as tie
@@ -24,7 +24,7 @@ returns c =
     let r = now (start .args .registers) in
     let flag = start .args .flag in
     let l = length-set r flag 1 in
-    (c .before .before .send-none .ensures, overlay-one retained-place 0 (set r flag 1) (omega (arith, l, start .pre)) ∙ rw (overlay-one flag 1 r (omega (arith, start .pre))))
+    (c .before .before .send-none .ensures, overlay-one retained-offset 0 (set r flag 1) (omega (arith, l, start .pre)) ∙ rw (overlay-one flag 1 r (omega (arith, start .pre))))
 
 pub ask-for-spec : {M : Type 1} → statement M
 ask-for-spec = tie.close (tie.spec (λ c. search needs) slice-write-registers-2 (λ c κs. search needs) (λ c. search needs) (λ c. search needs) returns)

@@ -2,7 +2,7 @@
 -- Assumes nothing.
 use borrow.Author.Needs.{needs}
 use native.Mathlib.Omega.{arith}
-use Rattle.supervisor.specs.Layout.{status-place}
+use Rattle.supervisor.specs.Layout.{status-offset}
 use Rattle.requests.proofs.RecordLaws.{number-stored}
 use Rattle.requests.proofs.records.start_acknowledged.Statement.{statement}
 use Rattle.requests.proofs.records.start_acknowledged.Tie as tie
@@ -12,7 +12,7 @@ returns c =
     let written = c .before .before .before .before .before .before in
     let start = written .before .before .before .before .before .before .before in (
       c .before .before .acknowledge .ensures,
-      number-stored 8 status-place (start .args .registers .now) (omega (arith, start .pre)) (cc) (written .write-u64 .ensures),
+      number-stored 8 status-offset (start .args .registers .now) (omega (arith, start .pre)) (cc) (written .write-u64 .ensures),
     )
 
 pub start-acknowledged-spec : {M : Type 1} → statement M

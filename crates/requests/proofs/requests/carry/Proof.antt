@@ -15,7 +15,7 @@ use Rattle.requests.specs.Receive.{KeySet, AlertParts, Inner, inner, lef
 use Rattle.requests.proofs.CommandLaws.{unlisted, of-number}
 use Rattle.requests.proofs.ReceiveLaws.{boot-failure-long, panic-long, key-set-long}
 use Rattle.requests.proofs.KeptLaws.{InnerValid, inner-valid}
-use Rattle.requests.proofs.TurnLaws.{silently-by, answered-by, acknowledged-by, carried-both}
+use Rattle.requests.proofs.StepLaws.{silently-by, answered-by, acknowledged-by, carried-both}
 use Rattle.requests.proofs.requests.carry.Statement.{statement}
 use Rattle.requests.proofs.requests.carry.Tie as tie
 

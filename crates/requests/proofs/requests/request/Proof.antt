@@ -10,8 +10,8 @@ use Rattle.octets.specs.Bytes.{bytes}
 use Rattle.line.specs.Judge.{Verdict, failure}
 use Rattle.supervisor.proofs.Cases.{refused}
 use Rattle.supervisor.proofs.ValidLaws.{passed}
-use Rattle.requests.specs.Receive.{Ended, sentBox, Head, failureHead, replyBytes, inner, endedSaid}
-use Rattle.requests.proofs.TurnLaws.{Judged, other-version, top-bit-set, command-unknown, length-wrong, passed-all, judged-failure, judged-good}
+use Rattle.requests.specs.Receive.{Ended, sentBox, Head, failureHead, replyBytes, inner, endedReport}
+use Rattle.requests.proofs.StepLaws.{Judged, other-version, top-bit-set, command-unknown, length-wrong, passed-all, judged-failure, judged-good}
 use Rattle.requests.proofs.requests.request.Statement.{statement}
 use Rattle.requests.proofs.requests.request.Tie as tie
 
@@ -61,7 +61,7 @@ carry-requires c κs =
     (p .0, (p .1 .0, (p .1 .1 .0, (p .1 .1 .1, passed _ _ (told .before .length-is-allowed .ensures) (told .if4 .left)))))
 
 returns-5 : tie.Need-returns-5
-unfolding endedSaid
+unfolding endedReport
 returns-5 c =
     let called = c .before .before .before .before .before .before in
     let told = called .before .before .before .before in

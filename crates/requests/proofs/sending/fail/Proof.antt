@@ -2,12 +2,12 @@
 -- Assumes nothing.
 use mathlib.Core.Path.{refl}
 use borrow.Author.Needs.{needs}
-use Rattle.requests.specs.Receive.{endedSaid}
+use Rattle.requests.specs.Receive.{endedReport}
 use Rattle.requests.proofs.sending.fail.Statement.{statement}
 use Rattle.requests.proofs.sending.fail.Tie as tie
 
 returns : tie.Need-returns
-unfolding endedSaid
+unfolding endedReport
 returns c = (refl, c .before .before .send-byte .ensures)
 
 pub fail-spec : {M : Type 1} → statement M

@@ -3,7 +3,7 @@
 use mathlib.Core.Path.{refl}
 use borrow.Author.Needs.{needs}
 use denote.Ref.{now}
-use Rattle.line.specs.Writer.{said}
+use Rattle.line.specs.Writer.{report}
 use Rattle.requests.proofs.SendingLaws.{reply-written, reply-refused}
 use Rattle.requests.proofs.sending.write_reply.Statement.{statement}
 use Rattle.requests.proofs.sending.write_reply.Tie as tie
@@ -16,7 +16,7 @@ returns c =
     reply-written (a .reply) (a .command) (now (a .head)) (now (a .rest)) (now (a .outbox)) (start .pre .0) (start .pre .1) _ (write .write .ensures) (c .before .written .given .1)
 
 returns-2 : tie.Need-returns-2
-unfolding said
+unfolding report
 returns-2 c =
     let write = c .before .before .before .before in
     let start = write .before .before .before .before .before .before in
@@ -24,7 +24,7 @@ returns-2 c =
     absurd (reply-refused (a .reply) (a .command) (now (a .head)) (now (a .rest)) (now (a .outbox)) (start .pre .0) (start .pre .1) _ (write .write .ensures) (c .enum-told .given .1) 8 refl)
 
 returns-3 : tie.Need-returns-3
-unfolding said
+unfolding report
 returns-3 c =
     let write = c .before .before .before .before in
     let start = write .before .before .before .before .before .before in

@@ -3,10 +3,10 @@
 use Prim.Native.Nat.{ℕ, _+_, _≤_}
 use borrow.Author.Needs.{needs}
 use Rattle.supervisor.specs.Limits.{first-setting, highest-key, longest-setting}
-use Rattle.supervisor.specs.Layout.{setting-place, setting-value-place, settings-length}
+use Rattle.supervisor.specs.Layout.{setting-offset, setting-value-offset, settings-length}
 use Rattle.requests.specs.Receive.{storing}
 use Rattle.supervisor.proofs.Cases.{cases}
-use Rattle.supervisor.proofs.PlaceLaws.{place-within}
+use Rattle.supervisor.proofs.OffsetLaws.{place-within}
 use Rattle.requests.proofs.settings.store.Statement.{statement}
 use Rattle.requests.proofs.settings.store.Tie as tie
 
@@ -22,10 +22,10 @@ returns-3 : tie.Need-returns-3
 unfolding storing
 returns-3 c =
     let stored = c .before .before in
-    search (cases, stored .store-at .ensures, stored .before .longest-setting .ensures .0, stored .before .before .before .setting-place .ensures .0)
+    search (cases, stored .store-at .ensures, stored .before .longest-setting .ensures .0, stored .before .before .before .setting-offset .ensures .0)
 
 -- the setting of a settings key lies in the store
-within : (key : ℕ) → first-setting ≤ key → key ≤ highest-key → setting-place key + (setting-value-place + longest-setting key) ≤ settings-length
+within : (key : ℕ) → first-setting ≤ key → key ≤ highest-key → setting-offset key + (setting-value-offset + longest-setting key) ≤ settings-length
 within key h k = place-within key (record { least = h; most = k })
 
 store-at-requires : tie.Need-store-at-requires

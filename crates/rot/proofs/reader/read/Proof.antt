@@ -1,7 +1,7 @@
 -- `rot::reader::read` meets its contract.
 -- Assumes nothing.
 use borrow.Author.Needs.{needs}
-use Rattle.rot.specs.Reading.{judgedAs, answering, reading, said}
+use Rattle.rot.specs.Reading.{judgedAs, answering, reading, report}
 use Rattle.rot.proofs.Reading.{read-echo, read-handed}
 use Rattle.rot.proofs.reader.read.Statement.{statement}
 use Rattle.rot.proofs.reader.read.Tie as tie
@@ -16,15 +16,15 @@ returns c =
     (read-echo _ (arm .before .before .judge .ensures) (arm .verdict2 .given .1) _ (part .before .if1 .taken))
 
 returns-2 : tie.Need-returns-2
-unfolding judgedAs answering reading said
+unfolding judgedAs answering reading report
 returns-2 c = rw (← c .before .before .before .judge .ensures, c .before .verdict .given .1)
 
 returns-3 : tie.Need-returns-3
-unfolding judgedAs answering reading said
+unfolding judgedAs answering reading report
 returns-3 c = rw (← c .before .before .judge .ensures, c .enum-told .given .1)
 
 returns-4 : tie.Need-returns-4
-unfolding said
+unfolding report
 returns-4 c =
     let arm = c .before .before .before in
     rw (c .before .word-at .ensures .0) (read-handed _ (arm .before .before .judge .ensures) (arm .verdict2 .given .1) _ (c .if1 .left))

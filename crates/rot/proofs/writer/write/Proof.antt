@@ -4,27 +4,27 @@ use mathlib.Core.Path.{sym, _∙_}
 use borrow.Author.Needs.{needs}
 use borrow.Author.Tests.{not-true, not-false}
 use Rattle.rot.specs.Answers.{numberOf}
-use Rattle.rot.specs.Writing.{said}
+use Rattle.rot.specs.Writing.{report}
 use Rattle.rot.proofs.Writing.{write-long, write-unlisted, write-no-room, write-done}
 use Rattle.rot.proofs.writer.write.Statement.{statement}
 use Rattle.rot.proofs.writer.write.Tie as tie
 
 returns : tie.Need-returns
-unfolding numberOf said
+unfolding numberOf report
 returns c = write-long _ _ (c .if1 .taken)
 
 returns-2 : tie.Need-returns-2
-unfolding numberOf said
+unfolding numberOf report
 returns-2 c = write-unlisted _ _ (c .before .before .if1 .left) (sym (c .before .is-listed .ensures) ∙ not-true _ (c .if2 .taken))
 
 returns-3 : tie.Need-returns-3
-unfolding numberOf said
+unfolding numberOf report
 returns-3 c =
     let asked = c .before .before in
     write-no-room _ _ (asked .before .if1 .left) (sym (asked .is-listed .ensures) ∙ not-false _ (c .before .if2 .left)) (c .if3 .taken)
 
 returns-4 : tie.Need-returns-4
-unfolding said
+unfolding report
 returns-4 c =
     let put = c .before .before in
     let room = put .before .before in

@@ -2,7 +2,7 @@
 -- Assumes nothing.
 use borrow.Author.Needs.{needs}
 use borrow.Author.Tests.{lt-ltb}
-use Rattle.supervisor.specs.Calls.{lookupSaid, resultAt, lookupResult}
+use Rattle.supervisor.specs.Calls.{lookupReport, resultAt, lookupResult}
 use Rattle.supervisor.proofs.ValidLaws.{passed}
 use Rattle.supervisor.proofs.Cases.{refused}
 use Rattle.supervisor.proofs.KeyLaws.{result-found}
@@ -10,11 +10,11 @@ use Rattle.supervisor.proofs.keys.lookup_result.Statement.{statement}
 use Rattle.supervisor.proofs.keys.lookup_result.Tie as tie
 
 returns : tie.Need-returns
-unfolding lookupSaid lookupResult
+unfolding lookupReport lookupResult
 returns c = rw (refused _ _ (c .before .stores-are-valid .ensures) (c .if1 .taken))
 
 returns-2 : tie.Need-returns-2
-unfolding lookupSaid lookupResult
+unfolding lookupReport lookupResult
 returns-2 c = rw (passed _ _ (c .before .before .stores-are-valid .ensures) (c .before .if1 .left), lt-ltb _ _ (c .if2 .taken))
 
 returns-3 : tie.Need-returns-3
@@ -32,7 +32,7 @@ returns-4 c =
     rw (result-found _ _ _ _ _ v (found .before .if2 .left) (found .find .ensures), c .before .before .p2 .given .1) (c .size2 .ensures)
 
 returns-5 : tie.Need-returns-5
-unfolding lookupSaid resultAt
+unfolding lookupReport resultAt
 returns-5 c =
     let found = c .before .before in
     let v = passed _ _ (found .before .before .before .stores-are-valid .ensures) (found .before .before .if1 .left) in

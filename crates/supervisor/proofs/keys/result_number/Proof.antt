@@ -1,28 +1,28 @@
 -- `supervisor::keys::result_number` meets its contract.
 -- Assumes nothing.
 use borrow.Author.Needs.{needs}
-use Rattle.supervisor.specs.Calls.{lookupSaid}
+use Rattle.supervisor.specs.Calls.{lookupReport}
 use Rattle.supervisor.proofs.keys.result_number.Statement.{statement}
 use Rattle.supervisor.proofs.keys.result_number.Tie as tie
 
 returns : tie.Need-returns
-unfolding lookupSaid
+unfolding lookupReport
 returns c = rw (← c .before .before .lookup-result .ensures, c .enum-told .given .1)
 
 returns-2 : tie.Need-returns-2
-unfolding lookupSaid
+unfolding lookupReport
 returns-2 c = rw (← c .before .before .lookup-result .ensures, c .enum-told2 .given .1)
 
 returns-3 : tie.Need-returns-3
-unfolding lookupSaid
+unfolding lookupReport
 returns-3 c = rw (← c .before .before .lookup-result .ensures, c .enum-told3 .given .1)
 
 returns-4 : tie.Need-returns-4
-unfolding lookupSaid
+unfolding lookupReport
 returns-4 c = rw (← c .before .before .lookup-result .ensures, c .enum-told4 .given .1)
 
 returns-5 : tie.Need-returns-5
-unfolding lookupSaid
+unfolding lookupReport
 returns-5 c = rw (← c .before .before .lookup-result .ensures, c .enum-told5 .given .1)
 
 pub result-number-spec : {M : Type 1} → statement M

@@ -41,7 +41,7 @@ returns-3 c =
     let start = from .before .before in
     take-some _ _ (passed _ _ (start .before .outbox-is-valid .ensures) (start .if1 .left)) (from .word-at .ensures .0)
     (some .before .before .word-at2 .ensures .0) (some .before .min .ensures) (some .if2 .left) (last .read-u8 .ensures) (copy .copy .ensures)
-    (c .before .before .before .write-u16 .ensures) (c .owing .ensures)
+    (c .before .before .before .write-u16 .ensures) (c .terminator-owed .ensures)
 
 pub take-spec : {M : Type 1} → statement M
 take-spec =

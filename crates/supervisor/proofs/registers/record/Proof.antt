@@ -3,7 +3,7 @@
 use mathlib.Core.Path.{sym, ap, _∙_}
 use borrow.Author.Needs.{needs}
 use borrow.Author.Tests.{ne-eqb}
-use Rattle.supervisor.specs.Calls.{is, recordSaid, recordAt, recordOf}
+use Rattle.supervisor.specs.Calls.{is, recordReport, recordAt, recordOf}
 use Rattle.supervisor.proofs.ValidLaws.{passed}
 use Rattle.supervisor.proofs.Cases.{refused}
 use Rattle.supervisor.proofs.ReadingLaws.{record-found}
@@ -11,27 +11,27 @@ use Rattle.supervisor.proofs.registers.record.Statement.{statement}
 use Rattle.supervisor.proofs.registers.record.Tie as tie
 
 returns : tie.Need-returns
-unfolding recordSaid recordOf
+unfolding recordReport recordOf
 returns c = rw (refused _ _ (c .before .registers-are-valid .ensures) (c .if1 .taken))
 
 returns-2 : tie.Need-returns-2
-unfolding recordSaid recordAt recordOf
+unfolding recordReport recordAt recordOf
 returns-2 c =
     let at = c .before .before in
     rw (
       passed _ _ (at .before .before .registers-are-valid .ensures) (at .before .if1 .left),
-      ← at .place .ensures .0,
+      ← at .record-offset .ensures .0,
       ← c .before .byte-at .ensures .0,
       ne-eqb _ _ (c .if2 .taken),
     )
 
 returns-3 : tie.Need-returns-3
-unfolding recordSaid recordOf
+unfolding recordReport recordOf
 returns-3 c =
     let held = c .before .before .before in
     let at = held .before .before in
     let h = sym (held .before .byte-at .ensures .0) ∙ held .if2 .left in
-    rw (passed _ _ (at .before .before .registers-are-valid .ensures) (at .before .if1 .left), ← at .place .ensures .0)
+    rw (passed _ _ (at .before .before .registers-are-valid .ensures) (at .before .if1 .left), ← at .record-offset .ensures .0)
     (ap is (record-found _ _ _ _ _ h (c .before .before .word-at .ensures .0) (c .before .word-at2 .ensures .0) (c .kept .ensures .0)))
 
 pub record-spec : {M : Type 1} → statement M

@@ -20,7 +20,7 @@ returns-2 c =
     let at = c .before .before .before in
     rw (
       passed _ _ (at .before .before .registers-are-valid .ensures) (at .before .if1 .left),
-      ← at .place .ensures .0,
+      ← at .record-offset .ensures .0,
       ← c .before .before .byte-at .ensures .0,
       ne-eqb _ _ (c .before .if2 .taken),
     )
@@ -36,7 +36,7 @@ returns-3 c =
     let at = c .before .before .before .before in
     rw (
       passed _ _ (at .before .before .registers-are-valid .ensures) (at .before .if1 .left),
-      ← at .place .ensures .0,
+      ← at .record-offset .ensures .0,
       ← c .before .before .before .byte-at .ensures .0,
       eq-eqb _ _ (c .before .before .if2 .left),
       ← c .before .kept .ensures .0,

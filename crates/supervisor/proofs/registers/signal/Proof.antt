@@ -2,18 +2,18 @@
 -- Assumes nothing.
 use borrow.Author.Needs.{needs}
 use borrow.Author.Tests.{eq-eqb, ne-eqb}
-use Rattle.supervisor.specs.Calls.{signalSaid, signalOf}
+use Rattle.supervisor.specs.Calls.{signalReport, signalOf}
 use Rattle.supervisor.proofs.ValidLaws.{passed}
 use Rattle.supervisor.proofs.Cases.{refused}
 use Rattle.supervisor.proofs.registers.signal.Statement.{statement}
 use Rattle.supervisor.proofs.registers.signal.Tie as tie
 
 returns : tie.Need-returns
-unfolding signalSaid signalOf
+unfolding signalReport signalOf
 returns c = rw (refused _ _ (c .before .registers-are-valid .ensures) (c .if1 .taken))
 
 returns-2 : tie.Need-returns-2
-unfolding signalSaid signalOf
+unfolding signalReport signalOf
 returns-2 c =
     rw (
       passed _ _ (c .before .before .before .registers-are-valid .ensures) (c .before .before .if1 .left),
@@ -22,7 +22,7 @@ returns-2 c =
     )
 
 returns-3 : tie.Need-returns-3
-unfolding signalSaid signalOf
+unfolding signalReport signalOf
 returns-3 c =
     rw (
       passed _ _ (c .before .before .before .registers-are-valid .ensures) (c .before .before .if1 .left),

@@ -21,7 +21,7 @@ returns c =
     let longest = c .before .before in
     untrue _ (λ e.
     failed _ _ (c .before .setting-is-valid .ensures) (c .if1 .taken)
-    (rw (longest .before .setting-place .ensures .0, longest .longest-setting .ensures .0)
+    (rw (longest .before .setting-offset .ensures .0, longest .longest-setting .ensures .0)
     (all-each _ _ e _ (longest .before .before .loop-test .taken))))
 
 loop-again : tie.Need-loop-again Inv-loop μ-loop
@@ -29,7 +29,7 @@ loop-again c =
     let longest = c .before .before in (
       search needs,
       all-more _ _ (longest .before .before .before .loop .inv .1)
-          (rw (← longest .before .setting-place .ensures .0, ← longest .longest-setting .ensures .0)
+          (rw (← longest .before .setting-offset .ensures .0, ← longest .longest-setting .ensures .0)
           (passed _ _ (c .before .setting-is-valid .ensures) (c .if1 .left))),
     )
 

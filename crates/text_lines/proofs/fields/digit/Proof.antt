@@ -1,4 +1,4 @@
--- `fields::digit` meets its contract, by the byte's place among the digits.
+-- `fields::digit` meets its contract, by the byte's position among the digits.
 -- Assumes nothing.
 use borrow.Author.Needs.{needs}
 use borrow.Author.Tests.{le-leb, lt-leb}

@@ -1,4 +1,4 @@
--- `fields::field_start` meets its contract. The loop keeps which field is looked for from the place on.
+-- `fields::field_start` meets its contract. The loop keeps which field is looked for from the offset on.
 -- Assumes nothing.
 use mathlib.Core.Path.{_≡_, refl, sym, _∙_}
 use Prim.Native.Nat.{_-_}

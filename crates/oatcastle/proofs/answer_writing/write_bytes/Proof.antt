@@ -1,0 +1,13 @@
+-- `oatcastle::answer_writing::write_bytes` meets its contract.
+-- Assumes nothing.
+use borrow.Author.Needs.{needs}
+use Rattle.oatcastle.proofs.AnswerLaws.{writingAnswer-short, writingAnswer-copied}
+use Rattle.oatcastle.proofs.answer_writing.write_bytes.Statement.{statement}
+use Rattle.oatcastle.proofs.answer_writing.write_bytes.Tie as tie
+
+pub write-bytes-spec : {M : Type 1} → statement M
+write-bytes-spec =
+    tie.close
+    (tie.spec
+    (λ c. writingAnswer-short _ _ (c .if1 .taken)) (λ c κs. search needs) (λ c. search needs)
+    (λ c. writingAnswer-copied _ _ (c .before .before .before .before .if1 .left) (c .before .before .copy .ensures)))

@@ -1,0 +1,40 @@
+-- `oatcastle::readings::answer_value` meets its contract.
+-- Assumes nothing.
+use borrow.Author.Needs.{needs}
+use Rattle.supervisor.specs.Calls.{lookupReport}
+use Rattle.oatcastle.specs.Answers.{writingBoth}
+use Rattle.oatcastle.specs.SupervisorCalls.{lookupGiven}
+use Rattle.oatcastle.proofs.readings.answer_value.Statement.{statement}
+use Rattle.oatcastle.proofs.readings.answer_value.Tie as tie
+
+returns : tie.Need-returns
+unfolding lookupGiven lookupReport writingBoth
+returns c = rw (c .enum-told .given .1)
+
+returns-2 : tie.Need-returns-2
+unfolding lookupGiven lookupReport
+returns-2 c =
+    let handed = c .before .before .before .before in
+    let arm = handed .before .before .before .before in
+    rw (arm .found .given .1) (handed .write-both .ensures)
+
+returns-3 : tie.Need-returns-3
+unfolding lookupGiven lookupReport
+returns-3 c = rw (c .before .before .before .before .before .before .before .enum-told2 .given .1) (c .before .before .before .before .write-both2 .ensures)
+
+returns-4 : tie.Need-returns-4
+unfolding lookupGiven lookupReport
+returns-4 c = rw (c .before .before .before .before .before .before .before .enum-told3 .given .1) (c .before .before .before .before .write-both3 .ensures)
+
+returns-5 : tie.Need-returns-5
+unfolding lookupGiven lookupReport
+returns-5 c = rw (c .before .before .before .before .before .before .before .enum-told4 .given .1) (c .before .before .before .before .write-both4 .ensures)
+
+pub answer-value-spec : {M : Type 1} → statement M
+answer-value-spec =
+    tie.close
+    (tie.spec
+    (λ c. search needs) (λ c. search needs) (λ c κs. search needs) (λ c. search needs) (λ c κs. search needs)
+    (λ c. search needs) (λ c κs. search needs) (λ c. search needs) (λ c κs. search needs) returns (λ c. search needs)
+    (λ c. search needs) returns-2 (λ c. search needs) (λ c. search needs) returns-3 (λ c. search needs)
+    (λ c. search needs) returns-4 (λ c. search needs) (λ c. search needs) returns-5)

@@ -1,0 +1,35 @@
+-- `requests::receive::valid_step` meets its contract.
+-- Assumes nothing.
+use borrow.Author.Needs.{needs}
+use denote.Ref.{now}
+use Rattle.supervisor.specs.Calls.{Parts, parts}
+use Rattle.supervisor.proofs.ValidLaws.{outbox-valid}
+use Rattle.requests.proofs.KeptLaws.{inner-valid}
+use Rattle.requests.proofs.StepLaws.{parts-valid, valid-step-by}
+use Rattle.requests.proofs.receive.valid_step.Statement.{statement}
+use Rattle.requests.proofs.receive.valid_step.Tie as tie
+
+lent : tie.Start → Parts
+lent c = let a = c .args in parts (now (a .reader)) (now (a .outbox)) (now (a .factory)) (now (a .settings)) (now (a .registers))
+
+settle-requires : tie.Need-settle-requires
+unfolding lent
+settle-requires c κs =
+    let start = c .before .before .before .before .before .before .before .before .before .before .before .before .before .before .before in
+    let v = parts-valid (lent start) (start .pre) in
+    (outbox-valid _ (inner-valid _ (v .inner) .outbox) .long, (v .factory, v .inner))
+
+returns : tie.Need-returns
+unfolding lent
+returns c =
+    let settled = c .before .before .before .before .before .before in
+    let told = settled .before .before .before .before .before .before .before in
+    let start = told .before .before .before .before .before .before .before .before .before in
+    valid-step-by (now (start .args .image)) (now (start .args .piece)) (lent start) (start .pre) (told .read .ensures) (settled .settle .ensures)
+
+pub valid-step-spec : {M : Type 1} → statement M
+valid-step-spec =
+    tie.close
+    (tie.spec
+    (λ c κs. search needs) settle-requires (λ c. search needs) (λ c. search needs) (λ c. search needs) (λ c. search needs)
+    returns)
