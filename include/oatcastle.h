@@ -142,7 +142,7 @@ extern "C" {
 #define OATCASTLE_ROT_SINK_REQUEST 8u
 #define OATCASTLE_ROT_SINK_RESPONSE 9u
 
-/* ---- The start data: 6,473 bytes, one field after the other, no padding. A place is a byte offset. */
+/* ---- The start data: 6,473 bytes, one field after the other, no padding. Each constant is an offset in bytes. */
 
 #define OATCASTLE_START_LENGTH 6473
 
@@ -241,7 +241,7 @@ typedef struct oatcastle_counters {
  * 0. */
 uint32_t oatcastle_clear_counters(oatcastle_counters *counters);
 
-/* The same as oatcastle_receive, and every frame whose 00 the piece brings is counted in the block, as soon as its 00 is read. A refused call
+/* The same as oatcastle_receive, and every frame whose 00 the piece brings is counted in the block. A refused call
  * counts nothing. What a start drops of a frame is counted nowhere, and neither are frames that oatcastle_receive or oatcastle_step read.
  * The block is lent as any other memory: it overlaps nothing else that is lent.
  * 0; 12. */
@@ -353,7 +353,7 @@ typedef struct oatcastle_probe {
     uint8_t result;
 } oatcastle_probe;
 
-/* For each k, gives the part at place indices[k] of the list the result results[k], 0, 2 or 3; a part named twice keeps the later one. All other results, and all
+/* For each k, gives the part at index indices[k] of the list the result results[k], 0, 2 or 3; a part named twice keeps the later one. All other results, and all
  * addresses, stay. No changes (both lists of them empty) are done. An array is lent as a pointer to its first element and the number of its elements; the pointer is
  * aligned as its type is and not NULL, even where the number is 0, and the list overlaps neither of the other two.
  * 0; 15: an index at or past list_count, another result, or another number of results than of indices; the whole list stays then. */

@@ -83,7 +83,7 @@ impl StartData {
         Ok(self)
     }
 
-    /// One more item, at most 16, with at most 64 bytes of data.
+    /// One more item, at most 64, with at most 64 bytes of data.
     pub fn item(&mut self, result: ItemResult, name: [u8; 32], kind: u8, data: &[u8]) -> Result<&mut StartData, Refusal> {
         if self.items == ITEMS || data.len() > ITEM_DATA {
             return Err(Refusal::BadStart);

@@ -298,7 +298,7 @@ fn run(seed: u64, requests: u64) -> Result<bool, Refusal> {
         tick += 1;
     }
     let Main { answers, alerts, statuses, starts, .. } = world.main;
-    println!("seed {seed}: {tick} ticks, {starts} starts, {statuses} statuses, {alerts} alerts, {answers} answers; each is the one that the supervisor gave to its request");
+    println!("seed {seed}: {tick} ticks, {starts} starts, {statuses} statuses, {alerts} alerts, {answers} answers; each alert and answer is the one that the supervisor gave to its request");
     Ok(true)
 }
 
