@@ -1,86 +1,125 @@
 //! Defines the line layer's reader and writer.
-//! Assumes the C functions of `raw`.
+//! Assumes the C functions of `raw`, and `docs/STATE.md` for where a message's data lie.
 
-use crate::{length, raw, said, Reason, Refusal};
+use crate::limits::{
+    EMPTY, FAILURE, LINE_CHECKSUM_NUMBERS, LINE_READ_NUMBERS, LINE_TAIL_NUMBERS, LINE_WRITE_NUMBERS, MESSAGE, MESSAGE_DATA_OFFSET, MORE,
+    READER_LENGTH,
+};
+use crate::{done, first, lent, lent_mut, part, raw, ruled_out, said, Reason, Refusal};
+use core::fmt;
 
-/// A frame is never longer: 4,140 bytes of its form, and the 00.
-pub const LONGEST_FRAME: usize = 4141;
-const STATE_LENGTH: usize = 4142;
+/// Storage for one line reader, which may be a `static`.
+#[derive(Clone)]
+pub struct ReaderStorage {
+    pub(crate) state: [u8; READER_LENGTH],
+}
 
-/// A line reader and the state that it lends.
+impl ReaderStorage {
+    /// Storage in which nothing has started.
+    pub const fn new() -> ReaderStorage {
+        ReaderStorage { state: [0; READER_LENGTH] }
+    }
+
+    /// The data of the message that a read has just handed out, as they lie in the reader's part.
+    pub(crate) fn message_data(&self, length: u64) -> &[u8] {
+        part(&self.state, MESSAGE_DATA_OFFSET, length as usize)
+    }
+}
+
+impl Default for ReaderStorage {
+    fn default() -> ReaderStorage {
+        ReaderStorage::new()
+    }
+}
+
+impl fmt::Debug for ReaderStorage {
+    fn fmt(&self, out: &mut fmt::Formatter<'_>) -> fmt::Result {
+        out.debug_struct("ReaderStorage").finish_non_exhaustive()
+    }
+}
+
+/// A line reader in storage that it is lent: it exists only started, and only its own calls write the storage.
 ///
-/// The message of a read is gone with the next read; to hold both does not compile:
-/// ```compile_fail
-/// # fn two(reader: &mut oatcastle::LineReader) -> Result<(), oatcastle::Refusal> {
-/// let first = reader.read(&[1, 0])?;
-/// let second = reader.read(&[1, 0])?;
-/// let _ = first.used;
-/// # Ok(()) }
 /// ```
-pub struct LineReader {
-    state: [u8; STATE_LENGTH],
+/// use oatcastle::{write_frame, LineReader, Message, ReadEnd, ReaderStorage, LONGEST_FRAME};
+///
+/// let mut room = [0; LONGEST_FRAME];
+/// let frame = write_frame(1, 9, 0x55, b"da", b"ta", &mut room)?;
+///
+/// let mut storage = ReaderStorage::new();
+/// let mut reader = LineReader::start_in(&mut storage);
+/// assert_eq!(reader.read(&frame[..5]).end, ReadEnd::More);
+/// let read = reader.read(&frame[5..]);
+/// assert_eq!(read.end, ReadEnd::Message(Message { version: 1, sequence: 9, command: 0x55, data: b"data" }));
+/// # Ok::<(), oatcastle::Refusal>(())
+/// ```
+/// A message is a part of the storage and is gone with the next read; to hold both does not compile:
+/// ```compile_fail,E0499
+/// # fn two(reader: &mut oatcastle::LineReader<'_>) {
+/// let first = reader.read(&[1, 0]);
+/// let second = reader.read(&[1, 0]);
+/// let _ = first.used;
+/// # }
+/// ```
+/// Nor does a use of the storage while its reader lives:
+/// ```compile_fail,E0499
+/// let mut storage = oatcastle::ReaderStorage::new();
+/// let mut reader = oatcastle::LineReader::start_in(&mut storage);
+/// let other = oatcastle::LineReader::start_in(&mut storage);
+/// reader.read(&[]);
+/// ```
+pub struct LineReader<'s> {
+    storage: &'s mut ReaderStorage,
+}
+
+impl fmt::Debug for LineReader<'_> {
+    fn fmt(&self, out: &mut fmt::Formatter<'_>) -> fmt::Result {
+        out.debug_struct("LineReader").field("tail", &self.tail()).finish_non_exhaustive()
+    }
 }
 
 /// How far a read came.
+#[derive(Clone, Copy, Debug, PartialEq, Eq)]
 pub struct Read<'r> {
-    /// How many bytes of the piece were read.
+    /// How many bytes of the piece were read; the rest goes in with the next read.
     pub used: usize,
+    /// What the last of them ended.
     pub end: ReadEnd<'r>,
 }
 
+/// What ended a read.
+#[derive(Clone, Copy, Debug, PartialEq, Eq)]
 pub enum ReadEnd<'r> {
     /// The frame is not finished.
     More,
     /// An empty frame.
     Empty,
+    /// A frame that reads as a message.
     Message(Message<'r>),
+    /// A frame that fails.
     Failure(Failure),
 }
 
 /// A frame that failed.
 #[derive(Clone, Copy, Debug, PartialEq, Eq)]
 pub struct Failure {
+    /// Why, by the line layer's tests: 1 to 4.
     pub reason: Reason,
     /// The request's sequence, where the reason lets it be known.
     pub sequence: Option<u64>,
 }
 
-/// A message, while the reader still holds its data.
+/// A message; its data are a part of the reader's storage.
+#[derive(Clone, Copy, Debug, PartialEq, Eq)]
 pub struct Message<'r> {
-    reader: &'r LineReader,
-    version: u32,
-    sequence: u64,
-    command: u8,
-    length: usize,
-}
-
-impl Message<'_> {
-    pub fn version(&self) -> u32 {
-        self.version
-    }
-
-    pub fn sequence(&self) -> u64 {
-        self.sequence
-    }
-
-    pub fn command(&self) -> u8 {
-        self.command
-    }
-
-    /// The length of the data.
-    pub fn length(&self) -> usize {
-        self.length
-    }
-
-    /// The data, copied to the room.
-    pub fn data<'m>(&self, room: &'m mut [u8]) -> Result<&'m [u8], Refusal> {
-        let state = &self.reader.state;
-        // The pointers are to slices of these lengths.
-        said(unsafe {
-            raw::oatcastle_line_data(state.as_ptr(), state.len(), self.length as u64, room.as_mut_ptr(), room.len())
-        })?;
-        Ok(&room[..self.length])
-    }
+    /// Any version.
+    pub version: u32,
+    /// Any sequence.
+    pub sequence: u64,
+    /// Any command.
+    pub command: u8,
+    /// At most `LONGEST_DATA` bytes.
+    pub data: &'r [u8],
 }
 
 /// The bytes of an unfinished frame.
@@ -88,78 +127,96 @@ impl Message<'_> {
 pub enum Tail {
     /// So many have come.
     Bytes(usize),
-    /// More than 4,140 have come.
+    /// More have come than a frame has ahead of its 00.
     TooLong,
 }
 
-impl LineReader {
-    pub fn start() -> Result<LineReader, Refusal> {
-        let mut state = [0; STATE_LENGTH];
-        // The pointer is to an array of this length.
-        said(unsafe { raw::oatcastle_line_start(state.as_mut_ptr(), state.len()) })?;
-        Ok(LineReader { state })
+impl<'s> LineReader<'s> {
+    /// Begins a fresh reader; of what the storage held before nothing stays.
+    pub fn start_in(storage: &'s mut ReaderStorage) -> LineReader<'s> {
+        let state = lent_mut(&mut storage.state);
+        // SAFETY: the pointer is valid for the length behind it.
+        done(unsafe { raw::oatcastle_line_start(state.0, state.1) });
+        LineReader { storage }
     }
 
     /// Reads the piece up to its end or its first 00.
-    pub fn read(&mut self, piece: &[u8]) -> Result<Read<'_>, Refusal> {
-        let mut answer = [0; 7];
-        let state = &mut self.state;
-        // The pointers are to slices of these lengths.
-        said(unsafe {
-            raw::oatcastle_line_read(
-                state.as_mut_ptr(), state.len(), piece.as_ptr(), piece.len(), answer.as_mut_ptr(), answer.len(),
-            )
-        })?;
-        let [used, kind, reason, version, sequence, command, data] = answer;
+    pub fn read(&mut self, piece: &[u8]) -> Read<'_> {
+        let mut answer = [0; LINE_READ_NUMBERS];
+        let (state, piece, answers) = (lent_mut(&mut self.storage.state), lent(piece), lent_mut(&mut answer));
+        // SAFETY: each pointer is valid for the length behind it, and what is written overlaps nothing else.
+        done(unsafe { raw::oatcastle_line_read(state.0, state.1, piece.0, piece.1, answers.0, answers.1) });
+        let [used, kind, reason, version, sequence, command, length] = answer;
         let end = match kind {
-            0 => ReadEnd::More,
-            1 => ReadEnd::Empty,
-            2 => ReadEnd::Message(Message {
-                reader: self,
+            MORE => ReadEnd::More,
+            EMPTY => ReadEnd::Empty,
+            MESSAGE => ReadEnd::Message(Message {
                 version: version as u32,
                 sequence,
                 command: command as u8,
-                length: length(data),
+                data: self.storage.message_data(length),
             }),
-            3 => {
-                let reason = Reason::of(reason);
-                let known = matches!(reason, Reason::Checksum | Reason::Magic);
-                ReadEnd::Failure(Failure { reason, sequence: known.then_some(sequence) })
-            }
-            _ => unreachable!("no kind of a read"),
+            FAILURE => ReadEnd::Failure(failure(reason, sequence)),
+            _ => ruled_out(),
         };
-        Ok(Read { used: length(used), end })
+        Read { used: used as usize, end }
     }
 
-    pub fn tail(&self) -> Result<Tail, Refusal> {
-        let mut answer = [0; 2];
-        // The pointers are to arrays of these lengths.
-        said(unsafe {
-            raw::oatcastle_line_tail(self.state.as_ptr(), self.state.len(), answer.as_mut_ptr(), answer.len())
-        })?;
-        Ok(if answer[0] == 0 { Tail::Bytes(length(answer[1])) } else { Tail::TooLong })
+    /// What has come of a frame since the last 00.
+    pub fn tail(&self) -> Tail {
+        let mut answer = [0; LINE_TAIL_NUMBERS];
+        let (state, answers) = (lent(&self.storage.state), lent_mut(&mut answer));
+        // SAFETY: each pointer is valid for the length behind it, and what is written overlaps nothing else.
+        done(unsafe { raw::oatcastle_line_tail(state.0, state.1, answers.0, answers.1) });
+        let [longer, bytes] = answer;
+        if longer == 0 { Tail::Bytes(bytes as usize) } else { Tail::TooLong }
     }
 }
 
-/// Writes the frame of a message with the data `head` then `rest`; a room of `LONGEST_FRAME` is enough for every message.
+fn failure(reason: u64, sequence: u64) -> Failure {
+    let reason = Reason::of(reason).unwrap_or_else(|| ruled_out());
+    let known = matches!(reason, Reason::Checksum | Reason::Magic);
+    Failure { reason, sequence: known.then_some(sequence) }
+}
+
+/// Writes the frame of a message with the data `head` then `rest` to the start of `out` and hands it out; bytes of `out` past it stay. A room of
+/// `LONGEST_FRAME` is enough for every message.
+///
+/// # Errors
+///
+/// `TooLong` where the data have more than `LONGEST_DATA` bytes, `NoRoom` where `out` is shorter than the frame.
+/// ```
+/// use oatcastle::{write_frame, Refusal, LONGEST_FRAME};
+///
+/// let mut room = [0xee; LONGEST_FRAME];
+/// let frame = write_frame(1, 1, 8, &[], &[], &mut room)?;
+/// assert_eq!(frame, [6, 0xcc, 0x19, 0xde, 1, 1, 1, 1, 2, 1, 1, 1, 1, 1, 1, 1, 4, 8, 0xcf, 0x66, 0]);
+/// assert_eq!(write_frame(1, 1, 8, &[], &[], &mut room[..20]), Err(Refusal::NoRoom));
+/// # Ok::<(), Refusal>(())
+/// ```
 pub fn write_frame<'o>(
     version: u32, sequence: u64, command: u8, head: &[u8], rest: &[u8], out: &'o mut [u8],
 ) -> Result<&'o [u8], Refusal> {
-    let mut answer = [0; 1];
-    // The pointers are to slices of these lengths.
+    let mut answer = [0; LINE_WRITE_NUMBERS];
+    let (head, rest, room, answers) = (lent(head), lent(rest), lent_mut(out), lent_mut(&mut answer));
+    // SAFETY: each pointer is valid for the length behind it, and what is written overlaps nothing else.
     said(unsafe {
         raw::oatcastle_line_write(
-            version, sequence, command, head.as_ptr(), head.len(), rest.as_ptr(), rest.len(), out.as_mut_ptr(), out.len(),
-            answer.as_mut_ptr(), answer.len(),
+            version, sequence, command, head.0, head.1, rest.0, rest.1, room.0, room.1, answers.0, answers.1,
         )
     })?;
-    Ok(&out[..length(answer[0])])
+    Ok(first(out, answer[0]))
 }
 
 /// The checksum of a message's body.
-pub fn checksum(body: &[u8]) -> Result<u16, Refusal> {
-    let mut answer = [0; 1];
-    // The pointers are to slices of these lengths.
-    said(unsafe { raw::oatcastle_line_checksum(body.as_ptr(), body.len(), answer.as_mut_ptr(), answer.len()) })?;
-    Ok(answer[0] as u16)
+///
+/// ```
+/// assert_eq!(oatcastle::checksum(b"abcde"), 0xc8f0);
+/// ```
+pub fn checksum(body: &[u8]) -> u16 {
+    let mut answer = [0; LINE_CHECKSUM_NUMBERS];
+    let (body, answers) = (lent(body), lent_mut(&mut answer));
+    // SAFETY: each pointer is valid for the length behind it, and what is written overlaps nothing else.
+    done(unsafe { raw::oatcastle_line_checksum(body.0, body.1, answers.0, answers.1) });
+    answer[0] as u16
 }

@@ -1,34 +1,43 @@
 //! Defines the address plan.
 //! Assumes the C functions of `raw`.
 
-use crate::{raw, said, Refusal};
-
-/// How many bytes an address has, and how many addresses are given.
-pub const ADDRESS_LENGTH: usize = 6;
-pub const ADDRESS_ROWS: usize = 8;
+use crate::limits::{ADDRESS_LENGTH, ADDRESS_ROWS};
+use crate::{done, lent_mut, raw, said, Refusal};
 
 /// A base, how many addresses are counted from it on, and their distance.
+///
+/// ```
+/// let plan = oatcastle::AddressPlan { base: [2, 0, 0, 0, 0xff, 0xff], count: 2, stride: 1 };
+/// assert_eq!(plan.fits(), Ok(()));
+/// assert_eq!(plan.addresses()[..3], [[2, 0, 0, 0, 0xff, 0xff], [2, 0, 0, 1, 0, 0], [0; 6]]);
+/// ```
 #[derive(Clone, Copy, Debug, PartialEq, Eq)]
 pub struct AddressPlan {
     /// The most significant byte first.
     pub base: [u8; ADDRESS_LENGTH],
+    /// How many addresses, the base the first of them.
     pub count: u16,
+    /// From each address to the next.
     pub stride: u8,
 }
 
 impl AddressPlan {
     /// The first eight addresses; rows past the count are zero, and all are where `fits` refuses.
-    pub fn addresses(&self) -> Result<[[u8; ADDRESS_LENGTH]; ADDRESS_ROWS], Refusal> {
+    pub fn addresses(&self) -> [[u8; ADDRESS_LENGTH]; ADDRESS_ROWS] {
         let mut rows = [[0; ADDRESS_LENGTH]; ADDRESS_ROWS];
-        let room = rows.as_flattened_mut();
-        // The pointers are to an address and to a slice of this length.
-        said(unsafe { raw::oatcastle_addresses(self.base.as_ptr(), self.count, self.stride, room.as_mut_ptr(), room.len()) })?;
-        Ok(rows)
+        let room = lent_mut(rows.as_flattened_mut());
+        // SAFETY: the pointers are to an address and to as many bytes as the length behind it says, and these do not overlap.
+        done(unsafe { raw::oatcastle_addresses(self.base.as_ptr(), self.count, self.stride, room.0, room.1) });
+        rows
     }
 
-    /// Refused where the last counted address passes ff:ff:ff:ff:ff:ff.
+    /// Whether every counted address is at most ff:ff:ff:ff:ff:ff.
+    ///
+    /// # Errors
+    ///
+    /// `PlanPasses` where the last counted address passes that.
     pub fn fits(&self) -> Result<(), Refusal> {
-        // The pointer is to an address.
+        // SAFETY: the pointer is to an address.
         said(unsafe { raw::oatcastle_plan(self.base.as_ptr(), self.count, self.stride) })
     }
 }

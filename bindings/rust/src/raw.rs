@@ -1,11 +1,19 @@
 //! Defines the C functions as `include/oatcastle.h` declares them.
 //! Assumes that every pointer is to as many bytes, numbers or records as the length behind it says.
 
+/// A length or an index as the library takes it: 64 bits wide on every target, as `usize` is in the module that is proved.
+#[cfg(target_pointer_width = "64")]
+pub(crate) type Length = usize;
+#[cfg(not(target_pointer_width = "64"))]
+pub(crate) type Length = u64;
+
 /// A part's address on the bus, and the result of its probe.
 #[derive(Clone, Copy, Debug, PartialEq, Eq)]
 #[repr(C)]
 pub struct Probe {
+    /// The part's address.
     pub address: u8,
+    /// 0, 2 or 3 once `update_probes` has written it; any number before.
     pub result: u8,
 }
 
@@ -17,91 +25,97 @@ pub struct Counters {
     pub good: u32,
     /// Empty frames.
     pub empty: u32,
-    /// Failures, by the reason's number.
+    /// Failures of reason 1.
     pub reason1: u32,
+    /// Failures of reason 2.
     pub reason2: u32,
+    /// Failures of reason 3.
     pub reason3: u32,
+    /// Failures of reason 4.
     pub reason4: u32,
+    /// Failures of reason 5.
     pub reason5: u32,
+    /// Failures of reason 6.
     pub reason6: u32,
+    /// Failures of reason 7.
     pub reason7: u32,
 }
 
 extern "C" {
-    pub(crate) fn oatcastle_line_start(state: *mut u8, state_length: usize) -> u32;
+    pub(crate) fn oatcastle_line_start(state: *mut u8, state_length: Length) -> u32;
     pub(crate) fn oatcastle_line_read(
-        state: *mut u8, state_length: usize, piece: *const u8, piece_length: usize, answer: *mut u64, answer_count: usize,
+        state: *mut u8, state_length: Length, piece: *const u8, piece_length: Length, answer: *mut u64, answer_count: Length,
     ) -> u32;
-    pub(crate) fn oatcastle_line_data(state: *const u8, state_length: usize, length: u64, room: *mut u8, room_length: usize) -> u32;
-    pub(crate) fn oatcastle_line_tail(state: *const u8, state_length: usize, answer: *mut u64, answer_count: usize) -> u32;
+    pub(crate) fn oatcastle_line_data(state: *const u8, state_length: Length, length: u64, room: *mut u8, room_length: Length) -> u32;
+    pub(crate) fn oatcastle_line_tail(state: *const u8, state_length: Length, answer: *mut u64, answer_count: Length) -> u32;
     pub(crate) fn oatcastle_line_write(
-        version: u32, sequence: u64, command: u8, head: *const u8, head_length: usize, rest: *const u8, rest_length: usize,
-        out: *mut u8, out_length: usize, answer: *mut u64, answer_count: usize,
+        version: u32, sequence: u64, command: u8, head: *const u8, head_length: Length, rest: *const u8, rest_length: Length,
+        out: *mut u8, out_length: Length, answer: *mut u64, answer_count: Length,
     ) -> u32;
-    pub(crate) fn oatcastle_line_checksum(body: *const u8, body_length: usize, answer: *mut u64, answer_count: usize) -> u32;
+    pub(crate) fn oatcastle_line_checksum(body: *const u8, body_length: Length, answer: *mut u64, answer_count: Length) -> u32;
     pub(crate) fn oatcastle_start(
-        data: *const u8, reader: *mut u8, reader_length: usize, outbox: *mut u8, outbox_length: usize,
-        factory: *mut u8, factory_length: usize, settings: *mut u8, settings_length: usize,
-        registers: *mut u8, registers_length: usize,
+        data: *const u8, reader: *mut u8, reader_length: Length, outbox: *mut u8, outbox_length: Length,
+        factory: *mut u8, factory_length: Length, settings: *mut u8, settings_length: Length,
+        registers: *mut u8, registers_length: Length,
     ) -> u32;
     pub(crate) fn oatcastle_receive(
-        image: *const u8, image_length: usize, piece: *const u8, piece_length: usize, reader: *mut u8, reader_length: usize,
-        outbox: *mut u8, outbox_length: usize, factory: *const u8, factory_length: usize,
-        settings: *mut u8, settings_length: usize, registers: *mut u8, registers_length: usize,
+        image: *const u8, image_length: Length, piece: *const u8, piece_length: Length, reader: *mut u8, reader_length: Length,
+        outbox: *mut u8, outbox_length: Length, factory: *const u8, factory_length: Length,
+        settings: *mut u8, settings_length: Length, registers: *mut u8, registers_length: Length,
     ) -> u32;
     pub(crate) fn oatcastle_step(
-        image: *const u8, image_length: usize, piece: *const u8, piece_length: usize, reader: *mut u8, reader_length: usize,
-        outbox: *mut u8, outbox_length: usize, factory: *const u8, factory_length: usize,
-        settings: *mut u8, settings_length: usize, registers: *mut u8, registers_length: usize,
-        answer: *mut u64, answer_count: usize,
+        image: *const u8, image_length: Length, piece: *const u8, piece_length: Length, reader: *mut u8, reader_length: Length,
+        outbox: *mut u8, outbox_length: Length, factory: *const u8, factory_length: Length,
+        settings: *mut u8, settings_length: Length, registers: *mut u8, registers_length: Length,
+        answer: *mut u64, answer_count: Length,
     ) -> u32;
     pub(crate) fn oatcastle_clear_counters(counters: *mut Counters) -> u32;
     pub(crate) fn oatcastle_receive_counted(
-        counters: *mut Counters, image: *const u8, image_length: usize, piece: *const u8, piece_length: usize,
-        reader: *mut u8, reader_length: usize, outbox: *mut u8, outbox_length: usize, factory: *const u8, factory_length: usize,
-        settings: *mut u8, settings_length: usize, registers: *mut u8, registers_length: usize,
+        counters: *mut Counters, image: *const u8, image_length: Length, piece: *const u8, piece_length: Length,
+        reader: *mut u8, reader_length: Length, outbox: *mut u8, outbox_length: Length, factory: *const u8, factory_length: Length,
+        settings: *mut u8, settings_length: Length, registers: *mut u8, registers_length: Length,
     ) -> u32;
     pub(crate) fn oatcastle_take(
-        outbox: *mut u8, outbox_length: usize, room: *mut u8, room_length: usize, answer: *mut u64, answer_count: usize,
+        outbox: *mut u8, outbox_length: Length, room: *mut u8, room_length: Length, answer: *mut u64, answer_count: Length,
     ) -> u32;
-    pub(crate) fn oatcastle_post(registers: *mut u8, registers_length: usize, action: u8, text: *const u8, text_length: usize) -> u32;
-    pub(crate) fn oatcastle_set_options(registers: *mut u8, registers_length: usize, options: u64) -> u32;
+    pub(crate) fn oatcastle_post(registers: *mut u8, registers_length: Length, action: u8, text: *const u8, text_length: Length) -> u32;
+    pub(crate) fn oatcastle_set_options(registers: *mut u8, registers_length: Length, options: u64) -> u32;
     pub(crate) fn oatcastle_lookup(
-        factory: *const u8, factory_length: usize, settings: *const u8, settings_length: usize, key: u8, maxresponse: u16,
-        room: *mut u8, room_length: usize, answer: *mut u64, answer_count: usize,
+        factory: *const u8, factory_length: Length, settings: *const u8, settings_length: Length, key: u8, maxresponse: u16,
+        room: *mut u8, room_length: Length, answer: *mut u64, answer_count: Length,
     ) -> u32;
-    pub(crate) fn oatcastle_signal(registers: *const u8, registers_length: usize, answer: *mut u64, answer_count: usize) -> u32;
-    pub(crate) fn oatcastle_flags(registers: *const u8, registers_length: usize, answer: *mut u64, answer_count: usize) -> u32;
+    pub(crate) fn oatcastle_signal(registers: *const u8, registers_length: Length, answer: *mut u64, answer_count: Length) -> u32;
+    pub(crate) fn oatcastle_flags(registers: *const u8, registers_length: Length, answer: *mut u64, answer_count: Length) -> u32;
     pub(crate) fn oatcastle_boot_failure(
-        registers: *const u8, registers_length: usize, room: *mut u8, room_length: usize, answer: *mut u64, answer_count: usize,
+        registers: *const u8, registers_length: Length, room: *mut u8, room_length: Length, answer: *mut u64, answer_count: Length,
     ) -> u32;
     pub(crate) fn oatcastle_panic(
-        registers: *const u8, registers_length: usize, room: *mut u8, room_length: usize, answer: *mut u64, answer_count: usize,
+        registers: *const u8, registers_length: Length, room: *mut u8, room_length: Length, answer: *mut u64, answer_count: Length,
     ) -> u32;
-    pub(crate) fn oatcastle_requester_start(reader: *mut u8, reader_length: usize, requester: *mut u8, requester_length: usize) -> u32;
+    pub(crate) fn oatcastle_requester_start(reader: *mut u8, reader_length: Length, requester: *mut u8, requester_length: Length) -> u32;
     pub(crate) fn oatcastle_requester_request(
-        requester: *mut u8, requester_length: usize, command: u8, data: *const u8, data_length: usize,
-        out: *mut u8, out_length: usize, answer: *mut u64, answer_count: usize,
+        requester: *mut u8, requester_length: Length, command: u8, data: *const u8, data_length: Length,
+        out: *mut u8, out_length: Length, answer: *mut u64, answer_count: Length,
     ) -> u32;
-    pub(crate) fn oatcastle_requester_interrupt(requester: *mut u8, requester_length: usize) -> u32;
+    pub(crate) fn oatcastle_requester_interrupt(requester: *mut u8, requester_length: Length) -> u32;
     pub(crate) fn oatcastle_requester_send(
-        requester: *mut u8, requester_length: usize, out: *mut u8, out_length: usize, answer: *mut u64, answer_count: usize,
+        requester: *mut u8, requester_length: Length, out: *mut u8, out_length: Length, answer: *mut u64, answer_count: Length,
     ) -> u32;
     pub(crate) fn oatcastle_requester_receive(
-        piece: *const u8, piece_length: usize, reader: *mut u8, reader_length: usize, requester: *mut u8, requester_length: usize,
-        answer: *mut u64, answer_count: usize,
+        piece: *const u8, piece_length: Length, reader: *mut u8, reader_length: Length, requester: *mut u8, requester_length: Length,
+        answer: *mut u64, answer_count: Length,
     ) -> u32;
-    pub(crate) fn oatcastle_addresses(base: *const u8, count: u16, stride: u8, room: *mut u8, room_length: usize) -> u32;
+    pub(crate) fn oatcastle_addresses(base: *const u8, count: u16, stride: u8, room: *mut u8, room_length: Length) -> u32;
     pub(crate) fn oatcastle_plan(base: *const u8, count: u16, stride: u8) -> u32;
     pub(crate) fn oatcastle_probe_update(
-        list: *mut Probe, list_count: usize, indices: *const usize, indices_count: usize, results: *const u8, results_length: usize,
+        list: *mut Probe, list_count: Length, indices: *const Length, indices_count: Length, results: *const u8, results_length: Length,
     ) -> u32;
     pub(crate) fn oatcastle_rot_read(
-        input: *const u8, input_length: usize, out: *mut u8, out_length: usize, answer: *mut u64, answer_count: usize,
+        input: *const u8, input_length: Length, out: *mut u8, out_length: Length, answer: *mut u64, answer_count: Length,
     ) -> u32;
-    pub(crate) fn oatcastle_rot_payload(input: *const u8, input_length: usize, room: *mut u8, room_length: usize) -> u32;
+    pub(crate) fn oatcastle_rot_payload(input: *const u8, input_length: Length, room: *mut u8, room_length: Length) -> u32;
     pub(crate) fn oatcastle_rot_write(
-        kind: u8, payload: *const u8, payload_length: usize, out: *mut u8, out_length: usize, answer: *mut u64, answer_count: usize,
+        kind: u8, payload: *const u8, payload_length: Length, out: *mut u8, out_length: Length, answer: *mut u64, answer_count: Length,
     ) -> u32;
-    pub(crate) fn oatcastle_rot_crc(bytes: *const u8, bytes_length: usize, answer: *mut u64, answer_count: usize) -> u32;
+    pub(crate) fn oatcastle_rot_crc(bytes: *const u8, bytes_length: Length, answer: *mut u64, answer_count: Length) -> u32;
 }

@@ -1,59 +1,138 @@
-//! Defines the supervisor: its five parts, and a method for each of its calls.
-//! Assumes the C functions of `raw` and the lengths of `docs/STATE.md`.
+//! Defines the supervisor: storage for its five parts, and a method for each of its calls.
+//! Assumes the C functions of `raw`, and `docs/STATE.md` for where the values lie that are handed out.
 
-use crate::{length, raw, said, Counters, Reason, Refusal, StartData};
+use crate::limits::{
+    setting_offset, ALL_OPTIONS, BOOT_FAILURE_OFFSET, EMPTY, FACTORY_LENGTH, FAILURE, FLAGS_NUMBERS, LOOKUP_NUMBERS, MESSAGE, MORE, MOST_KEPT,
+    OUTBOX_LENGTH, PANIC_OFFSET, PONG_OFFSET, READER_LENGTH, RECORD_CODE_OFFSET, RECORD_KEPT_OFFSET, RECORD_WHOLE_OFFSET, REGISTERS_LENGTH,
+    SETTINGS_LENGTH, SETTING_LENGTH_OFFSET, SETTING_VALUE_OFFSET, SIGNAL_NUMBERS, START_IMAGE_ID, START_IMAGE_ID_LENGTH, START_ITEM_COUNT,
+    STEP_NUMBERS, TAKE_NUMBERS,
+};
+use crate::raw::Length;
+use crate::{done, first, lent, lent_mut, part, raw, ruled_out, said, Counters, NotFound, Reason, Refusal, StartData};
+use core::fmt;
 use core::num::NonZeroU8;
 
-/// A supervisor and the 26,620 bytes of state that it lends. It exists only started, and only its own calls write its state.
+/// Storage for one supervisor: its five parts, which may be a `static`.
 ///
-/// The state cannot be made by hand:
-/// ```compile_fail
-/// let supervisor = oatcastle::Supervisor { reader: [0; 4142] };
+/// Storage in which nothing has started is all zeros, so that a `static` takes no room in flash. `StaticCell` lends it out without `static mut`; so
+/// does a mutex:
 /// ```
-pub struct Supervisor {
-    reader: [u8; 4142],
-    outbox: [u8; 4147],
-    factory: [u8; 6481],
-    settings: [u8; 8457],
-    registers: [u8; 3393],
+/// use oatcastle::{Bsu, StartData, Supervisor, SupervisorStorage};
+/// use std::sync::Mutex;
+///
+/// static STORAGE: Mutex<SupervisorStorage> = Mutex::new(SupervisorStorage::new());
+///
+/// let mut storage = STORAGE.lock().unwrap();
+/// let supervisor = Supervisor::start_in(&mut storage, &StartData::new(Bsu::A));
+/// assert!(supervisor.signal());
+/// ```
+/// What it holds cannot be made by hand:
+/// ```compile_fail,E0451
+/// let storage = oatcastle::SupervisorStorage { reader: [0; 4142], ..oatcastle::SupervisorStorage::new() };
+/// ```
+#[derive(Clone)]
+pub struct SupervisorStorage {
+    reader: [u8; READER_LENGTH],
+    outbox: [u8; OUTBOX_LENGTH],
+    factory: [u8; FACTORY_LENGTH],
+    settings: [u8; SETTINGS_LENGTH],
+    registers: [u8; REGISTERS_LENGTH],
+}
+
+/// The parts as a call that receives takes them.
+struct Parts {
+    reader: (*mut u8, Length),
+    outbox: (*mut u8, Length),
+    factory: (*const u8, Length),
+    settings: (*mut u8, Length),
+    registers: (*mut u8, Length),
+}
+
+impl SupervisorStorage {
+    /// Storage in which nothing has started.
+    pub const fn new() -> SupervisorStorage {
+        SupervisorStorage {
+            reader: [0; READER_LENGTH],
+            outbox: [0; OUTBOX_LENGTH],
+            factory: [0; FACTORY_LENGTH],
+            settings: [0; SETTINGS_LENGTH],
+            registers: [0; REGISTERS_LENGTH],
+        }
+    }
+
+    fn parts(&mut self) -> Parts {
+        Parts {
+            reader: lent_mut(&mut self.reader),
+            outbox: lent_mut(&mut self.outbox),
+            factory: lent(&self.factory),
+            settings: lent_mut(&mut self.settings),
+            registers: lent_mut(&mut self.registers),
+        }
+    }
+}
+
+impl Default for SupervisorStorage {
+    fn default() -> SupervisorStorage {
+        SupervisorStorage::new()
+    }
+}
+
+impl fmt::Debug for SupervisorStorage {
+    fn fmt(&self, out: &mut fmt::Formatter<'_>) -> fmt::Result {
+        out.debug_struct("SupervisorStorage").finish_non_exhaustive()
+    }
 }
 
 /// Startup options: bits 0 to 8.
 ///
+/// ```
+/// use oatcastle::Options;
+///
+/// const OPTIONS: Options = Options::NONE.with::<8>().with::<0>();
+/// assert_eq!(OPTIONS.bits(), 257);
+/// ```
 /// A higher bit does not compile:
-/// ```compile_fail
+/// ```compile_fail,E0080
 /// let options = oatcastle::Options::NONE.with::<9>();
 /// ```
-#[derive(Clone, Copy, Debug, PartialEq, Eq)]
+#[derive(Clone, Copy, Debug, Default, PartialEq, Eq)]
 pub struct Options(u64);
 
 impl Options {
+    /// No bit set.
     pub const NONE: Options = Options(0);
 
     /// With this bit set.
     pub const fn with<const BIT: u32>(self) -> Options {
-        const { assert!(BIT <= 8, "the highest option bit is 8") }
+        const { assert!(1 << BIT & ALL_OPTIONS != 0, "the highest option bit is 8") }
         Options(self.0 | 1 << BIT)
     }
 
+    /// The options as a number.
     pub const fn bits(self) -> u64 {
         self.0
     }
 
-    /// These bits, refused where one above 8 is set.
+    /// These bits.
+    ///
+    /// # Errors
+    ///
+    /// `BadValue` where a bit above 8 is set.
     pub const fn of(bits: u64) -> Result<Options, Refusal> {
-        if bits >> 9 == 0 { Ok(Options(bits)) } else { Err(Refusal::BadValue) }
+        if bits & !ALL_OPTIONS == 0 { Ok(Options(bits)) } else { Err(Refusal::BadValue) }
     }
 }
 
 /// How far a step came.
 #[derive(Clone, Copy, Debug, PartialEq, Eq)]
 pub struct Step {
-    /// How many bytes of the piece were read.
+    /// How many bytes of the piece were read; the rest goes in with the next step.
     pub used: usize,
+    /// What the last of them ended.
     pub end: StepEnd,
 }
 
+/// What ended a step.
 #[derive(Clone, Copy, Debug, PartialEq, Eq)]
 pub enum StepEnd {
     /// The frame is not finished.
@@ -66,213 +145,287 @@ pub enum StepEnd {
     Failure(Reason),
 }
 
-/// What looking a key up gives.
+/// What a lookup found.
 #[derive(Clone, Copy, Debug, PartialEq, Eq)]
-pub enum Found<'r> {
-    Value(&'r [u8]),
-    BadKey,
-    NoValue,
-    TooLong,
-}
-
-impl Found<'_> {
-    /// The result's number on the wire.
-    pub const fn number(&self) -> u8 {
-        match self {
-            Found::Value(_) => 0,
-            Found::BadKey => 1,
-            Found::NoValue => 2,
-            Found::TooLong => 3,
-        }
-    }
+#[non_exhaustive]
+pub struct Found<'s> {
+    /// The value, a part of the storage.
+    pub value: &'s [u8],
 }
 
 /// What the other processor has asked for since the start.
-#[derive(Clone, Copy, Debug, PartialEq, Eq)]
+#[derive(Clone, Copy, Debug, Default, PartialEq, Eq)]
 pub struct Flags {
+    /// A reboot.
     pub reboot: bool,
+    /// Power off.
     pub power_off: bool,
 }
 
 /// A recorded boot failure or panic.
 #[derive(Clone, Copy, Debug, PartialEq, Eq)]
-pub struct Record<'r> {
+pub struct Record<'s> {
     /// The reason or the cause.
     pub code: u16,
     /// The whole length of what came with it.
     pub length: usize,
-    /// The first bytes of that, at most 512.
-    pub kept: &'r [u8],
+    /// The first bytes of that, at most `MOST_KEPT`: a part of the storage.
+    pub kept: &'s [u8],
 }
 
 impl Counters {
+    /// A block with every counter 0.
+    pub const fn new() -> Counters {
+        Counters { good: 0, empty: 0, reason1: 0, reason2: 0, reason3: 0, reason4: 0, reason5: 0, reason6: 0, reason7: 0 }
+    }
+
     /// Makes every counter 0.
     pub fn clear(&mut self) {
-        // The pointer is to one block.
-        let number = unsafe { raw::oatcastle_clear_counters(self) };
-        debug_assert_eq!(number, 0);
+        // SAFETY: the pointer is to one block.
+        done(unsafe { raw::oatcastle_clear_counters(self) });
     }
 }
 
-impl Supervisor {
-    pub fn start(data: &StartData) -> Result<Supervisor, Refusal> {
-        let mut supervisor = Supervisor {
-            reader: [0; 4142],
-            outbox: [0; 4147],
-            factory: [0; 6481],
-            settings: [0; 8457],
-            registers: [0; 3393],
-        };
-        supervisor.restart(data)?;
-        Ok(supervisor)
+/// A supervisor in storage that it is lent: it exists only started, and only its own calls write the storage.
+///
+/// ```
+/// use oatcastle::{write_frame, Bsu, NotFound, StartData, Supervisor, SupervisorStorage, LONGEST_FRAME, LONGEST_VALUE, MOST_PENDING};
+///
+/// let mut storage = SupervisorStorage::new();
+/// let mut supervisor = Supervisor::start_in(&mut storage, &StartData::new(Bsu::A));
+/// assert_eq!(supervisor.lookup(3, 256), Err(NotFound::NoValue));
+///
+/// let mut room = [0; LONGEST_FRAME];
+/// supervisor.receive(&[], write_frame(1, 1, 0x10, &[3], b"value", &mut room)?);
+/// assert_eq!(supervisor.lookup(3, 256)?.value, b"value");
+/// assert_eq!(supervisor.lookup(3, 4), Err(NotFound::ValueTooLong));
+/// let mut room = [0; MOST_PENDING];
+/// assert_eq!(supervisor.take(&mut room).last(), Some(&0));
+/// # Ok::<(), Box<dyn std::error::Error>>(())
+/// ```
+/// A value is a part of the storage: to hold it while the supervisor receives does not compile, nor to let it live longer than the storage.
+/// ```compile_fail,E0502
+/// # fn two(supervisor: &mut oatcastle::Supervisor<'_>) {
+/// let found = supervisor.lookup(3, 256);
+/// supervisor.receive(&[], &[0]);
+/// let _ = found.is_ok();
+/// # }
+/// ```
+/// ```compile_fail,E0597
+/// # use oatcastle::{Bsu, StartData, Supervisor, SupervisorStorage};
+/// let supervisor: Supervisor<'static> = {
+///     let mut storage = SupervisorStorage::new();
+///     Supervisor::start_in(&mut storage, &StartData::new(Bsu::A))
+/// };
+/// ```
+/// Nor does a use of the storage while its supervisor lives:
+/// ```compile_fail,E0506
+/// # use oatcastle::{Bsu, StartData, Supervisor, SupervisorStorage};
+/// let mut storage = SupervisorStorage::new();
+/// let supervisor = Supervisor::start_in(&mut storage, &StartData::new(Bsu::A));
+/// storage = SupervisorStorage::new();
+/// supervisor.signal();
+/// ```
+pub struct Supervisor<'s> {
+    storage: &'s mut SupervisorStorage,
+}
+
+impl fmt::Debug for Supervisor<'_> {
+    fn fmt(&self, out: &mut fmt::Formatter<'_>) -> fmt::Result {
+        out.debug_struct("Supervisor").field("signal", &self.signal()).field("flags", &self.flags()).finish_non_exhaustive()
+    }
+}
+
+impl<'s> Supervisor<'s> {
+    /// Begins a supervisor in the storage, of whose contents before nothing stays. What is returned is one pointer; nothing is laid out on the stack.
+    pub fn start_in(storage: &'s mut SupervisorStorage, data: &StartData) -> Supervisor<'s> {
+        let mut supervisor = Supervisor { storage };
+        supervisor.restart(data);
+        supervisor
     }
 
-    /// Starts again; nothing of the state before stays.
-    pub fn restart(&mut self, data: &StartData) -> Result<(), Refusal> {
-        // The pointers are to arrays of these lengths; the start data have their one length.
-        said(unsafe {
+    /// Starts again; nothing of the state before stays, also not that the last byte taken was non-zero. Send one 00 first where it may have been.
+    pub fn restart(&mut self, data: &StartData) {
+        let storage = &mut *self.storage;
+        let factory = lent_mut(&mut storage.factory);
+        let (reader, outbox) = (lent_mut(&mut storage.reader), lent_mut(&mut storage.outbox));
+        let (settings, registers) = (lent_mut(&mut storage.settings), lent_mut(&mut storage.registers));
+        // SAFETY: the start data have their one length; each other pointer is valid for the length behind it, and no two runs overlap.
+        done(unsafe {
             raw::oatcastle_start(
-                data.bytes().as_ptr(), self.reader.as_mut_ptr(), self.reader.len(), self.outbox.as_mut_ptr(), self.outbox.len(),
-                self.factory.as_mut_ptr(), self.factory.len(), self.settings.as_mut_ptr(), self.settings.len(),
-                self.registers.as_mut_ptr(), self.registers.len(),
+                data.bytes().as_ptr(), reader.0, reader.1, outbox.0, outbox.1, factory.0, factory.1, settings.0, settings.1,
+                registers.0, registers.1,
             )
-        })
+        });
     }
 
     /// Receives the whole piece. A block that a frame asks for comes from the image lent with the call that brings the frame's 00.
-    pub fn receive(&mut self, image: &[u8], piece: &[u8]) -> Result<(), Refusal> {
-        // The pointers are to slices of these lengths.
-        said(unsafe {
+    pub fn receive(&mut self, image: &[u8], piece: &[u8]) {
+        let (image, piece) = (lent(image), lent(piece));
+        let Parts { reader, outbox, factory, settings, registers } = self.storage.parts();
+        // SAFETY: each pointer is valid for the length behind it, and what is written overlaps nothing else.
+        done(unsafe {
             raw::oatcastle_receive(
-                image.as_ptr(), image.len(), piece.as_ptr(), piece.len(), self.reader.as_mut_ptr(), self.reader.len(),
-                self.outbox.as_mut_ptr(), self.outbox.len(), self.factory.as_ptr(), self.factory.len(),
-                self.settings.as_mut_ptr(), self.settings.len(), self.registers.as_mut_ptr(), self.registers.len(),
+                image.0, image.1, piece.0, piece.1, reader.0, reader.1, outbox.0, outbox.1, factory.0, factory.1,
+                settings.0, settings.1, registers.0, registers.1,
             )
-        })
+        });
     }
 
     /// Receives the whole piece, and counts every frame whose 00 it brings in the block. Frames that `receive` or `step` read are not counted.
-    pub fn receive_counted(&mut self, counters: &mut Counters, image: &[u8], piece: &[u8]) -> Result<(), Refusal> {
-        // The pointers are to one block and to slices of these lengths.
-        said(unsafe {
+    pub fn receive_counted(&mut self, counters: &mut Counters, image: &[u8], piece: &[u8]) {
+        let (image, piece) = (lent(image), lent(piece));
+        let Parts { reader, outbox, factory, settings, registers } = self.storage.parts();
+        // SAFETY: the block is one; each other pointer is valid for the length behind it, and what is written overlaps nothing else.
+        done(unsafe {
             raw::oatcastle_receive_counted(
-                counters, image.as_ptr(), image.len(), piece.as_ptr(), piece.len(), self.reader.as_mut_ptr(), self.reader.len(),
-                self.outbox.as_mut_ptr(), self.outbox.len(), self.factory.as_ptr(), self.factory.len(),
-                self.settings.as_mut_ptr(), self.settings.len(), self.registers.as_mut_ptr(), self.registers.len(),
+                counters, image.0, image.1, piece.0, piece.1, reader.0, reader.1, outbox.0, outbox.1, factory.0, factory.1,
+                settings.0, settings.1, registers.0, registers.1,
             )
-        })
+        });
     }
 
     /// Receives the piece up to its end or its first 00.
-    pub fn step(&mut self, image: &[u8], piece: &[u8]) -> Result<Step, Refusal> {
-        let mut answer = [0; 3];
-        // The pointers are to slices of these lengths.
-        said(unsafe {
+    pub fn step(&mut self, image: &[u8], piece: &[u8]) -> Step {
+        let mut answer = [0; STEP_NUMBERS];
+        let (image, piece, answers) = (lent(image), lent(piece), lent_mut(&mut answer));
+        let Parts { reader, outbox, factory, settings, registers } = self.storage.parts();
+        // SAFETY: each pointer is valid for the length behind it, and what is written overlaps nothing else.
+        done(unsafe {
             raw::oatcastle_step(
-                image.as_ptr(), image.len(), piece.as_ptr(), piece.len(), self.reader.as_mut_ptr(), self.reader.len(),
-                self.outbox.as_mut_ptr(), self.outbox.len(), self.factory.as_ptr(), self.factory.len(),
-                self.settings.as_mut_ptr(), self.settings.len(), self.registers.as_mut_ptr(), self.registers.len(),
-                answer.as_mut_ptr(), answer.len(),
+                image.0, image.1, piece.0, piece.1, reader.0, reader.1, outbox.0, outbox.1, factory.0, factory.1,
+                settings.0, settings.1, registers.0, registers.1, answers.0, answers.1,
             )
-        })?;
-        let end = match answer[1] {
-            0 => StepEnd::More,
-            1 => StepEnd::Empty,
-            2 => StepEnd::Request,
-            3 => StepEnd::Failure(Reason::of(answer[2])),
-            _ => unreachable!("no kind of a step"),
+        });
+        let [used, kind, reason] = answer;
+        let end = match kind {
+            MORE => StepEnd::More,
+            EMPTY => StepEnd::Empty,
+            MESSAGE => StepEnd::Request,
+            FAILURE => StepEnd::Failure(Reason::of(reason).unwrap_or_else(|| ruled_out())),
+            _ => ruled_out(),
         };
-        Ok(Step { used: length(answer[0]), end })
+        Step { used: used as usize, end }
     }
 
-    /// Takes as many pending bytes as the room has; gives those taken.
-    pub fn take<'r>(&mut self, room: &'r mut [u8]) -> Result<&'r [u8], Refusal> {
-        let mut answer = [0; 1];
-        // The pointers are to slices of these lengths.
-        said(unsafe {
-            raw::oatcastle_take(
-                self.outbox.as_mut_ptr(), self.outbox.len(), room.as_mut_ptr(), room.len(), answer.as_mut_ptr(), answer.len(),
-            )
-        })?;
-        Ok(&room[..length(answer[0])])
+    /// Takes as many pending bytes as the room has; gives those taken, at the room's start. A room of `MOST_PENDING` takes all at once.
+    pub fn take<'r>(&mut self, room: &'r mut [u8]) -> &'r [u8] {
+        let mut answer = [0; TAKE_NUMBERS];
+        let (outbox, to, answers) = (lent_mut(&mut self.storage.outbox), lent_mut(room), lent_mut(&mut answer));
+        // SAFETY: each pointer is valid for the length behind it, and no two runs overlap.
+        done(unsafe { raw::oatcastle_take(outbox.0, outbox.1, to.0, to.1, answers.0, answers.1) });
+        first(room, answer[0])
     }
 
-    /// Posts an alert of at most 256 bytes; at most 8 wait.
+    /// Posts an alert.
+    ///
+    /// # Errors
+    ///
+    /// `TooLong` where the text has more than `LONGEST_ALERT` bytes, `AlertsFull` where `MOST_ALERTS` wait.
+    /// ```
+    /// # use oatcastle::{Bsu, Refusal, StartData, Supervisor, SupervisorStorage};
+    /// # use core::num::NonZeroU8;
+    /// # let mut storage = SupervisorStorage::new();
+    /// # let mut supervisor = Supervisor::start_in(&mut storage, &StartData::new(Bsu::A));
+    /// const ACTION: NonZeroU8 = NonZeroU8::new(7).unwrap();
+    /// assert_eq!(supervisor.post(ACTION, b"fan 2 stands still"), Ok(()));
+    /// assert_eq!(supervisor.post(ACTION, &[0; 257]), Err(Refusal::TooLong));
+    /// ```
     pub fn post(&mut self, action: NonZeroU8, text: &[u8]) -> Result<(), Refusal> {
-        // The pointers are to slices of these lengths.
-        said(unsafe {
-            raw::oatcastle_post(self.registers.as_mut_ptr(), self.registers.len(), action.get(), text.as_ptr(), text.len())
-        })
+        let (registers, text) = (lent_mut(&mut self.storage.registers), lent(text));
+        // SAFETY: each pointer is valid for the length behind it, and the two runs do not overlap.
+        said(unsafe { raw::oatcastle_post(registers.0, registers.1, action.get(), text.0, text.1) })
     }
 
-    pub fn set_options(&mut self, options: Options) -> Result<(), Refusal> {
-        // The pointer is to an array of this length.
-        said(unsafe { raw::oatcastle_set_options(self.registers.as_mut_ptr(), self.registers.len(), options.bits()) })
+    /// Sets the startup options.
+    pub fn set_options(&mut self, options: Options) {
+        let registers = lent_mut(&mut self.storage.registers);
+        // SAFETY: the pointer is valid for the length behind it.
+        done(unsafe { raw::oatcastle_set_options(registers.0, registers.1, options.bits()) });
     }
 
-    /// Looks a key up; a value of at most `most` bytes is copied to the room.
-    pub fn lookup<'r>(&self, key: u8, most: u16, room: &'r mut [u8]) -> Result<Found<'r>, Refusal> {
-        let mut answer = [0; 2];
-        // The pointers are to slices of these lengths.
-        said(unsafe {
+    /// Looks a key up; a value longer than `maxresponse` is not found.
+    ///
+    /// # Errors
+    ///
+    /// The result of a lookup on the wire, where it is not 0.
+    pub fn lookup(&self, key: u8, maxresponse: u16) -> Result<Found<'_>, NotFound> {
+        let mut answer = [0; LOOKUP_NUMBERS];
+        let (factory, settings) = (lent(&self.storage.factory), lent(&self.storage.settings));
+        let (room, answers) = (lent_mut(&mut []), lent_mut(&mut answer));
+        // SAFETY: each pointer is valid for the length behind it, and what is written overlaps nothing else.
+        let number = unsafe {
             raw::oatcastle_lookup(
-                self.factory.as_ptr(), self.factory.len(), self.settings.as_ptr(), self.settings.len(), key, most,
-                room.as_mut_ptr(), room.len(), answer.as_mut_ptr(), answer.len(),
+                factory.0, factory.1, settings.0, settings.1, key, maxresponse, room.0, room.1, answers.0, answers.1,
             )
-        })?;
-        Ok(match answer[0] {
-            0 => Found::Value(&room[..length(answer[1])]),
-            1 => Found::BadKey,
-            2 => Found::NoValue,
-            3 => Found::TooLong,
-            _ => unreachable!("no result of a lookup"),
-        })
+        };
+        // No room is lent, so that nothing is copied: a value that has bytes is refused as 8, and the answer stays 0, which is found.
+        if number != Refusal::NoRoom.number() {
+            done(number);
+        }
+        match answer[0] {
+            0 => Ok(Found { value: self.value(key) }),
+            result => Err(NotFound::of(result).unwrap_or_else(|| ruled_out())),
+        }
+    }
+
+    /// The value of a key that has one, as it lies in its store.
+    fn value(&self, key: u8) -> &[u8] {
+        let SupervisorStorage { factory, settings, .. } = &*self.storage;
+        match key {
+            0 => part(factory, PONG_OFFSET, 4),
+            1 => part(factory, START_IMAGE_ID, factory[START_IMAGE_ID_LENGTH].into()),
+            2 => part(factory, START_ITEM_COUNT, 8),
+            _ => {
+                let setting = setting_offset(key.into());
+                part(settings, setting + SETTING_VALUE_OFFSET, number_at(settings, setting + SETTING_LENGTH_OFFSET).into())
+            }
+        }
     }
 
     /// Whether the line signal is asserted.
-    pub fn signal(&self) -> Result<bool, Refusal> {
-        let mut answer = [0; 1];
-        // The pointers are to arrays of these lengths.
-        said(unsafe {
-            raw::oatcastle_signal(self.registers.as_ptr(), self.registers.len(), answer.as_mut_ptr(), answer.len())
-        })?;
-        Ok(answer[0] == 1)
+    pub fn signal(&self) -> bool {
+        let mut answer = [0; SIGNAL_NUMBERS];
+        let (registers, answers) = (lent(&self.storage.registers), lent_mut(&mut answer));
+        // SAFETY: each pointer is valid for the length behind it, and what is written overlaps nothing else.
+        done(unsafe { raw::oatcastle_signal(registers.0, registers.1, answers.0, answers.1) });
+        answer[0] == 1
     }
 
-    pub fn flags(&self) -> Result<Flags, Refusal> {
-        let mut answer = [0; 2];
-        // The pointers are to arrays of these lengths.
-        said(unsafe {
-            raw::oatcastle_flags(self.registers.as_ptr(), self.registers.len(), answer.as_mut_ptr(), answer.len())
-        })?;
-        Ok(Flags { reboot: answer[0] == 1, power_off: answer[1] == 1 })
+    /// What the other processor has asked for.
+    pub fn flags(&self) -> Flags {
+        let mut answer = [0; FLAGS_NUMBERS];
+        let (registers, answers) = (lent(&self.storage.registers), lent_mut(&mut answer));
+        // SAFETY: each pointer is valid for the length behind it, and what is written overlaps nothing else.
+        done(unsafe { raw::oatcastle_flags(registers.0, registers.1, answers.0, answers.1) });
+        Flags { reboot: answer[0] == 1, power_off: answer[1] == 1 }
     }
 
-    /// The last boot failure; its kept bytes are copied to the room, of which 512 bytes are enough.
-    pub fn boot_failure<'r>(&self, room: &'r mut [u8]) -> Result<Option<Record<'r>>, Refusal> {
-        let mut answer = [0; 4];
-        // The pointers are to slices of these lengths.
-        said(unsafe {
-            raw::oatcastle_boot_failure(
-                self.registers.as_ptr(), self.registers.len(), room.as_mut_ptr(), room.len(), answer.as_mut_ptr(), answer.len(),
-            )
-        })?;
-        Ok(record(answer, room))
+    /// The last boot failure.
+    pub fn boot_failure_record(&self) -> Option<Record<'_>> {
+        self.record(BOOT_FAILURE_OFFSET)
     }
 
-    /// The last panic; its kept bytes are copied to the room, of which 512 bytes are enough.
-    pub fn panic<'r>(&self, room: &'r mut [u8]) -> Result<Option<Record<'r>>, Refusal> {
-        let mut answer = [0; 4];
-        // The pointers are to slices of these lengths.
-        said(unsafe {
-            raw::oatcastle_panic(
-                self.registers.as_ptr(), self.registers.len(), room.as_mut_ptr(), room.len(), answer.as_mut_ptr(), answer.len(),
-            )
-        })?;
-        Ok(record(answer, room))
+    /// The last panic.
+    pub fn panic_record(&self) -> Option<Record<'_>> {
+        self.record(PANIC_OFFSET)
+    }
+
+    /// The record at an offset of the registers, as it lies there.
+    fn record(&self, offset: usize) -> Option<Record<'_>> {
+        let registers = &self.storage.registers;
+        (registers[offset] == 1).then(|| {
+            let length = number_at(registers, offset + RECORD_WHOLE_OFFSET).into();
+            let kept = part(registers, offset + RECORD_KEPT_OFFSET, MOST_KEPT.min(length));
+            Record { code: number_at(registers, offset + RECORD_CODE_OFFSET), length, kept }
+        })
     }
 }
 
-fn record([held, code, whole, kept]: [u64; 4], room: &mut [u8]) -> Option<Record<'_>> {
-    (held == 1).then(|| Record { code: code as u16, length: length(whole), kept: &room[..length(kept)] })
+/// The number of two bytes at an offset.
+fn number_at(run: &[u8], offset: usize) -> u16 {
+    match part(run, offset, 2) {
+        &[low, high] => u16::from_le_bytes([low, high]),
+        _ => ruled_out(),
+    }
 }

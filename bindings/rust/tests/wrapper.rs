@@ -1,9 +1,20 @@
 // Defines tests of the safe wrapper: each method once with its answer, and the refusals that its types leave possible.
 // Assumes the static library is linked.
 
+#[allow(dead_code)]
+#[path = "../src/limits.rs"]
+mod limits;
+#[allow(dead_code)]
+#[path = "../src/raw.rs"]
+mod raw;
+
+use limits::{FACTORY_LENGTH, FIRST_SETTING, LONGEST_SETTINGS, OUTBOX_LENGTH, READER_LENGTH, REGISTERS_LENGTH, SETTINGS_LENGTH};
+use oatcastle::requester::{Handed, Received, Reply, Requester, RequesterStorage, Status};
 use oatcastle::{
-    update_probes, write_frame, AddressPlan, Bsu, Counters, Failure, Flags, Found, ItemResult, LineReader, Options, Probe, ReadEnd, Reason,
-    Record, Refusal, StartData, Step, StepEnd, Supervisor, Tail, LONGEST_FRAME,
+    checksum, update_probes, write_frame, AddressPlan, Bsu, Counters, Failure, Flags, Item, ItemResult, LineReader, Message, NotFound, Options,
+    Probe, ReadEnd, ReaderStorage, Reason, Record, Refusal, StartData, StaticCell, Step, StepEnd, Supervisor, SupervisorStorage, Tail,
+    LONGEST_ALERT, LONGEST_DATA, LONGEST_FRAME, LONGEST_IMAGE_ID, LONGEST_ITEM_DATA, LONGEST_VALUE, MOST_ALERTS, MOST_ITEMS, MOST_KEPT,
+    MOST_PENDING,
 };
 use std::num::NonZeroU8;
 
@@ -15,29 +26,39 @@ fn request(sequence: u64, command: u8, data: &[u8]) -> Vec<u8> {
 
 /// Version, sequence, command and data of the one message in these bytes.
 fn message(bytes: &[u8]) -> (u32, u64, u8, Vec<u8>) {
-    let mut reader = LineReader::start().unwrap();
-    let read = reader.read(bytes).unwrap();
+    let mut storage = ReaderStorage::new();
+    let mut reader = LineReader::start_in(&mut storage);
+    let read = reader.read(bytes);
     assert_eq!(read.used, bytes.len());
-    let ReadEnd::Message(message) = read.end else { panic!("no message") };
-    let mut room = [0; 4104];
-    (message.version(), message.sequence(), message.command(), message.data(&mut room).unwrap().to_vec())
+    let ReadEnd::Message(Message { version, sequence, command, data }) = read.end else { panic!("no message") };
+    (version, sequence, command, data.to_vec())
 }
 
 fn reply(supervisor: &mut Supervisor, image: &[u8], frame: &[u8]) -> (u8, Vec<u8>) {
-    supervisor.receive(image, frame).unwrap();
-    let mut room = [0; 5000];
-    let (version, sequence, command, data) = message(supervisor.take(&mut room).unwrap());
+    supervisor.receive(image, frame);
+    let mut room = [0; MOST_PENDING];
+    let (version, sequence, command, data) = message(supervisor.take(&mut room));
     assert_eq!((version, sequence >> 63), (1, 1));
     (command, data)
 }
 
+/// What a lookup gives, by its value or its result.
+fn found<'s>(supervisor: &'s Supervisor, key: u8, maxresponse: u16) -> Result<&'s [u8], NotFound> {
+    supervisor.lookup(key, maxresponse).map(|found| found.value)
+}
+
+static UNIT: StartData = StartData::new(Bsu::B)
+    .with_identity(*b"model-12345", 7, *b"serial-0001")
+    .with_mac(AddressPlan { base: [1, 2, 3, 4, 5, 6], count: 8, stride: 9 })
+    .with_hash([5; 32])
+    .with_image_id(b"image")
+    .with_item(Item { result: ItemResult::Found, name: [6; 32], kind: 4, data: b"data" })
+    .with_item(Item { result: ItemResult::Absent, name: [7; 32], kind: 5, data: b"kept back" });
+
 #[test]
 fn start_data_come_back() {
-    let mut data = StartData::new(Bsu::B);
-    data.identity(*b"model-12345", 7, *b"serial-0001").mac([1, 2, 3, 4, 5, 6], 8, 9).hash([5; 32]);
-    data.image_id(b"image").unwrap().item(ItemResult::Found, [6; 32], 4, b"data").unwrap();
-    data.item(ItemResult::Absent, [7; 32], 5, b"kept back").unwrap();
-    let mut supervisor = Supervisor::start(&data).unwrap();
+    let mut storage = SupervisorStorage::new();
+    let mut supervisor = Supervisor::start_in(&mut storage, &UNIT);
     assert_eq!(reply(&mut supervisor, &[], &request(1, 3, &[])), (3, vec![0x42]));
     assert_eq!(reply(&mut supervisor, &[], &request(2, 4, &[])), (4, b"model-12345\x07\0\0\0serial-0001".to_vec()));
     assert_eq!(reply(&mut supervisor, &[], &request(3, 5, &[])), (5, vec![1, 2, 3, 4, 5, 6, 8, 0, 9]));
@@ -47,57 +68,257 @@ fn start_data_come_back() {
     assert_eq!(reply(&mut supervisor, &[], &request(5, 0x0f, &[1, 0, 0, 0])), (0x0b, item));
     let asked = [&[5; 32][..], &4u64.to_le_bytes()].concat();
     assert_eq!(reply(&mut supervisor, b"an image", &request(6, 0x0d, &asked)), (9, b"mage".to_vec()));
-    let mut room = [0; 64];
-    assert_eq!(supervisor.lookup(1, 64, &mut room), Ok(Found::Value(b"image")));
-    assert_eq!(supervisor.lookup(2, 8, &mut room), Ok(Found::Value(&[2, 0, 0, 0, 0, 0, 0, 0])));
+    assert_eq!(found(&supervisor, 1, 64), Ok(&b"image"[..]));
+    assert_eq!(found(&supervisor, 2, 8), Ok(&[2, 0, 0, 0, 0, 0, 0, 0][..]));
 }
 
 #[test]
 fn start_data_have_bounds() {
+    let item = |result, data| Item { result, name: [0; 32], kind: 0, data };
     let mut data = StartData::new(Bsu::A);
-    assert!(data.image_id(&[1; 64]).is_ok());
-    assert_eq!(data.image_id(&[1; 65]).err(), Some(Refusal::BadStart));
-    assert_eq!(data.item(ItemResult::Found, [0; 32], 0, &[0; 65]).err(), Some(Refusal::BadStart));
-    for _ in 0..64 {
-        assert!(data.item(ItemResult::Failed, [0; 32], 0, &[0; 64]).is_ok());
+    assert_eq!(data.set_image_id(&[1; LONGEST_IMAGE_ID]), Ok(()));
+    let before = data.clone();
+    assert_eq!(data.set_image_id(&[1; LONGEST_IMAGE_ID + 1]), Err(Refusal::BadStart));
+    assert_eq!(data.add_item(item(ItemResult::Found, &[0; LONGEST_ITEM_DATA + 1])), Err(Refusal::BadStart));
+    assert_eq!(data, before);
+    for _ in 0..MOST_ITEMS {
+        assert_eq!(data.add_item(item(ItemResult::Failed, &[0; LONGEST_ITEM_DATA])), Ok(()));
     }
-    assert_eq!(data.item(ItemResult::Found, [0; 32], 0, &[]).err(), Some(Refusal::BadStart));
-    assert!(Supervisor::start(&data).is_ok());
+    let before = data.clone();
+    assert_eq!(data.add_item(item(ItemResult::Found, &[])), Err(Refusal::BadStart));
+    assert_eq!(data, before);
+    let mut storage = SupervisorStorage::new();
+    let supervisor = Supervisor::start_in(&mut storage, &data);
+    assert_eq!(found(&supervisor, 1, 64), Ok(&[1; LONGEST_IMAGE_ID][..]));
+    data.set_image_id(b"id").unwrap();
+    let supervisor = Supervisor::start_in(&mut storage, &data);
+    assert_eq!(found(&supervisor, 1, 64), Ok(&b"id"[..]));
+    assert_eq!(found(&supervisor, 2, 8), Ok(&[MOST_ITEMS as u8, 0, 0, 0, 0, 0, 0, 0][..]));
 }
 
 #[test]
 fn local_calls() {
-    let mut supervisor = Supervisor::start(&StartData::new(Bsu::A)).unwrap();
-    let mut room = [0; 512];
-    assert_eq!(supervisor.signal(), Ok(true));
-    assert_eq!(supervisor.flags(), Ok(Flags { reboot: false, power_off: false }));
-    assert_eq!(supervisor.boot_failure(&mut room), Ok(None));
-    assert_eq!(supervisor.panic(&mut room), Ok(None));
-    assert_eq!(supervisor.lookup(0, 3, &mut room), Ok(Found::TooLong));
-    assert_eq!(supervisor.lookup(0, 4, &mut room[..3]), Err(Refusal::NoRoom));
-    assert_eq!(supervisor.lookup(0, 4, &mut room), Ok(Found::Value(b"pong")));
-    assert_eq!(supervisor.lookup(3, 4, &mut room), Ok(Found::NoValue));
-    assert_eq!(supervisor.lookup(6, 4, &mut room), Ok(Found::BadKey));
-    supervisor.receive(&[], &request(1, 1, &[])).unwrap();
-    supervisor.receive(&[], &request(1, 6, b"\x09why")).unwrap();
-    supervisor.receive(&[], &request(1, 7, b"\x34\x12how")).unwrap();
-    assert_eq!(supervisor.flags(), Ok(Flags { reboot: true, power_off: false }));
-    assert_eq!(supervisor.boot_failure(&mut room), Ok(Some(Record { code: 9, length: 3, kept: b"why" })));
-    assert_eq!(supervisor.panic(&mut room), Ok(Some(Record { code: 0x1234, length: 3, kept: b"how" })));
-    assert_eq!(supervisor.panic(&mut []), Err(Refusal::NoRoom));
+    let mut storage = SupervisorStorage::new();
+    let mut supervisor = Supervisor::start_in(&mut storage, &StartData::new(Bsu::A));
+    assert!(supervisor.signal());
+    assert_eq!(supervisor.flags(), Flags { reboot: false, power_off: false });
+    assert_eq!(supervisor.boot_failure_record(), None);
+    assert_eq!(supervisor.panic_record(), None);
+    assert_eq!(found(&supervisor, 0, 3), Err(NotFound::ValueTooLong));
+    assert_eq!(found(&supervisor, 0, 4), Ok(&b"pong"[..]));
+    assert_eq!(found(&supervisor, 1, 0), Ok(&[][..]));
+    assert_eq!(found(&supervisor, 3, 4), Err(NotFound::NoValue));
+    let bad_keys = (FIRST_SETTING + LONGEST_SETTINGS.len()) as u8..=255;
+    assert!(bad_keys.clone().all(|key| found(&supervisor, key, 4) == Err(NotFound::BadKey)), "{bad_keys:?}");
+    supervisor.receive(&[], &request(1, 1, &[]));
+    supervisor.receive(&[], &request(1, 6, b"\x09why"));
+    supervisor.receive(&[], &request(1, 7, b"\x34\x12how"));
+    assert_eq!(supervisor.flags(), Flags { reboot: true, power_off: false });
+    assert_eq!(supervisor.boot_failure_record(), Some(Record { code: 9, length: 3, kept: b"why" }));
+    assert_eq!(supervisor.panic_record(), Some(Record { code: 0x1234, length: 3, kept: b"how" }));
     assert_eq!(Options::of(512), Err(Refusal::BadValue));
-    supervisor.set_options(Options::NONE.with::<8>().with::<0>()).unwrap();
+    assert_eq!(Options::of(511).map(Options::bits), Ok(511));
+    supervisor.set_options(Options::NONE.with::<8>().with::<0>());
     assert_eq!(reply(&mut supervisor, &[], &request(2, 8, &[])), (6, [&1u64.to_le_bytes()[..], &257u64.to_le_bytes()].concat()));
-    supervisor.restart(&StartData::new(Bsu::A)).unwrap();
-    assert_eq!(supervisor.panic(&mut room), Ok(None));
+    supervisor.receive(&[], &request(3, 2, &[]));
+    assert_eq!(supervisor.flags(), Flags { reboot: true, power_off: true });
+    supervisor.receive(&[], &request(4, 9, &[]));
+    assert!(!supervisor.signal());
+    supervisor.restart(&StartData::new(Bsu::A));
+    assert_eq!(supervisor.panic_record(), None);
+    assert!(supervisor.signal());
+}
+
+/// The supervisor's parts, started and lent to the C functions themselves, and a supervisor in storage of the wrapper.
+struct Both<'s> {
+    parts: [Vec<u8>; 5],
+    supervisor: Supervisor<'s>,
+}
+
+impl Both<'_> {
+    fn start<'s>(storage: &'s mut SupervisorStorage, data: &StartData) -> Both<'s> {
+        let mut parts = [READER_LENGTH, OUTBOX_LENGTH, FACTORY_LENGTH, SETTINGS_LENGTH, REGISTERS_LENGTH].map(|length| vec![0xee; length]);
+        let [reader, outbox, factory, settings, registers] = parts.each_mut().map(|part| (part.as_mut_ptr(), part.len()));
+        // SAFETY: each pointer is valid for the length behind it, and no two runs overlap.
+        let number = unsafe {
+            raw::oatcastle_start(
+                data.bytes().as_ptr(), reader.0, reader.1, outbox.0, outbox.1, factory.0, factory.1, settings.0, settings.1,
+                registers.0, registers.1,
+            )
+        };
+        assert_eq!(number, 0);
+        Both { parts, supervisor: Supervisor::start_in(storage, data) }
+    }
+
+    fn receive(&mut self, piece: &[u8]) {
+        let [reader, outbox, factory, settings, registers] = self.parts.each_mut().map(|part| (part.as_mut_ptr(), part.len()));
+        // SAFETY: each pointer is valid for the length behind it, and no two runs overlap.
+        let number = unsafe {
+            raw::oatcastle_receive(
+                [].as_ptr(), 0, piece.as_ptr(), piece.len(), reader.0, reader.1, outbox.0, outbox.1, factory.0, factory.1,
+                settings.0, settings.1, registers.0, registers.1,
+            )
+        };
+        assert_eq!(number, 0);
+        self.supervisor.receive(&[], piece);
+    }
+
+    /// Every lookup and both records, as the library copies them out and as the wrapper hands them out.
+    fn compare(&self) {
+        let [_, _, factory, settings, registers] = &self.parts;
+        for (key, maxresponse) in (0..=255).flat_map(|key| [0, 3, 4, 5, 8, 64, 256, 1000, 4095, u16::MAX].map(|most| (key, most))) {
+            let (mut room, mut answer) = ([0; LONGEST_VALUE], [0; 2]);
+            // SAFETY: each pointer is valid for the length behind it, and what is written overlaps nothing else.
+            let number = unsafe {
+                raw::oatcastle_lookup(
+                    factory.as_ptr(), factory.len(), settings.as_ptr(), settings.len(), key, maxresponse, room.as_mut_ptr(), room.len(),
+                    answer.as_mut_ptr(), answer.len(),
+                )
+            };
+            assert_eq!(number, 0);
+            match found(&self.supervisor, key, maxresponse) {
+                Ok(value) => assert_eq!((value, 0), (&room[..answer[1] as usize], answer[0]), "key {key}, {maxresponse}"),
+                Err(result) => assert_eq!(u64::from(result.number()), answer[0], "key {key}, {maxresponse}"),
+            }
+        }
+        let copies = [raw::oatcastle_boot_failure, raw::oatcastle_panic];
+        for (copy, record) in copies.into_iter().zip([self.supervisor.boot_failure_record(), self.supervisor.panic_record()]) {
+            let (mut room, mut answer) = ([0; MOST_KEPT], [0; 4]);
+            // SAFETY: each pointer is valid for the length behind it, and what is written overlaps nothing else.
+            let number = unsafe { copy(registers.as_ptr(), registers.len(), room.as_mut_ptr(), room.len(), answer.as_mut_ptr(), answer.len()) };
+            assert_eq!(number, 0);
+            let [held, code, length, kept] = answer;
+            let wanted = Record { code: code as u16, length: length as usize, kept: &room[..kept as usize] };
+            assert_eq!(record, (held == 1).then_some(wanted));
+        }
+    }
+}
+
+/// So many bytes, no two neighbours the same.
+fn bytes(length: usize) -> Vec<u8> {
+    (0..length).map(|k| (k * 7 + k / 251) as u8).collect()
+}
+
+#[test]
+fn values_are_those_that_the_library_copies_out() {
+    let mut storage = SupervisorStorage::new();
+    for length in [0, 1, LONGEST_IMAGE_ID - 1, LONGEST_IMAGE_ID] {
+        let mut data = UNIT.clone();
+        data.set_image_id(&bytes(length)).unwrap();
+        Both::start(&mut storage, &data).compare();
+    }
+    let mut both = Both::start(&mut storage, &UNIT);
+    for (index, longest) in LONGEST_SETTINGS.into_iter().enumerate() {
+        for length in [1, 0, 63, longest - 1, longest, longest + 1, 8] {
+            both.receive(&request(1, 0x10, &[&[(FIRST_SETTING + index) as u8][..], &bytes(length)].concat()));
+            both.compare();
+        }
+    }
+    for length in [0, 1, MOST_KEPT - 1, MOST_KEPT, MOST_KEPT + 1, LONGEST_DATA - 2] {
+        both.receive(&request(1, 6, &[&[9][..], &bytes(length)].concat()));
+        both.compare();
+        both.receive(&request(1, 7, &[&[0x34, 0x12][..], &bytes(length)].concat()));
+        both.compare();
+    }
+    both.receive(&request(1, 6, &[&[0xff][..], &bytes(LONGEST_DATA - 1)].concat()));
+    both.compare();
+}
+
+#[test]
+fn message_data_are_those_that_the_library_copies_out() {
+    let mut state = [0; READER_LENGTH];
+    let mut storage = ReaderStorage::new();
+    let mut reader = LineReader::start_in(&mut storage);
+    for length in [0, 1, 253, 254, 255, 2000, LONGEST_DATA] {
+        let frame = request(7, 0x55, &bytes(length));
+        let (mut answer, mut room) = ([0; 7], [0; LONGEST_DATA]);
+        // SAFETY: each pointer is valid for the length behind it, and what is written overlaps nothing else.
+        let numbers = unsafe {
+            [
+                raw::oatcastle_line_read(state.as_mut_ptr(), state.len(), frame.as_ptr(), frame.len(), answer.as_mut_ptr(), answer.len()),
+                raw::oatcastle_line_data(state.as_ptr(), state.len(), answer[6], room.as_mut_ptr(), room.len()),
+            ]
+        };
+        assert_eq!((numbers, answer[6]), ([0, 0], length as u64));
+        let ReadEnd::Message(message) = reader.read(&frame).end else { panic!("no message") };
+        assert_eq!(message.data, &room[..length]);
+    }
+}
+
+#[test]
+fn storage_in_a_static() {
+    static STORAGE: StaticCell<SupervisorStorage> = StaticCell::new(SupervisorStorage::new());
+    let mut supervisor: Supervisor<'static> = Supervisor::start_in(STORAGE.take().unwrap(), &UNIT);
+    assert!(STORAGE.take().is_none());
+    assert_eq!(reply(&mut supervisor, &[], &request(1, 3, &[])), (3, vec![0x42]));
+    let moved = std::thread::spawn(move || found(&supervisor, 1, 64).map(<[u8]>::to_vec));
+    assert_eq!(moved.join().unwrap(), Ok(b"image".to_vec()));
+}
+
+#[test]
+fn one_storage_is_taken_once() {
+    static CELL: StaticCell<u64> = StaticCell::new(7);
+    let takers: Vec<_> = (0..16).map(|_| std::thread::spawn(|| CELL.take().map(|value| *value))).collect();
+    let taken: Vec<u64> = takers.into_iter().filter_map(|taker| taker.join().unwrap()).collect();
+    assert_eq!(taken, [7]);
+}
+
+#[test]
+fn a_start_forgets_what_the_storage_held() {
+    let mut storage = SupervisorStorage::new();
+    let mut supervisor = Supervisor::start_in(&mut storage, &UNIT);
+    supervisor.receive(&[], &request(1, 0x10, b"\x03value"));
+    supervisor.receive(&[], &[5, 5]);
+    let mut supervisor = Supervisor::start_in(&mut storage, &UNIT);
+    assert_eq!(found(&supervisor, 3, 256), Err(NotFound::NoValue));
+    assert_eq!(supervisor.take(&mut [0; 64]), []);
+    assert_eq!(reply(&mut supervisor, &[], &request(1, 3, &[])), (3, vec![0x42]));
+}
+
+/// A copy of the storage would not fit the stack of the thread.
+#[test]
+fn a_start_lays_nothing_out_on_the_stack() {
+    const STACK: usize = 16 * 1024;
+    static STORAGE: StaticCell<SupervisorStorage> = StaticCell::new(SupervisorStorage::new());
+    assert!(size_of::<SupervisorStorage>() > STACK);
+    assert_eq!([size_of::<Supervisor>(), size_of::<Requester>(), size_of::<LineReader>()], [size_of::<usize>(); 3]);
+    let start = || Supervisor::start_in(STORAGE.take().unwrap(), &UNIT).signal();
+    assert!(std::thread::Builder::new().stack_size(STACK).spawn(start).unwrap().join().unwrap());
+}
+
+#[test]
+fn refusals_are_errors() {
+    let refusals: [Box<dyn std::error::Error>; 3] = [
+        Box::new(write_frame(1, 1, 1, &[], &[], &mut []).unwrap_err()),
+        Box::new(Options::of(1 << 63).unwrap_err()),
+        Box::new(NotFound::NoValue),
+    ];
+    let texts = refusals.map(|refusal| refusal.to_string());
+    assert_eq!(texts, [
+        "refused as 8: the room is too short for the whole output", "refused as 13: an option bit above the highest",
+        "lookup result 2: the key has no value",
+    ]);
+    assert_eq!(Reason::Magic.to_string(), "reason 4: the magic differs");
+    assert_eq!(oatcastle::rot::Type::SinkRequest.to_string(), "type 8: sink request");
+}
+
+#[test]
+fn storage_shows_no_setting() {
+    let mut storage = SupervisorStorage::new();
+    let mut supervisor = Supervisor::start_in(&mut storage, &UNIT);
+    supervisor.receive(&[], &request(1, 0x10, b"\x03secret"));
+    assert_eq!(format!("{supervisor:?}"), "Supervisor { signal: true, flags: Flags { reboot: false, power_off: false }, .. }");
+    assert_eq!(format!("{storage:?}"), "SupervisorStorage { .. }");
+    assert_eq!(format!("{UNIT:?}"), "StartData { bsu: B, items: 2, .. }");
 }
 
 #[test]
 fn alerts() {
-    let mut supervisor = Supervisor::start(&StartData::new(Bsu::A)).unwrap();
-    assert_eq!(supervisor.post(ONE, &[0; 257]), Err(Refusal::TooLong));
-    for number in 0..8 {
-        supervisor.post(ONE, &[number]).unwrap();
+    let mut storage = SupervisorStorage::new();
+    let mut supervisor = Supervisor::start_in(&mut storage, &StartData::new(Bsu::A));
+    assert_eq!(supervisor.post(ONE, &[0; LONGEST_ALERT + 1]), Err(Refusal::TooLong));
+    for number in 0..MOST_ALERTS {
+        assert_eq!(supervisor.post(ONE, &[number as u8]), Ok(()));
     }
     assert_eq!(supervisor.post(ONE, &[8]), Err(Refusal::AlertsFull));
     assert_eq!(reply(&mut supervisor, &[], &request(1, 0x0a, &[])), (7, vec![1, 0]));
@@ -107,32 +328,33 @@ fn alerts() {
 
 #[test]
 fn steps() {
-    let mut supervisor = Supervisor::start(&StartData::new(Bsu::A)).unwrap();
-    assert_eq!(supervisor.step(&[], &[2]), Ok(Step { used: 1, end: StepEnd::More }));
-    assert_eq!(supervisor.step(&[], &[0, 0]), Ok(Step { used: 1, end: StepEnd::Failure(Reason::Form) }));
-    assert_eq!(supervisor.step(&[], &[0]), Ok(Step { used: 1, end: StepEnd::Empty }));
+    let mut storage = SupervisorStorage::new();
+    let mut supervisor = Supervisor::start_in(&mut storage, &StartData::new(Bsu::A));
+    assert_eq!(supervisor.step(&[], &[2]), Step { used: 1, end: StepEnd::More });
+    assert_eq!(supervisor.step(&[], &[0, 0]), Step { used: 1, end: StepEnd::Failure(Reason::Form) });
+    assert_eq!(supervisor.step(&[], &[0]), Step { used: 1, end: StepEnd::Empty });
     let frame = request(1, 8, &[]);
-    assert_eq!(supervisor.step(&[], &frame), Ok(Step { used: frame.len(), end: StepEnd::Request }));
+    assert_eq!(supervisor.step(&[], &frame), Step { used: frame.len(), end: StepEnd::Request });
 }
 
 #[test]
 fn line() {
-    let mut reader = LineReader::start().unwrap();
+    let mut storage = ReaderStorage::new();
+    let mut reader = LineReader::start_in(&mut storage);
     let frame = request(9, 0x55, &[3; 300]);
     assert_eq!(message(&frame), (1, 9, 0x55, vec![3; 300]));
-    assert!(matches!(reader.read(&frame[..40]).unwrap().end, ReadEnd::More));
-    assert_eq!(reader.tail(), Ok(Tail::Bytes(40)));
-    assert!(matches!(reader.read(&[1; 4200]).unwrap().end, ReadEnd::More));
-    assert_eq!(reader.tail(), Ok(Tail::TooLong));
-    let ReadEnd::Failure(failure) = reader.read(&[0]).unwrap().end else { panic!("no failure") };
-    assert_eq!(failure, Failure { reason: Reason::Form, sequence: None });
-    assert!(matches!(reader.read(&[0, 0]).unwrap().end, ReadEnd::Empty));
+    assert_eq!(reader.read(&frame[..40]).end, ReadEnd::More);
+    assert_eq!(reader.tail(), Tail::Bytes(40));
+    assert_eq!(reader.read(&[1; 4200]).end, ReadEnd::More);
+    assert_eq!(reader.tail(), Tail::TooLong);
+    assert_eq!(reader.read(&[0]).end, ReadEnd::Failure(Failure { reason: Reason::Form, sequence: None }));
+    assert_eq!(reader.read(&[0, 0]).end, ReadEnd::Empty);
     let mut damaged = request(9, 0x55, &[3; 5]);
     damaged[18] ^= 1;
-    let ReadEnd::Failure(failure) = reader.read(&damaged).unwrap().end else { panic!("no failure") };
-    assert_eq!(failure, Failure { reason: Reason::Checksum, sequence: Some(9) });
+    assert_eq!(reader.read(&damaged).end, ReadEnd::Failure(Failure { reason: Reason::Checksum, sequence: Some(9) }));
     assert_eq!(write_frame(1, 1, 1, &[0; 4000], &[0; 105], &mut [0; LONGEST_FRAME]), Err(Refusal::TooLong));
     assert_eq!(write_frame(1, 1, 1, &[], &[], &mut [0; 20]), Err(Refusal::NoRoom));
+    assert_eq!([checksum(b"abcde"), checksum(b"abcdef"), checksum(b"abcdefgh"), checksum(&[])], [0xc8f0, 0x2057, 0x0627, 0]);
 }
 
 #[test]
@@ -140,19 +362,19 @@ fn address_plans() {
     let plan = AddressPlan { base: [0x02, 0, 0, 0, 0xff, 0xfe], count: 3, stride: 1 };
     let mut rows = [[0; 6]; 8];
     rows[..3].copy_from_slice(&[[2, 0, 0, 0, 0xff, 0xfe], [2, 0, 0, 0, 0xff, 0xff], [2, 0, 0, 1, 0, 0]]);
-    assert_eq!((plan.addresses(), plan.fits()), (Ok(rows), Ok(())));
+    assert_eq!((plan.addresses(), plan.fits()), (rows, Ok(())));
     let last = AddressPlan { base: [0xff; 6], count: 1, stride: 255 };
     rows = [[0; 6]; 8];
     rows[0] = [0xff; 6];
-    assert_eq!((last.addresses(), last.fits()), (Ok(rows), Ok(())));
+    assert_eq!((last.addresses(), last.fits()), (rows, Ok(())));
     let past = AddressPlan { count: 2, ..last };
-    assert_eq!((past.addresses(), past.fits()), (Ok([[0; 6]; 8]), Err(Refusal::PlanPasses)));
+    assert_eq!((past.addresses(), past.fits()), ([[0; 6]; 8], Err(Refusal::PlanPasses)));
     let none = AddressPlan { count: 0, ..last };
-    assert_eq!((none.addresses(), none.fits()), (Ok([[0; 6]; 8]), Ok(())));
+    assert_eq!((none.addresses(), none.fits()), ([[0; 6]; 8], Ok(())));
 }
 
 /// Indices and results on the list of three records with results 9, 8 and 1, what the call answers, and the results that it leaves.
-fn probed(indices: &[usize], results: &[u8], answer: Result<(), Refusal>, left: [u8; 3]) {
+fn probed(indices: &[u64], results: &[u8], answer: Result<(), Refusal>, left: [u8; 3]) {
     let records = |results: [u8; 3]| [0, 1, 2].map(|k| Probe { address: 0x50 + k as u8, result: results[k] });
     let mut list = records([9, 8, 1]);
     assert_eq!(update_probes(&mut list, indices, results), answer);
@@ -167,7 +389,7 @@ fn probe_lists() {
     probed(&[1, 2, 1], &[0, 2, 3], Ok(()), [9, 3, 2]);
     probed(&[1, 1], &[3, 0], Ok(()), [9, 0, 1]);
     probed(&[0, 1, 3], &[0, 2, 0], refused, [9, 8, 1]);
-    probed(&[0, 1, usize::MAX], &[0, 2, 0], refused, [9, 8, 1]);
+    probed(&[0, 1, u64::MAX], &[0, 2, 0], refused, [9, 8, 1]);
     probed(&[0, 1, 2], &[0, 2, 1], refused, [9, 8, 1]);
     for result in (4..=255).chain([1]) {
         probed(&[0], &[result], refused, [9, 8, 1]);
@@ -192,7 +414,7 @@ fn root_of_trust() {
     use oatcastle::rot::{copy_payload, crc, read, write, Received, Type, LONGEST_MESSAGE, LONGEST_PAYLOAD};
     let asked = [1, 2, 1, 0, 35, 236, 249, 41, 9];
     let answered = [0x01, 0x03, 0x01, 0x00, 0x94, 0x76, 0x94, 0xf5, 0x09];
-    assert_eq!(crc(&[1, 2, 1, 0, 9]), Ok(0x29f9ec23));
+    assert_eq!(crc(&[1, 2, 1, 0, 9]), 0x29f9ec23);
     let mut out = [0; LONGEST_MESSAGE];
     assert_eq!(write(Type::EchoRequest, &[9], &mut out), Ok(&asked[..]));
     assert_eq!(read(&asked, &mut out), Ok(Received::Echoed(&answered)));
@@ -213,62 +435,58 @@ fn root_of_trust() {
     assert_eq!(read(&asked[..7], &mut []), Err(Refusal::ShortHeader));
     assert_eq!(read(&[1, 2, 1, 2, 0, 0, 0, 0], &mut []), Err(Refusal::PayloadTooLong));
     assert_eq!(read(&[1, 0, 0, 0, 0, 0, 0, 0], &mut []), Err(Refusal::BadCrc));
-    let unlisted = [&[1, 10, 0, 0][..], &crc(&[1, 10, 0, 0]).unwrap().to_le_bytes()].concat();
+    let unlisted = [&[1, 10, 0, 0][..], &crc(&[1, 10, 0, 0]).to_le_bytes()].concat();
     assert_eq!(read(&unlisted, &mut []), Err(Refusal::BadType));
 }
 
 #[test]
 fn frames_are_counted() {
-    let mut supervisor = Supervisor::start(&StartData::new(Bsu::A)).unwrap();
-    let mut counters = Counters { good: u32::MAX - 1, reason3: 9, ..Counters::default() };
+    let mut storage = SupervisorStorage::new();
+    let mut supervisor = Supervisor::start_in(&mut storage, &StartData::new(Bsu::A));
+    let mut counters = Counters { good: u32::MAX - 1, reason3: 9, ..Counters::new() };
     let piece = [&request(1, 8, &[])[..], &request(2, 8, &[]), &request(3, 8, &[]), &[0, 0, 2, 0, 1, 0]].concat();
-    supervisor.receive_counted(&mut counters, &[], &piece).unwrap();
+    supervisor.receive_counted(&mut counters, &[], &piece);
     assert_eq!(counters, Counters { good: u32::MAX, empty: 2, reason1: 1, reason3: 10, ..Counters::default() });
     counters.clear();
-    assert_eq!(counters, Counters::default());
-    supervisor.receive(&[], &[0]).unwrap();
-    supervisor.receive_counted(&mut counters, &[], &[2]).unwrap();
-    supervisor.restart(&StartData::new(Bsu::A)).unwrap();
-    supervisor.receive_counted(&mut counters, &[], &[0]).unwrap();
+    assert_eq!(counters, Counters::new());
+    supervisor.receive(&[], &[0]);
+    supervisor.receive_counted(&mut counters, &[], &[2]);
+    supervisor.restart(&StartData::new(Bsu::A));
+    supervisor.receive_counted(&mut counters, &[], &[0]);
     assert_eq!(counters, Counters { empty: 1, ..Counters::default() });
 }
 
 #[test]
 fn main_processor() {
-    use oatcastle::requester::{Handed, Received, Requester, Status};
     let reply = |number: u64, command: u8, data: &[u8]| write_frame(1, number | 1 << 63, command, data, &[], &mut [0; LONGEST_FRAME]).unwrap().to_vec();
     let status = |number: u64, value: u64| reply(number, 6, &[value.to_le_bytes(), 5u64.to_le_bytes()].concat());
-    let mut main = Requester::start().unwrap();
-    let (mut out, mut room) = ([0; LONGEST_FRAME], [0; 300]);
+    let mut storage = RequesterStorage::new();
+    let mut main = Requester::start_in(&mut storage);
+    let mut out = [0; LONGEST_FRAME];
     assert_eq!(main.request(0x0e, &[0, 4, 0], &mut [0; 20]), Err(Refusal::NoRoom));
     assert_eq!(main.request(0x0e, &[0, 4, 0], &mut out), Ok(&request(1, 0x0e, &[0, 4, 0])[..]));
     assert_eq!(main.request(0x0e, &[0; 4105], &mut out), Err(Refusal::TooLong));
     assert_eq!(main.request(0x08, &[], &mut out), Err(Refusal::Outstanding));
     assert_eq!(main.send(&mut out), Ok(&[][..]));
     let other = reply(2, 0x0b, b"late");
-    let Received { used, handed, ended, unsent } = main.receive(&other).unwrap();
-    assert!(matches!((used, handed, ended, unsent), (length, Handed::Nothing, false, false) if length == other.len()));
-    assert!(main.receive(&[2, 0, 1]).unwrap().unsent);
+    assert_eq!(main.receive(&other), Received { used: other.len(), handed: Handed::Nothing, ended: false, unsent: false });
+    assert_eq!(main.receive(&[2, 0, 1]), Received { used: 2, handed: Handed::Nothing, ended: false, unsent: true });
     assert_eq!(main.send(&mut out), Ok(&request(1, 0x0e, &[0, 4, 0])[..]));
     main.interrupt().unwrap();
     assert_eq!(main.send(&mut out), Ok(&request(2, 0x08, &[])[..]));
-    let received = main.receive(&status(2, 7)).unwrap();
-    assert!(matches!(received.handed, Handed::Status(Status { status: 7, options: 5, set_bits: 3 })));
+    assert_eq!(main.receive(&status(2, 7)).handed, Handed::Status(Status { status: 7, options: 5, set_bits: 3 }));
     assert_eq!(main.send(&mut out), Ok(&request(3, 0x09, &[])[..]));
-    assert!(matches!(main.receive(&reply(3, 1, &[])).unwrap().handed, Handed::Nothing));
+    assert_eq!(main.receive(&reply(3, 1, &[])).handed, Handed::Nothing);
     assert_eq!(main.send(&mut out), Ok(&request(4, 0x08, &[])[..]));
-    main.receive(&status(4, 2)).unwrap();
+    main.receive(&status(4, 2));
     assert_eq!(main.send(&mut out), Ok(&request(5, 0x0a, &[])[..]));
     let answered = reply(5, 7, &[1, 9]);
-    let Handed::Alert(alert) = main.receive(&answered).unwrap().handed else { panic!("no alert") };
-    assert_eq!((alert.sequence(), alert.command(), alert.length()), (5 | 1 << 63, 7, 2));
-    assert_eq!(alert.data(&mut room), Ok(&[1, 9][..]));
+    assert_eq!(main.receive(&answered).handed, Handed::Alert(Reply { sequence: 5 | 1 << 63, command: 7, data: &[1, 9] }));
     assert_eq!(main.send(&mut out), Ok(&request(6, 0x08, &[])[..]));
-    assert!(main.receive(&status(6, 4)).unwrap().unsent);
+    assert!(main.receive(&status(6, 4)).unsent);
     assert_eq!(main.send(&mut out), Ok(&request(7, 0x0e, &[0, 4, 0])[..]));
     let answered = reply(7, 0x0b, b"\0pong");
-    let Handed::Answer(answer) = main.receive(&answered).unwrap().handed else { panic!("no answer") };
-    assert_eq!((answer.sequence(), answer.command(), answer.data(&mut room)), (7 | 1 << 63, 0x0b, Ok(&b"\0pong"[..])));
+    assert_eq!(main.receive(&answered).handed, Handed::Answer(Reply { sequence: 7 | 1 << 63, command: 0x0b, data: b"\0pong" }));
     assert_eq!(main.request(0x01, &[], &mut out), Ok(&request(8, 0x01, &[])[..]));
     assert_eq!(main.request(0x08, &[], &mut out), Ok(&request(9, 0x08, &[])[..]));
 }
