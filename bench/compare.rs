@@ -3,7 +3,7 @@
 
 use crate::random::Random;
 use crate::receiver::{self, End, Yardstick};
-use oatcastle::{checksum, write_frame, Bsu, Found, LineReader, ReadEnd, StartData, Supervisor, LONGEST_FRAME};
+use oatcastle::{checksum, write_frame, Bsu, LineReader, NotFound, ReadEnd, ReaderStorage, StartData, Supervisor, SupervisorStorage, LONGEST_FRAME};
 
 const ROUNDS: usize = 4000;
 const HASH: [u8; 32] = [9; 32];
@@ -13,12 +13,13 @@ pub fn compare<Y: Yardstick>() {
     for round in 0..ROUNDS {
         let length = if round < 600 { round } else { random.below(20_000) };
         let body = random.bytes(length);
-        assert_eq!(checksum(&body), Ok(Y::checksum(&body)), "{}: checksum of {length} bytes", Y::NAME);
+        assert_eq!(checksum(&body), Y::checksum(&body), "{}: checksum of {length} bytes", Y::NAME);
     }
     for _ in 0..ROUNDS {
         written::<Y>(&mut random);
     }
-    let mut reader = LineReader::start().expect("the state is long enough");
+    let mut storage = ReaderStorage::new();
+    let mut reader = LineReader::start_in(&mut storage);
     let mut other = receiver::Reader::<Y>::new();
     for _ in 0..ROUNDS {
         let frame = any_frame(&mut random);
@@ -88,19 +89,16 @@ fn read<Y: Yardstick>(reader: &mut LineReader, other: &mut receiver::Reader<Y>, 
     let mut rest = piece;
     while !rest.is_empty() {
         let (used, found) = other.read(rest);
-        let read = reader.read(rest).expect("the state is valid");
+        let read = reader.read(rest);
         assert_eq!(used, read.used, "{}: bytes read", Y::NAME);
         rest = &rest[used..];
-        let mut room = [0; 4104];
         let end = match read.end {
             ReadEnd::More => End::More,
             ReadEnd::Empty => End::Empty,
             ReadEnd::Failure(failure) => End::Failure { reason: failure.reason.number(), sequence: failure.sequence },
             ReadEnd::Message(message) => {
-                let data = message.data(&mut room).expect("the room is long enough");
-                assert_eq!(other.data(data.len()), data, "{}: data", Y::NAME);
-                let (version, sequence, command) = (message.version(), message.sequence(), message.command());
-                End::Message { version, sequence, command, length: data.len() }
+                assert_eq!(other.data(message.data.len()), message.data, "{}: data", Y::NAME);
+                End::Message { version: message.version, sequence: message.sequence, command: message.command, length: message.data.len() }
             }
         };
         assert_eq!(found, end, "{}: answer", Y::NAME);
@@ -110,23 +108,21 @@ fn read<Y: Yardstick>(reader: &mut LineReader, other: &mut receiver::Reader<Y>, 
 /// Requests received in pieces, with their replies taken in part or whole.
 fn served<Y: Yardstick>(random: &mut Random) {
     let image = random.bytes_of(3, 9000);
-    let mut start = StartData::new(Bsu::A);
-    start.hash(HASH);
-    let mut supervisor = Supervisor::start(&start).expect("the start data are allowed");
+    let mut storage = SupervisorStorage::new();
+    let mut supervisor = Supervisor::start_in(&mut storage, &StartData::new(Bsu::A).with_hash(HASH));
     let mut other = receiver::Supervisor::<Y>::new(HASH);
     for _ in 0..ROUNDS {
         let request = any_request(random, image.len());
         pieces(random, &request, |piece| {
-            supervisor.receive(&image, piece).expect("the state is valid");
+            supervisor.receive(&image, piece);
             other.receive(&image, piece);
         });
         let size = random.pick(&[5000, 5000, 1, 30]);
         let (mut room, mut other_room) = (vec![0; size], vec![0; size]);
         let taken = other.take(&mut other_room);
-        assert_eq!(supervisor.take(&mut room), Ok(&other_room[..taken]), "{}: reply", Y::NAME);
-        let mut value = [0; 4096];
-        let found = supervisor.lookup(4, 4096, &mut value).expect("the state is valid");
-        assert_eq!(found, other.key_4().map_or(Found::NoValue, Found::Value), "{}: key 4", Y::NAME);
+        assert_eq!(supervisor.take(&mut room), &other_room[..taken], "{}: reply", Y::NAME);
+        let value = supervisor.lookup(4, 4096).map(|found| found.value);
+        assert_eq!(value, other.key_4().ok_or(NotFound::NoValue), "{}: key 4", Y::NAME);
     }
 }
 

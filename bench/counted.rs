@@ -1,7 +1,7 @@
 // Defines the measurement of a receive with the counter block beside one without: the same pieces on two supervisors, in one process.
 // Assumes a quiet machine. Writes CSV to standard output.
 
-use oatcastle::{write_frame, Bsu, Counters, StartData, Supervisor, LONGEST_FRAME};
+use oatcastle::{write_frame, Bsu, Counters, StartData, Supervisor, SupervisorStorage, LONGEST_FRAME};
 use std::hint::black_box;
 use std::time::Instant;
 
@@ -22,10 +22,12 @@ fn time(times: usize, mut action: impl FnMut()) -> f64 {
 
 /// The least time of all rounds of each, in which the two take turns.
 fn measure(name: &str, piece: &[u8]) {
-    let start = || Supervisor::start(&StartData::new(Bsu::A)).expect("the start data are allowed");
-    let (mut plain, mut counted, mut counters) = (start(), start(), Counters::default());
-    let mut one = || plain.receive(&[], black_box(piece)).expect("the parts are valid");
-    let mut other = || counted.receive_counted(&mut counters, &[], black_box(piece)).expect("the parts are valid");
+    let (mut one_storage, mut other_storage) = (SupervisorStorage::new(), SupervisorStorage::new());
+    let mut plain = Supervisor::start_in(&mut one_storage, &StartData::new(Bsu::A));
+    let mut counted = Supervisor::start_in(&mut other_storage, &StartData::new(Bsu::A));
+    let mut counters = Counters::new();
+    let mut one = || plain.receive(&[], black_box(piece));
+    let mut other = || counted.receive_counted(&mut counters, &[], black_box(piece));
     let times = (ROUND_NANOSECONDS / time(20, &mut one).max(1.0)).max(5.0) as usize;
     let mut least = [f64::INFINITY; 2];
     for _ in 0..ROUNDS {

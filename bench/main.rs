@@ -10,7 +10,7 @@ mod random;
 mod receiver;
 mod strong;
 
-use oatcastle::{checksum, write_frame, Bsu, LineReader, ReadEnd, StartData, Supervisor, LONGEST_FRAME};
+use oatcastle::{checksum, write_frame, Bsu, LineReader, ReadEnd, ReaderStorage, StartData, Supervisor, SupervisorStorage, LONGEST_FRAME};
 use ordinary::Ordinary;
 use receiver::Yardstick;
 use std::hint::black_box;
@@ -78,12 +78,12 @@ fn frame(command: u8, data: &[u8]) -> Vec<u8> {
 /// A frame read in pieces of so many bytes.
 fn reading<'a>(name: &'static str, data: &[u8], piece: usize) -> Case<'a> {
     let frame = frame(0x55, data);
-    let mut reader = LineReader::start().expect("the state is long enough");
-    assert!(matches!(reader.read(&frame).map(|read| read.end), Ok(ReadEnd::Message(_))));
+    let mut reader = LineReader::start_in(Box::leak(Box::new(ReaderStorage::new())));
+    assert!(matches!(reader.read(&frame).end, ReadEnd::Message(_)));
     let copy = frame.clone();
     let library = Box::new(move || {
         for part in copy.chunks(piece) {
-            black_box(reader.read(black_box(part)).map(|read| read.used).ok());
+            black_box(reader.read(black_box(part)).used);
         }
     });
     Case { name, bytes: frame.len(), sides: [library, reading_by::<Ordinary>(&frame, piece), reading_by::<Strong>(&frame, piece)] }
@@ -117,7 +117,7 @@ fn writing_by<'a, Y: Yardstick>(data: &'a [u8]) -> Action<'a> {
 
 fn summing<'a>(name: &'static str, body: &'a [u8]) -> Case<'a> {
     let library = Box::new(move || {
-        black_box(checksum(black_box(body)).ok());
+        black_box(checksum(black_box(body)));
     });
     Case { name, bytes: body.len(), sides: [library, summing_by::<Ordinary>(body), summing_by::<Strong>(body)] }
 }
@@ -131,20 +131,19 @@ fn summing_by<'a, Y: Yardstick>(body: &'a [u8]) -> Action<'a> {
 /// A request received in pieces of so many bytes, and its reply taken whole.
 fn serving<'a>(name: &'static str, image: &'a [u8], command: u8, data: &[u8], piece: usize) -> Case<'a> {
     let request = frame(command, data);
-    let mut start = StartData::new(Bsu::A);
-    start.hash(HASH);
-    let mut supervisor = Supervisor::start(&start).expect("the start data are allowed");
+    let storage = Box::leak(Box::new(SupervisorStorage::new()));
+    let mut supervisor = Supervisor::start_in(storage, &StartData::new(Bsu::A).with_hash(HASH));
     let mut room = [0; 5000];
-    supervisor.receive(image, &request).expect("the state is valid");
-    let reply = supervisor.take(&mut room).expect("the state is valid").to_vec();
+    supervisor.receive(image, &request);
+    let reply = supervisor.take(&mut room).to_vec();
     let sides = [serving_by::<Ordinary>(image, &request, piece, &reply), serving_by::<Strong>(image, &request, piece, &reply)];
     let [ordinary, strong] = sides;
     let bytes = request.len() + reply.len();
     let library = Box::new(move || {
         for part in request.chunks(piece) {
-            black_box(supervisor.receive(black_box(image), black_box(part)).ok());
+            supervisor.receive(black_box(image), black_box(part));
         }
-        black_box(supervisor.take(&mut room).map(<[u8]>::len).ok());
+        black_box(supervisor.take(&mut room).len());
     });
     Case { name, bytes, sides: [library, ordinary, strong] }
 }

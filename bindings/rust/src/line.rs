@@ -132,12 +132,18 @@ pub enum Tail {
 }
 
 impl<'s> LineReader<'s> {
-    /// Begins a fresh reader; of what the storage held before nothing stays.
+    /// Begins a fresh reader; what the storage held before means nothing to it.
     pub fn start_in(storage: &'s mut ReaderStorage) -> LineReader<'s> {
-        let state = lent_mut(&mut storage.state);
+        let mut reader = LineReader { storage };
+        reader.restart();
+        reader
+    }
+
+    /// Begins anew; what has come of a frame is dropped.
+    pub fn restart(&mut self) {
+        let state = lent_mut(&mut self.storage.state);
         // SAFETY: the pointer is valid for the length behind it.
         done(unsafe { raw::oatcastle_line_start(state.0, state.1) });
-        LineReader { storage }
     }
 
     /// Reads the piece up to its end or its first 00.

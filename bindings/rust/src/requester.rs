@@ -119,10 +119,16 @@ pub struct Reply<'r> {
 impl<'s> Requester<'s> {
     /// Begins: no number used, nothing outstanding. Bytes still on their way from before must be thrown away first.
     pub fn start_in(storage: &'s mut RequesterStorage) -> Requester<'s> {
-        let (reader, requester) = (lent_mut(&mut storage.reader.state), lent_mut(&mut storage.requester));
+        let mut requester = Requester { storage };
+        requester.restart();
+        requester
+    }
+
+    /// Begins anew, under number 1. Bytes still on their way must be thrown away first, or a late reply may have a number in use.
+    pub fn restart(&mut self) {
+        let (reader, requester) = (lent_mut(&mut self.storage.reader.state), lent_mut(&mut self.storage.requester));
         // SAFETY: each pointer is valid for the length behind it, and the two runs do not overlap.
         done(unsafe { raw::oatcastle_requester_start(reader.0, reader.1, requester.0, requester.1) });
-        Requester { storage }
     }
 
     /// Writes a request's frame under the next number to the start of `out` and hands it out; a room of `LONGEST_FRAME` is always enough.

@@ -1,7 +1,13 @@
 // Defines an example: a wire that exists only in memory brings a status request byte by byte, and the reply is printed in hex.
 // Assumes the static library; the unit has zero options, BSU A, every other start number zero, no items and no image.
 
-use oatcastle::{Bsu, Refusal, StartData, Supervisor};
+use oatcastle::{Bsu, StartData, StaticCell, Supervisor, SupervisorStorage};
+
+/// The supervisor's parts, laid out when the program is linked.
+static STORAGE: StaticCell<SupervisorStorage> = StaticCell::new(SupervisorStorage::new());
+
+/// The factory's values, made by the compiler.
+static DATA: StartData = StartData::new(Bsu::A);
 
 /// The status request with sequence 1.
 const STATUS: [u8; 21] = [
@@ -24,25 +30,22 @@ impl Wire {
     }
 }
 
-fn serve(wire: &mut Wire) -> Result<(), Refusal> {
-    let mut supervisor = Supervisor::start(&StartData::new(Bsu::A))?;
+fn serve(supervisor: &mut Supervisor, wire: &mut Wire) {
     let image = [];
     while let Some(byte) = wire.receive() {
-        supervisor.receive(&image, &[byte])?;
+        supervisor.receive(&image, &[byte]);
         let mut room = [0];
-        while let &[byte] = supervisor.take(&mut room)? {
+        while let &[byte] = supervisor.take(&mut room) {
             wire.send(byte);
         }
     }
-    Ok(())
 }
 
 fn main() {
     let mut wire = Wire { incoming: STATUS.to_vec().into_iter(), outgoing: Vec::new() };
-    if let Err(refusal) = serve(&mut wire) {
-        eprintln!("refused: {}", refusal.number());
-        std::process::exit(1);
-    }
+    let storage = STORAGE.take().expect("taken once");
+    let mut supervisor = Supervisor::start_in(storage, &DATA);
+    serve(&mut supervisor, &mut wire);
     let hex: Vec<String> = wire.outgoing.iter().map(|byte| format!("{byte:02x}")).collect();
     println!("{}", hex.join(" "));
 }

@@ -2,8 +2,8 @@
 // Assumes the static library. Ends with 1 if an answer handed out is not one that the supervisor gave to that request.
 // usage: bad_wire [SEED [REQUESTS]]
 
-use oatcastle::requester::{Handed, Requester};
-use oatcastle::{Bsu, LineReader, ReadEnd, Refusal, StartData, Supervisor, LONGEST_FRAME};
+use oatcastle::requester::{Handed, Requester, RequesterStorage};
+use oatcastle::{Bsu, LineReader, ReadEnd, ReaderStorage, Refusal, StartData, Supervisor, SupervisorStorage, LONGEST_FRAME};
 use std::collections::{HashMap, VecDeque};
 use std::num::NonZeroU8;
 
@@ -36,20 +36,20 @@ struct Said {
 }
 
 /// One direction of the wire, and a reader of what is put on it before anything happens to it.
-struct Line {
+struct Line<'s> {
     name: &'static str,
     bytes: VecDeque<(u64, u8)>,
     last: u64,
-    clean: LineReader,
+    clean: LineReader<'s>,
 }
 
-impl Line {
-    fn new(name: &'static str) -> Result<Line, Refusal> {
-        Ok(Line { name, bytes: VecDeque::new(), last: 0, clean: LineReader::start()? })
+impl<'s> Line<'s> {
+    fn new(name: &'static str, storage: &'s mut ReaderStorage) -> Line<'s> {
+        Line { name, bytes: VecDeque::new(), last: 0, clean: LineReader::start_in(storage) }
     }
 
     /// Puts a byte on the wire; gives the message whose frame it ends.
-    fn put(&mut self, tick: u64, byte: u8, random: &mut Random) -> Result<Option<Said>, Refusal> {
+    fn put(&mut self, tick: u64, byte: u8, random: &mut Random) -> Option<Said> {
         let (mut sent, mut due) = (byte, tick + 3);
         match random.below(900) {
             0 => {
@@ -71,13 +71,11 @@ impl Line {
         self.heard(tick, byte)
     }
 
-    fn heard(&mut self, tick: u64, byte: u8) -> Result<Option<Said>, Refusal> {
-        let ReadEnd::Message(message) = self.clean.read(&[byte])?.end else { return Ok(None) };
-        let mut room = vec![0; message.length()];
-        let data = message.data(&mut room)?.to_vec();
-        let said = Said { sequence: message.sequence(), command: message.command(), data };
+    fn heard(&mut self, tick: u64, byte: u8) -> Option<Said> {
+        let ReadEnd::Message(message) = self.clean.read(&[byte]).end else { return None };
+        let said = Said { sequence: message.sequence, command: message.command, data: message.data.to_vec() };
         println!("{tick:7} {}: {:016x} command {:02x}, {} bytes of data", self.name, said.sequence, said.command, said.data.len());
-        Ok(Some(said))
+        Some(said)
     }
 
     fn get(&mut self, tick: u64) -> Option<u8> {
@@ -90,8 +88,8 @@ impl Line {
 }
 
 /// The main processor: what it asks for, and what it has heard.
-struct Main {
-    requester: Requester,
+struct Main<'s> {
+    requester: Requester<'s>,
     out: VecDeque<u8>,
     /// The request that waits for its answer.
     waiting: Option<(u8, Vec<u8>)>,
@@ -103,22 +101,31 @@ struct Main {
     starts: u64,
 }
 
+/// Storage for both ends, and for a reader of each direction.
+struct Storage {
+    main: RequesterStorage,
+    supervisor: SupervisorStorage,
+    there: ReaderStorage,
+    back: ReaderStorage,
+}
+
+static DATA: StartData = StartData::new(Bsu::A);
+
 /// Both ends, the wire between them, and what went over it since the last start.
-struct World {
+struct World<'s> {
     random: Random,
-    main: Main,
-    supervisor: Supervisor,
-    there: Line,
-    back: Line,
+    main: Main<'s>,
+    supervisor: Supervisor<'s>,
+    there: Line<'s>,
+    back: Line<'s>,
     asked: HashMap<u64, Said>,
     given: HashMap<u64, Vec<Said>>,
 }
 
-impl World {
-    fn new(seed: u64) -> Result<World, Refusal> {
-        let requester = Requester::start()?;
+impl<'s> World<'s> {
+    fn new(storage: &'s mut Storage, seed: u64) -> World<'s> {
         let main = Main {
-            requester,
+            requester: Requester::start_in(&mut storage.main),
             out: VecDeque::new(),
             waiting: None,
             recovering: false,
@@ -128,35 +135,34 @@ impl World {
             statuses: 0,
             starts: 1,
         };
-        Ok(World {
+        World {
             random: Random(seed),
             main,
-            supervisor: Supervisor::start(&StartData::new(Bsu::A))?,
-            there: Line::new("main to supervisor")?,
-            back: Line::new("supervisor to main")?,
+            supervisor: Supervisor::start_in(&mut storage.supervisor, &DATA),
+            there: Line::new("main to supervisor", &mut storage.there),
+            back: Line::new("supervisor to main", &mut storage.back),
             asked: HashMap::new(),
             given: HashMap::new(),
-        })
+        }
     }
 
     /// The supervisor's turn: a byte in, a byte out, and now and then an alert.
-    fn supervise(&mut self, tick: u64) -> Result<(), Refusal> {
+    fn supervise(&mut self, tick: u64) {
         if self.random.below(1500) == 0 {
             let text = format!("alert at {tick}");
             match self.supervisor.post(NonZeroU8::MIN, text.as_bytes()) {
                 Ok(()) => println!("{tick:7} supervisor: posts \"{text}\""),
-                Err(refusal) => println!("{tick:7} supervisor: an alert refused as {}", refusal.number()),
+                Err(refusal) => println!("{tick:7} supervisor: an alert is {refusal}"),
             }
         }
         if let Some(byte) = self.there.get(tick) {
-            self.supervisor.receive(&[], &[byte])?;
+            self.supervisor.receive(&[], &[byte]);
         }
-        if let &[byte] = self.supervisor.take(&mut [0])? {
-            if let Some(said) = self.back.put(tick, byte, &mut self.random)? {
+        if let &[byte] = self.supervisor.take(&mut [0]) {
+            if let Some(said) = self.back.put(tick, byte, &mut self.random) {
                 self.given.entry(said.sequence).or_default().push(said);
             }
         }
-        Ok(())
     }
 
     /// The main processor's turn: a byte in, a byte out.
@@ -168,7 +174,7 @@ impl World {
         }
         if let Some(byte) = self.main.out.pop_front() {
             self.main.quiet = 0;
-            if let Some(said) = self.there.put(tick, byte, &mut self.random)? {
+            if let Some(said) = self.there.put(tick, byte, &mut self.random) {
                 self.asked.insert(said.sequence, said);
             }
         }
@@ -177,7 +183,7 @@ impl World {
 
     /// One received byte; whether what it hands out is right.
     fn hear(&mut self, tick: u64, byte: u8) -> Result<bool, Refusal> {
-        let received = self.main.requester.receive(&[byte])?;
+        let received = self.main.requester.receive(&[byte]);
         let (ended, unsent) = (received.ended, received.unsent);
         let mut right = true;
         match received.handed {
@@ -188,9 +194,7 @@ impl World {
                 self.main.recovering = status.status & 3 != 0;
             }
             Handed::Answer(reply) | Handed::Alert(reply) => {
-                let mut room = vec![0; reply.length()];
-                let data = reply.data(&mut room)?.to_vec();
-                let said = Said { sequence: reply.sequence(), command: reply.command(), data };
+                let said = Said { sequence: reply.sequence, command: reply.command, data: reply.data.to_vec() };
                 right = self.settle(tick, &said);
             }
         }
@@ -247,20 +251,19 @@ impl World {
     }
 
     /// Gives up: bytes on their way are thrown away, a frame that has begun is ended by a 00, and the numbers begin again.
-    fn start(&mut self, tick: u64) -> Result<(), Refusal> {
+    fn start(&mut self, tick: u64) {
         println!("{tick:7} main: nothing comes in a recovery; starts again");
-        while !self.supervisor.take(&mut [0; 64])?.is_empty() {}
+        while !self.supervisor.take(&mut [0; 64]).is_empty() {}
         self.there.bytes.clear();
         self.back.bytes.clear();
-        self.back.clean = LineReader::start()?;
+        self.back.clean.restart();
         self.given.clear();
         self.asked.clear();
         self.main.out = VecDeque::from([0]);
-        self.main.requester = Requester::start()?;
+        self.main.requester.restart();
         self.main.starts += 1;
         self.main.waiting = None;
         self.main.recovering = false;
-        Ok(())
     }
 
     /// What the main processor does of its own: an interrupt at the line signal or for want of an answer, a start, the next request.
@@ -270,12 +273,15 @@ impl World {
         }
         let late = self.main.quiet > PATIENCE;
         match (self.main.recovering, self.main.waiting.is_some()) {
-            (true, _) if late => self.start(tick),
+            (true, _) if late => {
+                self.start(tick);
+                Ok(())
+            }
             (false, true) if late => {
                 println!("{tick:7} main: no answer; interrupts");
                 self.interrupt()
             }
-            (false, false) if self.supervisor.signal()? => {
+            (false, false) if self.supervisor.signal() => {
                 println!("{tick:7} main: the line signal; interrupts");
                 self.interrupt()
             }
@@ -286,11 +292,17 @@ impl World {
 }
 
 fn run(seed: u64, requests: u64) -> Result<bool, Refusal> {
-    let mut world = World::new(seed)?;
+    let mut storage = Storage {
+        main: RequesterStorage::new(),
+        supervisor: SupervisorStorage::new(),
+        there: ReaderStorage::new(),
+        back: ReaderStorage::new(),
+    };
+    let mut world = World::new(&mut storage, seed);
     let mut tick = 0;
     while world.main.answers < requests {
         world.decide(tick)?;
-        world.supervise(tick)?;
+        world.supervise(tick);
         if !world.listen(tick)? {
             println!("{tick:7} main: that answer was not given to this request");
             return Ok(false);
@@ -309,7 +321,7 @@ fn main() {
         Ok(true) => (),
         Ok(false) => std::process::exit(1),
         Err(refusal) => {
-            println!("refused: {}", refusal.number());
+            println!("{refusal}");
             std::process::exit(1);
         }
     }
