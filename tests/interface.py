@@ -15,21 +15,22 @@ import sys
 ROOT = pathlib.Path(__file__).resolve().parent.parent
 HEADER = 'include/oatcastle.h'
 RAW = 'bindings/rust/src/raw.rs'
-WRAPPER = tuple(f'bindings/rust/src/{name}.rs' for name in ('lib', 'line', 'requester', 'rot', 'start', 'supervisor'))
-# The wrapper's constants, and the header's name for each.
-CONSTANTS = {'START_LENGTH': 'START_LENGTH', 'ITEMS': 'MOST_ITEMS', 'ITEM_LENGTH': 'ITEM_LENGTH', 'COUNT_OFFSET': 'START_ITEM_COUNT',
-             'LONGEST_FRAME': 'LONGEST_FRAME', 'STATE_LENGTH': 'READER_LENGTH', 'HEADER_LENGTH': 'ROT_HEADER_LENGTH',
-             'LONGEST_PAYLOAD': 'ROT_LONGEST_PAYLOAD', 'LONGEST_MESSAGE': 'ROT_LONGEST_MESSAGE'}
-# The wrapper's name for one of the link's refusals that another call has too.
+# The wrapper's files that have numbers: lengths, limits, offsets and kinds; then the enums of numbers.
+LIMITS = 'bindings/rust/src/limits.rs'
+ENUMS = {'bindings/rust/src/numbers.rs': ('Refusal', 'Reason', 'NotFound'), 'bindings/rust/src/rot.rs': ('Type',)}
+WRAPPER = (LIMITS, *ENUMS)
+# The enums' prefixes in the header's names, and the wrapper's names for refusals of the root-of-trust link.
+PREFIXES = {'Refusal': '', 'Reason': 'REASON_', 'NotFound': 'NOT_FOUND_', 'Type': 'ROT_'}
 LINK_REFUSALS = {'PAYLOAD_TOO_LONG': 'ROT_TOO_LONG'}
-# The parts that the wrapper owns.
-PARTS = r'\n    (reader|outbox|factory|settings|registers|requester): \[u8; (\d+)\],'
+LIMIT = r'const (\w+): (?:usize|u64) = (\d+);'
+VARIANT = r'^    (\w+) = (\d+), "'
+LONGEST_SETTINGS = r'const LONGEST_SETTINGS: \[usize; \d+\] = \[([\d, ]+)\];'
 NUMBERS = {'u8': 'u8', 'u16': 'u16', 'u32': 'u32', 'u64': 'u64', 'usize': 'u64',
            'uint8_t': 'u8', 'uint16_t': 'u16', 'uint32_t': 'u32', 'uint64_t': 'u64'}
 # The records that functions take: the crates' name, its file, and the header's name.
 RECORDS = {'Probe': ('crates/probes/src/lib.rt', 'oatcastle_probe'), 'Counters': ('crates/counters/src/lib.rt', 'oatcastle_counters')}
 # What a pointer leads to.
-ELEMENTS = {**NUMBERS, 'usize': 'size', 'size_t': 'size', **{name: name for name in RECORDS}, **{c: name for name, (_, c) in RECORDS.items()}}
+ELEMENTS = {**NUMBERS, 'usize': 'size', 'size_t': 'size', 'Length': 'size', **{name: name for name in RECORDS}, **{c: name for name, (_, c) in RECORDS.items()}}
 
 
 @functools.cache
@@ -74,7 +75,7 @@ def raw_parameters(parameter):
     pointer = re.fullmatch(r'\*(mut|const) (\w+)', kind)
     if pointer:
         return [(name, f'{pointer.group(1)} {ELEMENTS[pointer.group(2)]}')]
-    return [(name, 'length' if kind == 'usize' else NUMBERS[kind])]
+    return [(name, 'length' if kind == 'Length' else NUMBERS[kind])]
 
 
 def functions(text, form, parameters):
@@ -101,6 +102,9 @@ def function_faults(texts):
         for name in sorted(wanted.keys() | found.keys()):
             if wanted.get(name) != found.get(name):
                 yield f'{name}: {where} has {found.get(name)}, the crate {wanted.get(name)}'
+    wide = re.findall(r'#\[cfg\((.*)\)\]\npub\(crate\) type Length = (\w+);', texts[RAW])
+    if wide != [('target_pointer_width = "64"', 'usize'), ('not(target_pointer_width = "64")', 'u64')]:
+        yield f'{RAW}: a length has 64 bits on every target, and the types are {wide}'
 
 
 # ---- Records: of each the list of (name, kind) of its fields, in order
@@ -273,27 +277,47 @@ def number_faults(texts):
             yield f'OATCASTLE_{name}: the header has {found.get(name)}, the crates {wanted[name]}'
 
 
+@functools.cache
+def wrapper_wanted():
+    """The wrapper's numbers by what the crates have: those of the header, and those that the header has no name for."""
+    known = constants('crates/supervisor/src/layout.rt')
+    names = ('ALL_OPTIONS', 'FIRST_SETTING', 'LONGEST_ITEM_DATA', 'LONGEST_IMAGE_ID', 'PONG_OFFSET', 'SETTING_LENGTH_OFFSET', 'SETTING_VALUE_OFFSET',
+             'BOOT_FAILURE_OFFSET', 'PANIC_OFFSET', 'RECORD_CODE_OFFSET', 'RECORD_WHOLE_OFFSET', 'RECORD_KEPT_OFFSET')
+    results = re.findall(r'Found::(\w+) => write_both\(value, room, \[(\d+),', read('crates/oatcastle/src/readings.rt'))
+    return {**wanted_numbers(), **{name: known[name] for name in names},
+            'MESSAGE_DATA_OFFSET': constants('crates/line/src/limits.rt', 'crates/line/src/reader.rt')['DATA_OFFSET'],
+            **{f'NOT_FOUND_{upper(name)}': int(number) for name, number in results},
+            **{f'LONGEST_SETTINGS[{i}]': longest for i, longest in enumerate(settings(known))}}
+
+
+def upper(variant):
+    return re.sub(r'(?<!^)(?=[A-Z])', '_', variant).upper()
+
+
 def wrapper_numbers(texts):
-    """The wrapper's constants, its parts' lengths and the numbers of its two enums, by the header's names."""
-    text = ''.join(texts[path] for path in WRAPPER)
-    for name, value in re.findall(r'const (\w+): usize = (\d+);', text):
-        if name in CONSTANTS:
-            yield CONSTANTS[name], int(value)
-    for name, value in re.findall(PARTS, text):
-        yield f'{name.upper()}_LENGTH', int(value)
-    for kind, prefix in (('Refusal', ''), ('Reason', 'REASON_'), ('Type', 'ROT_')):
-        listed = re.search(rf'pub enum {kind} \{{(.*?)\n\}}', text, re.S).group(1)
-        pairs = re.findall(r'^    (\w+) = (\d+),', listed, re.M) + [(b, a) for a, b in re.findall(rf'(\d+) => {kind}::(\w+),', text)]
-        for variant, value in pairs:
-            name = prefix + re.sub(r'(?<!^)(?=[A-Z])', '_', variant).upper()
-            yield LINK_REFUSALS.get(name, name if name in wanted_numbers() else f'ROT_{name}'), int(value)
+    """The wrapper's lengths, limits, offsets and kinds, and the numbers of its enums, by the crates' names."""
+    for name, value in re.findall(LIMIT, texts[LIMITS]):
+        yield name, int(value)
+    longest = re.search(LONGEST_SETTINGS, texts[LIMITS]).group(1)
+    for i, value in enumerate(longest.split(',')):
+        yield f'LONGEST_SETTINGS[{i}]', int(value)
+    for path, kinds_of in ENUMS.items():
+        tables = dict(re.findall(r'^    (\w+) as \w+, "[^"]*":\n(.*?)^\}', texts[path], re.M | re.S))
+        for kind in kinds_of:
+            for variant, value in re.findall(VARIANT, tables[kind], re.M):
+                name = PREFIXES[kind] + upper(variant)
+                yield LINK_REFUSALS.get(name, name if name in wrapper_wanted() else f'ROT_{name}'), int(value)
 
 
 def wrapper_faults(texts):
-    wanted = wanted_numbers()
-    for name, value in wrapper_numbers(texts):
+    wanted = wrapper_wanted()
+    found = list(wrapper_numbers(texts))
+    for name, value in found:
         if wanted.get(name) != value:
-            yield f'OATCASTLE_{name}: bindings/rust/src has {value}, the crates {wanted.get(name)}'
+            yield f'{name}: bindings/rust/src has {value}, the crates {wanted.get(name)}'
+    for name in wanted:
+        if name.startswith(('NOT_FOUND_', 'LONGEST_SETTINGS[', 'REASON_')) and name not in dict(found):
+            yield f'{name}: bindings/rust/src has none, the crates {wanted[name]}'
 
 
 def as_written():
@@ -342,8 +366,9 @@ def planted(texts):
     for old, new in (('uint8_t address;\n    uint8_t result;', 'uint8_t result;\n    uint8_t address;'), ('uint8_t address;', 'uint16_t address;'),
                      ('    uint8_t result;\n', ''), ('const size_t *indices', 'const uint64_t *indices'), ('oatcastle_probe *list', 'uint8_t *list')):
         yield replaced(HEADER, header, f'{new!r} for {old!r}', old, new)
-    for old, new in (('pub address: u8,\n    pub result: u8,', 'pub result: u8,\n    pub address: u8,'), ('pub result: u8,', 'pub result: u32,'), ('#[repr(C)]\n', ''),
-                     ('indices: *const usize', 'indices: *const u32'), ('list: *mut Probe', 'list: *mut u8')):
+    for old, new in (('pub address: u8,', 'pub result: u8,'), ('    pub address: u8,\n', ''), ('pub result: u8,', 'pub result: u32,'), ('#[repr(C)]\n', ''),
+                     ('indices: *const Length', 'indices: *const u32'), ('list: *mut Probe', 'list: *mut u8'), ('type Length = u64;', 'type Length = u32;'),
+                     ('state_length: Length', 'state_length: u32')):
         yield replaced(RAW, raw, f'{new!r} for {old!r}', old, new)
     yield replaced(HEADER, header, 'two counters exchanged', 'uint32_t reason5;\n    uint32_t reason6;', 'uint32_t reason6;\n    uint32_t reason5;')
     yield replaced(HEADER, header, 'a wider counter', 'uint32_t reason7', 'uint64_t reason7')
@@ -352,11 +377,11 @@ def planted(texts):
     yield replaced(RAW, raw, 'a mut for a const', '*const', '*mut')
     yield replaced(RAW, raw, 'a narrower number', 'sequence: u64', 'sequence: u32')
     yield replaced(RAW, raw, 'a function by another name', 'oatcastle_panic', 'oatcastle_panics')
-    for path in WRAPPER:
-        yield from raised(path, texts[path], rf'(?:{"|".join(CONSTANTS)}): usize = (\d+);')
-        yield from raised(path, texts[path], PARTS.replace('(reader', '(?:reader'))
-    yield from raised(WRAPPER[0], texts[WRAPPER[0]], r'\n    [A-Z]\w+ = (\d+),')
-    yield from raised(WRAPPER[0], texts[WRAPPER[0]], r'\n +(\d+) => Re\w+::\w+')
+    yield from raised(LIMITS, texts[LIMITS], r'const \w+: (?:usize|u64) = (\d+);')
+    yield replaced(LIMITS, texts[LIMITS], 'a shorter setting', '= [256, ', '= [255, ')
+    for path in ENUMS:
+        yield from raised(path, texts[path], r'\n    \w+ = (\d+), "')
+    yield replaced(WRAPPER[1], texts[WRAPPER[1]], 'a reason taken out', '    Data = 7, ', '    // Data = 7, ')
 
 
 def try_planted():

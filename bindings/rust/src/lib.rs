@@ -75,7 +75,8 @@ fn part(run: &[u8], offset: usize, length: usize) -> &[u8] {
     }
 }
 
-/// What a call's number means where its promise has refusals that a caller can meet.
+/// What a call's number means where a caller can meet refusals of its promise. 12 is not among them: `no-12` of `crates/supervisor_claims` and of
+/// `crates/requester_claims` rules it out.
 fn said(number: u32) -> Result<(), Refusal> {
     match (number, Refusal::of(number.into())) {
         (0, _) => Ok(()),
@@ -84,14 +85,15 @@ fn said(number: u32) -> Result<(), Refusal> {
     }
 }
 
-/// Where it has none.
+/// Where a caller can meet none: 12 is ruled out by the same theorems, and for a line reader by `stays-valid` of `crates/line_claims`; 8 since what is lent is long
+/// enough; 11 and 13 by the types.
 fn done(number: u32) {
     if number != 0 {
         ruled_out()
     }
 }
 
-/// The library said what its promise rules out.
+/// The library said what its promise rules out. A panic, and no assumption that it cannot be reached: a wrong archive may be linked.
 #[cold]
 #[inline(never)]
 fn ruled_out() -> ! {

@@ -9,7 +9,6 @@ use crate::{done, first, lent, lent_mut, part, raw, ruled_out, said, Reason, Ref
 use core::fmt;
 
 /// Storage for one line reader, which may be a `static`.
-#[derive(Clone)]
 pub struct ReaderStorage {
     pub(crate) state: [u8; READER_LENGTH],
 }

@@ -87,7 +87,7 @@ numbered! {
     NotFound as u8, "lookup result":
     BadKey = 1, "there is no such key";
     NoValue = 2, "the key has no value";
-    ValueTooLong = 3, "the value is longer than maxresponse";
+    TooLong = 3, "the value is longer than maxresponse";
 }
 
 impl core::error::Error for NotFound {}

@@ -8,7 +8,6 @@ use crate::{done, first, lent, lent_mut, raw, ruled_out, said, ReaderStorage, Re
 use core::fmt;
 
 /// Storage for one main processor's end: a reader's part and its own, which may be a `static`.
-#[derive(Clone)]
 pub struct RequesterStorage {
     reader: ReaderStorage,
     requester: [u8; REQUESTER_LENGTH],

@@ -30,7 +30,6 @@ use core::num::NonZeroU8;
 /// ```compile_fail,E0451
 /// let storage = oatcastle::SupervisorStorage { reader: [0; 4142], ..oatcastle::SupervisorStorage::new() };
 /// ```
-#[derive(Clone)]
 pub struct SupervisorStorage {
     reader: [u8; READER_LENGTH],
     outbox: [u8; OUTBOX_LENGTH],
@@ -198,7 +197,7 @@ impl Counters {
 /// let mut room = [0; LONGEST_FRAME];
 /// supervisor.receive(&[], write_frame(1, 1, 0x10, &[3], b"value", &mut room)?);
 /// assert_eq!(supervisor.lookup(3, 256)?.value, b"value");
-/// assert_eq!(supervisor.lookup(3, 4), Err(NotFound::ValueTooLong));
+/// assert_eq!(supervisor.lookup(3, 4), Err(NotFound::TooLong));
 /// let mut room = [0; MOST_PENDING];
 /// assert_eq!(supervisor.take(&mut room).last(), Some(&0));
 /// # Ok::<(), Box<dyn std::error::Error>>(())

@@ -104,7 +104,7 @@ fn local_calls() {
     assert_eq!(supervisor.flags(), Flags { reboot: false, power_off: false });
     assert_eq!(supervisor.boot_failure_record(), None);
     assert_eq!(supervisor.panic_record(), None);
-    assert_eq!(found(&supervisor, 0, 3), Err(NotFound::ValueTooLong));
+    assert_eq!(found(&supervisor, 0, 3), Err(NotFound::TooLong));
     assert_eq!(found(&supervisor, 0, 4), Ok(&b"pong"[..]));
     assert_eq!(found(&supervisor, 1, 0), Ok(&[][..]));
     assert_eq!(found(&supervisor, 3, 4), Err(NotFound::NoValue));
