@@ -30,7 +30,7 @@ NUMBERS = {'u8': 'u8', 'u16': 'u16', 'u32': 'u32', 'u64': 'u64', 'usize': 'u64',
 # The records that functions take: the crates' name, its file, and the header's name.
 RECORDS = {'Probe': ('crates/probes/src/lib.rt', 'oatcastle_probe'), 'Counters': ('crates/counters/src/lib.rt', 'oatcastle_counters')}
 # What a pointer leads to.
-ELEMENTS = {**NUMBERS, 'usize': 'size', 'size_t': 'size', 'Length': 'size', **{name: name for name in RECORDS}, **{c: name for name, (_, c) in RECORDS.items()}}
+ELEMENTS = {**NUMBERS, 'usize': 'size', 'size_t': 'size', **{name: name for name in RECORDS}, **{c: name for name, (_, c) in RECORDS.items()}}
 
 
 @functools.cache
@@ -74,7 +74,7 @@ def raw_parameters(parameter):
     name, kind = (part.strip() for part in parameter.split(':'))
     pointer = re.fullmatch(r'\*(mut|const) (\w+)', kind)
     if pointer:
-        return [(name, f'{pointer.group(1)} {ELEMENTS[pointer.group(2)]}')]
+        return [(name, f'{pointer.group(1)} ' + ('size' if pointer.group(2) == 'Length' else ELEMENTS[pointer.group(2)]))]
     return [(name, 'length' if kind == 'Length' else NUMBERS[kind])]
 
 
