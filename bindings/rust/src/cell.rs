@@ -24,6 +24,7 @@ use core::sync::atomic::{AtomicBool, Ordering};
 /// ```
 pub struct StaticCell<T> {
     taken: AtomicBool,
+    #[cfg_attr(not(target_has_atomic = "8"), allow(dead_code))]
     value: UnsafeCell<T>,
 }
 
@@ -36,7 +37,7 @@ impl<T> StaticCell<T> {
         StaticCell { taken: AtomicBool::new(false), value: UnsafeCell::new(value) }
     }
 
-    /// The value, at the first call; `None` at every other. Not there on a target without atomic exchange (thumbv6m).
+    /// The value, at the first call; `None` at every other. Not there on a target without atomic exchange (thumbv6m, riscv32imc): use a mutex of the board's.
     #[cfg(target_has_atomic = "8")]
     #[allow(clippy::mut_from_ref)] // at most one such reference is given out
     pub fn take(&'static self) -> Option<&'static mut T> {

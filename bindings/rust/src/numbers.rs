@@ -39,7 +39,7 @@ pub(crate) use numbered;
 numbered! {
     /// The numbers with which a call says no. A refused call has changed nothing that it was lent.
     ///
-    /// 12, a state that is too short or not allowed, is not among them: the wrapper owns the state.
+    /// 12, a state that is too short or not allowed, is not among them: the state lies in storage that the wrapper alone writes.
     /// ```
     /// let refusal = oatcastle::Options::of(1 << 9).unwrap_err();
     /// assert_eq!(refusal, oatcastle::Refusal::BadValue);
