@@ -11,11 +11,8 @@ use lib.Dec.{leb, ltb, eqb}
 use lib.ListN.{length}
 use borrow.Author.Tests.{ltb-true, ltb-false}
 use Rattle.octets.proofs.Conditions.{cond-by}
-use Rattle.line.specs.Limits.{longest-form}
-use Rattle.line.specs.Checksum.{checksum}
-use Rattle.line.specs.Message.{magic, Message}
-use Rattle.line.specs.Cobs.{uncobs}
-use Rattle.line.specs.Judge.{Verdict, failure, good, bodyOf, checksumOf, magicOf, sequenceOf, fields, judgeFields, wrongLength, judgeLength, judgeForm, judge}
+use Rattle.line.specs.Message.{Message}
+use Rattle.line.specs.Judge.{Verdict, failure, good, sequenceOf, fields, decoded, wrongLength, wrongChecksum, wrongMagic, judgeForm, judge}
 use Rattle.requests.specs.Requests.{known, lengthAllowed, tested, testedWhere, verdict}
 use Rattle.requests.specs.Receive.{Ended, endedBy}
 use Rattle.counters.specs.declared.Counters.{Counters}
@@ -112,22 +109,19 @@ tested-once m =
     by false false false false = refl
 
 verdict-once : (form : List ℕ) → Once (verdict form)
-unfolding verdict judge judgeForm judgeLength judgeFields
-verdict-once form = by (ltb longest-form (length form)) (uncobs form)
+unfolding verdict judge judgeForm
+verdict-once form = by-form (decoded form)
   where
-    by-fields : (a b : Bool) (xs : List ℕ) → Once (testedWhere (cond a (cond b (good (fields xs)) (failure 4 (some (sequenceOf xs)))) (failure 2 (some (sequenceOf xs)))))
-    by-fields true true xs = tested-once (fields xs)
-    by-fields true false xs = refl
-    by-fields false b xs = refl
+    by : (a b c : Bool) (xs : List ℕ) → Once (testedWhere (cond a (failure 3 none) (cond b (failure 2 (some (sequenceOf xs)))
+        (cond c (failure 4 (some (sequenceOf xs))) (good (fields xs))))))
+    by true b c xs = refl
+    by false true c xs = refl
+    by false false true xs = refl
+    by false false false xs = tested-once (fields xs)
 
-    by-length : (a : Bool) (xs : List ℕ) → Once (testedWhere (cond a (failure 3 none) (judgeFields xs)))
-    by-length true xs = refl
-    by-length false xs = by-fields (eqb (checksumOf xs) (checksum (bodyOf xs))) (eqb (magicOf xs) magic) xs
-
-    by : (a : Bool) (o : Option (List ℕ)) → Once (testedWhere (cond a (failure 1 none) (judgeForm o)))
-    by true o = refl
-    by false none = refl
-    by false (some xs) = by-length (wrongLength xs) xs
+    by-form : (o : Option (List ℕ)) → Once (testedWhere (judgeForm o))
+    by-form none = refl
+    by-form (some xs) = by (wrongLength xs) (wrongChecksum xs) (wrongMagic xs) xs
 
 frame-once : (f : List ℕ) → bumps (frameEnded f) ≡ 1
 unfolding frameEnded

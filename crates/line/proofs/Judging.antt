@@ -15,7 +15,7 @@ use Rattle.octets.proofs.Overlay.{length-run, overlay-inside}
 use Rattle.line.specs.Limits.{checksum-length, shortest-message, longest-message, longest-form}
 use Rattle.line.specs.Checksum.{checksum}
 use Rattle.line.specs.Message.{magic}
-use Rattle.line.specs.Judge.{bodyOf, checksumOf, magicOf, versionOf, sequenceOf, commandOf, payloadOf, fields, judgeFields, wrongLength, judgeLength, judgeForm, judge}
+use Rattle.line.specs.Judge.{bodyOf, checksumOf, magicOf, versionOf, sequenceOf, commandOf, payloadOf, fields, wrongLength, judgeForm, judge}
 use Rattle.line.specs.Cobs.{uncobs}
 use Rattle.line.specs.Decoding.{measured, plain}
 use Rattle.line.specs.Reader.{frame-offset, state-length, Report, failed, message, verdictReport, settled, unpacked, settle}
@@ -28,28 +28,31 @@ pub length-part : (s : List ℕ) (k : ℕ) → frame-offset + k ≤ length s →
 length-part s k h = rw add-sub-cancel-left (length-run frame-offset k s h)
 
 -- a decoded message of k bytes, and the numbers that are read of it
-module _ (xs : List ℕ) (k : ℕ) (e : length xs ≡ k) (h : shortest-message ≤ k) {a b q : ℕ}
+module _ (xs : List ℕ) (k : ℕ) (e : length xs ≡ k) (h : shortest-message ≤ k) (i : k ≤ longest-message) {a b q : ℕ}
     (at-end : a ≡ numberAt 2 xs (k - checksum-length)) (of-body : b ≡ checksum (take (k - checksum-length) xs)) (sequence : q ≡ sequenceOf xs) where
+  length-right : wrongLength xs ≡ false
+  length-right = rw (e, le-ltb k shortest-message h, le-ltb longest-message k i)
+
   checksum-read : a ≡ checksumOf xs
   checksum-read = at-end ∙ rw e (ap number (take-all 2 (drop (k - 2) xs) (simp length-drop (omega arith))))
 
   checksum-made : b ≡ checksum (bodyOf xs)
   checksum-made = of-body ∙ rw e
 
-  pub report-checksum : (a ≡ b → ⊥) → failed 2 (some q) ≡ verdictReport (judgeFields xs)
-  unfolding verdictReport judgeFields
-  report-checksum n = rw (← checksum-read, ← checksum-made, ne-eqb a b n, sequence)
+  pub report-checksum : (a ≡ b → ⊥) → failed 2 (some q) ≡ verdictReport (judgeForm (some xs))
+  unfolding verdictReport judgeForm
+  report-checksum n = rw (length-right, ← checksum-read, ← checksum-made, ne-eqb a b n, sequence)
 
   module _ {m : ℕ} (same : a ≡ b) (first : m ≡ magicOf xs) where
-    pub report-magic : (m ≡ magic → ⊥) → failed 4 (some q) ≡ verdictReport (judgeFields xs)
-    unfolding verdictReport judgeFields
-    report-magic n = rw (← checksum-read, ← checksum-made, eq-eqb a b same, ← first, ne-eqb m magic n, sequence)
+    pub report-magic : (m ≡ magic → ⊥) → failed 4 (some q) ≡ verdictReport (judgeForm (some xs))
+    unfolding verdictReport judgeForm
+    report-magic n = rw (length-right, ← checksum-read, ← checksum-made, eq-eqb a b same, ← first, ne-eqb m magic n, sequence)
 
-    pub report-good : {v d : ℕ} → m ≡ magic → v ≡ versionOf xs → d ≡ commandOf xs → message v q d (k - shortest-message) ≡ verdictReport (judgeFields xs)
-    unfolding verdictReport judgeFields fields
+    pub report-good : {v d : ℕ} → m ≡ magic → v ≡ versionOf xs → d ≡ commandOf xs → message v q d (k - shortest-message) ≡ verdictReport (judgeForm (some xs))
+    unfolding verdictReport judgeForm fields
     report-good g version command =
         let l : length (payloadOf xs) ≡ k - shortest-message = simp (length-drop, length-take) (omega arith) in
-        rw (← checksum-read, ← checksum-made, eq-eqb a b same, ← first, eq-eqb m magic g, l, sequence, version, command)
+        rw (length-right, ← checksum-read, ← checksum-made, eq-eqb a b same, ← first, eq-eqb m magic g, l, sequence, version, command)
 
 -- ---- a frame of at most 4,140 bytes
 
@@ -67,11 +70,11 @@ module _ (form s : List ℕ) (l : length form ≤ longest-form) where
 
   module _ (xs : List ℕ) (e : uncobs form ≡ some xs) where
     settle-length : wrongLength xs ≡ true → settled (failed 3 none) s ≡ settle form s
-    unfolding settle verdictReport judgeForm judgeLength unpacked
+    unfolding settle verdictReport judgeForm unpacked
     settle-length t = rw (judge-form, e, t)
 
-    settle-message : wrongLength xs ≡ false → settled (verdictReport (judgeFields xs)) (overlay frame-offset xs s) ≡ settle form s
-    unfolding settle judgeForm judgeLength unpacked
+    settle-message : wrongLength xs ≡ false → settled (verdictReport (judgeForm (some xs))) (overlay frame-offset xs s) ≡ settle form s
+    unfolding settle unpacked
     settle-message t = rw (judge-form, e, t)
 
   -- as the length of what the frame decodes to is found
@@ -91,7 +94,7 @@ module _ (form s : List ℕ) (l : length form ≤ longest-form) where
           settle-length (plain form) (p .0) (rw (p .1, lt-ltb longest-message k h, or-true))
 
       pub settle-fits : shortest-message ≤ k → k ≤ longest-message → frame-offset ≤ length s → {t : List ℕ} {a : Report}
-          → t ≡ overlay frame-offset (plain form) s → a ≡ verdictReport (judgeFields (run frame-offset k t)) → settled a t ≡ settle form s
+          → t ≡ overlay frame-offset (plain form) s → a ≡ verdictReport (judgeForm (some (run frame-offset k t))) → settled a t ≡ settle form s
       settle-fits h j i u v =
           let p = measured-length form k (sym b ∙ e) in
           let w = settle-message (plain form) (p .0) (rw (p .1, le-ltb k shortest-message h, le-ltb longest-message k j)) in

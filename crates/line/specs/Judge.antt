@@ -1,6 +1,6 @@
 -- What the line layer's tests make of the bytes before a 00 (document 01, "Reading a request", down to magic).
 -- Assumes nothing: these are definitions.
-use mathlib.Core.Bool.{Bool, cond, _||_}
+use mathlib.Core.Bool.{Bool, cond, not, _||_}
 use mathlib.Core.List.{List}
 use mathlib.Core.Option.{Option, none, some}
 use Prim.Native.Nat.{ℕ, _-_}
@@ -44,26 +44,31 @@ payloadOf xs = drop header-length (bodyOf xs)
 unfoldable pub fields : List ℕ → Message
 fields xs = record { version = versionOf xs; sequence = sequenceOf xs; command = commandOf xs; payload = payloadOf xs }
 
--- reason 2: the checksum differs, compared as a number; reason 4: the magic differs
-unfoldable pub judgeFields : List ℕ → Verdict
-judgeFields xs =
-    cond (eqb (checksumOf xs) (checksum (bodyOf xs)))
-    (cond (eqb (magicOf xs) magic) (good (fields xs)) (failure 4 (some (sequenceOf xs))))
-    (failure 2 (some (sequenceOf xs)))
+-- The tests in the table's order. Reason 1: none where there are more than 4,140 bytes, a code byte runs past the end, or a last 01
+-- stands after a full group.
+abbrev pub decoded : List ℕ → Option (List ℕ)
+decoded form = cond (ltb longest-form (length form)) none (uncobs form)
 
--- a decoded length below 19 or above 4,123
+-- reason 3: a decoded length below 19 or above 4,123
 abbrev pub wrongLength : List ℕ → Bool
 wrongLength xs = ltb (length xs) shortest-message || ltb longest-message (length xs)
 
--- reason 3: the decoded length
-unfoldable pub judgeLength : List ℕ → Verdict
-judgeLength xs = cond (wrongLength xs) (failure 3 none) (judgeFields xs)
+-- reason 2: the checksum differs, compared as a number
+abbrev pub wrongChecksum : List ℕ → Bool
+wrongChecksum xs = not (eqb (checksumOf xs) (checksum (bodyOf xs)))
 
--- reason 1: a code byte runs past the end, or a last 01 stands after a full group
+-- reason 4: the magic differs
+abbrev pub wrongMagic : List ℕ → Bool
+wrongMagic xs = not (eqb (magicOf xs) magic)
+
+-- the first failing test speaks
 unfoldable pub judgeForm : Option (List ℕ) → Verdict
 judgeForm none = failure 1 none
-judgeForm (some xs) = judgeLength xs
+judgeForm (some xs) =
+    cond (wrongLength xs) (failure 3 none)
+    (cond (wrongChecksum xs) (failure 2 (some (sequenceOf xs)))
+    (cond (wrongMagic xs) (failure 4 (some (sequenceOf xs)))
+    (good (fields xs))))
 
--- reason 1: more than 4,140 bytes
 unfoldable pub judge : List ℕ → Verdict
-judge form = cond (ltb longest-form (length form)) (failure 1 none) (judgeForm (uncobs form))
+judge form = judgeForm (decoded form)

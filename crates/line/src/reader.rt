@@ -6,13 +6,14 @@ use crate::limits;
 use crate::scan::nonzero_run;
 use crate::sums;
 ghost use mathlib.Core.Path.{_≡_};
+ghost use mathlib.Core.Option.{some};
 ghost use Prim.Native.Nat.{_+_, _≤_, _<_};
 ghost use lib.ListN.{length, take};
 ghost use Rattle.octets.specs.Bytes.{run, overlay};
 ghost use Rattle.line.specs.Limits.{shortest-message, longest-message, longest-form};
 ghost use Rattle.line.specs.Cobs.{uncobs};
 ghost use Rattle.line.specs.Decoding.{measured, plain};
-ghost use Rattle.line.specs.Judge.{judgeFields};
+ghost use Rattle.line.specs.Judge.{judgeForm};
 ghost use Rattle.line.specs.Reader.{frame-offset, state-length, overlong, count, counted, valid, report, verdictReport, pushes, settled, settle, finish, outcome, reading, started, starting, tailReport, tailOf, dataReport, dataRefusal, dataOf};
 
 const FRAME_OFFSET: usize = 2;
@@ -256,7 +257,7 @@ fn inspect(state: &[u8], k: usize) -> Answer
     requires { ⌜ state-length ≤ length (now state) ⌝ }
     requires { ⌜ shortest-message ≤ k ⌝ }
     requires { ⌜ k ≤ longest-message ⌝ }
-    ensures { λ r. ⌜ report r ≡ verdictReport (judgeFields (run frame-offset k (now (state .entry)))) ⌝ }
+    ensures { λ r. ⌜ report r ≡ verdictReport (judgeForm (some (run frame-offset k (now (state .entry))))) ⌝ }
 {
     let message = &state[FRAME_OFFSET..FRAME_OFFSET + k];
     let sequence = octets::read_u64(message, 8);

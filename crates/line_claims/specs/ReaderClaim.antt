@@ -6,19 +6,18 @@ use mathlib.Core.List.{List, [], _∷_, _++_, map, map-append, append-assoc, app
 use mathlib.Core.Option.{Option, none, some}
 use Prim.Native.Nat.{ℕ, zero, suc, _≤_, _<_}
 use native.Mathlib.Omega.{arith}
-use lib.Dec.{leb, ltb, eqb}
+use lib.Dec.{leb, ltb}
 use lib.ListN.{length, length-append}
 use borrow.Author.Tests.{leb-true, le-leb, ltb-true, ltb-false, le-ltb, lt-ltb}
 use Rattle.octets.specs.Bytes.{Each, overlay}
 use Rattle.line.specs.Limits.{longest-form}
-use Rattle.line.specs.Message.{magic, Message, InRange}
+use Rattle.line.specs.Message.{Message, InRange}
 use Rattle.line.specs.Frame.{Wire}
 use Rattle.line.specs.Cobs.{uncobs}
-use Rattle.line.specs.Judge.{Verdict, failure, good, wrongLength, bodyOf, checksumOf, magicOf, fields, judgeFields, judgeLength, judgeForm, judge}
-use Rattle.line.specs.Checksum.{checksum}
+use Rattle.line.specs.Judge.{Verdict, failure, good, fields, wrongLength, wrongChecksum, wrongMagic, judgeForm, judge}
 use Rattle.line.specs.Reader.{verdictReport, state-length, frame-offset, count, counted, valid, pushes}
 use Rattle.line.specs.Reader.{overlong, unpacked, Settled, settle, finish, Start, starting, unfinished, longer, tailOf}
-use Rattle.octets.proofs.Conditions.{cond-by}
+use Rattle.octets.proofs.Conditions.{cond-by, cond-both}
 use Rattle.line.proofs.State.{Ready, ready-valid, length-counted, count-counted, pushes-append, ready-pushes}
 use Rattle.line.proofs.Lent.{count-append}
 use Rattle.line.proofs.Held.{finish-empty, held-form, held-over, held-count, data-unpacked, finish-leaves}
@@ -51,26 +50,17 @@ reasons-forms (m ∷ ms) r = rw (judge-of-message m (r .0)) (reasons-forms ms (r
 
 -- a message's data as the state at the call's return holds them
 module _ (s : List ℕ) (h : Ready s) where
-  handed-fields : (xs : List ℕ) → wrongLength xs ≡ false → handed (verdictReport (judgeFields xs)) (overlay frame-offset xs s) ≡ goodOf (judgeFields xs)
-  unfolding judgeFields handed verdictReport fields
-  handed-fields xs e =
-      cond-by Hands (eqb (checksumOf xs) (checksum (bodyOf xs))) _ _
-      (λ f. cond-by Hands (eqb (magicOf xs) magic) _ _ (λ g. rw (data-unpacked s (h .0) xs (h .1) e)) (λ g. refl))
-      (λ f. refl)
-    where
-      Hands : Verdict → Type 0
-      Hands v = handed (verdictReport v) (overlay frame-offset xs s) ≡ goodOf v
+  abbrev Hands : List ℕ → Verdict → Type 0
+  Hands t v = handed (verdictReport v) t ≡ goodOf v
 
-  handed-length : (xs : List ℕ) (k : Bool) → wrongLength xs ≡ k
-      → handed (verdictReport (cond k (failure 3 none) (judgeFields xs))) (cond k s (overlay frame-offset xs s)) ≡ goodOf (cond k (failure 3 none) (judgeFields xs))
-  unfolding handed verdictReport
-  handed-length xs true e = refl
-  handed-length xs false e = handed-fields xs e
-
-  handed-bytes : (form : Option (List ℕ)) → handed (verdictReport (judgeForm form)) (unpacked form s) ≡ goodOf (judgeForm form)
-  unfolding judgeForm judgeLength unpacked handed verdictReport
+  handed-bytes : (form : Option (List ℕ)) → Hands (unpacked form s) (judgeForm form)
+  unfolding judgeForm unpacked handed verdictReport fields
   handed-bytes none = refl
-  handed-bytes (some xs) = handed-length xs (wrongLength xs) refl
+  handed-bytes (some xs) =
+      let t = overlay frame-offset xs s in
+      cond-both Hands (wrongLength xs) (λ e. refl) (λ e.
+      cond-by (Hands t) (wrongChecksum xs) _ _ (λ f. refl) (λ f.
+      cond-by (Hands t) (wrongMagic xs) _ _ (λ g. refl) (λ g. rw (data-unpacked s (h .0) xs (h .1) e))))
 
   handed-form : (t : List ℕ) → length t ≤ longest-form → handed (verdictReport (judge t)) (unpacked (uncobs t) s) ≡ goodOf (judge t)
   unfolding judge
@@ -93,7 +83,7 @@ verdict-reasons (failure reason sequence) = refl
 verdict-reasons (good m) = refl
 
 judge-over : (t : List ℕ) → longest-form < length t → judge t ≡ failure 1 none
-unfolding judge
+unfolding judge judgeForm
 judge-over t l = rw (lt-ltb longest-form (length t) l)
 
 cleared : (s : List ℕ) → state-length ≤ length s → (state-length ≤ length (counted 0 s)) × (count (counted 0 s) ≡ 0)

@@ -10,7 +10,7 @@ use Rattle.line.specs.Checksum.{sums, checksum}
 use Rattle.line.specs.Message.{Message, body, message}
 use Rattle.line.specs.Cobs.{groups, cobs, groupBytes, uncobs}
 use Rattle.line.specs.Frame.{frame}
-use Rattle.line.specs.Judge.{Verdict, failure, good, fields, judgeFields, judgeLength, judgeForm, judge}
+use Rattle.line.specs.Judge.{Verdict, failure, good, fields, judgeForm, judge}
 
 -- a rule's input, and what it gives
 pub data Sample : Type 0 where
@@ -78,5 +78,5 @@ samples =
     ∷ []
 
 pub samples-hold : map meant samples ≡ samples
-unfolding meant samples status-request number bytes equal sums checksum body message groups cobs groupBytes uncobs frame fields judgeFields judgeLength judgeForm judge
+unfolding meant samples status-request number bytes equal sums checksum body message groups cobs groupBytes uncobs frame fields judgeForm judge
 samples-hold = refl

@@ -15,7 +15,7 @@ use Rattle.line.specs.Limits.{longest-group}
 use Rattle.line.specs.Message.{Message, InRange, message}
 use Rattle.line.specs.Cobs.{full-code, places-left, Group, coded, unlessEnd, groups, cobs, zeros, lastOneAfterFull, groupBytes, uncobs}
 use Rattle.line.specs.Frame.{frame}
-use Rattle.line.specs.Judge.{good, judgeLength, judgeForm, judge}
+use Rattle.line.specs.Judge.{good, judgeForm, judge}
 use Rattle.line.proofs.Lent.{fit-length}
 use Rattle.line_claims.specs.CobsClaims.{NonZero, uncobs-each}
 use Rattle.line_claims.specs.MessageLaws.{fields-range, message-written}
@@ -142,7 +142,7 @@ one-spelling f g xs h i a b e d = read-written f xs h a e ∙ sym (read-written 
 
 -- a form that the tests find good is that of the message, which is in range
 pub good-form : (form : List ℕ) (m : Message) → Each NonZero form → judge form ≡ good m → (form ≡ cobs (message m)) × InRange m
-unfolding judge judgeForm judgeLength uncobs groupBytes
+unfolding judge judgeForm uncobs groupBytes
 good-form [] m n e = let f : _≡_ {A = ℕ} 0 1 = cc in absurd (omega arith)
 good-form (b ∷ bs) m n e =
     let g = judge-good (b ∷ bs) m e in

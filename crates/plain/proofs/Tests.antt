@@ -1,7 +1,7 @@
 -- Laws of the tests on the first n bytes of an array.
 -- Assumes nothing.
 use mathlib.Core.Path.{_≡_, refl, sym, ap, _∙_}
-use mathlib.Core.Bool.{or-true}
+use mathlib.Core.Bool.{false, or-true}
 use mathlib.Core.List.{List}
 use mathlib.Core.Option.{none, some}
 use Prim.Native.Nat.{ℕ, _+_, _-_, _%_, _≤_, _<_}
@@ -16,7 +16,7 @@ use Rattle.line.specs.Limits.{header-length, shortest-message, longest-message,
 use Rattle.line.specs.Checksum.{sums, checksum}
 use Rattle.line.specs.Message.{magic}
 use Rattle.line.specs.Cobs.{uncobs}
-use Rattle.line.specs.Judge.{Verdict, failure, good, bodyOf, checksumOf, magicOf, sequenceOf, payloadOf, fields, judgeFields, judgeLength, judgeForm, judge}
+use Rattle.line.specs.Judge.{Verdict, failure, good, bodyOf, checksumOf, magicOf, sequenceOf, payloadOf, fields, wrongLength, judgeForm, judge}
 use Rattle.plain.specs.Answers.{decoding, decodedInto}
 use Rattle.plain.specs.Inner.{decodedReport}
 use Rattle.plain.specs.declared.Decoded.{Decoded}
@@ -33,18 +33,17 @@ module _ (m : List ℕ) (n : ℕ) (l : n ≤ length m) where
   long : length (take n m) ≡ n
   long = length-take-le n m l
 
-  pub told-short : n < shortest-message → failure 3 none ≡ judgeLength (take n m)
-  unfolding judgeLength
+  pub told-short : n < shortest-message → failure 3 none ≡ judgeForm (some (take n m))
+  unfolding judgeForm
   told-short h = rw (long, lt-ltb n shortest-message h)
 
-  pub told-long : longest-message < n → failure 3 none ≡ judgeLength (take n m)
-  unfolding judgeLength
+  pub told-long : longest-message < n → failure 3 none ≡ judgeForm (some (take n m))
+  unfolding judgeForm
   told-long h = rw (long, lt-ltb longest-message n h, or-true)
 
   module _ (low : shortest-message ≤ n) (high : n ≤ longest-message) where
-    told-fields : judgeLength (take n m) ≡ judgeFields (take n m)
-    unfolding judgeLength
-    told-fields = rw (long, le-ltb n shortest-message low, le-ltb longest-message n high)
+    length-right : wrongLength (take n m) ≡ false
+    length-right = rw (long, le-ltb n shortest-message low, le-ltb longest-message n high)
 
     number-at : (k j : ℕ) → j + k ≤ n → numberAt k (take n m) j ≡ numberAt k m j
     number-at k j h = ap number (rw (run-take j k (take n m), take-take (j + k) n m h, run-take j k m))
@@ -67,32 +66,32 @@ module _ (m : List ℕ) (n : ℕ) (l : n ≤ length m) where
       sequence-at : sequenceOf (take n m) ≡ q
       sequence-at = number-at 8 8 (omega arith) ∙ sym sequence
 
-      pub told-checksum : (a ≡ b → ⊥) → failure 2 (some q) ≡ judgeLength (take n m)
-      unfolding judgeFields
-      told-checksum f = rw (told-fields, checksum-at, body-at, ← at-end, ← of-body, ne-eqb a b f, sequence-at)
+      pub told-checksum : (a ≡ b → ⊥) → failure 2 (some q) ≡ judgeForm (some (take n m))
+      unfolding judgeForm
+      told-checksum f = rw (length-right, checksum-at, body-at, ← at-end, ← of-body, ne-eqb a b f, sequence-at)
 
       module _ {g : ℕ} (same : a ≡ b) (first : g ≡ numberAt 4 m 0) where
         magic-at : magicOf (take n m) ≡ g
         magic-at = number-at 4 0 (omega arith) ∙ sym first
 
-        pub told-magic : (g ≡ magic → ⊥) → failure 4 (some q) ≡ judgeLength (take n m)
-        unfolding judgeFields
-        told-magic f = rw (told-fields, checksum-at, body-at, ← at-end, ← of-body, eq-eqb a b same, magic-at, ne-eqb g magic f, sequence-at)
+        pub told-magic : (g ≡ magic → ⊥) → failure 4 (some q) ≡ judgeForm (some (take n m))
+        unfolding judgeForm
+        told-magic f = rw (length-right, checksum-at, body-at, ← at-end, ← of-body, eq-eqb a b same, magic-at, ne-eqb g magic f, sequence-at)
 
         pub told-good : {v d : ℕ} → g ≡ magic → v ≡ numberAt 4 m 4 → d ≡ numberAt 1 m 16
-            → good (record { version = v; sequence = q; command = d; payload = run header-length (n - shortest-message) m }) ≡ judgeLength (take n m)
-        unfolding judgeFields fields
+            → good (record { version = v; sequence = q; command = d; payload = run header-length (n - shortest-message) m }) ≡ judgeForm (some (take n m))
+        unfolding judgeForm fields
         told-good f version command =
             let v = number-at 4 4 (omega arith) ∙ sym version in
             let d = number-at 1 16 (omega arith) ∙ sym command in
-            rw (told-fields, checksum-at, body-at, ← at-end, ← of-body, eq-eqb a b same, magic-at, eq-eqb g magic f, sequence-at, v, d, ← payload-at, body-at)
+            rw (length-right, checksum-at, body-at, ← at-end, ← of-body, eq-eqb a b same, magic-at, eq-eqb g magic f, sequence-at, v, d, ← payload-at, body-at)
 
 -- ---- a whole frame
 
 module _ (form m : List ℕ) where
   -- more than 4,140 bytes
   pub over-judged : longest-form < length form → (failure 1 none ≡ judge form) × (m ≡ decodedInto form m)
-  unfolding judge decodedInto
+  unfolding judge judgeForm decodedInto
   over-judged h = rw (lt-ltb longest-form (length form) h) (refl, refl)
 
   -- and any other, which was decoded
@@ -113,8 +112,7 @@ module _ (form m : List ℕ) where
       pub decoded-fits : length form ≤ length m → length m′ ≡ length m → k ≤ length m′
       decoded-fits r s = omega (arith, length-some form (sym e ∙ report) .1, decoding-length form)
 
-      pub tested-judged : {v : Verdict} → v ≡ judgeLength (take k m′) → (v ≡ judge form) × (m′ ≡ decodedInto form m)
-      unfolding judgeForm
+      pub tested-judged : {v : Verdict} → v ≡ judgeForm (some (take k m′)) → (v ≡ judge form) × (m′ ≡ decodedInto form m)
       tested-judged t =
           let p = length-some form (sym e ∙ report) in
           let o = rw (p .1) at (overlay-inside 0 (decoding form .bytes) m (omega arith)) in

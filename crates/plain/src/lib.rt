@@ -1,12 +1,13 @@
 // The plain reader: a captured stream split at its zeros, and each frame decoded and tested, byte by byte. It has no code of the line
 // layer, only the meaning, `split` and `judge`. Assumes nothing: no public function has a `requires`.
 ghost use mathlib.Core.Path.{_≡_};
+ghost use mathlib.Core.Option.{some};
 ghost use Prim.Native.Nat.{_+_, _≤_, _<_};
 ghost use lib.ListN.{length, take, drop};
 ghost use Rattle.octets.specs.Bytes.{overlay};
 ghost use Rattle.line.specs.Checksum.{checksum};
 ghost use Rattle.line.specs.Cobs.{zeros, lastOneAfterFull};
-ghost use Rattle.line.specs.Judge.{judge, judgeLength};
+ghost use Rattle.line.specs.Judge.{judgeForm, judge};
 ghost use Rattle.plain.specs.Answers.{pieceAt, verdictOf, decoding, decodedInto};
 ghost use Rattle.plain.specs.Inner.{decodedReport};
 
@@ -148,7 +149,7 @@ fn last_one_after_full(code: u8, form: &[u8], i: usize) -> bool
 // The tests on the first n bytes, which a form decoded to.
 fn tested(message: &[u8], n: usize) -> Answer
     requires { ⌜ n ≤ length (now message) ⌝ }
-    ensures { λ r. ⌜ verdictOf r (now (message .entry)) ≡ judgeLength (take n (now (message .entry))) ⌝ }
+    ensures { λ r. ⌜ verdictOf r (now (message .entry)) ≡ judgeForm (some (take n (now (message .entry)))) ⌝ }
 {
     if n < SHORTEST_MESSAGE {
         return Answer::BadLength;

@@ -8,7 +8,7 @@ use lib.ListN.{replicate}
 use Rattle.octets.specs.Bytes.{number, equal}
 use Rattle.line.specs.Checksum.{sums, checksum}
 use Rattle.line.specs.Cobs.{groupBytes, uncobs}
-use Rattle.line.specs.Judge.{failure, good, fields, judgeFields, judgeLength, judgeForm, judge}
+use Rattle.line.specs.Judge.{failure, good, fields, judgeForm, judge}
 use Rattle.line_claims.specs.Pieces.{split}
 use Rattle.line_claims.specs.Samples.{status-request, status-form}
 use Rattle.plain.specs.Listing.{Entry, Listing, entryOf, entriesFrom, listing}
@@ -37,5 +37,5 @@ abbrev pub meant : Sample → Sample
 meant s = record { stream = s .stream; is = listing (s .stream) }
 
 pub samples-hold : map meant samples ≡ samples
-unfolding samples status-request listing split entriesFrom entryOf number equal sums checksum groupBytes uncobs fields judgeFields judgeLength judgeForm judge
+unfolding samples status-request listing split entriesFrom entryOf number equal sums checksum groupBytes uncobs fields judgeForm judge
 samples-hold = refl

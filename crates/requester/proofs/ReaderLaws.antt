@@ -13,10 +13,7 @@ use borrow.Author.Tests.{le-leb, le-ltb, leb-true, leb-false, ltb-true, ltb-fals
 use Rattle.octets.proofs.Conditions.{cond-by}
 use Rattle.octets.proofs.Overlay.{length-run}
 use Rattle.line.specs.Limits.{longest-data, longest-form}
-use Rattle.line.specs.Checksum.{checksum}
-use Rattle.line.specs.Message.{magic}
-use Rattle.line.specs.Cobs.{uncobs}
-use Rattle.line.specs.Judge.{Verdict, bodyOf, checksumOf, magicOf, payloadOf, fields, wrongLength, judgeFields, judgeLength, judgeForm, judge}
+use Rattle.line.specs.Judge.{Verdict, payloadOf, fields, decoded, wrongLength, wrongChecksum, wrongMagic, judgeForm, judge}
 use Rattle.line.specs.Reader as LineReader
 use Rattle.line.proofs.State.{Ready, valid-ready, ready-valid, ready-pushed}
 use Rattle.line.proofs.Lent.{fit-length}
@@ -25,29 +22,23 @@ use Rattle.requester.specs.Hearing.{dataFit}
 
 -- ---- the data of a message
 
-module _ (xs : List ℕ) where
-  abbrev Fits : Verdict → Type 0
-  Fits v = dataFit (LineReader.verdictReport v) ≡ true
+abbrev Fits : Verdict → Type 0
+Fits v = dataFit (LineReader.verdictReport v) ≡ true
 
-  fields-fit : wrongLength xs ≡ false → Fits (judgeFields xs)
-  unfolding judgeFields fields dataFit LineReader.verdictReport
-  fields-fit e =
-      let l = fit-length xs e in
-      let n : length (payloadOf xs) ≤ longest-data = simp (length-drop, length-take) (omega arith) in
-      cond-by Fits (eqb (checksumOf xs) (checksum (bodyOf xs))) _ _
-      (λ f. cond-by Fits (eqb (magicOf xs) magic) _ _ (λ g. le-leb _ _ n) (λ g. refl))
-      (λ f. refl)
-
-form-fit : (form : Option (List ℕ)) → dataFit (LineReader.verdictReport (judgeForm form)) ≡ true
-unfolding judgeForm judgeLength dataFit LineReader.verdictReport
+form-fit : (form : Option (List ℕ)) → Fits (judgeForm form)
+unfolding judgeForm fields dataFit LineReader.verdictReport
 form-fit none = refl
 form-fit (some xs) =
-    cond-by (λ v. dataFit (LineReader.verdictReport v) ≡ true) (wrongLength xs) _ _ (λ e. refl) (λ e. fields-fit xs e)
+    cond-by Fits (wrongLength xs) _ _ (λ e. refl) (λ e.
+    cond-by Fits (wrongChecksum xs) _ _ (λ f. refl) (λ f.
+    cond-by Fits (wrongMagic xs) _ _ (λ g. refl) (λ g.
+    let l = fit-length xs e in
+    let n : length (payloadOf xs) ≤ longest-data = simp (length-drop, length-take) (omega arith) in
+    le-leb _ _ n)))
 
-judge-fit : (form : List ℕ) → dataFit (LineReader.verdictReport (judge form)) ≡ true
-unfolding judge dataFit LineReader.verdictReport
-judge-fit form =
-    cond-by (λ v. dataFit (LineReader.verdictReport v) ≡ true) (ltb longest-form (length form)) _ _ (λ e. refl) (λ e. form-fit (uncobs form))
+judge-fit : (form : List ℕ) → Fits (judge form)
+unfolding judge
+judge-fit form = form-fit (decoded form)
 
 finish-fit : (s : List ℕ) → dataFit (LineReader.finish s .answer) ≡ true
 unfolding LineReader.finish LineReader.settle dataFit

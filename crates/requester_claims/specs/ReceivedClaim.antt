@@ -1,23 +1,19 @@
 -- The line reader's part of the view: what a byte and a 00 do to the bytes since the last 00, and the verdict on them.
 -- Assumes nothing.
 use mathlib.Core.Path.{_≡_, refl}
-use mathlib.Core.Bool.{Bool, true, false, cond}
 use mathlib.Core.List.{List, [], _∷_, _++_}
 use mathlib.Core.Option.{Option, none, some}
 use Prim.Native.Nat.{ℕ, _+_, _≤_, _<_}
 use native.Mathlib.Nat.{add-zero}
 use native.Mathlib.Omega.{arith}
-use lib.Dec.{eqb}
 use lib.ListN.{length}
 use borrow.Author.Tests.{lt-ltb, le-ltb, eq-eqb, ne-eqb}
 use Rattle.octets.specs.Bytes.{run, overlay}
-use Rattle.octets.proofs.Conditions.{cond-by}
+use Rattle.octets.proofs.Conditions.{cond-by, cond-both}
 use Rattle.octets.proofs.Overlay.{run-more, length-run, length-overlay, overlay-before, overlay-getD-inside}
 use Rattle.line.specs.Limits.{longest-form}
-use Rattle.line.specs.Checksum.{checksum}
-use Rattle.line.specs.Message.{magic}
 use Rattle.line.specs.Cobs.{uncobs}
-use Rattle.line.specs.Judge.{Verdict, failure, bodyOf, checksumOf, magicOf, fields, wrongLength, judgeFields, judgeLength, judgeForm, judge}
+use Rattle.line.specs.Judge.{Verdict, fields, wrongLength, wrongChecksum, wrongMagic, judgeForm, judge}
 use Rattle.line.specs.Reader as LineReader
 use Rattle.line.proofs.State.{Ready, length-counted, count-counted, run-counted}
 use Rattle.line.proofs.Held.{data-unpacked, finish-leaves}
@@ -99,23 +95,14 @@ module _ (number : ℕ) (s : List ℕ) (r : Ready s) where
   abbrev Says : List ℕ → Verdict → Type 0
   Says t v = heardOf number t (LineReader.verdictReport v) ≡ some (heard number v)
 
-  verdict-fields : (xs : List ℕ) → wrongLength xs ≡ false → Says (overlay LineReader.frame-offset xs s) (judgeFields xs)
-  unfolding judgeFields fields heardOf LineReader.verdictReport
-  verdict-fields xs e =
-      let t = overlay LineReader.frame-offset xs s in
-      cond-by (Says t) (eqb (checksumOf xs) (checksum (bodyOf xs))) _ _
-      (λ f. cond-by (Says t) (eqb (magicOf xs) magic) _ _ (λ g. rw (data-unpacked s (r .0) xs (r .1) e)) (λ g. refl))
-      (λ f. refl)
-
-  verdict-length : (xs : List ℕ) (k : Bool) → wrongLength xs ≡ k → Says (cond k s (overlay LineReader.frame-offset xs s)) (cond k (failure 3 none) (judgeFields xs))
-  unfolding heardOf LineReader.verdictReport
-  verdict-length xs true e = refl
-  verdict-length xs false e = verdict-fields xs e
-
   verdict-bytes : (form : Option (List ℕ)) → Says (LineReader.unpacked form s) (judgeForm form)
-  unfolding judgeForm judgeLength heardOf LineReader.unpacked LineReader.verdictReport
+  unfolding judgeForm fields heardOf LineReader.unpacked LineReader.verdictReport
   verdict-bytes none = refl
-  verdict-bytes (some xs) = verdict-length xs (wrongLength xs) refl
+  verdict-bytes (some xs) =
+      let t = overlay LineReader.frame-offset xs s in
+      cond-both Says (wrongLength xs) (λ e. refl) (λ e.
+      cond-by (Says t) (wrongChecksum xs) _ _ (λ f. refl) (λ f.
+      cond-by (Says t) (wrongMagic xs) _ _ (λ g. refl) (λ g. rw (data-unpacked s (r .0) xs (r .1) e))))
 
   verdict-form : (form : List ℕ) → length form ≤ longest-form → Says (LineReader.unpacked (uncobs form) s) (judge form)
   unfolding judge

@@ -6,15 +6,14 @@ use mathlib.Core.List.{List, [], _∷_}
 use mathlib.Core.Option.{Option, none, some}
 use Prim.Native.Nat.{ℕ, _+_, _^_, _≤_, _<_}
 use native.Mathlib.Omega.{arith}
-use lib.Dec.{leb, ltb, eqb}
+use lib.Dec.{leb, eqb}
 use lib.ListN.{length}
 use Rattle.octets.specs.Bytes.{Each, Byte}
 use Rattle.octets.proofs.Conditions.{cond-both}
 use Rattle.octets.proofs.Numbers.{one-byte, number-small}
 use Rattle.line.specs.Limits.{longest-form}
-use Rattle.line.specs.Checksum.{checksum}
-use Rattle.line.specs.Message.{magic, Message}
-use Rattle.line.specs.Judge.{Verdict, failure, good, bodyOf, checksumOf, magicOf, wrongLength, judge, judgeForm, judgeLength, judgeFields}
+use Rattle.line.specs.Message.{Message}
+use Rattle.line.specs.Judge.{Verdict, failure, good, decoded, wrongLength, wrongChecksum, wrongMagic, judgeForm, judge}
 use Rattle.line.specs.Reader as LineReader
 use Rattle.supervisor.specs.State.{State, withReceived}
 use Rattle.supervisor.specs.Calls.{Parts}
@@ -124,11 +123,6 @@ fails : (t : Bool) (reason : ℕ) (sequence : Option ℕ) (v : Verdict) → reas
 fails true reason sequence v h k = record { low = h }
 fails false reason sequence v h k = k
 
--- a test that passes ahead of a failure
-passes : (t : Bool) (reason : ℕ) (sequence : Option ℕ) (v : Verdict) → reason < 256 → Small v → Small (cond t v (failure reason sequence))
-passes true reason sequence v h k = k
-passes false reason sequence v h k = record { low = h }
-
 tested-small : (m : Message) → Small (Requests.tested m)
 unfolding Requests.tested
 tested-small m =
@@ -141,21 +135,17 @@ where-small : (v : Verdict) → Small v → Small (Requests.testedWhere v)
 where-small (failure reason sequence) h = h
 where-small (good m) h = tested-small m
 
-length-small : (xs : List ℕ) → Small (judgeLength xs)
-unfolding judgeLength judgeFields
-length-small xs =
-    fails (wrongLength xs) 3 _ _ (omega arith)
-    (passes (eqb (checksumOf xs) (checksum (bodyOf xs))) 2 _ _ (omega arith)
-    (passes (eqb (magicOf xs) magic) 4 _ _ (omega arith) (found-good _)))
-
 form-small : (form : Option (List ℕ)) → Small (judgeForm form)
 unfolding judgeForm
 form-small none = record { low = omega arith }
-form-small (some xs) = length-small xs
+form-small (some xs) =
+    fails (wrongLength xs) 3 _ _ (omega arith)
+    (fails (wrongChecksum xs) 2 _ _ (omega arith)
+    (fails (wrongMagic xs) 4 _ _ (omega arith) (found-good _)))
 
 verdict-small : (form : List ℕ) → Small (Requests.verdict form)
 unfolding Requests.verdict judge
-verdict-small form = where-small _ (fails (ltb longest-form (length form)) 1 _ _ (omega arith) (form-small _))
+verdict-small form = where-small _ (form-small (decoded form))
 
 -- ---- One byte
 

@@ -1,7 +1,7 @@
 -- The line reader's part of the view: what a byte and a 00 do to the bytes since the last 00, the verdict on them, and what stays.
 -- Assumes nothing.
 use mathlib.Core.Path.{_≡_, refl, sym}
-use mathlib.Core.Bool.{Bool, true, false, cond, not}
+use mathlib.Core.Bool.{Bool, true, false, not}
 use mathlib.Core.List.{List, [], _∷_, _++_}
 use mathlib.Core.Option.{Option, none, some}
 use Prim.Native.Nat.{ℕ, zero, suc, _+_, _^_, _≤_, _<_}
@@ -11,15 +11,14 @@ use lib.Dec.{leb, ltb, eqb}
 use lib.ListN.{length}
 use borrow.Author.Tests.{ltb-true, ltb-false, lt-ltb, le-ltb, leb-false, eqb-true, eqb-false}
 use Rattle.octets.specs.Bytes.{Byte, Each, bytes, run, overlay}
-use Rattle.octets.proofs.Conditions.{cond-by}
+use Rattle.octets.proofs.Conditions.{cond-by, cond-both}
 use Rattle.octets.proofs.Each.{each-take, each-drop}
 use Rattle.octets.proofs.Numbers.{bytes-each}
 use Rattle.octets.proofs.Overlay.{run-more, length-run, length-overlay, overlay-before, overlay-getD-inside, overlay-each}
 use Rattle.line.specs.Limits.{longest-data, longest-form}
-use Rattle.line.specs.Checksum.{checksum}
-use Rattle.line.specs.Message.{magic, Message, InRange}
+use Rattle.line.specs.Message.{Message, InRange}
 use Rattle.line.specs.Cobs.{uncobs}
-use Rattle.line.specs.Judge.{Verdict, failure, good, bodyOf, checksumOf, magicOf, fields, wrongLength, judgeFields, judgeLength, judgeForm, judge}
+use Rattle.line.specs.Judge.{Verdict, failure, good, fields, wrongLength, wrongChecksum, wrongMagic, judgeForm, judge}
 use Rattle.line.specs.Reader as LineReader
 use Rattle.line.proofs.State.{Ready, valid-ready, ready-valid, length-counted, count-counted, run-counted, ready-pushed}
 use Rattle.line.proofs.Lent.{fit-length}
@@ -114,28 +113,17 @@ meant-some (b ∷ bs) h = refl
 
 -- by the answer of the line reader and the state that it leaves, in which the data of a message stand
 module _ (s : List ℕ) (r : Ready s) where
-  verdict-fields : (xs : List ℕ) → wrongLength xs ≡ false
-      → verdictOf (overlay LineReader.frame-offset xs s) (LineReader.verdictReport (judgeFields xs)) ≡ some (testedWhere (judgeFields xs))
-  unfolding judgeFields fields verdictOf LineReader.verdictReport
-  verdict-fields xs e =
-      cond-by Says (eqb (checksumOf xs) (checksum (bodyOf xs))) _ _
-      (λ f. cond-by Says (eqb (magicOf xs) magic) _ _ (λ g. rw (data-unpacked s (r .0) xs (r .1) e)) (λ g. refl))
-      (λ f. refl)
-    where
-      Says : Verdict → Type 0
-      Says v = verdictOf (overlay LineReader.frame-offset xs s) (LineReader.verdictReport v) ≡ some (testedWhere v)
+  abbrev Says : List ℕ → Verdict → Type 0
+  Says t v = verdictOf t (LineReader.verdictReport v) ≡ some (testedWhere v)
 
-  verdict-length : (xs : List ℕ) (k : Bool) → wrongLength xs ≡ k → let v = cond k (failure 3 none) (judgeFields xs) in
-      verdictOf (cond k s (overlay LineReader.frame-offset xs s)) (LineReader.verdictReport v) ≡ some (testedWhere v)
-  unfolding verdictOf LineReader.verdictReport
-  verdict-length xs true e = refl
-  verdict-length xs false e = verdict-fields xs e
-
-  verdict-bytes : (form : Option (List ℕ))
-      → verdictOf (LineReader.unpacked form s) (LineReader.verdictReport (judgeForm form)) ≡ some (testedWhere (judgeForm form))
-  unfolding judgeForm judgeLength verdictOf LineReader.unpacked LineReader.verdictReport
+  verdict-bytes : (form : Option (List ℕ)) → Says (LineReader.unpacked form s) (judgeForm form)
+  unfolding judgeForm fields verdictOf LineReader.unpacked LineReader.verdictReport
   verdict-bytes none = refl
-  verdict-bytes (some xs) = verdict-length xs (wrongLength xs) refl
+  verdict-bytes (some xs) =
+      let t = overlay LineReader.frame-offset xs s in
+      cond-both Says (wrongLength xs) (λ e. refl) (λ e.
+      cond-by (Says t) (wrongChecksum xs) _ _ (λ f. refl) (λ f.
+      cond-by (Says t) (wrongMagic xs) _ _ (λ g. refl) (λ g. rw (data-unpacked s (r .0) xs (r .1) e))))
 
   verdict-form : (form : List ℕ) → length form ≤ longest-form
       → verdictOf (LineReader.unpacked (uncobs form) s) (LineReader.verdictReport (judge form)) ≡ some (verdict form)

@@ -14,7 +14,7 @@ use Rattle.octets.specs.Bytes.{Each}
 use Rattle.octets.proofs.Conditions.{cond-both}
 use Rattle.line.specs.Limits.{longest-form}
 use Rattle.line.specs.Message.{Message}
-use Rattle.line.specs.Judge.{Verdict, failure, good, judge}
+use Rattle.line.specs.Judge.{Verdict, failure, good, judgeForm, judge}
 use Rattle.supervisor.specs.State.{Retained, State, withReceived, withPending, withTerminatorOwed}
 use Rattle.supervisor.specs.Local.{lookup, valueOf}
 use Rattle.requests.specs.Commands.{Command, commandOf}
@@ -174,7 +174,7 @@ more-tail bs b = by (ltb longest-form (length bs)) (ltb (length bs) longest-form
 
 -- more bytes than a form has
 pub verdict-over : (bs : List ℕ) → longest-form < length bs → verdict bs ≡ failure 1 none
-unfolding verdict judge
+unfolding verdict judge judgeForm
 verdict-over bs h = rw (lt-ltb longest-form (length bs) h)
 
 module _ (image : List ℕ) (s : State) where

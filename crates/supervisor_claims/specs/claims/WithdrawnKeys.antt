@@ -55,7 +55,7 @@ reply-found image s n most {k} h i =
 
 -- an empty frame is no request
 pub empty-none : (m : Message) → verdict [] ≡ good m → ⊥
-unfolding verdict Judge.judge Judge.judgeForm Judge.judgeLength Cobs.uncobs Cobs.groupBytes
+unfolding verdict Judge.judge Judge.judgeForm Cobs.uncobs Cobs.groupBytes
 empty-none m e = let z : _≡_ {A = ℕ} 0 1 = cc in omega arith
 
 pub framed-pending : (image : List ℕ) (s : State) (f : List ℕ) (m : Message) → verdict f ≡ good m

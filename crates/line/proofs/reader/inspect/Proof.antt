@@ -16,7 +16,7 @@ returns c =
     let sequence = sum .before .before in
     let a = sequence .before .before .before .args in
     rw add-sub-cancel-left at
-    (report-checksum _ (a .k) (length-part (now (a .state)) (a .k) (omega arith)) (omega arith)
+    (report-checksum _ (a .k) (length-part (now (a .state)) (a .k) (omega arith)) (omega arith) (omega arith)
     (sum .before .read-u16 .ensures) (sum .checksum-of-first .ensures) (sequence .read-u64 .ensures) (c .if1 .taken))
 
 returns-2 : tie.Need-returns-2
@@ -26,7 +26,7 @@ returns-2 c =
     let sequence = sum .before .before in
     let a = sequence .before .before .before .args in
     rw add-sub-cancel-left at
-    (report-magic _ (a .k) (length-part (now (a .state)) (a .k) (omega arith)) (omega arith)
+    (report-magic _ (a .k) (length-part (now (a .state)) (a .k) (omega arith)) (omega arith) (omega arith)
     (sum .before .read-u16 .ensures) (sum .checksum-of-first .ensures) (sequence .read-u64 .ensures) (c .before .before .if1 .left)
     (c .before .read-u32 .ensures) (c .if2 .taken))
 
@@ -37,7 +37,7 @@ returns-3 c =
     let sequence = sum .before .before in
     let a = sequence .before .before .before .args in
     rw add-sub-cancel-left at
-    (report-good _ (a .k) (length-part (now (a .state)) (a .k) (omega arith)) (omega arith)
+    (report-good _ (a .k) (length-part (now (a .state)) (a .k) (omega arith)) (omega arith) (omega arith)
     (sum .before .read-u16 .ensures) (sum .checksum-of-first .ensures) (sequence .read-u64 .ensures) (c .before .before .before .before .if1 .left)
     (c .before .before .before .read-u32 .ensures) (c .before .before .if2 .left) (c .before .read-u322 .ensures) (c .read-u8 .ensures))
 
