@@ -80,7 +80,7 @@ module _ (image f : List ℕ) (i : Receive.Inner) (factory : validFactory f ≡ 
 
 module _ (image piece : List ℕ) (p : Parts) {q : Parts} {n : ℕ} {g : Receive.Ended} (valid : Receive.validParts p ≡ true)
     (e : record { used = n; ended = g; parts = q } ≡ Receive.stepping image p piece) where
-  -- a step on valid parts is a turn
+  -- a step on valid parts is carried out
   stepping-valid : record { used = n; ended = g; parts = q } ≡ Receive.validStep image p piece
   unfolding Receive.stepping
   stepping-valid = e ∙ rw valid
@@ -106,7 +106,7 @@ abbrev pub isSome : Option ℕ → Bool
 isSome none = false
 isSome (some n) = true
 
--- the parts stay, and it is told whether they are refused as 12
+-- the parts stay, and the answer is whether they are refused as 12
 abbrev Tested : Parts → Parts → Bool → Type 0
 Tested p q refused = (q ≡ p) × (refused ≡ not (Receive.validParts p))
 
@@ -126,7 +126,7 @@ module _ (s : List ℕ) (b : ℕ) (bs : List ℕ) where
   unfolding LineReader.readPiece
   read-next = rw (ne-eqb (suc b) 0 (λ e. omega arith))
 
--- what is left of a piece is counted on from what a turn counts
+-- what is left of a piece is counted on from what a step counts
 valid-step-counts : (piece s : List ℕ) (c : Counters) → let o = LineReader.readPiece s piece in
     bumpedForAll c (endings s piece) ≡ bumpedForAll (bumpedFor c (Receive.ended (o .state) (o .answer))) (endings (o .state) (drop (o .used) piece))
 unfolding LineReader.readPiece LineReader.next Receive.ended endings bumpedFor bumpedForAll

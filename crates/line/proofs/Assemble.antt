@@ -60,7 +60,7 @@ header-body v q k h r l =
 abbrev end : List ℕ → List ℕ → ℕ
 end h r = header-length + length h + length r
 
--- the stores in turn: magic, version, sequence and command, both parts of the data, and the checksum of what is there by then
+-- the stores one after the other: magic, version, sequence and command, both parts of the data, and the checksum of what is there by then
 pub assembled : (v q k : ℕ) (h r s : List ℕ) {s₁ s₂ s₃ s₄ s₅ s₆ : List ℕ} {sum : ℕ}
     → k < 256 → length h + length r ≤ longest-data → end h r + 2 ≤ length s
     → s₁ ≡ put 0 (bytes 4 magic) s → s₂ ≡ put 4 (bytes 4 v) s₁ → s₃ ≡ put 8 (bytes 8 q) s₂

@@ -64,7 +64,7 @@ after-full zero (suc b ∷ []) e h = absurd (omega arith)
 after-full zero (suc b ∷ y ∷ ys) e h = refl
 after-full (suc r) (suc b ∷ ys) e h = after-full r ys (omega arith) (omega arith)
 
--- ---- one turn of a loop over the groups of the first n bytes of s
+-- ---- one iteration of a loop over the groups of the first n bytes of s
 
 -- i bytes of the message are read, and o bytes of its form are made
 abbrev pub Met : List ℕ → ℕ → ℕ → ℕ → Type 0
@@ -82,7 +82,7 @@ pub put-all : {form : List ℕ} {o : ℕ} {out₀ out : List ℕ} → o ≡ leng
 put-all {form} e p = p .bytes ∙ rw (e, take-length form)
 
 -- the next group has k bytes
-pub record Turn (s : List ℕ) (n i o k : ℕ) : Type 0 where
+pub record NextGroup (s : List ℕ) (n i o k : ℕ) : Type 0 where
   pub inside : i + k ≤ n
   pub small : k ≤ 254
   pub room : o + (k + 1) ≤ length (cobs (take n s))
@@ -119,10 +119,10 @@ put-group d out s i k v h l =
     let g = rw (zero-add, m, append-snoc) at (overlay-next 0 c (run i k s) out (omega arith)) in
     rw p (copied-fits s i k (overlay 0 c out) (length d + 1) h (omega arith) ∙ g)
 
--- a turn, from what the code's calls ensure
-pub turn : (s : List ℕ) (n i o k most : ℕ) → n ≤ length s → i ≤ n → Met s n i o
-    → most ≡ min 254 (n - i) → k ≡ length (nonzero most (drop i s)) → Turn s n i o k
-turn s n i o k most h l met e u =
+-- from what the code's calls ensure
+pub next-group : (s : List ℕ) (n i o k most : ℕ) → n ≤ length s → i ≤ n → Met s n i o
+    → most ≡ min 254 (n - i) → k ≡ length (nonzero most (drop i s)) → NextGroup s n i o k
+next-group s n i o k most h l met e u =
     let m = nonzero-most most (drop i s) in
     let c : length (nonzero 254 (drop i (take n s))) ≡ k = rw (← left-run s n i l, nonzero-take 254 (n - i) (drop i s), ← e, u) in
     let t : take k (drop i (take n s)) ≡ run i k s = rw (← left-run s n i l) (take-take k (n - i) (drop i s) (omega arith)) in
@@ -139,32 +139,32 @@ turn s n i o k most h l met e u =
       left = split-drop (cobs (take n s)) ((k + 1) ∷ run i k s) _ o (k + 1) f g;
     }
 
-module _ {s : List ℕ} {n i o k : ℕ} (t : Turn s n i o k) where
+module _ {s : List ℕ} {n i o k : ℕ} (t : NextGroup s n i o k) where
   -- the message ends with the group
-  pub turn-last : i + k ≡ n → o + (k + 1) ≡ length (cobs (take n s))
-  turn-last h =
+  pub group-last : i + k ≡ n → o + (k + 1) ≡ length (cobs (take n s))
+  group-last h =
       let l = length-left s n i (t .source) in
       let e = ap length (t .left ∙ after-last 253 (drop i (take n s)) (omega arith)) in
       omega (arith, length-drop (o + (k + 1)) (cobs (take n s)))
 
   -- a zero ends the group
-  pub turn-zero : i + k < n → k < 254 → Met s n (i + k + 1) (o + (k + 1))
-  turn-zero h z =
+  pub group-zero : i + k < n → k < 254 → Met s n (i + k + 1) (o + (k + 1))
+  group-zero h z =
       let l = length-left s n i (t .source) in
       let e : i + suc k ≡ i + k + 1 = omega arith in
       t .left ∙ after-zero 253 k (drop i (take n s)) (t .count) (omega arith) (omega arith) ∙ rw (drop-drop, e)
 
   -- the group is full
-  pub turn-full : i + k < n → 254 ≤ k → Met s n (i + k) (o + (k + 1))
-  turn-full h z =
+  pub group-full : i + k < n → 254 ≤ k → Met s n (i + k) (o + (k + 1))
+  group-full h z =
       let l = length-left s n i (t .source) in
       let e : i + 254 ≡ i + k = omega arith in
       t .left ∙ after-full 253 (drop i (take n s)) (omega arith) (omega arith) ∙ rw (drop-drop, e)
 
   -- the group is put behind those that are made
-  pub turn-put : {out₀ out : List ℕ} → length (cobs (take n s)) ≤ length out₀ → Put (cobs (take n s)) o out₀ out
+  pub next-group-put : {out₀ out : List ℕ} → length (cobs (take n s)) ≤ length out₀ → Put (cobs (take n s)) o out₀ out
       → Put (cobs (take n s)) (o + (k + 1)) out₀ (copied s i k (set out o (k + 1)) (o + 1))
-  turn-put {out₀} {out} h p =
+  next-group-put {out₀} {out} h p =
       let r = t .room in
       let l : length (take o (cobs (take n s))) ≡ o = length-take-le o (cobs (take n s)) (omega arith) in
       record {

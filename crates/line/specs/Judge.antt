@@ -61,7 +61,7 @@ wrongChecksum xs = not (eqb (checksumOf xs) (checksum (bodyOf xs)))
 abbrev pub wrongMagic : List ℕ → Bool
 wrongMagic xs = not (eqb (magicOf xs) magic)
 
--- the first failing test speaks
+-- the verdict: the first row whose test fails, or else a good message
 unfoldable pub judgeForm : Option (List ℕ) → Verdict
 judgeForm none = failure 1 none
 judgeForm (some xs) =

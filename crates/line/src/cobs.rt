@@ -1,5 +1,5 @@
 // COBS: the length of a form, the form itself, the length that a form decodes to, and its decoding in place.
-// Each loop takes one group a turn, or a block of zeros. Assumes that the bytes named lie within the slices, as each `requires` states.
+// Each iteration takes one group, or a block of zeros. Assumes that the bytes named lie within the slices, as each `requires` states.
 use crate::limits::LONGEST_GROUP;
 use crate::scan::BLOCK;
 use crate::scan::alike;

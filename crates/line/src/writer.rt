@@ -109,7 +109,7 @@ fn send(m: &[u8], n: usize, out: &mut [u8]) -> Written
     Written::Done(k + 1)
 }
 
-// Whether a room has place for the form and its 00. The form is measured only where the room could be too small for it.
+// Whether a room is long enough for the form and its 00. The form is measured only where the room could be too small for it.
 fn has_room(m: &[u8], n: usize, room: usize) -> bool
     requires { ⌜ n ≤ longest-message ⌝ }
     requires { ⌜ n ≤ length (now m) ⌝ }

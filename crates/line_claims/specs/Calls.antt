@@ -137,6 +137,6 @@ goodMessages = gathered goodOf
 abbrev pub failureReasons : List (List ℕ) → List ℕ
 failureReasons = gathered reasonOf
 
--- what is said of an unfinished tail
+-- the report of an unfinished tail
 unfoldable pub tailMeant : List ℕ → TailReport
 tailMeant t = cond (ltb longest-form (length t)) longer (unfinished (length t))

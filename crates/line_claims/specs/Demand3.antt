@@ -134,7 +134,7 @@ pub record AllRefused (part : List ℕ) : Type 0 where
   pub hands : (n : ℕ) → dataRefusal part n ≡ some 12
   pub starts : starting part ≡ record { refusal = some 12; state = part }
 
--- too little of any state, from any place on
+-- too little of any state, from any offset on
 pub too-little-12 : (s : List ℕ) (l : Loan) → enoughPart state-length l ≡ false → AllRefused (lentState l s)
 unfolding valid tailOf dataRefusal starting
 too-little-12 s l e =

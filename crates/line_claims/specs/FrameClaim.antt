@@ -1,4 +1,4 @@
--- Claims over calls of a line reader: a frame that is handed out as a message is that message's frame, so that the answers tell the bytes that were read.
+-- Claims over calls of a line reader: a frame that is handed out as a message is that message's frame, so that the answers determine the bytes that were read.
 -- Assumes nothing.
 use mathlib.Core.Path.{_≡_, refl, sym, ap, _∙_}
 use mathlib.Core.List.{List, [], _∷_, _++_, map, map-append, append-assoc}
@@ -60,7 +60,7 @@ pieces-wire ((b ∷ bs) ∷ ps) n e =
     first-good (b ∷ bs) (failureReasons (nonEmpty ps)) (λ v. Wire (goodOf v ++ goodMessages (nonEmpty ps)) ((b ∷ bs) ++ 0 ∷ withZeros ps)) e
     (λ m j f. rw (frame-ahead (b ∷ bs) m (withZeros ps) (n .0) j) (sent (good-form (b ∷ bs) m (n .0) j .1) (pieces-wire ps (n .1) f)))
 
--- the bytes that answers to a 00 tell, with the messages that they handed out: a 00 for an empty frame, and a message's frame; a failure tells none
+-- the bytes that answers to a 00 determine, with the messages that they handed out: a 00 for an empty frame, and a message's frame; a failure gives none
 unfoldable pub toldBytes : List Report → List Message → List ℕ
 toldBytes [] ms = []
 toldBytes (empty ∷ report) ms = 0 ∷ toldBytes report ms

@@ -21,7 +21,7 @@ pub any-run : (published at n : ℕ) (s : List ℕ) → n < published → lentPa
 unfolding lentPart
 any-run published at n s h = let e : fewer published n ≡ n = omega arith in rw e
 
--- bytes from a place on, with those behind them
+-- bytes from an offset on, with those behind them
 rest-whole : (at n : ℕ) (s : List ℕ) → run at n s ++ drop (at + n) s ≡ drop at s
 rest-whole at n s = rw (← drop-drop n at s) (take-append-drop n (drop at s))
 
@@ -66,7 +66,7 @@ front-again n s t e = by (leb n (length s)) refl
         let k : length t ≤ n = omega (arith, length-take n s) in
         rw (drop-of-length-le s h, append-nil) (take-all n t k, drop-of-length-le t k)
 
--- behind the bytes up to a place
+-- behind the bytes up to an offset
 rest-again : (at : ℕ) (s t : List ℕ) → (length s ≤ at → t ≡ []) → (take at (take at s ++ t) ≡ take at s) × (drop at (take at s ++ t) ≡ t)
 rest-again at s t e = by (leb at (length s)) refl
   where
@@ -94,7 +94,7 @@ within-rest at m s t e = rw (← drop-drop m at s) (rest-again at s (t ++ drop m
         rw (z, k, drop-nil m)
 
 module _ (published : ℕ) (s : List ℕ) where
-  -- what came back is lent, and what comes back then takes its place
+  -- what came back is lent, and what comes back then replaces it
   pub lent-again : (l : Loan) (t : List ℕ) → length t ≡ length (lentPart published l s) → lentPart published l (backPart published l s t) ≡ t
   unfolding lentPart backPart
   lent-again (first n) t e = front-again n s t e .0

@@ -10,7 +10,7 @@ use Rattle.octets.specs.Bytes.{run}
 -- the first bytes of a part, so many of them or all; or too little of it, any run that is shorter than the part's published length
 pub data Loan : Type 0 where
   first : ℕ → Loan
-  -- from a place on, so many bytes
+  -- from an offset on, so many bytes
   within : ℕ → ℕ → Loan
 
 -- at most one byte fewer than the published length

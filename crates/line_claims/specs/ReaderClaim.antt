@@ -115,7 +115,7 @@ module _ (s : List ℕ) (enough : state-length ≤ length s) (clear : count s �
 
 -- ---- a reader and the bytes that it has read
 
--- the state holds the bytes after the last 00, and what was said before is the verdict on each piece
+-- the state holds the bytes after the last 00, and what was answered before is the verdict on each piece
 record Follows (r : Reader) : Type 0 where
   base : List ℕ
   enough : state-length ≤ length base

@@ -66,7 +66,7 @@ module _ {A : Type 0} (before after : A) (answer : List ℕ) {k : ℕ} where
   answering-short (refused n) g h = rw g
   answering-short (given ns) g h = rw (lt-ltb (length answer) (length ns) (omega arith))
 
-  -- any other is told behind it
+  -- any other is answered behind it
   pub answering-given : {r : ℕ} {told : List ℕ} (s : Report) → Leaves k before after s → k ≤ length answer → outcome r told ≡ writingAnswer s answer
       → outcome r (after, told) ≡ answering s before after answer
   unfolding writingAnswer answering

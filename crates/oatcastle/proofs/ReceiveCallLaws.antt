@@ -34,13 +34,13 @@ given-step used reader (LineReader.message version sequence command n) p =
     given-verdict used (tested (Receive.messageBy version sequence command (LineReader.dataOf reader n)))
 
 module _ (image : List ℕ) (p : Parts) (piece answer : List ℕ) where
-  given-turn : (used : ℕ) → Writes 3 (stepGiven used (validStep image p piece .ended))
+  given-valid : (used : ℕ) → Writes 3 (stepGiven used (validStep image p piece .ended))
   unfolding validStep
-  given-turn used = given-step used _ (LineReader.readPiece (p .reader) piece .answer) (spoken (p .reader) piece)
+  given-valid used = given-step used _ (LineReader.readPiece (p .reader) piece .answer) (spoken (p .reader) piece)
 
   writes : (used : ℕ) → validParts p ≡ true → Writes 3 (stepGiven used (stepping image p piece .ended))
   unfolding stepping
-  writes used v = rw v (given-turn used)
+  writes used v = rw v (given-valid used)
 
   refusal : validParts p ≡ false → outcome 12 (p, answer) ≡ stepCall image p piece answer
   unfolding stepCall stepping stepGiven answering
@@ -67,7 +67,7 @@ module _ (image : List ℕ) (p : Parts) (piece answer : List ℕ) where
   leaves =
       let o = validStep image p piece in
       cond-by (λ (o : Receive.StepDone). Leaves 3 p (o .parts) (stepGiven (o .used) (o .ended))) (validParts p) _ _
-      (λ v. writes-leaves 3 p (o .parts) (stepGiven (o .used) (o .ended)) (given-turn (o .used))) (λ _. refl)
+      (λ v. writes-leaves 3 p (o .parts) (stepGiven (o .used) (o .ended)) (given-valid (o .used))) (λ _. refl)
 
   pub step-given : (t : Stepped) {r : ℕ} {q : Parts} {told : List ℕ} → 3 ≤ length answer → Receive.stepOf t q ≡ stepping image p piece
       → outcome r told ≡ writingAnswer (stepGiven (t .used) (endedReport (t .outcome))) answer → outcome r (q, told) ≡ stepCall image p piece answer

@@ -64,7 +64,7 @@ module _ (r out answer : List ℕ) where
   unfolding putInto putGiven
   put-kept bs after = cond-by Kept (ltb (length out) (length bs)) _ _ (λ _. refl) (λ _. refl)
 
-  -- what was told of what a call answered and left
+  -- the answer to the caller, of what a call answered and left
   put-given : (o : Calls.Put) → Kept o → {a : Calls.PutReport} {r' out' : List ℕ} {n : ℕ} {told : List ℕ} → 1 ≤ length answer → Calls.putBy a out' r' ≡ o
       → outcome n told ≡ writingAnswer (putGiven a) answer → outcome n ((r', out'), told) ≡ putAnswered o r out answer
   put-given o k {a} h e f = rw (← e) (answering-given (r, out) _ answer (putGiven a) (rw (← e) at k) h f)
@@ -136,21 +136,21 @@ module _ (r out answer : List ℕ) where
 
 -- ---- Receive
 
--- what is handed out is told in seven numbers
-handed-tells : (used : ℕ) (h : Requester.Handed) (e u : Bool) → Writes 7 (receiptGiven used (toldOf h) e u)
+-- what is handed out is written as seven numbers
+handed-writes : (used : ℕ) (h : Requester.Handed) (e u : Bool) → Writes 7 (receiptGiven used (toldOf h) e u)
 unfolding receiptGiven toldOf
-handed-tells used Requester.nothing e u = refl
-handed-tells used (Requester.answered m) e u = refl
-handed-tells used (Requester.status s o n) e u = refl
-handed-tells used (Requester.alerted m) e u = refl
+handed-writes used Requester.nothing e u = refl
+handed-writes used (Requester.answered m) e u = refl
+handed-writes used (Requester.status s o n) e u = refl
+handed-writes used (Requester.alerted m) e u = refl
 
-abbrev saidBy : Calls.Receipt → Report
-saidBy x = receiptGiven (x .used) (x .told) (x .ended) (x .unsent)
+abbrev givenBy : Calls.Receipt → Report
+givenBy x = receiptGiven (x .used) (x .told) (x .ended) (x .unsent)
 
 module _ (p : Parts) (answer : List ℕ) where
-  receipt-tells : (piece : List ℕ) → Writes 7 (saidBy (received p piece))
+  receipt-writes : (piece : List ℕ) → Writes 7 (givenBy (received p piece))
   unfolding received
-  receipt-tells piece = handed-tells _ _ _ _
+  receipt-writes piece = handed-writes _ _ _ _
 
   -- an empty piece changes nothing
   none-received : received p [] .parts ≡ p
@@ -177,15 +177,15 @@ module _ (p : Parts) (answer : List ℕ) where
       rw (f, ap (λ (y : Calls.Receipt). y .told) e, ap (λ (y : Calls.Receipt). y .parts) e)
       (cond-both (λ (y z : Calls.Receipt). outcome (shortReceipt (y .told)) (y .parts, answer) ≡ receiptAnswered z p answer) (validParts p)
       (λ _. rw (none-received, none-handed)
-      (answering-short p (x .parts) answer (saidBy x) (writes-says 7 (saidBy x) (receipt-tells piece)) l))
+      (answering-short p (x .parts) answer (givenBy x) (writes-says 7 (givenBy x) (receipt-writes piece)) l))
       (λ _. refl))
 
-  listen-kept : (piece : List ℕ) → let x = receiving p piece in Leaves 7 p (x .parts) (saidBy x)
+  listen-kept : (piece : List ℕ) → let x = receiving p piece in Leaves 7 p (x .parts) (givenBy x)
   unfolding receiving receiptGiven
   listen-kept piece =
       let x = received p piece in
-      cond-by (λ (y : Calls.Receipt). Leaves 7 p (y .parts) (saidBy y)) (validParts p) _ _
-      (λ _. writes-leaves 7 p (x .parts) (saidBy x) (receipt-tells piece)) (λ _. refl)
+      cond-by (λ (y : Calls.Receipt). Leaves 7 p (y .parts) (givenBy y)) (validParts p) _ _
+      (λ _. writes-leaves 7 p (x .parts) (givenBy x) (receipt-writes piece)) (λ _. refl)
 
   pub listen-given : (t : Received) (piece : List ℕ) {q : Parts} {n : ℕ} {told : List ℕ} → 7 ≤ length answer → Calls.receiptOf t q ≡ receiving p piece
       → outcome n told ≡ writingAnswer (receiptGiven (t .used) (Calls.told (t .handed)) (t .ended) (t .unsent)) answer → outcome n (q, told) ≡ listenCall p piece answer

@@ -24,7 +24,7 @@ use Rattle.oatcastle.specs.Answers.{outcome, Report, refused, writingAns
 use Rattle.oatcastle.specs.RotCalls.{shortNumber, rotReadGiven, rotReadAnswered, rotReadCall, rotWriteGiven, rotWriteAnswered, rotWriteCall}
 use Rattle.oatcastle.proofs.AnswerLaws.{Says, Leaves, Writes, writes-says, writes-leaves, answering-short, answering-given}
 
--- ---- bytes sent to a room, told as k numbers
+-- ---- bytes sent to a room, answered by k numbers
 
 module _ (k : ℕ) (told : RotAnswers.Report → Report) (bs : List ℕ) (no : told (RotAnswers.refused 8) ≡ refused 8) (yes : Writes k (told (RotAnswers.wrote (length bs)))) where
   says-sent : (out : List ℕ) → Says k (told (sending bs out .answer))

@@ -128,7 +128,7 @@ pub overlay-getD-inside : (at j d : ℕ) (xs s : List ℕ) → at ≤ length s �
 overlay-getD-inside at j d xs s h l =
     rw (← getD-drop at (overlay at xs s) j d, overlay-from at xs s h) (List·getD-append xs _ d j l)
 
--- ---- overlays in turn
+-- ---- overlays one after the other
 
 -- one byte more
 pub overlay-more : (at v : ℕ) (xs s : List ℕ) → at + length xs < length s
@@ -171,7 +171,7 @@ overlay-drop-before at j xs s h l =
     let m : j ≤ length (take at s) = rw (length-take-le at s h) l in
     simp append-assoc (drop-append-le j (take at s) _ m)
 
--- bytes put at two places apart, in either order
+-- bytes put at two offsets apart, in either order
 pub overlay-swap : (at bt : ℕ) (xs ys s : List ℕ) → at + length xs ≤ bt → bt ≤ length s
     → overlay at xs (overlay bt ys s) ≡ overlay bt ys (overlay at xs s)
 unfolding overlay

@@ -36,7 +36,7 @@ numberAt k s at = number (run at k s)
 abbrev pub fits : ℕ → ℕ → List ℕ → Bool
 fits at n s = leb (at + n) (length s)
 
--- a list with xs in the place of as many of its bytes from an offset on
+-- a list with xs instead of as many of its bytes from an offset on
 unfoldable pub overlay : ℕ → List ℕ → List ℕ → List ℕ
 overlay at xs s = take at s ++ xs ++ drop (at + length xs) s
 

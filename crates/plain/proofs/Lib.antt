@@ -1,6 +1,6 @@
 -- The laws of the plain reader, and the proofs of its functions.
 -- Assumes nothing.
-pub mod Places
+pub mod Offsets
 pub mod Steps
 pub mod Groups
 pub mod Tests

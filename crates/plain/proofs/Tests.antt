@@ -33,13 +33,13 @@ module _ (m : List ℕ) (n : ℕ) (l : n ≤ length m) where
   long : length (take n m) ≡ n
   long = length-take-le n m l
 
-  pub told-short : n < shortest-message → failure 3 none ≡ judgeForm (some (take n m))
+  pub tested-short : n < shortest-message → failure 3 none ≡ judgeForm (some (take n m))
   unfolding judgeForm
-  told-short h = rw (long, lt-ltb n shortest-message h)
+  tested-short h = rw (long, lt-ltb n shortest-message h)
 
-  pub told-long : longest-message < n → failure 3 none ≡ judgeForm (some (take n m))
+  pub tested-long : longest-message < n → failure 3 none ≡ judgeForm (some (take n m))
   unfolding judgeForm
-  told-long h = rw (long, lt-ltb longest-message n h, or-true)
+  tested-long h = rw (long, lt-ltb longest-message n h, or-true)
 
   module _ (low : shortest-message ≤ n) (high : n ≤ longest-message) where
     length-right : wrongLength (take n m) ≡ false
@@ -66,22 +66,22 @@ module _ (m : List ℕ) (n : ℕ) (l : n ≤ length m) where
       sequence-at : sequenceOf (take n m) ≡ q
       sequence-at = number-at 8 8 (omega arith) ∙ sym sequence
 
-      pub told-checksum : (a ≡ b → ⊥) → failure 2 (some q) ≡ judgeForm (some (take n m))
+      pub tested-checksum : (a ≡ b → ⊥) → failure 2 (some q) ≡ judgeForm (some (take n m))
       unfolding judgeForm
-      told-checksum f = rw (length-right, checksum-at, body-at, ← at-end, ← of-body, ne-eqb a b f, sequence-at)
+      tested-checksum f = rw (length-right, checksum-at, body-at, ← at-end, ← of-body, ne-eqb a b f, sequence-at)
 
       module _ {g : ℕ} (same : a ≡ b) (first : g ≡ numberAt 4 m 0) where
         magic-at : magicOf (take n m) ≡ g
         magic-at = number-at 4 0 (omega arith) ∙ sym first
 
-        pub told-magic : (g ≡ magic → ⊥) → failure 4 (some q) ≡ judgeForm (some (take n m))
+        pub tested-magic : (g ≡ magic → ⊥) → failure 4 (some q) ≡ judgeForm (some (take n m))
         unfolding judgeForm
-        told-magic f = rw (length-right, checksum-at, body-at, ← at-end, ← of-body, eq-eqb a b same, magic-at, ne-eqb g magic f, sequence-at)
+        tested-magic f = rw (length-right, checksum-at, body-at, ← at-end, ← of-body, eq-eqb a b same, magic-at, ne-eqb g magic f, sequence-at)
 
-        pub told-good : {v d : ℕ} → g ≡ magic → v ≡ numberAt 4 m 4 → d ≡ numberAt 1 m 16
+        pub tested-good : {v d : ℕ} → g ≡ magic → v ≡ numberAt 4 m 4 → d ≡ numberAt 1 m 16
             → good (record { version = v; sequence = q; command = d; payload = run header-length (n - shortest-message) m }) ≡ judgeForm (some (take n m))
         unfolding judgeForm fields
-        told-good f version command =
+        tested-good f version command =
             let v = number-at 4 4 (omega arith) ∙ sym version in
             let d = number-at 1 16 (omega arith) ∙ sym command in
             rw (length-right, checksum-at, body-at, ← at-end, ← of-body, eq-eqb a b same, magic-at, eq-eqb g magic f, sequence-at, v, d, ← payload-at, body-at)

@@ -28,7 +28,7 @@ firstPiece x = firstOf (x .closed) (x .rest)
 unfoldable pub pieceAt : List ℕ → ℕ → Piece
 pieceAt w at = firstPiece (split (drop at w))
 
--- the verdict that an answer tells; the data stand in the array behind the message's header
+-- the verdict that an answer stands for; the data stand in the array behind the message's header
 unfoldable pub verdictOf : Answer → List ℕ → Verdict
 verdictOf (Message h) m =
     good (record { version = h .version; sequence = h .sequence; command = h .command; payload = run header-length (h .length) m })

@@ -1,4 +1,4 @@
--- Claim: on every stream, cut anywhere, a fresh line reader hands out, reports and answers what the listing has, and tells its tail.
+-- Claim: on every stream, cut anywhere, a fresh line reader hands out, reports and answers what the listing has, and reports its tail.
 -- Assumes nothing.
 use mathlib.Core.Path.{_≡_, refl, ap, _∙_}
 use mathlib.Core.Bool.{cond}
@@ -20,31 +20,31 @@ listedBy f [] = []
 listedBy f (e ∷ es) = f (e .verdict) ++ listedBy f es
 
 -- the line reader's answer to a frame
-abbrev pub saidOf : Verdict → List Report
-saidOf v = verdictReport v ∷ []
+abbrev pub reportsOf : Verdict → List Report
+reportsOf v = verdictReport v ∷ []
 
 -- the answers other than `empty` and `more`, and no refusal
-abbrev pub toldOf : Report → List Report
-toldOf (refused number) = []
-toldOf more = []
-toldOf empty = []
-toldOf (message version sequence command n) = message version sequence command n ∷ []
-toldOf (failed reason sequence) = failed reason sequence ∷ []
+abbrev pub nonEmptyReport : Report → List Report
+nonEmptyReport (refused number) = []
+nonEmptyReport more = []
+nonEmptyReport empty = []
+nonEmptyReport (message version sequence command n) = message version sequence command n ∷ []
+nonEmptyReport (failed reason sequence) = failed reason sequence ∷ []
 
-unfoldable pub told : List Report → List Report
-told [] = []
-told (a ∷ rest) = toldOf a ++ told rest
+unfoldable pub nonEmptyReports : List Report → List Report
+nonEmptyReports [] = []
+nonEmptyReports (a ∷ rest) = nonEmptyReport a ++ nonEmptyReports rest
 
--- what is told of a tail: its length, or above 4,140 bytes that it is longer
-unfoldable pub tailTold : ℕ → TailReport
-tailTold n = cond (ltb longest-form n) longer (unfinished n)
+-- the report of a tail of so many bytes: its length, or above 4,140 bytes that it is longer
+unfoldable pub tailReported : ℕ → TailReport
+tailReported n = cond (ltb longest-form n) longer (unfinished n)
 
 -- the messages handed out, the failures reported, the answers, each in order, and the tail
 pub record Agrees (l : Listing) (r : Reader) : Type 0 where
   pub messages : r .messages ≡ listedBy goodOf (l .entries)
   pub failures : r .failures ≡ listedBy reasonOf (l .entries)
-  pub answers : told (r .answered) ≡ listedBy saidOf (l .entries)
-  pub tail : tailOf (r .state) ≡ tailTold (l .tail)
+  pub answers : nonEmptyReports (r .answered) ≡ listedBy reportsOf (l .entries)
+  pub tail : tailOf (r .state) ≡ tailReported (l .tail)
 
 listed-gathered : {A : Type 0} (f : Verdict → List A) (at : ℕ) (ps : List (List ℕ)) → gathered f (nonEmpty ps) ≡ listedBy f (entriesFrom at ps)
 unfolding gathered nonEmpty listedBy entriesFrom entryOf
@@ -52,19 +52,19 @@ listed-gathered f at [] = refl
 listed-gathered f at ([] ∷ ps) = listed-gathered f (at + 0 + 1) ps
 listed-gathered f at ((b ∷ bs) ∷ ps) = rw (listed-gathered f (at + length (b ∷ bs) + 1) ps)
 
-told-verdict : (v : Verdict) → toldOf (verdictReport v) ≡ verdictReport v ∷ []
+report-verdict : (v : Verdict) → nonEmptyReport (verdictReport v) ≡ verdictReport v ∷ []
 unfolding verdictReport
-told-verdict (failure reason sequence) = refl
-told-verdict (good m) = refl
+report-verdict (failure reason sequence) = refl
+report-verdict (good m) = refl
 
-told-listed : (at : ℕ) (ps : List (List ℕ)) → told (map frameReport ps) ≡ listedBy saidOf (entriesFrom at ps)
-unfolding told frameReport listedBy entriesFrom entryOf
-told-listed at [] = refl
-told-listed at ([] ∷ ps) = told-listed (at + 0 + 1) ps
-told-listed at ((b ∷ bs) ∷ ps) = rw (told-verdict (judge (b ∷ bs)), told-listed (at + length (b ∷ bs) + 1) ps)
+reports-listed : (at : ℕ) (ps : List (List ℕ)) → nonEmptyReports (map frameReport ps) ≡ listedBy reportsOf (entriesFrom at ps)
+unfolding nonEmptyReports frameReport listedBy entriesFrom entryOf
+reports-listed at [] = refl
+reports-listed at ([] ∷ ps) = reports-listed (at + 0 + 1) ps
+reports-listed at ((b ∷ bs) ∷ ps) = rw (report-verdict (judge (b ∷ bs)), reports-listed (at + length (b ∷ bs) + 1) ps)
 
-tail-is : {v w : List ℕ} → v ≡ w → tailMeant (split v .rest) ≡ tailTold (length (split w .rest))
-unfolding tailMeant tailTold
+tail-is : {v w : List ℕ} → v ≡ w → tailMeant (split v .rest) ≡ tailReported (length (split w .rest))
+unfolding tailMeant tailReported
 tail-is e = rw e
 
 -- Every stream, and every list of calls of a line reader just after its start on any room, whatever each is lent of the state and however the stream is
@@ -77,6 +77,6 @@ agreement w room enough cs e =
     record {
       messages = any-messages room enough cs ∙ rw e (listed-gathered goodOf 0 ps);
       failures = any-failures room enough cs ∙ rw e (listed-gathered reasonOf 0 ps);
-      answers = ap told (any-stream room enough cs) ∙ rw e (told-listed 0 ps);
+      answers = ap nonEmptyReports (any-stream room enough cs) ∙ rw e (reports-listed 0 ps);
       tail = any-tail room enough cs ∙ tail-is e;
     }

@@ -17,7 +17,7 @@ use Rattle.plain.specs.declared.Answer.{Answer}
 use Rattle.plain.proofs.Steps.{listedFrom, added, at-frame, at-tail}
 
 -- What is listed from an offset on: `next` is asked there; at the tail the listing ends; an empty frame is passed over; any other is handed to `judged`,
--- whose answer and array tell the verdict; it goes on behind the frame's 00.
+-- whose answer and array give the verdict; it goes on behind the frame's 00.
 pub data Repeated (w : List ℕ) : ℕ → Listing → Type 0 where
   tail : {at n : ℕ} → Tail n ≡ pieceAt w at → Repeated w at (record { entries = []; tail = n })
   empty : {at : ℕ} {l : Listing} → Frame 0 ≡ pieceAt w at → Repeated w (at + 1) l → Repeated w at l

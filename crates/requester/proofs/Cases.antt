@@ -1,4 +1,4 @@
--- What settles a contract by cases: a call's answer told by the test of its negation, and tests that lead to each other.
+-- What settles a contract by cases: a call's answer by the test of its negation, and tests that lead to each other.
 -- Assumes nothing.
 use mathlib.Core.Path.{_≡_, refl, sym, _∙_}
 use mathlib.Core.Bool.{Bool, true, false, not, _&&_, false≢true, and-eq-true-iff}

@@ -1,4 +1,4 @@
--- Laws of the line reader's calls: its state stays valid, the data that it tells fit a message, and what its tail says.
+-- Laws of the line reader's calls: its state stays valid, the data's length that it reports fits a message, and what its tail reports.
 -- Assumes nothing.
 use mathlib.Core.Path.{_≡_, refl, _∙_}
 use mathlib.Core.Bool.{Bool, true, false}
@@ -100,16 +100,16 @@ data-length s n v h =
 
 -- ---- the tail
 
--- what an answer of `tail` tells of a state
-abbrev pub TailTells : List ℕ → LineReader.TailReport → Type 0
-TailTells s (LineReader.TailReport.refused n) = LineReader.valid s ≡ false
-TailTells s (LineReader.unfinished n) = (LineReader.valid s ≡ true) × (n ≡ LineReader.count s) × (LineReader.count s ≤ longest-form)
-TailTells s LineReader.longer = (LineReader.valid s ≡ true) × (longest-form < LineReader.count s)
+-- what holds of a state by an answer of `tail`
+abbrev pub TailHolds : List ℕ → LineReader.TailReport → Type 0
+TailHolds s (LineReader.TailReport.refused n) = LineReader.valid s ≡ false
+TailHolds s (LineReader.unfinished n) = (LineReader.valid s ≡ true) × (n ≡ LineReader.count s) × (LineReader.count s ≤ longest-form)
+TailHolds s LineReader.longer = (LineReader.valid s ≡ true) × (longest-form < LineReader.count s)
 
-pub tail-tells : (s : List ℕ) {x : LineReader.TailReport} → x ≡ LineReader.tailOf s → TailTells s x
+pub tail-holds : (s : List ℕ) {x : LineReader.TailReport} → x ≡ LineReader.tailOf s → TailHolds s x
 unfolding LineReader.tailOf
-tail-tells s e =
+tail-holds s e =
     rw e
-    (cond-by (TailTells s) (LineReader.valid s) _ _
-    (λ v. cond-by (TailTells s) (ltb longest-form (LineReader.count s)) _ _ (λ f. (v, ltb-true _ _ f)) (λ f. (v, refl, ltb-false _ _ f)))
+    (cond-by (TailHolds s) (LineReader.valid s) _ _
+    (λ v. cond-by (TailHolds s) (ltb longest-form (LineReader.count s)) _ _ (λ f. (v, ltb-true _ _ f)) (λ f. (v, refl, ltb-false _ _ f)))
     (λ v. v))

@@ -86,7 +86,7 @@ sendReport sent.Refused = refused 12
 sendReport sent.NoRoom = refused 8
 sendReport (sent.Done n) = wrote n
 
--- what a call said, the room and the part as it left them
+-- what a call answered, the room and the part as it left them
 pub record Put : Type 0 where
   pub report : PutReport
   pub out : List ℕ

@@ -47,7 +47,7 @@ outcomeReport o = record { told = told (o .handed); next = nextOf (o .next) }
 abbrev pub outcomeTold : Requester.Outcome → OutcomeTold
 outcomeTold o = record { told = toldOf (o .handed); next = o .next }
 
--- the data that an answer of the line reader tells fit a message
+-- the data's length in an answer of the line reader fits a message
 unfoldable pub dataFit : LineReader.Report → Bool
 dataFit (LineReader.refused n) = true
 dataFit LineReader.more = true

@@ -63,7 +63,7 @@ pub(crate) fn interrupting(a: Interrupted) {
     }
 }
 
-// Whether a call of receive has nothing to tell.
+// Whether a call of receive has nothing to report.
 pub(crate) fn is_quiet(r: Received) -> bool {
     if r.ended {
         return false;

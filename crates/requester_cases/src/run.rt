@@ -256,7 +256,7 @@ fn receive_by(piece: &[u8], most: usize, reader: &mut [u8], requester: &mut [u8]
     }
 }
 
-// One call of receive; how many bytes it used. With brief, one that has nothing to tell prints nothing.
+// One call of receive; how many bytes it used. With brief, one that has nothing to report prints nothing.
 fn receive_once(piece: &[u8], brief: bool, reader: &mut [u8], requester: &mut [u8]) -> usize {
     let r = receive::receive(piece, reader, requester);
     let used = r.used;

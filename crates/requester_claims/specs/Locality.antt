@@ -30,7 +30,7 @@ use Rattle.requester.proofs.ReaderLaws.{read-leaves}
 
 -- ---- the main processor's part
 
--- what is said of a part, with more behind it
+-- the same answer and room, and the part with more behind it
 abbrev putBehind : List ℕ → Calls.Put → Calls.Put
 putBehind u t = Calls.putBy (t .report) (t .out) (t .requester ++ u)
 

@@ -77,7 +77,7 @@ module _ (r : List ℕ) (v : RequesterValid r) (bs : Option (List ℕ)) where
 
 -- ---- the data of what is handed out
 
--- what is told and the reader's part give the data
+-- what is handed out in numbers, and the reader's part, give the data
 abbrev pub Given : List ℕ → Requester.Handed → Type 0
 Given reader h = dataGiven (toldOf h) reader ≡ dataOf h
 

@@ -33,14 +33,14 @@ abbrev pub readerAfter : List ℕ → ℕ → List ℕ
 readerAfter s zero = LineReader.finish s .state
 readerAfter s (suc b) = LineReader.pushed s (suc b)
 
-abbrev pub saidAfter : List ℕ → ℕ → LineReader.Report
-saidAfter s zero = LineReader.finish s .answer
-saidAfter s (suc b) = LineReader.more
+abbrev pub reportAfter : List ℕ → ℕ → LineReader.Report
+reportAfter s zero = LineReader.finish s .answer
+reportAfter s (suc b) = LineReader.more
 
 unfoldable pub feed : Parts → ℕ → Fed
 feed p b =
     let s = readerAfter (p .reader) b in
-    fedBy p s (cond (overran (p .reader)) none (heardOf (Layout.numberOf (p .requester)) s (saidAfter (p .reader) b)))
+    fedBy p s (cond (overran (p .reader)) none (heardOf (Layout.numberOf (p .requester)) s (reportAfter (p .reader) b)))
 
 -- whether a byte is a 00, or the 4,141st of its frame
 abbrev pub stopsAt : List ℕ → ℕ → Bool

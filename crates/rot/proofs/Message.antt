@@ -36,7 +36,7 @@ module _ (xs ys s : List ℕ) (at : ℕ) {t : List ℕ} (e : length xs ≡ at) (
   copy-next : copied ys 0 (length ys) t at ≡ overlay 0 (xs ++ ys) s
   copy-next = let l = long in copied-fits ys 0 (length ys) t at (omega arith) (omega arith) ∙ rw take-length next
 
--- the stores in turn: protocol and type, payload length, CRC, payload
+-- the stores one after the other: protocol and type, payload length, CRC, payload
 pub assembled : (type crc : ℕ) (payload s : List ℕ) {s₁ s₂ s₃ : List ℕ} → header-length + length payload ≤ length s
     → crc ≡ crcOf (messageOf type payload) → s₁ ≡ put 2 (bytes 2 (length payload)) (set (set s 0 version-1) 1 type)
     → s₂ ≡ put start-length (bytes 4 crc) s₁ → s₃ ≡ copied payload 0 (length payload) s₂ header-length

@@ -29,7 +29,7 @@ pub data Report : Type 0 where
   -- so many bytes were written
   wrote : ℕ → Report
 
--- what a call said, and the room as it left it
+-- what a call answered, and the room as it left it
 pub record Outcome : Type 0 where
   pub answer : Report
   pub out : List ℕ

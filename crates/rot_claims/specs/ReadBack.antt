@@ -107,12 +107,12 @@ read-as m input e = record {
 
 -- ---- bytes sent to a room stand at its start
 
--- what a call says that sent bytes
+-- what a call that sent bytes answers
 abbrev Sent : List ℕ → ℕ → Outcome → Type 0
 Sent bs n o = o .answer ≡ wrote n → take n (o .out) ≡ bs
 
-unsaid : (k n : ℕ) → Report.refused k ≡ wrote n → ⊥
-unsaid k n e = let z : _≡_ {A = ℕ} 0 1 = cc in omega arith
+refused-not-wrote : (k n : ℕ) → Report.refused k ≡ wrote n → ⊥
+refused-not-wrote k n e = let z : _≡_ {A = ℕ} 0 1 = cc in omega arith
 
 sent-bytes : (bs out : List ℕ) (n : ℕ) → Sent bs n (sending bs out)
 unfolding sending
@@ -132,10 +132,10 @@ pub wrote-message : (m : Message) (room : List ℕ) (n : ℕ) → writing m room
 unfolding writing
 wrote-message m room n =
     let P : Outcome → Type 0 = λ o. o .answer ≡ wrote n → Wrote m n o in
-    cond-by P (ltb longest-payload (length (m .payload))) _ _ (λ _ e. absurd (unsaid 23 n e)) (λ l.
+    cond-by P (ltb longest-payload (length (m .payload))) _ _ (λ _ e. absurd (refused-not-wrote 23 n e)) (λ l.
     cond-by P (listed (m .type)) _ _ (λ t e.
     record { sendable = record { type = t; short = ltb-false longest-payload (length (m .payload)) l }; bytes = sent-bytes (message m) room n e })
-    (λ _ e. absurd (unsaid 26 n e)))
+    (λ _ e. absurd (refused-not-wrote 26 n e)))
 
 -- what was written, with any bytes behind it, is read as that message
 pub reads-back : (m : Message) (room : List ℕ) (n : ℕ) → writing m room .answer ≡ wrote n
@@ -171,7 +171,7 @@ served-by input out n m j =
 
 echoed-by : (input out : List ℕ) (n : ℕ) (j : Judged) → judge input ≡ j → answering j out .answer ≡ wrote n → Echoed input n (answering j out)
 unfolding answering
-echoed-by input out n (failure k) j e = absurd (unsaid k n e)
+echoed-by input out n (failure k) j e = absurd (refused-not-wrote k n e)
 echoed-by input out n unsent j e = let z : _≡_ {A = ℕ} 0 1 = cc in absurd (omega arith)
 echoed-by input out n (good m) j e = served-by input out n m j e
 

@@ -34,7 +34,7 @@ pub(crate) fn started(a: Started) {
     }
 }
 
-// What receive said, unless it is to be passed over.
+// What receive answered, unless it is to be passed over.
 pub(crate) fn received(a: Received, printed: bool) {
     if !printed {
         return;

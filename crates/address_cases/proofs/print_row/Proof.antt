@@ -1,4 +1,4 @@
--- `print_row` is safe and ends: each turn takes a byte.
+-- `print_row` is safe and ends: each iteration takes a byte.
 -- Assumes nothing.
 use Prim.Native.Nat.{_-_}
 use borrow.Author.Needs.{needs}

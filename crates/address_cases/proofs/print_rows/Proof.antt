@@ -1,4 +1,4 @@
--- `print_rows` is safe and ends: each turn takes a row.
+-- `print_rows` is safe and ends: each iteration takes a row.
 -- Assumes nothing.
 use Prim.Native.Nat.{_-_}
 use borrow.Author.Needs.{needs}

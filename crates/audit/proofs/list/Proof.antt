@@ -22,20 +22,20 @@ abbrev μ-loop : tie.MeasureT-loop
 put-frame-requires : tie.Need-put-frame-requires Inv-loop μ-loop
 put-frame-requires c κs =
     let asked = c .before .before .before .before in
-    let turn = asked .before .loop in
+    let iteration = asked .before .loop in
     let a = asked .before .before .before .before .args in
-    let f = at-frame (now (a .capture)) (turn .at) (sym (c .before .before .piece .given .1) ∙ asked .next .ensures) in
-    (omega (arith, f .within), (omega arith, omega (arith, f .within, turn .inv .2 .short)))
+    let f = at-frame (now (a .capture)) (iteration .at) (sym (c .before .before .piece .given .1) ∙ asked .next .ensures) in
+    (omega (arith, f .within), (omega arith, omega (arith, f .within, iteration .inv .2 .short)))
 
 -- the frame that was found
 found : (c : tie.After-slice-known2 Inv-loop μ-loop) → let asked = c .before .before .before .before .before .before .before in
-    let turn = asked .before .loop in let a = asked .before .before .before .before .args in
-    Frame (c .before .before .before .before .before .piece .given .0 .0) ≡ pieceAt (now (a .capture)) (turn .at)
+    let iteration = asked .before .loop in let a = asked .before .before .before .before .args in
+    Frame (c .before .before .before .before .before .piece .given .0 .0) ≡ pieceAt (now (a .capture)) (iteration .at)
 found c = sym (c .before .before .before .before .before .piece .given .1) ∙ c .before .before .before .before .before .before .before .next .ensures
 
 within : (c : tie.After-slice-known2 Inv-loop μ-loop) → let asked = c .before .before .before .before .before .before .before in
-    let turn = asked .before .loop in let a = asked .before .before .before .before .args in
-    turn .at + c .before .before .before .before .before .piece .given .0 .0 < length (now (a .capture))
+    let iteration = asked .before .loop in let a = asked .before .before .before .before .args in
+    iteration .at + c .before .before .before .before .before .piece .given .0 .0 < length (now (a .capture))
 within c = at-frame _ _ (found c) .within
 
 add-at : tie.Need-add-at Inv-loop μ-loop
@@ -51,28 +51,28 @@ loop-again : tie.Need-loop-again Inv-loop μ-loop
 loop-again c =
     let wrote = c .before .before in
     let asked = wrote .before .before .before .before .before in
-    let turn = asked .before .loop in
+    let iteration = asked .before .loop in
     let a = asked .before .before .before .before .args in (
       omega (arith, within c),
       search needs,
-      middle-next (now (a .capture)) (now (a .text)) (turn .text) (turn .at) (turn .k) _ (turn .inv .2) (found c) _ _ (wrote .put-frame .ensures .0) (wrote .put-frame .ensures .1),
+      middle-next (now (a .capture)) (now (a .text)) (iteration .text) (iteration .at) (iteration .k) _ (iteration .inv .2) (found c) _ _ (wrote .put-frame .ensures .0) (wrote .put-frame .ensures .1),
     )
 
 put-tail-requires : tie.Need-put-tail-requires Inv-loop μ-loop
 put-tail-requires c κs =
     let asked = c .before .before .before .before in
-    let turn = asked .before .loop in
+    let iteration = asked .before .loop in
     let a = asked .before .before .before .before .args in
-    let t = at-tail (now (a .capture)) (turn .at) (sym (c .before .before .piece2 .given .1) ∙ asked .next .ensures) in
-    (omega (arith, t .within), omega (arith, turn .inv .2 .short))
+    let t = at-tail (now (a .capture)) (iteration .at) (sym (c .before .before .piece2 .given .1) ∙ asked .next .ensures) in
+    (omega (arith, t .within), omega (arith, iteration .inv .2 .short))
 
 returns : tie.Need-returns Inv-loop μ-loop
 returns c =
     let wrote = c .before .before in
     let asked = wrote .before .before .before .before .before in
-    let turn = asked .before .loop in
+    let iteration = asked .before .loop in
     let a = asked .before .before .before .before .args in
-    middle-end (now (a .capture)) (now (a .text)) (turn .text) (turn .at) (turn .k) _ (turn .inv .2)
+    middle-end (now (a .capture)) (now (a .text)) (iteration .text) (iteration .at) (iteration .k) _ (iteration .inv .2)
     (sym (wrote .before .before .before .piece2 .given .1) ∙ asked .next .ensures) _ _ (wrote .put-tail .ensures)
 
 pub list-spec : {M : Type 1} → statement M

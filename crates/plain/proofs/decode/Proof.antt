@@ -18,27 +18,27 @@ abbrev μ-loop : tie.MeasureT-loop
 
 loop-again : tie.Need-loop-again Inv-loop μ-loop
 loop-again c =
-    let turn = c .before .before .before .loop in
+    let iteration = c .before .before .before .loop in
     let start = c .before .before .before .before .before .before in (
       search needs,
-      simp length-set (turn .inv .1),
-      middle-byte (now (start .args .form)) (now (start .args .out)) (turn .out) (turn .left) (turn .zero) (turn .n) (turn .i) (turn .inv .2)
+      simp length-set (iteration .inv .1),
+      middle-byte (now (start .args .form)) (now (start .args .out)) (iteration .out) (iteration .left) (iteration .zero) (iteration .n) (iteration .i) (iteration .inv .2)
           (c .before .before .loop-test .taken) _ refl (c .if1 .taken) (omega arith),
     )
 
 returns : tie.Need-returns Inv-loop μ-loop
 returns c =
-    let turn = c .before .before .before .before .loop in
+    let iteration = c .before .before .before .before .loop in
     let start = c .before .before .before .before .before .before .before in
-    stop-zero (now (start .args .form)) (now (start .args .out)) (turn .out) (turn .left) (turn .zero) (turn .n) (turn .i) (turn .inv .2)
+    stop-zero (now (start .args .form)) (now (start .args .out)) (iteration .out) (iteration .left) (iteration .zero) (iteration .n) (iteration .i) (iteration .inv .2)
     (c .before .before .before .loop-test .taken) _ refl (c .before .if1 .left) (c .if2 .taken)
 
 returns-2 : tie.Need-returns-2 Inv-loop μ-loop
 returns-2 c =
     let test = c .before .before .before .before .before in
-    let turn = test .before .loop in
+    let iteration = test .before .loop in
     let start = test .before .before .before .before in
-    stop-last (now (start .args .form)) (now (start .args .out)) (turn .out) (turn .left) (turn .zero) (turn .n) (turn .i) (turn .inv .2)
+    stop-last (now (start .args .form)) (now (start .args .out)) (iteration .out) (iteration .left) (iteration .zero) (iteration .n) (iteration .i) (iteration .inv .2)
     (test .loop-test .taken) _ refl (c .before .before .before .if1 .left) (sym (c .if3 .taken) ∙ c .before .last-one-after-full .ensures)
 
 loop-again-2 : tie.Need-loop-again-2 Inv-loop μ-loop
@@ -46,28 +46,28 @@ loop-again-2 c =
     let put = c .before .before .before in
     let call = put .before .before .before in
     let test = call .before .before .before .before in
-    let turn = test .before .loop in
+    let iteration = test .before .loop in
     let start = test .before .before .before .before in (
       search needs,
       omega arith,
       rw (c .wide .ensures .0)
-          (middle-code (now (start .args .form)) (now (start .args .out)) (turn .out) (turn .left) (turn .zero) (turn .n) (turn .i) (turn .inv .2)
+          (middle-code (now (start .args .form)) (now (start .args .out)) (iteration .out) (iteration .left) (iteration .zero) (iteration .n) (iteration .i) (iteration .inv .2)
           (test .loop-test .taken) _ refl (call .before .before .if1 .left) (call .before .if2 .left)
           (sym (put .before .before .if3 .left) ∙ call .last-one-after-full .ensures) (omega arith) (put .put-zero .ensures .0) (put .put-zero .ensures .1)),
     )
 
 returns-3 : tie.Need-returns-3 Inv-loop μ-loop
 returns-3 c =
-    let turn = c .before .before .loop in
+    let iteration = c .before .before .loop in
     let start = c .before .before .before .before .before in
-    stop-past (now (start .args .form)) (now (start .args .out)) (turn .out) (turn .left) (turn .zero) (turn .n) (turn .i) (turn .inv .2)
+    stop-past (now (start .args .form)) (now (start .args .out)) (iteration .out) (iteration .left) (iteration .zero) (iteration .n) (iteration .i) (iteration .inv .2)
     (c .before .loop-test .left) (c .if4 .taken)
 
 returns-4 : tie.Need-returns-4 Inv-loop μ-loop
 returns-4 c =
-    let turn = c .before .before .loop in
+    let iteration = c .before .before .loop in
     let start = c .before .before .before .before .before in
-    stop-end (now (start .args .form)) (now (start .args .out)) (turn .out) (turn .left) (turn .zero) (turn .n) (turn .i) (turn .inv .2)
+    stop-end (now (start .args .form)) (now (start .args .out)) (iteration .out) (iteration .left) (iteration .zero) (iteration .n) (iteration .i) (iteration .inv .2)
     (c .before .loop-test .left) (c .if4 .left)
 
 pub decode-spec : {M : Type 1} → statement M

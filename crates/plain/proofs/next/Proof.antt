@@ -3,7 +3,7 @@
 use Prim.Native.Nat.{_-_}
 use lib.ListN.{length}
 use borrow.Author.Needs.{needs}
-use Rattle.plain.proofs.Places.{Reached, reached-start, reached-more, reached-zero, reached-end}
+use Rattle.plain.proofs.Offsets.{Reached, reached-start, reached-more, reached-zero, reached-end}
 use Rattle.plain.proofs.next.Statement.{statement}
 use Rattle.plain.proofs.next.Tie as tie
 

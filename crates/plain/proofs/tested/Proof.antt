@@ -7,7 +7,7 @@ use lib.Seq.{length-take-le}
 use borrow.Author.Needs.{needs}
 use denote.Ref.{now}
 use Rattle.plain.specs.Answers.{verdictOf}
-use Rattle.plain.proofs.Tests.{told-short, told-long, told-checksum, told-magic, told-good}
+use Rattle.plain.proofs.Tests.{tested-short, tested-long, tested-checksum, tested-magic, tested-good}
 use Rattle.plain.proofs.tested.Statement.{statement}
 use Rattle.plain.proofs.tested.Tie as tie
 
@@ -15,13 +15,13 @@ returns : tie.Need-returns
 unfolding verdictOf
 returns c =
     let start = c .before .before in
-    told-short (now (start .args .message)) (start .args .n) (start .pre) (c .if1 .taken)
+    tested-short (now (start .args .message)) (start .args .n) (start .pre) (c .if1 .taken)
 
 returns-2 : tie.Need-returns-2
 unfolding verdictOf
 returns-2 c =
     let start = c .before .before .before in
-    told-long (now (start .args .message)) (start .args .n) (start .pre) (c .if2 .taken)
+    tested-long (now (start .args .message)) (start .args .n) (start .pre) (c .if2 .taken)
 
 slice-aggregate-checksum : tie.Need-slice-aggregate-checksum
 slice-aggregate-checksum c =
@@ -35,7 +35,7 @@ returns-3 c =
     let sequence = sum .before .before .before in
     let high = sequence .before in
     let start = high .before .before .before in
-    told-checksum (now (start .args .message)) (start .args .n) (start .pre) (high .before .if1 .left) (high .if2 .left)
+    tested-checksum (now (start .args .message)) (start .args .n) (start .pre) (high .before .if1 .left) (high .if2 .left)
     (sum .before .before .read-u16 .ensures) (sum .checksum .ensures) (sequence .read-u64 .ensures)
     (c .if3 .taken)
 
@@ -46,7 +46,7 @@ returns-4 c =
     let sequence = sum .before .before .before in
     let high = sequence .before in
     let start = high .before .before .before in
-    told-magic (now (start .args .message)) (start .args .n) (start .pre) (high .before .if1 .left) (high .if2 .left)
+    tested-magic (now (start .args .message)) (start .args .n) (start .pre) (high .before .if1 .left) (high .if2 .left)
     (sum .before .before .read-u16 .ensures) (sum .checksum .ensures) (sequence .read-u64 .ensures)
     (c .before .before .if3 .left) (c .before .read-u32 .ensures) (c .if4 .taken)
 
@@ -57,7 +57,7 @@ returns-5 c =
     let sequence = sum .before .before .before in
     let high = sequence .before in
     let start = high .before .before .before in
-    told-good (now (start .args .message)) (start .args .n) (start .pre) (high .before .if1 .left) (high .if2 .left)
+    tested-good (now (start .args .message)) (start .args .n) (start .pre) (high .before .if1 .left) (high .if2 .left)
     (sum .before .before .read-u16 .ensures) (sum .checksum .ensures) (sequence .read-u64 .ensures)
     (c .before .before .before .before .if3 .left) (c .before .before .before .read-u32 .ensures) (c .before .before .if4 .left)
     (c .before .read-u322 .ensures) (c .read-u8 .ensures)

@@ -1,4 +1,4 @@
--- `feed` is safe and ends: what is lent keeps its length, and each turn takes a byte.
+-- `feed` is safe and ends: what is lent keeps its length, and each iteration takes a byte.
 -- Assumes nothing.
 use Prim.Native.Nat.{_-_}
 use mathlib.Core.Path.{_≡_}

@@ -91,7 +91,7 @@ impl<'s> Line<'s> {
 struct Main<'s> {
     requester: Requester<'s>,
     out: VecDeque<u8>,
-    /// The request that waits for its answer.
+    /// The request that is outstanding.
     waiting: Option<(u8, Vec<u8>)>,
     recovering: bool,
     quiet: u64,

@@ -24,14 +24,14 @@ loop-again : tie.Need-loop-again Inv-loop μ-loop
 loop-again c =
     let at-if = c .before .before .before .before in
     let at-loop = at-if .before .before .before .before in
-    let turn = at-loop .loop in
+    let iteration = at-loop .loop in
     let start = at-loop .before .before in
     let ones = at-if .before .ones-held .ensures (at-if .if1 .taken) in (
       omega (arith, ones .1),
       search needs,
       rw (c .before .before .put-alike .ensures)
-          (middle-ones (now (start .args .s)) (start .args .n) (turn .s) (turn .zero) (turn .o) (turn .i) 32
-          (ones .0) (turn .inv .2) (ones .1) (start .pre) (ones .2)),
+          (middle-ones (now (start .args .s)) (start .args .n) (iteration .s) (iteration .zero) (iteration .o) (iteration .i) 32
+          (ones .0) (iteration .inv .2) (ones .1) (start .pre) (ones .2)),
     )
 
 -- one
@@ -39,14 +39,14 @@ loop-again-2 : tie.Need-loop-again-2 Inv-loop μ-loop
 loop-again-2 c =
     let at-if = c .before .before .before .before in
     let at-loop = at-if .before .before .before .before .before .before .before in
-    let turn = at-loop .loop in
+    let iteration = at-loop .loop in
     let start = at-loop .before .before in
     let ones = at-if .before .ones-held2 .ensures (at-if .if2 .taken) in (
       omega (arith, ones .1),
       search needs,
       rw (c .before .before .put-alike2 .ensures)
-          (middle-ones (now (start .args .s)) (start .args .n) (turn .s) (turn .zero) (turn .o) (turn .i) 1
-          (ones .0) (turn .inv .2) (ones .1) (start .pre) (ones .2)),
+          (middle-ones (now (start .args .s)) (start .args .n) (iteration .s) (iteration .zero) (iteration .o) (iteration .i) 1
+          (ones .0) (iteration .inv .2) (ones .1) (start .pre) (ones .2)),
     )
 
 -- a group
@@ -58,24 +58,24 @@ loop-again-3 c =
     let at-wide = at-put .before .before in
     let in-loop = at-wide .before .before .before .before .before .before .before .before in
     let at-loop = in-loop .before in
-    let turn = at-loop .loop in
+    let iteration = at-loop .loop in
     let start = at-loop .before .before in (
       search needs,
       search needs,
       rw (c .before .before .move-down .ensures, at-put .put-held .ensures, at-held .held .ensures .0)
-          (middle-next (now (start .args .s)) (start .args .n) (turn .s) (turn .zero) (turn .o) (turn .i)
+          (middle-next (now (start .args .s)) (start .args .n) (iteration .s) (iteration .zero) (iteration .o) (iteration .i)
           (at-wide .wide .result) (at-least .min .result)
-          (turn .inv .2) (in-loop .loop-test .taken) (start .pre) (at-wide .wide .ensures .0)
-          (at-least .min .ensures ∙ ap (λ (m : ℕ). min m (start .args .n - (turn .i + 1))) (at-least .before .less-one .ensures))),
+          (iteration .inv .2) (in-loop .loop-test .taken) (start .pre) (at-wide .wide .ensures .0)
+          (at-least .min .ensures ∙ ap (λ (m : ℕ). min m (start .args .n - (iteration .i + 1))) (at-least .before .less-one .ensures))),
     )
 
 returns : tie.Need-returns Inv-loop μ-loop
 returns c =
     let at-loop = c .before in
-    let turn = at-loop .loop in
+    let iteration = at-loop .loop in
     let start = at-loop .before .before in
-    middle-end (now (start .args .s)) (start .args .n) (turn .s) (turn .zero) (turn .o) (turn .i)
-    (turn .inv .2) (c .loop-test .left) (start .pre)
+    middle-end (now (start .args .s)) (start .args .n) (iteration .s) (iteration .zero) (iteration .o) (iteration .i)
+    (iteration .inv .2) (c .loop-test .left) (start .pre)
 
 -- where the code bytes 01 end
 block-end : (c : tie.Then1 Inv-loop μ-loop)

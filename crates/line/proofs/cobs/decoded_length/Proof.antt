@@ -28,12 +28,12 @@ loop-holds c = (search needs, search needs, counted-start _)
 loop-again : tie.Need-loop-again Inv-loop μ-loop
 loop-again c =
     let at-loop = c .before .before .before in
-    let turn = at-loop .loop in
+    let iteration = at-loop .loop in
     let start = at-loop .before .before in
     let ones = c .before .alike .ensures (c .if1 .taken) in (
       omega (arith, ones .0),
       omega arith,
-      turn .inv .2 ∙ counted-ones (now (start .args .s)) (start .args .n) (turn .i) (turn .full) (turn .zero) (turn .inv .1) 32
+      iteration .inv .2 ∙ counted-ones (now (start .args .s)) (start .args .n) (iteration .i) (iteration .full) (iteration .zero) (iteration .inv .1) 32
           (omega arith) (ones .0) (ones .1),
     )
 
@@ -41,12 +41,12 @@ loop-again c =
 loop-again-2 : tie.Need-loop-again-2 Inv-loop μ-loop
 loop-again-2 c =
     let at-loop = c .before .before .before .before .before in
-    let turn = at-loop .loop in
+    let iteration = at-loop .loop in
     let start = at-loop .before .before in
     let ones = c .before .alike2 .ensures (c .if2 .taken) in (
       omega (arith, ones .0),
       omega arith,
-      turn .inv .2 ∙ counted-ones (now (start .args .s)) (start .args .n) (turn .i) (turn .full) (turn .zero) (turn .inv .1) 1
+      iteration .inv .2 ∙ counted-ones (now (start .args .s)) (start .args .n) (iteration .i) (iteration .full) (iteration .zero) (iteration .inv .1) 1
           (omega arith) (ones .0) (ones .1),
     )
 
@@ -55,22 +55,22 @@ returns : tie.Need-returns Inv-loop μ-loop
 returns c =
     let at-wide = c .before in
     let in-loop = at-wide .before .before .before .before .before .before in
-    let turn = in-loop .before .loop in
+    let iteration = in-loop .before .loop in
     let start = in-loop .before .before .before in
-    counted-zero (now (start .args .s)) (start .args .n) (turn .i) (turn .zero) _ (at-wide .wide .result)
+    counted-zero (now (start .args .s)) (start .args .n) (iteration .i) (iteration .zero) _ (at-wide .wide .result)
     (in-loop .loop-test .taken) (start .pre) (at-wide .wide .ensures .0) (c .if3 .taken)
-    ∙ sym (turn .inv .2)
+    ∙ sym (iteration .inv .2)
 
 -- a group that runs past the end
 returns-2 : tie.Need-returns-2 Inv-loop μ-loop
 returns-2 c =
     let at-wide = c .before .before in
     let in-loop = at-wide .before .before .before .before .before .before in
-    let turn = in-loop .before .loop in
+    let iteration = in-loop .before .loop in
     let start = in-loop .before .before .before in
-    counted-short (now (start .args .s)) (start .args .n) (turn .i) (turn .zero) _ (at-wide .wide .result)
+    counted-short (now (start .args .s)) (start .args .n) (iteration .i) (iteration .zero) _ (at-wide .wide .result)
     (in-loop .loop-test .taken) (start .pre) (at-wide .wide .ensures .0) (c .if4 .taken)
-    ∙ sym (turn .inv .2)
+    ∙ sym (iteration .inv .2)
 
 -- a last 01 after a full group
 returns-3 : tie.Need-returns-3 Inv-loop μ-loop
@@ -78,11 +78,11 @@ returns-3 c =
     let at-call = c .before in
     let at-wide = at-call .before .before .before in
     let in-loop = at-wide .before .before .before .before .before .before in
-    let turn = in-loop .before .loop in
+    let iteration = in-loop .before .loop in
     let start = in-loop .before .before .before in
-    counted-last (now (start .args .s)) (start .args .n) (turn .i) (turn .zero) _ (at-wide .wide .result)
+    counted-last (now (start .args .s)) (start .args .n) (iteration .i) (iteration .zero) _ (at-wide .wide .result)
     (in-loop .loop-test .taken) (start .pre) (at-wide .wide .ensures .0) (sym (c .if5 .taken) ∙ at-call .last-one-after-full .ensures)
-    ∙ sym (turn .inv .2)
+    ∙ sym (iteration .inv .2)
 
 -- a group
 loop-again-3 : tie.Need-loop-again-3 Inv-loop μ-loop
@@ -90,13 +90,13 @@ loop-again-3 c =
     let at-call = c .before .before in
     let at-wide = at-call .before .before .before in
     let in-loop = at-wide .before .before .before .before .before .before in
-    let turn = in-loop .before .loop in
+    let iteration = in-loop .before .loop in
     let start = in-loop .before .before .before in
     let next = one-if-not (leb (at-wide .wide .result) 254) in (
       search needs,
       omega arith,
-      rw (c .held .ensures .0) (turn .inv .2
-          ∙ counted-group (now (start .args .s)) (start .args .n) (turn .i) (turn .full) (turn .zero) (turn .inv .1) (at-wide .wide .result)
+      rw (c .held .ensures .0) (iteration .inv .2
+          ∙ counted-group (now (start .args .s)) (start .args .n) (iteration .i) (iteration .full) (iteration .zero) (iteration .inv .1) (at-wide .wide .result)
           (in-loop .loop-test .taken) (start .pre) (at-wide .wide .ensures .0) (at-call .before .before .if3 .left) (at-call .before .if4 .left)
           (sym (c .before .if5 .left) ∙ at-call .last-one-after-full .ensures)),
     )
@@ -105,12 +105,12 @@ loop-again-3 c =
 returns-4 : tie.Need-returns-4 Inv-loop μ-loop
 returns-4 c =
     let at-loop = c .before .before in
-    let turn = at-loop .loop in
+    let iteration = at-loop .loop in
     let start = at-loop .before .before in
-    let e : start .args .n - turn .full - c .held2 .result ≡ decodedOf (turn .i) (turn .full) (turn .zero) = omega arith in
+    let e : start .args .n - iteration .full - c .held2 .result ≡ decodedOf (iteration .i) (iteration .full) (iteration .zero) = omega arith in
     ap Length e
-    ∙ counted-end (now (start .args .s)) (start .args .n) (turn .i) (turn .zero) _ (c .before .loop-test .left) (start .pre)
-    ∙ sym (turn .inv .2)
+    ∙ counted-end (now (start .args .s)) (start .args .n) (iteration .i) (iteration .zero) _ (c .before .loop-test .left) (start .pre)
+    ∙ sym (iteration .inv .2)
 
 pub decoded-length-spec : {M : Type 1} → statement M
 decoded-length-spec =

@@ -7,7 +7,7 @@ use denote.Ref.{now}
 use native.Mathlib.Omega.{arith}
 use lib.ListN.{take}
 use Rattle.line.specs.Cobs.{cobs}
-use Rattle.line.proofs.Groups.{Met, Put, put-none, put-all, Turn, turn, turn-last, turn-zero, turn-full, turn-put, Zeros, zeros-next, zeros-put}
+use Rattle.line.proofs.Groups.{Met, Put, put-none, put-all, NextGroup, next-group, group-last, group-zero, group-full, next-group-put, Zeros, zeros-next, zeros-put}
 use Rattle.line.proofs.cobs.encode.Statement.{statement}
 use Rattle.line.proofs.cobs.encode.Tie as tie
 
@@ -35,16 +35,16 @@ one c =
     let found = c .before .alike2 .ensures (c .if2 .taken) in
     zeros-next _ _ _ _ 1 (omega arith) (found .0) (found .1) (c .before .before .before .before .loop .inv .1)
 
--- what a turn's calls say of its group
+-- what an iteration's calls ensure of its group
 known : (c : tie.After-nonzero-run Inv-loop μ-loop)
     → let at-loop = c .before .before .before .before .before .before in
     let a = at-loop .before .before .before .args in
-    Turn (now (a .s)) (a .n) (at-loop .loop .i) (at-loop .loop .o) (c .nonzero-run .result)
+    NextGroup (now (a .s)) (a .n) (at-loop .loop .i) (at-loop .loop .o) (c .nonzero-run .result)
 known c =
     let l = c .before .before .before .before .before .before .loop .inv in
-    turn _ _ _ _ _ _ (c .before .before .before .before .before .before .before .before .before .pre .0) (l .0) (l .1) (c .before .min .ensures) (c .nonzero-run .ensures)
+    next-group _ _ _ _ _ _ (c .before .before .before .before .before .before .before .before .before .pre .0) (l .0) (l .1) (c .before .min .ensures) (c .nonzero-run .ensures)
 
--- what the turn leaves in out
+-- what the iteration leaves in out
 made : (c : tie.After-slice-known4 Inv-loop μ-loop)
     → let k = c .before .before .before .before in
     let at-loop = k .before .before .before .before .before .before in
@@ -54,7 +54,7 @@ made : (c : tie.After-slice-known4 Inv-loop μ-loop)
 made c =
     let k = c .before .before .before .before in
     rw (c .before .before .copy .ensures)
-    (turn-put (known k) (k .before .before .before .before .before .before .before .before .before .pre .1 .1) (k .before .before .before .before .before .before .loop .inv .2))
+    (next-group-put (known k) (k .before .before .before .before .before .before .before .before .before .pre .1 .1) (k .before .before .before .before .before .before .loop .inv .2))
 
 -- a block of code bytes 01 is put
 loop-again : tie.Need-loop-again Inv-loop μ-loop
@@ -95,14 +95,14 @@ encode-spec =
     (λ c. omega (arith, known (c .before .before .before .before)))
     (λ c. made (c .before) .size)
     (λ c.
-    let e = turn-last (known (c .before .before .before .before .before)) (c .if3 .taken) in
+    let e = group-last (known (c .before .before .before .before .before)) (c .if3 .taken) in
     (put-all e (made (c .before)), e))
     (λ c. omega (arith, known (c .before .before .before .before .before .before)))
     (λ c. omega (arith, known (c .before .before .before .before .before .before)))
     (λ c.
     let t = known (c .before .before .before .before .before .before) in
-    (omega arith, turn-zero t (omega arith) (c .if4 .taken), made (c .before .before)))
+    (omega arith, group-zero t (omega arith) (c .if4 .taken), made (c .before .before)))
     (λ c. omega (arith, known (c .before .before .before .before .before .before)))
     (λ c.
     let t = known (c .before .before .before .before .before .before) in
-    (omega arith, turn-full t (omega arith) (c .if4 .left), made (c .before .before))))
+    (omega arith, group-full t (omega arith) (c .if4 .left), made (c .before .before))))

@@ -5,7 +5,7 @@ use mathlib.Core.Path.{refl}
 use borrow.Author.Needs.{needs}
 use denote.Ref.{now}
 use native.Mathlib.Omega.{arith}
-use Rattle.line.proofs.Groups.{Met, Turn, turn, turn-last, turn-zero, turn-full, Zeros, zeros-next}
+use Rattle.line.proofs.Groups.{Met, NextGroup, next-group, group-last, group-zero, group-full, Zeros, zeros-next}
 use Rattle.line.proofs.cobs.form_length.Statement.{statement}
 use Rattle.line.proofs.cobs.form_length.Tie as tie
 
@@ -33,14 +33,14 @@ one c =
     let found = c .before .alike2 .ensures (c .if2 .taken) in
     zeros-next _ _ _ _ 1 (omega arith) (found .0) (found .1) (c .before .before .before .before .loop .inv .2)
 
--- what a turn's calls say of its group
+-- what an iteration's calls ensure of its group
 known : (c : tie.After-nonzero-run Inv-loop μ-loop)
     → let at-loop = c .before .before .before .before .before .before in
     let a = at-loop .before .before .args in
-    Turn (now (a .s)) (a .n) (at-loop .loop .i) (at-loop .loop .o) (c .nonzero-run .result)
+    NextGroup (now (a .s)) (a .n) (at-loop .loop .i) (at-loop .loop .o) (c .nonzero-run .result)
 known c =
     let l = c .before .before .before .before .before .before .loop .inv in
-    turn _ _ _ _ _ _ (c .before .before .before .before .before .before .before .before .pre .0) (l .0) (l .2) (c .before .min .ensures) (c .nonzero-run .ensures)
+    next-group _ _ _ _ _ _ (c .before .before .before .before .before .before .before .before .pre .0) (l .0) (l .2) (c .before .min .ensures) (c .nonzero-run .ensures)
 
 pub form-length-spec : {M : Type 1} → statement M
 form-length-spec =
@@ -52,8 +52,8 @@ form-length-spec =
     (λ c κs. search needs) (λ c. omega (arith, one c)) (λ c. omega (arith, one c)) (λ c. omega (arith, one c))
     (λ c. let z = one c in (omega arith, omega arith, z .met))
     (λ c. search needs) (λ c κs. search needs) (λ c κs. search needs)
-    (λ c. omega (arith, known c)) (λ c. omega (arith, known c)) (λ c. omega (arith, known c)) (λ c. turn-last (known (c .before)) (c .if3 .taken))
+    (λ c. omega (arith, known c)) (λ c. omega (arith, known c)) (λ c. omega (arith, known c)) (λ c. group-last (known (c .before)) (c .if3 .taken))
     (λ c. omega (arith, known (c .before .before))) (λ c. omega (arith, known (c .before .before)))
-    (λ c. let t = known (c .before .before) in (omega arith, omega arith, turn-zero t (omega arith) (c .if4 .taken)))
+    (λ c. let t = known (c .before .before) in (omega arith, omega arith, group-zero t (omega arith) (c .if4 .taken)))
     (λ c. omega (arith, known (c .before .before)))
-    (λ c. let t = known (c .before .before) in (omega arith, omega arith, turn-full t (omega arith) (c .if4 .left))))
+    (λ c. let t = known (c .before .before) in (omega arith, omega arith, group-full t (omega arith) (c .if4 .left))))

@@ -12,7 +12,7 @@ use Rattle.line.proofs.Sending.{send-refused, send-done}
 use Rattle.line.proofs.writer.send.Statement.{statement}
 use Rattle.line.proofs.writer.send.Tie as tie
 
--- the room has no place for the form and its 00, or has
+-- the room is too short for the form and its 00, or long enough
 short : (c : tie.Then1) → let a = c .before .before .before .before .args in length (now (a .out)) ≤ length (cobs (take (a .n) (now (a .m))))
 short c = ltb-false _ _ (sym (c .before .has-room .ensures) ∙ not-true _ (c .if1 .taken))
 

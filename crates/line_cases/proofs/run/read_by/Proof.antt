@@ -1,4 +1,4 @@
--- `run::read_by` is safe and ends: the state keeps its length, and each turn takes what was used.
+-- `run::read_by` is safe and ends: the state keeps its length, and each iteration takes what was used.
 -- Assumes nothing.
 use Prim.Native.Nat.{_-_, _≤_}
 use mathlib.Core.Path.{_≡_}

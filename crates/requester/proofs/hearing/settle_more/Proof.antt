@@ -6,7 +6,7 @@ use mathlib.Core.Bool.{false≢true}
 use borrow.Author.Tests.{le-ltb, lt-ltb}
 use Rattle.line.specs.Reader.{tailReport}
 use Rattle.requester.specs.Calls.{outcomeOf}
-use Rattle.requester.proofs.ReaderLaws.{tail-tells}
+use Rattle.requester.proofs.ReaderLaws.{tail-holds}
 use Rattle.requester.proofs.hearing.settle_more.Statement.{statement}
 use Rattle.requester.proofs.hearing.settle_more.Tie as tie
 
@@ -16,18 +16,18 @@ returns c =
     let enum-told = c .before in
     let tail = enum-told .before .before in
     let start = tail .before .before .before in
-    absurd (false≢true (sym (tail-tells _ (rw (enum-told .enum-told .given .1) at (tail .tail .ensures))) ∙ start .pre))
+    absurd (false≢true (sym (tail-holds _ (rw (enum-told .enum-told .given .1) at (tail .tail .ensures))) ∙ start .pre))
 
 returns-2 : tie.Need-returns-2
 unfolding tailReport outcomeOf
 returns-2 c =
-    let t = tail-tells _ (rw (c .before .enum-told2 .given .1) at (c .before .before .before .tail .ensures)) in
+    let t = tail-holds _ (rw (c .before .enum-told2 .given .1) at (c .before .before .before .tail .ensures)) in
     rw (le-ltb _ _ (t .2)) (c .settle-none2 .ensures)
 
 returns-3 : tie.Need-returns-3
 unfolding tailReport
 returns-3 c =
-    let t = tail-tells _ (rw (c .before .enum-told3 .given .1) at (c .before .before .before .tail .ensures)) in
+    let t = tail-holds _ (rw (c .before .enum-told3 .given .1) at (c .before .before .before .tail .ensures)) in
     rw (lt-ltb _ _ (t .1)) (c .settle-ground .ensures)
 
 pub settle-more-spec : {M : Type 1} → statement M

@@ -6,7 +6,7 @@ use Rattle.line.specs.Reader.{tailReport}
 use Rattle.requester.specs.Calls.{told}
 use Rattle.requester.proofs.Cases.{refused, passed}
 use Rattle.requester.proofs.ValidLaws.{valid-parts}
-use Rattle.requester.proofs.ReaderLaws.{tail-tells}
+use Rattle.requester.proofs.ReaderLaws.{tail-holds}
 use Rattle.requester.proofs.ReceiveLaws.{invalid-reader, invalid-requester, receive-refused, receive-received}
 use Rattle.requester.proofs.receive.receive.Statement.{statement}
 use Rattle.requester.proofs.receive.receive.Tie as tie
@@ -22,7 +22,7 @@ listen-requires c κs =
     let tail = tail2 .before .before in
     let if1 = tail .before .before in
     let requester-is-valid = if1 .before in
-    let t = tail-tells _ (rw (tail2 .tail2 .given .1) at (tail .tail .ensures)) in
+    let t = tail-holds _ (rw (tail2 .tail2 .given .1) at (tail .tail .ensures)) in
     (valid-parts _ (record { reader = t .0; requester = passed _ _ (requester-is-valid .requester-is-valid .ensures) (if1 .if1 .left) }), (t .1, omega arith))
 
 skip-requires : tie.Need-skip-requires
@@ -32,12 +32,12 @@ skip-requires c κs =
     let tail = enum-told2 .before .before in
     let if1 = tail .before .before in
     let requester-is-valid = if1 .before in
-    let t = tail-tells _ (rw (enum-told2 .enum-told2 .given .1) at (tail .tail .ensures)) in
+    let t = tail-holds _ (rw (enum-told2 .enum-told2 .given .1) at (tail .tail .ensures)) in
     (valid-parts _ (record { reader = t .0; requester = passed _ _ (requester-is-valid .requester-is-valid .ensures) (if1 .if1 .left) }), t .1)
 
 returns-2 : tie.Need-returns-2
 unfolding told tailReport
-returns-2 c = receive-refused _ _ (invalid-reader _ (tail-tells _ (rw (c .enum-told .given .1) at (c .before .before .tail .ensures))))
+returns-2 c = receive-refused _ _ (invalid-reader _ (tail-holds _ (rw (c .enum-told .given .1) at (c .before .before .tail .ensures))))
 
 returns-3 : tie.Need-returns-3
 unfolding tailReport
@@ -47,7 +47,7 @@ returns-3 c =
     let tail = tail2 .before .before in
     let if1 = tail .before .before in
     let requester-is-valid = if1 .before in
-    let t = tail-tells _ (rw (tail2 .tail2 .given .1) at (tail .tail .ensures)) in
+    let t = tail-holds _ (rw (tail2 .tail2 .given .1) at (tail .tail .ensures)) in
     receive-received _ _ (valid-parts _ (record { reader = t .0; requester = passed _ _ (requester-is-valid .requester-is-valid .ensures) (if1 .if1 .left) })) (listen .listen .ensures)
 
 returns-4 : tie.Need-returns-4
@@ -58,7 +58,7 @@ returns-4 c =
     let tail = enum-told2 .before .before in
     let if1 = tail .before .before in
     let requester-is-valid = if1 .before in
-    let t = tail-tells _ (rw (enum-told2 .enum-told2 .given .1) at (tail .tail .ensures)) in
+    let t = tail-holds _ (rw (enum-told2 .enum-told2 .given .1) at (tail .tail .ensures)) in
     receive-received _ _ (valid-parts _ (record { reader = t .0; requester = passed _ _ (requester-is-valid .requester-is-valid .ensures) (if1 .if1 .left) })) (skip .skip .ensures)
 
 pub receive-spec : {M : Type 1} → statement M

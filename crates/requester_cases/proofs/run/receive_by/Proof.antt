@@ -1,4 +1,4 @@
--- `run::receive_by` is safe and ends: the parts keep their lengths, and each turn takes what was used.
+-- `run::receive_by` is safe and ends: the parts keep their lengths, and each iteration takes what was used.
 -- Assumes nothing.
 use Prim.Native.Nat.{_-_, _≤_}
 use mathlib.Core.Path.{_≡_}

@@ -17,8 +17,8 @@ abbrev μ-loop : tie.MeasureT-loop
 
 loop-again : tie.Need-loop-again Inv-loop μ-loop
 loop-again c =
-    let turn = c .before .before in
-    (search needs, after-step _ _ _ _ (turn .loop-test .taken) (c .after-byte .ensures) (turn .before .loop .inv .1))
+    let iteration = c .before .before in
+    (search needs, after-step _ _ _ _ (iteration .loop-test .taken) (c .after-byte .ensures) (iteration .before .loop .inv .1))
 
 pub after-bytes-spec : {M : Type 1} → statement M
 after-bytes-spec =

@@ -1,4 +1,4 @@
--- `receiving::by_bytes` is safe and ends: each turn takes a byte.
+-- `receiving::by_bytes` is safe and ends: each iteration takes a byte.
 -- Assumes nothing.
 use Prim.Native.Nat.{_-_, _≤_}
 use borrow.Author.Needs.{needs}

@@ -1,4 +1,4 @@
--- `receiving::by_steps` is safe and ends: each turn takes what was used.
+-- `receiving::by_steps` is safe and ends: each iteration takes what was used.
 -- Assumes nothing.
 use Prim.Native.Nat.{_-_, _≤_}
 use borrow.Author.Needs.{needs}

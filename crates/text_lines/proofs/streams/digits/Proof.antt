@@ -1,4 +1,4 @@
--- `streams::digits` is safe and ends: each turn takes a byte.
+-- `streams::digits` is safe and ends: each iteration takes a byte.
 -- Assumes nothing.
 use Prim.Native.Nat.{_-_}
 use borrow.Author.Needs.{needs}

@@ -1,4 +1,4 @@
--- `streams::read_line` meets its contract: the room keeps its length, and each turn fills a byte.
+-- `streams::read_line` meets its contract: the room keeps its length, and each iteration fills a byte.
 -- Assumes nothing.
 use Prim.Native.Nat.{_-_, _≤_}
 use mathlib.Core.Path.{_≡_}

@@ -38,21 +38,21 @@ first-more (suc b) v h = first-ahead (suc b) (split v .closed) (split v .rest)
 
 -- one byte
 module _ (w : List ℕ) (i : ℕ) where
-  place-end : length w ≤ i → pieceAt w i ≡ Tail 0
+  piece-end : length w ≤ i → pieceAt w i ≡ Tail 0
   unfolding pieceAt split firstOf
-  place-end h = rw (drop-of-length-le w h)
+  piece-end h = rw (drop-of-length-le w h)
 
   module _ (h : i < length w) where
     at-offset : drop i w ≡ getD w i 0 ∷ drop (i + 1) w
     at-offset = rw add-one (drop-cons w i 0 h)
 
-    place-zero : getD w i 0 ≡ 0 → pieceAt w i ≡ Frame 0
+    piece-zero : getD w i 0 ≡ 0 → pieceAt w i ≡ Frame 0
     unfolding pieceAt split firstOf
-    place-zero e = rw (at-offset, e)
+    piece-zero e = rw (at-offset, e)
 
-    place-more : (getD w i 0 ≡ 0 → ⊥) → pieceAt w i ≡ longer 1 (pieceAt w (i + 1))
+    piece-more : (getD w i 0 ≡ 0 → ⊥) → pieceAt w i ≡ longer 1 (pieceAt w (i + 1))
     unfolding pieceAt
-    place-more e = rw at-offset (first-more (getD w i 0) (drop (i + 1) w) e)
+    piece-more e = rw at-offset (first-more (getD w i 0) (drop (i + 1) w) e)
 
 -- the bytes from an offset on up to i are not zero
 pub record Reached (w : List ℕ) (at i : ℕ) : Type 0 where
@@ -69,10 +69,10 @@ module _ (w : List ℕ) (at i : ℕ) (r : Reached w at i) where
   reached-more h e =
       let f = r .from in
       let s : i - at + 1 ≡ i + 1 - at = omega arith in
-      record { from = omega arith; piece = r .piece ∙ rw (place-more w i h e, longer-more, s) }
+      record { from = omega arith; piece = r .piece ∙ rw (piece-more w i h e, longer-more, s) }
 
   pub reached-zero : i < length w → getD w i 0 ≡ 0 → Frame (i - at) ≡ pieceAt w at
-  reached-zero h e = rw (r .piece, place-zero w i h e, add-zero)
+  reached-zero h e = rw (r .piece, piece-zero w i h e, add-zero)
 
   pub reached-end : length w ≤ i → Tail (i - at) ≡ pieceAt w at
-  reached-end h = rw (r .piece, place-end w i h, add-zero)
+  reached-end h = rw (r .piece, piece-end w i h, add-zero)
