@@ -116,6 +116,15 @@ counters-count p b l d typed e block before t ms u =
     ∙ (ap (λ (r : Parts). afterAll (record { parts = r; block = zeros }) (allCounted ms) .block) (parts-so before (record { parts = q; block = block }))
     ∙ (y ∙ rw (frames-since w ms) (bumped-tally (endedAll (closedSince w ms)))))
 
+-- The same where the block is cleared ahead of that start.
+pub counters-from-start : (p : Parts) → Bytes p → (l : Lent) (d : List ℕ) → Typed (Histories.start d)
+    → made p (record { lent = l; call = Histories.start d }) .answer ≡ done
+    → (block : Counters) (ms : List Made) → AllTyped ms
+    → afterAll (record { parts = p; block = block }) (clear ∷ plain (record { lent = l; call = Histories.start d }) ∷ allCounted ms) .block
+    ≡ tallyOf (endedAll (framesSince [] ms))
+unfolding afterAll after callsOf joinedAll
+counters-from-start p b l d typed e block ms u = counters-count p b l d typed e block [] tt ms u
+
 -- Every frame is counted, in one counter: the numbers of the nine kinds of frames come to the number of all.
 pub each-counted-once : (fs : List (List ℕ)) → let es = endedAll fs in
     howMany isGood es + (howMany isEmpty es + (howMany (isReason 1) es + (howMany (isReason 2) es + (howMany (isReason 3) es + (howMany (isReason 4) es
