@@ -80,12 +80,7 @@ pub cramped : (p : Parts) → (LongEnough p → ⊥) → startOf started.Refused
 unfolding starting Calls.startReport
 cramped p f = rw (sym (untrue (longEnough p) (λ e. f (is-long-enough p e))))
 
-reader-begun : (s : List ℕ) → LineReader.state-length ≤ length s → {a : Option ℕ} {t : List ℕ}
-    → record { refusal = a; state = t } ≡ LineReader.starting s → t ≡ LineReader.counted 0 s
-unfolding LineReader.starting
-reader-begun s h e = ap (λ (x : LineReader.Start). x .state) (rw (le-leb _ _ h) at e)
-
 pub begun : (p : Parts) → LongEnough p → {a : Option ℕ} {reader requester : List ℕ} → record { refusal = a; state = reader } ≡ LineReader.starting (p .reader)
     → requester ≡ overlay 0 (replicate Layout.data-offset 0) (p .requester) → startOf started.Done (Calls.parts reader requester) ≡ starting p
 unfolding starting Calls.startReport Calls.freshParts
-begun p r e f = rw (long-enough-is p r, f, reader-begun (p .reader) (r .reader) e)
+begun p r e f = rw (long-enough-is p r, f, ap (λ (x : LineReader.Start). x .state) e)

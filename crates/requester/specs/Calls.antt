@@ -43,7 +43,7 @@ longEnough p = leb LineReader.state-length (length (p .reader)) && leb Layout.re
 
 -- no number used, nothing kept, no recovery, nothing to go out
 unfoldable pub freshParts : Parts → Parts
-freshParts p = parts (LineReader.counted 0 (p .reader)) (overlay 0 (replicate Layout.data-offset 0) (p .requester))
+freshParts p = parts (LineReader.starting (p .reader) .state) (overlay 0 (replicate Layout.data-offset 0) (p .requester))
 
 -- the table's number of a refusal; none where the call is carried out
 unfoldable pub startReport : Started → Option ℕ

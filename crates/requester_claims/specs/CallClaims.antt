@@ -8,7 +8,7 @@ use Prim.Native.Nat.{ℕ, suc, _+_, _≤_}
 use native.Mathlib.Omega.{arith}
 use lib.Dec.{leb, ltb, eqb}
 use lib.ListN.{length, replicate}
-use borrow.Author.Tests.{ltb-false, leb-false}
+use borrow.Author.Tests.{le-leb, ltb-false, leb-false}
 use native.Mathlib.Nat.{zero-add}
 use Rattle.octets.specs.Bytes.{number, run, overlay}
 use Rattle.octets.proofs.Conditions.{cond-by, cond-both}
@@ -126,11 +126,11 @@ module _ (p : Parts) (room : LongEnough p) where
       rw (received-some (LineReader.counted 0 (p .reader)) (omega arith), c)
 
   pub start-meets : (s : State) → Meets p (did p Histories.start) (meant s Histories.start)
-  unfolding did meant Calls.starting Calls.freshParts view
+  unfolding did meant Calls.starting Calls.freshParts LineReader.starting view
   start-meets s =
       let c = count-counted 0 (p .reader) (omega (arith, room .reader)) (omega arith) in
       let l = length-counted 0 (p .reader) (omega (arith, room .reader)) in
-      rw (long-enough-is p room)
+      rw (long-enough-is p room, le-leb LineReader.state-length (length (p .reader)) (room .reader))
       (record {
         answer = refl;
         out = refl;

@@ -207,7 +207,7 @@ module _ (p : Parts) (a u : List ℕ) (reader : LineReader.state-length ≤ leng
       rw valid-parts-behind (cond-map (receiptBehind a u) (Calls.validParts p) (λ v. received-behind v piece) (λ _. refl))
 
   pub starting-behind : Calls.starting (partsBehind a u p) ≡ record { refusal = Calls.starting p .refusal; parts = partsBehind a u (Calls.starting p .parts) }
-  unfolding Calls.starting Calls.longEnough Calls.freshParts LineReader.counted bytes
+  unfolding Calls.starting Calls.longEnough Calls.freshParts LineReader.starting LineReader.counted bytes
   starting-behind =
       rw (
         le-leb LineReader.state-length (length (p .reader)) reader,
