@@ -151,7 +151,9 @@ def arms(text):
     found = {}
     for variant, number in re.findall(r'\b(\w+::\w+)(?:\(\w+\))? => (\d+),', text):
         found.setdefault(variant, []).append(int(number))
-    for variant, kind, reason in re.findall(r'\b(\w+::\w+)(?:\(\w+\))? => \{?\s*write_answer\(\s*answer,\s*\[\s*used,\s*(\d+),\s*(\w+)', text):
+    # the numbers stand in the call, or in a `let` ahead of it
+    numbers = r'(?:let \w+ = \w+\.\w+ as u64;\s*)*(?:let numbers = |write_answer\(\s*answer,\s*)\[\s*used,\s*(\d+),\s*(\w+)'
+    for variant, kind, reason in re.findall(r'\b(\w+::\w+)(?:\(\w+\))? => \{?\s*' + numbers, text):
         found.setdefault(variant, []).append((int(kind), reason))
     return found
 

@@ -1,4 +1,4 @@
--- Laws of what a call hands out: too few places, and enough of them.
+-- Laws of what a call hands out: an answer or a room that is too short, and one that is long enough.
 -- Assumes nothing.
 use mathlib.Core.Path.{_≡_, refl, ap}
 use mathlib.Core.List.{List}
@@ -18,7 +18,7 @@ use Rattle.oatcastle.specs.Answers.{Outcome, outcome, Report, refused, g
 pub puts-more : (i : ℕ) (xs s : List ℕ) → i < length xs → i < length s → set (overlay 0 (take i xs) s) i (getD xs i 0) ≡ overlay 0 (take (i + 1) xs) s
 puts-more i xs s h l = rw zero-add at (overlay-run-more 0 0 i xs s (omega arith) (omega arith))
 
--- bytes copied to a room that has places for them
+-- bytes copied to a room that is long enough
 copied-all : (bs room : List ℕ) → length bs ≤ length room → copied bs 0 (length bs) room 0 ≡ overlay 0 bs room
 copied-all bs room h = rw (copied-fits bs 0 (length bs) room 0 (omega arith) (omega arith), take-length)
 
@@ -60,7 +60,7 @@ writes-leaves k before after (refused n) t = absurd t
 writes-leaves k before after (given ns) t = t
 
 module _ {A : Type 0} (before after : A) (answer : List ℕ) {k : ℕ} where
-  -- an answer with fewer places is refused ahead of the call
+  -- a shorter answer is refused ahead of the call
   pub answering-short : (s : Report) → Says k s → length answer < k → outcome 8 (before, answer) ≡ answering s before after answer
   unfolding answering
   answering-short (refused n) g h = rw g

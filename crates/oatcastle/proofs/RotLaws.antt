@@ -39,7 +39,7 @@ module _ (k : ℕ) (told : RotAnswers.Report → Report) (bs : List ℕ) (no : t
       cond-by (λ (o : RotAnswers.Outcome). Leaves k out (o .out) (told (o .answer))) (ltb (length out) (length bs)) _ _
       (λ _. rw no refl) (λ _. writes-leaves k out (overlay 0 bs out) (told (RotAnswers.wrote (length bs))) yes)
 
--- a room with no place for a message
+-- a room that no message fits
 sent-nowhere : (m : Message) (z : List ℕ) → length z < header-length → sending (message m) z ≡ RotAnswers.outcome (RotAnswers.refused 8) z
 unfolding sending
 sent-nowhere m z h = rw (lt-ltb (length z) (length (message m)) (rw (length-message m) (omega arith)))

@@ -1,4 +1,4 @@
-// What a call hands out: numbers at the start of a lent answer, bytes at the start of a lent room; 8 where there are too few places.
+// What a call hands out: numbers at the start of a lent answer, bytes at the start of a lent room; 8 where either is too short.
 // Assumes nothing of what a caller lends; a count of numbers is at most MOST_NUMBERS, as `requires` say.
 ghost use mathlib.Core.Path.{_≡_};
 ghost use Prim.Native.Nat.{_≤_};

@@ -15,7 +15,7 @@ ghost use Rattle.oatcastle.specs.RequesterCalls.{requesterStartCall, put
 // How many numbers `oatcastle_requester_receive` answers.
 const RECEIVE_NUMBERS: usize = 7;
 
-// A room with no place for a frame.
+// The length of a room that no frame fits.
 const NO_ROOM: usize = 1;
 
 // Begins the main processor's end.
@@ -170,45 +170,23 @@ fn answer_received(answer: &mut [u64], received: Received) -> u32
     match handed {
         Handed::Refused => 12,
         Handed::Nothing => write_answer(answer, [used, 0, ended, unsent, 0, 0, 0], RECEIVE_NUMBERS),
-        Handed::Answer(h) => write_answer(
-            answer,
-            [
-                used,
-                1,
-                ended,
-                unsent,
-                h.sequence,
-                h.command as u64,
-                h.length as u64,
-            ],
-            RECEIVE_NUMBERS,
-        ),
-        Handed::Status(s) => write_answer(
-            answer,
-            [
-                used,
-                2,
-                ended,
-                unsent,
-                s.status,
-                s.options,
-                s.set_bits as u64,
-            ],
-            RECEIVE_NUMBERS,
-        ),
-        Handed::Alert(h) => write_answer(
-            answer,
-            [
-                used,
-                3,
-                ended,
-                unsent,
-                h.sequence,
-                h.command as u64,
-                h.length as u64,
-            ],
-            RECEIVE_NUMBERS,
-        ),
+        Handed::Answer(h) => {
+            let command = h.command as u64;
+            let length = h.length as u64;
+            let numbers = [used, 1, ended, unsent, h.sequence, command, length];
+            write_answer(answer, numbers, RECEIVE_NUMBERS)
+        }
+        Handed::Status(s) => {
+            let bits = s.set_bits as u64;
+            let numbers = [used, 2, ended, unsent, s.status, s.options, bits];
+            write_answer(answer, numbers, RECEIVE_NUMBERS)
+        }
+        Handed::Alert(h) => {
+            let command = h.command as u64;
+            let length = h.length as u64;
+            let numbers = [used, 3, ended, unsent, h.sequence, command, length];
+            write_answer(answer, numbers, RECEIVE_NUMBERS)
+        }
     }
 }
 

@@ -15,7 +15,7 @@ ghost use Rattle.oatcastle.specs.RotCalls.{shortNumber, rotReadGiven, ro
 // How many numbers `oatcastle_rot_read` answers.
 const ROT_READ_NUMBERS: usize = 3;
 
-// A room with no place for a message.
+// The length of a room that no message fits.
 const NO_ROOM: usize = 1;
 
 // Reads what came over the link. With too short an answer it is read with no room for the echo's answer.
