@@ -1,7 +1,7 @@
 -- Claims: the tests make of the COBS form of a message in range that message, what they find good, and a received checksum with a byte ff never matches.
 -- Assumes nothing.
 use mathlib.Core.Path.{_≡_, refl}
-use mathlib.Core.Bool.{false}
+use mathlib.Core.Bool.{true, false}
 use mathlib.Core.Logic.{_⊎_, inl, inr}
 use mathlib.Core.List.{List}
 use mathlib.Core.Option.{Option, none, some}
@@ -68,11 +68,15 @@ judge-good form m = cond-by (λ o. judgeForm o ≡ good m → Good form m) (ltb 
         record { xs = xs; decoded = d; fits = e; sums = eqb-true _ _ (not-false _ f); first = eqb-true _ _ (not-false _ g); is = cc })))
 
 -- a received checksum that holds a byte ff is no checksum
-pub ff-never-matches : (xs : List ℕ) → wrongLength xs ≡ false → (checksumOf xs % 256 ≡ 255) ⊎ (checksumOf xs / 256 ≡ 255)
-    → judgeForm (some xs) ≡ failure 2 (some (sequenceOf xs))
-unfolding judgeForm
-ff-never-matches xs e h = rw (e, ne-eqb (checksumOf xs) (checksum (bodyOf xs)) (λ e. differs (checksum-low (bodyOf xs)) e h))
+pub ff-never-matches : (xs : List ℕ) → (checksumOf xs % 256 ≡ 255) ⊎ (checksumOf xs / 256 ≡ 255) → wrongChecksum xs ≡ true
+ff-never-matches xs h = rw (ne-eqb (checksumOf xs) (checksum (bodyOf xs)) (λ e. differs (checksum-low (bodyOf xs)) e h))
   where
     differs : {c d : ℕ} → (d % 256 < 255) × (d / 256 < 255) → c ≡ d → (c % 256 ≡ 255) ⊎ (c / 256 ≡ 255) → ⊥
     differs l e (inl p) = omega arith
     differs l e (inr p) = omega arith
+
+-- so that bytes of a message's length have reason 2
+pub ff-reason-2 : (xs : List ℕ) → wrongLength xs ≡ false → (checksumOf xs % 256 ≡ 255) ⊎ (checksumOf xs / 256 ≡ 255)
+    → judgeForm (some xs) ≡ failure 2 (some (sequenceOf xs))
+unfolding judgeForm
+ff-reason-2 xs e h = rw (e, ff-never-matches xs h)
