@@ -1,6 +1,6 @@
 /* Oatcastle: the wire code of a home router's supervisor, as a C library (liboatcastle.a; `rt staticlib oatcastle` makes it).
  *
- * Plain C99; usable from C++. x86-64 Linux.
+ * Plain C99; usable from C++. For x86-64 Linux, and for the processors of cross/ (Cortex-M, riscv32): the header is the same one.
  *
  * What every call has in common
  *
@@ -32,6 +32,24 @@
 #ifdef __cplusplus
 extern "C" {
 #endif
+
+/* ---- Lengths
+ *
+ * The library counts in 64 bits on every processor, so that a length, a count and an index are 64 bits wide also where size_t has 32. A size_t, or
+ * sizeof, as an argument is widened by the compiler. A list of indices is made of oatcastle_length: a list of a 32-bit size_t is another type. */
+
+typedef uint64_t oatcastle_length;
+
+/* What the library was not made for does not compile this header: numbers are little-endian, and those of 64 bits aligned to 8 bytes. */
+#if defined(__BYTE_ORDER__) && __BYTE_ORDER__ != __ORDER_LITTLE_ENDIAN__
+#error "oatcastle: the library is for little-endian processors"
+#endif
+struct oatcastle_aligned {
+    uint8_t byte;
+    uint64_t number;
+};
+typedef char oatcastle_length_has_64_bits[sizeof(oatcastle_length) == 8 ? 1 : -1];
+typedef char oatcastle_numbers_are_aligned_to_8[offsetof(struct oatcastle_aligned, number) == 8 ? 1 : -1];
 
 /* ---- Refusals */
 
@@ -170,7 +188,7 @@ extern "C" {
 
 /* Begins a fresh reader in a state of any contents.
  * 0; 12: the state is too short. */
-uint32_t oatcastle_line_start(uint8_t *state, size_t state_length);
+uint32_t oatcastle_line_start(uint8_t *state, oatcastle_length state_length);
 
 /* Reads a piece of the received stream to its end, or up to and with its first 00.
  * answer[0]  how many bytes of the piece were read; hand in the rest with the next call
@@ -181,27 +199,27 @@ uint32_t oatcastle_line_start(uint8_t *state, size_t state_length);
  * answer[5]  a message's command
  * answer[6]  how many bytes of data a message has; oatcastle_line_data hands them out
  * 0; 12; 8: the answer is too short. */
-uint32_t oatcastle_line_read(uint8_t *state, size_t state_length, const uint8_t *piece, size_t piece_length, uint64_t *answer, size_t answer_count);
+uint32_t oatcastle_line_read(uint8_t *state, oatcastle_length state_length, const uint8_t *piece, oatcastle_length piece_length, uint64_t *answer, oatcastle_length answer_count);
 
 /* Copies to the room the data of the message that the last call of oatcastle_line_read handed out; `length` is its answer[6].
  * 0; 12; 9: length above 4,104; 8: the room is shorter than length. */
-uint32_t oatcastle_line_data(const uint8_t *state, size_t state_length, uint64_t length, uint8_t *room, size_t room_length);
+uint32_t oatcastle_line_data(const uint8_t *state, oatcastle_length state_length, uint64_t length, uint8_t *room, oatcastle_length room_length);
 
 /* What has come of a frame since the last 00.
  * answer[0]  1 if it is longer than the form of any message, else 0
  * answer[1]  how many bytes of it have come; 0 if longer
  * 0; 12; 8: the answer is too short. */
-uint32_t oatcastle_line_tail(const uint8_t *state, size_t state_length, uint64_t *answer, size_t answer_count);
+uint32_t oatcastle_line_tail(const uint8_t *state, oatcastle_length state_length, uint64_t *answer, oatcastle_length answer_count);
 
 /* Writes the frame of a message whose data are head and then rest, with its 00, to the start of out; bytes of out past it stay.
  * answer[0]  the frame's length
  * 0; 9: head and rest have more than 4,104 bytes together; 8: out or the answer is too short. */
-uint32_t oatcastle_line_write(uint32_t version, uint64_t sequence, uint8_t command, const uint8_t *head, size_t head_length, const uint8_t *rest, size_t rest_length, uint8_t *out, size_t out_length, uint64_t *answer, size_t answer_count);
+uint32_t oatcastle_line_write(uint32_t version, uint64_t sequence, uint8_t command, const uint8_t *head, oatcastle_length head_length, const uint8_t *rest, oatcastle_length rest_length, uint8_t *out, oatcastle_length out_length, uint64_t *answer, oatcastle_length answer_count);
 
 /* The checksum of a message's body.
  * answer[0]  the checksum, 0 to 65,278
  * 0; 8: the answer is too short. */
-uint32_t oatcastle_line_checksum(const uint8_t *body, size_t body_length, uint64_t *answer, size_t answer_count);
+uint32_t oatcastle_line_checksum(const uint8_t *body, oatcastle_length body_length, uint64_t *answer, oatcastle_length answer_count);
 
 /* ==== The supervisor: five lent parts. */
 
@@ -209,20 +227,20 @@ uint32_t oatcastle_line_checksum(const uint8_t *body, size_t body_length, uint64
  * A further start begins anew, and forgets also whether a 00 is owed on the wire.
  * 0; 12: a part is too short; 11: over 64 items, an item's data over 64 bytes, a result not 0, 2 or 3, an image ID over 64 bytes,
  * or a BSU that is not 0x41 or 0x42. */
-uint32_t oatcastle_start(const uint8_t data[OATCASTLE_START_LENGTH], uint8_t *reader, size_t reader_length, uint8_t *outbox, size_t outbox_length, uint8_t *factory, size_t factory_length, uint8_t *settings, size_t settings_length, uint8_t *registers, size_t registers_length);
+uint32_t oatcastle_start(const uint8_t data[OATCASTLE_START_LENGTH], uint8_t *reader, oatcastle_length reader_length, uint8_t *outbox, oatcastle_length outbox_length, uint8_t *factory, oatcastle_length factory_length, uint8_t *settings, oatcastle_length settings_length, uint8_t *registers, oatcastle_length registers_length);
 
 /* Reads a whole piece of the received stream and carries out each request in it. An image block request is
  * answered from the image lent with the call that brings its frame's 00, if it names the hash of the start data. Each frame that is not empty replaces the
  * pending reply, so take the replies (oatcastle_take) as often as the other side waits for them, or use oatcastle_step.
  * 0; 12. */
-uint32_t oatcastle_receive(const uint8_t *image, size_t image_length, const uint8_t *piece, size_t piece_length, uint8_t *reader, size_t reader_length, uint8_t *outbox, size_t outbox_length, const uint8_t *factory, size_t factory_length, uint8_t *settings, size_t settings_length, uint8_t *registers, size_t registers_length);
+uint32_t oatcastle_receive(const uint8_t *image, oatcastle_length image_length, const uint8_t *piece, oatcastle_length piece_length, uint8_t *reader, oatcastle_length reader_length, uint8_t *outbox, oatcastle_length outbox_length, const uint8_t *factory, oatcastle_length factory_length, uint8_t *settings, oatcastle_length settings_length, uint8_t *registers, oatcastle_length registers_length);
 
 /* The same up to and with the piece's first 00, or to its end.
  * answer[0]  how many bytes of the piece were read; hand in the rest with the next call
  * answer[1]  OATCASTLE_MORE, OATCASTLE_EMPTY, OATCASTLE_MESSAGE (a request) or OATCASTLE_FAILURE
  * answer[2]  a failure's reason, 1 to 7; the reply that tells it is pending
  * 0; 12; 8: the answer is too short. */
-uint32_t oatcastle_step(const uint8_t *image, size_t image_length, const uint8_t *piece, size_t piece_length, uint8_t *reader, size_t reader_length, uint8_t *outbox, size_t outbox_length, const uint8_t *factory, size_t factory_length, uint8_t *settings, size_t settings_length, uint8_t *registers, size_t registers_length, uint64_t *answer, size_t answer_count);
+uint32_t oatcastle_step(const uint8_t *image, oatcastle_length image_length, const uint8_t *piece, oatcastle_length piece_length, uint8_t *reader, oatcastle_length reader_length, uint8_t *outbox, oatcastle_length outbox_length, const uint8_t *factory, oatcastle_length factory_length, uint8_t *settings, oatcastle_length settings_length, uint8_t *registers, oatcastle_length registers_length, uint64_t *answer, oatcastle_length answer_count);
 
 /* A counter block: how many frames of each kind ended since it was cleared. A counter stays at 4,294,967,295. Any contents are allowed. */
 typedef struct oatcastle_counters {
@@ -236,6 +254,7 @@ typedef struct oatcastle_counters {
     uint32_t reason6;
     uint32_t reason7;
 } oatcastle_counters;
+typedef char oatcastle_counters_have_36_bytes[sizeof(oatcastle_counters) == 36 ? 1 : -1];
 
 /* Makes every counter of a block 0.
  * 0. */
@@ -245,38 +264,38 @@ uint32_t oatcastle_clear_counters(oatcastle_counters *counters);
  * counts nothing. What a start drops of a frame is counted nowhere, and neither are frames that oatcastle_receive or oatcastle_step read.
  * The block is lent as any other memory: it overlaps nothing else that is lent.
  * 0; 12. */
-uint32_t oatcastle_receive_counted(oatcastle_counters *counters, const uint8_t *image, size_t image_length, const uint8_t *piece, size_t piece_length, uint8_t *reader, size_t reader_length, uint8_t *outbox, size_t outbox_length, const uint8_t *factory, size_t factory_length, uint8_t *settings, size_t settings_length, uint8_t *registers, size_t registers_length);
+uint32_t oatcastle_receive_counted(oatcastle_counters *counters, const uint8_t *image, oatcastle_length image_length, const uint8_t *piece, oatcastle_length piece_length, uint8_t *reader, oatcastle_length reader_length, uint8_t *outbox, oatcastle_length outbox_length, const uint8_t *factory, oatcastle_length factory_length, uint8_t *settings, oatcastle_length settings_length, uint8_t *registers, oatcastle_length registers_length);
 
 /* Takes bytes to send: moves the smaller of the room and the bytes pending to the start of the room.
  * answer[0]  how many bytes were moved; fewer than the room: nothing more is pending. A room of OATCASTLE_MOST_PENDING takes all at once
  * 0; 12; 8: the answer is too short (a room is never too short). */
-uint32_t oatcastle_take(uint8_t *outbox, size_t outbox_length, uint8_t *room, size_t room_length, uint64_t *answer, size_t answer_count);
+uint32_t oatcastle_take(uint8_t *outbox, oatcastle_length outbox_length, uint8_t *room, oatcastle_length room_length, uint64_t *answer, oatcastle_length answer_count);
 
 /* Posts an alert: an action from 1 to 255 and at most 256 bytes of text.
  * 0; 12; 13: action 0; 9: more than 256 bytes; 10: 8 alerts wait. */
-uint32_t oatcastle_post(uint8_t *registers, size_t registers_length, uint8_t action, const uint8_t *text, size_t text_length);
+uint32_t oatcastle_post(uint8_t *registers, oatcastle_length registers_length, uint8_t action, const uint8_t *text, oatcastle_length text_length);
 
 /* Sets the startup options.
  * 0; 12; 13: a bit above 8 is set. */
-uint32_t oatcastle_set_options(uint8_t *registers, size_t registers_length, uint64_t options);
+uint32_t oatcastle_set_options(uint8_t *registers, oatcastle_length registers_length, uint64_t options);
 
 /* Looks a key up and copies its value to the room. Key 0 is "pong", 1 the image ID (at most 64 bytes), 2 the inventory's count and
  * version (8 bytes), 3 (at most 256 bytes), 4 (4,096) and 5, the withdrawn-key list (4,096), are what was stored.
  * answer[0]  0: found; 1: no such key; 2: the key has no value; 3: the value is longer than maxresponse
  * answer[1]  how many bytes the value has; 0 unless it was found
  * 0; 12; 8: the answer is too short, or the room is shorter than the value. */
-uint32_t oatcastle_lookup(const uint8_t *factory, size_t factory_length, const uint8_t *settings, size_t settings_length, uint8_t key, uint16_t maxresponse, uint8_t *room, size_t room_length, uint64_t *answer, size_t answer_count);
+uint32_t oatcastle_lookup(const uint8_t *factory, oatcastle_length factory_length, const uint8_t *settings, oatcastle_length settings_length, uint8_t key, uint16_t maxresponse, uint8_t *room, oatcastle_length room_length, uint64_t *answer, oatcastle_length answer_count);
 
 /* The line signal.
  * answer[0]  1 if it is asserted, which it is while the status is not 0; else 0
  * 0; 12; 8: the answer is too short. */
-uint32_t oatcastle_signal(const uint8_t *registers, size_t registers_length, uint64_t *answer, size_t answer_count);
+uint32_t oatcastle_signal(const uint8_t *registers, oatcastle_length registers_length, uint64_t *answer, oatcastle_length answer_count);
 
 /* The two flags.
  * answer[0]  1 if a reboot was asked for, else 0
  * answer[1]  1 if power off was asked for, else 0
  * 0; 12; 8: the answer is too short. */
-uint32_t oatcastle_flags(const uint8_t *registers, size_t registers_length, uint64_t *answer, size_t answer_count);
+uint32_t oatcastle_flags(const uint8_t *registers, oatcastle_length registers_length, uint64_t *answer, oatcastle_length answer_count);
 
 /* The record of the last boot failure; its kept bytes are copied to the room.
  * answer[0]  1 if there is one, else 0; then the other numbers are 0 too
@@ -284,10 +303,10 @@ uint32_t oatcastle_flags(const uint8_t *registers, size_t registers_length, uint
  * answer[2]  how many bytes came behind the reason
  * answer[3]  how many of them are kept: the first 512 at most
  * 0; 12; 8: the answer is too short, or the room is shorter than the kept bytes. */
-uint32_t oatcastle_boot_failure(const uint8_t *registers, size_t registers_length, uint8_t *room, size_t room_length, uint64_t *answer, size_t answer_count);
+uint32_t oatcastle_boot_failure(const uint8_t *registers, oatcastle_length registers_length, uint8_t *room, oatcastle_length room_length, uint64_t *answer, oatcastle_length answer_count);
 
 /* The same for the last panic; answer[1] is its cause. */
-uint32_t oatcastle_panic(const uint8_t *registers, size_t registers_length, uint8_t *room, size_t room_length, uint64_t *answer, size_t answer_count);
+uint32_t oatcastle_panic(const uint8_t *registers, oatcastle_length registers_length, uint8_t *room, oatcastle_length room_length, uint64_t *answer, oatcastle_length answer_count);
 
 /* ==== The main processor's end: a reader's part, OATCASTLE_READER_LENGTH bytes, and a requester's, OATCASTLE_REQUESTER_LENGTH.
  *
@@ -305,23 +324,23 @@ uint32_t oatcastle_panic(const uint8_t *registers, size_t registers_length, uint
 
 /* Begins the main processor's end in parts of any contents: no number used, nothing outstanding.
  * 0; 12: a part is too short. */
-uint32_t oatcastle_requester_start(uint8_t *reader, size_t reader_length, uint8_t *requester, size_t requester_length);
+uint32_t oatcastle_requester_start(uint8_t *reader, oatcastle_length reader_length, uint8_t *requester, oatcastle_length requester_length);
 
 /* Puts a request's frame to the start of out under the next number; bytes of out past it stay. It stays outstanding until its answer comes, but for the
  * commands 0x01, 0x02 and 0x06, which never do. A refused request takes no number.
  * answer[0]  the frame's length
  * 0; 12; 9: more than 4,104 bytes of data; 17: one is outstanding, or a recovery is under way; 14: no number is left; 8: out or the answer is too short. */
-uint32_t oatcastle_requester_request(uint8_t *requester, size_t requester_length, uint8_t command, const uint8_t *data, size_t data_length, uint8_t *out, size_t out_length, uint64_t *answer, size_t answer_count);
+uint32_t oatcastle_requester_request(uint8_t *requester, oatcastle_length requester_length, uint8_t command, const uint8_t *data, oatcastle_length data_length, uint8_t *out, oatcastle_length out_length, uint64_t *answer, oatcastle_length answer_count);
 
 /* Begins a recovery, for the line signal or for an answer that does not come: the status is fetched (0x08), its bits are served (0x09 for bit 0, 0x0a
  * for bit 1) and fetched anew until neither is set, then the request that was cut off goes out anew. oatcastle_requester_send puts each frame out. In a recovery it adds nothing.
  * 0; 12; 14: no number is left, and none is under way. */
-uint32_t oatcastle_requester_interrupt(uint8_t *requester, size_t requester_length);
+uint32_t oatcastle_requester_interrupt(uint8_t *requester, oatcastle_length requester_length);
 
 /* Puts the outstanding frame to the start of out where it is to go out: call it after an interrupt, and after a receive whose answer[3] is 1.
  * answer[0]  the frame's length; 0: nothing is to go out
  * 0; 12; 8: out or the answer is too short; the frame is still to go out. */
-uint32_t oatcastle_requester_send(uint8_t *requester, size_t requester_length, uint8_t *out, size_t out_length, uint64_t *answer, size_t answer_count);
+uint32_t oatcastle_requester_send(uint8_t *requester, oatcastle_length requester_length, uint8_t *out, oatcastle_length out_length, uint64_t *answer, oatcastle_length answer_count);
 
 /* Reads a piece of the received stream up to and with its first 00 or a frame's 4,141st byte, or to its end.
  * answer[0]  how many bytes of the piece were read; hand in the rest with the next call
@@ -332,14 +351,14 @@ uint32_t oatcastle_requester_send(uint8_t *requester, size_t requester_length, u
  * answer[5]  a reply's command; of a status, the startup options
  * answer[6]  how many bytes of data a reply has, which oatcastle_line_data hands out of the reader's part until the next receive; of a status, how many of its 64 bits are set
  * 0; 12; 8: the answer is too short. */
-uint32_t oatcastle_requester_receive(const uint8_t *piece, size_t piece_length, uint8_t *reader, size_t reader_length, uint8_t *requester, size_t requester_length, uint64_t *answer, size_t answer_count);
+uint32_t oatcastle_requester_receive(const uint8_t *piece, oatcastle_length piece_length, uint8_t *reader, oatcastle_length reader_length, uint8_t *requester, oatcastle_length requester_length, uint64_t *answer, oatcastle_length answer_count);
 
 /* ==== The address plan: base, count and stride. No state. */
 
 /* Copies the first eight addresses to the room, one row of OATCASTLE_ADDRESS_LENGTH bytes after the other: row i is base plus i
  * times stride, the most significant byte first. Rows past the count are zero; all are where oatcastle_plan answers 16.
  * 0; 8: the room is shorter than OATCASTLE_ADDRESSES_LENGTH. */
-uint32_t oatcastle_addresses(const uint8_t base[OATCASTLE_ADDRESS_LENGTH], uint16_t count, uint8_t stride, uint8_t *room, size_t room_length);
+uint32_t oatcastle_addresses(const uint8_t base[OATCASTLE_ADDRESS_LENGTH], uint16_t count, uint8_t stride, uint8_t *room, oatcastle_length room_length);
 
 /* Whether every counted address, base plus (count - 1) times stride the last of them, is at most ff:ff:ff:ff:ff:ff; a plan that counts none always fits.
  * 0; 16: the last counted address passes that. */
@@ -352,12 +371,13 @@ typedef struct oatcastle_probe {
     uint8_t address;
     uint8_t result;
 } oatcastle_probe;
+typedef char oatcastle_probe_has_2_bytes[sizeof(oatcastle_probe) == 2 ? 1 : -1];
 
 /* For each k, gives the part at index indices[k] of the list the result results[k], 0, 2 or 3; a part named twice keeps the later one. All other results, and all
  * addresses, stay. No changes (both lists of them empty) are done. An array is lent as a pointer to its first element and the number of its elements; the pointer is
  * aligned as its type is and not NULL, even where the number is 0, and the list overlaps neither of the other two.
  * 0; 15: an index at or past list_count, another result, or another number of results than of indices; the whole list stays then. */
-uint32_t oatcastle_probe_update(oatcastle_probe *list, size_t list_count, const size_t *indices, size_t indices_count, const uint8_t *results, size_t results_length);
+uint32_t oatcastle_probe_update(oatcastle_probe *list, oatcastle_length list_count, const oatcastle_length *indices, oatcastle_length indices_count, const uint8_t *results, oatcastle_length results_length);
 
 /* ==== The root-of-trust link: messages of version 1 over SPI. There is no state. */
 
@@ -367,21 +387,21 @@ uint32_t oatcastle_probe_update(oatcastle_probe *list, size_t list_count, const 
  * answer[1]  a message's type, 1 to 9 but not 2; else 0
  * answer[2]  how many bytes a message's payload has, or the echo response in out; else 0
  * 0; else the first of 20, 21, 22, 23, 24, 25, 26, 8: out is too short for the echo response, or the answer is too short. */
-uint32_t oatcastle_rot_read(const uint8_t *input, size_t input_length, uint8_t *out, size_t out_length, uint64_t *answer, size_t answer_count);
+uint32_t oatcastle_rot_read(const uint8_t *input, oatcastle_length input_length, uint8_t *out, oatcastle_length out_length, uint64_t *answer, oatcastle_length answer_count);
 
 /* Copies to the room the payload of the message that oatcastle_rot_read hands out; nothing where it hands out none.
  * 0; 8: the room is shorter than the payload. */
-uint32_t oatcastle_rot_payload(const uint8_t *input, size_t input_length, uint8_t *room, size_t room_length);
+uint32_t oatcastle_rot_payload(const uint8_t *input, oatcastle_length input_length, uint8_t *room, oatcastle_length room_length);
 
 /* Writes a message to the start of out; bytes of out past it stay.
  * answer[0]  the message's length
  * 0; else the first of 23: more than 512 bytes of payload; 26: a type that is not 1 to 9; 8: out or the answer is too short. */
-uint32_t oatcastle_rot_write(uint8_t kind, const uint8_t *payload, size_t payload_length, uint8_t *out, size_t out_length, uint64_t *answer, size_t answer_count);
+uint32_t oatcastle_rot_write(uint8_t kind, const uint8_t *payload, oatcastle_length payload_length, uint8_t *out, oatcastle_length out_length, uint64_t *answer, oatcastle_length answer_count);
 
 /* The CRC of some bytes: polynomial 04c11db7, top bit first, start 0, complemented at the end.
  * answer[0]  the CRC, 0 to 4,294,967,295
  * 0; 8: the answer is too short. */
-uint32_t oatcastle_rot_crc(const uint8_t *bytes, size_t bytes_length, uint64_t *answer, size_t answer_count);
+uint32_t oatcastle_rot_crc(const uint8_t *bytes, oatcastle_length bytes_length, uint64_t *answer, oatcastle_length answer_count);
 
 #ifdef __cplusplus
 }

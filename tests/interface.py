@@ -27,10 +27,12 @@ VARIANT = r'^    (\w+) = (\d+), "'
 LONGEST_SETTINGS = r'const LONGEST_SETTINGS: \[usize; \d+\] = \[([\d, ]+)\];'
 NUMBERS = {'u8': 'u8', 'u16': 'u16', 'u32': 'u32', 'u64': 'u64', 'usize': 'u64',
            'uint8_t': 'u8', 'uint16_t': 'u16', 'uint32_t': 'u32', 'uint64_t': 'u64'}
+# The header's type of a length, which has 64 bits on every processor, as Rattle's usize has; in Rust usize on x86-64, or u64.
+LENGTH = 'oatcastle_length'
 # The records that functions take: the crates' name, its file, and the header's name.
 RECORDS = {'Probe': ('crates/probes/src/lib.rt', 'oatcastle_probe'), 'Counters': ('crates/counters/src/lib.rt', 'oatcastle_counters')}
 # What a pointer leads to.
-ELEMENTS = {**NUMBERS, 'usize': 'size', 'size_t': 'size', **{name: name for name in RECORDS}, **{c: name for name, (_, c) in RECORDS.items()}}
+ELEMENTS = {**NUMBERS, 'usize': 'size', LENGTH: 'size', **{name: name for name in RECORDS}, **{c: name for name, (_, c) in RECORDS.items()}}
 
 
 @functools.cache
@@ -67,7 +69,7 @@ def c_parameters(parameter):
     words = kind.replace('*', ' ').split()
     if '*' in kind or '[' in parameter:
         return [(name, ('const ' if words[0] == 'const' else 'mut ') + ELEMENTS[words[-1]])]
-    return [(name, 'length' if words == ['size_t'] else NUMBERS[words[-1]])]
+    return [(name, 'length' if words == [LENGTH] else NUMBERS.get(words[-1], f'{words[-1]}, which is no type of the header'))]
 
 
 def raw_parameters(parameter):
@@ -366,7 +368,7 @@ def planted(texts):
     yield replaced(HEADER, header, 'a wider number', 'uint16_t maxresponse', 'uint32_t maxresponse')
     yield replaced(HEADER, header, 'a function taken out', 'uint32_t oatcastle_flags(', '// uint32_t oatcastle_flags(')
     for old, new in (('uint8_t address;\n    uint8_t result;', 'uint8_t result;\n    uint8_t address;'), ('uint8_t address;', 'uint16_t address;'),
-                     ('    uint8_t result;\n', ''), ('const size_t *indices', 'const uint64_t *indices'), ('oatcastle_probe *list', 'uint8_t *list')):
+                     ('    uint8_t result;\n', ''), ('const oatcastle_length *indices', 'const uint64_t *indices'), ('oatcastle_probe *list', 'uint8_t *list')):
         yield replaced(HEADER, header, f'{new!r} for {old!r}', old, new)
     for old, new in (('pub address: u8,', 'pub result: u8,'), ('    pub address: u8,\n', ''), ('pub result: u8,', 'pub result: u32,'), ('#[repr(C)]\n', ''),
                      ('indices: *const Length', 'indices: *const u32'), ('list: *mut Probe', 'list: *mut u8'), ('type Length = u64;', 'type Length = u32;'),
