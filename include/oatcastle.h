@@ -93,6 +93,80 @@ typedef char oatcastle_numbers_are_aligned_to_8[offsetof(struct oatcastle_aligne
 #define OATCASTLE_MOST_ALERTS 8         /* alerts that wait */
 #define OATCASTLE_MOST_ITEMS 64         /* inventory items */
 
+/* ---- What goes over the wire: commands of requests and of replies, keys, results, bits */
+
+#define OATCASTLE_COMMAND_REBOOT 0x01u
+#define OATCASTLE_COMMAND_POWER_OFF 0x02u
+#define OATCASTLE_COMMAND_BSU 0x03u
+#define OATCASTLE_COMMAND_IDENTITY 0x04u
+#define OATCASTLE_COMMAND_MAC 0x05u
+#define OATCASTLE_COMMAND_BOOT_FAILURE 0x06u
+#define OATCASTLE_COMMAND_PANIC 0x07u
+#define OATCASTLE_COMMAND_STATUS 0x08u
+#define OATCASTLE_COMMAND_START_ACKNOWLEDGED 0x09u
+#define OATCASTLE_COMMAND_ALERT 0x0au
+#define OATCASTLE_COMMAND_IMAGE_BLOCK 0x0du
+#define OATCASTLE_COMMAND_KEY_LOOKUP 0x0eu
+#define OATCASTLE_COMMAND_INVENTORY 0x0fu
+#define OATCASTLE_COMMAND_KEY_SET 0x10u
+
+#define OATCASTLE_REPLY_ACKNOWLEDGED 0x01u      /**< to a panic and to a start acknowledged; no data */
+#define OATCASTLE_REPLY_DECODE_FAILURE 0x02u    /**< the reason, OATCASTLE_REASON_FORM to OATCASTLE_REASON_DATA */
+#define OATCASTLE_REPLY_BSU 0x03u
+#define OATCASTLE_REPLY_IDENTITY 0x04u
+#define OATCASTLE_REPLY_MAC 0x05u
+#define OATCASTLE_REPLY_STATUS 0x06u
+#define OATCASTLE_REPLY_ALERT 0x07u
+#define OATCASTLE_REPLY_IMAGE_BLOCK 0x09u
+#define OATCASTLE_REPLY_KEY_LOOKUP 0x0au
+#define OATCASTLE_REPLY_INVENTORY 0x0bu
+#define OATCASTLE_REPLY_KEY_SET 0x0cu
+
+#define OATCASTLE_KEY_PING 0u                   /**< "pong" */
+#define OATCASTLE_KEY_IMAGE_ID 1u
+#define OATCASTLE_KEY_INVENTORY 2u              /**< count u32, version u32 */
+#define OATCASTLE_KEY_ETC_SYSTEM 3u             /**< the settings keys begin here */
+#define OATCASTLE_KEY_DTRACE_CONF 4u
+#define OATCASTLE_KEY_WITHDRAWN_KEYS 5u
+
+#define OATCASTLE_LOOKUP_VALUE 0u               /**< answer[0] of oatcastle_lookup, and the first byte of a key lookup's reply */
+#define OATCASTLE_LOOKUP_BAD_KEY 1u
+#define OATCASTLE_LOOKUP_NO_VALUE 2u
+#define OATCASTLE_LOOKUP_TOO_LONG 3u            /**< the value is longer than maxresponse */
+
+#define OATCASTLE_SET_STORED 0u                 /**< the byte of a key set's reply */
+#define OATCASTLE_SET_BAD_KEY 1u
+#define OATCASTLE_SET_READ_ONLY 2u
+#define OATCASTLE_SET_TOO_LONG 3u
+
+#define OATCASTLE_INVENTORY_ITEM 0u             /**< the first byte of an inventory reply; 0, 2 and 3 are also what an item's result may be */
+#define OATCASTLE_INVENTORY_BAD_INDEX 1u
+#define OATCASTLE_INVENTORY_ABSENT 2u
+#define OATCASTLE_INVENTORY_FAILED 3u
+
+#define OATCASTLE_STATUS_RESTARTED 0x1u         /**< the status' bits */
+#define OATCASTLE_STATUS_ALERTS 0x2u
+
+#define OATCASTLE_OPTION_RECOVERY 0x001u        /**< the startup options' bits */
+#define OATCASTLE_OPTION_KBM 0x002u
+#define OATCASTLE_OPTION_BOOT_RD 0x004u
+#define OATCASTLE_OPTION_PROM 0x008u
+#define OATCASTLE_OPTION_KMDB 0x010u
+#define OATCASTLE_OPTION_KMDB_BOOT 0x020u
+#define OATCASTLE_OPTION_RAMDISK 0x040u
+#define OATCASTLE_OPTION_NET_BOOT 0x080u
+#define OATCASTLE_OPTION_VERBOSE 0x100u
+
+#define OATCASTLE_BSU_A 0x41u
+#define OATCASTLE_BSU_B 0x42u
+
+#define OATCASTLE_LONGEST_ETC_SYSTEM 256        /**< bytes of each settings key's value */
+#define OATCASTLE_LONGEST_DTRACE_CONF 4096
+#define OATCASTLE_LONGEST_WITHDRAWN_KEYS 4096
+#define OATCASTLE_LONGEST_IMAGE_ID 64
+#define OATCASTLE_LONGEST_ITEM_DATA 64
+#define OATCASTLE_LONGEST_BLOCK 4096            /**< bytes of an image in one reply */
+
 /* ---- The address plan */
 
 #define OATCASTLE_ADDRESS_LENGTH 6      /* bytes of an address, the most significant first */

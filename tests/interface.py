@@ -258,10 +258,84 @@ def limits():
     return found
 
 
+# The papers' names in their order: the settings keys, and the startup options.
+SETTINGS = ('ETC_SYSTEM', 'DTRACE_CONF', 'WITHDRAWN_KEYS', 'PASSPHRASE')
+OPTIONS = ('RECOVERY', 'KBM', 'BOOT_RD', 'PROM', 'KMDB', 'KMDB_BOOT', 'RAMDISK', 'NET_BOOT', 'VERBOSE')
+# What a key set's answer other than 0 is for, by the test ahead of it.
+SET_RESULTS = {'layout::HIGHEST_KEY < key': 'BAD_KEY', 'key < layout::FIRST_SETTING': 'READ_ONLY', 'most < n': 'TOO_LONG'}
+
+
+def body(text, name):
+    """The code of a function."""
+    return re.search(rf'\bfn {name}\b.*?\n{{\n(.*?)\n}}', text, re.S).group(1)
+
+
+def snake(name):
+    return re.sub(r'(?<!^)(?=[A-Z])', '_', name).upper()
+
+
+def commands():
+    """Commands of requests, and of the replies to them: the number behind `reply` where a command is carried out, or in the function that does it."""
+    numbers = {name.replace('-', '_').upper(): int(n, 16) for name, n in re.findall(r'^numberOf ([\w-]+) = (0x\w+)$', read('crates/requests/specs/Commands.antt'), re.M)}
+    found = {f'COMMAND_{name}': number for name, number in numbers.items()}
+    text = read('crates/requests/src')
+    arms_of = {int(n, 16): done for n, done in re.findall(r'^        (0x\w+) => (.*?)(?=\n        (?:0x\w+ =>|//|_ =>))', body(text, 'carry'), re.M | re.S)}
+    for name, number in numbers.items():
+        done = arms_of[number]
+        replies = re.findall(r'\breply,\s*(0x\w+)', done) or re.findall(r'\breply,\s*(0x\w+)', body(text, re.search(r'\w+(?=\()', done).group(0)))
+        if replies:
+            found[f'REPLY_{name}'] = int(the_one(f'the reply to {name}', replies), 16)
+    for name, function in (('ACKNOWLEDGED', 'acknowledge'), ('DECODE_FAILURE', 'fail')):
+        found[f'REPLY_{name}'] = int(the_one(name, re.findall(r'\breply,\s*(0x\w+)', body(text, function))), 16)
+    return found
+
+
+def keys(known):
+    """Keys, the longest value of each setting, and the results of a lookup and of a key set."""
+    text = read('crates/supervisor/src/keys.rt')
+    places = {place: int(key) for key, place in re.findall(r'if key == (\d+) \{\s*return Location::Factory\(\s*layout::(\w+),', body(text, 'find'))}
+    found = {f'KEY_{name}': places[f'{place}_OFFSET'] for name, place in (('PING', 'PONG'), ('IMAGE_ID', 'IMAGE_ID'), ('INVENTORY', 'ITEM_COUNT'))}
+    for i, longest in enumerate(settings(known)):
+        found[f'KEY_{SETTINGS[i]}'] = known['FIRST_SETTING'] + i
+        found[f'LONGEST_{SETTINGS[i]}'] = longest
+    for variant, numbers in arms(body(text, 'result_number')).items():
+        if variant != 'Found::Refused':
+            found[f'LOOKUP_{snake(variant.removeprefix("Found::"))}'] = the_one(variant, numbers)
+    text = read('crates/requests/src/settings.rt')
+    store = body(text, 'store') + '\n' + body(text, 'store_at')
+    for test, number in re.findall(r'if ([^{]*?) \{\s*return (\d+);', store):
+        if test not in SET_RESULTS:
+            sys.exit(f'interface.py: a key set answers {number} where {test}; SET_RESULTS has no name for it')
+        found[f'SET_{SET_RESULTS[test]}'] = int(number)
+    found['SET_STORED'] = the_one('a key set that stores', map(int, re.findall(r'^    (\d+)$', store, re.M)))
+    return found
+
+
+def bits_and_codes(known):
+    """Inventory results, status bits, startup options and the BSU."""
+    meant, allowed = read('crates/requests/specs/Requests.antt'), read('crates/supervisor/specs/Valid.antt')
+    item, absent, failed = re.search(r'^resultAllowed n = eqb n (\d) \|\| \(?eqb n (\d) \|\| eqb n (\d)\)?$', allowed, re.M).groups()
+    found = {'INVENTORY_ITEM': int(item), 'INVENTORY_ABSENT': int(absent), 'INVENTORY_FAILED': int(failed),
+             'INVENTORY_BAD_INDEX': the_one('an index out of range', map(int, re.findall(r'^inventoried none = (\d) ', meant, re.M)))}
+    for name, place in (('RESTARTED', r'^startAcknowledged .*clearBit \(s \.status\) (\d)'), ('ALERTS', r'^statusAfter .*clearBit status (\d)')):
+        found[f'STATUS_{name}'] = 1 << the_one(name, map(int, re.findall(place, meant, re.M)))
+    if known['ALL_OPTIONS'] != (1 << len(OPTIONS)) - 1:
+        sys.exit('interface.py: OPTIONS does not name every option bit')
+    found.update({f'OPTION_{name}': 1 << i for i, name in enumerate(OPTIONS)})
+    found['BSU_A'], found['BSU_B'] = (int(n, 16) for n in re.search(r'^bsuAllowed n = eqb n (0x\w+) \|\| eqb n (0x\w+)$', allowed, re.M).groups())
+    return found
+
+
+def wire():
+    known = constants('crates/line/src/limits.rt', 'crates/supervisor/src/layout.rt')
+    limits = {name: known[name] for name in ('LONGEST_IMAGE_ID', 'LONGEST_ITEM_DATA', 'LONGEST_BLOCK')}
+    return {**commands(), **keys(known), **bits_and_codes(known), **limits}
+
+
 @functools.cache
 def wanted_numbers():
     """The header's constants by what the crates have: one entry for each #define."""
-    return {**refusals(), **kinds(), **reasons(), **answer_counts(), **root_of_trust(), **limits()}
+    return {**refusals(), **kinds(), **reasons(), **answer_counts(), **root_of_trust(), **limits(), **wire()}
 
 
 def defined(texts):
@@ -274,10 +348,10 @@ def number_faults(texts):
     wanted = wanted_numbers()
     found = defined(texts)
     for name in sorted(wanted.keys() | found.keys()):
-        value = re.fullmatch(r'(\d+)u?', found.get(name, ''))
+        value = re.fullmatch(r'(\d+|0x[0-9a-f]+)u?', found.get(name, ''))
         if name not in wanted:
             yield f'OATCASTLE_{name}: the header has it, and nothing here says what the crates have'
-        elif not value or int(value.group(1)) != wanted[name]:
+        elif not value or int(value.group(1), 0) != wanted[name]:
             yield f'OATCASTLE_{name}: the header has {found.get(name)}, the crates {wanted[name]}'
 
 
@@ -338,7 +412,7 @@ def faults(texts):
 def raised(path, text, form):
     """Each number of a form in the text, one more."""
     for found in re.finditer(form, text):
-        yield path, f'one more than in {found.group(0).strip()}', text[:found.start(1)] + str(int(found.group(1)) + 1) + text[found.end(1):]
+        yield path, f'one more than in {found.group(0).strip()}', text[:found.start(1)] + str(int(found.group(1), 0) + 1) + text[found.end(1):]
 
 
 def exchanged(path, text, form, name):
@@ -358,7 +432,7 @@ def replaced(path, text, what, old, new):
 def planted(texts):
     """Each change: the file, what is changed, and the file's text with it."""
     header, raw = texts[HEADER], texts[RAW]
-    yield from raised(HEADER, header, r'#define OATCASTLE_\w+ (\d+)u?')
+    yield from raised(HEADER, header, r'#define OATCASTLE_\w+ (0x[0-9a-f]+|\d+)u?')
     yield from exchanged(HEADER, header, r'\nuint32_t (\w+)\((.*?)\);', r'(\w+)(?=(?:\[\w+\])?(?:,|$))')
     yield from exchanged(RAW, raw, r'fn (\w+)\((.*?)\) -> u32;', r'(\w+)(?=:)')
     yield replaced(HEADER, header, 'a #define taken out', '#define OATCASTLE_STEP_NUMBERS', '// OATCASTLE_STEP_NUMBERS')

@@ -1,0 +1,154 @@
+/**
+ * @file oatcastle_parts.h
+ * The lent parts as one struct, and each call that takes them as an inline function that takes the struct in their place.
+ *
+ * Made by include/parts.py from oatcastle.h. What a call does and answers stands there, with the plain function.
+ * A struct is plain memory: static or on a stack, of any contents, until its start. It may be copied or moved between two calls.
+ * Where a length is 0, its pointer is not looked at and may be NULL. An answer has the number of places that its parameter says, and
+ * overlaps neither the struct nor anything else that is lent.
+ */
+#ifndef OATCASTLE_PARTS_H
+#define OATCASTLE_PARTS_H
+
+#include "oatcastle.h"
+
+#ifdef __cplusplus
+extern "C" {
+#endif
+
+/** The pointer, or where the length is 0 a place that is neither read nor written. */
+static inline const uint8_t *oatcastle_some(const uint8_t *at, oatcastle_length length)
+{
+    static const uint8_t none[1] = {0};
+    return length == 0 ? none : at;
+}
+
+/** The same for a run that is written. */
+static inline uint8_t *oatcastle_some_room(uint8_t *at, oatcastle_length length)
+{
+    static uint8_t none[1];
+    return length == 0 ? none : at;
+}
+
+/** The supervisor: its lent parts, which the caller owns and only these calls write. */
+typedef struct oatcastle_supervisor {
+    uint8_t reader[OATCASTLE_READER_LENGTH];
+    uint8_t outbox[OATCASTLE_OUTBOX_LENGTH];
+    uint8_t factory[OATCASTLE_FACTORY_LENGTH];
+    uint8_t settings[OATCASTLE_SETTINGS_LENGTH];
+    uint8_t registers[OATCASTLE_REGISTERS_LENGTH];
+} oatcastle_supervisor;
+
+/** oatcastle_start on these parts. */
+static inline uint32_t oatcastle_supervisor_start(oatcastle_supervisor *parts, const uint8_t data[OATCASTLE_START_LENGTH])
+{
+    return oatcastle_start(data, parts->reader, sizeof parts->reader, parts->outbox, sizeof parts->outbox, parts->factory, sizeof parts->factory, parts->settings, sizeof parts->settings, parts->registers, sizeof parts->registers);
+}
+
+/** oatcastle_receive on these parts. */
+static inline uint32_t oatcastle_supervisor_receive(oatcastle_supervisor *parts, const uint8_t *image, oatcastle_length image_length, const uint8_t *piece, oatcastle_length piece_length)
+{
+    return oatcastle_receive(oatcastle_some(image, image_length), image_length, oatcastle_some(piece, piece_length), piece_length, parts->reader, sizeof parts->reader, parts->outbox, sizeof parts->outbox, parts->factory, sizeof parts->factory, parts->settings, sizeof parts->settings, parts->registers, sizeof parts->registers);
+}
+
+/** oatcastle_step on these parts. */
+static inline uint32_t oatcastle_supervisor_step(oatcastle_supervisor *parts, const uint8_t *image, oatcastle_length image_length, const uint8_t *piece, oatcastle_length piece_length, uint64_t answer[OATCASTLE_STEP_NUMBERS])
+{
+    return oatcastle_step(oatcastle_some(image, image_length), image_length, oatcastle_some(piece, piece_length), piece_length, parts->reader, sizeof parts->reader, parts->outbox, sizeof parts->outbox, parts->factory, sizeof parts->factory, parts->settings, sizeof parts->settings, parts->registers, sizeof parts->registers, answer, OATCASTLE_STEP_NUMBERS);
+}
+
+/** oatcastle_receive_counted on these parts. */
+static inline uint32_t oatcastle_supervisor_receive_counted(oatcastle_supervisor *parts, oatcastle_counters *counters, const uint8_t *image, oatcastle_length image_length, const uint8_t *piece, oatcastle_length piece_length)
+{
+    return oatcastle_receive_counted(counters, oatcastle_some(image, image_length), image_length, oatcastle_some(piece, piece_length), piece_length, parts->reader, sizeof parts->reader, parts->outbox, sizeof parts->outbox, parts->factory, sizeof parts->factory, parts->settings, sizeof parts->settings, parts->registers, sizeof parts->registers);
+}
+
+/** oatcastle_take on these parts. */
+static inline uint32_t oatcastle_supervisor_take(oatcastle_supervisor *parts, uint8_t *room, oatcastle_length room_length, uint64_t answer[OATCASTLE_TAKE_NUMBERS])
+{
+    return oatcastle_take(parts->outbox, sizeof parts->outbox, oatcastle_some_room(room, room_length), room_length, answer, OATCASTLE_TAKE_NUMBERS);
+}
+
+/** oatcastle_post on these parts. */
+static inline uint32_t oatcastle_supervisor_post(oatcastle_supervisor *parts, uint8_t action, const uint8_t *text, oatcastle_length text_length)
+{
+    return oatcastle_post(parts->registers, sizeof parts->registers, action, oatcastle_some(text, text_length), text_length);
+}
+
+/** oatcastle_set_options on these parts. */
+static inline uint32_t oatcastle_supervisor_set_options(oatcastle_supervisor *parts, uint64_t options)
+{
+    return oatcastle_set_options(parts->registers, sizeof parts->registers, options);
+}
+
+/** oatcastle_lookup on these parts. */
+static inline uint32_t oatcastle_supervisor_lookup(const oatcastle_supervisor *parts, uint8_t key, uint16_t maxresponse, uint8_t *room, oatcastle_length room_length, uint64_t answer[OATCASTLE_LOOKUP_NUMBERS])
+{
+    return oatcastle_lookup(parts->factory, sizeof parts->factory, parts->settings, sizeof parts->settings, key, maxresponse, oatcastle_some_room(room, room_length), room_length, answer, OATCASTLE_LOOKUP_NUMBERS);
+}
+
+/** oatcastle_signal on these parts. */
+static inline uint32_t oatcastle_supervisor_signal(const oatcastle_supervisor *parts, uint64_t answer[OATCASTLE_SIGNAL_NUMBERS])
+{
+    return oatcastle_signal(parts->registers, sizeof parts->registers, answer, OATCASTLE_SIGNAL_NUMBERS);
+}
+
+/** oatcastle_flags on these parts. */
+static inline uint32_t oatcastle_supervisor_flags(const oatcastle_supervisor *parts, uint64_t answer[OATCASTLE_FLAGS_NUMBERS])
+{
+    return oatcastle_flags(parts->registers, sizeof parts->registers, answer, OATCASTLE_FLAGS_NUMBERS);
+}
+
+/** oatcastle_boot_failure on these parts. */
+static inline uint32_t oatcastle_supervisor_boot_failure_record(const oatcastle_supervisor *parts, uint8_t *room, oatcastle_length room_length, uint64_t answer[OATCASTLE_RECORD_NUMBERS])
+{
+    return oatcastle_boot_failure(parts->registers, sizeof parts->registers, oatcastle_some_room(room, room_length), room_length, answer, OATCASTLE_RECORD_NUMBERS);
+}
+
+/** oatcastle_panic on these parts. */
+static inline uint32_t oatcastle_supervisor_panic_record(const oatcastle_supervisor *parts, uint8_t *room, oatcastle_length room_length, uint64_t answer[OATCASTLE_RECORD_NUMBERS])
+{
+    return oatcastle_panic(parts->registers, sizeof parts->registers, oatcastle_some_room(room, room_length), room_length, answer, OATCASTLE_RECORD_NUMBERS);
+}
+
+/** The main processor's end: its lent parts, which the caller owns and only these calls write. */
+typedef struct oatcastle_main_end {
+    uint8_t reader[OATCASTLE_READER_LENGTH];
+    uint8_t requester[OATCASTLE_REQUESTER_LENGTH];
+} oatcastle_main_end;
+
+/** oatcastle_requester_start on these parts. */
+static inline uint32_t oatcastle_main_end_start(oatcastle_main_end *parts)
+{
+    return oatcastle_requester_start(parts->reader, sizeof parts->reader, parts->requester, sizeof parts->requester);
+}
+
+/** oatcastle_requester_request on these parts. */
+static inline uint32_t oatcastle_main_end_request(oatcastle_main_end *parts, uint8_t command, const uint8_t *data, oatcastle_length data_length, uint8_t *out, oatcastle_length out_length, uint64_t answer[OATCASTLE_REQUESTER_REQUEST_NUMBERS])
+{
+    return oatcastle_requester_request(parts->requester, sizeof parts->requester, command, oatcastle_some(data, data_length), data_length, oatcastle_some_room(out, out_length), out_length, answer, OATCASTLE_REQUESTER_REQUEST_NUMBERS);
+}
+
+/** oatcastle_requester_interrupt on these parts. */
+static inline uint32_t oatcastle_main_end_interrupt(oatcastle_main_end *parts)
+{
+    return oatcastle_requester_interrupt(parts->requester, sizeof parts->requester);
+}
+
+/** oatcastle_requester_send on these parts. */
+static inline uint32_t oatcastle_main_end_send(oatcastle_main_end *parts, uint8_t *out, oatcastle_length out_length, uint64_t answer[OATCASTLE_REQUESTER_SEND_NUMBERS])
+{
+    return oatcastle_requester_send(parts->requester, sizeof parts->requester, oatcastle_some_room(out, out_length), out_length, answer, OATCASTLE_REQUESTER_SEND_NUMBERS);
+}
+
+/** oatcastle_requester_receive on these parts. */
+static inline uint32_t oatcastle_main_end_receive(oatcastle_main_end *parts, const uint8_t *piece, oatcastle_length piece_length, uint64_t answer[OATCASTLE_REQUESTER_RECEIVE_NUMBERS])
+{
+    return oatcastle_requester_receive(oatcastle_some(piece, piece_length), piece_length, parts->reader, sizeof parts->reader, parts->requester, sizeof parts->requester, answer, OATCASTLE_REQUESTER_RECEIVE_NUMBERS);
+}
+
+#ifdef __cplusplus
+}
+#endif
+
+#endif
