@@ -2,7 +2,7 @@
  * Assumes the static library of the crate `oatcastle`. */
 #include <stdio.h>
 
-#include "oatcastle.h"
+#include "oatcastle_parts.h"
 
 static const uint8_t request[] = {
     0x06, 0xcc, 0x19, 0xde, 0x01, 0x01, 0x01, 0x01, 0x02, 0x01, 0x01,
@@ -10,17 +10,10 @@ static const uint8_t request[] = {
 };
 
 /* The supervisor's parts: the caller owns them. */
-static uint8_t reader[OATCASTLE_READER_LENGTH];
-static uint8_t outbox[OATCASTLE_OUTBOX_LENGTH];
-static uint8_t factory[OATCASTLE_FACTORY_LENGTH];
-static uint8_t settings[OATCASTLE_SETTINGS_LENGTH];
-static uint8_t registers[OATCASTLE_REGISTERS_LENGTH];
+static oatcastle_supervisor supervisor;
 
-/* Start data: BSU 0x41, everything else 0, no items. */
-static const uint8_t start_data[OATCASTLE_START_LENGTH] = {0x41};
-
-/* No image: its length is 0, but a pointer is never NULL. */
-static const uint8_t image[1];
+/* Start data: the BSU, everything else 0, no items. */
+static const uint8_t start_data[OATCASTLE_START_LENGTH] = {OATCASTLE_BSU_A};
 
 /* Prints what is pending; returns a refusal's number, or 0. */
 static uint32_t send_pending(const char **gap)
@@ -29,7 +22,7 @@ static uint32_t send_pending(const char **gap)
     uint64_t moved[OATCASTLE_TAKE_NUMBERS];
 
     do {
-        uint32_t no = oatcastle_take(outbox, sizeof outbox, room, sizeof room, moved, OATCASTLE_TAKE_NUMBERS);
+        uint32_t no = oatcastle_supervisor_take(&supervisor, room, sizeof room, moved);
         if (no != OATCASTLE_DONE)
             return no;
         for (size_t i = 0; i < moved[0]; i++) {
@@ -43,10 +36,10 @@ static uint32_t send_pending(const char **gap)
 int main(void)
 {
     const char *gap = "";
-    uint32_t no = oatcastle_start(start_data, reader, sizeof reader, outbox, sizeof outbox, factory, sizeof factory, settings, sizeof settings, registers, sizeof registers);
+    uint32_t no = oatcastle_supervisor_start(&supervisor, start_data);
 
     for (size_t i = 0; no == OATCASTLE_DONE && i < sizeof request; i++) {
-        no = oatcastle_receive(image, 0, &request[i], 1, reader, sizeof reader, outbox, sizeof outbox, factory, sizeof factory, settings, sizeof settings, registers, sizeof registers);
+        no = oatcastle_supervisor_receive(&supervisor, NULL, 0, &request[i], 1);
         if (no == OATCASTLE_DONE)
             no = send_pending(&gap);
     }

@@ -102,7 +102,7 @@ void uart(void)
 /* ---- The supervisor */
 
 static oatcastle_supervisor supervisor;
-static const uint8_t start_data[OATCASTLE_START_LENGTH] = {0x41};
+static const uint8_t start_data[OATCASTLE_START_LENGTH] = {OATCASTLE_BSU_A};
 
 /* Hands the library what has come, and the queue what the library has to send. */
 static uint32_t serve(void)

@@ -7,7 +7,7 @@
 #define TICKS 0xffffffu
 
 static oatcastle_supervisor supervisor;
-static const uint8_t start_data[OATCASTLE_START_LENGTH] = {0x41};
+static const uint8_t start_data[OATCASTLE_START_LENGTH] = {OATCASTLE_BSU_A};
 static uint8_t image[8192], data[OATCASTLE_LONGEST_DATA], piece[OATCASTLE_LONGEST_FRAME], room[OATCASTLE_MOST_PENDING];
 static uint64_t answer[OATCASTLE_LINE_READ_NUMBERS];
 static uint32_t piece_length, refused, began;
