@@ -2,7 +2,7 @@
 """Prints, for each function that an archive of cross/build exports, a bound on the stack of a call: the longest way through the calls of the object, each
 function with the frame that clang gave it; on x86-64 also each return address, and the 128 bytes that the last function may use below its frame.
 memcpy, memmove and memset are not in it, nor are the caller's arguments. A cycle of calls, or a function's address used otherwise, is an error.
-Assumes object/oatcastle.o and object/oatcastle.su of the target, and readelf.
+Assumes object/oatcastle.o and the files object/*.su of the target, and readelf.
 
 usage: cross/stack.py NAME"""
 import pathlib
@@ -16,14 +16,14 @@ GIVEN = {'memcpy', 'memmove', 'memset'}
 CALLS = {'R_ARM_THM_CALL', 'R_ARM_THM_JUMP24', 'R_X86_64_PLT32', 'R_RISCV_CALL_PLT', 'R_RISCV_CALL', 'R_RISCV_JAL'}
 
 
-def frames(path):
+def frames(folder):
     """Each function's frame in bytes."""
     found = {}
-    for line in path.read_text().splitlines():
+    for line in ''.join(path.read_text() for path in sorted(folder.glob('*.su'))).splitlines():
         place, size, kind = line.split('\t')
         if kind != 'static':
             sys.exit(f'stack.py: the frame of {place} is {kind}')
-        found[re.sub(r'^.*?\.(?:ll|bc):', '', place)] = int(size)
+        found[re.sub(r'^.*?\.(?:ll|bc|c):(?:\d+:)*', '', place)] = int(size)
     return found
 
 
@@ -43,12 +43,11 @@ def calls(path):
 
 
 def bounds(folder):
-    frame, called = frames(folder / 'oatcastle.su'), calls(folder / 'oatcastle.o')
+    frame, called = frames(folder), calls(folder / 'oatcastle.o')
     is_x86_64 = (folder / 'oatcastle.o').read_bytes()[18] == 62
     for name, others in called.items():
         for other in others - frame.keys() - GIVEN:
-            if not other.startswith('__aeabi_'):
-                sys.exit(f'stack.py: {name} calls {other}, whose frame is not known')
+            sys.exit(f'stack.py: {name} calls {other}, whose frame is not known')
 
     def deepest(name, way=()):
         if name in way:
