@@ -1,0 +1,174 @@
+#!/usr/bin/env python3
+"""Writes docs/FIRMWARE.md: what is proved and what is tested on other processors, and the figures of cross/build and tests/cross/run.
+Assumes what tests/cross/run assumes. The figures of a trace are those of seed 1 and 20,000 calls of the differential test.
+
+usage: docs/firmware.py write | check
+
+write: runs tests/cross/run 1 20000 first (some minutes)
+check: compares the document with the logs of the last tests/cross/run, but for what depends on the trace's length"""
+import pathlib
+import re
+import subprocess
+import sys
+
+ROOT = pathlib.Path(__file__).resolve().parent.parent
+FILE = ROOT / 'docs/FIRMWARE.md'
+LOGS = ROOT / 'target/cross/tests'
+WORDS = {'x86-64-O3': 'x86-64, -O3', 'thumbv7em-Os': 'Cortex-M4, -Os', 'thumbv7em-O2': 'Cortex-M4, -O2', 'thumbv6m-Os': 'Cortex-M0, -Os', 'riscv32imc-Os': 'RV32IMC, -Os'}
+TRACE = ('1', '20000')
+
+
+def log(name):
+    return (LOGS / f'{name}.log').read_text()
+
+
+def number(n):
+    return f'{int(n):,}'
+
+
+def table(head, rows):
+    lines = ['| ' + ' | '.join(head) + ' |', '|' + '---|' * len(head)]
+    return '\n'.join(lines + ['| ' + ' | '.join(row) + ' |' for row in rows]) + '\n'
+
+
+def sizes():
+    rows = re.findall(r'^(\S+): (\d+) bytes of code, (\d+) of constants, (\d+) of data, (\d+) of bss; undefined: (.*)$', log('build'), re.M)
+    return table(('Target', 'Code', 'Constants', '`.data`', '`.bss`', 'Undefined'),
+                 [(f'`{name}` ({WORDS[name]})', number(code), number(constants), data, bss, ', '.join(undefined.split())) for name, code, constants, data, bss, undefined in rows])
+
+
+def firmware_size():
+    text, data, bss = re.search(r'^ +(\d+)\s+(\d+)\s+(\d+)\s+\d+\s+\w+\s+\S+firmware\.elf$', log('firmware'), re.M).groups()
+    stack = int(re.search(r'stack_size : (\d+)K', (ROOT / 'examples/firmware/board.ld').read_text()).group(1)) * 1024
+    return (f'The whole of `examples/firmware`, with its driver, startup code, start data and text, has {number(text)} bytes of code and constants, {number(data)} of data and '
+            f'{number(int(bss) - stack)} of zeroed memory, beside the {number(stack)} bytes that its linker script gives to the stack.\n')
+
+
+def parts():
+    header = dict(re.findall(r'^#define OATCASTLE_(\w+)_LENGTH (\d+)', (ROOT / 'include/oatcastle.h').read_text(), re.M))
+    structs = re.findall(r'typedef struct oatcastle_(\w+) \{\n(.*?)\n\}', (ROOT / 'include/oatcastle_parts.h').read_text(), re.S)
+    rows = []
+    for struct, fields in structs:
+        names = re.findall(r'uint8_t (\w+)\[', fields)
+        lengths = [int(header[name.upper()]) for name in names]
+        rows.append((f'`oatcastle_{struct}`', ' + '.join(f'{name} {number(n)}' for name, n in zip(names, lengths)), number(sum(lengths))))
+    rows.append(('a line reader', 'its state', number(header['READER'])))
+    rows.append(('`oatcastle_counters`', 'nine counters', '36'))
+    return table(('Lent memory', 'Parts', 'Bytes'), rows)
+
+
+def bounds(target):
+    said = subprocess.run([sys.executable, ROOT / 'cross/stack.py', target], check=True, capture_output=True, text=True).stdout
+    return {name: int(n) for name, n in (line.split() for line in said.splitlines())}
+
+
+def measured(name):
+    return {function: (int(calls), int(depth)) for function, calls, depth in re.findall(r'^(oatcastle_\w+): (\d+) calls, (\d+) bytes of stack$', log(name), re.M)}
+
+
+def functions():
+    return (LOGS / 'functions').read_text().split()
+
+
+def stack_bounds():
+    found = {target: bounds(target) for target in WORDS}
+    return table(('Call', *WORDS.values()), [(f'`{name}`', *(number(found[target][name]) for target in WORDS)) for name in functions()])
+
+
+def stack_measured():
+    columns = {'x86-64-O3': 'x86-64, -O3', 'bare-thumbv7em-Os': 'Cortex-M4, -Os, bare', 'thumbv7em-O2': 'Cortex-M4, -O2', 'bare-thumbv6m-Os': 'Cortex-M0, -Os, bare', 'riscv32imc-Os': 'RV32IMC, -Os'}
+    found = {name: measured(name) for name in columns}
+    return table(('Call', 'Calls', *columns.values()), [(f'`{name}`', number(found['x86-64-O3'][name][0]), *(number(found[c][name][1]) for c in columns)) for name in functions()])
+
+
+def instructions():
+    form = r'^(.*): frame (\d+) bytes, reply (\d+) bytes; written (\d+), received (\d+), received singly (\d+), taken (\d+)$'
+    rows = []
+    for target in ('thumbv7em-Os', 'thumbv7em-O2'):
+        rows += [(what, WORDS[target].split(', ')[1], *map(number, rest)) for what, *rest in re.findall(form, log(f'count-{target}'), re.M)]
+    return table(('Request', 'Level', 'Its frame', 'Its reply', 'Frame written', 'Received whole', 'Received byte by byte', 'Reply taken'), sorted(rows, key=lambda r: r[0]))
+
+
+def replays():
+    lines = [name for name in (*WORDS, 'bare-thumbv7em-Os', 'bare-thumbv6m-Os')]
+    made = {name: re.search(r'^calls made again: (\d+)$', log(name), re.M).group(1) for name in lines}
+    different = {name: re.search(r'^differences: (\d+)$', log(name), re.M).group(1) for name in lines}
+    how = {'x86-64-O3': 'the machine itself', 'riscv32imc-Os': 'qemu-riscv32'}
+    rows = []
+    for name in lines:
+        target = name.removeprefix('bare-')
+        where = 'qemu-system-arm, no system; an access that is not aligned traps' if name == 'bare-thumbv6m-Os' else 'qemu-system-arm, no system' if name.startswith('bare') else how.get(name, 'qemu-arm')
+        rows.append((f'`{target}`', where, number(made[name]), str(len(measured(name))), different[name]))
+    return table(('Target', 'Run by', 'Calls', 'Functions', 'Differences'), rows)
+
+
+def document():
+    """The document in blocks: its text, and whether it depends on the trace's length."""
+    return [(TOP, False), (replays(), True), (SIZES + sizes() + '\n' + firmware_size(), False), (RAM + parts(), False), (STACK + stack_bounds(), False),
+            (MEASURED + stack_measured(), True), (INSTRUCTIONS + instructions(), False)]
+
+
+TOP = '''# On the firmware's processor
+
+`cross/build` makes the library for Cortex-M and riscv32 (`cross/README.md`), `tests/cross/run` tests it under qemu (`tests/cross/README.md`), `make -C examples/firmware run` builds and runs a firmware for a
+bare Cortex-M4. `docs/firmware.py write` makes this page, figures and all.
+
+## What is proved, and what is only tested
+
+- **Proved**: the module that `rt staticlib` compiles, on x86-64, with a `usize` of 64 bits. The verdict is for that: every function of the crates ends, stays in its memory and meets its contract.
+- **Not proved**: anything on another processor. There the same module is compiled by the same clang. Between the verdict and the code stand clang's back end for that processor, the three
+  changes of the module's text (`cross/README.md`), addresses of 32 bits under lengths of 64, the calling convention of the C compiler, the firmware's memcpy, memmove and memset, and for ARMv6-M two
+  functions of `cross/thumbv6m.c`. No proof covers these.
+- **Tested on a target**: what the table below lists. The differential test compares each of these calls with an independent model on x86-64; the target must then return the same number and leave the same
+  bytes, in everything lent and for 16 bytes behind. Runs of bytes are lent at odd addresses.
+- **Not tested**: a real chip. qemu has the instructions, not the timing, caches or buses.
+- **Nowhere proved**: how much stack or time a call takes. The figures below are clang's frames, measurements, and qemu's counts.
+
+'''
+SIZES = '''
+## Code and constants, in bytes
+
+The whole library, every function of the header. A linker with `--gc-sections` drops those not called.
+
+'''
+RAM = '''
+## RAM of the lent parts
+
+The library has no memory of its own. Start data (`OATCASTLE_START_LENGTH`) are read alone and may lie in flash, as may the image.
+
+'''
+STACK = '''
+## Stack of each call, in bytes
+
+At most so much, by clang's frames along the longest way of calls (`cross/stack.py`); no call is recursive or goes by a pointer. Add the caller's arguments, what memcpy,
+memmove and memset use, and the interrupts.
+
+'''
+MEASURED = '''
+Measured: the deepest byte that a call of the trace wrote, its arguments and the memory functions included.
+
+'''
+INSTRUCTIONS = '''
+## Instructions on a Cortex-M4
+
+By qemu's instruction count (`tests/cross/count.c`), memcpy and memset byte by byte included. A processor takes at least a cycle for each. Byte by byte: one call for each byte of the frame.
+
+'''
+
+
+def main(command):
+    if command == 'write':
+        subprocess.run([ROOT / 'tests/cross/run', *TRACE], check=True)
+        FILE.write_text(''.join(text for text, _ in document()))
+        return
+    text = FILE.read_text()
+    stale = [block.strip().split('\n')[0] for block, by_trace in document() if not by_trace and block not in text]
+    for head in stale:
+        print(f'docs/FIRMWARE.md is not as docs/firmware.py would write it: {head}')
+    sys.exit(1 if stale else 0)
+
+
+if __name__ == '__main__':
+    if sys.argv[1:] not in (['write'], ['check']):
+        sys.exit(__doc__)
+    main(sys.argv[1])
