@@ -262,7 +262,8 @@ def limits():
 SETTINGS = ('ETC_SYSTEM', 'DTRACE_CONF', 'WITHDRAWN_KEYS', 'PASSPHRASE')
 OPTIONS = ('RECOVERY', 'KBM', 'BOOT_RD', 'PROM', 'KMDB', 'KMDB_BOOT', 'RAMDISK', 'NET_BOOT', 'VERBOSE')
 # What a key set's answer other than 0 is for, by the test ahead of it.
-SET_RESULTS = {'layout::HIGHEST_KEY < key': 'BAD_KEY', 'key < layout::FIRST_SETTING': 'READ_ONLY', 'most < n': 'TOO_LONG'}
+SET_RESULTS = {'layout::HIGHEST_KEY < key': 'BAD_KEY', 'key < layout::FIRST_SETTING': 'READ_ONLY', 'most < n': 'TOO_LONG',
+               'edition == layout::LAST_EDITION': 'LAST_EDITION'}
 
 
 def body(text, name):

@@ -1,4 +1,5 @@
-/* What a machine gives the programs of tests/cross: the trace's bytes, text, an end, and the stack pointer. Each port_*.c defines these. */
+/* What a machine gives the programs of tests/cross: the trace's bytes, text, an end, and the stack pointer. Each port_*.c defines these.
+ * Assumes gcc's or clang's assembler statements. */
 #ifndef PORT_H
 #define PORT_H
 
@@ -11,8 +12,8 @@ unsigned port_read(uint8_t *to, unsigned n);
 void port_text(const char *text);
 /* Prints a text and ends the program with a status. */
 void port_end(const char *text, int status);
-/* Reads the trace on port_read, makes its calls again and ends the program (replay.c). */
-void replay(void);
+/* What a port runs: it ends with port_end. replay.c or arithmetic.c defines it. */
+void program(void);
 
 /* The stack pointer. */
 static inline volatile uint32_t *port_stack(void)

@@ -66,6 +66,6 @@ int main(void)
     file = host(HOST_OPEN, arguments);
     if (file == (uint32_t)-1)
         port_end("no file `trace`\n", 2);
-    replay();
+    program();
     return 2;
 }

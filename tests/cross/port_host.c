@@ -1,4 +1,5 @@
-/* The port to x86-64 Linux with a C library: the trace on standard input. */
+/* The port to x86-64 Linux: the trace on standard input.
+ * Assumes a C library. */
 #include <stdio.h>
 #include <stdlib.h>
 
@@ -22,6 +23,6 @@ void port_end(const char *text, int status)
 
 int main(void)
 {
-    replay();
+    program();
     return 2;
 }

@@ -43,5 +43,5 @@ void port_end(const char *text, int status)
 
 void _start(void)
 {
-    replay();
+    program();
 }

@@ -62,7 +62,7 @@ static uint32_t change_end(const uint8_t *was, const uint8_t *is, uint32_t from,
     return last + 1;
 }
 
-/* Writes the changes, and has the slot hold the run. With `count` alone, only counts them. */
+/* How many changes there are; with `write` they are written too. */
 static uint32_t changes(uint8_t *held, const uint8_t *is, uint32_t size, int write)
 {
     uint32_t found = 0, i = 0;
@@ -84,6 +84,7 @@ static uint32_t changes(uint8_t *held, const uint8_t *is, uint32_t size, int wri
     return found;
 }
 
+/* Writes the changes of a run, and has its slot hold it. */
 static void hold(unsigned slot, const void *at, uint64_t size)
 {
     if (size > slots[slot].size) {

@@ -1,4 +1,5 @@
-/* What a recording function says of a call, in this order. record.c defines these. */
+/* What a recording function says of a call, in this order; record.c defines these.
+ * Assumes the header alone. */
 #ifndef RECORD_H
 #define RECORD_H
 

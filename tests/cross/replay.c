@@ -129,55 +129,83 @@ static void lend(const struct parameter *p, struct run *r)
     change(r, 1);
 }
 
+/* Reads a call's numbers and runs; returns how many runs there are. */
+static unsigned lend_all(const struct function *f)
+{
+    unsigned runs = 0, numbers = 0;
+    for (const struct parameter *p = &PARAMETERS[f->first]; p < &PARAMETERS[f->first + f->parameters]; p++)
+        if (p->kind == NUMBER)
+            number[numbers++] = value(8);
+        else
+            lend(p, &run[runs++]);
+    return runs;
+}
+
+/* Reads what the call must leave in each run that it may write. */
+static void want_all(const struct function *f)
+{
+    unsigned runs = 0;
+    for (const struct parameter *p = &PARAMETERS[f->first]; p < &PARAMETERS[f->first + f->parameters]; p++) {
+        if (p->kind == WRITTEN)
+            change(&run[runs], 0);
+        runs += p->kind != NUMBER;
+    }
+}
+
+/* Says of a call what differs: its number, or the first byte of its first run that does. */
+static void show(uint32_t call, const struct function *f, uint32_t answered, uint32_t told, int32_t first)
+{
+    static uint32_t shown;
+    if (shown++ >= SHOWN)
+        return;
+    say("differs: call ", call, " of ");
+    port_text(f->name);
+    say(", number ", answered, "");
+    say(" where the trace has ", told, "");
+    if (first >= 0)
+        say(", a run from byte ", (uint32_t)first, "");
+    port_text("\n");
+}
+
+/* Makes one call differ. */
+static uint32_t spoilt(uint32_t call, uint32_t answered)
+{
+#ifdef PLANTED
+    if (call == 1000) {
+        run[0].at[run[0].size - 1] ^= PLANTED == 2;
+        run[0].at[run[0].size] ^= PLANTED == 3;
+        return answered ^ (PLANTED == 1);
+    }
+#endif
+    (void)call;
+    return answered;
+}
+
 /* Reads one call, makes it and compares; returns whether it differs. */
 static int one(uint32_t call)
 {
-    unsigned place = next(), runs = 0, numbers = 0;
+    unsigned place = next();
     if (place >= FUNCTIONS)
         port_end("replay: no such function\n", 2);
     const struct function *f = &FUNCTION[place];
-    const struct parameter *p = &PARAMETERS[f->first];
-    for (unsigned i = 0; i < f->parameters; i++)
-        if (p[i].kind == NUMBER)
-            number[numbers++] = value(8);
-        else
-            lend(&p[i], &run[runs++]);
-    uint32_t told = (uint32_t)value(4), depth, answered = measured(f->call, &depth);
-    for (unsigned i = 0, r = 0; i < f->parameters; i++)
-        if (p[i].kind != NUMBER) {
-            if (p[i].kind == WRITTEN)
-                change(&run[r], 0);
-            r++;
-        }
-#ifdef PLANTED
-    if (call == 1000) {
-        answered ^= PLANTED == 1;
-        run[0].at[run[0].size - 1] ^= PLANTED == 2;
-        run[0].at[run[0].size] ^= PLANTED == 3;
-    }
-#endif
+    unsigned runs = lend_all(f);
+    uint32_t told = (uint32_t)value(4), depth, answered = spoilt(call, measured(f->call, &depth));
+    want_all(f);
     met[place].calls++;
     if (depth > met[place].stack)
         met[place].stack = depth;
-    int different = answered != told;
     int32_t first = -1;
     for (unsigned i = 0; i < runs; i++) {
-        int32_t d = differs(&run[i]);
-        different |= d >= 0;
-        first = d >= 0 && first < 0 ? d : first;
+        int32_t here = differs(&run[i]);
+        first = first < 0 ? here : first;
     }
-    static uint32_t shown;
-    if (different && shown++ < SHOWN) {
-        say("differs: call ", call, " of ");
-        port_text(f->name);
-        say(", number ", answered, "");
-        say(" where the trace has ", told, "");
-        say(first < 0 ? "" : ", a run from byte ", first < 0 ? 0 : (uint32_t)first, "\n");
-    }
-    return different;
+    if (answered == told && first < 0)
+        return 0;
+    show(call, f, answered, told, first);
+    return 1;
 }
 
-void replay(void)
+void program(void)
 {
     uint32_t different = 0, calls;
     if (value(8) != SIGNATURES)
