@@ -25,10 +25,9 @@ __attribute__((weak)) u64 __aeabi_uidivmod(u32 n, u32 d)
     u32 quotient = 0, rest = 0;
 
     for (int i = 31; i >= 0; i--) {
-        u32 carry = rest >> 31;
-        rest = rest << 1 | (n >> i & 1);
+        rest = rest << 1 | (n >> i & 1); /* at most the first 32 - i bits of n */
         quotient <<= 1;
-        if (carry || rest >= d) {
+        if (rest >= d) {
             rest -= d;
             quotient |= 1;
         }
