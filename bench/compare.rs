@@ -121,8 +121,8 @@ fn served<Y: Yardstick>(random: &mut Random) {
         let (mut room, mut other_room) = (vec![0; size], vec![0; size]);
         let taken = other.take(&mut other_room);
         assert_eq!(supervisor.take(&mut room), &other_room[..taken], "{}: reply", Y::NAME);
-        let value = supervisor.lookup(4, 4096).map(|found| found.value);
-        assert_eq!(value, other.key_4().ok_or(NotFound::NoValue), "{}: key 4", Y::NAME);
+        let held = supervisor.lookup(4, 4096).map(|found| (found.edition, found.value));
+        assert_eq!(held, other.key_4().ok_or(NotFound::NoValue), "{}: key 4", Y::NAME);
     }
 }
 
@@ -142,7 +142,7 @@ fn any_request(random: &mut Random, image: usize) -> Vec<u8> {
         }
         _ => Vec::new(),
     };
-    let version = random.pick(&[1, 1, 1, 1, 2]);
+    let version = random.pick(&[1, 1, 2, 2, 3]);
     let sequence = random.next() >> random.pick(&[0, 1, 1, 1, 60]);
     let frame = frame_of(version, sequence, command, &data);
     damaged(random, frame)

@@ -116,6 +116,7 @@ pub struct Supervisor<Y> {
     status: u64,
     options: u64,
     key_4: [u8; 4096],
+    key_4_edition: u32,
     key_4_length: Option<usize>,
 }
 
@@ -131,6 +132,7 @@ impl<Y: Yardstick> Supervisor<Y> {
             status: 1,
             options: 0,
             key_4: [0; 4096],
+            key_4_edition: 0,
             key_4_length: None,
         }
     }
@@ -142,38 +144,38 @@ impl<Y: Yardstick> Supervisor<Y> {
             rest = &rest[used..];
             match end {
                 End::More | End::Empty => {}
-                End::Failure { reason, sequence } => self.reply(sequence.unwrap_or(u64::MAX) | TOP_BIT, 2, &[reason], &[]),
+                End::Failure { reason, sequence } => self.reply(1, sequence.unwrap_or(u64::MAX) | TOP_BIT, 2, &[reason], &[]),
                 End::Message { version, sequence, command, length } => self.request(image, version, sequence, command, length),
             }
         }
     }
 
-    fn reply(&mut self, sequence: u64, command: u8, head: &[u8], rest: &[u8]) {
+    fn reply(&mut self, version: u32, sequence: u64, command: u8, head: &[u8], rest: &[u8]) {
         let from = usize::from(self.last_non_zero);
         self.outbox[0] = 0;
         self.begin = 0;
-        self.end = from + write::<Y>(1, sequence, command, head, rest, &mut self.outbox[from..]).unwrap_or(0);
+        self.end = from + write::<Y>(version, sequence, command, head, rest, &mut self.outbox[from..]).unwrap_or(0);
     }
 
     fn request(&mut self, image: &[u8], version: u32, sequence: u64, command: u8, length: usize) {
         let number = sequence | TOP_BIT;
-        if version != 1 {
-            return self.reply(number, 2, &[5], &[]);
+        if !matches!(version, 1 | 2) {
+            return self.reply(1, number, 2, &[5], &[]);
         }
         if sequence & TOP_BIT != 0 {
-            return self.reply(number, 2, &[6], &[]);
+            return self.reply(version, number, 2, &[6], &[]);
         }
         match (command, length) {
             (0x08, 0) => {
                 let (status, options) = (self.status.to_le_bytes(), self.options.to_le_bytes());
-                self.reply(number, 0x06, &status, &options);
+                self.reply(version, number, 0x06, &status, &options);
             }
             (0x0d, 40) => {
                 let data = self.reader.data(40);
                 let offset = u64::from_le_bytes(data[32..].try_into().unwrap());
                 let ours = data[..32] == self.hash && offset < image.len() as u64;
                 let tail = if ours { &image[offset as usize..] } else { &[] };
-                self.reply(number, 0x09, &tail[..tail.len().min(4096)], &[]);
+                self.reply(version, number, 0x09, &tail[..tail.len().min(4096)], &[]);
             }
             (0x10, 1..) => {
                 let data = self.reader.data(length);
@@ -181,17 +183,19 @@ impl<Y: Yardstick> Supervisor<Y> {
                 let result = match data[0] {
                     0..=2 => 2,
                     4 if value.len() > 4096 => 3,
+                    4 if self.key_4_edition == u32::MAX => 4,
                     4 => {
+                        self.key_4_edition += 1;
                         self.key_4[..value.len()].copy_from_slice(value);
                         self.key_4_length = Some(value.len());
                         0
                     }
                     _ => 1,
                 };
-                self.reply(number, 0x0c, &[result], &[]);
+                self.reply(version, number, 0x0c, &[result], &[]);
             }
-            (0x08 | 0x0d | 0x10, _) => self.reply(number, 2, &[7], &[]),
-            _ => self.reply(u64::MAX, 2, &[3], &[]),
+            (0x08 | 0x0d | 0x10, _) => self.reply(version, number, 2, &[7], &[]),
+            _ => self.reply(1, u64::MAX, 2, &[3], &[]),
         }
     }
 
@@ -205,7 +209,8 @@ impl<Y: Yardstick> Supervisor<Y> {
         moved
     }
 
-    pub fn key_4(&self) -> Option<&[u8]> {
-        self.key_4_length.map(|length| &self.key_4[..length])
+    /// The edition and the value of key 4.
+    pub fn key_4(&self) -> Option<(u32, &[u8])> {
+        self.key_4_length.map(|length| (self.key_4_edition, &self.key_4[..length]))
     }
 }

@@ -91,7 +91,7 @@ typedef char oatcastle_numbers_are_aligned_to_8[offsetof(struct oatcastle_aligne
 #define OATCASTLE_READER_LENGTH 4142    /**< the line layer's reader; also the `state` of the oatcastle_line_ calls */
 #define OATCASTLE_OUTBOX_LENGTH 4147
 #define OATCASTLE_FACTORY_LENGTH 6481
-#define OATCASTLE_SETTINGS_LENGTH 8457
+#define OATCASTLE_SETTINGS_LENGTH 8469
 #define OATCASTLE_REGISTERS_LENGTH 3393
 #define OATCASTLE_REQUESTER_LENGTH 4118
 
@@ -151,6 +151,7 @@ typedef char oatcastle_numbers_are_aligned_to_8[offsetof(struct oatcastle_aligne
 #define OATCASTLE_SET_BAD_KEY 1u
 #define OATCASTLE_SET_READ_ONLY 2u
 #define OATCASTLE_SET_TOO_LONG 3u
+#define OATCASTLE_SET_LAST_EDITION 4u           /**< the edition is 4,294,967,295 already; nothing is stored */
 
 #define OATCASTLE_INVENTORY_ITEM 0u             /**< the first byte of an inventory reply; 0, 2 and 3 are also what an item's result may be */
 #define OATCASTLE_INVENTORY_BAD_INDEX 1u
@@ -199,6 +200,7 @@ typedef char oatcastle_numbers_are_aligned_to_8[offsetof(struct oatcastle_aligne
 #define OATCASTLE_STEP_NUMBERS 3
 #define OATCASTLE_TAKE_NUMBERS 1
 #define OATCASTLE_LOOKUP_NUMBERS 2
+#define OATCASTLE_EDITION_NUMBERS 2
 #define OATCASTLE_SIGNAL_NUMBERS 1
 #define OATCASTLE_FLAGS_NUMBERS 2
 #define OATCASTLE_RECORD_NUMBERS 4
@@ -220,7 +222,7 @@ typedef char oatcastle_numbers_are_aligned_to_8[offsetof(struct oatcastle_aligne
 #define OATCASTLE_REASON_CHECKSUM 2u
 #define OATCASTLE_REASON_LENGTH 3u      /**< the message's length; or, from oatcastle_step alone, an unknown command */
 #define OATCASTLE_REASON_MAGIC 4u
-#define OATCASTLE_REASON_VERSION 5u     /**< this and those below come from oatcastle_step alone */
+#define OATCASTLE_REASON_VERSION 5u     /**< neither 1 nor 2; this and those below come from oatcastle_step alone */
 #define OATCASTLE_REASON_SEQUENCE 6u    /**< the top bit of the sequence is set already */
 #define OATCASTLE_REASON_DATA 7u        /**< the data have the wrong length for the command */
 
@@ -317,7 +319,7 @@ uint32_t oatcastle_line_checksum(const uint8_t *body, oatcastle_length body_leng
  * or a BSU that is not 0x41 or 0x42. */
 uint32_t oatcastle_start(const uint8_t data[OATCASTLE_START_LENGTH], uint8_t *reader, oatcastle_length reader_length, uint8_t *outbox, oatcastle_length outbox_length, uint8_t *factory, oatcastle_length factory_length, uint8_t *settings, oatcastle_length settings_length, uint8_t *registers, oatcastle_length registers_length);
 
-/** Reads a whole piece of the received stream and carries out each request in it. An image block request is
+/** Reads a whole piece of the received stream and carries out each request in it, of version 1 or 2. An image block request is
  * answered from the image lent with the call that brings its frame's 00, if it names the hash of the start data. Each frame that is not empty replaces the
  * pending reply, so take the replies (oatcastle_take) as often as the other side waits for them, or use oatcastle_step.
  * @return 0; 12. */
@@ -373,6 +375,12 @@ uint32_t oatcastle_set_options(uint8_t *registers, oatcastle_length registers_le
  * - answer[1]: how many bytes the value has; 0 unless it was found
  * @return 0; 12; 8: the answer is too short, or the room is shorter than the value. */
 uint32_t oatcastle_lookup(const uint8_t *factory, oatcastle_length factory_length, const uint8_t *settings, oatcastle_length settings_length, uint8_t key, uint16_t maxresponse, uint8_t *room, oatcastle_length room_length, uint64_t *answer, oatcastle_length answer_count);
+
+/** The edition of a key: how often it was set since the start; 0 for keys 0 to 2, which cannot be set.
+ * - answer[0]: 0: the key has a value; 1: no such key; 2: the key has no value
+ * - answer[1]: the edition; 0 unless the key has a value
+ * @return 0; 12; 8: the answer is too short. */
+uint32_t oatcastle_edition(const uint8_t *factory, oatcastle_length factory_length, const uint8_t *settings, oatcastle_length settings_length, uint8_t key, uint64_t *answer, oatcastle_length answer_count);
 
 /** The line signal.
  * - answer[0]: 1 if it is asserted, which it is while the status is not 0; else 0

@@ -87,6 +87,12 @@ static inline uint32_t oatcastle_supervisor_lookup(const oatcastle_supervisor *p
     return oatcastle_lookup(parts->factory, sizeof parts->factory, parts->settings, sizeof parts->settings, key, maxresponse, oatcastle_some_room(room, room_length), room_length, answer, OATCASTLE_LOOKUP_NUMBERS);
 }
 
+/** oatcastle_edition on these parts. */
+static inline uint32_t oatcastle_supervisor_edition(const oatcastle_supervisor *parts, uint8_t key, uint64_t answer[OATCASTLE_EDITION_NUMBERS])
+{
+    return oatcastle_edition(parts->factory, sizeof parts->factory, parts->settings, sizeof parts->settings, key, answer, OATCASTLE_EDITION_NUMBERS);
+}
+
 /** oatcastle_signal on these parts. */
 static inline uint32_t oatcastle_supervisor_signal(const oatcastle_supervisor *parts, uint64_t answer[OATCASTLE_SIGNAL_NUMBERS])
 {

@@ -201,7 +201,7 @@ def reasons():
     answered = arms(library(link=False))
     tested = read('crates/requests/specs/Requests.antt')
     found = {name: the_one(name, (int(reason) for _, reason in answered[f'Answer::Bad{name.title()}'])) for name in ('FORM', 'CHECKSUM', 'LENGTH', 'MAGIC')}
-    for name, test in (('VERSION', r'\(m \.version\) protocol-version\)\)'), ('SEQUENCE', r'leb \(2 \^ 63\) \(m \.sequence\)\)'), ('DATA', r'lengthAllowed [^\n]*\)\)')):
+    for name, test in (('VERSION', r'not \(served \(m \.version\)\)\)'), ('SEQUENCE', r'leb \(2 \^ 63\) \(m \.sequence\)\)'), ('DATA', r'lengthAllowed [^\n]*\)\)')):
         found[name] = the_one(name, map(int, re.findall(test + r' \(failure (\d+) ', tested)))
     return {f'REASON_{name}': number for name, number in found.items()}
 
@@ -227,7 +227,7 @@ def root_of_trust():
 def answer_counts():
     counted = told(read('crates/oatcastle/specs'))
     named = {'LINE_READ': 'readGiven', 'LINE_TAIL': 'tailGiven', 'LINE_WRITE': 'writeGiven', 'LINE_CHECKSUM': 'lineChecksumCall', 'STEP': 'stepGiven',
-             'TAKE': 'takeGiven', 'REQUESTER_REQUEST': 'putGiven', 'REQUESTER_SEND': 'putGiven', 'REQUESTER_RECEIVE': 'receiptGiven', 'ROT_WRITE': 'rotWriteGiven', 'ROT_READ': 'rotReadGiven', 'ROT_CRC': 'rotCrcCall', 'LOOKUP': 'lookupGiven', 'SIGNAL': 'signalGiven', 'FLAGS': 'flagsGiven', 'RECORD': 'recordGiven'}
+             'TAKE': 'takeGiven', 'REQUESTER_REQUEST': 'putGiven', 'REQUESTER_SEND': 'putGiven', 'REQUESTER_RECEIVE': 'receiptGiven', 'ROT_WRITE': 'rotWriteGiven', 'ROT_READ': 'rotReadGiven', 'ROT_CRC': 'rotCrcCall', 'LOOKUP': 'lookupGiven', 'EDITION': 'editionGiven', 'SIGNAL': 'signalGiven', 'FLAGS': 'flagsGiven', 'RECORD': 'recordGiven'}
     return {f'{name}_NUMBERS': counted[definition] for name, definition in named.items()}
 
 
@@ -360,7 +360,7 @@ def number_faults(texts):
 def wrapper_wanted():
     """The wrapper's numbers by what the crates have: those of the header, and those that the header has no name for."""
     known = constants('crates/supervisor/src/layout.rt')
-    names = ('ALL_OPTIONS', 'FIRST_SETTING', 'LONGEST_ITEM_DATA', 'LONGEST_IMAGE_ID', 'PONG_OFFSET', 'SETTING_LENGTH_OFFSET', 'SETTING_VALUE_OFFSET',
+    names = ('ALL_OPTIONS', 'FIRST_SETTING', 'LONGEST_ITEM_DATA', 'LONGEST_IMAGE_ID', 'PONG_OFFSET', 'SETTING_EDITION_OFFSET', 'SETTING_LENGTH_OFFSET', 'SETTING_VALUE_OFFSET',
              'BOOT_FAILURE_OFFSET', 'PANIC_OFFSET', 'RECORD_CODE_OFFSET', 'RECORD_WHOLE_OFFSET', 'RECORD_KEPT_OFFSET')
     results = re.findall(r'Found::(\w+) => write_both\(value, room, \[(\d+),', read('crates/oatcastle/src/readings.rt'))
     return {**wanted_numbers(), **{name: known[name] for name in names},

@@ -1,10 +1,10 @@
 #!/usr/bin/env python3
-"""The program supervisor_cases: the supervisor's cases; and the program replay's input. Worked out from document 01 and not from the Rattle code.
+"""The program supervisor_cases: the supervisor's cases; and the program replay's input. Worked out from documents 01 and 02 and not from the Rattle code.
 
 usage: tests/supervisor_cases.py input | expected | replay-input | replay-expected | check | replay
 
 input:     the standard input of supervisor_cases, one command a line
-expected:  what it must write, from the model of document 01 below
+expected:  what it must write, from the model of documents 01 and 02 below
 replay-input, replay-expected:  the same for the program replay, whole
 check:     compares these last two with crates/replay/stdin and crates/replay/stdout
 replay:    what the replay program must write for this program's own standard input
@@ -24,7 +24,7 @@ r          receives the piece by one call;  c COUNT: its first COUNT bytes, then
 t COUNT    fills a room of 4,200 bytes with ee and takes into its first COUNT bytes; prints the bytes taken and the digest of the room
 p ACTION   posts an alert with the piece as its text
 o HEX      sets the options (16 digits)
-l KEY COUNT   looks a key up with a maxresponse
+l KEY COUNT   looks a key up with a maxresponse;  k KEY: asks for its edition
 s  f       reads the line signal;  the two flags
 e KIND     reads a record: 0 boot failure, 1 panic
 m          notes the digest of each part;  g: prints whether all are as noted;  h: whether those of the two stores and the registers are
@@ -32,6 +32,7 @@ m          notes the digest of each part;  g: prints whether all are as noted;  
 Bytes are printed as their number, then, unless there are none, the first 48 in hex and the digest of all (that of tests/line_cases.py).
 The layout of a part is used only where a case stores a field of docs/STATE.md itself."""
 import sys
+from collections import Counter
 
 sys.dont_write_bytecode = True
 import common
@@ -43,13 +44,15 @@ ONES = (1 << 64) - 1
 # limits: items of the inventory, bytes of an item's data and of the image ID; the longest value of each settings key
 MOST_ITEMS, ITEM_DATA, IMAGE_ID = 64, 64, 64
 KEYS = {3: 256, 4: 4096, 5: 4096}
-# the places of docs/STATE.md: the items, their count, the inventory's version, key 0; each setting with its flag and length ahead of the value
+VERSIONS = (1, 2)
+LAST_EDITION = (1 << 32) - 1
+# the places of docs/STATE.md: the items, their count, the inventory's version, key 0; each setting with its flag, edition and length ahead of the value
 ITEMS_OFFSET = 69 + IMAGE_ID
 ITEM_LENGTH = 35 + ITEM_DATA
 COUNT_OFFSET = ITEMS_OFFSET + MOST_ITEMS * ITEM_LENGTH
 VERSION_OFFSET = COUNT_OFFSET + 4
 PONG_OFFSET = VERSION_OFFSET + 4
-SETTING_HEAD = 3
+SETTING_EDITION, SETTING_LENGTH, SETTING_HEAD = 1, 5, 7
 SETTINGS = {key: sum(SETTING_HEAD + KEYS[k] for k in KEYS if k < key) for key in KEYS}
 PARTS = ('reader', 'outbox', 'factory', 'settings', 'registers')
 PUBLISHED = {'reader': 4142, 'outbox': 4147, 'factory': PONG_OFFSET + 4, 'settings': sum(SETTING_HEAD + n for n in KEYS.values()), 'registers': 3393}
@@ -93,7 +96,7 @@ class Start:
 
 
 class Supervisor:
-    """Document 01's supervisor. A call that refuses is not made."""
+    """The supervisor of documents 01 and 02. A call that refuses is not made."""
 
     def __init__(self, data):
         self.data = data
@@ -101,6 +104,7 @@ class Supervisor:
         self.flags = [0, 0]
         self.records = [None, None]
         self.settings = {}
+        self.editions = Counter()
         self.alerts = []
         self.retained = None
         self.tail = self.pending = b''
@@ -121,34 +125,39 @@ class Supervisor:
         what, *rest = verdict(form)
         if what == 'empty':
             return 'empty'
-        if what == 'message':
-            rest = self.tested(*rest)
-        if len(rest) == 2:
-            reason, sequence = rest
-            said, reply = f'failure {reason}', framed(ONES if sequence is None else sequence | TOP, 0x02, bytes([reason]))
+        failed = self.failed(*rest) if what == 'message' else (*rest, 1)
+        if failed:
+            reason, sequence, version = failed
+            said, reply = f'failure {reason}', framed(ONES if sequence is None else sequence | TOP, 0x02, bytes([reason]), version)
         else:
-            sequence, command, data = rest
-            said, answer = 'request', self.request(sequence, command, data, image)
-            reply = b'' if answer is None else framed(sequence | TOP, *answer)
+            said, answer = 'request', self.request(*rest, image)
+            reply = b'' if answer is None else framed(rest[1] | TOP, *answer)
         self.pending = (b'\0' if self.last else b'') + reply
         return said
 
-    def tested(self, version, sequence, command, data):
-        """A reason and its sequence, or the request."""
-        if version != 1:
-            return 5, sequence
+    def failed(self, version, sequence, command, data):
+        """The reason, the sequence and the version of the reply to a message that is no valid request."""
+        if version not in VERSIONS:
+            return 5, sequence, 1
         if sequence & TOP:
-            return 6, sequence
+            return 6, sequence, version
         none = range(0, 1)
         lengths = dict.fromkeys((1, 2, 3, 4, 5, 8, 9, 10), none)
         lengths.update({6: range(1, 4105), 7: range(2, 4105), 0x0d: (40,), 0x0e: (3,), 0x0f: (4,), 0x10: range(1, 4105)})
         if command not in lengths:
-            return 3, None
+            return 3, None, 1
         if len(data) not in lengths[command]:
-            return 7, sequence
-        return sequence, command, data
+            return 7, sequence, version
+        return None
 
-    def request(self, sequence, command, data, image):
+    def request(self, version, sequence, command, data, image):
+        """The reply's command, data and version, or None."""
+        if command == 10:
+            return self.alert(version, sequence)
+        answer = self.answer(version, command, data, image)
+        return answer and (*answer, version)
+
+    def answer(self, version, command, data, image):
         """The reply's command and data, or None."""
         start = self.data
         number = lambda a, e: int.from_bytes(data[a:e], 'little')
@@ -173,14 +182,13 @@ class Supervisor:
         if command == 9:
             self.status &= ~1
             return 1, b''
-        if command == 10:
-            return 7, self.alert(sequence)
         if command == 0x0d:
             offset = number(32, 40)
             return 9, image[offset:offset + 4096] if data[:32] == start.hash and offset < len(image) else b''
         if command == 0x0e:
             result, value = self.lookup(data[0], number(1, 3))
-            return 10, bytes([result]) + value
+            edition = little(self.edition(data[0])[1], 4) if version == 2 and result == 0 else b''
+            return 10, bytes([result]) + edition + value
         if command == 0x0f:
             if number(0, 4) >= len(start.items):
                 return 11, b'\1' + bytes(33)
@@ -188,9 +196,10 @@ class Supervisor:
             return 11, bytes([result]) + name + bytes([kind]) + (d if result == 0 else b'')
         return 12, bytes([self.set(data[0], data[1:])])
 
-    def alert(self, sequence):
+    def alert(self, version, sequence):
+        """The reply that is retained with the sequence, as first written."""
         if self.retained is None or self.retained[0] != sequence:
-            self.retained = sequence, self.alerts.pop(0) if self.alerts else b'\0'
+            self.retained = sequence, (7, self.alerts.pop(0) if self.alerts else b'\0', version)
             if not self.alerts:
                 self.status &= ~2
         return self.retained[1]
@@ -208,6 +217,12 @@ class Supervisor:
             return 2, b''
         return (3, b'') if len(value) > most else (0, value)
 
+    def edition(self, key):
+        """A lookup's result whatever maxresponse is, and the edition."""
+        if key > 5:
+            return 1, 0
+        return (2, 0) if self.value(key) is None else (0, self.editions[key])
+
     def set(self, key, value):
         if key > 5:
             return 1
@@ -215,7 +230,10 @@ class Supervisor:
             return 2
         if len(value) > KEYS[key]:
             return 3
+        if self.editions[key] == LAST_EDITION:
+            return 4
         self.settings[key] = value
+        self.editions[key] += 1
         return 0
 
     def take(self, room):
@@ -308,15 +326,21 @@ class Case(line_cases.Case):
         out = self.model.take(room) if fine else b''
         return self.say((f'took {shown(out)}' if fine else 'refused 12') + f" {digest(out + bytes([0xee]) * (ROOM - len(out)))}")
 
-    def send(self, command, data=b'', sequence=None, how='r'):
+    def send(self, command, data=b'', sequence=None, how='r', version=1):
         """A request, with the next sequence unless one is given, received whole."""
         if sequence is None:
             self.sequence += 1
             sequence = self.sequence
-        return self.receive(framed(sequence, command, data), how)
+        return self.receive(framed(sequence, command, data, version), how)
 
-    def ask(self, command, data=b'', sequence=None, how='r'):
-        return self.send(command, data, sequence, how).take()
+    def ask(self, command, data=b'', sequence=None, how='r', version=1):
+        return self.send(command, data, sequence, how, version).take()
+
+    def ask_both(self, command, data=b''):
+        """The same request in each version."""
+        for version in VERSIONS:
+            self.ask(command, data, version=version)
+        return self
 
     def post(self, action, text=b''):
         self.add(text)
@@ -341,6 +365,12 @@ class Case(line_cases.Case):
             return self.say('refused 12 0')
         result, value = self.model.lookup(key, most)
         return self.say(f'result {result} {shown(value)}')
+
+    def edition(self, key):
+        if not self.command(f'k {key}', 'factory', 'settings'):
+            return self.say('refused 12')
+        result, edition = self.model.edition(key)
+        return self.say(f'result {result}' if result else f'result 0 {edition}')
 
     def signal(self):
         fine = self.command('s', 'registers')
@@ -388,11 +418,16 @@ class Case(line_cases.Case):
             self.wrong.add(part)
         return self
 
+    def store_edition(self, key, edition):
+        """Stores a key's edition; it counts on from there."""
+        self.model.editions[key] = edition
+        return self.store('settings', SETTINGS[key] + SETTING_EDITION, little(edition, 4), False)
+
     def local(self):
         """Every local call that only reads, and the status by the wire."""
         self.signal().flags().record(0).record(1)
         for key in range(7):
-            self.lookup(key, 65535)
+            self.lookup(key, 65535).edition(key)
         return self.ask(8)
 
     def calls(self, refused_only=False):
@@ -408,7 +443,7 @@ class Case(line_cases.Case):
 CALLS = [(PARTS, lambda c: c.receive(L12).receive(L12, 'q').receive(L12, 'c 5').receive(L12, 'b').receive(b'').receive(b'', 'q')),
          (('outbox',), lambda c: c.take().take(3).take(0)),
          (('registers',), lambda c: c.post(1, b'text').post(0).post(1, nonzero(257)).set_options(1).set_options(512)),
-         (('factory', 'settings'), lambda c: c.lookup(0, 4).lookup(9, 0)),
+         (('factory', 'settings'), lambda c: c.lookup(0, 4).lookup(9, 0).edition(0).edition(9)),
          (('registers',), lambda c: c.signal().flags().record(0).record(1))]
 
 
@@ -442,13 +477,14 @@ def line_samples():
 
 
 def commands():
-    c = Case('every command once', FULL).lend_image(nonzero(5000)).post(5, b'alert text')
-    for command, data in COMMANDS.items():
-        c.ask(command, data)
-    yield c.local()
-    c = Case('every command, in one piece', FULL).lend_image(nonzero(5000)).post(5, b'alert text')
-    c.receive(b''.join(framed(i + 1, command, data) for i, (command, data) in enumerate(COMMANDS.items()))).take()
-    yield c.local()
+    for version in VERSIONS:
+        c = Case(f'every command once in version {version}', FULL).lend_image(nonzero(5000)).post(5, b'alert text')
+        for command, data in COMMANDS.items():
+            c.ask(command, data, version=version)
+        yield c.local()
+        c = Case(f'every command in version {version}, in one piece', FULL).lend_image(nonzero(5000)).post(5, b'alert text')
+        c.receive(b''.join(framed(i + 1, command, data, version) for i, (command, data) in enumerate(COMMANDS.items()))).take()
+        yield c.local()
     yield Case('fresh state', Start()).local()
     c = Case('identity and addresses of the start data', FULL)
     yield c.ask(3).ask(4).ask(5).start(Start()).ask(3).ask(4).ask(5)
@@ -461,24 +497,26 @@ def commands():
 
 
 def failures():
-    c = Case('wrong data lengths', FULL).post(9, b'waits').ask(0x10, b'\3value').mark()
     wrong = {6: (0,), 7: (0, 1), 0x0d: (0, 39, 41, 4104), 0x0e: (0, 2, 4, 4104), 0x0f: (0, 3, 5, 4104), 0x10: (0,)}
-    for command, data in COMMANDS.items():
-        for n in wrong.get(command, (1, 2, 40, 4104)):
-            c.ask(command, (data + nonzero(4104))[:n])
-    yield c.stores_same().local()
+    for version in VERSIONS:
+        c = Case(f'wrong data lengths in version {version}', FULL).post(9, b'waits').ask(0x10, b'\3value').mark()
+        for command, data in COMMANDS.items():
+            for n in wrong.get(command, (1, 2, 40, 4104)):
+                c.ask(command, (data + nonzero(4104))[:n], version=version)
+        yield c.stores_same().local()
     c = Case('unknown commands', FULL).mark()
     for command in (0x00, 0x0b, 0x0c, 0x11, 0x7f, 0x80, 0xff):
-        c.ask(command).ask(command, nonzero(40))
+        c.ask_both(command).ask_both(command, nonzero(40))
     yield c.stores_same()
     c = Case('versions', FULL).mark()
-    for version in (0, 2, 0x101, 0x01000000, 0xffffffff):
+    for version in (0, 3, 0x101, 0x102, 0x01000000, 0x02000000, 0xffffffff):
         for sequence in (0, SEQUENCE, SEQUENCE | TOP):
             c.receive(framed(sequence, 1, b'', version)).take()
     yield c.stores_same()
     c = Case('top bit of the sequence', FULL).mark()
     for sequence in (TOP - 1, TOP, TOP + 1, ONES):
-        c.ask(3, b'', sequence)
+        for version in VERSIONS:
+            c.ask(3, b'', sequence, version=version)
     yield c.stores_same()
     c = Case('magic', FULL).mark()
     for magic in (0, MAGIC ^ 1, MAGIC ^ TOP >> 32, 0xcc19de01):
@@ -491,7 +529,7 @@ def failures():
         c.receive(stuffed(b + little(fletcher(b) ^ 1 << flipped, 2)) + b'\0').take()
     yield c.stores_same()
     c = Case('the first failing test speaks', FULL).mark()
-    for version in (1, 2):
+    for version in (1, 2, 3):
         for sequence in (SEQUENCE, SEQUENCE | TOP):
             for command in (8, 0x0b):
                 for data in (b'', b'x'):
@@ -504,7 +542,7 @@ def failures():
     # a panic record whose form ends with a full group, and a last 01
     panic = framed(0x0102030405060708, 7, nonzero(243))[:-1]
     assert panic[-255] == 255 and 0 not in panic
-    for frame in (b'\2', b'\1', panic + b'\1', framed(9, 1)[:-3] + b'\1\1', framed(9, 1, b'', 2)[:-1], framed(TOP, 1)[:-1], framed(9, 0x0b)[:-1], framed(9, 1, b'x')[:-1], b'\1' * 4141):
+    for frame in (b'\2', b'\1', panic + b'\1', framed(9, 1)[:-3] + b'\1\1', framed(9, 1, b'', 3)[:-1], framed(TOP, 1)[:-1], framed(9, 0x0b)[:-1], framed(9, 1, b'x')[:-1], b'\1' * 4141):
         c.receive(frame + b'\0').take()
     yield c.stores_same().ask(10, b'', 2)
 
@@ -536,31 +574,31 @@ def lengths():
 def keys():
     c = Case('maxresponse for key 0', Start())
     for most in (0, 3, 4, 5, 65535):
-        c.lookup(0, most).ask(0x0e, b'\0' + little(most, 2))
+        c.lookup(0, most).ask_both(0x0e, b'\0' + little(most, 2))
     yield c
     for size in (0, 1, 63, 64):
         c = Case(f'image ID of {size} bytes', Start(image_id=nonzero(size)))
         for most in (0, size - 1, size, size + 1):
             if most >= 0:
-                c.lookup(1, most).ask(0x0e, b'\1' + little(most, 2))
+                c.lookup(1, most).ask_both(0x0e, b'\1' + little(most, 2))
         yield c
     for items in ([], ITEMS, ITEMS * 4):
         c = Case(f'key 2 with {len(items)} items', Start(items=items))
         for most in (7, 8):
-            c.lookup(2, most).ask(0x0e, b'\2' + little(most, 2))
+            c.lookup(2, most).ask_both(0x0e, b'\2' + little(most, 2))
         yield c
     for key, most in KEYS.items():
         c = Case(f'key {key} at {most} and {most + 1} bytes', Start()).lookup(key, 65535).ask(0x0e, bytes([key]) + b'\xff\xff')
         value = bytes([key]) + nonzero(most)
         c.ask(0x10, value + b'x').lookup(key, 65535).ask(0x10, value).lookup(key, most - 1).lookup(key, most)
         for n in (most - 1, most, 65535):
-            c.ask(0x0e, bytes([key]) + little(n, 2))
+            c.ask_both(0x0e, bytes([key]) + little(n, 2))
         c.mark().ask(0x10, value + b'x').stores_same().ask(0x10, value[:-1]).lookup(key, most).ask(0x10, bytes([key])).lookup(key, 0)
         yield c.ask(0x0e, bytes([key, 0, 0])).ask(0x10, bytes([key]) + b'short').lookup(key, 4).lookup(key, 5).lookup(key, 65535)
     c = Case('keys that cannot be set', FULL).mark()
     for key in (0, 1, 2, 6, 7, 255):
-        c.ask(0x10, bytes([key])).ask(0x10, bytes([key]) + nonzero(9)).ask(0x10, bytes([key]) + nonzero(4103)).ask(0x0e, bytes([key]) + b'\xff\xff')
-        c.lookup(key, 0).lookup(key, 65535)
+        c.ask_both(0x10, bytes([key])).ask(0x10, bytes([key]) + nonzero(9)).ask(0x10, bytes([key]) + nonzero(4103)).ask_both(0x0e, bytes([key]) + b'\xff\xff')
+        c.lookup(key, 0).lookup(key, 65535).edition(key)
     yield c.stores_same()
     c = Case('each setting keeps its own value', Start())
     for key, most in KEYS.items():
@@ -572,6 +610,46 @@ def keys():
     for key in KEYS:
         c.ask(0x10, bytes([key]) + nonzero(4103)).lookup(key, 65535)
     yield c
+
+
+def editions():
+    c = Case('keys without a value, and after one set and two', FULL)
+    for sets in range(3):
+        for key in (*range(8), 255):
+            c.edition(key).ask_both(0x0e, bytes([key]) + b'\xff\xff')
+        for key in KEYS:
+            c.ask(0x10, bytes([key]) + nonzero(sets), version=1 + sets % 2)
+    yield c.start(FULL).local()
+    c = Case('each key counts its own sets, in either version', Start())
+    for key in KEYS:
+        for n in range(key):
+            c.ask(0x10, bytes([key]) + nonzero(n), version=1 + n % 2).edition(key)
+    for key in KEYS:
+        c.ask_both(0x0e, bytes([key]) + b'\xff\xff')
+    yield c.local()
+    c = Case('a refused set does not count', Start()).ask(0x10, b'\3once').ask(0x10, b'\5once').mark()
+    for key in (*range(3), 6, 7, 255):
+        c.ask_both(0x10, bytes([key]) + b'x')
+    for key, most in KEYS.items():
+        c.ask_both(0x10, bytes([key]) + nonzero(most + 1)).edition(key)
+    yield c.stores_same().local()
+    for key, most in KEYS.items():
+        past, data = bytes([key]) + nonzero(most + 1), bytes([key]) + b'last'
+        c = Case(f"the last edition of key {key}", FULL).ask(0x10, data).store_edition(key, LAST_EDITION - 1).edition(key).ask(0x0e, bytes([key]) + b'\4\0', version=2)
+        c.ask_both(0x10, past).ask(0x10, data + b' of all').edition(key).ask_both(0x0e, bytes([key]) + b'\xff\xff').mark()
+        c.ask_both(0x10, data).ask_both(0x10, bytes([key])).ask_both(0x10, data[:1] + nonzero(most)).ask_both(0x10, past).stores_same()
+        for other in KEYS:
+            c.ask(0x10, bytes([other]) + b'other').edition(other)
+        yield c.local().start(FULL).ask(0x10, data).local()
+        c = Case(f'the last edition of key {key} without a value', Start()).store_edition(key, LAST_EDITION).mark().ask_both(0x10, data).ask_both(0x10, past).stores_same()
+        yield c.ask_both(0x0e, bytes([key]) + b'\xff\xff').local()
+        c = Case(f'key {key}: each byte of the edition', Start()).ask(0x10, data)
+        for edition in (0xff, 0xffff, 0xffffff, 0x01020304, 0xfffffffe):
+            c.store_edition(key, edition).ask(0x10, data).edition(key).ask(0x0e, bytes([key]) + b'\xff\xff', version=2)
+        yield c
+    for value in (nonzero(4096), bytes(4096), b'\xff' * 4096):
+        c = Case(f'key 4 at 4096 bytes in version 2, first byte {value[:1].hex()}', Start()).ask(0x10, b'\4' + value, version=2)
+        yield c.ask(0x0e, b'\4' + little(4096, 2), version=2).ask(0x0e, b'\4' + little(4095, 2), version=2).store_edition(4, LAST_EDITION).ask(0x0e, b'\4\0\x10', version=2)
 
 
 def inventory():
@@ -615,8 +693,17 @@ def alerts():
         yield c.changed().signal().ask(8).ask(10, b'', 1).ask(10, b'', 1).ask(8).flags().ask(10, b'', 3).ask(8)
         yield Case(f'{name} where none waits', Start()).post(1, b'before').ask(10, b'', 1).ask(command, b'', 2).ask(10, b'', 1).ask(8)
         c = Case(f'{name} that is not valid keeps the retained reply', Start()).post(1, b'before').post(2, b'after').ask(10, b'', 1).mark()
-        yield c.ask(command, b'\0', 2).ask(command, b'', TOP | 2).receive(framed(2, command, b'', version=2)).take().stores_same().ask(10, b'', 1)
+        yield c.ask(command, b'\0', 2).ask(command, b'', TOP | 2).receive(framed(2, command, b'', version=3)).take().stores_same().ask(10, b'', 1)
         yield Case(f'{name} with nothing retained', Start()).post(1, b'waits').ask(command, b'', 1).ask(10, b'', 1).ask(10, b'', 1)
+    for first, second in ((1, 2), (2, 1)):
+        c = Case(f'an alert asked for in version {first} and again in {second}', Start()).post(1, b'first').post(2, b'second').ask(10, b'', 5, version=first).mark()
+        c.ask(10, b'', 5, version=second).ask(10, b'', 5, version=first).ask(10, b'', 5, 'b', version=second).ask(8, version=second).stores_same()
+        yield c.ask(10, b'', 6, version=second).ask(10, b'', 6, version=first).ask(1, version=first).ask(10, b'', 6, version=first).ask(10, b'', 6, version=second)
+        c = Case(f'no alert, asked for in version {first} and again in {second}', Start()).ask(10, b'', 5, version=first).post(1, b'waits').mark()
+        yield c.ask(10, b'', 5, version=second).stores_same().ask(10, b'', 6, version=second).ask(10, b'', 6, version=first)
+        c = Case(f'a stored reply of version {first}', Start()).store('registers', 3125, bytes([first]) + little(5, 8) + two(4) + b'\7text', False).mark()
+        c.model.retained = 5, (7, b'\7text', first)
+        yield c.ask(10, b'', 5, version=second).ask(10, b'', 5, version=first).stores_same().ask(10, b'', 6, version=second)
     c = Case('room freed by a taken alert', Start())
     for i in range(30):
         c.post(i + 1, nonzero(i * 8))
@@ -781,8 +868,9 @@ def fields():
     yield 'factory', 'key 0', [], PONG_OFFSET, [b'Pong', b'poNg', b'ponG', bytes(4)], []
     for key, at in SETTINGS.items():
         yield 'settings', f'key {key} flag', [], at, [b'\2', b'\xff'], [b'\1']
-        yield 'settings', f'key {key} length', [], at + 1, [two(KEYS[key] + 1), two(65535)], [two(KEYS[key])]
-        yield 'settings', f'key {key} length of a value', [('settings', at, b'\1')], at + 1, [two(KEYS[key] + 1), two(65535)], [two(KEYS[key])]
+        yield 'settings', f'key {key} edition', [], at + SETTING_EDITION, [], [little(n, 4) for n in (1, LAST_EDITION - 1, LAST_EDITION)]
+        yield 'settings', f'key {key} length', [], at + SETTING_LENGTH, [two(KEYS[key] + 1), two(65535)], [two(KEYS[key])]
+        yield 'settings', f'key {key} length of a value', [('settings', at, b'\1')], at + SETTING_LENGTH, [two(KEYS[key] + 1), two(65535)], [two(KEYS[key])]
     yield 'registers', 'status', [], 0, [little(4, 8), little(256, 8), little(TOP + 1, 8)], [little(3, 8)]
     yield 'registers', 'options', [], 8, [little(512, 8), little(65536, 8), little(TOP, 8)], [little(511, 8)]
     yield 'registers', 'reboot flag', [], 16, [b'\2', b'\xff'], []
@@ -799,7 +887,7 @@ def fields():
     yield 'registers', 'last alert length', alerts_8, 1053 + 259 * 7, [two(257), two(65535)], [two(256)]
     yield 'registers', 'last alert action', alerts_8, 1055 + 259 * 7, [b'\0'], [b'\1', b'\xff']
     yield 'registers', 'an alert past the count', one_alert, 1053 + 259, [], [b'\xff' * 3]
-    yield 'registers', 'retained flag', [], 3125, [b'\2', b'\xff'], [b'\1']
+    yield 'registers', 'retained version', [], 3125, [b'\3', b'\xff'], [b'\1', b'\2']
     yield 'registers', 'retained length', [], 3134, [two(257), two(65535)], [two(256)]
     yield 'registers', 'retained action', [], 3136, [], [b'\xff']
 
@@ -860,18 +948,19 @@ def some_frame(dice):
     command = dice.pick(list(COMMANDS))
     data = some_data(dice, command)
     sequence = dice.pick((1, 2, 3, dice.below(1 << 31), SEQUENCE))
+    version = dice.pick(VERSIONS)
     damage = dice.below(14)
     if damage == 0:
-        return framed(sequence | TOP, command, data)
+        return framed(sequence | TOP, command, data, version)
     if damage == 1:
-        return framed(sequence, dice.pick((0, 0x0b, 0x0c, 0x11, 0xff)), data)
+        return framed(sequence, dice.pick((0, 0x0b, 0x0c, 0x11, 0xff)), data, version)
     if damage == 2:
-        return framed(sequence, command, data + dice.bytes(1) if dice.below(2) else data[:-1])
+        return framed(sequence, command, data + dice.bytes(1) if dice.below(2) else data[:-1], version)
     if damage == 3:
-        return framed(sequence, command, data, dice.pick((0, 2, 256)))
+        return framed(sequence, command, data, dice.pick((0, 3, 256)))
     if damage == 4:
-        return framed(sequence, command, data, 1, MAGIC ^ 1 << dice.below(32))
-    frame = framed(sequence, command, data)
+        return framed(sequence, command, data, version, MAGIC ^ 1 << dice.below(32))
+    frame = framed(sequence, command, data, version)
     at = dice.below(len(frame))
     if damage == 5:
         return frame[:at] + bytes([frame[at] ^ 1 << dice.below(8)]) + frame[at + 1:]
@@ -899,7 +988,7 @@ def session(seed, turns):
         elif act == 9:
             c.set_options(1 << dice.below(11)).signal().flags()
         elif act == 10:
-            c.record(0).record(1).lookup(dice.below(7), dice.pick((4, 65535)))
+            c.record(0).record(1).lookup(dice.below(7), dice.pick((4, 65535))).edition(dice.below(7))
         elif dice.below(8) == 0:
             c.start(dice.pick((FULL, Start(bsu=0), Start())))
     return c.take().local()
@@ -911,7 +1000,7 @@ def sessions():
 
 
 def cases():
-    for group in (line_samples, commands, failures, lengths, keys, inventory, alerts, options, records, images, sending, again, start_data, short_parts, stored_fields, sessions):
+    for group in (line_samples, commands, failures, lengths, keys, editions, inventory, alerts, options, records, images, sending, again, start_data, short_parts, stored_fields, sessions):
         yield from group()
 
 
@@ -926,11 +1015,11 @@ def replayed(data):
 
 
 def replay_session(seed, frames):
-    """L12, L10, every command, then frames of every kind, sound and damaged, and one that is too long."""
+    """L12, L10, every command in each version, then frames of every kind, sound and damaged, and one that is too long."""
     dice = Dice(seed)
-    out = L12 + b'\2\0' + b''.join(framed(i + 2, command, data) for i, (command, data) in enumerate(COMMANDS.items()))
+    out = L12 + b'\2\0' + b''.join(framed(i + 2, command, data, version) for version in VERSIONS for i, (command, data) in enumerate(COMMANDS.items()))
     out += b''.join(some_frame(dice) for _ in range(frames))
-    return out + b'\1' * 4141 + b'\0' + b'\1' * 4140 + b'\0' + framed(1, 0x10, b'\4' + nonzero(4096)) + framed(2, 0x0e, b'\4\0\x10') + L12 + L12[:9]
+    return out + b'\1' * 4141 + b'\0' + b'\1' * 4140 + b'\0' + framed(1, 0x10, b'\4' + nonzero(4096)) + framed(2, 0x0e, b'\4\0\x10') + framed(3, 0x0e, b'\4\0\x10', 2) + L12 + L12[:9]
 
 
 def texts():

@@ -26,6 +26,7 @@ pub enum Call {
     Post { action: u8, text: Vec<u8> },
     SetOptions { options: u64 },
     Lookup { key: u8, most: u16 },
+    Edition { key: u8 },
     Signal,
     Flags,
     BootFailure,
@@ -43,7 +44,7 @@ impl Call {
             Call::LineWrite { .. } | Call::Addresses { .. } | Call::PlanFits { .. } => &[],
             Call::Start { .. } | Call::Receive { .. } | Call::Step { .. } => &[READER, OUTBOX, FACTORY, SETTINGS, REGISTERS],
             Call::Take => &[OUTBOX],
-            Call::Lookup { .. } => &[FACTORY, SETTINGS],
+            Call::Lookup { .. } | Call::Edition { .. } => &[FACTORY, SETTINGS],
             _ => &[REGISTERS],
         }
     }
@@ -56,7 +57,7 @@ impl Call {
     pub fn answers(&self) -> usize {
         match self {
             Call::LineRead { .. } => 7,
-            Call::LineTail { .. } | Call::Lookup { .. } | Call::Flags => 2,
+            Call::LineTail { .. } | Call::Lookup { .. } | Call::Edition { .. } | Call::Flags => 2,
             Call::Step { .. } => 3,
             Call::LineWrite { .. } | Call::Take | Call::Signal => 1,
             Call::BootFailure | Call::Panic => 4,
@@ -83,6 +84,7 @@ impl fmt::Display for Call {
             Call::Post { action, text } => write!(out, "oatcastle_post({action}, {})", hex(text)),
             Call::SetOptions { options } => write!(out, "oatcastle_set_options({options:#x})"),
             Call::Lookup { key, most } => write!(out, "oatcastle_lookup(key {key}, maxresponse {most})"),
+            Call::Edition { key } => write!(out, "oatcastle_edition(key {key})"),
             Call::Signal => write!(out, "oatcastle_signal"),
             Call::Flags => write!(out, "oatcastle_flags"),
             Call::BootFailure => write!(out, "oatcastle_boot_failure"),

@@ -120,7 +120,7 @@ fn every_outcome() -> Vec<u8> {
         vec![1, 0],
         whole(model::MAGIC, 1, 3, 0x0b, &[]),
         whole(model::MAGIC ^ 1, 1, 4, 8, &[]),
-        whole(model::MAGIC, 2, 5, 8, &[]),
+        whole(model::MAGIC, 3, 5, 8, &[]),
         whole(model::MAGIC, 1, 6 | model::TOP_BIT, 8, &[]),
         whole(model::MAGIC, 1, 7, 8, &[1]),
     ]

@@ -5,12 +5,12 @@ use crate::calls::{Call, Image, Lent};
 use crate::model::{self, Supervisor};
 use crate::plans::Plan;
 use crate::random::Random;
-use crate::state::{self, Allowed, FACTORY, LENGTHS, LINE, READER, REGISTERS};
+use crate::state::{self, Allowed, FACTORY, LENGTHS, LINE, READER, REGISTERS, SETTINGS};
 use crate::traffic;
 use crate::world::{World, TAIL};
 
 /// Kinds of calls other than the two that start.
-const KINDS: usize = 16;
+const KINDS: usize = 17;
 
 impl World {
     fn image(&mut self) -> Image {
@@ -139,14 +139,15 @@ impl World {
             12 => Call::BootFailure,
             13 => Call::Panic,
             14 => Call::Addresses { plan: Plan::random(random) },
-            _ => Call::PlanFits { plan: Plan::random(random) },
+            15 => Call::PlanFits { plan: Plan::random(random) },
+            _ => Call::Edition { key: if random.percent(90) { random.below(7) as u8 } else { random.byte() } },
         }
     }
 
     /// A call other than start, one that takes the part if one is given.
     fn any_call(&mut self, part: Option<usize>) -> Call {
         loop {
-            let kind = if self.random.percent(75) { self.random.below(KINDS) } else { self.random.pick(&[9, 9, 12, 13]) };
+            let kind = if self.random.percent(75) { self.random.below(KINDS) } else { self.random.pick(&[9, 9, 12, 13, 16]) };
             let target = part.filter(|&part| part <= READER).unwrap_or(if self.random.percent(85) { LINE } else { READER });
             let call = self.make(kind, target);
             if part.is_none_or(|part| call.parts().contains(&part)) {
@@ -331,11 +332,17 @@ impl World {
         Ok(())
     }
 
-    /// Every part gets random bytes, with allowed values in its fields.
+    /// Every part gets random bytes, with allowed values in its fields and some editions at their end.
     fn scatter(&mut self) {
         for part in LINE..=REGISTERS {
             self.parts[part] = self.random.bytes(LENGTHS[part] + TAIL);
             self.settle(part);
+        }
+        for (place, _) in state::KEYS {
+            if self.random.percent(40) {
+                let edition = self.random.pick(&[0, model::LAST_EDITION - 1, model::LAST_EDITION]);
+                state::put(&mut self.parts[SETTINGS], place + state::EDITION_OFFSET, 4, u64::from(edition));
+            }
         }
         self.mean();
     }

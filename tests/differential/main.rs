@@ -116,7 +116,7 @@ fn plain(seed: u64, count: u64, trace: bool) -> ExitCode {
         println!("seed {seed}, {difference}");
     }
     let refused: u64 = tally.refusals[1..].iter().sum();
-    println!("wire bytes fed {}, calls refused {refused}, reasons {:?}, commands {:?}", tally.fed, &tally.reasons[1..], &tally.commands[1..]);
+    println!("wire bytes fed {}, calls refused {refused}, reasons {:?}, commands {:?}, set results {:?}", tally.fed, &tally.reasons[1..], tally.commands, tally.sets);
     println!("fields given a forbidden value {} of {FIELDS}; not met:{}", tally.fields.len(), if missing.is_empty() { " none" } else { &missing });
     println!(
         "seed {seed}: {}; {} calls, {} bytes compared: {} of answers and rooms, {} of lent bytes; {} bytes of parts by what they mean",

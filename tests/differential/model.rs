@@ -13,6 +13,7 @@ pub const TOP_BIT: u64 = 1 << 63;
 pub const MOST_ITEMS: usize = 64;
 /// The longest value of each settings key, from 3 on.
 pub const LONGEST: [usize; 3] = [256, 4096, 4096];
+pub const LAST_EDITION: u32 = u32::MAX;
 
 macro_rules! faults {
     ($($name:ident: $words:literal,)*) => {
@@ -58,6 +59,13 @@ faults! {
     EmptyIsNone: "a stored empty value is no value",
     MostIsBelow: "a value as long as maxresponse is too long",
     ReadOnlyAfterLength: "setting a read-only key with a long value gives 3",
+    FirstVersionOnly: "every reply carries version 1",
+    UnknownInVersion: "an unknown command is answered in the request's version",
+    ResentInVersion: "a resent alert goes out in the version that asks again",
+    MostCountsEdition: "maxresponse counts the edition too",
+    EndBeforeLength: "setting a key at its last edition gives 4 for a long value too",
+    RefusedCounts: "a set that gives 3 adds to the edition",
+    OtherEdition: "a lookup carries the edition of another key",
     ItemDataKept: "an item with result 2 carries its data",
     ItemIndexLast: "the index equal to the count gives the last item",
     OptionBit9: "option bit 9 is let through",
@@ -372,6 +380,14 @@ pub struct Alert {
     pub text: Vec<u8>,
 }
 
+/// The reply to the last alert request, as first written.
+#[derive(Clone, Debug, PartialEq, Eq)]
+pub struct Retained {
+    pub version: u32,
+    pub sequence: u64,
+    pub alert: Alert,
+}
+
 #[derive(Clone, Debug, PartialEq, Eq)]
 pub struct Registers {
     pub status: u64,
@@ -381,7 +397,7 @@ pub struct Registers {
     pub boot_failure: Option<Record>,
     pub panic: Option<Record>,
     pub alerts: VecDeque<Alert>,
-    pub retained: Option<(u64, Alert)>,
+    pub retained: Option<Retained>,
 }
 
 impl Registers {
@@ -439,18 +455,20 @@ impl Registers {
         Ok(())
     }
 
-    fn next_alert(&mut self, sequence: u64) -> Alert {
-        if let Some((held, alert)) = &self.retained {
-            if *held == sequence && !broken(Fault::ResendTakes) {
-                return alert.clone();
+    fn next_alert(&mut self, version: u32, sequence: u64) -> Retained {
+        if let Some(held) = &self.retained {
+            if held.sequence == sequence && !broken(Fault::ResendTakes) {
+                let version = if broken(Fault::ResentInVersion) { version } else { held.version };
+                return Retained { version, ..held.clone() };
             }
         }
         let alert = self.alerts.pop_front().unwrap_or(Alert { action: 0, text: Vec::new() });
-        self.retained = Some((sequence, alert.clone()));
+        let reply = Retained { version, sequence, alert };
+        self.retained = Some(reply.clone());
         if self.alerts.is_empty() && !broken(Fault::AlertBitKept) {
             self.status &= !2;
         }
-        alert
+        reply
     }
 }
 
@@ -460,7 +478,14 @@ fn record(code: u16, rest: &[u8]) -> Record {
     Record { code, length: if broken(Fault::RecordLengthKept) { kept.len() } else { rest.len() }, kept }
 }
 
-pub type Settings = [Option<Vec<u8>>; 3];
+/// The edition counts the successful sets since start.
+#[derive(Clone, Debug, PartialEq, Eq, Default)]
+pub struct Setting {
+    pub edition: u32,
+    pub value: Option<Vec<u8>>,
+}
+
+pub type Settings = [Setting; 3];
 
 /// Key lookup: the result, and the value where it is 0.
 pub fn lookup(factory: &Factory, settings: &Settings, key: u8, most: u16) -> (u8, Vec<u8>) {
@@ -472,7 +497,7 @@ pub fn lookup(factory: &Factory, settings: &Settings, key: u8, most: u16) -> (u8
             both.extend_from_slice(&0u32.to_le_bytes());
             Some(both)
         }
-        3..=5 => settings[usize::from(key) - 3].clone(),
+        3..=5 => settings[usize::from(key) - 3].value.clone(),
         _ => return (1, Vec::new()),
     };
     let limit = usize::from(most);
@@ -481,6 +506,23 @@ pub fn lookup(factory: &Factory, settings: &Settings, key: u8, most: u16) -> (u8
         Some(value) if value.is_empty() && key >= 3 && broken(Fault::EmptyIsNone) => (2, value),
         Some(value) if value.len() > limit || broken(Fault::MostIsBelow) && value.len() == limit => (3, Vec::new()),
         Some(value) => (0, value),
+    }
+}
+
+/// The edition of a key: a lookup's result whatever maxresponse is, and the edition where it is 0.
+pub fn edition(settings: &Settings, key: u8) -> (u8, u32) {
+    match key {
+        0..=2 => (0, 0),
+        3..=5 => {
+            let setting = &settings[usize::from(key) - 3];
+            let other = &settings[(usize::from(key) - 2) % 3];
+            match setting.value {
+                None => (2, 0),
+                Some(_) if broken(Fault::OtherEdition) => (0, other.edition),
+                Some(_) => (0, setting.edition),
+            }
+        }
+        _ => (1, 0),
     }
 }
 
@@ -493,10 +535,19 @@ fn set_key(settings: &mut Settings, key: u8, value: &[u8]) -> u8 {
         4..=5 => LONGEST[usize::from(key) - 3],
         _ => return 1,
     };
+    let setting = &mut settings[usize::from(key) - 3];
+    let ended = setting.edition == LAST_EDITION;
+    if ended && broken(Fault::EndBeforeLength) {
+        return 4;
+    }
     if value.len() > most {
+        setting.edition += u32::from(!ended && broken(Fault::RefusedCounts));
         return 3;
     }
-    settings[usize::from(key) - 3] = Some(value.to_vec());
+    if ended {
+        return 4;
+    }
+    *setting = Setting { edition: setting.edition + 1, value: Some(value.to_vec()) };
     0
 }
 
@@ -509,20 +560,33 @@ pub struct Supervisor {
     pub registers: Registers,
 }
 
-/// What the frames of a call may have changed, how often each reason and each command came, and kind and reason of each step.
+/// A reply to a valid request.
+struct Reply {
+    version: u32,
+    command: u8,
+    data: Vec<u8>,
+}
+
+/// What the frames of a call may have changed, how often each reason, each command in each version and each result of a set came, and kind and reason
+/// of each step.
 pub struct Touched {
     pub outbox: bool,
     pub settings: bool,
     pub registers: bool,
     pub reasons: [u64; 8],
-    pub commands: [u64; 17],
+    pub commands: [[u64; 17]; 2],
+    pub sets: [u64; 5],
     pub ends: Vec<(u8, u8)>,
 }
 
 impl Touched {
     pub fn none() -> Touched {
-        Touched { outbox: false, settings: false, registers: false, reasons: [0; 8], commands: [0; 17], ends: Vec::new() }
+        Touched { outbox: false, settings: false, registers: false, reasons: [0; 8], commands: [[0; 17]; 2], sets: [0; 5], ends: Vec::new() }
     }
+}
+
+fn reply_frame(version: u32, sequence: u64, command: u8, data: &[u8]) -> Vec<u8> {
+    frame(if broken(Fault::FirstVersionOnly) { 1 } else { version }, sequence, command, data)
 }
 
 impl Supervisor {
@@ -531,7 +595,7 @@ impl Supervisor {
             reader: Reader::default(),
             outbox: Outbox { pending: Vec::new(), last_non_zero: before.last_non_zero && broken(Fault::StartKeepsFlag) },
             factory,
-            settings: [None, None, None],
+            settings: Settings::default(),
             registers: Registers::fresh(),
         }
     }
@@ -549,20 +613,20 @@ impl Supervisor {
                 return (used, 1, 0);
             }
             Ended::Message(message) => self.request(&message, image, touched).map(|reply| (message.sequence, reply)),
-            Ended::Failure(failure) => Err(failure),
+            Ended::Failure(failure) => Err((1, failure)),
         };
         touched.outbox = true;
         match answer {
             Ok((sequence, reply)) => {
                 if reply.is_some() || !broken(Fault::SilentKeeps) {
-                    self.outbox.replace(reply.map(|(command, data)| frame(1, sequence | TOP_BIT, command, &data)));
+                    self.outbox.replace(reply.map(|reply| reply_frame(reply.version, sequence | TOP_BIT, reply.command, &reply.data)));
                 }
                 (used, 2, 0)
             }
-            Err(failure) => {
+            Err((version, failure)) => {
                 touched.reasons[usize::from(failure.reason)] += 1;
                 let sequence = failure.sequence.map_or(u64::MAX, |sequence| sequence | TOP_BIT);
-                self.outbox.replace(Some(frame(1, sequence, 2, &[failure.reason])));
+                self.outbox.replace(Some(reply_frame(version, sequence, 2, &[failure.reason])));
                 (used, 3, failure.reason)
             }
         }
@@ -577,14 +641,14 @@ impl Supervisor {
         }
     }
 
-    /// The supervisor's tests, then what the request does; a reply is a command and its data.
-    fn request(&mut self, message: &Message, image: &[u8], touched: &mut Touched) -> Result<Option<(u8, Vec<u8>)>, Failure> {
-        let named = |reason| Failure { reason, sequence: Some(message.sequence) };
+    /// The supervisor's tests, each with the version of its reply, then what the request does.
+    fn request(&mut self, message: &Message, image: &[u8], touched: &mut Touched) -> Result<Option<Reply>, (u32, Failure)> {
+        let named = |reason| (if reason < 6 { 1 } else { message.version }, Failure { reason, sequence: Some(message.sequence) });
         let top = message.sequence & TOP_BIT != 0;
         if broken(Fault::TopBitBeforeVersion) && top {
             return Err(named(6));
         }
-        if message.version != 1 {
+        if !matches!(message.version, 1 | 2) {
             return Err(named(5));
         }
         if top {
@@ -599,12 +663,13 @@ impl Supervisor {
             0x0e => data.len() == 3,
             0x0f => data.len() == 4,
             _ if broken(Fault::UnknownNamed) => return Err(named(3)),
-            _ => return Err(Failure { reason: 3, sequence: None }),
+            _ if broken(Fault::UnknownInVersion) => return Err((message.version, Failure { reason: 3, sequence: None })),
+            _ => return Err((1, Failure { reason: 3, sequence: None })),
         };
         if !length_right {
             return Err(named(7));
         }
-        touched.commands[usize::from(message.command)] += 1;
+        touched.commands[message.version as usize - 1][usize::from(message.command)] += 1;
         if matches!(message.command, 0x01 | 0x02) {
             if !broken(Fault::RebootKeepsCopy) {
                 self.registers.retained = None;
@@ -619,7 +684,8 @@ impl Supervisor {
         }
         let registers = &mut self.registers;
         let factory = &self.factory;
-        Ok(match message.command {
+        let mut version = message.version;
+        let answer = match message.command {
             0x01 => {
                 touched.registers = true;
                 registers.reboot = true;
@@ -667,9 +733,10 @@ impl Supervisor {
             }
             0x0a => {
                 touched.registers = true;
-                let alert = registers.next_alert(message.sequence);
-                let mut reply = vec![alert.action];
-                reply.extend_from_slice(&alert.text);
+                let retained = registers.next_alert(version, message.sequence);
+                version = retained.version;
+                let mut reply = vec![retained.alert.action];
+                reply.extend_from_slice(&retained.alert.text);
                 Some((0x07, reply))
             }
             0x0d => {
@@ -688,8 +755,13 @@ impl Supervisor {
                 Some((0x09, block))
             }
             0x0e => {
-                let (result, value) = lookup(factory, &self.settings, data[0], number(&data[1..]) as u16);
+                let less = if version == 2 && broken(Fault::MostCountsEdition) { 4 } else { 0 };
+                let most = (number(&data[1..]) as u16).saturating_sub(less);
+                let (result, value) = lookup(factory, &self.settings, data[0], most);
                 let mut reply = vec![result];
+                if version == 2 && result == 0 {
+                    reply.extend_from_slice(&edition(&self.settings, data[0]).1.to_le_bytes());
+                }
                 reply.extend_from_slice(&value);
                 Some((0x0a, reply))
             }
@@ -716,10 +788,13 @@ impl Supervisor {
                 Some((0x0b, reply))
             }
             _ => {
+                let before = self.settings.clone();
                 let result = set_key(&mut self.settings, data[0], &data[1..]);
-                touched.settings |= result == 0;
+                touched.settings |= self.settings != before;
+                touched.sets[usize::from(result)] += 1;
                 Some((0x0c, vec![result]))
             }
-        })
+        };
+        Ok(answer.map(|(command, data)| Reply { version, command, data }))
     }
 }

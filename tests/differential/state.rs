@@ -1,7 +1,7 @@
 // Defines the lent parts as docs/STATE.md lists them: lengths, fields with their allowed values, and the typed state that valid bytes mean.
 // Assumes docs/STATE.md alone.
 
-use crate::model::{broken, Alert, Factory, Fault, Item, Outbox, Reader, Record, Registers, Settings, LONGEST, MOST_ITEMS};
+use crate::model::{broken, Alert, Factory, Fault, Item, Outbox, Reader, Record, Registers, Retained, Setting, Settings, LONGEST, MOST_ITEMS};
 
 /// The parts: a line reader's of its own, then the supervisor's five.
 pub const LINE: usize = 0;
@@ -24,8 +24,10 @@ const VERSION_OFFSET: usize = START_LENGTH;
 const PONG_OFFSET: usize = VERSION_OFFSET + 4;
 const FACTORY_LENGTH: usize = PONG_OFFSET + 4;
 
-/// Where the setting of each settings key from 3 on stands, and its longest value; a value stands behind a flag and a length.
-const VALUE_OFFSET: usize = 3;
+/// Where the setting of each settings key from 3 on stands, and its longest value; a value stands behind a flag, an edition and a length.
+pub const EDITION_OFFSET: usize = 1;
+const VALUE_LENGTH_OFFSET: usize = 5;
+const VALUE_OFFSET: usize = 7;
 pub const KEYS: [(usize, usize); 3] = {
     let second = VALUE_OFFSET + LONGEST[0];
     let third = second + VALUE_OFFSET + LONGEST[1];
@@ -110,7 +112,7 @@ pub fn fields(part: usize, bytes: &[u8]) -> Vec<Field> {
             fields.push(Field { place: PONG_OFFSET, width: 4, allowed: Allowed::OneOf(&[0x676e_6f70]) });
             fields
         }
-        SETTINGS => KEYS.iter().flat_map(|&(place, most)| [flag(place), up_to(place + 1, 2, most as u64)]).collect(),
+        SETTINGS => KEYS.iter().flat_map(|&(place, most)| [flag(place), up_to(place + VALUE_LENGTH_OFFSET, 2, most as u64)]).collect(),
         _ => {
             let mut fields = vec![
                 up_to(0, 8, 3),
@@ -123,7 +125,7 @@ pub fn fields(part: usize, bytes: &[u8]) -> Vec<Field> {
                 flag(535),
                 up_to(538, 2, 4102),
                 up_to(1052, 1, 8),
-                flag(3125),
+                up_to(3125, 1, 2),
                 up_to(3134, 2, 256),
             ];
             for alert in 0..number(bytes, 1052, 1).min(8) as usize {
@@ -192,7 +194,10 @@ pub fn factory(bytes: &[u8]) -> Factory {
 }
 
 pub fn settings(bytes: &[u8]) -> Settings {
-    KEYS.map(|(place, _)| (bytes[place] == 1).then(|| run(bytes, place + VALUE_OFFSET, number(bytes, place + 1, 2))))
+    KEYS.map(|(place, _)| Setting {
+        edition: number(bytes, place + EDITION_OFFSET, 4) as u32,
+        value: (bytes[place] == 1).then(|| run(bytes, place + VALUE_OFFSET, number(bytes, place + VALUE_LENGTH_OFFSET, 2))),
+    })
 }
 
 fn record(bytes: &[u8], place: usize) -> Option<Record> {
@@ -217,6 +222,10 @@ pub fn registers(bytes: &[u8]) -> Registers {
         boot_failure: record(bytes, 18),
         panic: record(bytes, 535),
         alerts: (0..usize::from(bytes[1052])).map(|i| alert(bytes, 1053 + 259 * i)).collect(),
-        retained: (bytes[3125] == 1).then(|| (number(bytes, 3126, 8), alert(bytes, 3134))),
+        retained: (bytes[3125] != 0).then(|| Retained {
+            version: u32::from(bytes[3125]),
+            sequence: number(bytes, 3126, 8),
+            alert: alert(bytes, 3134),
+        }),
     }
 }

@@ -6,6 +6,7 @@ use crate::random::Random;
 use crate::state::{number, put, COUNT_OFFSET, ITEMS_OFFSET, ITEM_DATA_LENGTH, ITEM_LENGTH, START_LENGTH};
 
 const COMMANDS: [u8; 14] = [0x01, 0x02, 0x03, 0x04, 0x05, 0x06, 0x07, 0x08, 0x09, 0x0a, 0x0d, 0x0e, 0x0f, 0x10];
+const VERSIONS: [u32; 2] = [1, 2];
 
 /// A length at a limit, next to one, small, or anywhere up to the last limit.
 fn length_near(random: &mut Random, limits: &[usize]) -> usize {
@@ -21,7 +22,7 @@ fn length_near(random: &mut Random, limits: &[usize]) -> usize {
 
 pub fn sequence(random: &mut Random, supervisor: &Supervisor) -> u64 {
     match random.below(6) {
-        0 | 1 => supervisor.registers.retained.as_ref().map_or(1, |(sequence, _)| *sequence) & !TOP_BIT,
+        0 | 1 => supervisor.registers.retained.as_ref().map_or(1, |reply| reply.sequence) & !TOP_BIT,
         2 => random.below(4) as u64,
         3 => u64::MAX >> 1,
         4 => number(&random.bytes(8), 0, 8) & !TOP_BIT,
@@ -64,7 +65,7 @@ fn data(random: &mut Random, supervisor: &Supervisor, command: u8, image: usize)
                 0 => 4,
                 1 => supervisor.factory.image_id.len(),
                 2 => 8,
-                3..=5 => supervisor.settings[usize::from(key) - 3].as_ref().map_or(0, Vec::len),
+                3..=5 => supervisor.settings[usize::from(key) - 3].value.as_ref().map_or(0, Vec::len),
                 _ => 0,
             };
             let most = match random.below(5) {
@@ -138,7 +139,7 @@ fn request(random: &mut Random, supervisor: &Supervisor, image: usize) -> Vec<u8
     if random.percent(chance) {
         number |= TOP_BIT;
     }
-    let version = if random.percent(chance) { random.pick(&[0, 2, 0x0100, 0x0001_0001, 0x0100_0001, u32::MAX]) } else { 1 };
+    let version = if random.percent(chance) { random.pick(&[0, 3, 0x0100, 0x0001_0001, 0x0100_0002, u32::MAX]) } else { random.pick(&VERSIONS) };
     let magic = if random.percent(chance) { MAGIC ^ 1 << random.below(32) } else { MAGIC };
     let mut message = body(magic, version, number, command, &data);
     let mut sums = checksum(&message);
@@ -165,7 +166,7 @@ fn full_group(random: &mut Random, supervisor: &Supervisor) -> Vec<u8> {
     let number = sequence(random, supervisor) & (u64::MAX >> 8);
     loop {
         let data = random.bytes_of(1, 254 * groups - 3);
-        let message = with_sums(body(MAGIC, 1, number, command, &data));
+        let message = with_sums(body(MAGIC, random.pick(&VERSIONS), number, command, &data));
         if message[message.len() - 2..].contains(&0) {
             continue;
         }
@@ -184,7 +185,7 @@ fn bound(random: &mut Random) -> Vec<u8> {
     let mut bytes = random.bytes_of(kind, length.max(2) - 2);
     if random.percent(50) && bytes.len() >= 8 {
         bytes[..4].copy_from_slice(&MAGIC.to_le_bytes());
-        bytes[4..8].copy_from_slice(&1u32.to_le_bytes());
+        bytes[4..8].copy_from_slice(&random.pick(&VERSIONS).to_le_bytes());
     }
     let mut message = with_sums(bytes);
     message.truncate(length);

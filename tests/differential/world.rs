@@ -49,12 +49,15 @@ pub struct Tally {
     pub meant: u64,
     pub refusals: [u64; 17],
     pub reasons: [u64; 8],
-    pub commands: [u64; 17],
+    /// By the request's version, from 1 on.
+    pub commands: [[u64; 17]; 2],
+    /// By the result of a set.
+    pub sets: [u64; 5],
     pub fields: HashSet<(usize, usize)>,
 }
 
 impl Tally {
-    /// What has not come up: refusal numbers, reasons, commands.
+    /// What has not come up: refusal numbers, reasons, commands in a version, results of a set.
     pub fn missing(&self) -> String {
         let mut missing = String::new();
         for number in [8, 9, 10, 11, 12, 13, 16] {
@@ -67,9 +70,16 @@ impl Tally {
                 missing += &format!(" reason {reason}");
             }
         }
-        for command in (1..=16).filter(|&command| command != 0x0b && command != 0x0c) {
-            if self.commands[command] == 0 {
-                missing += &format!(" command {command:#04x}");
+        for (before, commands) in self.commands.iter().enumerate() {
+            for command in (1..=16).filter(|&command| command != 0x0b && command != 0x0c) {
+                if commands[command] == 0 {
+                    missing += &format!(" command {command:#04x} in version {}", before + 1);
+                }
+            }
+        }
+        for (result, &times) in self.sets.iter().enumerate() {
+            if times == 0 {
+                missing += &format!(" set result {result}");
             }
         }
         if self.fields.len() < FIELDS {
@@ -287,7 +297,10 @@ impl World {
                 for (sum, times) in self.tally.reasons.iter_mut().zip(touched.reasons) {
                     *sum += times;
                 }
-                for (sum, times) in self.tally.commands.iter_mut().zip(touched.commands) {
+                for (sum, times) in self.tally.commands.iter_mut().flatten().zip(touched.commands.iter().flatten()) {
+                    *sum += times;
+                }
+                for (sum, times) in self.tally.sets.iter_mut().zip(touched.sets) {
                     *sum += times;
                 }
                 self.handed[READER] = None;
@@ -323,6 +336,13 @@ impl World {
                 }
                 outcome.answer = vec![u64::from(result), value.len() as u64];
                 outcome.room = value;
+            }
+            Call::Edition { key } => {
+                let (result, edition) = model::edition(&self.supervisor.settings, *key);
+                if short_answer {
+                    return refused(8);
+                }
+                outcome.answer = vec![u64::from(result), u64::from(edition)];
             }
             Call::Signal => {
                 if short_answer {
@@ -430,6 +450,9 @@ impl World {
                 Call::Lookup { key, most } => oatcastle_lookup(
                     factory.as_ptr(), factory_n, settings.as_ptr(), settings_n, *key, *most, room, room_n, answer, answer_n,
                 ),
+                Call::Edition { key } => {
+                    oatcastle_edition(factory.as_ptr(), factory_n, settings.as_ptr(), settings_n, *key, answer, answer_n)
+                }
                 Call::Signal => oatcastle_signal(registers.as_ptr(), registers_n, answer, answer_n),
                 Call::Flags => oatcastle_flags(registers.as_ptr(), registers_n, answer, answer_n),
                 Call::BootFailure => oatcastle_boot_failure(registers.as_ptr(), registers_n, room, room_n, answer, answer_n),

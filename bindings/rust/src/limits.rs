@@ -6,7 +6,7 @@
 pub(crate) const READER_LENGTH: usize = 4142;
 pub(crate) const OUTBOX_LENGTH: usize = 4147;
 pub(crate) const FACTORY_LENGTH: usize = 6481;
-pub(crate) const SETTINGS_LENGTH: usize = 8457;
+pub(crate) const SETTINGS_LENGTH: usize = 8469;
 pub(crate) const REGISTERS_LENGTH: usize = 3393;
 pub(crate) const REQUESTER_LENGTH: usize = 4118;
 
@@ -55,6 +55,7 @@ pub(crate) const LINE_CHECKSUM_NUMBERS: usize = 1;
 pub(crate) const STEP_NUMBERS: usize = 3;
 pub(crate) const TAKE_NUMBERS: usize = 1;
 pub(crate) const LOOKUP_NUMBERS: usize = 2;
+pub(crate) const EDITION_NUMBERS: usize = 2;
 pub(crate) const SIGNAL_NUMBERS: usize = 1;
 pub(crate) const FLAGS_NUMBERS: usize = 2;
 pub(crate) const REQUESTER_REQUEST_NUMBERS: usize = 1;
@@ -106,8 +107,9 @@ pub(crate) const PONG_OFFSET: usize = 6477;
 /// A message's data in the line reader's part.
 pub(crate) const MESSAGE_DATA_OFFSET: usize = 19;
 /// In a setting.
-pub(crate) const SETTING_LENGTH_OFFSET: usize = 1;
-pub(crate) const SETTING_VALUE_OFFSET: usize = 3;
+pub(crate) const SETTING_EDITION_OFFSET: usize = 1;
+pub(crate) const SETTING_LENGTH_OFFSET: usize = 5;
+pub(crate) const SETTING_VALUE_OFFSET: usize = 7;
 /// In the registers.
 pub(crate) const BOOT_FAILURE_OFFSET: usize = 18;
 pub(crate) const PANIC_OFFSET: usize = 535;

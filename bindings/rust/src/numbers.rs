@@ -76,7 +76,7 @@ numbered! {
     Checksum = 2, "the checksum differs";
     Length = 3, "the decoded length is not a message's, or the command is unknown";
     Magic = 4, "the magic differs";
-    Version = 5, "the version is unknown";
+    Version = 5, "the version is neither 1 nor 2";
     Sequence = 6, "the top bit of the sequence is set";
     Data = 7, "the data's length is wrong for the command";
 }

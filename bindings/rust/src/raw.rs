@@ -84,6 +84,9 @@ extern "C" {
         factory: *const u8, factory_length: Length, settings: *const u8, settings_length: Length, key: u8, maxresponse: u16,
         room: *mut u8, room_length: Length, answer: *mut u64, answer_count: Length,
     ) -> u32;
+    pub(crate) fn oatcastle_edition(
+        factory: *const u8, factory_length: Length, settings: *const u8, settings_length: Length, key: u8, answer: *mut u64, answer_count: Length,
+    ) -> u32;
     pub(crate) fn oatcastle_signal(registers: *const u8, registers_length: Length, answer: *mut u64, answer_count: Length) -> u32;
     pub(crate) fn oatcastle_flags(registers: *const u8, registers_length: Length, answer: *mut u64, answer_count: Length) -> u32;
     pub(crate) fn oatcastle_boot_failure(

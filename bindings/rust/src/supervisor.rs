@@ -2,10 +2,10 @@
 //! Assumes the C functions of `raw`, and `docs/STATE.md` for where the values lie that are handed out.
 
 use crate::limits::{
-    setting_offset, ALL_OPTIONS, BOOT_FAILURE_OFFSET, EMPTY, FACTORY_LENGTH, FAILURE, FLAGS_NUMBERS, LOOKUP_NUMBERS, MESSAGE, MORE, MOST_KEPT,
-    OUTBOX_LENGTH, PANIC_OFFSET, PONG_OFFSET, READER_LENGTH, RECORD_CODE_OFFSET, RECORD_KEPT_OFFSET, RECORD_WHOLE_OFFSET, REGISTERS_LENGTH,
-    SETTINGS_LENGTH, SETTING_LENGTH_OFFSET, SETTING_VALUE_OFFSET, SIGNAL_NUMBERS, START_IMAGE_ID, START_IMAGE_ID_LENGTH, START_ITEM_COUNT,
-    STEP_NUMBERS, TAKE_NUMBERS,
+    setting_offset, ALL_OPTIONS, BOOT_FAILURE_OFFSET, EDITION_NUMBERS, EMPTY, FACTORY_LENGTH, FAILURE, FLAGS_NUMBERS, LOOKUP_NUMBERS, MESSAGE, MORE,
+    MOST_KEPT, OUTBOX_LENGTH, PANIC_OFFSET, PONG_OFFSET, READER_LENGTH, RECORD_CODE_OFFSET, RECORD_KEPT_OFFSET, RECORD_WHOLE_OFFSET,
+    REGISTERS_LENGTH, SETTINGS_LENGTH, SETTING_EDITION_OFFSET, SETTING_LENGTH_OFFSET, SETTING_VALUE_OFFSET, SIGNAL_NUMBERS, START_IMAGE_ID,
+    START_IMAGE_ID_LENGTH, START_ITEM_COUNT, STEP_NUMBERS, TAKE_NUMBERS,
 };
 use crate::raw::Length;
 use crate::{done, first, lent, lent_mut, part, raw, ruled_out, said, Counters, NotFound, Reason, Refusal, StartData};
@@ -148,6 +148,8 @@ pub enum StepEnd {
 #[derive(Clone, Copy, Debug, PartialEq, Eq)]
 #[non_exhaustive]
 pub struct Found<'s> {
+    /// How often the key was set since the start; 0 for keys 0 to 2.
+    pub edition: u32,
     /// The value, a part of the storage.
     pub value: &'s [u8],
 }
@@ -197,6 +199,7 @@ impl Counters {
 /// let mut room = [0; LONGEST_FRAME];
 /// supervisor.receive(&[], write_frame(1, 1, 0x10, &[3], b"value", &mut room)?);
 /// assert_eq!(supervisor.lookup(3, 256)?.value, b"value");
+/// assert_eq!(supervisor.edition(3), Ok(1));
 /// assert_eq!(supervisor.lookup(3, 4), Err(NotFound::TooLong));
 /// let mut room = [0; MOST_PENDING];
 /// assert_eq!(supervisor.take(&mut room).last(), Some(&0));
@@ -363,22 +366,41 @@ impl<'s> Supervisor<'s> {
             done(number);
         }
         match answer[0] {
-            0 => Ok(Found { value: self.value(key) }),
+            0 => Ok(self.held(key)),
             result => Err(NotFound::of(result).unwrap_or_else(|| ruled_out())),
         }
     }
 
-    /// The value of a key that has one, as it lies in its store.
-    fn value(&self, key: u8) -> &[u8] {
+    /// The edition and the value of a key that has one, as they lie in its store.
+    fn held(&self, key: u8) -> Found<'_> {
         let SupervisorStorage { factory, settings, .. } = &*self.storage;
+        let of_factory = |offset, length| Found { edition: 0, value: part(factory, offset, length) };
         match key {
-            0 => part(factory, PONG_OFFSET, 4),
-            1 => part(factory, START_IMAGE_ID, factory[START_IMAGE_ID_LENGTH].into()),
-            2 => part(factory, START_ITEM_COUNT, 8),
+            0 => of_factory(PONG_OFFSET, 4),
+            1 => of_factory(START_IMAGE_ID, factory[START_IMAGE_ID_LENGTH].into()),
+            2 => of_factory(START_ITEM_COUNT, 8),
             _ => {
                 let setting = setting_offset(key.into());
-                part(settings, setting + SETTING_VALUE_OFFSET, number_at(settings, setting + SETTING_LENGTH_OFFSET).into())
+                let length = number_at(settings, setting + SETTING_LENGTH_OFFSET).into();
+                let edition = u32::from_le_bytes(bytes_at(settings, setting + SETTING_EDITION_OFFSET));
+                Found { edition, value: part(settings, setting + SETTING_VALUE_OFFSET, length) }
             }
+        }
+    }
+
+    /// The edition of a key: how often it was set since the start, 0 for keys 0 to 2.
+    ///
+    /// # Errors
+    ///
+    /// `BadKey` or `NoValue`, as from a lookup.
+    pub fn edition(&self, key: u8) -> Result<u32, NotFound> {
+        let mut answer = [0; EDITION_NUMBERS];
+        let (factory, settings, answers) = (lent(&self.storage.factory), lent(&self.storage.settings), lent_mut(&mut answer));
+        // SAFETY: each pointer is valid for the length behind it, and what is written overlaps nothing else.
+        done(unsafe { raw::oatcastle_edition(factory.0, factory.1, settings.0, settings.1, key, answers.0, answers.1) });
+        match answer[0] {
+            0 => Ok(u32::try_from(answer[1]).unwrap_or_else(|_| ruled_out())),
+            result => Err(NotFound::of(result).filter(|&result| result != NotFound::TooLong).unwrap_or_else(|| ruled_out())),
         }
     }
 
@@ -423,8 +445,10 @@ impl<'s> Supervisor<'s> {
 
 /// The number of two bytes at an offset.
 fn number_at(run: &[u8], offset: usize) -> u16 {
-    match part(run, offset, 2) {
-        &[low, high] => u16::from_le_bytes([low, high]),
-        _ => ruled_out(),
-    }
+    u16::from_le_bytes(bytes_at(run, offset))
+}
+
+/// So many bytes at an offset.
+fn bytes_at<const N: usize>(run: &[u8], offset: usize) -> [u8; N] {
+    part(run, offset, N).try_into().unwrap_or_else(|_| ruled_out())
 }

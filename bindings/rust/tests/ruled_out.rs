@@ -52,6 +52,7 @@ library! {
     oatcastle_post(Pointer, usize, u8, Pointer, usize);
     oatcastle_set_options(Pointer, usize, u64);
     oatcastle_lookup(Pointer, usize, Pointer, usize, u8, u16, Pointer, usize) answers;
+    oatcastle_edition(Pointer, usize, Pointer, usize, u8) answers;
     oatcastle_signal(Pointer, usize) answers;
     oatcastle_flags(Pointer, usize) answers;
     oatcastle_requester_start(Pointer, usize, Pointer, usize);
@@ -84,7 +85,7 @@ fn made<T>(_: T) {}
 const PLAN: AddressPlan = AddressPlan { base: [0; 6], count: 1, stride: 1 };
 const DATA: StartData = StartData::new(Bsu::A);
 
-const CALLS: [(&str, Call); 29] = [
+const CALLS: [(&str, Call); 30] = [
     ("LineReader::restart", |w| w.reader.restart()),
     ("read", |w| made(w.reader.read(&[1]))),
     ("tail", |w| made(w.reader.tail())),
@@ -100,6 +101,7 @@ const CALLS: [(&str, Call); 29] = [
     ("set_options", |w| w.supervisor.set_options(Options::NONE)),
     ("lookup", |w| made(w.supervisor.lookup(3, 256))),
     ("lookup of a key without a place", |w| made(w.supervisor.lookup(255, 256))),
+    ("edition", |w| made(w.supervisor.edition(3))),
     ("signal", |w| made(w.supervisor.signal())),
     ("flags", |w| made(w.supervisor.flags())),
     ("Requester::restart", |w| w.main.restart()),
@@ -148,13 +150,13 @@ fn numbers() {
 #[test]
 fn answers() {
     let lengths = ["write_frame", "take", "request", "send", "rot::write"];
-    let kinds = ["read", "step", "lookup", "lookup of a key without a place", "Requester::receive", "rot::read"];
+    let kinds = ["read", "step", "lookup", "lookup of a key without a place", "edition", "Requester::receive", "rot::read"];
     let mut wanted = [&lengths[..], &kinds].concat();
     wanted.sort_unstable();
     let mut found = panicking(0, [u64::MAX; 7]);
     found.sort_unstable();
     assert_eq!(found, wanted);
-    assert_eq!(panicking(0, [65, 0, 0, 0, 0, 0, 0]), ["write_frame", "take", "lookup", "lookup of a key without a place", "request", "send", "rot::read", "rot::write"]);
+    assert_eq!(panicking(0, [65, 0, 0, 0, 0, 0, 0]), ["write_frame", "take", "lookup", "lookup of a key without a place", "edition", "request", "send", "rot::read", "rot::write"]);
     assert_eq!(panicking(0, [0; 7]), ["lookup of a key without a place"]);
 }
 
@@ -165,6 +167,8 @@ fn parts() {
     assert!(has("read", [0, 2, 0, 1, 1, 1, 4124]) && !has("read", [0, 2, 0, 1, 1, 1, 4104]));
     assert!(has("read", [0, 3, 8, 0, 0, 0, 0]) && !has("read", [0, 3, 4, 0, 0, 0, 0]));
     assert!(has("step", [0, 3, 8, 0, 0, 0, 0]) && !has("step", [0, 3, 7, 0, 0, 0, 0]));
+    assert!(has("edition", [3, 0, 0, 0, 0, 0, 0]) && !has("edition", [2, 0, 0, 0, 0, 0, 0]));
+    assert!(has("edition", [0, 1 << 32, 0, 0, 0, 0, 0]) && !has("edition", [0, u32::MAX.into(), 0, 0, 0, 0, 0]));
     assert!(has("Requester::receive", [0, 1, 0, 0, 1, 1, 4124]) && !has("Requester::receive", [0, 1, 0, 0, 1, 1, 4104]));
     assert!(has("rot::read", [1, 10, 0, 0, 0, 0, 0]) && !has("rot::read", [1, 9, 56, 0, 0, 0, 0]));
     assert!(has("rot::read", [1, 9, 57, 0, 0, 0, 0]) && has("rot::read", [2, 0, 65, 0, 0, 0, 0]));

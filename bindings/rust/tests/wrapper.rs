@@ -129,6 +129,23 @@ fn local_calls() {
     assert!(supervisor.signal());
 }
 
+#[test]
+fn editions() {
+    let mut storage = SupervisorStorage::new();
+    let mut supervisor = Supervisor::start_in(&mut storage, &UNIT);
+    assert_eq!([0, 1, 2, 5, 6, 255].map(|key| supervisor.edition(key)), [Ok(0), Ok(0), Ok(0), Err(NotFound::NoValue), Err(NotFound::BadKey), Err(NotFound::BadKey)]);
+    for edition in 1..=3 {
+        assert_eq!(reply(&mut supervisor, &[], &request(edition, 0x10, b"\x05list")), (0x0c, vec![0]));
+        assert_eq!(supervisor.lookup(5, 4).map(|found| (found.edition, found.value)), Ok((edition as u32, &b"list"[..])));
+    }
+    let mut room = [0; LONGEST_FRAME];
+    supervisor.receive(&[], write_frame(2, 4, 0x0e, &[5], &[4, 0], &mut room).unwrap());
+    let (version, _, command, data) = message(supervisor.take(&mut [0; MOST_PENDING]));
+    assert_eq!((version, command, data), (2, 0x0a, b"\0\x03\0\0\0list".to_vec()));
+    supervisor.restart(&UNIT);
+    assert_eq!(supervisor.edition(5), Err(NotFound::NoValue));
+}
+
 /// The supervisor's parts, started and lent to the C functions themselves, and a supervisor in storage of the wrapper.
 struct Both<'s> {
     parts: [Vec<u8>; 5],
@@ -163,7 +180,7 @@ impl Both<'_> {
         self.supervisor.receive(&[], piece);
     }
 
-    /// Every lookup and both records, as the library copies them out and as the wrapper hands them out.
+    /// Every lookup, edition and both records, as the library copies them out and as the wrapper hands them out.
     fn compare(&self) {
         let [_, _, factory, settings, registers] = &self.parts;
         for (key, maxresponse) in (0..=255).flat_map(|key| [0, 3, 4, 5, 8, 64, 256, 1000, 4095, u16::MAX].map(|most| (key, most))) {
@@ -180,6 +197,19 @@ impl Both<'_> {
                 Ok(value) => assert_eq!((value, 0), (&room[..answer[1] as usize], answer[0]), "key {key}, {maxresponse}"),
                 Err(result) => assert_eq!(u64::from(result.number()), answer[0], "key {key}, {maxresponse}"),
             }
+        }
+        for key in 0..=255 {
+            let mut answer = [0; 2];
+            // SAFETY: each pointer is valid for the length behind it, and what is written overlaps nothing else.
+            let number = unsafe {
+                raw::oatcastle_edition(
+                    factory.as_ptr(), factory.len(), settings.as_ptr(), settings.len(), key, answer.as_mut_ptr(), answer.len(),
+                )
+            };
+            assert_eq!(number, 0);
+            let told = self.supervisor.edition(key);
+            assert_eq!(told, self.supervisor.lookup(key, u16::MAX).map(|found| found.edition), "key {key}");
+            assert_eq!(told.map_or_else(|result| [result.number().into(), 0], |edition| [0, edition.into()]), answer, "key {key}");
         }
         let copies = [raw::oatcastle_boot_failure, raw::oatcastle_panic];
         for (copy, record) in copies.into_iter().zip([self.supervisor.boot_failure_record(), self.supervisor.panic_record()]) {

@@ -6,7 +6,7 @@ use mathlib.Core.List.{List, [], _∷_}
 use mathlib.Core.Option.{Option, none, some}
 use Prim.Native.Nat.{ℕ, zero, suc, _+_, _-_, _^_, _≤_, _<_}
 use native.Mathlib.Omega.{arith}
-use lib.Dec.{leb, eqb}
+use lib.Dec.{leb}
 use lib.ListN.{length, take, drop, getD, length-drop, drop-of-length-le}
 use lib.Seq.{take-all, drop-drop}
 use borrow.Author.Tests.{not-true, not-false, ne-eqb}
@@ -15,16 +15,15 @@ use Rattle.octets.proofs.Conditions.{cond-by}
 use Rattle.octets.proofs.Each.{each-run}
 use Rattle.octets.proofs.Numbers.{length-bytes, number-small}
 use Rattle.line.specs.Limits.{longest-data}
-use Rattle.line.specs.Judge.{Verdict, failure, good}
 use Rattle.line.specs.Reader as LineReader
 use Rattle.supervisor.specs.Valid.{validFactory}
 use Rattle.supervisor.specs.Calls.{Parts}
-use Rattle.requests.specs.Requests.{known, lengthAllowed, tested}
+use Rattle.requests.specs.Requests.{Verdict, failure, good, first-version, served, known, lengthAllowed, tested}
 use Rattle.requests.specs.Receive as Receive
 use Rattle.requests.specs.declared.receive.Received.{Received}
 use Rattle.requests.specs.declared.receive.Received.the-variants as received
 use Rattle.requests.proofs.KeptLaws.{answering-valid, carried-valid}
-use Rattle.requests.proofs.StepLaws.{parts-valid, valid-parts, read-valid, data-short, Held, begun, over, valid-step-used, went}
+use Rattle.requests.proofs.StepLaws.{parts-valid, valid-parts, read-valid, data-short, served-small, Held, begun, over, valid-step-used, went}
 use Rattle.counters.specs.declared.Counters.{Counters}
 use Rattle.counters.specs.Count.{bumpedFor, bumpedForAll}
 use Rattle.counters.specs.Counting.{endings, counting}
@@ -49,24 +48,25 @@ module _ (image f : List ℕ) (i : Receive.Inner) (factory : validFactory f ≡ 
   abbrev Stays : Verdict → Type 0
   Stays v = Receive.validInner (Receive.innerBy image f i v) ≡ true
 
-  failure-stays : (reason : ℕ) (sequence : Option ℕ) → Stays (failure reason sequence)
+  failure-stays : (reason version : ℕ) (sequence : Option ℕ) → Stays (failure reason version sequence)
   unfolding Receive.innerBy
-  failure-stays reason sequence =
-      answering-valid i (Receive.failureHead sequence) 0x02 (bytes 1 reason) valid (rw (length-bytes 1 reason) (omega arith))
+  failure-stays reason version sequence =
+      answering-valid i (Receive.failureHead version sequence) 0x02 (bytes 1 reason) valid (rw (length-bytes 1 reason) (omega arith))
 
   message-stays : (version sequence command : ℕ) (d : List ℕ) → length d ≤ longest-data → Each Byte d
       → Stays (tested (Receive.messageBy version sequence command d))
   unfolding tested Receive.innerBy
   message-stays version sequence command d short h =
-      by (not (eqb version 1)) (leb (2 ^ 63) sequence) (not (known command)) (not (lengthAllowed command (length d)))
+      by (served version) (leb (2 ^ 63) sequence) (not (known command)) (not (lengthAllowed command (length d))) refl
     where
-      by : (a b c e : Bool) → Stays (cond a (failure 5 (some sequence)) (cond b (failure 6 (some sequence)) (cond c (failure 3 none)
-          (cond e (failure 7 (some sequence)) (good (Receive.messageBy version sequence command d))))))
-      by true b c e = failure-stays 5 (some sequence)
-      by false true c e = failure-stays 6 (some sequence)
-      by false false true e = failure-stays 3 none
-      by false false false true = failure-stays 7 (some sequence)
-      by false false false false = carried-valid image f i sequence d factory valid short (number-small 1 0 d h) command
+      by : (a b c e : Bool) → served version ≡ a → Stays (cond (not a) (failure 5 first-version (some sequence)) (cond b (failure 6 version (some sequence))
+          (cond c (failure 3 first-version none) (cond e (failure 7 version (some sequence)) (good (Receive.messageBy version sequence command d))))))
+      by false b c e k = failure-stays 5 first-version (some sequence)
+      by true true c e k = failure-stays 6 version (some sequence)
+      by true false true e k = failure-stays 3 first-version none
+      by true false false true k = failure-stays 7 version (some sequence)
+      by true false false false k =
+          carried-valid image f i version sequence d (served-small version k) factory valid short (number-small 1 0 d h) command
 
   answer-stays : (reader : List ℕ) → Each Byte reader → (a : LineReader.Report)
       → Receive.validInner (Receive.innerAfter image f i (Receive.verdictOf reader a)) ≡ true
@@ -74,7 +74,7 @@ module _ (image f : List ℕ) (i : Receive.Inner) (factory : validFactory f ≡ 
   answer-stays reader h (LineReader.refused n) = valid
   answer-stays reader h LineReader.more = valid
   answer-stays reader h LineReader.empty = valid
-  answer-stays reader h (LineReader.failed reason sequence) = failure-stays reason sequence
+  answer-stays reader h (LineReader.failed reason sequence) = failure-stays reason first-version sequence
   answer-stays reader h (LineReader.message version sequence command n) =
       message-stays version sequence command (LineReader.dataOf reader n) (data-short reader n) (data-byte reader n h)
 

@@ -7,13 +7,14 @@ use mathlib.Core.Option.{Option, none, some}
 use Prim.Native.Nat.{ℕ, _+_, _^_, _≤_, min}
 use native.Mathlib.Nat.{zero-add}
 use native.Mathlib.Omega.{arith}
-use lib.Dec.{leb, ltb, eqb}
+use lib.Dec.{leb, ltb}
 use lib.ListN.{length}
 use borrow.Author.Tests.{ltb-true, ltb-false}
 use Rattle.octets.proofs.Conditions.{cond-by}
 use Rattle.line.specs.Message.{Message}
-use Rattle.line.specs.Judge.{Verdict, failure, good, sequenceOf, fields, decoded, wrongLength, wrongChecksum, wrongMagic, judgeForm, judge}
-use Rattle.requests.specs.Requests.{known, lengthAllowed, tested, testedWhere, verdict}
+use Rattle.line.specs.Judge as Line
+use Rattle.line.specs.Judge.{sequenceOf, fields, decoded, wrongLength, wrongChecksum, wrongMagic, judgeForm, judge}
+use Rattle.requests.specs.Requests.{Verdict, failure, good, served, first-version, known, lengthAllowed, tested, testedWhere, verdict}
 use Rattle.requests.specs.Receive.{Ended, endedBy}
 use Rattle.counters.specs.declared.Counters.{Counters}
 use Rattle.counters.specs.Count.{most-counted, frameEnded, oneMore, raised, isGood, isEmpty, isReason, zeros, bumpedFor, bumpedForAll, howMany, tallyOf}
@@ -98,10 +99,10 @@ Once v = bumps (endedBy v) ≡ 1
 tested-once : (m : Message) → Once (tested m)
 unfolding tested
 tested-once m =
-    by (not (eqb (m .version) 1)) (leb (2 ^ 63) (m .sequence)) (not (known (m .command))) (not (lengthAllowed (m .command) (length (m .payload))))
+    by (not (served (m .version))) (leb (2 ^ 63) (m .sequence)) (not (known (m .command))) (not (lengthAllowed (m .command) (length (m .payload))))
   where
-    by : (a b c d : Bool) → Once (cond a (failure 5 (some (m .sequence))) (cond b (failure 6 (some (m .sequence))) (cond c (failure 3 none)
-        (cond d (failure 7 (some (m .sequence))) (good m)))))
+    by : (a b c d : Bool) → Once (cond a (failure 5 first-version (some (m .sequence))) (cond b (failure 6 (m .version) (some (m .sequence)))
+        (cond c (failure 3 first-version none) (cond d (failure 7 (m .version) (some (m .sequence))) (good m)))))
     by true b c d = refl
     by false true c d = refl
     by false false true d = refl
@@ -112,8 +113,8 @@ verdict-once : (form : List ℕ) → Once (verdict form)
 unfolding verdict judge judgeForm
 verdict-once form = by-form (decoded form)
   where
-    by : (a b c : Bool) (xs : List ℕ) → Once (testedWhere (cond a (failure 3 none) (cond b (failure 2 (some (sequenceOf xs)))
-        (cond c (failure 4 (some (sequenceOf xs))) (good (fields xs))))))
+    by : (a b c : Bool) (xs : List ℕ) → Once (testedWhere (cond a (Line.failure 3 none) (cond b (Line.failure 2 (some (sequenceOf xs)))
+        (cond c (Line.failure 4 (some (sequenceOf xs))) (Line.good (fields xs))))))
     by true b c xs = refl
     by false true c xs = refl
     by false false true xs = refl

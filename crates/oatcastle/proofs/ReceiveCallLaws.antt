@@ -6,10 +6,9 @@ use mathlib.Core.List.{List, []}
 use Prim.Native.Nat.{ℕ, _≤_, _<_}
 use lib.ListN.{length}
 use Rattle.octets.proofs.Conditions.{cond-by}
-use Rattle.line.specs.Judge.{Verdict, failure, good}
 use Rattle.line.specs.Reader as LineReader
 use Rattle.supervisor.specs.Calls.{Parts}
-use Rattle.requests.specs.Requests.{tested}
+use Rattle.requests.specs.Requests.{Verdict, failure, good, tested}
 use Rattle.requests.specs.Receive
 use Rattle.requests.specs.Receive.{ended, endedBy, endedReport, fed, validParts, validStep, stepping, receiptReport, receiving}
 use Rattle.requests.specs.declared.receive.Stepped.{Stepped}
@@ -21,7 +20,7 @@ use Rattle.oatcastle.proofs.LineLaws.{Spoken, spoken}
 
 given-verdict : (used : ℕ) (v : Verdict) → Writes 3 (stepGiven used (endedBy v))
 unfolding stepGiven
-given-verdict used (failure reason sequence) = refl
+given-verdict used (failure reason version sequence) = refl
 given-verdict used (good m) = refl
 
 given-step : (used : ℕ) (reader : List ℕ) (a : LineReader.Report) → Spoken a → Writes 3 (stepGiven used (ended reader a))

@@ -42,12 +42,21 @@ optionsCall registers options = registersDone (Calls.settingOptions registers op
 -- ---- Look a key up: the result, and how many bytes the value has, which go to a room
 
 unfoldable pub lookupGiven : Calls.LookupReport → Report
-lookupGiven (Calls.result n k) = given (n ∷ k ∷ [])
+lookupGiven (Calls.LookupReport.result n k) = given (n ∷ k ∷ [])
 lookupGiven (Calls.LookupReport.refused n) = refused n
 
 unfoldable pub lookupCall : List ℕ → List ℕ → ℕ → ℕ → List ℕ → List ℕ → Outcome (List ℕ × List ℕ)
 lookupCall factory settings key most room answer =
     writingBoth (lookupGiven (Calls.lookupResult factory settings key most)) (Calls.lookupValue factory settings key most) room answer
+
+-- ---- The edition of a key: the result, and the edition
+
+unfoldable pub editionGiven : Calls.EditionReport → Report
+editionGiven (Calls.EditionReport.result n edition) = given (n ∷ edition ∷ [])
+editionGiven (Calls.EditionReport.refused n) = refused n
+
+unfoldable pub editionCall : List ℕ → List ℕ → ℕ → List ℕ → Outcome (List ℕ)
+editionCall factory settings key answer = writingAnswer (editionGiven (Calls.editionResult factory settings key)) answer
 
 -- ---- Read the line signal, the two flags, a record
 

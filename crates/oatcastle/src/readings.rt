@@ -3,6 +3,7 @@
 use crate::answer_writing::write_answer;
 use crate::answer_writing::write_both;
 use supervisor::keys;
+use supervisor::keys::EditionFound;
 use supervisor::keys::Found;
 use supervisor::registers::FlagsRead;
 use supervisor::registers::Kind;
@@ -12,7 +13,7 @@ ghost use mathlib.Core.Path.{_≡_};
 ghost use Rattle.supervisor.specs.Calls.{lookupReport, recordReport};
 ghost use Rattle.supervisor.specs.declared.registers.Kind.the-variants.{BootFailure, Panic};
 ghost use Rattle.oatcastle.specs.Answers.{outcome, writingBoth};
-ghost use Rattle.oatcastle.specs.SupervisorCalls.{lookupGiven, lookupCall, signalCall, flagsCall, recordGiven, recordCall};
+ghost use Rattle.oatcastle.specs.SupervisorCalls.{lookupGiven, lookupCall, editionCall, signalCall, flagsCall, recordGiven, recordCall};
 
 // Looks a key up and copies its value.
 #[no_mangle]
@@ -41,6 +42,25 @@ fn answer_value(value: &[u8], found: Found, room: &mut [u8], answer: &mut [u64])
         Found::BadKey => write_both(value, room, [1, 0, 0, 0, 0, 0, 0], 2, answer),
         Found::NoValue => write_both(value, room, [2, 0, 0, 0, 0, 0, 0], 2, answer),
         Found::TooLong => write_both(value, room, [3, 0, 0, 0, 0, 0, 0], 2, answer),
+    }
+}
+
+// The edition of a key.
+#[no_mangle]
+pub extern "C" fn oatcastle_edition(
+    factory: &[u8],
+    settings: &[u8],
+    key: u8,
+    answer: &mut [u64],
+) -> u32
+    ensures { λ r. ⌜ outcome r (now (answer .exit)) ≡ editionCall (now (factory .entry)) (now (settings .entry)) key (now (answer .entry)) ⌝ }
+{
+    let found = keys::edition(factory, settings, key);
+    match found {
+        EditionFound::Refused => 12,
+        EditionFound::Edition(n) => write_answer(answer, [0, n as u64, 0, 0, 0, 0, 0], 2),
+        EditionFound::BadKey => write_answer(answer, [1, 0, 0, 0, 0, 0, 0], 2),
+        EditionFound::NoValue => write_answer(answer, [2, 0, 0, 0, 0, 0, 0], 2),
     }
 }
 

@@ -24,6 +24,7 @@ use Rattle.supervisor.specs.Limits
 use Rattle.supervisor.specs.Layout
 use Rattle.supervisor.specs.Local
 use Rattle.supervisor.specs.Valid.{validOutbox, validFactory, validSettings, validAlert, validRegisters}
+use Rattle.supervisor.specs.Calls.{resultNumber, lookupResult, editionNumber, editionResult}
 use Rattle.supervisor.proofs.KeyLaws.{value-short}
 use Rattle.supervisor.proofs.OffsetLaws.{place-within, longest-short, Lies, setting-lies}
 use Rattle.supervisor.proofs.ValidLaws.{all-each, each-all, outbox-valid, valid-outbox, SettingValid, SettingsValid, settings-valid, valid-settings}
@@ -33,7 +34,7 @@ use Rattle.requests.specs.Requests.{clearBit}
 use Rattle.requests.specs.Commands.{Command, commandOf}
 use Rattle.requests.specs.Receive
 use Rattle.requests.proofs.ReceiveLaws.{item-held}
-use Rattle.requests.proofs.TakenLaws.{retaining-held, retained-settled, settled}
+use Rattle.requests.proofs.TakenLaws.{retaining-version, retained-settled, settled}
 
 -- ---- the outbox
 
@@ -303,71 +304,79 @@ fewer-valid r n v h =
     ∙ ap number (moved-run r (w .long) i Layout.alert-action-offset 1 (omega arith) (omega arith)) in
     valid-alert s i (omega arith))))
 
-pub retained-before : (r : List ℕ) (sequence : ℕ) → Layout.registers-length ≤ length r → {from to : ℕ} → to ≤ Layout.retained-offset
-    → Same from to r (Receive.withRetained r sequence)
-unfolding Receive.withRetained
-retained-before r sequence long h = same-before Layout.retained-offset _ r (omega arith) h
+pub retained-before : (r : List ℕ) (version sequence : ℕ) → Layout.registers-length ≤ length r → {from to : ℕ} → to ≤ Layout.retained-offset
+    → Same from to r (Receive.withReply r version sequence)
+unfolding Receive.withReply
+retained-before r version sequence long h = same-before Layout.retained-offset _ r (omega arith) h
 
-module _ (r : List ℕ) (sequence : ℕ) (v : validRegisters r ≡ true) where
-  -- whether a reply is retained
-  retained-held : numberAt 1 (Receive.withRetained r sequence) Layout.retained-offset ≡ 1
-  unfolding Receive.withRetained
-  retained-held = let w = registers-valid r v in retaining-held r sequence _ (omega arith)
+module _ (r : List ℕ) (version sequence : ℕ) (small : version ≤ 2) (v : validRegisters r ≡ true) where
+  retained-version : Layout.retainedVersion (Receive.withReply r version sequence) ≡ version
+  unfolding Receive.withReply
+  retained-version = let w = registers-valid r v in retaining-version r version sequence _ (omega arith) (omega arith)
 
-  pub retained-valid : validRegisters (Receive.withRetained r sequence) ≡ true
+  pub retained-valid : validRegisters (Receive.withReply r version sequence) ≡ true
   retained-valid =
       let w = registers-valid r v in
-      let a = retained-settled r sequence v in
-      let before : Same 0 Layout.retained-offset r (Receive.withRetained r sequence) = retained-before r sequence (w .long) (omega arith) in
-      let held = retained-held in
+      let a = retained-settled r version sequence v in
+      let before : Same 0 Layout.retained-offset r (Receive.withReply r version sequence) = retained-before r version sequence (w .long) (omega arith) in
+      let held = retained-version in
       groups-valid (omega arith) (numbers-kept before w (omega arith)) (flags-kept before w (omega arith)) (failure-kept before w (omega arith))
       (panic-kept before w (omega arith)) (waiting-kept before w (omega arith)) (omega arith)
 
-  pub taken-valid : validRegisters (Receive.withTaken r sequence) ≡ true
+  pub taken-valid : validRegisters (Receive.withTaken r version sequence) ≡ true
   unfolding Receive.withTaken
   taken-valid =
       let w = registers-valid r v in
-      let before : Same 0 Layout.retained-offset r (Receive.withRetained r sequence) = retained-before r sequence (w .long) (omega arith) in
+      let before : Same 0 Layout.retained-offset r (Receive.withReply r version sequence) = retained-before r version sequence (w .long) (omega arith) in
       let count = number-same before 1 Layout.alert-count-offset (omega arith) in
-      status-valid _ (fewer-valid (Receive.withRetained r sequence) (Layout.alertCount r - 1) retained-valid (omega arith)) _
+      status-valid _ (fewer-valid (Receive.withReply r version sequence) (Layout.alertCount r - 1) retained-valid (omega arith)) _
       (taken-small (Layout.statusOf r) (Layout.alertCount r) (w .status))
 
-  pub alert-registers-valid : validRegisters (Receive.alertRegisters r sequence) ≡ true
+  pub alert-registers-valid : validRegisters (Receive.alertRegisters r version sequence) ≡ true
   unfolding Receive.alertRegisters
-  alert-registers-valid = cond-by (λ s. validRegisters s ≡ true) (Receive.isRetained r sequence) r (Receive.withTaken r sequence) (λ _. v) (λ _. taken-valid)
+  alert-registers-valid = cond-by (λ s. validRegisters s ≡ true) (Receive.isRetained r sequence) r (Receive.withTaken r version sequence) (λ _. v) (λ _. taken-valid)
 
 -- ---- the settings
 
-pub length-setting : (v : List ℕ) → length (Layout.settingBytes v) ≡ Layout.setting-value-offset + length v
-length-setting v = simp (length-append, length-bytes) (omega arith)
+pub length-setting : (edition : ℕ) (v : List ℕ) → length (Layout.settingBytes edition v) ≡ Layout.setting-value-offset + length v
+length-setting edition v = simp (length-append, length-bytes) (omega arith)
 
 module _ (s v : List ℕ) (at : ℕ) (room : at + (Layout.setting-value-offset + length v) ≤ length s) where
+  -- one edition on
+  abbrev next : ℕ
+  next = suc (Layout.settingEdition s at)
+
   pub setting-long : length (Receive.withValue s at v) ≡ length s
   unfolding Receive.withValue
-  setting-long = length-overlay at (Layout.settingBytes v) s (omega (arith, length-setting v))
+  setting-long = length-overlay at (Layout.settingBytes next v) s (omega (arith, length-setting next v))
 
   pub setting-before : {from to : ℕ} → to ≤ at → Same from to s (Receive.withValue s at v)
   unfolding Receive.withValue
-  setting-before h = same-before at (Layout.settingBytes v) s (omega arith) h
+  setting-before h = same-before at (Layout.settingBytes next v) s (omega arith) h
 
   pub setting-after : {from to : ℕ} → at + (Layout.setting-value-offset + length v) ≤ from → Same from to s (Receive.withValue s at v)
   unfolding Receive.withValue
-  setting-after h = same-after at (Layout.settingBytes v) s (omega arith) (omega (arith, length-setting v))
+  setting-after h = same-after at (Layout.settingBytes next v) s (omega arith) (omega (arith, length-setting next v))
 
   pub setting-held : Layout.settingHeld (Receive.withValue s at v) at ≡ 1
   unfolding Receive.withValue bytes
   setting-held =
-      ap number (rw add-zero at (overlay-part at 0 1 (Layout.settingBytes v) s (omega arith) (omega (arith, length-setting v)))) ∙ number-bytes 1 1 (omega arith)
+      ap number (rw add-zero at (overlay-part at 0 1 (Layout.settingBytes next v) s (omega arith) (omega (arith, length-setting next v)))) ∙ number-bytes 1 1 (omega arith)
+
+  pub setting-edition : Layout.settingEdition s at < Limits.last-edition → Layout.settingEdition (Receive.withValue s at v) at ≡ next
+  unfolding Receive.withValue bytes
+  setting-edition h =
+      ap number (overlay-part at Layout.setting-edition-offset 4 (Layout.settingBytes next v) s (omega arith) (omega (arith, length-setting next v))) ∙ number-bytes 4 next (omega arith)
 
   pub setting-size : length v < 65536 → Layout.settingLength (Receive.withValue s at v) at ≡ length v
   unfolding Receive.withValue bytes
   setting-size h =
-      ap number (overlay-part at Layout.setting-length-offset 2 (Layout.settingBytes v) s (omega arith) (omega (arith, length-setting v))) ∙ number-bytes 2 (length v) h
+      ap number (overlay-part at Layout.setting-length-offset 2 (Layout.settingBytes next v) s (omega arith) (omega (arith, length-setting next v))) ∙ number-bytes 2 (length v) h
 
   pub setting-value : run (at + Layout.setting-value-offset) (length v) (Receive.withValue s at v) ≡ v
   unfolding Receive.withValue bytes
   setting-value =
-      overlay-part at Layout.setting-value-offset (length v) (Layout.settingBytes v) s (omega arith) (omega (arith, length-setting v)) ∙ take-length v
+      overlay-part at Layout.setting-value-offset (length v) (Layout.settingBytes next v) s (omega arith) (omega (arith, length-setting next v)) ∙ take-length v
 
 -- what stands before its value is the same
 pub setting-kept : {s t : List ℕ} {at most : ℕ} → Same at (at + Layout.setting-value-offset) s t → SettingValid s at most → SettingValid t at most
@@ -404,7 +413,9 @@ module _ (s v : List ℕ) (w : validSettings s ≡ true) where
   -- a value that is not too long is stored
   stored-valid : (at most : ℕ) → (length v ≤ most → validSettings (Receive.withValue s at v) ≡ true) → Left (Receive.storingAt s at most v)
   unfolding Receive.storingAt
-  stored-valid at most f = cond-by Left (ltb most (length v)) _ _ (λ _. w) (λ e. f (ltb-false _ _ e))
+  stored-valid at most f =
+      cond-by Left (ltb most (length v)) _ _ (λ _. w) (λ e.
+      cond-by Left (eqb (Layout.settingEdition s at) Limits.last-edition) _ _ (λ _. w) (λ _. f (ltb-false _ _ e)))
 
   pub storing-valid : (key : ℕ) → validSettings (Receive.storing s key v .settings) ≡ true
   unfolding Receive.storing
@@ -426,10 +437,21 @@ block-short f image d =
     cond-by (λ l. length l ≤ Limits.longest-block) (equal (run 0 32 d) (run Layout.hash-offset 32 f)) _ []
     (λ _. run-short (numberAt 8 d 32) Limits.longest-block Limits.longest-block image (omega arith)) (λ _. omega arith)
 
--- the result and the value of a key
-pub value-data-short : (f s d : List ℕ) → validFactory f ≡ true → validSettings s ≡ true → length (Receive.valueBytes f s d) ≤ 1 + Limits.longest-value
+-- the result, in version 2 the edition, and the value of a key
+pub head-short : (version result edition : ℕ) → length (Receive.valueHead version result edition) ≤ 5
+unfolding Receive.valueHead
+head-short version result edition =
+    cond-by (λ l. length (bytes 1 result ++ l) ≤ 5) (Receive.carriesEdition version result) (bytes 4 edition) []
+    (λ _. simp (length-append, length-bytes) (omega arith)) (λ _. simp (length-append, length-bytes) (omega arith))
+
+pub value-data-short : (version : ℕ) (f s d : List ℕ) → validFactory f ≡ true → validSettings s ≡ true
+    → length (Receive.valueBytes version f s d) ≤ 5 + Limits.longest-value
 unfolding Receive.valueBytes
-value-data-short f s d v w = simp (length-append, length-bytes) (omega (arith, value-short f s (numberAt 1 d 0) (numberAt 2 d 1) v w))
+value-data-short version f s d v w =
+    let key = numberAt 1 d 0 in
+    let most = numberAt 2 d 1 in
+    simp length-append
+    (omega (arith, head-short version (resultNumber (lookupResult f s key most)) (editionNumber (editionResult f s key)), value-short f s key most v w))
 
 pub item-short : (f : List ℕ) (index : ℕ) → validFactory f ≡ true → length (Receive.itemBytes f index) ≤ Layout.item-data-length-offset + Limits.longest-item-data
 unfolding Receive.itemBytes
@@ -446,11 +468,11 @@ item-short f index v =
     (λ _. omega arith)
 
 -- the action and the text of an alert
-pub alert-data-short : (r : List ℕ) (sequence : ℕ) → validRegisters r ≡ true
-    → length (Receive.retainedData (Receive.alertRegisters r sequence)) ≤ 1 + Limits.longest-alert
-alert-data-short r sequence v =
-    let s = Receive.alertRegisters r sequence in
-    let a = settled r sequence v {s = s} refl in
+pub alert-data-short : (r : List ℕ) (version sequence : ℕ) → validRegisters r ≡ true
+    → length (Receive.retainedData (Receive.alertRegisters r version sequence)) ≤ 1 + Limits.longest-alert
+alert-data-short r version sequence v =
+    let s = Receive.alertRegisters r version sequence in
+    let a = settled r version sequence v {s = s} refl in
     run-short (Layout.retained-alert-offset + Layout.alert-action-offset) (1 + Layout.alertTextLength s Layout.retained-alert-offset) (1 + Limits.longest-alert) s (omega arith)
 
 -- a reply with data that a message may have, and with one byte
@@ -499,13 +521,13 @@ acknowledged-valid i reply r v h =
     let w = inner-valid i v in
     changed-valid _ _ _ _ (w .outbox) (reply-short reply 0x01 [] (omega arith)) (w .settings) h
 
-pub silently-valid : (i : Receive.Inner) (r : List ℕ) → Receive.validInner i ≡ true → validRegisters r ≡ true → Receive.validInner (Receive.noReply i r) ≡ true
+pub unanswered-valid : (i : Receive.Inner) (r : List ℕ) → Receive.validInner i ≡ true → validRegisters r ≡ true → Receive.validInner (Receive.noReply i r) ≡ true
 unfolding Receive.noReply
-silently-valid i r v h =
+unanswered-valid i r v h =
     let w = inner-valid i v in
     changed-valid _ [] _ _ (w .outbox) (omega arith) (w .settings) h
 
-module _ (image f : List ℕ) (i : Receive.Inner) (sequence : ℕ) (d : List ℕ) (g : validFactory f ≡ true) (v : Receive.validInner i ≡ true)
+module _ (image f : List ℕ) (i : Receive.Inner) (version sequence : ℕ) (d : List ℕ) (small : version ≤ 2) (g : validFactory f ≡ true) (v : Receive.validInner i ≡ true)
     (short : length d ≤ longest-data) (byte : numberAt 1 d 0 < 256) where
   abbrev w : InnerValid i
   w = inner-valid i v
@@ -513,15 +535,15 @@ module _ (image f : List ℕ) (i : Receive.Inner) (sequence : ℕ) (d : List ℕ
   abbrev r : List ℕ
   r = i .registers
 
-  command-valid : (x : Command) → Receive.validInner (Receive.leftBy x image f i sequence d) ≡ true
+  command-valid : (x : Command) → Receive.validInner (Receive.leftBy x image f i version sequence d) ≡ true
   unfolding Receive.leftBy Receive.keySetAnswered Receive.alertAnswered
-  command-valid Command.reboot = silently-valid i _ v (asked-valid r (w .registers) Layout.reboot-offset (omega arith))
-  command-valid Command.power-off = silently-valid i _ v (asked-valid r (w .registers) Layout.power-off-offset (omega arith))
+  command-valid Command.reboot = unanswered-valid i _ v (asked-valid r (w .registers) Layout.reboot-offset (omega arith))
+  command-valid Command.power-off = unanswered-valid i _ v (asked-valid r (w .registers) Layout.power-off-offset (omega arith))
   command-valid Command.bsu = answering-valid i _ 0x03 _ v (run-short Layout.bsu-offset 1 longest-data f (omega arith))
   command-valid Command.identity = answering-valid i _ 0x04 _ v (run-short Layout.identity-offset 26 longest-data f (omega arith))
   command-valid Command.mac = answering-valid i _ 0x05 _ v (run-short Layout.mac-offset 9 longest-data f (omega arith))
   command-valid Command.boot-failure =
-      silently-valid i _ v (boot-failure-valid r (numberAt 1 d 0) (drop 1 d) (w .registers) byte (omega (arith, length-drop 1 d)))
+      unanswered-valid i _ v (boot-failure-valid r (numberAt 1 d 0) (drop 1 d) (w .registers) byte (omega (arith, length-drop 1 d)))
   command-valid Command.panic =
       acknowledged-valid i _ _ v (panic-valid r (numberAt 2 d 0) (drop 2 d) (w .registers) (omega (arith, length-drop 2 d)))
   command-valid Command.status = answering-valid i _ 0x06 _ v (run-short Layout.status-offset 16 longest-data r (omega arith))
@@ -529,17 +551,17 @@ module _ (image f : List ℕ) (i : Receive.Inner) (sequence : ℕ) (d : List ℕ
       let s = registers-valid r (w .registers) in
       acknowledged-valid i _ _ v (status-valid r (w .registers) _ (omega (arith, clear-small (Layout.statusOf r) 0)))
   command-valid Command.alert =
-      changed-valid _ _ _ _ (w .outbox) (reply-short _ 0x07 _ (omega (arith, alert-data-short r sequence (w .registers)))) (w .settings) (alert-registers-valid r sequence (w .registers))
+      changed-valid _ _ _ _ (w .outbox) (reply-short _ 0x07 _ (omega (arith, alert-data-short r version sequence (w .registers)))) (w .settings) (alert-registers-valid r version sequence small (w .registers))
   command-valid Command.image-block = answering-valid i _ 0x09 _ v (omega (arith, block-short f image d))
-  command-valid Command.key-lookup = answering-valid i _ 0x0a _ v (omega (arith, value-data-short f (i .settings) d g (w .settings)))
+  command-valid Command.key-lookup = answering-valid i _ 0x0a _ v (omega (arith, value-data-short version f (i .settings) d g (w .settings)))
   command-valid Command.inventory = answering-valid i _ 0x0b _ v (omega (arith, item-short f (numberAt 4 d 0) g))
   command-valid Command.key-set =
       changed-valid _ _ _ _ (w .outbox) (byte-reply-short _ 0x0c _) (storing-valid (i .settings) (drop 1 d) (w .settings) (numberAt 1 d 0)) (w .registers)
 
-  pub carried-valid : (command : ℕ) → Receive.validInner (Receive.carriedInner image f i sequence command d) ≡ true
+  pub carried-valid : (command : ℕ) → Receive.validInner (Receive.carriedInner image f i version sequence command d) ≡ true
   unfolding Receive.carriedInner
   carried-valid command = by (commandOf command)
     where
-      by : (o : Option Command) → Receive.validInner (Receive.leftWhere o image f i sequence d) ≡ true
+      by : (o : Option Command) → Receive.validInner (Receive.leftWhere o image f i version sequence d) ≡ true
       by none = v
       by (some x) = command-valid x

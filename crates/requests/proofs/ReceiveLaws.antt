@@ -1,7 +1,7 @@
 -- Laws of what a valid request is answered: data that fit a reply, and the choices that the stores settle.
 -- Assumes nothing.
-use mathlib.Core.Path.{_≡_, sym, ap, _∙_}
-use mathlib.Core.Bool.{Bool, true, false, not}
+use mathlib.Core.Path.{_≡_, refl, sym, ap, _∙_}
+use mathlib.Core.Bool.{Bool, true, false, cond, not}
 use mathlib.Core.List.{List, [], _∷_, _++_}
 use Prim.Native.Nat.{ℕ, _+_, _-_, _≤_, _<_}
 use native.Mathlib.Nat.{add-sub-cancel-left}
@@ -9,8 +9,9 @@ use native.Mathlib.Omega.{arith}
 use lib.Dec.{eqb}
 use lib.ListN.{length, take, drop, replicate, length-take}
 use borrow.Author.Tests.{not-true, not-false, leb-true, lt-ltb, le-ltb}
-use Rattle.octets.specs.Bytes.{run, numberAt, equal, sameRun}
-use Rattle.octets.proofs.Conditions.{cond-by}
+use Rattle.octets.specs.Bytes.{bytes, run, numberAt, overlay, put, equal, sameRun}
+use Rattle.octets.proofs.Conditions.{cond-by, cond-both}
+use Rattle.octets.proofs.Numbers.{one-byte}
 use Rattle.octets.proofs.Equal.{equal-true, equal-refl, sameRun-true, sameRun-equal}
 use Rattle.octets.proofs.Overlay.{length-run}
 use Rattle.supervisor.specs.Limits
@@ -18,7 +19,7 @@ use Rattle.supervisor.specs.Layout
 use Rattle.supervisor.specs.Valid.{goodItem, validFactory}
 use Rattle.requests.specs.Commands.{numberOf, lengthRight, withNumber, commandOf}
 use Rattle.requests.specs.Requests.{lengthAllowed}
-use Rattle.requests.specs.Receive.{itemDataLength, itemBytes, blockBytes}
+use Rattle.requests.specs.Receive.{carriesEdition, valueHead, itemDataLength, itemBytes, blockBytes}
 use Rattle.supervisor.proofs.ValidLaws.{alike, all-each, item-good, factory-valid}
 
 -- ---- the data of a valid request are long enough for its command
@@ -34,6 +35,25 @@ panic-long command n e h = leb-true 2 n (rw h at e)
 pub key-set-long : (command n : ℕ) → lengthAllowed command n ≡ true → command ≡ 0x10 → 1 ≤ n
 unfolding lengthAllowed commandOf withNumber numberOf lengthRight
 key-set-long command n e h = leb-true 1 n (rw h at e)
+
+-- ---- a lookup
+
+edition-put : (result edition : ℕ) → put 1 (bytes 4 edition) (result ∷ 0 ∷ 0 ∷ 0 ∷ 0 ∷ []) ≡ result ∷ bytes 4 edition
+unfolding put overlay bytes
+edition-put result edition = refl
+
+edition-all : {result : ℕ} (edition : ℕ) → take 5 (result ∷ bytes 4 edition) ≡ result ∷ bytes 4 edition
+unfolding bytes
+edition-all edition = refl
+
+-- what stands ahead of the value
+pub value-head : (version result edition : ℕ) {n : ℕ} {h : List ℕ} → result < 256 → n ≡ cond (carriesEdition version result) 5 1
+    → h ≡ put 1 (bytes 4 edition) (result ∷ 0 ∷ 0 ∷ 0 ∷ 0 ∷ []) → take (n - 0) h ≡ valueHead version result edition
+unfolding valueHead
+value-head version result edition {n} small e f =
+    let k : n - 0 ≡ n = omega arith in
+    rw (k, f, e, one-byte result small, edition-put result edition)
+    (cond-both (λ n bs. take n (result ∷ bytes 4 edition) ≡ result ∷ bs) (carriesEdition version result) (λ _. edition-all edition) (λ _. refl))
 
 -- ---- an item
 

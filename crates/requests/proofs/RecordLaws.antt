@@ -4,15 +4,16 @@ use mathlib.Core.Path.{_≡_, refl, ap, _∙_}
 use mathlib.Core.List.{List, [], _∷_, _++_, append-assoc}
 use Prim.Native.Nat.{ℕ, zero, suc, _+_, _-_, min, _≤_, _<_}
 use native.Mathlib.Nat.{min-zero, suc-min-suc}
+use native.Mathlib.Numerals.{add-one}
 use native.Mathlib.Omega.{arith}
-use borrow.Author.Tests.{lt-ltb, le-ltb}
+use borrow.Author.Tests.{lt-ltb, le-ltb, eq-eqb, ne-eqb}
 use lib.ListN.{length, take, drop, set, length-append, length-drop}
 use lib.Seq.{take-nil, take-length}
 use Rattle.octets.specs.Bytes.{bytes, run, overlay, put, copied}
 use Rattle.octets.proofs.Numbers.{length-bytes, one-byte}
 use Rattle.octets.proofs.Overlay.{length-overlay, overlay-one, overlay-next, put-fits, copied-fits}
-use Rattle.supervisor.specs.Limits.{most-kept}
-use Rattle.supervisor.specs.Layout.{registers-length, panic-offset, record-code-offset, record-whole-offset, record-kept-offset, setting-length-offset, setting-value-offset}
+use Rattle.supervisor.specs.Limits.{most-kept, last-edition}
+use Rattle.supervisor.specs.Layout.{registers-length, panic-offset, record-code-offset, record-whole-offset, record-kept-offset, setting-edition-offset, setting-length-offset, setting-value-offset, settingEdition}
 use Rattle.requests.specs.Receive.{withRecord, withValue, keyStored, storingAt}
 
 -- ---- bytes put, and more behind them
@@ -36,12 +37,12 @@ number-stored k at s {v} h e f =
     let n = length-bytes k v in
     f ∙ put-fits at (bytes k v) s (omega arith) ∙ rw e
 
--- a mark that there is something, and a number behind it
-pub marked : (k v at : ℕ) (s : List ℕ) → at + 1 + k ≤ length s → put (at + 1) (bytes k v) (set s at 1) ≡ overlay at (bytes 1 1 ++ bytes k v) s
-marked k v at s h = rw (overlay-one at 1 s (omega arith), one-byte 1 (omega arith)) (next-number at (at + 1) (1 ∷ []) s refl k v h)
+-- a byte that marks what is there, and a number behind it
+pub marked : (m k v at : ℕ) (s : List ℕ) → m < 256 → at + 1 + k ≤ length s → put (at + 1) (bytes k v) (set s at m) ≡ overlay at (bytes 1 m ++ bytes k v) s
+marked m k v at s small h = rw (overlay-one at m s (omega arith), one-byte m small) (next-number at (at + 1) (m ∷ []) s refl k v h)
 
-pub length-marked : (k v : ℕ) → length (bytes 1 1 ++ bytes k v) ≡ 1 + k
-length-marked k v = simp (length-append, length-bytes)
+pub length-marked : (m k v : ℕ) → length (bytes 1 m ++ bytes k v) ≡ 1 + k
+length-marked m k v = simp (length-append, length-bytes)
 
 -- as many bytes as there are, up to a bound
 take-least : (n : ℕ) (l : List ℕ) → take (min (length l) n) l ≡ take n l
@@ -57,7 +58,7 @@ pub record-put : (r d : List ℕ) (at code from : ℕ) {whole kept : ℕ} {s t u
 unfolding withRecord
 record-put r d at code from {whole} {kept} low long l w k f g h =
     let head = bytes 1 1 ++ bytes 2 code in
-    let a = length-marked 2 code in
+    let a = length-marked 1 2 code in
     let b : length (head ++ bytes 2 whole) ≡ record-kept-offset = simp (length-append, length-bytes) in
     let m = length-drop from d in
     let n : whole ≡ length (drop from d) = omega arith in
@@ -65,7 +66,7 @@ record-put r d at code from {whole} {kept} low long l w k f g h =
       h,
       g,
       f,
-      marked 2 code at r (omega arith),
+      marked 1 2 code at r (omega arith) (omega arith),
       next-number at (at + record-whole-offset) head r (omega arith) 2 whole (omega arith),
       next-run at (at + record-kept-offset) (head ++ bytes 2 whole) r (omega arith) d from kept (omega arith) (omega arith),
       k,
@@ -81,21 +82,34 @@ module _ (s d : List ℕ) (at most : ℕ) where
   unfolding storingAt
   value-long h = rw (length-drop 1 d, lt-ltb most (length d - 1) h)
 
-  pub value-put : {t u : List ℕ} → 1 ≤ length d → length d - 1 ≤ most → at + (setting-value-offset + most) ≤ length s
-      → t ≡ put (at + setting-length-offset) (bytes 2 (length d - 1)) (set s at 1) → u ≡ copied d 1 (length d - 1) t (at + setting-value-offset)
-      → keyStored 0 u ≡ storingAt s at most (drop 1 d)
-  unfolding storingAt withValue
-  value-put one short l f g =
-      let n = length (drop 1 d) in
-      let a = length-marked 2 n in
-      let e = length-drop 1 d in
-      rw (
-        g,
-        f,
-        ← e,
-        le-ltb most n (omega arith),
-        marked 2 n at s (omega arith),
-        next-run at (at + setting-value-offset) (bytes 1 1 ++ bytes 2 n) s (omega arith) d 1 n (omega arith) (omega arith),
-        take-length,
-        append-assoc,
-      )
+  -- by the edition that was read
+  module _ {edition : ℕ} (short : length d - 1 ≤ most) (e : edition ≡ settingEdition s at) where
+    pub edition-last : edition ≡ last-edition → keyStored 4 s ≡ storingAt s at most (drop 1 d)
+    unfolding storingAt
+    edition-last f = rw (length-drop 1 d, le-ltb most (length d - 1) short, ← e, eq-eqb edition last-edition f)
+
+    pub value-put : {t u v : List ℕ} → 1 ≤ length d → at + (setting-value-offset + most) ≤ length s → (edition ≡ last-edition → ⊥)
+        → t ≡ put (at + setting-edition-offset) (bytes 4 (edition + 1)) (set s at 1) → u ≡ put (at + setting-length-offset) (bytes 2 (length d - 1)) t
+        → v ≡ copied d 1 (length d - 1) u (at + setting-value-offset) → keyStored 0 v ≡ storingAt s at most (drop 1 d)
+    unfolding storingAt withValue
+    value-put one l o f g h =
+        let n = length (drop 1 d) in
+        let k = length-drop 1 d in
+        let head = bytes 1 1 ++ bytes 4 (edition + 1) in
+        let a = length-marked 1 4 (edition + 1) in
+        let b : length (head ++ bytes 2 n) ≡ setting-value-offset = simp (length-append, length-bytes) in
+        rw (
+          h,
+          g,
+          f,
+          ← k,
+          le-ltb most n (omega arith),
+          ← e,
+          ne-eqb edition last-edition o,
+          marked 1 4 (edition + 1) at s (omega arith) (omega arith),
+          next-number at (at + setting-length-offset) head s (omega arith) 2 n (omega arith),
+          next-run at (at + setting-value-offset) (head ++ bytes 2 n) s (omega arith) d 1 n (omega arith) (omega arith),
+          take-length,
+          add-one,
+        )
+        (simp append-assoc)

@@ -1,26 +1,25 @@
 -- Laws of a turn: the reader's state stays valid, what a frame comes to by its verdict, and what is left of a piece.
 -- Assumes nothing.
 use mathlib.Core.Path.{_≡_, refl, ap, _∙_}
-use mathlib.Core.Bool.{true, false, cond, and-eq-true-iff}
+use mathlib.Core.Bool.{Bool, true, false, cond, and-eq-true-iff}
 use mathlib.Core.List.{List, [], _∷_}
 use mathlib.Core.Option.{Option, none, some}
 use Prim.Native.Nat.{ℕ, zero, suc, _+_, _-_, _^_, _≤_, _<_, zero-le}
 use native.Mathlib.Omega.{arith}
-use lib.Dec.{ltb}
+use lib.Dec.{ltb, eqb}
 use lib.ListN.{length, take, drop, length-drop, length-take, drop-of-length-le}
 use lib.Seq.{take-all, drop-drop}
-use borrow.Author.Tests.{ltb-false, ne-eqb, eq-eqb, le-leb, lt-leb}
+use borrow.Author.Tests.{ltb-false, ne-eqb, eqb-true, le-leb, lt-leb}
 use Rattle.octets.specs.Bytes.{bytes, run, numberAt}
 use Rattle.octets.proofs.Conditions.{cond-by}
 use Rattle.octets.proofs.Numbers.{length-bytes}
 use Rattle.line.specs.Limits.{longest-data}
-use Rattle.line.specs.Judge.{Verdict, failure, good}
 use Rattle.line.specs.Reader as LineReader
 use Rattle.line.proofs.State.{Ready, valid-ready, ready-valid, ready-pushed}
 use Rattle.line.proofs.Held.{finish-leaves}
 use Rattle.supervisor.specs.Valid.{validFactory}
 use Rattle.supervisor.specs.Calls.{Parts, parts}
-use Rattle.requests.specs.Requests.{protocol-version, known, lengthAllowed, tested}
+use Rattle.requests.specs.Requests.{Verdict, failure, good, first-version, second-version, served, known, lengthAllowed, tested}
 use Rattle.requests.specs.Commands.{Command, commandOf}
 use Rattle.requests.specs.Receive
 use Rattle.requests.specs.declared.receive.Received.the-variants as received
@@ -96,78 +95,93 @@ module _ (version sequence command : ℕ) (d : List ℕ) where
   abbrev Tested : Verdict → Type 0
   Tested v = tested (Receive.messageBy version sequence command d) ≡ v
 
-  pub other-version : (version ≡ protocol-version → ⊥) → Tested (failure 5 (some sequence))
+  pub other-version : served version ≡ false → Tested (failure 5 first-version (some sequence))
   unfolding tested
-  other-version h = rw (ne-eqb version protocol-version h)
+  other-version h = rw h
 
-  module _ (a : version ≡ protocol-version) where
-    pub top-bit-set : 2 ^ 63 ≤ sequence → Tested (failure 6 (some sequence))
+  module _ (a : served version ≡ true) where
+    pub top-bit-set : 2 ^ 63 ≤ sequence → Tested (failure 6 version (some sequence))
     unfolding tested
-    top-bit-set h = rw (eq-eqb version protocol-version a, le-leb (2 ^ 63) sequence h)
+    top-bit-set h = rw (a, le-leb (2 ^ 63) sequence h)
 
     module _ (b : sequence < 2 ^ 63) where
-      pub command-unknown : known command ≡ false → Tested (failure 3 none)
+      pub command-unknown : known command ≡ false → Tested (failure 3 first-version none)
       unfolding tested
-      command-unknown h = rw (eq-eqb version protocol-version a, lt-leb (2 ^ 63) sequence b, h)
+      command-unknown h = rw (a, lt-leb (2 ^ 63) sequence b, h)
 
       module _ (c : known command ≡ true) where
-        pub length-wrong : lengthAllowed command (length d) ≡ false → Tested (failure 7 (some sequence))
+        pub length-wrong : lengthAllowed command (length d) ≡ false → Tested (failure 7 version (some sequence))
         unfolding tested
-        length-wrong h = rw (eq-eqb version protocol-version a, lt-leb (2 ^ 63) sequence b, c, h)
+        length-wrong h = rw (a, lt-leb (2 ^ 63) sequence b, c, h)
 
         pub passed-all : lengthAllowed command (length d) ≡ true → Tested (good (Receive.messageBy version sequence command d))
         unfolding tested
-        passed-all h = rw (eq-eqb version protocol-version a, lt-leb (2 ^ 63) sequence b, c, h)
+        passed-all h = rw (a, lt-leb (2 ^ 63) sequence b, c, h)
+
+-- a version that is served is 1 or 2
+pub served-small : (version : ℕ) → served version ≡ true → version ≤ 2
+served-small version e = by (eqb version first-version) refl
+  where
+    by : (t : Bool) → eqb version first-version ≡ t → version ≤ 2
+    by true f = omega (arith, eqb-true version first-version f)
+    by false f = omega (arith, eqb-true version second-version (rw f at e))
 
 -- what a frame's verdict comes to: how the frame ended, the parts that may change, and that they are valid
 abbrev pub Judged : List ℕ → List ℕ → Receive.Inner → Verdict → Receive.Ended → Receive.Inner → Type 0
 Judged image f i v g j = (g ≡ Receive.endedBy v) × ((j ≡ Receive.innerBy image f i v) × (Receive.validInner j ≡ true))
 
 -- by a call of `fail`
-pub judged-failure : (image f o s r : List ℕ) (reason : ℕ) (sequence : Option ℕ) {v : Verdict} {h : Receive.Head} {g : Receive.Ended} {o' : List ℕ}
-    → Receive.validInner (Receive.inner o s r) ≡ true → v ≡ failure reason sequence → h ≡ Receive.failureHead sequence
+pub judged-failure : (image f o s r : List ℕ) (reason version : ℕ) (sequence : Option ℕ) {v : Verdict} {h : Receive.Head} {g : Receive.Ended} {o' : List ℕ}
+    → Receive.validInner (Receive.inner o s r) ≡ true → v ≡ failure reason version sequence → h ≡ Receive.failureHead version sequence
     → (g ≡ Receive.Ended.failed reason) × (o' ≡ Receive.sentBox (Receive.replyBytes h 0x02 (bytes 1 reason)) o)
     → Judged image f (Receive.inner o s r) v g (Receive.inner o' s r)
 unfolding Receive.innerBy Receive.answering
-judged-failure image f o s r reason sequence valid e n w =
-    let k = answering-valid (Receive.inner o s r) (Receive.failureHead sequence) 0x02 (bytes 1 reason) valid (rw (length-bytes 1 reason) (omega arith)) in
+judged-failure image f o s r reason version sequence valid e n w =
+    let k = answering-valid (Receive.inner o s r) (Receive.failureHead version sequence) 0x02 (bytes 1 reason) valid (rw (length-bytes 1 reason) (omega arith)) in
     rw (e, w .1, n) (w .0, (refl, k))
 
 -- by a call of `carry`
 pub judged-good : (image f : List ℕ) (i : Receive.Inner) (version sequence command : ℕ) (d : List ℕ) {v : Verdict} {j : Receive.Inner}
     → v ≡ good (Receive.messageBy version sequence command d)
-    → (j ≡ Receive.carriedInner image f i sequence command d) × (Receive.validInner j ≡ true)
+    → (j ≡ Receive.carriedInner image f i version sequence command d) × (Receive.validInner j ≡ true)
     → Judged image f i v Receive.Ended.request j
 unfolding Receive.innerBy
 judged-good image f i version sequence command d e w = rw e (refl, w)
 
 -- a request without a reply
-pub silently-by : (i : Receive.Inner) {o r : List ℕ} (registers : List ℕ) → (o ≡ Receive.sentBox [] (i .outbox)) × (r ≡ registers)
+pub unanswered-by : (i : Receive.Inner) {o r : List ℕ} (registers : List ℕ) → (o ≡ Receive.sentBox [] (i .outbox)) × (r ≡ registers)
     → Receive.inner o (i .settings) r ≡ Receive.noReply i registers
 unfolding Receive.noReply
-silently-by i registers f = rw (f .0, f .1)
+unanswered-by i registers f = rw (f .0, f .1)
 
 -- one that is answered alone, or acknowledged, by what the code has for its reply's head
-pub answered-by : (i : Receive.Inner) (sequence command : ℕ) (payload : List ℕ) {h : Receive.Head} {o : List ℕ} → h ≡ Receive.replyHead sequence
+pub answered-by : (i : Receive.Inner) (version sequence command : ℕ) (payload : List ℕ) {h : Receive.Head} {o : List ℕ} → h ≡ Receive.replyHead version sequence
     → o ≡ Receive.sentBox (Receive.replyBytes h command payload) (i .outbox)
-    → Receive.inner o (i .settings) (i .registers) ≡ Receive.answering i (Receive.replyHead sequence) command payload
+    → Receive.inner o (i .settings) (i .registers) ≡ Receive.answering i (Receive.replyHead version sequence) command payload
 unfolding Receive.answering
-answered-by i sequence command payload e f = rw (f, e)
+answered-by i version sequence command payload e f = rw (f, e)
 
-pub acknowledged-by : (i : Receive.Inner) (sequence : ℕ) (registers : List ℕ) {h : Receive.Head} {o r : List ℕ} → h ≡ Receive.replyHead sequence
+-- a lookup's, by the version in that head
+pub looked-by : (i : Receive.Inner) (version sequence : ℕ) (f d : List ℕ) {h : Receive.Head} {o : List ℕ} → h ≡ Receive.replyHead version sequence
+    → o ≡ Receive.sentBox (Receive.replyBytes h 0x0a (Receive.valueBytes (h .version) f (i .settings) d)) (i .outbox)
+    → Receive.inner o (i .settings) (i .registers) ≡ Receive.answering i (Receive.replyHead version sequence) 0x0a (Receive.valueBytes version f (i .settings) d)
+unfolding Receive.answering
+looked-by i version sequence f d e g = rw (g, e)
+
+pub acknowledged-by : (i : Receive.Inner) (version sequence : ℕ) (registers : List ℕ) {h : Receive.Head} {o r : List ℕ} → h ≡ Receive.replyHead version sequence
     → (o ≡ Receive.sentBox (Receive.replyBytes h 0x01 []) (i .outbox)) × (r ≡ registers)
-    → Receive.inner o (i .settings) r ≡ Receive.acknowledged i (Receive.replyHead sequence) registers
+    → Receive.inner o (i .settings) r ≡ Receive.acknowledged i (Receive.replyHead version sequence) registers
 unfolding Receive.acknowledged
-acknowledged-by i sequence registers e f = rw (f .0, f .1, e)
+acknowledged-by i version sequence registers e f = rw (f .0, f .1, e)
 
 -- what its command leaves is what a valid request does, and valid; n is the first byte of its data
-pub carried-both : (image f : List ℕ) (i : Receive.Inner) (sequence command : ℕ) (d : List ℕ) {n : ℕ} {j : Receive.Inner}
-    → validFactory f ≡ true → Receive.validInner i ≡ true → length d ≤ longest-data → (n ≡ numberAt 1 d 0) × (n < 256)
-    → (o : Option Command) → commandOf command ≡ o → j ≡ Receive.leftWhere o image f i sequence d
-    → (j ≡ Receive.carriedInner image f i sequence command d) × (Receive.validInner j ≡ true)
+pub carried-both : (image f : List ℕ) (i : Receive.Inner) (version sequence command : ℕ) (d : List ℕ) {n : ℕ} {j : Receive.Inner}
+    → served version ≡ true → validFactory f ≡ true → Receive.validInner i ≡ true → length d ≤ longest-data → (n ≡ numberAt 1 d 0) × (n < 256)
+    → (o : Option Command) → commandOf command ≡ o → j ≡ Receive.leftWhere o image f i version sequence d
+    → (j ≡ Receive.carriedInner image f i version sequence command d) × (Receive.validInner j ≡ true)
 unfolding Receive.carriedInner
-carried-both image f i sequence command d v w h b o c e =
-    let k = carried-valid image f i sequence d v w h (rw (b .0) at (b .1)) command in
+carried-both image f i version sequence command d t v w h b o c e =
+    let k = carried-valid image f i version sequence d (served-small version t) v w h (rw (b .0) at (b .1)) command in
     rw (c, e) (refl, rw c at k)
 
 -- ---- an answer of the reader
@@ -179,11 +193,11 @@ Settled image f i reader a g j =
 
 -- by a call of `fail`
 pub settled-failure : (image f o s r reader : List ℕ) (reason : ℕ) (sequence : Option ℕ) {a : LineReader.Report} {h : Receive.Head} {g : Receive.Ended} {o' : List ℕ}
-    → Receive.validInner (Receive.inner o s r) ≡ true → a ≡ LineReader.failed reason sequence → h ≡ Receive.failureHead sequence
+    → Receive.validInner (Receive.inner o s r) ≡ true → a ≡ LineReader.failed reason sequence → h ≡ Receive.failureHead first-version sequence
     → (g ≡ Receive.Ended.failed reason) × (o' ≡ Receive.sentBox (Receive.replyBytes h 0x02 (bytes 1 reason)) o)
     → Settled image f (Receive.inner o s r) reader a g (Receive.inner o' s r)
 unfolding Receive.ended Receive.innerAfter Receive.verdictOf
-settled-failure image f o s r reader reason sequence v e n w = rw e (judged-failure image f o s r reason sequence v refl n w)
+settled-failure image f o s r reader reason sequence v e n w = rw e (judged-failure image f o s r reason first-version sequence v refl n w)
 
 -- by a call of `request`
 pub settled-message : (image f : List ℕ) (i : Receive.Inner) (reader : List ℕ) (version sequence command n : ℕ)

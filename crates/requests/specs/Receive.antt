@@ -1,6 +1,6 @@
 -- What a received byte does to the lent parts, and what the calls that receive answer and leave.
 -- Assumes nothing: these are definitions.
-use mathlib.Core.Bool.{Bool, cond, _&&_}
+use mathlib.Core.Bool.{Bool, cond, not, _&&_}
 use mathlib.Core.List.{List, [], _∷_, _++_}
 use mathlib.Core.Option.{Option, none, some}
 use Prim.Native.Nat.{ℕ, suc, _+_, _-_, _*_}
@@ -9,7 +9,6 @@ use lib.ListN.{length, take, drop, replicate}
 use Rattle.octets.specs.Bytes.{bytes, run, numberAt, overlay, equal}
 use Rattle.line.specs.Message.{Message}
 use Rattle.line.specs.Frame.{frame}
-use Rattle.line.specs.Judge.{Verdict, failure, good}
 use Rattle.line.specs.Reader as LineReader
 use Rattle.supervisor.specs.Limits
 use Rattle.supervisor.specs.Layout
@@ -17,7 +16,8 @@ use Rattle.supervisor.specs.Number.{topSet}
 use Rattle.supervisor.specs.Valid.{validOutbox, validFactory, validSettings, validRegisters}
 use Rattle.requests.specs.Commands.{Command, commandOf}
 use Rattle.requests.specs.Requests
-use Rattle.supervisor.specs.Calls.{Parts, resultNumber, lookupResult, lookupValue}
+use Rattle.requests.specs.Requests.{Verdict, failure, good}
+use Rattle.supervisor.specs.Calls.{Parts, resultNumber, lookupResult, lookupValue, editionNumber, editionResult}
 use Rattle.requests.specs.declared.head.ReplyHead.{ReplyHead}
 use Rattle.requests.specs.declared.receive.Outcome.{Outcome}
 use Rattle.requests.specs.declared.receive.Outcome.the-variants as outcome
@@ -37,12 +37,12 @@ sentBox bs o =
 abbrev pub Head : Type 0
 Head = ReplyHead
 
--- that of the reply to a request with this sequence, and to a failure with this one or none
-abbrev pub replyHead : ℕ → Head
-replyHead sequence = record { version = Requests.replyVersion; number = record { 0 = topSet sequence } }
+-- that of a reply of this version to a request with this sequence, and to a failure with this one or none
+abbrev pub replyHead : ℕ → ℕ → Head
+replyHead version sequence = record { version = version; number = record { 0 = topSet sequence } }
 
-abbrev pub failureHead : Option ℕ → Head
-failureHead sequence = record { version = Requests.replyVersion; number = record { 0 = Requests.failureSequence sequence } }
+abbrev pub failureHead : ℕ → Option ℕ → Head
+failureHead version sequence = record { version = version; number = record { 0 = Requests.failureSequence sequence } }
 
 -- a reply's bytes
 abbrev pub replyBytes : Head → ℕ → List ℕ → List ℕ
@@ -83,27 +83,27 @@ withRecord r at code rest =
 abbrev pub retainedData : List ℕ → List ℕ
 retainedData r = run (Layout.retained-alert-offset + Layout.alert-action-offset) (1 + Layout.alertTextLength r Layout.retained-alert-offset) r
 
--- the oldest alert is retained, and the others move down; or action 0 and no text is retained
-unfoldable pub withRetained : List ℕ → ℕ → List ℕ
-withRetained r sequence =
-    overlay Layout.retained-offset (bytes 1 1 ++ (bytes 8 sequence ++ cond (eqb (Layout.alertCount r) 0) (replicate 3 0) (run Layout.alerts-offset Layout.alert-length r))) r
+-- the oldest alert is retained, with the request's version and sequence, and the others move down; or action 0 and no text is retained
+unfoldable pub withReply : List ℕ → ℕ → ℕ → List ℕ
+withReply r version sequence =
+    overlay Layout.retained-offset (bytes 1 version ++ (bytes 8 sequence ++ cond (eqb (Layout.alertCount r) 0) (replicate 3 0) (run Layout.alerts-offset Layout.alert-length r))) r
 
 unfoldable pub movedAlerts : List ℕ → List ℕ
 movedAlerts r = overlay Layout.alerts-offset (run (Layout.alert-offset 1) ((Limits.most-alerts - 1) * Layout.alert-length) r) r
 
-unfoldable pub withTaken : List ℕ → ℕ → List ℕ
-withTaken r sequence =
+unfoldable pub withTaken : List ℕ → ℕ → ℕ → List ℕ
+withTaken r version sequence =
     overlay Layout.status-offset (bytes 8 (cond (leb (Layout.alertCount r) 1) (Requests.clearBit (Layout.statusOf r) 1) (Layout.statusOf r)))
     (overlay Layout.alert-count-offset (bytes 1 (Layout.alertCount r - 1))
-    (movedAlerts (withRetained r sequence)))
+    (movedAlerts (withReply r version sequence)))
 
 -- whether a reply is retained with this sequence
 unfoldable pub isRetained : List ℕ → ℕ → Bool
-isRetained r sequence = eqb (numberAt 1 r Layout.retained-offset) 1 && eqb (numberAt 8 r Layout.retained-sequence-offset) sequence
+isRetained r sequence = not (eqb (Layout.retainedVersion r) 0) && eqb (numberAt 8 r Layout.retained-sequence-offset) sequence
 
 -- the registers after an alert request: as they are where its reply is retained
-unfoldable pub alertRegisters : List ℕ → ℕ → List ℕ
-alertRegisters r sequence = cond (isRetained r sequence) r (withTaken r sequence)
+unfoldable pub alertRegisters : List ℕ → ℕ → ℕ → List ℕ
+alertRegisters r version sequence = cond (isRetained r sequence) r (withTaken r version sequence)
 
 pub record AlertParts : Type 0 where
   pub outbox : List ℕ
@@ -112,9 +112,11 @@ pub record AlertParts : Type 0 where
 abbrev pub alertParts : List ℕ → List ℕ → AlertParts
 alertParts o r = record { outbox = o; registers = r }
 
-unfoldable pub alertAnswered : List ℕ → List ℕ → Head → ℕ → AlertParts
-alertAnswered o r reply sequence =
-    alertParts (sentBox (replyBytes reply 0x07 (retainedData (alertRegisters r sequence))) o) (alertRegisters r sequence)
+-- the retained reply goes out in its own version
+unfoldable pub alertAnswered : List ℕ → List ℕ → ℕ → ℕ → AlertParts
+alertAnswered o r version sequence =
+    let q = alertRegisters r version sequence in
+    alertParts (sentBox (replyBytes (replyHead (Layout.retainedVersion q) sequence) 0x07 (retainedData q)) o) q
 
 -- an item's reply: result, name and type, and its data where the result is 0
 unfoldable pub itemDataLength : List ℕ → ℕ → ℕ
@@ -130,13 +132,22 @@ itemBytes f index =
 unfoldable pub blockBytes : List ℕ → List ℕ → List ℕ → List ℕ
 blockBytes f image d = cond (equal (run 0 32 d) (run Layout.hash-offset 32 f)) (take Limits.longest-block (drop (numberAt 8 d 32) image)) []
 
-unfoldable pub valueBytes : List ℕ → List ℕ → List ℕ → List ℕ
-valueBytes f s d =
-    bytes 1 (resultNumber (lookupResult f s (numberAt 1 d 0) (numberAt 2 d 1))) ++ lookupValue f s (numberAt 1 d 0) (numberAt 2 d 1)
+-- the result, and in version 2 the edition where the result is 0
+abbrev pub carriesEdition : ℕ → ℕ → Bool
+carriesEdition version result = eqb version Requests.second-version && eqb result 0
 
--- the value of a key in its setting
+unfoldable pub valueHead : ℕ → ℕ → ℕ → List ℕ
+valueHead version result edition = bytes 1 result ++ cond (carriesEdition version result) (bytes 4 edition) []
+
+unfoldable pub valueBytes : ℕ → List ℕ → List ℕ → List ℕ → List ℕ
+valueBytes version f s d =
+    let key = numberAt 1 d 0 in
+    let most = numberAt 2 d 1 in
+    valueHead version (resultNumber (lookupResult f s key most)) (editionNumber (editionResult f s key)) ++ lookupValue f s key most
+
+-- the value of a key in its setting, one edition on
 unfoldable pub withValue : List ℕ → ℕ → List ℕ → List ℕ
-withValue s at v = overlay at (Layout.settingBytes v) s
+withValue s at v = overlay at (Layout.settingBytes (suc (Layout.settingEdition s at)) v) s
 
 pub record KeyStored : Type 0 where
   pub result : ℕ
@@ -146,7 +157,10 @@ abbrev pub keyStored : ℕ → List ℕ → KeyStored
 keyStored n s = record { result = n; settings = s }
 
 unfoldable pub storingAt : List ℕ → ℕ → ℕ → List ℕ → KeyStored
-storingAt s at most v = cond (ltb most (length v)) (keyStored 3 s) (keyStored 0 (withValue s at v))
+storingAt s at most v =
+    cond (ltb most (length v)) (keyStored 3 s)
+    (cond (eqb (Layout.settingEdition s at) Limits.last-edition) (keyStored 4 s)
+    (keyStored 0 (withValue s at v)))
 
 unfoldable pub storing : List ℕ → ℕ → List ℕ → KeyStored
 storing s key v =
@@ -166,41 +180,41 @@ keySetAnswered o s reply d =
     let t = storing s (numberAt 1 d 0) (drop 1 d) in
     keySetParts (sentBox (replyBytes reply 0x0c (bytes 1 (t .result))) o) (t .settings)
 
--- ---- A valid request: its command, sequence and data
+-- ---- A valid request: its command, version, sequence and data
 
 -- what each command leaves
-unfoldable pub leftBy : Command → List ℕ → List ℕ → Inner → ℕ → List ℕ → Inner
-leftBy Command.reboot image f i sequence d = noReply i (askedFor (i .registers) Layout.reboot-offset)
-leftBy Command.power-off image f i sequence d = noReply i (askedFor (i .registers) Layout.power-off-offset)
-leftBy Command.bsu image f i sequence d = answering i (replyHead sequence) 0x03 (run Layout.bsu-offset 1 f)
-leftBy Command.identity image f i sequence d = answering i (replyHead sequence) 0x04 (run Layout.identity-offset 26 f)
-leftBy Command.mac image f i sequence d = answering i (replyHead sequence) 0x05 (run Layout.mac-offset 9 f)
-leftBy Command.boot-failure image f i sequence d = noReply i (withRecord (i .registers) Layout.boot-failure-offset (numberAt 1 d 0) (drop 1 d))
-leftBy Command.panic image f i sequence d =
-    acknowledged i (replyHead sequence) (withRecord (i .registers) Layout.panic-offset (numberAt 2 d 0) (drop 2 d))
-leftBy Command.status image f i sequence d = answering i (replyHead sequence) 0x06 (run Layout.status-offset 16 (i .registers))
-leftBy Command.start-acknowledged image f i sequence d =
-    acknowledged i (replyHead sequence) (overlay Layout.status-offset (bytes 8 (Requests.clearBit (Layout.statusOf (i .registers)) 0)) (i .registers))
-leftBy Command.alert image f i sequence d =
-    let a = alertAnswered (i .outbox) (i .registers) (replyHead sequence) sequence in inner (a .outbox) (i .settings) (a .registers)
-leftBy Command.image-block image f i sequence d = answering i (replyHead sequence) 0x09 (blockBytes f image d)
-leftBy Command.key-lookup image f i sequence d = answering i (replyHead sequence) 0x0a (valueBytes f (i .settings) d)
-leftBy Command.inventory image f i sequence d = answering i (replyHead sequence) 0x0b (itemBytes f (numberAt 4 d 0))
-leftBy Command.key-set image f i sequence d =
-    let k = keySetAnswered (i .outbox) (i .settings) (replyHead sequence) d in inner (k .outbox) (k .settings) (i .registers)
+unfoldable pub leftBy : Command → List ℕ → List ℕ → Inner → ℕ → ℕ → List ℕ → Inner
+leftBy Command.reboot image f i version sequence d = noReply i (askedFor (i .registers) Layout.reboot-offset)
+leftBy Command.power-off image f i version sequence d = noReply i (askedFor (i .registers) Layout.power-off-offset)
+leftBy Command.bsu image f i version sequence d = answering i (replyHead version sequence) 0x03 (run Layout.bsu-offset 1 f)
+leftBy Command.identity image f i version sequence d = answering i (replyHead version sequence) 0x04 (run Layout.identity-offset 26 f)
+leftBy Command.mac image f i version sequence d = answering i (replyHead version sequence) 0x05 (run Layout.mac-offset 9 f)
+leftBy Command.boot-failure image f i version sequence d = noReply i (withRecord (i .registers) Layout.boot-failure-offset (numberAt 1 d 0) (drop 1 d))
+leftBy Command.panic image f i version sequence d =
+    acknowledged i (replyHead version sequence) (withRecord (i .registers) Layout.panic-offset (numberAt 2 d 0) (drop 2 d))
+leftBy Command.status image f i version sequence d = answering i (replyHead version sequence) 0x06 (run Layout.status-offset 16 (i .registers))
+leftBy Command.start-acknowledged image f i version sequence d =
+    acknowledged i (replyHead version sequence) (overlay Layout.status-offset (bytes 8 (Requests.clearBit (Layout.statusOf (i .registers)) 0)) (i .registers))
+leftBy Command.alert image f i version sequence d =
+    let a = alertAnswered (i .outbox) (i .registers) version sequence in inner (a .outbox) (i .settings) (a .registers)
+leftBy Command.image-block image f i version sequence d = answering i (replyHead version sequence) 0x09 (blockBytes f image d)
+leftBy Command.key-lookup image f i version sequence d = answering i (replyHead version sequence) 0x0a (valueBytes version f (i .settings) d)
+leftBy Command.inventory image f i version sequence d = answering i (replyHead version sequence) 0x0b (itemBytes f (numberAt 4 d 0))
+leftBy Command.key-set image f i version sequence d =
+    let k = keySetAnswered (i .outbox) (i .settings) (replyHead version sequence) d in inner (k .outbox) (k .settings) (i .registers)
 
-abbrev pub leftWhere : Option Command → List ℕ → List ℕ → Inner → ℕ → List ℕ → Inner
-leftWhere none image f i sequence d = i
-leftWhere (some x) image f i sequence d = leftBy x image f i sequence d
+abbrev pub leftWhere : Option Command → List ℕ → List ℕ → Inner → ℕ → ℕ → List ℕ → Inner
+leftWhere none image f i version sequence d = i
+leftWhere (some x) image f i version sequence d = leftBy x image f i version sequence d
 
-unfoldable pub carriedInner : List ℕ → List ℕ → Inner → ℕ → ℕ → List ℕ → Inner
-carriedInner image f i sequence command d = leftWhere (commandOf command) image f i sequence d
+unfoldable pub carriedInner : List ℕ → List ℕ → Inner → ℕ → ℕ → ℕ → List ℕ → Inner
+carriedInner image f i version sequence command d = leftWhere (commandOf command) image f i version sequence d
 
 -- ---- A frame, by the table's verdict on it
 
 unfoldable pub innerBy : List ℕ → List ℕ → Inner → Verdict → Inner
-innerBy image f i (failure reason sequence) = answering i (failureHead sequence) 0x02 (bytes 1 reason)
-innerBy image f i (good m) = carriedInner image f i (m .sequence) (m .command) (m .payload)
+innerBy image f i (failure reason version sequence) = answering i (failureHead version sequence) 0x02 (bytes 1 reason)
+innerBy image f i (good m) = carriedInner image f i (m .version) (m .sequence) (m .command) (m .payload)
 
 abbrev pub messageBy : ℕ → ℕ → ℕ → List ℕ → Message
 messageBy version sequence command d = record { version = version; sequence = sequence; command = command; payload = d }
@@ -210,7 +224,7 @@ unfoldable pub verdictOf : List ℕ → LineReader.Report → Option Verdict
 verdictOf reader (LineReader.refused n) = none
 verdictOf reader LineReader.more = none
 verdictOf reader LineReader.empty = none
-verdictOf reader (LineReader.failed reason sequence) = some (failure reason sequence)
+verdictOf reader (LineReader.failed reason sequence) = some (failure reason Requests.first-version sequence)
 verdictOf reader (LineReader.message version sequence command n) =
     some (Requests.tested (messageBy version sequence command (LineReader.dataOf reader n)))
 
@@ -266,7 +280,7 @@ endedReport outcome.Request = request
 endedReport (outcome.Failure reason) = Ended.failed reason
 
 abbrev pub endedBy : Verdict → Ended
-endedBy (failure reason sequence) = Ended.failed reason
+endedBy (failure reason version sequence) = Ended.failed reason
 endedBy (good m) = request
 
 unfoldable pub ended : List ℕ → LineReader.Report → Ended

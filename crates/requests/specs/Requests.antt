@@ -1,6 +1,6 @@
 -- What a request earns and does, and what one received byte does (document 01, "Reading a request", "Requests and what they do").
 -- Assumes nothing: these are definitions.
-use mathlib.Core.Bool.{Bool, true, cond, not}
+use mathlib.Core.Bool.{Bool, true, cond, not, _&&_, _||_}
 use mathlib.Core.List.{List, [], _∷_, _++_}
 use mathlib.Core.Option.{Option, none, some}
 use Prim.Native.Nat.{ℕ, zero, suc, _-_, _^_}
@@ -10,17 +10,26 @@ use Rattle.octets.specs.Bytes.{bytes, numberAt, equal, run}
 use Rattle.line.specs.Limits.{longest-form}
 use Rattle.line.specs.Message.{Message}
 use Rattle.line.specs.Frame.{frame}
-use Rattle.line.specs.Judge.{Verdict, failure, good, judge}
-use Rattle.supervisor.specs.Limits.{highest-key, first-setting, longest-setting, most-kept, longest-block}
-use Rattle.supervisor.specs.State.{Item, Factory, Settings, Recorded, Alert, Retained, State}
+use Rattle.line.specs.Judge as Line
+use Rattle.line.specs.Judge.{judge}
+use Rattle.supervisor.specs.Limits.{highest-key, first-setting, longest-setting, last-edition, most-kept, longest-block}
+use Rattle.supervisor.specs.State.{Item, Factory, Settings, setting, Recorded, Alert, Retained, State}
 use Rattle.supervisor.specs.State.{withStatus, withReboot, withPowerOff, withBootFailure, withPanic, withSetting, withSettings, withWaiting, withRetained, withReceived, withPending}
 use Rattle.supervisor.specs.Number.{topSet}
 use Rattle.supervisor.specs.Local.{Found, bit, lookup}
 use Rattle.requests.specs.Commands.{Command, commandOf, isListed, mayHave}
 
--- the version of requests and replies
-abbrev pub protocol-version : ℕ
-protocol-version = 1
+-- ---- Versions (document 02, item 5)
+
+abbrev pub first-version : ℕ
+first-version = 1
+
+-- in which a lookup's reply carries the edition
+abbrev pub second-version : ℕ
+second-version = 2
+
+abbrev pub served : ℕ → Bool
+served version = eqb version first-version || eqb version second-version
 
 -- ---- The tests after the line layer's
 
@@ -31,19 +40,26 @@ known c = isListed (commandOf c)
 unfoldable pub lengthAllowed : ℕ → ℕ → Bool
 lengthAllowed c n = mayHave (commandOf c) n
 
--- what the table makes of a message that the line layer found good: version 5, top bit of the sequence 6, command 3, data length 7
+-- what the whole table makes of a frame: a failure by its reason, the version of its reply, and the request's sequence where the reply carries that; or
+-- the message of a valid request
+pub data Verdict : Type 0 where
+  failure : ℕ → ℕ → Option ℕ → Verdict
+  good : Message → Verdict
+
+-- of a message that the line layer found good: version 5, top bit of the sequence 6, command 3, data length 7. The reply to a failure of reason 1 to 5 has
+-- version 1, to one of reason 6 or 7 the request's
 unfoldable pub tested : Message → Verdict
 tested m =
-    cond (not (eqb (m .version) protocol-version)) (failure 5 (some (m .sequence)))
-    (cond (leb (2 ^ 63) (m .sequence)) (failure 6 (some (m .sequence)))
-    (cond (not (known (m .command))) (failure 3 none)
-    (cond (not (lengthAllowed (m .command) (length (m .payload)))) (failure 7 (some (m .sequence)))
+    cond (not (served (m .version))) (failure 5 first-version (some (m .sequence)))
+    (cond (leb (2 ^ 63) (m .sequence)) (failure 6 (m .version) (some (m .sequence)))
+    (cond (not (known (m .command))) (failure 3 first-version none)
+    (cond (not (lengthAllowed (m .command) (length (m .payload)))) (failure 7 (m .version) (some (m .sequence)))
     (good m))))
 
 -- the whole table, on the bytes before a 00
-abbrev pub testedWhere : Verdict → Verdict
-testedWhere (failure reason sequence) = failure reason sequence
-testedWhere (good m) = tested m
+abbrev pub testedWhere : Line.Verdict → Verdict
+testedWhere (Line.failure reason sequence) = failure reason first-version sequence
+testedWhere (Line.good m) = tested m
 
 unfoldable pub verdict : List ℕ → Verdict
 verdict form = testedWhere (judge form)
@@ -56,10 +72,6 @@ pub record Reply : Type 0 where
   pub command : ℕ
   pub payload : List ℕ
 
--- the version that a reply carries
-abbrev pub replyVersion : ℕ
-replyVersion = protocol-version
-
 abbrev pub all-ones : ℕ
 all-ones = 0xffffffffffffffff
 
@@ -69,20 +81,25 @@ failureSequence none = all-ones
 failureSequence (some sequence) = topSet sequence
 
 -- the reply to a failure
-unfoldable pub failedOf : ℕ → Option ℕ → Reply
-failedOf reason sequence = record { version = replyVersion; sequence = failureSequence sequence; command = 0x02; payload = reason ∷ [] }
+unfoldable pub failedOf : ℕ → ℕ → Option ℕ → Reply
+failedOf reason version sequence = record { version = version; sequence = failureSequence sequence; command = 0x02; payload = reason ∷ [] }
 
--- ---- What a valid request does: the state, and the reply's command and data, or none
+-- ---- What a valid request does: the state, and the reply's version, command and data, or none
+
+pub record Answer : Type 0 where
+  pub version : ℕ
+  pub command : ℕ
+  pub payload : List ℕ
 
 pub record Carried : Type 0 where
   pub state : State
-  pub reply : Option (ℕ × List ℕ)
+  pub reply : Option Answer
 
-abbrev pub noReply : State → Carried
-noReply s = record { state = s; reply = none }
+abbrev pub unanswered : State → Carried
+unanswered s = record { state = s; reply = none }
 
-abbrev pub replied : State → ℕ → List ℕ → Carried
-replied s c bs = record { state = s; reply = some (c, bs) }
+abbrev pub replied : State → ℕ → ℕ → List ℕ → Carried
+replied s version c bs = record { state = s; reply = some (record { version = version; command = c; payload = bs }) }
 
 -- a record keeps its code, the whole length of the rest, and the rest's first 512 bytes
 unfoldable pub recorded : ℕ → List ℕ → Recorded
@@ -93,25 +110,25 @@ clearBit n k = cond (eqb (bit n k) 1) (n - 2 ^ k) n
 
 -- 0x01, 0x02: counted as asked for, the retained alert reply is dropped, no reply; alerts that wait stay (document 02, item 1)
 unfoldable pub reboot : State → Carried
-reboot s = noReply (withRetained (withReboot s true) none)
+reboot s = unanswered (withRetained (withReboot s true) none)
 
 unfoldable pub powerOff : State → Carried
-powerOff s = noReply (withRetained (withPowerOff s true) none)
+powerOff s = unanswered (withRetained (withPowerOff s true) none)
 
 -- 0x06: reason u8, rest free; recorded, no reply
 unfoldable pub bootFailure : State → List ℕ → Carried
-bootFailure s bs = noReply (withBootFailure s (some (recorded (numberAt 1 bs 0) (drop 1 bs))))
+bootFailure s bs = unanswered (withBootFailure s (some (recorded (numberAt 1 bs 0) (drop 1 bs))))
 
 -- 0x07: cause u16, rest free; recorded; acknowledged
-unfoldable pub panicked : State → List ℕ → Carried
-panicked s bs = replied (withPanic s (some (recorded (numberAt 2 bs 0) (drop 2 bs)))) 0x01 []
+unfoldable pub panicked : ℕ → State → List ℕ → Carried
+panicked version s bs = replied (withPanic s (some (recorded (numberAt 2 bs 0) (drop 2 bs)))) version 0x01 []
 
 -- 0x09: clears status bit 0; acknowledged
-unfoldable pub startAcknowledged : State → Carried
-startAcknowledged s = replied (withStatus s (clearBit (s .status) 0)) 0x01 []
+unfoldable pub startAcknowledged : ℕ → State → Carried
+startAcknowledged version s = replied (withStatus s (clearBit (s .status) 0)) version 0x01 []
 
--- 0x0a: the retained reply again where it has the request's sequence; else the oldest alert, or action 0 and no data, which is then retained, and
--- status bit 1 is cleared if none waits
+-- 0x0a: the retained reply again, as first written, where it has the request's sequence; else the oldest alert, or action 0 and no data, which is then
+-- retained with the request's version and sequence, and status bit 1 is cleared if none waits
 abbrev pub alertData : Alert → List ℕ
 alertData a = bytes 1 (a .action) ++ a .text
 
@@ -126,23 +143,27 @@ abbrev pub statusAfter : ℕ → List Alert → ℕ
 statusAfter status [] = clearBit status 1
 statusAfter status (a ∷ rest) = status
 
-unfoldable pub alertTaken : State → ℕ → Carried
-alertTaken s sequence =
+unfoldable pub alertTaken : ℕ → State → ℕ → Carried
+alertTaken version s sequence =
     let rest = others (s .waiting) in
-    let kept : Retained = record { sequence = sequence; alert = oldest (s .waiting) } in
-    replied (withRetained (withWaiting (withStatus s (statusAfter (s .status) rest)) rest) (some kept)) 0x07 (alertData (oldest (s .waiting)))
+    let kept : Retained = record { version = version; sequence = sequence; alert = oldest (s .waiting) } in
+    replied (withRetained (withWaiting (withStatus s (statusAfter (s .status) rest)) rest) (some kept)) version 0x07 (alertData (oldest (s .waiting)))
 
-unfoldable pub alertAsked : State → ℕ → Option Retained → Carried
-alertAsked s sequence none = alertTaken s sequence
-alertAsked s sequence (some r) = cond (eqb (r .sequence) sequence) (replied s 0x07 (alertData (r .alert))) (alertTaken s sequence)
+unfoldable pub alertAsked : ℕ → State → ℕ → Option Retained → Carried
+alertAsked version s sequence none = alertTaken version s sequence
+alertAsked version s sequence (some r) =
+    cond (eqb (r .sequence) sequence) (replied s (r .version) 0x07 (alertData (r .alert))) (alertTaken version s sequence)
 
 -- 0x0d: up to 4,096 bytes of the image from the offset, none where the hash is not the start data's or the offset is at or past the end
 unfoldable pub block : Factory → List ℕ → List ℕ → List ℕ
 block f image bs = cond (equal (run 0 32 bs) (f .hash)) (take longest-block (drop (numberAt 8 bs 32) image)) []
 
--- 0x0e: the result, and the value where it is 0
-abbrev pub found : State → Found → Carried
-found s f = replied s 0x0a (f .result ∷ f .value)
+-- 0x0e: the result, and the value where it is 0, in version 2 behind its edition
+abbrev pub editionBytes : ℕ → Found → List ℕ
+editionBytes version f = cond (eqb version second-version && eqb (f .result) 0) (bytes 4 (f .edition)) []
+
+abbrev pub found : ℕ → State → Found → Carried
+found version s f = replied s version 0x0a (f .result ∷ (editionBytes version f ++ f .value))
 
 -- 0x0f: out of range result 1, name and type zero, no data; a result other than 0 has no data
 abbrev pub itemData : Item → List ℕ
@@ -157,7 +178,7 @@ unfoldable pub inventoried : Option Item → List ℕ
 inventoried none = 1 ∷ replicate 33 0
 inventoried (some i) = itemData i
 
--- 0x10: an invalid key 1, a read-only one 2, too long 3, else 0 and stored
+-- 0x10: an invalid key 1, a read-only one 2, too long 3, at the last edition 4, else 0 and stored, one edition on
 pub record Stored : Type 0 where
   pub result : ℕ
   pub settings : Settings
@@ -167,33 +188,34 @@ stored s key v =
     cond (ltb highest-key key) (record { result = 1; settings = s })
     (cond (ltb key first-setting) (record { result = 2; settings = s })
     (cond (ltb (longest-setting key) (length v)) (record { result = 3; settings = s })
-    (record { result = 0; settings = withSetting s key v })))
+    (cond (eqb (setting s key .edition) last-edition) (record { result = 4; settings = s })
+    (record { result = 0; settings = withSetting s key (record { edition = suc (setting s key .edition); value = some v }) }))))
 
-unfoldable pub keySet : State → List ℕ → Carried
-keySet s bs =
+unfoldable pub keySet : ℕ → State → List ℕ → Carried
+keySet version s bs =
     let t = stored (s .settings) (numberAt 1 bs 0) (drop 1 bs) in
-    replied (withSettings s (t .settings)) 0x0c (t .result ∷ [])
+    replied (withSettings s (t .settings)) version 0x0c (t .result ∷ [])
 
--- what each command does
+-- what each command does; a reply carries the request's version, but a retained one that is sent again
 unfoldable pub effect : Command → List ℕ → State → Message → Carried
 effect Command.reboot image s m = reboot s
 effect Command.power-off image s m = powerOff s
-effect Command.bsu image s m = replied s 0x03 (bytes 1 (s .factory .bsu))
-effect Command.identity image s m = replied s 0x04 (s .factory .model ++ (bytes 4 (s .factory .revision) ++ s .factory .serial))
-effect Command.mac image s m = replied s 0x05 (s .factory .base ++ (bytes 2 (s .factory .count) ++ bytes 1 (s .factory .stride)))
+effect Command.bsu image s m = replied s (m .version) 0x03 (bytes 1 (s .factory .bsu))
+effect Command.identity image s m = replied s (m .version) 0x04 (s .factory .model ++ (bytes 4 (s .factory .revision) ++ s .factory .serial))
+effect Command.mac image s m = replied s (m .version) 0x05 (s .factory .base ++ (bytes 2 (s .factory .count) ++ bytes 1 (s .factory .stride)))
 effect Command.boot-failure image s m = bootFailure s (m .payload)
-effect Command.panic image s m = panicked s (m .payload)
-effect Command.status image s m = replied s 0x06 (bytes 8 (s .status) ++ bytes 8 (s .options))
-effect Command.start-acknowledged image s m = startAcknowledged s
-effect Command.alert image s m = alertAsked s (m .sequence) (s .retained)
-effect Command.image-block image s m = replied s 0x09 (block (s .factory) image (m .payload))
-effect Command.key-lookup image s m = found s (lookup s (numberAt 1 (m .payload) 0) (numberAt 2 (m .payload) 1))
-effect Command.inventory image s m = replied s 0x0b (inventoried (itemOf (s .factory .items) (numberAt 4 (m .payload) 0)))
-effect Command.key-set image s m = keySet s (m .payload)
+effect Command.panic image s m = panicked (m .version) s (m .payload)
+effect Command.status image s m = replied s (m .version) 0x06 (bytes 8 (s .status) ++ bytes 8 (s .options))
+effect Command.start-acknowledged image s m = startAcknowledged (m .version) s
+effect Command.alert image s m = alertAsked (m .version) s (m .sequence) (s .retained)
+effect Command.image-block image s m = replied s (m .version) 0x09 (block (s .factory) image (m .payload))
+effect Command.key-lookup image s m = found (m .version) s (lookup s (numberAt 1 (m .payload) 0) (numberAt 2 (m .payload) 1))
+effect Command.inventory image s m = replied s (m .version) 0x0b (inventoried (itemOf (s .factory .items) (numberAt 4 (m .payload) 0)))
+effect Command.key-set image s m = keySet (m .version) s (m .payload)
 
 -- a valid request, which has a listed command
 abbrev pub carriedBy : Option Command → List ℕ → State → Message → Carried
-carriedBy none image s m = noReply s
+carriedBy none image s m = unanswered s
 carriedBy (some x) image s m = effect x image s m
 
 unfoldable pub carried : List ℕ → State → Message → Carried
@@ -212,20 +234,20 @@ unfoldable pub sent : State → Option Reply → State
 sent s reply = withPending s (owed (s .terminator-owed) ++ replyFrame reply)
 
 -- the reply to a valid request carries its sequence with the top bit set
-unfoldable pub replyOf : ℕ → Option (ℕ × List ℕ) → Option Reply
+unfoldable pub replyOf : ℕ → Option Answer → Option Reply
 replyOf sequence none = none
-replyOf sequence (some r) = some (record { version = replyVersion; sequence = topSet sequence; command = r .0; payload = r .1 })
+replyOf sequence (some r) = some (record { version = r .version; sequence = topSet sequence; command = r .command; payload = r .payload })
 
 -- ---- One received byte
 
 -- a frame by the table's verdict on it: a valid request is carried out; a failure changes nothing but the receive progress and the pending reply
 unfoldable pub judged : List ℕ → State → Verdict → State
-judged image s (failure reason sequence) = sent s (some (failedOf reason sequence))
+judged image s (failure reason version sequence) = sent s (some (failedOf reason version sequence))
 judged image s (good m) = let c = carried image s m in sent (c .state) (replyOf (m .sequence) (c .reply))
 
 -- the verdict on the bytes since the last 00; none on an empty frame, which is ignored
 abbrev pub verdictSince : Option (List ℕ) → Option Verdict
-verdictSince none = some (failure 1 none)
+verdictSince none = some (failure 1 first-version none)
 verdictSince (some []) = none
 verdictSince (some (b ∷ bs)) = some (verdict (b ∷ bs))
 

@@ -1,6 +1,6 @@
 // An alert request: the retained reply again, or the oldest alert.
 // Assumes valid registers, as each `requires` states.
-use crate::head::ReplyHead;
+use crate::head;
 use crate::sending::send_part;
 use supervisor::layout;
 use supervisor::number::RequestNumber;
@@ -12,20 +12,18 @@ ghost use lib.ListN.{length};
 ghost use Rattle.supervisor.specs.Layout.{outbox-length, registers-length, alertCount};
 ghost use Rattle.supervisor.specs.Valid.{validRegisters};
 ghost use Rattle.requests.specs.Requests.{clearBit};
-ghost use Rattle.requests.specs.Receive.{withRetained, withTaken, isRetained, alertRegisters, alertParts, alertAnswered};
+ghost use Rattle.requests.specs.Receive.{withReply, withTaken, isRetained, alertRegisters, alertParts, alertAnswered};
 
 // An alert request: the retained reply again, or the oldest alert.
-pub(crate) fn alert(
-    outbox: &mut [u8],
-    registers: &mut [u8],
-    reply: ReplyHead,
-    number: RequestNumber,
-)
+pub(crate) fn alert(outbox: &mut [u8], registers: &mut [u8], version: u32, number: RequestNumber)
     requires { ⌜ outbox-length ≤ length (now outbox) ⌝ }
     requires { ⌜ validRegisters (now registers) ≡ true ⌝ }
-    ensures { λ _. ⌜ alertParts (now (outbox .exit)) (now (registers .exit)) ≡ alertAnswered (now (outbox .entry)) (now (registers .entry)) reply (number .0) ⌝ }
+    requires { ⌜ version < 256 ⌝ }
+    ensures { λ _. ⌜ alertParts (now (outbox .exit)) (now (registers .exit)) ≡ alertAnswered (now (outbox .entry)) (now (registers .entry)) version (number .0) ⌝ }
 {
-    settle_alert(registers, number);
+    settle_alert(registers, version, number);
+    let first = octets::read_u8(registers, layout::RETAINED_OFFSET) as u32;
+    let reply = head::head_to(first, number);
     let at = layout::RETAINED_ALERT_OFFSET;
     let n = octets::word_at(registers, at) + 1;
     send_part(
@@ -39,34 +37,36 @@ pub(crate) fn alert(
 }
 
 // The registers after an alert request: as they are where its reply is retained.
-fn settle_alert(registers: &mut [u8], number: RequestNumber)
+fn settle_alert(registers: &mut [u8], version: u32, number: RequestNumber)
     requires { ⌜ validRegisters (now registers) ≡ true ⌝ }
-    ensures { λ _. ⌜ now (registers .exit) ≡ alertRegisters (now (registers .entry)) (number .0) ⌝ }
+    requires { ⌜ version < 256 ⌝ }
+    ensures { λ _. ⌜ now (registers .exit) ≡ alertRegisters (now (registers .entry)) version (number .0) ⌝ }
 {
     if is_retained(registers, number) {
         return;
     }
-    take_alert(registers, number);
+    take_alert(registers, version, number);
 }
 
 fn is_retained(registers: &[u8], number: RequestNumber) -> bool
     ensures { λ r. ⌜ r ≡ isRetained (now (registers .entry)) (number .0) ⌝ }
 {
-    if octets::byte_at(registers, layout::RETAINED_OFFSET) != 1 {
+    if octets::byte_at(registers, layout::RETAINED_OFFSET) == 0 {
         return false;
     }
     let sequence = octets::read_u64(registers, layout::RETAINED_SEQUENCE_OFFSET);
     sequence == number.0
 }
 
-// The oldest alert, or none, is retained with the request's number, and the others move down.
-fn take_alert(registers: &mut [u8], number: RequestNumber)
+// The oldest alert, or none, is retained with the request's version and number, and the others move down.
+fn take_alert(registers: &mut [u8], version: u32, number: RequestNumber)
     requires { ⌜ validRegisters (now registers) ≡ true ⌝ }
-    ensures { λ _. ⌜ now (registers .exit) ≡ withTaken (now (registers .entry)) (number .0) ⌝ }
+    requires { ⌜ version < 256 ⌝ }
+    ensures { λ _. ⌜ now (registers .exit) ≡ withTaken (now (registers .entry)) version (number .0) ⌝ }
 {
     let count = octets::byte_at(registers, layout::ALERT_COUNT_OFFSET);
     let status = octets::read_u64(registers, layout::STATUS_OFFSET);
-    retain(registers, count, number);
+    retain(registers, count, version, number);
     octets::move_down(
         registers,
         layout::ALERTS_OFFSET + layout::ALERT_LENGTH,
@@ -111,13 +111,14 @@ fn without_bit_1(status: u64) -> u64
     }
 }
 
-// The oldest of so many alerts, or action 0 and no text, with the request's number.
-fn retain(registers: &mut [u8], count: usize, number: RequestNumber)
+// The oldest of so many alerts, or action 0 and no text, with the request's version and number.
+fn retain(registers: &mut [u8], count: usize, version: u32, number: RequestNumber)
     requires { ⌜ registers-length ≤ length (now registers) ⌝ }
+    requires { ⌜ version < 256 ⌝ }
     requires { ⌜ count ≡ alertCount (now registers) ⌝ }
-    ensures { λ _. ⌜ now (registers .exit) ≡ withRetained (now (registers .entry)) (number .0) ⌝ }
+    ensures { λ _. ⌜ now (registers .exit) ≡ withReply (now (registers .entry)) version (number .0) ⌝ }
 {
-    registers[layout::RETAINED_OFFSET] = 1;
+    registers[layout::RETAINED_OFFSET] = version as u8;
     octets::write_u64(registers, layout::RETAINED_SEQUENCE_OFFSET, number.0);
     if count == 0 {
         octets::write_u16(registers, layout::RETAINED_ALERT_OFFSET, 0);

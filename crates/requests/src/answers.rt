@@ -1,17 +1,18 @@
 // Requests that change no more than the pending reply.
 // Assumes valid parts, as each `requires` states.
+use crate::head;
 use crate::head::ReplyHead;
 use crate::sending::send;
 use crate::sending::send_part;
 use supervisor::keys;
 use supervisor::layout;
 ghost use mathlib.Core.Path.{_≡_};
-ghost use mathlib.Core.Bool.{true};
+ghost use mathlib.Core.Bool.{true, cond};
 ghost use Prim.Native.Nat.{_≤_, _<_};
 ghost use lib.ListN.{length};
 ghost use Rattle.supervisor.specs.Layout.{outbox-length};
 ghost use Rattle.supervisor.specs.Valid.{validFactory, validSettings};
-ghost use Rattle.requests.specs.Receive.{itemDataLength, itemBytes, blockBytes, valueBytes, sentBox, replyBytes};
+ghost use Rattle.requests.specs.Receive.{itemDataLength, itemBytes, blockBytes, carriesEdition, valueBytes, sentBox, replyBytes};
 
 // A block of the image: hash[32], offset u64.
 pub(crate) fn send_block(
@@ -50,18 +51,34 @@ pub(crate) fn send_value<'a>(
     requires { ⌜ outbox-length ≤ length (now outbox) ⌝ }
     requires { ⌜ validFactory (now factory) ≡ true ⌝ }
     requires { ⌜ validSettings (now settings) ≡ true ⌝ }
-    ensures { λ _. ⌜ now (outbox .exit) ≡ sentBox (replyBytes reply 0x0a (valueBytes (now (factory .entry)) (now (settings .entry)) (now («data» .entry)))) (now (outbox .entry)) ⌝ }
+    ensures { λ _. ⌜ now (outbox .exit) ≡ sentBox (replyBytes reply 0x0a (valueBytes (reply .version) (now (factory .entry)) (now (settings .entry)) (now («data» .entry)))) (now (outbox .entry)) ⌝ }
 {
     let key = octets::read_u8(data, 0);
     let most = octets::read_u16(data, 1);
-    let result = [keys::result_number(factory, settings, key, most)];
+    let result = keys::result_number(factory, settings, key, most);
+    let edition = keys::edition_number(factory, settings, key);
+    let mut head = [result, 0, 0, 0, 0];
+    octets::write_u32(&mut head, 1, edition);
+    let n = head_length(reply.version, result);
     send(
         outbox,
         reply,
         0x0a,
-        &result[0..1],
+        &head[0..n],
         keys::lookup(factory, settings, key, most),
     );
+}
+
+// How many bytes stand ahead of a lookup's value: the result, and in the second version the edition where the result is 0.
+fn head_length(version: u32, result: u8) -> usize
+    ensures { λ r. ⌜ (r ≡ cond (carriesEdition version result) 5 1) × (r ≤ 5) ⌝ }
+{
+    if version == head::SECOND_VERSION {
+        if result == 0 {
+            return 5;
+        }
+    }
+    1
 }
 
 // An inventory item by its index.

@@ -173,7 +173,15 @@ fn settle(
         }
         Answer::BadForm => fail(outbox, head::unnumbered(), 1),
         Answer::BadLength => fail(outbox, head::unnumbered(), 3),
-        Answer::BadChecksum(sequence) => fail(outbox, head::head_to(RequestNumber(sequence)), 2),
-        Answer::BadMagic(sequence) => fail(outbox, head::head_to(RequestNumber(sequence)), 4),
+        Answer::BadChecksum(sequence) => fail(
+            outbox,
+            head::head_to(head::FIRST_VERSION, RequestNumber(sequence)),
+            2,
+        ),
+        Answer::BadMagic(sequence) => fail(
+            outbox,
+            head::head_to(head::FIRST_VERSION, RequestNumber(sequence)),
+            4,
+        ),
     }
 }

@@ -22,7 +22,7 @@ ghost use lib.ListN.{length};
 ghost use Rattle.line.specs.Limits.{longest-data};
 ghost use Rattle.supervisor.specs.Layout.{outbox-length};
 ghost use Rattle.supervisor.specs.Valid.{validFactory};
-ghost use Rattle.requests.specs.Requests.{tested, known, lengthAllowed};
+ghost use Rattle.requests.specs.Requests.{served, tested, known, lengthAllowed};
 ghost use Rattle.requests.specs.Receive.{inner, validInner, carriedInner, innerBy, messageBy, endedBy, endedReport};
 
 // A message that the line layer found good: failure 5, 6, 3 or 7, or what the request does.
@@ -45,10 +45,11 @@ pub(crate) fn request(
     ensures { λ _. ⌜ inner (now (outbox .exit)) (now (settings .exit)) (now (registers .exit)) ≡ innerBy (now (image .entry)) (now (factory .entry)) (inner (now (outbox .entry)) (now (settings .entry)) (now (registers .entry))) (tested (messageBy version (number .0) command (now («data» .entry)))) ⌝ }
     ensures { λ _. ⌜ validInner (inner (now (outbox .exit)) (now (settings .exit)) (now (registers .exit))) ≡ true ⌝ }
 {
-    let reply = head::head_to(number);
-    if version != head::VERSION {
-        return fail(outbox, reply, 5);
+    let first = head::head_to(head::FIRST_VERSION, number);
+    if !is_served(version) {
+        return fail(outbox, first, 5);
     }
+    let reply = head::head_to(version, number);
     if 0x8000000000000000 <= number.0 {
         return fail(outbox, reply, 6);
     }
@@ -63,6 +64,7 @@ pub(crate) fn request(
         image,
         factory,
         data,
+        version,
         number,
         command,
         outbox,
@@ -70,6 +72,15 @@ pub(crate) fn request(
         registers,
     );
     Outcome::Request
+}
+
+fn is_served(version: u32) -> bool
+    ensures { λ r. ⌜ r ≡ served version ⌝ }
+{
+    if version == head::FIRST_VERSION {
+        return true;
+    }
+    version == head::SECOND_VERSION
 }
 
 // Whether a command is among those of document 01.
@@ -115,6 +126,7 @@ fn carry(
     image: &[u8],
     factory: &[u8],
     data: &[u8],
+    version: u32,
     number: RequestNumber,
     command: u8,
     outbox: &mut [u8],
@@ -126,11 +138,12 @@ fn carry(
     requires { ⌜ validInner (inner (now outbox) (now settings) (now registers)) ≡ true ⌝ }
     requires { ⌜ length (now «data») ≤ longest-data ⌝ }
     requires { ⌜ lengthAllowed command (length (now «data»)) ≡ true ⌝ }
-    ensures { λ _. ⌜ inner (now (outbox .exit)) (now (settings .exit)) (now (registers .exit)) ≡ carriedInner (now (image .entry)) (now (factory .entry)) (inner (now (outbox .entry)) (now (settings .entry)) (now (registers .entry))) (number .0) command (now («data» .entry)) ⌝ }
+    requires { ⌜ served version ≡ true ⌝ }
+    ensures { λ _. ⌜ inner (now (outbox .exit)) (now (settings .exit)) (now (registers .exit)) ≡ carriedInner (now (image .entry)) (now (factory .entry)) (inner (now (outbox .entry)) (now (settings .entry)) (now (registers .entry))) version (number .0) command (now («data» .entry)) ⌝ }
     ensures { λ _. ⌜ validInner (inner (now (outbox .exit)) (now (settings .exit)) (now (registers .exit))) ≡ true ⌝ }
 {
     let reason = octets::byte_at(data, 0);
-    let reply = head::head_to(number);
+    let reply = head::head_to(version, number);
     match command {
         0x01 => ask_for(outbox, registers, layout::REBOOT_OFFSET),
         0x02 => ask_for(outbox, registers, layout::POWER_OFF_OFFSET),
@@ -141,7 +154,7 @@ fn carry(
         0x07 => panic(outbox, registers, reply, data),
         0x08 => send_part(outbox, reply, 0x06, registers, layout::STATUS_OFFSET, 16),
         0x09 => start_acknowledged(outbox, registers, reply),
-        0x0a => alert(outbox, registers, reply, number),
+        0x0a => alert(outbox, registers, version, number),
         0x0d => send_block(outbox, reply, factory, image, data),
         0x0e => send_value(outbox, reply, factory, settings, data),
         0x0f => send_item(outbox, reply, factory, octets::read_u32(data, 0) as usize),

@@ -47,7 +47,12 @@ fn store_at(settings: &mut [u8], at: usize, most: usize, data: &[u8]) -> u8
     if most < n {
         return 3;
     }
+    let edition = octets::read_u32(settings, at + layout::SETTING_EDITION_OFFSET);
+    if edition == layout::LAST_EDITION {
+        return 4;
+    }
     settings[at] = 1;
+    octets::write_u32(settings, at + layout::SETTING_EDITION_OFFSET, edition + 1);
     octets::write_u16(settings, at + layout::SETTING_LENGTH_OFFSET, n as u16);
     octets::copy(data, 1, n, settings, at + layout::SETTING_VALUE_OFFSET);
     0

@@ -33,7 +33,7 @@ pub record WaitingValid (r : List ℕ) : Type 0 where
   pub alerts : validAlerts r (Layout.alertCount r) ≡ true
 
 abbrev pub RetainedValid : List ℕ → Type 0
-RetainedValid r = (numberAt 1 r Layout.retained-offset ≤ 1) × (Layout.alertTextLength r Layout.retained-alert-offset ≤ Limits.longest-alert)
+RetainedValid r = (Layout.retainedVersion r ≤ 2) × (Layout.alertTextLength r Layout.retained-alert-offset ≤ Limits.longest-alert)
 
 pub groups-valid : {s : List ℕ} → Layout.registers-length ≤ length s → NumbersValid s → FlagsValid s → FailureValid s → PanicValid s → WaitingValid s
     → RetainedValid s → validRegisters s ≡ true

@@ -14,7 +14,7 @@ use Rattle.supervisor.specs.Limits
 use Rattle.supervisor.specs.Limits.{highest-key}
 use Rattle.supervisor.specs.Layout
 use Rattle.supervisor.specs.Valid.{validFactory, validSettings}
-use Rattle.supervisor.specs.Calls.{settingAt, locationOf, resultAt, lookupResult, within, valueAt, lookupValue}
+use Rattle.supervisor.specs.Calls.{settingAt, locationOf, resultAt, lookupResult, within, valueAt, lookupValue, editionAt, editionResult}
 use Rattle.supervisor.specs.declared.keys.Location.{Location}
 use Rattle.supervisor.proofs.OffsetLaws.{longest-short, settings-key}
 use Rattle.supervisor.proofs.ValidLaws.{FactoryValid, SettingsValid, factory-valid, settings-valid}
@@ -31,6 +31,13 @@ module _
   pub value-found : lookupValue f s key most ≡ valueAt f s most p
   unfolding lookupValue
   value-found = rw (v, le-ltb highest-key key k, e)
+
+-- ---- the edition of a key
+
+pub edition-found : (f s : List ℕ) (key : ℕ) (p : Location) → (validFactory f && validSettings s) ≡ true → key ≤ highest-key → p ≡ locationOf f s key
+    → editionResult f s key ≡ editionAt s key p
+unfolding editionResult
+edition-found f s key p v k e = rw (v, le-ltb highest-key key k, e)
 
 -- ---- a value that is handed out is no longer than the longest key's
 

@@ -249,7 +249,7 @@ pub record RecordsAndAlertsValid (r : List ℕ) : Type 0 where
   pub panic : RecordValid r Layout.panic-offset Limits.longest-panic
   pub count : Layout.alertCount r ≤ Limits.most-alerts
   pub alerts : Valid.validAlerts r (Layout.alertCount r) ≡ true
-  pub retained : numberAt 1 r Layout.retained-offset ≤ 1
+  pub retained : Layout.retainedVersion r ≤ 2
   pub text : Layout.alertTextLength r Layout.retained-alert-offset ≤ Limits.longest-alert
 
 pub records-and-alerts-valid : (r : List ℕ) → Valid.validRecordsAndAlerts r ≡ true → RecordsAndAlertsValid r

@@ -23,6 +23,8 @@ use Rattle.supervisor.specs.declared.options.OptionsSet.{OptionsSet}
 use Rattle.supervisor.specs.declared.options.OptionsSet.the-variants as options-set
 use Rattle.supervisor.specs.declared.keys.Found.{Found}
 use Rattle.supervisor.specs.declared.keys.Found.the-variants as found
+use Rattle.supervisor.specs.declared.keys.EditionFound.{EditionFound}
+use Rattle.supervisor.specs.declared.keys.EditionFound.the-variants as edition-found
 use Rattle.supervisor.specs.declared.keys.Location.{Location}
 use Rattle.supervisor.specs.declared.keys.Location.the-variants as location
 use Rattle.supervisor.specs.declared.registers.SignalRead.{SignalRead}
@@ -219,6 +221,34 @@ lookupResult f s key most =
     cond (validFactory f && validSettings s)
     (cond (ltb Limits.highest-key key) (result 1 0) (resultAt most (locationOf f s key)))
     (refused 12)
+
+-- the result of a key's edition and the edition, or the table's number
+pub data EditionReport : Type 0 where
+  result : ℕ → ℕ → EditionReport
+  refused : ℕ → EditionReport
+
+unfoldable pub editionReport : EditionFound → EditionReport
+editionReport edition-found.Refused = EditionReport.refused 12
+editionReport (edition-found.Edition n) = EditionReport.result 0 n
+editionReport edition-found.BadKey = EditionReport.result 1 0
+editionReport edition-found.NoValue = EditionReport.result 2 0
+
+-- the edition, 0 where none is handed out
+abbrev pub editionNumber : EditionReport → ℕ
+editionNumber (EditionReport.result n edition) = edition
+editionNumber (EditionReport.refused n) = 0
+
+-- a factory key has edition 0, a settings key the one in its setting
+unfoldable pub editionAt : List ℕ → ℕ → Location → EditionReport
+editionAt s key (location.Factory at n) = EditionReport.result 0 0
+editionAt s key (location.Settings at n) = EditionReport.result 0 (Layout.settingEdition s (Layout.setting-offset key))
+editionAt s key location.Nowhere = EditionReport.result 2 0
+
+unfoldable pub editionResult : List ℕ → List ℕ → ℕ → EditionReport
+editionResult f s key =
+    cond (validFactory f && validSettings s)
+    (cond (ltb Limits.highest-key key) (EditionReport.result 1 0) (editionAt s key (locationOf f s key)))
+    (EditionReport.refused 12)
 
 abbrev pub within : ℕ → ℕ → List ℕ → List ℕ
 within most n v = cond (ltb most n) [] v

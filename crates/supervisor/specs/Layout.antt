@@ -92,13 +92,16 @@ itemCount f = numberAt 4 f item-count-offset
 abbrev pub imageIdLength : List ℕ → ℕ
 imageIdLength f = numberAt 1 f image-id-length-offset
 
--- ---- The settings store: for each key whether it has a value, u8, how many bytes, u16, and the bytes.
+-- ---- The settings store: for each key whether it has a value, u8, its edition, u32, how many bytes the value has, u16, and the bytes.
+
+abbrev pub setting-edition-offset : ℕ
+setting-edition-offset = 1
 
 abbrev pub setting-length-offset : ℕ
-setting-length-offset = 1
+setting-length-offset = 5
 
 abbrev pub setting-value-offset : ℕ
-setting-value-offset = 3
+setting-value-offset = 7
 
 -- of settings with these longest values
 abbrev pub settings-size : List ℕ → ℕ
@@ -112,13 +115,16 @@ setting-offset key = settings-size (take (key - first-setting) longest-settings)
 abbrev pub settings-length : ℕ
 settings-length = settings-size longest-settings
 
--- the setting of a key that has the value v
-abbrev pub settingBytes : List ℕ → List ℕ
-settingBytes v = bytes 1 1 ++ (bytes 2 (length v) ++ v)
+-- the setting of a key that has an edition and the value v
+abbrev pub settingBytes : ℕ → List ℕ → List ℕ
+settingBytes edition v = bytes 1 1 ++ (bytes 4 edition ++ (bytes 2 (length v) ++ v))
 
 -- of the setting at an offset
 abbrev pub settingHeld : List ℕ → ℕ → ℕ
 settingHeld s at = numberAt 1 s at
+
+abbrev pub settingEdition : List ℕ → ℕ → ℕ
+settingEdition s at = numberAt 4 s (at + setting-edition-offset)
 
 abbrev pub settingLength : List ℕ → ℕ → ℕ
 settingLength s at = numberAt 2 s (at + setting-length-offset)
@@ -176,7 +182,7 @@ alert-length = alert-text-offset + longest-alert
 abbrev pub alert-offset : ℕ → ℕ
 alert-offset i = alerts-offset + i * alert-length
 
--- whether a reply is retained u8, the request's sequence u64, and its alert
+-- the version of the retained reply u8, 0 where none is retained, its request's sequence u64, and its alert
 abbrev pub retained-offset : ℕ
 retained-offset = alerts-offset + most-alerts * alert-length
 
@@ -197,6 +203,9 @@ optionsOf r = numberAt 8 r options-offset
 
 abbrev pub alertCount : List ℕ → ℕ
 alertCount r = numberAt 1 r alert-count-offset
+
+abbrev pub retainedVersion : List ℕ → ℕ
+retainedVersion r = numberAt 1 r retained-offset
 
 abbrev pub alertTextLength : List ℕ → ℕ → ℕ
 alertTextLength r at = numberAt 2 r at

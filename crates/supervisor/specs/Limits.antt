@@ -41,6 +41,10 @@ longest-setting key = getD longest-settings (key - first-setting) 0
 abbrev pub longest-value : ℕ
 longest-value = 4096
 
+-- the last edition of a setting, the greatest number of 32 bits (document 02, item 5)
+abbrev pub last-edition : ℕ
+last-edition = 4294967295
+
 -- alerts
 abbrev pub most-alerts : ℕ
 most-alerts = 8

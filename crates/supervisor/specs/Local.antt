@@ -8,7 +8,7 @@ use lib.Dec.{leb, ltb, eqb}
 use lib.ListN.{length, take, drop, getD}
 use Rattle.octets.specs.Bytes.{bytes}
 use Rattle.supervisor.specs.Limits.{most-items, longest-item-data, longest-image-id, highest-key, most-alerts, longest-alert, highest-option}
-use Rattle.supervisor.specs.State.{Item, Factory, State, setting, withStatus, withOptions, withWaiting, withPending, withTerminatorOwed, fresh}
+use Rattle.supervisor.specs.State.{Item, Factory, Setting, State, setting, withStatus, withOptions, withWaiting, withPending, withTerminatorOwed, fresh}
 
 -- ---- Start data: refused as 11
 
@@ -60,30 +60,50 @@ optionsAllowed options = atMost highest-option (highest 64 options)
 abbrev pub pong : List ℕ
 pong = 0x70 ∷ 0x6f ∷ 0x6e ∷ 0x67 ∷ []
 
--- the value of a key up to the highest
-unfoldable pub valueOf : State → ℕ → Option (List ℕ)
-valueOf s key =
-    cond (eqb key 0) (some pong)
-    (cond (eqb key 1) (some (s .factory .image-id))
-    (cond (eqb key 2) (some (bytes 4 (length (s .factory .items)) ++ bytes 4 0))
+-- a factory key has edition 0
+abbrev pub factoryValue : List ℕ → Setting
+factoryValue v = record { edition = 0; value = some v }
+
+-- the edition and the value of a key up to the highest
+unfoldable pub entryOf : State → ℕ → Setting
+entryOf s key =
+    cond (eqb key 0) (factoryValue pong)
+    (cond (eqb key 1) (factoryValue (s .factory .image-id))
+    (cond (eqb key 2) (factoryValue (bytes 4 (length (s .factory .items)) ++ bytes 4 0))
     (setting (s .settings) key)))
 
--- a lookup's result, and the value where the result is 0
+-- a lookup's result, and the edition and the value where the result is 0
 pub record Found : Type 0 where
   pub result : ℕ
+  pub edition : ℕ
   pub value : List ℕ
 
 abbrev pub without : ℕ → Found
-without n = record { result = n; value = [] }
+without n = record { result = n; edition = 0; value = [] }
 
--- no value 2, longer than maxresponse 3
-unfoldable pub fitted : ℕ → Option (List ℕ) → Found
-fitted most none = without 2
-fitted most (some v) = cond (ltb most (length v)) (without 3) (record { result = 0; value = v })
+-- no value 2, longer than maxresponse 3: the value alone counts
+unfoldable pub fitted : ℕ → ℕ → Option (List ℕ) → Found
+fitted most edition none = without 2
+fitted most edition (some v) = cond (ltb most (length v)) (without 3) (record { result = 0; edition = edition; value = v })
 
 -- an invalid key 1
 unfoldable pub lookup : State → ℕ → ℕ → Found
-lookup s key most = cond (ltb highest-key key) (without 1) (fitted most (valueOf s key))
+lookup s key most = cond (ltb highest-key key) (without 1) (let x = entryOf s key in fitted most (x .edition) (x .value))
+
+-- the edition of a key, with a lookup's results: an invalid key 1, no value 2
+pub record Edition : Type 0 where
+  pub result : ℕ
+  pub edition : ℕ
+
+abbrev pub editionOf : Setting → Edition
+editionOf x = by (x .value)
+  where
+    by : Option (List ℕ) → Edition
+    by none = record { result = 2; edition = 0 }
+    by (some v) = record { result = 0; edition = x .edition }
+
+unfoldable pub edition : State → ℕ → Edition
+edition s key = cond (ltb highest-key key) (record { result = 1; edition = 0 }) (editionOf (entryOf s key))
 
 -- ---- Alerts, options and sending: the state afterwards
 

@@ -27,15 +27,23 @@ pub record Factory : Type 0 where
   pub image-id : List ℕ
   pub items : List Item
 
--- the settings store: for each of its keys, in their order, the value, or none
+-- a setting: its edition, which counts its successful sets since start (document 02, item 5), and its value, or none
+pub record Setting : Type 0 where
+  pub edition : ℕ
+  pub value : Option (List ℕ)
+
+abbrev pub unset : Setting
+unset = record { edition = 0; value = none }
+
+-- the settings store: the setting of each of its keys, in their order
 abbrev pub Settings : Type 0
-Settings = List (Option (List ℕ))
+Settings = List Setting
 
-abbrev pub setting : Settings → ℕ → Option (List ℕ)
-setting settings key = getD settings (key - first-setting) none
+abbrev pub setting : Settings → ℕ → Setting
+setting settings key = getD settings (key - first-setting) unset
 
-abbrev pub withSetting : Settings → ℕ → List ℕ → Settings
-withSetting settings key value = set settings (key - first-setting) (some value)
+abbrev pub withSetting : Settings → ℕ → Setting → Settings
+withSetting settings key x = set settings (key - first-setting) x
 
 -- a boot failure or a panic: its code, the whole length of the rest, and the rest's first bytes
 pub record Recorded : Type 0 where
@@ -47,8 +55,9 @@ pub record Alert : Type 0 where
   pub action : ℕ
   pub text : List ℕ
 
--- the reply to the last alert request, with that request's sequence
+-- the reply to the last alert request as first written: its version, that request's sequence, and its alert
 pub record Retained : Type 0 where
+  pub version : ℕ
   pub sequence : ℕ
   pub alert : Alert
 
@@ -285,7 +294,7 @@ fresh f = record {
   boot-failure = none;
   panic = none;
   factory = f;
-  settings = replicate setting-count none;
+  settings = replicate setting-count unset;
   waiting = [];
   retained = none;
   received = some [];

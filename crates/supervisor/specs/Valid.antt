@@ -87,7 +87,7 @@ validAlert r i = validText r (Layout.alert-offset i) && leb 1 (Layout.alertActio
 abbrev pub validAlerts : List ℕ → ℕ → Bool
 validAlerts r = all (validAlert r)
 
--- the reason of a boot failure is one byte
+-- the reason of a boot failure is one byte; a reply is retained in version 1 or 2, or none is
 unfoldable pub validRecordsAndAlerts : List ℕ → Bool
 validRecordsAndAlerts r =
     leb (Layout.recordCode r Layout.boot-failure-offset) 255
@@ -95,7 +95,7 @@ validRecordsAndAlerts r =
     && (validRecord r Layout.panic-offset Limits.longest-panic
     && (leb (Layout.alertCount r) Limits.most-alerts
     && (validAlerts r (Layout.alertCount r)
-    && (leb (numberAt 1 r Layout.retained-offset) 1
+    && (leb (Layout.retainedVersion r) 2
     && validText r Layout.retained-alert-offset)))))
 
 -- status has no bit but 0 and 1, and options none above 8

@@ -6,7 +6,7 @@ ghost use mathlib.Core.Path.{_≡_};
 ghost use mathlib.Core.Bool.{_&&_};
 ghost use Prim.Native.Nat.{_<_};
 ghost use Rattle.supervisor.specs.Valid.{validFactory, validSettings};
-ghost use Rattle.supervisor.specs.Calls.{resultNumber, lookupReport, lookupResult, lookupValue, locationOf, settingAt, sized, within};
+ghost use Rattle.supervisor.specs.Calls.{resultNumber, lookupReport, lookupResult, lookupValue, editionReport, editionResult, editionNumber, locationOf, settingAt, sized, within};
 ghost use Rattle.octets.specs.Bytes.{run};
 
 pub enum Found {
@@ -15,6 +15,13 @@ pub enum Found {
     BadKey,
     NoValue,
     TooLong,
+}
+
+pub enum EditionFound {
+    Refused,
+    Edition(u32),
+    BadKey,
+    NoValue,
 }
 
 // Where a key's value lies: from which byte, and how many.
@@ -57,6 +64,38 @@ pub fn lookup_result(factory: &[u8], settings: &[u8], key: u8, most: u16) -> Fou
         Location::Factory(_, n) => size(n, most),
         Location::Settings(_, n) => size(n, most),
         Location::Nowhere => Found::NoValue,
+    }
+}
+
+// The edition of a key that has a value.
+pub fn edition(factory: &[u8], settings: &[u8], key: u8) -> EditionFound
+    ensures { λ r. ⌜ editionReport r ≡ editionResult (now (factory .entry)) (now (settings .entry)) key ⌝ }
+{
+    if !stores_are_valid(factory, settings) {
+        return EditionFound::Refused;
+    }
+    if layout::HIGHEST_KEY < key {
+        return EditionFound::BadKey;
+    }
+    let p = find(factory, settings, key);
+    let at = layout::setting_offset(key) + layout::SETTING_EDITION_OFFSET;
+    match p {
+        Location::Factory(_, _) => EditionFound::Edition(0),
+        Location::Settings(_, _) => EditionFound::Edition(octets::read_u32(settings, at)),
+        Location::Nowhere => EditionFound::NoValue,
+    }
+}
+
+// The edition of a key, 0 where none is handed out.
+pub fn edition_number(factory: &[u8], settings: &[u8], key: u8) -> u32
+    ensures { λ r. ⌜ r ≡ editionNumber (editionResult (now (factory .entry)) (now (settings .entry)) key) ⌝ }
+{
+    let found = edition(factory, settings, key);
+    match found {
+        EditionFound::Refused => 0,
+        EditionFound::Edition(n) => n,
+        EditionFound::BadKey => 0,
+        EditionFound::NoValue => 0,
     }
 }
 

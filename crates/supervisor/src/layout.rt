@@ -26,6 +26,9 @@ pub const LONGEST_KEY_4: usize = 4096;
 // The withdrawn-key list.
 pub const LONGEST_KEY_5: usize = 4096;
 
+// The last edition of a setting.
+pub const LAST_EDITION: u32 = 4294967295;
+
 pub const MOST_ALERTS: usize = 8;
 
 pub const LONGEST_ALERT: usize = 256;
@@ -87,9 +90,11 @@ pub const PONG_OFFSET: usize = INVENTORY_VERSION_OFFSET + 4;
 pub const FACTORY_LENGTH: usize = PONG_OFFSET + 4;
 
 // The settings store.
-pub const SETTING_LENGTH_OFFSET: usize = 1;
+pub const SETTING_EDITION_OFFSET: usize = 1;
 
-pub const SETTING_VALUE_OFFSET: usize = 3;
+pub const SETTING_LENGTH_OFFSET: usize = 5;
+
+pub const SETTING_VALUE_OFFSET: usize = 7;
 
 pub const KEY_4_OFFSET: usize = SETTING_VALUE_OFFSET + LONGEST_KEY_3;
 

@@ -212,7 +212,7 @@ fn records_and_alerts_are_valid(registers: &[u8]) -> bool
     if !alerts_are_valid(registers, count) {
         return false;
     }
-    if 1 < octets::byte_at(registers, layout::RETAINED_OFFSET) {
+    if 2 < octets::byte_at(registers, layout::RETAINED_OFFSET) {
         return false;
     }
     text_is_valid(registers, layout::RETAINED_ALERT_OFFSET)

@@ -5,6 +5,7 @@ use crate::case::Parts;
 use crate::case::first;
 use crate::print;
 use supervisor::alerts::post;
+use supervisor::keys::edition;
 use supervisor::keys::lookup;
 use supervisor::keys::lookup_result;
 use supervisor::options::set_options;
@@ -46,6 +47,16 @@ pub(crate) fn look_up(line: &[u8], parts: Parts) {
         lookup_result(factory, settings, key, most),
         lookup(factory, settings, key, most),
     );
+}
+
+// The edition of a key, by the line's fields.
+pub(crate) fn ask_edition(line: &[u8], parts: Parts) {
+    let factory_bytes = parts.factory;
+    let settings_bytes = parts.settings;
+    let lent = parts.lent;
+    let factory = octets::part(&factory_bytes, 0, lent.factory);
+    let settings = octets::part(&settings_bytes, 0, lent.settings);
+    print::edition(edition(factory, settings, fields::decimal_u8(line, 1)));
 }
 
 // A call that is lent the registers alone, or the line's end.

@@ -3,6 +3,7 @@
 use requests::receive::Outcome;
 use requests::receive::Received;
 use supervisor::alerts::Posted;
+use supervisor::keys::EditionFound;
 use supervisor::keys::Found;
 use supervisor::options::OptionsSet;
 use supervisor::outbox::Taken;
@@ -102,6 +103,19 @@ pub(crate) fn found(a: Found, value: &[u8]) {
         Found::TooLong => result(3),
     }
     bytes(value);
+}
+
+// The result, and the edition of a key that has a value.
+pub(crate) fn edition(a: EditionFound) {
+    match a {
+        EditionFound::Refused => refused(REFUSED),
+        EditionFound::Edition(n) => {
+            result(0);
+            number(n as u64);
+        }
+        EditionFound::BadKey => result(1),
+        EditionFound::NoValue => result(2),
+    }
 }
 
 fn result(n: u64) {

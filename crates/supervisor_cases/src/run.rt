@@ -21,6 +21,10 @@ pub(crate) fn call(line: &[u8], own: Own, parts: Parts) -> Parts {
             local::look_up(line, parts);
             parts
         }
+        b'k' => {
+            local::ask_edition(line, parts);
+            parts
+        }
         b'g' | b'h' => {
             compare(key, own, parts);
             parts

@@ -9,7 +9,6 @@ use lib.Dec.{eqb}
 use lib.ListN as ListN
 use lib.ListN.{length}
 use Rattle.octets.specs.Bytes.{Each, Byte, overlay}
-use Rattle.line.specs.Judge.{Verdict}
 use Rattle.line_claims.specs.Loans.{Loan, lentPart, backPart, enoughPart}
 use Rattle.supervisor.specs.Layout
 use Rattle.supervisor.specs.State.{Recorded, State}
@@ -19,6 +18,7 @@ use Rattle.supervisor.specs.Calls.{Parts}
 use Rattle.supervisor.specs.declared.registers.Kind.{Kind}
 use Rattle.supervisor.specs.declared.registers.Kind.the-variants as kind
 use Rattle.requests.specs.Requests
+use Rattle.requests.specs.Requests.{Verdict}
 use Rattle.requests.specs.Receive
 use Rattle.requests.specs.Receive.{Ended}
 use Rattle.supervisor_claims.specs.ByPart.{Part, is, published, part, partsBy, everyPart}
@@ -36,6 +36,8 @@ pub data LocalCall : Type 0 where
   setOptions : ℕ → LocalCall
   -- key and maxresponse
   lookup : ℕ → ℕ → LocalCall
+  -- key
+  edition : ℕ → LocalCall
   signal : LocalCall
   flags : LocalCall
   readRecord : Kind → LocalCall
@@ -58,6 +60,7 @@ Typed (local (take room)) = Each Byte room
 Typed (local (post action text)) = (action < 256) × Each Byte text
 Typed (local (setOptions options)) = options < 2 ^ 64
 Typed (local (lookup key most)) = (key < 256) × (most < 65536)
+Typed (local (edition key)) = key < 256
 Typed (local signal) = Unit {0}
 Typed (local flags) = Unit {0}
 Typed (local (readRecord k)) = Unit {0}
@@ -72,6 +75,8 @@ pub data Answer : Type 0 where
   moved : ℕ → Answer
   -- the result, and how many bytes were found
   found : ℕ → ℕ → Answer
+  -- the result, and the edition
+  foundEdition : ℕ → ℕ → Answer
   asserted : Bool → Answer
   -- reboot, power off
   asked : Bool → Bool → Answer
@@ -107,6 +112,10 @@ abbrev pub lookupAnswer : Calls.LookupReport → Answer
 lookupAnswer (Calls.LookupReport.result n k) = found n k
 lookupAnswer (Calls.LookupReport.refused n) = refused n
 
+abbrev pub editionAnswer : Calls.EditionReport → Answer
+editionAnswer (Calls.EditionReport.result n k) = foundEdition n k
+editionAnswer (Calls.EditionReport.refused n) = refused n
+
 -- what was read
 abbrev pub readAnswer : {A : Type 0} → (A → Answer) → Calls.ReadReport A → Answer
 readAnswer answer (Calls.ReadReport.is x) = answer x
@@ -124,6 +133,7 @@ did p (local (post action text)) = let c = Calls.posting (p .registers) action t
 did p (local (setOptions options)) = let c = Calls.settingOptions (p .registers) options in didBy (refusal (c .refusal)) [] (withRegisters p (c .registers))
 did p (local (lookup key most)) =
     didBy (lookupAnswer (Calls.lookupResult (p .factory) (p .settings) key most)) (Calls.lookupValue (p .factory) (p .settings) key most) p
+did p (local (edition key)) = didBy (editionAnswer (Calls.editionResult (p .factory) (p .settings) key)) [] p
 did p (local signal) = didBy (readAnswer asserted (Calls.signalOf (p .registers))) [] p
 did p (local flags) = didBy (readAnswer flagsAsked (Calls.flagsOf (p .registers))) [] p
 did p (local (readRecord k)) = didBy (readAnswer recorded (Calls.recordOf (p .registers) k)) (Calls.recordBytes (p .registers) k) p
@@ -176,6 +186,7 @@ meant s (local (take room)) =
 meant s (local (post action text)) = doneMeans s (Local.post s action text)
 meant s (local (setOptions options)) = doneMeans s (Local.setOptions s options)
 meant s (local (lookup key most)) = let f = Local.lookup s key most in means (found (f .result) (length (f .value))) (f .value) s
+meant s (local (edition key)) = let e = Local.edition s key in means (foundEdition (e .result) (e .edition)) [] s
 meant s (local signal) = means (asserted (Local.asserted s)) [] s
 meant s (local flags) = means (asked (s .reboot-asked) (s .power-off-asked)) [] s
 meant s (local (readRecord k)) = recordMeans s (recordKept s k)
@@ -210,6 +221,7 @@ takes (local (take room)) i = is Part.outbox i
 takes (local (post action text)) i = is Part.registers i
 takes (local (setOptions options)) i = is Part.registers i
 takes (local (lookup key most)) i = is Part.factory i || is Part.settings i
+takes (local (edition key)) i = is Part.factory i || is Part.settings i
 takes (local signal) i = is Part.registers i
 takes (local flags) i = is Part.registers i
 takes (local (readRecord k)) i = is Part.registers i
@@ -235,6 +247,7 @@ untouched (local (take room)) = room
 untouched (local (post action text)) = []
 untouched (local (setOptions options)) = []
 untouched (local (lookup key most)) = []
+untouched (local (edition key)) = []
 untouched (local signal) = []
 untouched (local flags) = []
 untouched (local (readRecord k)) = []

@@ -10,7 +10,7 @@ use Rattle.line.specs.Limits as LineLimits
 use Rattle.line.specs.Reader as LineReader
 use Rattle.supervisor.specs.Limits
 use Rattle.supervisor.specs.Layout
-use Rattle.supervisor.specs.State.{Item, Factory, Settings, Recorded, Alert, Retained, State}
+use Rattle.supervisor.specs.State.{Item, Factory, Setting, Settings, Recorded, Alert, Retained, State}
 use Rattle.supervisor.specs.Calls.{Parts, keptOf}
 
 -- the first n values of a function
@@ -44,8 +44,11 @@ factoryOf f = record {
 
 -- ---- the settings store
 
-unfoldable pub settingOf : List ℕ → ℕ → Option (List ℕ)
-settingOf s at = cond (eqb (Layout.settingHeld s at) 1) (some (run (at + Layout.setting-value-offset) (Layout.settingLength s at) s)) none
+unfoldable pub settingOf : List ℕ → ℕ → Setting
+settingOf s at = record {
+  edition = Layout.settingEdition s at;
+  value = cond (eqb (Layout.settingHeld s at) 1) (some (run (at + Layout.setting-value-offset) (Layout.settingLength s at) s)) none;
+}
 
 unfoldable pub settingsOf : List ℕ → Settings
 settingsOf s = listed (λ i. settingOf s (Layout.setting-offset (Limits.first-setting + i))) Limits.setting-count
@@ -63,9 +66,12 @@ alertOf r at = record { action = Layout.alertAction r at; text = run (at + Layou
 
 unfoldable pub retainedOf : List ℕ → Option Retained
 retainedOf r =
-    cond (eqb (numberAt 1 r Layout.retained-offset) 1)
-    (some (record { sequence = numberAt 8 r Layout.retained-sequence-offset; alert = alertOf r Layout.retained-alert-offset }))
-    none
+    cond (eqb (Layout.retainedVersion r) 0) none
+    (some (record {
+      version = Layout.retainedVersion r;
+      sequence = numberAt 8 r Layout.retained-sequence-offset;
+      alert = alertOf r Layout.retained-alert-offset;
+    }))
 
 -- ---- the line reader's part: its bytes since the last 00, none where they are more than a form has
 

@@ -92,6 +92,7 @@ fn calls(supervisor: &mut Supervisor) -> Result<(), Refusal> {
     let mut main = Requester::start_in(REQUESTER.take().expect("taken once"));
     assert_eq!(ask(&mut main, supervisor, 0x10, b"\x03value")?, (0, [0; 8]));
     assert_eq!(supervisor.lookup(3, 256).map(|found| found.value), Ok(&b"value"[..]));
+    assert_eq!(supervisor.edition(3), Ok(1));
     assert_eq!(supervisor.lookup(3, 4), Err(NotFound::TooLong));
     assert_eq!(supervisor.lookup(1, 64).map(|found| found.value), Ok(&b"image"[..]));
     assert_eq!(ask(&mut main, supervisor, 0x0e, &[3, 5, 0])?, (0, *b"value\0\0\0"));

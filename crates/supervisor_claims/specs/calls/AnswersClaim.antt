@@ -1,7 +1,7 @@
 -- The data of replies to requests that change nothing else, on valid parts that hold bytes: they are those that document 01 has, and can be sent.
 -- Assumes nothing.
 use mathlib.Core.Path.{_≡_, refl, sym, _∙_}
-use mathlib.Core.Bool.{Bool, true, false, cond, _&&_}
+use mathlib.Core.Bool.{Bool, true, false, cond, _&&_, and-eq-true-iff}
 use mathlib.Core.List.{List, [], _∷_, _++_, append-assoc}
 use mathlib.Core.Option.{Option, none, some}
 use Prim.Native.Nat.{ℕ, zero, suc, _+_, _≤_, _<_}
@@ -10,11 +10,11 @@ use native.Mathlib.Omega.{arith}
 use lib.Dec.{ltb, eqb}
 use lib.ListN.{length, replicate}
 use borrow.Author.Count.{below-none, below-more}
-use borrow.Author.Tests.{ltb-true, ltb-false}
+use borrow.Author.Tests.{ltb-true, ltb-false, eqb-true}
 use Rattle.octets.specs.Bytes.{Byte, Each, bytes, run, numberAt, equal}
-use Rattle.octets.proofs.Conditions.{cond-by}
+use Rattle.octets.proofs.Conditions.{cond-by, cond-both}
 use Rattle.octets.proofs.Each.{each-append, each-run}
-use Rattle.octets.proofs.Numbers.{one-byte}
+use Rattle.octets.proofs.Numbers.{one-byte, bytes-each}
 use Rattle.octets.proofs.Overlay.{number-run, run-add}
 use Rattle.supervisor.specs.Limits
 use Rattle.supervisor.specs.Layout
@@ -24,13 +24,13 @@ use Rattle.supervisor.specs.Valid.{validFactory, validSettings, validRegisters}
 use Rattle.supervisor.specs.Calls
 use Rattle.supervisor.proofs.ValidLaws.{factory-valid, registers-valid}
 use Rattle.requests.specs.Requests
-use Rattle.requests.specs.Receive.{itemDataLength, itemBytes, blockBytes, valueBytes}
+use Rattle.requests.specs.Receive.{carriesEdition, valueHead, itemDataLength, itemBytes, blockBytes, valueBytes}
 use Rattle.requests.proofs.ReceiveLaws.{ItemHeld, item-held}
 use Rattle.requests.proofs.KeptLaws.{value-data-short, item-short}
 use Rattle.supervisor_claims.specs.View.{listed, itemAt, factoryOf, view}
 use Rattle.supervisor_claims.specs.laws.ViewLaws.{length-listed}
 use Rattle.supervisor_claims.specs.Meant.{Valid}
-use Rattle.supervisor_claims.specs.calls.LookupClaim.{lookup-meant}
+use Rattle.supervisor_claims.specs.calls.LookupClaim.{lookup-meant, edition-meant, lookup-edition}
 use Rattle.supervisor_claims.specs.calls.SendingClaim.{Sendable, run-sendable}
 use Rattle.supervisor_claims.specs.laws.PartLaws.{each-number}
 
@@ -156,15 +156,15 @@ status-meant r valid b =
 
 -- ---- a key's value
 
-fitted-small : (most : ℕ) (v : Option (List ℕ)) → Local.fitted most v .result ≤ 3
+fitted-small : (most edition : ℕ) (v : Option (List ℕ)) → Local.fitted most edition v .result ≤ 3
 unfolding Local.fitted
-fitted-small most none = omega arith
-fitted-small most (some v) = cond-by (λ (x : Local.Found). x .result ≤ 3) (ltb most (length v)) _ _ (λ e. omega arith) (λ e. omega arith)
+fitted-small most edition none = omega arith
+fitted-small most edition (some v) = cond-by (λ (x : Local.Found). x .result ≤ 3) (ltb most (length v)) _ _ (λ e. omega arith) (λ e. omega arith)
 
 found-small : (s : State) (key most : ℕ) → Local.lookup s key most .result ≤ 3
 unfolding Local.lookup
 found-small s key most =
-    cond-by (λ (x : Local.Found). x .result ≤ 3) (ltb Limits.highest-key key) _ _ (λ e. omega arith) (λ e. fitted-small most (Local.valueOf s key))
+    cond-by (λ (x : Local.Found). x .result ≤ 3) (ltb Limits.highest-key key) _ _ (λ e. omega arith) (λ e. let x = Local.entryOf s key in fitted-small most (x .edition) (x .value))
 
 -- the bytes at a location q
 abbrev BytesAt : {Q : Type 0} → (Q → List ℕ) → Q → Type 0
@@ -199,18 +199,34 @@ module _ (f s : List ℕ) (fb : Each Byte f) (sb : Each Byte s) (most : ℕ) whe
 -- ---- a lookup
 
 module _ (p : Calls.Parts) (v : Valid p) (fb : Each Byte (p .factory)) (sb : Each Byte (p .settings)) where
-  pub value-meant : (d : List ℕ) → let found = Local.lookup (view p) (numberAt 1 d 0) (numberAt 2 d 1) in
-      valueBytes (p .factory) (p .settings) d ≡ found .result ∷ found .value
+  -- what stands ahead of the value
+  head-meant : (version : ℕ) (f : Local.Found) (edition : ℕ) → f .result ≤ 3 → (f .result ≡ 0 → edition ≡ f .edition)
+      → valueHead version (f .result) edition ++ f .value ≡ f .result ∷ (Requests.editionBytes version f ++ f .value)
+  unfolding valueHead
+  head-meant version f edition small e =
+      rw (one-byte (f .result) (omega arith))
+      (cond-both (λ (xs ys : List ℕ). (f .result ∷ (xs ++ f .value)) ≡ (f .result ∷ (ys ++ f .value))) (carriesEdition version (f .result))
+      (λ t. rw (e (eqb-true (f .result) 0 (and-eq-true-iff (eqb version Requests.second-version) _ .0 t .1)))) (λ t. refl))
+
+  pub value-meant : (version : ℕ) (d : List ℕ) → let found = Local.lookup (view p) (numberAt 1 d 0) (numberAt 2 d 1) in
+      valueBytes version (p .factory) (p .settings) d ≡ found .result ∷ (Requests.editionBytes version found ++ found .value)
   unfolding valueBytes
-  value-meant d =
+  value-meant version d =
       let key = numberAt 1 d 0 in
       let most = numberAt 2 d 1 in
       let looked = lookup-meant p v fb key most in
-      let small = found-small (view p) key most in
-      rw (looked .0, looked .1, one-byte (Local.lookup (view p) key most .result) (omega arith))
+      rw (looked .0, looked .1, edition-meant p v key)
+      (head-meant version (Local.lookup (view p) key most) _ (found-small (view p) key most) (lookup-edition (view p) key most))
 
-  pub value-sendable : (d : List ℕ) → Sendable (valueBytes (p .factory) (p .settings) d)
+  head-each : (version result edition : ℕ) → Each Byte (valueHead version result edition)
+  unfolding valueHead
+  head-each version result edition =
+      each-number 1 result _ (cond-by (Each Byte) (carriesEdition version result) _ [] (λ _. bytes-each 4 edition) (λ _. tt))
+
+  pub value-sendable : (version : ℕ) (d : List ℕ) → Sendable (valueBytes version (p .factory) (p .settings) d)
   unfolding valueBytes
-  value-sendable d =
-      let short = value-data-short (p .factory) (p .settings) d (v .factory) (v .settings) in
-      (omega arith, each-number 1 _ _ (value-each (p .factory) (p .settings) fb sb (numberAt 2 d 1) (numberAt 1 d 0)))
+  value-sendable version d =
+      let short = value-data-short version (p .factory) (p .settings) d (v .factory) (v .settings) in (
+        omega arith,
+        each-append Byte (valueHead version _ _) _ (head-each version _ _) (value-each (p .factory) (p .settings) fb sb (numberAt 2 d 1) (numberAt 1 d 0)),
+      )

@@ -39,7 +39,7 @@ use Rattle.supervisor_claims.specs.calls.StartClaim.{Starts, start-fresh
 use Rattle.supervisor_claims.specs.calls.TakeClaim.{take-meant}
 use Rattle.supervisor_claims.specs.laws.PostLaws.{allowed, posted-kept}
 use Rattle.supervisor_claims.specs.calls.RegistersClaim.{post-meant, options-meant, signal-meant, flags-meant, boot-failure-meant, panic-meant}
-use Rattle.supervisor_claims.specs.calls.LookupClaim.{lookup-meant}
+use Rattle.supervisor_claims.specs.calls.LookupClaim.{lookup-meant, edition-meant}
 use Rattle.supervisor_claims.specs.Sound.{Bytes, Sound, Lengths, lengths-same, sound-with, valid-room, Leaves}
 use Rattle.supervisor_claims.specs.claims.LentCalls.{valid-parts}
 use Rattle.supervisor_claims.specs.calls.StepClaim.{step-used, step-fed, step-ends, valid-step-stepped}
@@ -267,6 +267,7 @@ module _ (p : Parts) (s : Sound p) where
   call-meets (Histories.local (Histories.lookup key most)) typed =
       let l = lookup-meant p (s .valid) (s .bytes .factory) key most in
       same p s (ap Histories.lookupAnswer (l .0)) (l .1)
+  call-meets (Histories.local (Histories.edition key)) typed = same p s (ap Histories.editionAnswer (edition-meant p (s .valid) key)) refl
   call-meets (Histories.local Histories.signal) typed = same p s (ap (Histories.readAnswer Histories.asserted) (signal-meant p (s .valid))) refl
   call-meets (Histories.local Histories.flags) typed = same p s (ap (Histories.readAnswer Histories.flagsAsked) (flags-meant p (s .valid))) refl
   call-meets (Histories.local (Histories.readRecord k)) typed = record-meets p s k

@@ -35,9 +35,9 @@ abbrev pub withStores : Parts → Receive.Inner → Parts
 withStores p i = record { reader = p .reader; outbox = p .outbox; factory = p .factory; settings = i .settings; registers = i .registers }
 
 -- the data of a reply, where there is one
-abbrev pub SendableReply : Option (ℕ × List ℕ) → Type 0
+abbrev pub SendableReply : Option Requests.Answer → Type 0
 SendableReply none = Unit {0}
-SendableReply (some r) = Sendable (r .1)
+SendableReply (some r) = Sendable (r .payload)
 
 -- what a request leaves is what the meaning has: the state, the pending reply, which can be sent; both parts are as long as before, and bytes where they were
 pub record Changed (p : Parts) (i : Receive.Inner) (sequence : ℕ) (c : Requests.Carried) : Type 0 where
@@ -57,11 +57,11 @@ module _ (p : Parts) (s : Sound p) (image : List ℕ) (each : Each Byte image) (
   -- of a command
   abbrev Does : Command → Type 0
   Does x =
-      Changed p (Receive.leftBy x image (p .factory) (Receive.innerOf p) (m .sequence) (m .payload)) (m .sequence) (Requests.effect x image (view p) m)
+      Changed p (Receive.leftBy x image (p .factory) (Receive.innerOf p) (m .version) (m .sequence) (m .payload)) (m .sequence) (Requests.effect x image (view p) m)
 
   -- a reply alone
   answers : (command : ℕ) {bs payload : List ℕ} → bs ≡ payload → Sendable bs
-      → Changed p (Receive.answering (Receive.innerOf p) (Receive.replyHead (m .sequence)) command bs) (m .sequence) (Requests.replied (view p) command payload)
+      → Changed p (Receive.answering (Receive.innerOf p) (Receive.replyHead (m .version) (m .sequence)) command bs) (m .sequence) (Requests.replied (view p) (m .version) command payload)
   unfolding Receive.answering Requests.replyOf Requests.replyFrame
   answers command e k = registers-changed refl (rw e) (like-itself (p .registers)) (rw e at k)
 
@@ -106,28 +106,28 @@ module _ (p : Parts) (s : Sound p) (image : List ℕ) (each : Each Byte image) (
   unfolding Receive.leftBy Receive.acknowledged Requests.effect Requests.startAcknowledged Requests.replyOf Requests.replyFrame
   start-does =
       let w = registers-valid (p .registers) (s .valid .registers) in
-      registers-changed (acknowledged-view p w) refl (acknowledged-like p w _) none-sendable
+      registers-changed (acknowledged-view p w (m .version)) refl (acknowledged-like p w _) none-sendable
 
-  alert-sendable : SendableReply (Requests.alertAsked (view p) (m .sequence) (view p .retained) .reply)
+  alert-sendable : SendableReply (Requests.alertAsked (m .version) (view p) (m .sequence) (view p .retained) .reply)
   alert-sendable =
-      let r = Receive.alertRegisters (p .registers) (m .sequence) in
-      let like = alert-asked p (s .valid) (m .sequence) below .like in
-      rw (alert-reply p (s .valid) (m .sequence) below (s .bytes .registers)) (
-        omega (arith, alert-data-short (p .registers) (m .sequence) (s .valid .registers)),
+      let r = Receive.alertRegisters (p .registers) (m .version) (m .sequence) in
+      let like = alert-asked p (s .valid) (m .version) (m .sequence) (q .version) below .like in
+      rw (alert-reply p (s .valid) (m .version) (m .sequence) (q .version) below (s .bytes .registers)) (
+        omega (arith, alert-data-short (p .registers) (m .version) (m .sequence) (s .valid .registers)),
         each-run (Layout.retained-alert-offset + Layout.alert-action-offset) (1 + Layout.alertTextLength r Layout.retained-alert-offset) r (like .bytes (s .bytes .registers)),
       )
 
   alert-does : Does Command.alert
   unfolding Receive.leftBy Receive.alertAnswered Requests.effect Requests.replyOf Requests.replyFrame
   alert-does =
-      let a = alert-asked p (s .valid) (m .sequence) below in
-      registers-changed (a .state) (rw (alert-reply p (s .valid) (m .sequence) below (s .bytes .registers))) (a .like) alert-sendable
+      let a = alert-asked p (s .valid) (m .version) (m .sequence) (q .version) below in
+      registers-changed (a .state) (rw (alert-reply p (s .valid) (m .version) (m .sequence) (q .version) below (s .bytes .registers))) (a .like) alert-sendable
 
   key-set-does : Does Command.key-set
   unfolding Receive.leftBy Receive.keySetAnswered Requests.effect Requests.keySet Requests.replyOf Requests.replyFrame view
   key-set-does =
       let d = m .payload in
-      let k = storing-stored (p .settings) (drop 1 d) (settings-valid (p .settings) (s .valid .settings)) (each-drop Byte 1 d (q .payload)) (numberAt 1 d 0) in
+      let k = storing-stored (p .settings) (drop 1 d) (settings-valid (p .settings) (s .valid .settings)) (s .bytes .settings) (each-drop Byte 1 d (q .payload)) (numberAt 1 d 0) in
       record {
         state = rw (k .settings);
         outbox = rw (one-byte _ (k .small), k .result);
@@ -153,6 +153,7 @@ module _ (p : Parts) (s : Sound p) (image : List ℕ) (each : Each Byte image) (
   command-does Command.alert = alert-does
   command-does Command.image-block = answers 0x09 (block-meant f image (m .payload)) (block-sendable f image (m .payload) each)
   command-does Command.key-lookup =
-      answers 0x0a (value-meant p (s .valid) fb (s .bytes .settings) (m .payload)) (value-sendable p (s .valid) fb (s .bytes .settings) (m .payload))
+      answers 0x0a (value-meant p (s .valid) fb (s .bytes .settings) (m .version) (m .payload))
+      (value-sendable p (s .valid) fb (s .bytes .settings) (m .version) (m .payload))
   command-does Command.inventory = answers 0x0b (item-meant f fv fb (numberAt 4 (m .payload) 0)) (item-sendable f fv fb (numberAt 4 (m .payload) 0))
   command-does Command.key-set = key-set-does

@@ -9,16 +9,19 @@ use native.Mathlib.Omega.{arith}
 use lib.Dec.{leb, eqb}
 use lib.ListN.{length}
 use Rattle.octets.specs.Bytes.{Each, Byte}
-use Rattle.octets.proofs.Conditions.{cond-both}
+use Rattle.octets.proofs.Conditions.{cond-by, cond-both}
 use Rattle.octets.proofs.Numbers.{one-byte, number-small}
 use Rattle.line.specs.Limits.{longest-form}
 use Rattle.line.specs.Message.{Message}
-use Rattle.line.specs.Judge.{Verdict, failure, good, decoded, wrongLength, wrongChecksum, wrongMagic, judgeForm, judge}
+use Rattle.line.specs.Judge as Line
+use Rattle.line.specs.Judge.{decoded, wrongLength, wrongChecksum, wrongMagic, judgeForm, judge}
 use Rattle.line.specs.Reader as LineReader
 use Rattle.supervisor.specs.State.{State, withReceived}
 use Rattle.supervisor.specs.Calls.{Parts}
 use Rattle.requests.specs.Commands.{Command, isListed, commandOf}
 use Rattle.requests.specs.Requests
+use Rattle.requests.specs.Requests.{Verdict, failure, good}
+use Rattle.requests.proofs.StepLaws.{served-small}
 use Rattle.requests.specs.Receive
 use Rattle.requests.proofs.KeptLaws.{carried-valid, inner-valid, valid-inner, sent-long, sent-owed, box-valid}
 use Rattle.supervisor_claims.specs.View.{receivedOf, view}
@@ -44,16 +47,16 @@ sent-leaves p s r short each =
     (rw (sent-pending o bs v short, sent-owed o bs v short), k .0, k .1)
 
 -- the frame of a reply with data that a message may have
-frame-sendable : (sequence : ℕ) (r : Option (ℕ × List ℕ)) → SendableReply r
+frame-sendable : (sequence : ℕ) (r : Option Requests.Answer) → SendableReply r
     → let bs = Requests.replyFrame (Requests.replyOf sequence r) in (length bs ≤ longest-form + 1) × Each Byte bs
 unfolding Requests.replyFrame Requests.replyOf
 frame-sendable sequence none h = (omega arith, tt)
-frame-sendable sequence (some r) h = reply-sendable _ (r .0) (r .1) h
+frame-sendable sequence (some r) h = reply-sendable _ (r .command) (r .payload) h
 
 -- ---- A valid request
 
 abbrev Carried : List ℕ → Parts → Message → Receive.Inner
-Carried image p m = Receive.carriedInner image (p .factory) (Receive.innerOf p) (m .sequence) (m .command) (m .payload)
+Carried image p m = Receive.carriedInner image (p .factory) (Receive.innerOf p) (m .version) (m .sequence) (m .command) (m .payload)
 
 -- the parts with other stores, registers and outbox
 abbrev within : Parts → Receive.Inner → Parts
@@ -81,14 +84,14 @@ module _ (image : List ℕ) (each : Each Byte image) (p : Parts) (s : Sound p) (
 
   carried-inner : Receive.validInner (Carried image p m) ≡ true
   carried-inner =
-      carried-valid image (p .factory) (Receive.innerOf p) (m .sequence) (m .payload) (s .valid .factory) parts-valid (q .fits) (number-small 1 0 (m .payload) (q .payload)) (m .command)
+      carried-valid image (p .factory) (Receive.innerOf p) (m .version) (m .sequence) (m .payload) (served-small (m .version) (q .version)) (s .valid .factory) parts-valid (q .fits) (number-small 1 0 (m .payload) (q .payload)) (m .command)
 
   -- its command is listed
   request-leaves : Leaves p (within p (Carried image p m)) (sentBy (m .sequence) (Requests.carried image (view p) m))
   unfolding Receive.carriedInner Requests.carried Requests.known
   request-leaves = by (commandOf (m .command)) (q .command) carried-inner
     where
-      by : (o : Option Command) → isListed o ≡ true → let i = Receive.leftWhere o image (p .factory) (Receive.innerOf p) (m .sequence) (m .payload) in
+      by : (o : Option Command) → isListed o ≡ true → let i = Receive.leftWhere o image (p .factory) (Receive.innerOf p) (m .version) (m .sequence) (m .payload) in
           Receive.validInner i ≡ true → Leaves p (within p i) (sentBy (m .sequence) (Requests.carriedBy o image (view p) m))
       by none e v = let z : _≡_ {A = ℕ} 1 0 = ap (λ t. cond t 0 1) e in absurd (omega arith)
       by (some x) e v = change-leaves p s (m .sequence) _ _ (command-does p s image each m q x) v
@@ -96,20 +99,20 @@ module _ (image : List ℕ) (each : Each Byte image) (p : Parts) (s : Sound p) (
 -- ---- A frame by the verdict on it
 
 abbrev Judgeable : Verdict → Type 0
-Judgeable (failure reason sequence) = reason < 256
+Judgeable (failure reason version sequence) = reason < 256
 Judgeable (good m) = Requestable m
 
 judged-leaves : (image : List ℕ) → Each Byte image → (p : Parts) → Sound p → (v : Verdict) → Judgeable v
     → Leaves p (within p (Receive.innerBy image (p .factory) (Receive.innerOf p) v)) (Requests.judged image (view p) v)
 unfolding Receive.innerBy Receive.answering Requests.judged Requests.failedOf Requests.replyFrame
-judged-leaves image each p s (failure reason sequence) small =
-    let bs = reply-sendable (Receive.failureHead sequence) 0x02 (reason ∷ []) (omega arith, (small, tt)) in
-    rw (one-byte reason small) (sent-leaves p s (some (Requests.failedOf reason sequence)) (bs .0) (bs .1))
+judged-leaves image each p s (failure reason version sequence) small =
+    let bs = reply-sendable (Receive.failureHead version sequence) 0x02 (reason ∷ []) (omega arith, (small, tt)) in
+    rw (one-byte reason small) (sent-leaves p s (some (Requests.failedOf reason version sequence)) (bs .0) (bs .1))
 judged-leaves image each p s (good m) q = request-leaves image each p s m q
 
 -- the reasons of the table
 abbrev reasonOf : Verdict → ℕ
-reasonOf (failure reason sequence) = reason
+reasonOf (failure reason version sequence) = reason
 reasonOf (good m) = 0
 
 record Small (v : Verdict) : Type 0 where
@@ -119,33 +122,36 @@ found-good : (m : Message) → Small (good m)
 found-good m = record { low = omega arith }
 
 -- a test that fails with a reason, ahead of other tests
-fails : (t : Bool) (reason : ℕ) (sequence : Option ℕ) (v : Verdict) → reason < 256 → Small v → Small (cond t (failure reason sequence) v)
-fails true reason sequence v h k = record { low = h }
-fails false reason sequence v h k = k
+fails : (t : Bool) (reason version : ℕ) (sequence : Option ℕ) (v : Verdict) → reason < 256 → Small v → Small (cond t (failure reason version sequence) v)
+fails true reason version sequence v h k = record { low = h }
+fails false reason version sequence v h k = k
 
 tested-small : (m : Message) → Small (Requests.tested m)
 unfolding Requests.tested
 tested-small m =
-    fails (not (eqb (m .version) Requests.protocol-version)) 5 _ _ (omega arith)
-    (fails (leb (2 ^ 63) (m .sequence)) 6 _ _ (omega arith)
-    (fails (not (Requests.known (m .command))) 3 _ _ (omega arith)
-    (fails (not (Requests.lengthAllowed (m .command) (length (m .payload)))) 7 _ _ (omega arith) (found-good m))))
+    fails (not (Requests.served (m .version))) 5 _ _ _ (omega arith)
+    (fails (leb (2 ^ 63) (m .sequence)) 6 _ _ _ (omega arith)
+    (fails (not (Requests.known (m .command))) 3 _ _ _ (omega arith)
+    (fails (not (Requests.lengthAllowed (m .command) (length (m .payload)))) 7 _ _ _ (omega arith) (found-good m))))
 
-where-small : (v : Verdict) → Small v → Small (Requests.testedWhere v)
-where-small (failure reason sequence) h = h
-where-small (good m) h = tested-small m
+-- and of the line layer's tests
+abbrev SmallWhere : Line.Verdict → Type 0
+SmallWhere v = Small (Requests.testedWhere v)
 
-form-small : (form : Option (List ℕ)) → Small (judgeForm form)
+failed-small : (reason : ℕ) (sequence : Option ℕ) → reason < 256 → SmallWhere (Line.failure reason sequence)
+failed-small reason sequence h = record { low = h }
+
+form-small : (form : Option (List ℕ)) → SmallWhere (judgeForm form)
 unfolding judgeForm
-form-small none = record { low = omega arith }
+form-small none = failed-small 1 _ (omega arith)
 form-small (some xs) =
-    fails (wrongLength xs) 3 _ _ (omega arith)
-    (fails (wrongChecksum xs) 2 _ _ (omega arith)
-    (fails (wrongMagic xs) 4 _ _ (omega arith) (found-good _)))
+    cond-by SmallWhere (wrongLength xs) _ _ (λ e. failed-small 3 _ (omega arith)) (λ e.
+    cond-by SmallWhere (wrongChecksum xs) _ _ (λ f. failed-small 2 _ (omega arith)) (λ f.
+    cond-by SmallWhere (wrongMagic xs) _ _ (λ g. failed-small 4 _ (omega arith)) (λ g. tested-small _)))
 
 verdict-small : (form : List ℕ) → Small (Requests.verdict form)
 unfolding Requests.verdict judge
-verdict-small form = where-small _ (form-small (decoded form))
+verdict-small form = form-small (decoded form)
 
 -- ---- One byte
 
@@ -165,7 +171,7 @@ module _ (image : List ℕ) (each : Each Byte image) (p : Parts) (s : Sound p) w
   ended = LineReader.finish (p .reader) .state
 
   judgeable : (v : Verdict) → verdictSince (receivedOf (p .reader)) ≡ some v → Small v → Judgeable v
-  judgeable (failure reason sequence) e h = h .low
+  judgeable (failure reason version sequence) e h = h .low
   judgeable (good m) e h = finished-typed (p .reader) m (s .bytes .reader) e
 
   -- a frame that is not empty
@@ -184,7 +190,7 @@ module _ (image : List ℕ) (each : Each Byte image) (p : Parts) (s : Sound p) w
   closed-leaves : (r : Option (List ℕ)) → receivedOf (p .reader) ≡ r
       → Leaves p (Receive.partsWith p ended (Receive.innerAfter image (p .factory) (Receive.innerOf p) (verdictSince r))) (Requests.closed image (view p) r)
   unfolding Receive.innerAfter Requests.closed
-  closed-leaves none e = frame-leaves (failure 1 none) (omega arith)
+  closed-leaves none e = frame-leaves (failure 1 Requests.first-version none) (omega arith)
   closed-leaves (some []) e =
       let a = rw (finished-received (p .reader) (s .valid .reader)) at (reader-leaves p s ended (finished-kept (p .reader) (s .valid .reader))) in
       (a .0 ∙ progress-same (view p) (some []) (received-view ∙ e), a .1, a .2)

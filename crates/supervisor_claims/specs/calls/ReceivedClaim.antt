@@ -18,15 +18,16 @@ use Rattle.octets.proofs.Overlay.{run-more, length-run, length-overlay, overlay
 use Rattle.line.specs.Limits.{longest-data, longest-form}
 use Rattle.line.specs.Message.{Message, InRange}
 use Rattle.line.specs.Cobs.{uncobs}
-use Rattle.line.specs.Judge.{Verdict, failure, good, fields, wrongLength, wrongChecksum, wrongMagic, judgeForm, judge}
+use Rattle.line.specs.Judge as Line
+use Rattle.line.specs.Judge.{fields, wrongLength, wrongChecksum, wrongMagic, judgeForm, judge}
 use Rattle.line.specs.Reader as LineReader
 use Rattle.line.proofs.State.{Ready, valid-ready, ready-valid, length-counted, count-counted, run-counted, ready-pushed}
 use Rattle.line.proofs.Lent.{fit-length}
 use Rattle.line.proofs.Held.{data-unpacked, finish-leaves}
 use Rattle.line_claims.specs.CobsClaims.{uncobs-each}
 use Rattle.line_claims.specs.MessageLaws.{fields-range}
-use Rattle.line_claims.specs.JudgeClaim.{never, judge-good}
-use Rattle.requests.specs.Requests.{protocol-version, known, lengthAllowed, tested, testedWhere, verdict, more}
+use Rattle.line_claims.specs.JudgeClaim.{judge-good}
+use Rattle.requests.specs.Requests.{Verdict, failure, good, served, known, lengthAllowed, tested, testedWhere, verdict, more}
 use Rattle.requests.specs.Receive.{verdictOf}
 use Rattle.requests.specs.Requests.{verdictSince}
 use Rattle.supervisor_claims.specs.View.{receivedOf}
@@ -113,7 +114,7 @@ meant-some (b ∷ bs) h = refl
 
 -- by the answer of the line reader and the state that it leaves, in which the data of a message stand
 module _ (s : List ℕ) (r : Ready s) where
-  abbrev Says : List ℕ → Verdict → Type 0
+  abbrev Says : List ℕ → Line.Verdict → Type 0
   Says t v = verdictOf t (LineReader.verdictReport v) ≡ some (testedWhere v)
 
   verdict-bytes : (form : Option (List ℕ)) → Says (LineReader.unpacked form s) (judgeForm form)
@@ -157,9 +158,12 @@ finished-verdict s v =
 
 -- ---- a message that the whole table finds good
 
--- what the table asks of a request: its sequence's top bit is not set, its command is known, and its data are bytes, as many as the command takes
+never : {A : Type 0} {reason version : ℕ} {sequence : Option ℕ} {m : Message} → failure reason version sequence ≡ good m → A
+never p = let z : _≡_ {A = ℕ} 0 1 = cc in absurd (omega arith)
+
+-- what the table asks of a request: its version is served, its sequence's top bit is not set, its command is known, and its data are bytes, as many as the command takes
 pub record Requestable (m : Message) : Type 0 where
-  pub version : m .version ≡ protocol-version
+  pub version : served (m .version) ≡ true
   pub sequence : m .sequence < 2 ^ 63
   pub command : known (m .command) ≡ true
   pub allowed : lengthAllowed (m .command) (length (m .payload)) ≡ true
@@ -169,7 +173,7 @@ pub record Requestable (m : Message) : Type 0 where
 -- the tests after the line layer's
 record Tested (l m : Message) : Type 0 where
   same : l ≡ m
-  version : l .version ≡ protocol-version
+  version : served (l .version) ≡ true
   sequence : l .sequence < 2 ^ 63
   command : known (l .command) ≡ true
   allowed : lengthAllowed (l .command) (length (l .payload)) ≡ true
@@ -177,13 +181,13 @@ record Tested (l m : Message) : Type 0 where
 tested-good : (l m : Message) → tested l ≡ good m → Tested l m
 unfolding tested
 tested-good l m =
-    cond-by Passes (not (eqb (l .version) protocol-version)) _ _ (λ e p. never p) (λ e.
+    cond-by Passes (not (served (l .version))) _ _ (λ e p. never p) (λ e.
     cond-by Passes (leb (2 ^ 63) (l .sequence)) _ _ (λ f p. never p) (λ f.
     cond-by Passes (not (known (l .command))) _ _ (λ g p. never p) (λ g.
     cond-by Passes (not (lengthAllowed (l .command) (length (l .payload)))) _ _ (λ h p. never p) (λ h p.
     record {
       same = cc;
-      version = eqb-true (l .version) protocol-version (not-false _ e);
+      version = not-false _ e;
       sequence = leb-false (2 ^ 63) (l .sequence) f;
       command = not-false _ g;
       allowed = not-false _ h;
@@ -200,7 +204,7 @@ pub good-typed : (form : List ℕ) (m : Message) → Each Byte form → verdict 
 unfolding verdict fields
 good-typed form m b = by (judge form) refl
   where
-    typed : (l : Message) → judge form ≡ good l → Tested l m → Requestable m
+    typed : (l : Message) → judge form ≡ Line.good l → Tested l m → Requestable m
     typed l j t =
         let g = judge-good form l j in
         let r : InRange l = rw (g .is) (fields-range (g .xs) (uncobs-each form (g .xs) b (g .decoded)) (fit-length (g .xs) (g .fits) .1)) in
@@ -214,9 +218,9 @@ good-typed form m b = by (judge form) refl
           payload = r .typed .payload;
         })
 
-    by : (v : Verdict) → judge form ≡ v → testedWhere v ≡ good m → Requestable m
-    by (failure reason sequence) j p = never p
-    by (good l) j p = typed l j (tested-good l m p)
+    by : (v : Line.Verdict) → judge form ≡ v → testedWhere v ≡ good m → Requestable m
+    by (Line.failure reason sequence) j p = never p
+    by (Line.good l) j p = typed l j (tested-good l m p)
 
 -- ---- what stays of the state
 

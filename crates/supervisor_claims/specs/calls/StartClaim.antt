@@ -16,7 +16,7 @@ use Rattle.line.specs.Reader
 use Rattle.line.proofs.State.{length-counted, count-counted, ready-valid}
 use Rattle.supervisor.specs.Limits
 use Rattle.supervisor.specs.Layout
-use Rattle.supervisor.specs.State.{Factory, fresh}
+use Rattle.supervisor.specs.State.{Factory, fresh, unset}
 use Rattle.supervisor.specs.Local
 use Rattle.supervisor.specs.Local.{pong}
 use Rattle.supervisor.specs.Valid.{goodStart}
@@ -32,23 +32,23 @@ use Rattle.supervisor_claims.specs.laws.GoodStart.{good-bad}
 
 -- ---- parts that are clear
 
-setting-none : (s : List ℕ) (at : ℕ) → Layout.settingHeld s at ≡ 0 → settingOf s at ≡ none
+setting-unset : (s : List ℕ) (at : ℕ) → Layout.settingHeld s at ≡ 0 → Layout.settingEdition s at ≡ 0 → settingOf s at ≡ unset
 unfolding settingOf
-setting-none s at e = rw e
+setting-unset s at e f = rw (e, f)
 
 recorded-none : (r : List ℕ) (at : ℕ) → Layout.recordHeld r at ≡ 0 → recordedOf r at ≡ none
 unfolding recordedOf
 recorded-none r at e = rw e
 
 module _ (s : List ℕ) (z : Clear 0 Layout.settings-length s) where
-  settings-none : settingsOf s ≡ replicate Limits.setting-count none
+  settings-none : settingsOf s ≡ replicate Limits.setting-count unset
   unfolding settingsOf
   settings-none =
-      listed-same _ (λ i. none) Limits.setting-count (λ i l.
+      listed-same _ (λ i. unset) Limits.setting-count (λ i l.
       let at = Layout.setting-offset (Limits.first-setting + i) in
       let h = place-within (Limits.first-setting + i) (record { least = omega arith; most = omega arith }) in
-      setting-none s at (z 1 at (omega arith) (omega (arith, h))))
-      ∙ listed-replicate none Limits.setting-count
+      setting-unset s at (z 1 at (omega arith) (omega (arith, h))) (z 4 (at + Layout.setting-edition-offset) (omega arith) (omega (arith, h))))
+      ∙ listed-replicate unset Limits.setting-count
 
   settings-clear : Layout.settings-length ≤ length s → SettingsValid s
   settings-clear h = record {

@@ -9,7 +9,8 @@ use lib.Dec.{ltb, eqb, eqb·suc-zero}
 use lib.ListN as ListN
 use Rattle.octets.proofs.Conditions.{cond-by}
 use Rattle.line.specs.Limits as LineLimits
-use Rattle.line.specs.Judge.{Verdict, failure, good, judge}
+use Rattle.line.specs.Judge as Line
+use Rattle.line.specs.Judge.{judge}
 use Rattle.line.specs.Reader as LineReader
 use Rattle.line.proofs.State.{valid-ready, ready-valid, ready-pushed}
 use Rattle.supervisor.specs.Calls.{Parts}
@@ -56,10 +57,10 @@ Ends LineReader.empty = Unit {0}
 Ends (LineReader.message version sequence command n) = Unit {0}
 Ends (LineReader.failed reason sequence) = Unit {0}
 
-verdict-ends : (v : Verdict) → Ends (LineReader.verdictReport v)
+verdict-ends : (v : Line.Verdict) → Ends (LineReader.verdictReport v)
 unfolding LineReader.verdictReport
-verdict-ends (failure reason sequence) = tt
-verdict-ends (good m) = tt
+verdict-ends (Line.failure reason sequence) = tt
+verdict-ends (Line.good m) = tt
 
 finish-ends : (s : List ℕ) → Ends (LineReader.finish s .answer)
 unfolding LineReader.finish LineReader.settle
@@ -111,9 +112,9 @@ accepts [] s = tt
 accepts (zero ∷ bs) s = ends-accepts (LineReader.finish s .answer) (finish-ends s)
 accepts (suc b ∷ bs) s = rw eqb·suc-zero (accepts bs (LineReader.pushed s (suc b)))
 
-verdict-stepped : (used : ℕ) (v : Verdict) → stepAnswer used (Receive.endedBy v) ≡ stepped used (Receive.endedBy v)
-verdict-stepped used (failure reason sequence) = refl
-verdict-stepped used (good m) = refl
+verdict-stepped : (used : ℕ) (v : Requests.Verdict) → stepAnswer used (Receive.endedBy v) ≡ stepped used (Receive.endedBy v)
+verdict-stepped used (Requests.failure reason version sequence) = refl
+verdict-stepped used (Requests.good m) = refl
 
 report-stepped : (used : ℕ) (reader : List ℕ) (a : LineReader.Report) → Accepts a
     → stepAnswer used (Receive.ended reader a) ≡ stepped used (Receive.ended reader a)

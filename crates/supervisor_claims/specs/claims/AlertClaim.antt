@@ -15,7 +15,6 @@ use Rattle.octets.proofs.Conditions.{cond-by}
 use Rattle.octets.proofs.Each.{each-append}
 use Rattle.line.specs.Message.{Message}
 use Rattle.line.specs.Frame.{frame}
-use Rattle.line.specs.Judge.{Verdict, failure, good}
 use Rattle.line_claims.specs.Pieces.{split, nonEmpty, split-close, nonEmpty-append, closedBy}
 use Rattle.supervisor.specs.Limits
 use Rattle.supervisor.specs.Number.{topSet}
@@ -25,7 +24,7 @@ use Rattle.supervisor.specs.Calls.{Parts}
 use Rattle.supervisor.specs.declared.registers.Kind.{Kind}
 use Rattle.requests.specs.Commands.{numberOf, withNumber, commandOf}
 use Rattle.requests.specs.Requests
-use Rattle.requests.specs.Requests.{Carried, protocol-version, replyVersion, verdict, effect, carried, judged, sent, stream, owed, replyOf, replyFrame, alertData, oldest}
+use Rattle.requests.specs.Requests.{Verdict, failure, good, Carried, verdict, effect, carried, judged, sent, stream, owed, replyOf, replyFrame, alertData, oldest}
 use Rattle.supervisor_claims.specs.View.{factoryOf, view}
 use Rattle.supervisor_claims.specs.Sound.{Bytes}
 use Rattle.supervisor_claims.specs.Histories
@@ -62,12 +61,12 @@ Drops m = (m .command ≡ 0x01) ⊎ (m .command ≡ 0x02)
 abbrev pub NoAlert : Message → Type 0
 NoAlert m = eqb (m .command) 0x0a ≡ false
 
--- an alert request under number n, and the frame of a reply to it, under n with the top bit set
-abbrev pub alertOf : ℕ → Message
-alertOf n = record { version = protocol-version; sequence = n; command = 0x0a; payload = [] }
+-- an alert request of a version under number n, and the frame of a reply to it, under n with the top bit set
+abbrev pub alertOf : ℕ → ℕ → Message
+alertOf version n = record { version = version; sequence = n; command = 0x0a; payload = [] }
 
-unfoldable pub alertReply : ℕ → Alert → List ℕ
-alertReply n a = frame (record { version = replyVersion; sequence = topSet n; command = 0x07; payload = alertData a })
+unfoldable pub alertReply : ℕ → ℕ → Alert → List ℕ
+alertReply version n a = frame (record { version = version; sequence = topSet n; command = 0x07; payload = alertData a })
 
 -- ---- a local call
 
@@ -78,6 +77,7 @@ whereDone done a = a ∷ []
 whereDone (Histories.stepped used ended) a = []
 whereDone (Histories.moved n) a = []
 whereDone (Histories.found n k) a = []
+whereDone (Histories.foundEdition n k) a = []
 whereDone (Histories.asserted t) a = []
 whereDone (Histories.asked t u) a = []
 whereDone (Histories.recorded r) a = []
@@ -87,6 +87,7 @@ added (Histories.take room) x = []
 added (Histories.post action text) x = whereDone x (record { action = action; text = text })
 added (Histories.setOptions options) x = []
 added (Histories.lookup key most) x = []
+added (Histories.edition key) x = []
 added Histories.signal x = []
 added Histories.flags x = []
 added (Histories.readRecord k) x = []
@@ -118,28 +119,29 @@ module _ (s : State) where
   local-keeps (Histories.setOptions options) =
       cond-by (DoneKeeps (Histories.setOptions options)) (Local.optionsAllowed options) _ _ (λ e. same) (λ e. same)
   local-keeps (Histories.lookup key most) = same
+  local-keeps (Histories.edition key) = same
   local-keeps Histories.signal = same
   local-keeps Histories.flags = same
   local-keeps (Histories.readRecord k) = record-keeps k (Histories.recordKept s k)
 
 -- a frame that fails leaves both
-pub failed-keeps : (image : List ℕ) (s : State) (f : List ℕ) (reason : ℕ) (sequence : Option ℕ) → verdict f ≡ failure reason sequence
+pub failed-keeps : (image : List ℕ) (s : State) (f : List ℕ) (reason version : ℕ) (sequence : Option ℕ) → verdict f ≡ failure reason version sequence
     → let t = framed image s f in (t .retained ≡ s .retained) × (t .waiting ≡ s .waiting)
 unfolding framed judged sent
-failed-keeps image s [] reason sequence e = (refl, refl)
-failed-keeps image s (b ∷ bs) reason sequence e = rw e (refl, refl)
+failed-keeps image s [] reason version sequence e = (refl, refl)
+failed-keeps image s (b ∷ bs) reason version sequence e = rw e (refl, refl)
 
 -- ---- requests and frames
 
-alert-asked : (s : State) (n : ℕ) (r : Option Retained) → s .retained ≡ r → retains (Requests.alertAsked s n r .state .retained) ≡ true
+alert-asked : (version : ℕ) (s : State) (n : ℕ) (r : Option Retained) → s .retained ≡ r → retains (Requests.alertAsked version s n r .state .retained) ≡ true
 unfolding Requests.alertAsked Requests.alertTaken
-alert-asked s n none e = refl
-alert-asked s n (some r) e = cond-by (λ (x : Carried). retains (x .state .retained) ≡ true) (eqb (r .sequence) n) _ _ (λ f. rw e) (λ f. refl)
+alert-asked version s n none e = refl
+alert-asked version s n (some r) e = cond-by (λ (x : Carried). retains (x .state .retained) ≡ true) (eqb (r .sequence) n) _ _ (λ f. rw e) (λ f. refl)
 
 module _ (image : List ℕ) where
   alert-retains : (s : State) (m : Message) → m .command ≡ 0x0a → retains (carried image s m .state .retained) ≡ true
   unfolding carried commandOf withNumber numberOf effect
-  alert-retains s m e = rw e (alert-asked s (m .sequence) (s .retained) refl)
+  alert-retains s m e = rw e (alert-asked (m .version) s (m .sequence) (s .retained) refl)
 
   pub request-retains : (s : State) (m : Message) → retains (carried image s m .state .retained) ≡ retainsAfter (retains (s .retained)) m
   unfolding retainsAfter
@@ -155,7 +157,7 @@ module _ (image : List ℕ) where
   judged-retains : (s : State) (v : Verdict) (rs : List Message)
       → retainsAll (retains (judged image s v .retained)) rs ≡ retainsAll (retains (s .retained)) (request v rs)
   unfolding judged sent retainsAll
-  judged-retains s (failure reason sequence) rs = refl
+  judged-retains s (failure reason version sequence) rs = refl
   judged-retains s (good m) rs = rw (request-retains s m)
 
   frames-retain : (fs : List (List ℕ)) (s : State) → let gs = nonEmpty fs in
@@ -225,10 +227,10 @@ none-retained none e = refl
 none-retained (some r) e = absurd (subst (λ b. cond b (Unit {0}) ⊥) e tt)
 
 -- where none is retained, an alert request takes the oldest alert that waits
-taken-reply : (image : List ℕ) (s : State) (n : ℕ) → s .retained ≡ none
-    → replyFrame (replyOf n (carried image s (alertOf n) .reply)) ≡ alertReply n (oldest (s .waiting))
+taken-reply : (image : List ℕ) (s : State) (version n : ℕ) → s .retained ≡ none
+    → replyFrame (replyOf n (carried image s (alertOf version n) .reply)) ≡ alertReply version n (oldest (s .waiting))
 unfolding carried commandOf withNumber numberOf effect Requests.alertAsked Requests.alertTaken replyOf replyFrame alertReply
-taken-reply image s n e = rw e
+taken-reply image s version n e = rw e
 
 -- A start that is accepted, on any bytes, then any calls.
 module _ (p : Parts) (b : Bytes p) (l : Lent) (d : List ℕ) (typed : Typed (Histories.start d))
@@ -240,15 +242,15 @@ module _ (p : Parts) (b : Bytes p) (l : Lent) (d : List ℕ) (typed : Typed (His
   -- The bytes bs and a 00 are received, and the frame that this 00 closes is an alert request under any number n. Of the requests received before it since the
   -- last accepted start, r is a reboot or power-off, and no alert request follows r. Then a fresh alert is taken: its reply is pending, behind a 00 where one
   -- is owed, with the oldest of the alerts that wait when the bytes bs have been received. Cutting the stream elsewhere changes nothing (`cut-any`).
-  pub fresh-alert-answered : (n : ℕ) (j : Lent) (image bs : List ℕ) → Typed (Histories.receive image bs) → enough (Histories.receive image bs) j ≡ true
-      → let w = joinedAll [] ms ++ bs in verdict (split w .rest) ≡ good (alertOf n)
+  pub fresh-alert-answered : (version n : ℕ) (j : Lent) (image bs : List ℕ) → Typed (Histories.receive image bs) → enough (Histories.receive image bs) j ≡ true
+      → let w = joinedAll [] ms ++ bs in verdict (split w .rest) ≡ good (alertOf version n)
       → (os rs : List Message) (r : Message) → requestsOf w ≡ os ++ (r ∷ rs) → Drops r → Each NoAlert rs
       → let q = reached p l d ms in
       let before = made q (record { lent = j; call = Histories.receive image bs }) in
       let after = made q (record { lent = j; call = Histories.receive image (bs ++ (0 ∷ [])) }) in
-      (after .answer ≡ done) × (view (after .parts) .pending ≡ owed (view q .terminator-owed) ++ alertReply n (oldest (view (before .parts) .waiting)))
+      (after .answer ≡ done) × (view (after .parts) .pending ≡ owed (view q .terminator-owed) ++ alertReply version n (oldest (view (before .parts) .waiting)))
   unfolding meantMade meant enough carriedOut
-  fresh-alert-answered n j image bs c e v os rs r split-so drops no-alert =
+  fresh-alert-answered version n j image bs c e v os rs r split-so drops no-alert =
       let f = factoryOf d in
       let hist = history p b l d typed accepted ms t in
       let q = reached p l d ms in
@@ -263,10 +265,10 @@ module _ (p : Parts) (b : Bytes p) (l : Lent) (d : List ℕ) (typed : Typed (His
       none-retained (a .retained) (frames-retained w s (calls-retained f ms) image bs ∙ rw split-so (behind-none os rs r drops no-alert)) in
       let waits : view (made q (record { lent = j; call = Histories.receive image bs }) .parts) .waiting ≡ a .waiting =
       ap (λ (z : State). z .waiting) (x .leaves .0) ∙ rw (hist .1) (ap (λ (z : State). z .waiting) (sym (stream-carried w s since image bs))) in
-      let answered : stream image s (bs ++ (0 ∷ [])) .pending ≡ owed (s .terminator-owed) ++ alertReply n (oldest (a .waiting)) =
+      let answered : stream image s (bs ++ (0 ∷ [])) .pending ≡ owed (s .terminator-owed) ++ alertReply version n (oldest (a .waiting)) =
       ap (λ (z : State). z .pending) (stream-closes w s since image bs)
-      ∙ framed-pending image a (split (w ++ bs) .rest) (alertOf n) v
-      ∙ rw (taken-reply image a n kept, frames-owed image (framesBy w bs) s) in
+      ∙ framed-pending image a (split (w ++ bs) .rest) (alertOf version n) v
+      ∙ rw (taken-reply image a version n kept, frames-owed image (framesBy w bs) s) in
       (y .answer, ap (λ (z : State). z .pending) (y .leaves .0) ∙ rw (hist .1, waits) answered)
 
 -- ---- a reboot or power-off among the calls
@@ -322,15 +324,15 @@ pub fresh-after-reboot : (p : Parts) → Bytes p → (l : Lent) (d : List ℕ) �
     → (k : Lent) (image₁ cs : List ℕ) → let first = Histories.receive image₁ (cs ++ (0 ∷ [])) in Typed first → enough first k ≡ true
     → (r : Message) → verdict (split (joinedAll [] ms ++ cs) .rest) ≡ good r → Drops r
     → (ns : List Made) → AllTyped ns → NoStart ns
-    → (n : ℕ) (j : Lent) (image bs : List ℕ) → Typed (Histories.receive image bs) → enough (Histories.receive image bs) j ≡ true
+    → (version n : ℕ) (j : Lent) (image bs : List ℕ) → Typed (Histories.receive image bs) → enough (Histories.receive image bs) j ≡ true
     → let w = joinedAll [] ms ++ (cs ++ (0 ∷ [])) in
     let later = joinedAll [] ns ++ bs in
-    Each NoAlert (requestsIn (framesBy w later)) → verdict (split (w ++ later) .rest) ≡ good (alertOf n)
+    Each NoAlert (requestsIn (framesBy w later)) → verdict (split (w ++ later) .rest) ≡ good (alertOf version n)
     → let q = reached p l d (ms ++ ((record { lent = k; call = first }) ∷ ns)) in
     let before = made q (record { lent = j; call = Histories.receive image bs }) in
     let after = made q (record { lent = j; call = Histories.receive image (bs ++ (0 ∷ [])) }) in
-    (after .answer ≡ done) × (view (after .parts) .pending ≡ owed (view q .terminator-owed) ++ alertReply n (oldest (view (before .parts) .waiting)))
-fresh-after-reboot p b l d typed accepted ms t k image₁ cs c₁ e₁ r v₁ drops ns u h n j image bs c e no-alert v =
+    (after .answer ≡ done) × (view (after .parts) .pending ≡ owed (view q .terminator-owed) ++ alertReply version n (oldest (view (before .parts) .waiting)))
+fresh-after-reboot p b l d typed accepted ms t k image₁ cs c₁ e₁ r v₁ drops ns u h version n j image bs c e no-alert v =
     let first : Made = record { lent = k; call = Histories.receive image₁ (cs ++ (0 ∷ [])) } in
     let w₀ = joinedAll [] ms in
     let w = w₀ ++ (cs ++ (0 ∷ [])) in
@@ -342,4 +344,4 @@ fresh-after-reboot p b l d typed accepted ms t k image₁ cs c₁ e₁ r v₁ dr
     let asked : requestsOf w ≡ os ++ (r ∷ []) = ap requestsOf (sym (append-assoc w₀ cs (0 ∷ []))) ∙ closes-request (w₀ ++ cs) r v₁ in
     let all : requestsOf (w ++ later) ≡ os ++ (r ∷ rs) = requests-behind w later ∙ ap (λ x. x ++ rs) asked ∙ append-assoc os (r ∷ []) rs in
     fresh-alert-answered p b l d typed accepted (ms ++ (first ∷ ns)) (each-append (λ (m : Made). Typed (m .call)) ms (first ∷ ns) t (c₁, u))
-    n j image bs c e (rw whole v) os rs r (rw whole all) drops no-alert
+    version n j image bs c e (rw whole v) os rs r (rw whole all) drops no-alert

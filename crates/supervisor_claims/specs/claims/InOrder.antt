@@ -14,12 +14,12 @@ use Rattle.octets.specs.Bytes.{Each}
 use Rattle.octets.proofs.Conditions.{cond-both}
 use Rattle.line.specs.Limits.{longest-form}
 use Rattle.line.specs.Message.{Message}
-use Rattle.line.specs.Judge.{Verdict, failure, good, judgeForm, judge}
+use Rattle.line.specs.Judge.{judgeForm, judge}
 use Rattle.supervisor.specs.State.{Retained, State, withReceived, withPending, withTerminatorOwed}
-use Rattle.supervisor.specs.Local.{lookup, valueOf}
+use Rattle.supervisor.specs.Local.{lookup, entryOf}
 use Rattle.requests.specs.Commands.{Command, commandOf}
 use Rattle.requests.specs.Requests
-use Rattle.requests.specs.Requests.{Reply, Carried, verdict, effect, carriedBy, carried, judged, closed, more, byte, stream, owed, replyFrame, sent, replyOf, failedOf}
+use Rattle.requests.specs.Requests.{Verdict, failure, good, first-version, Reply, Carried, verdict, effect, carriedBy, carried, judged, closed, more, byte, stream, owed, replyFrame, sent, replyOf, failedOf}
 use Rattle.supervisor_claims.specs.FrameHistory.{framed, allFramed, tailOf}
 use Rattle.line_claims.specs.Pieces.{split, nonEmpty, split-none, split-close, split-more}
 
@@ -47,14 +47,14 @@ module _ (received : Option (List ℕ)) (pending : List ℕ) (terminator-owed : 
   abbrev other : State
   other = lined s received pending terminator-owed
 
-  alert-lined : (sequence : ℕ) (r : Option Retained) → Alike (Requests.alertAsked other sequence r) (Requests.alertAsked s sequence r)
+  alert-lined : (version sequence : ℕ) (r : Option Retained) → Alike (Requests.alertAsked version other sequence r) (Requests.alertAsked version s sequence r)
   unfolding Requests.alertAsked Requests.alertTaken
-  alert-lined sequence none = record { state = refl; reply = refl }
-  alert-lined sequence (some r) =
+  alert-lined version sequence none = record { state = refl; reply = refl }
+  alert-lined version sequence (some r) =
       cond-both Alike (eqb (r .sequence) sequence) (λ e. record { state = refl; reply = refl }) (λ e. record { state = refl; reply = refl })
 
   effect-lined : (image : List ℕ) (m : Message) (x : Command) → Alike (effect x image other m) (effect x image s m)
-  unfolding effect Requests.reboot Requests.powerOff Requests.bootFailure Requests.panicked Requests.startAcknowledged Requests.keySet lookup valueOf
+  unfolding effect Requests.reboot Requests.powerOff Requests.bootFailure Requests.panicked Requests.startAcknowledged Requests.keySet lookup entryOf
   effect-lined image m Command.reboot = record { state = refl; reply = refl }
   effect-lined image m Command.power-off = record { state = refl; reply = refl }
   effect-lined image m Command.bsu = record { state = refl; reply = refl }
@@ -64,7 +64,7 @@ module _ (received : Option (List ℕ)) (pending : List ℕ) (terminator-owed : 
   effect-lined image m Command.panic = record { state = refl; reply = refl }
   effect-lined image m Command.status = record { state = refl; reply = refl }
   effect-lined image m Command.start-acknowledged = record { state = refl; reply = refl }
-  effect-lined image m Command.alert = alert-lined (m .sequence) (s .retained)
+  effect-lined image m Command.alert = alert-lined (m .version) (m .sequence) (s .retained)
   effect-lined image m Command.image-block = record { state = refl; reply = refl }
   effect-lined image m Command.key-lookup = record { state = refl; reply = refl }
   effect-lined image m Command.inventory = record { state = refl; reply = refl }
@@ -82,31 +82,31 @@ module _ (received : Option (List ℕ)) (pending : List ℕ) (terminator-owed : 
 
 -- what it does to the rest of the state, and the reply that it earns
 unfoldable pub doneBy : List ℕ → State → Verdict → State
-doneBy image s (failure reason sequence) = s
+doneBy image s (failure reason version sequence) = s
 doneBy image s (good m) = carried image s m .state
 
 unfoldable pub replyBy : List ℕ → State → Verdict → Option Reply
-replyBy image s (failure reason sequence) = some (failedOf reason sequence)
+replyBy image s (failure reason version sequence) = some (failedOf reason version sequence)
 replyBy image s (good m) = replyOf (m .sequence) (carried image s m .reply)
 
 module _ (image : List ℕ) (s : State) where
   pub done-lined : (received : Option (List ℕ)) (pending : List ℕ) (terminator-owed : Bool) (v : Verdict)
       → doneBy image (lined s received pending terminator-owed) v ≡ lined (doneBy image s v) received pending terminator-owed
   unfolding doneBy
-  done-lined received pending terminator-owed (failure reason sequence) = refl
+  done-lined received pending terminator-owed (failure reason version sequence) = refl
   done-lined received pending terminator-owed (good m) = carried-lined received pending terminator-owed s image m .state
 
   pub reply-lined : (received : Option (List ℕ)) (pending : List ℕ) (terminator-owed : Bool) (v : Verdict)
       → replyBy image (lined s received pending terminator-owed) v ≡ replyBy image s v
   unfolding replyBy
-  reply-lined received pending terminator-owed (failure reason sequence) = refl
+  reply-lined received pending terminator-owed (failure reason version sequence) = refl
   reply-lined received pending terminator-owed (good m) = ap (replyOf (m .sequence)) (carried-lined received pending terminator-owed s image m .reply)
 
   -- pending is then a 00 where one is owed, and the reply; the receive progress and the last taken byte are as before
   pub judged-is : (v : Verdict)
       → judged image s v ≡ lined (doneBy image s v) (s .received) (owed (s .terminator-owed) ++ replyFrame (replyBy image s v)) (s .terminator-owed)
   unfolding judged sent doneBy replyBy
-  judged-is (failure reason sequence) = refl
+  judged-is (failure reason version sequence) = refl
   judged-is (good m) =
       let c = carried-lined (s .received) (s .pending) (s .terminator-owed) s image m .state in
       let r : carried image s m .state .received ≡ s .received = ap (λ (x : State). x .received) c in
@@ -132,10 +132,10 @@ module _ (image : List ℕ) (s : State) (b : ℕ) (bs : List ℕ) where
       rw (e, o)
 
   -- any other frame that is not empty changes nothing but the pending bytes
-  pub failure-only-pending : (reason : ℕ) (sequence : Option ℕ) → verdict (b ∷ bs) ≡ failure reason sequence
-      → framed image s (b ∷ bs) ≡ withPending s (owed (s .terminator-owed) ++ replyFrame (some (failedOf reason sequence)))
+  pub failure-only-pending : (reason version : ℕ) (sequence : Option ℕ) → verdict (b ∷ bs) ≡ failure reason version sequence
+      → framed image s (b ∷ bs) ≡ withPending s (owed (s .terminator-owed) ++ replyFrame (some (failedOf reason version sequence)))
   unfolding framed judged sent
-  failure-only-pending reason sequence e = rw e
+  failure-only-pending reason version sequence e = rw e
 
 pub allFramed-append : (image : List ℕ) (s : State) (fs gs : List (List ℕ)) → allFramed image s (fs ++ gs) ≡ allFramed image (allFramed image s fs) gs
 unfolding allFramed
@@ -173,7 +173,7 @@ more-tail bs b = by (ltb longest-form (length bs)) (ltb (length bs) longest-form
     by false false e f = rw (tail-within bs (ltb-false _ _ e), f, tail-over (bs ++ (b ∷ [])) (omega (arith, long, ltb-false (length bs) longest-form f)))
 
 -- more bytes than a form has
-pub verdict-over : (bs : List ℕ) → longest-form < length bs → verdict bs ≡ failure 1 none
+pub verdict-over : (bs : List ℕ) → longest-form < length bs → verdict bs ≡ failure 1 first-version none
 unfolding verdict judge judgeForm
 verdict-over bs h = rw (lt-ltb longest-form (length bs) h)
 
@@ -188,7 +188,7 @@ module _ (image : List ℕ) (s : State) where
           → closed image (withReceived s (tailOf (b ∷ bs))) (tailOf (b ∷ bs)) ≡ withReceived (judged image s (verdict (b ∷ bs))) (some [])
       by true e =
           let h = ltb-true longest-form (length (b ∷ bs)) e in
-          rw (tail-over (b ∷ bs) h, verdict-over (b ∷ bs) h) (judged-receiving image s (some []) (failure 1 none))
+          rw (tail-over (b ∷ bs) h, verdict-over (b ∷ bs) h) (judged-receiving image s (some []) (failure 1 first-version none))
       by false e = rw (tail-within (b ∷ bs) (ltb-false _ _ e)) (judged-receiving image s (some []) (verdict (b ∷ bs)))
 
 module _ (image : List ℕ) (s : State) where

@@ -1,25 +1,25 @@
--- A settings key holds the value of its last successful set among the requests that were carried out.
+-- A settings key holds the value of its last successful set among the requests that were carried out, and as edition their number.
 -- Assumes nothing.
 use mathlib.Core.Path.{_≡_, refl, sym, ap, _∙_}
-use mathlib.Core.Bool.{Bool, true, false, cond, false≢true}
-use mathlib.Core.List.{List, [], _∷_, _++_}
+use mathlib.Core.Bool.{Bool, true, false, cond, not, _&&_, false≢true}
+use mathlib.Core.List.{List, [], _∷_, _++_, append-assoc, append-nil}
 use mathlib.Core.Option.{Option, none, some}
-use Prim.Native.Nat.{ℕ, _-_}
-use native.Mathlib.Nat.{add-zero}
+use Prim.Native.Nat.{ℕ, zero, suc, _+_, _-_, _≤_, _<_}
+use native.Mathlib.Nat.{add-zero, zero-add}
 use native.Mathlib.Omega.{arith}
-use lib.Dec.{ltb, eqb}
-use lib.ListN.{length, drop, length-set, length-replicate, getD-replicate}
-use lib.Seq.{getD-set-same, getD-set-other}
+use lib.Dec.{ltb, eqb, eqb·suc-suc, eqb·zero-suc}
+use lib.ListN.{length, take, drop, length-set, length-replicate, getD-replicate}
+use lib.Seq.{take-nil, getD-set-same, getD-set-other}
 use borrow.Author.Tests.{eqb-true, eqb-false, eq-eqb, ne-eqb, le-ltb, ltb-false}
 use Rattle.octets.specs.Bytes.{number, numberAt}
 use Rattle.octets.proofs.Conditions.{cond-by, cond-both}
 use Rattle.line.specs.Message.{Message}
-use Rattle.line.specs.Judge.{Verdict, failure, good}
+use Rattle.requests.specs.Requests.{Verdict, failure, good}
 use Rattle.line_claims.specs.Pieces.{split, nonEmpty, nonEmpty-append, closedBy, closed-join}
 use Rattle.supervisor.specs.Limits
 use Rattle.supervisor.specs.Limits.{SettingsKey}
-use Rattle.supervisor.specs.State.{Factory, Settings, Retained, State, setting, fresh}
-use Rattle.supervisor.specs.Local.{valueOf}
+use Rattle.supervisor.specs.State.{Factory, Setting, unset, Settings, Retained, State, setting, fresh}
+use Rattle.supervisor.specs.Local.{entryOf}
 use Rattle.requests.specs.Commands.{Command, numberOf, withNumber, commandOf}
 use Rattle.requests.specs.Requests
 use Rattle.requests.specs.Requests.{Carried, verdict, effect, carriedBy, carried, stored, judged, sent}
@@ -29,25 +29,68 @@ use Rattle.supervisor_claims.specs.Histories.{Made}
 use Rattle.supervisor_claims.specs.laws.Progress.{local-stays}
 use Rattle.supervisor_claims.specs.laws.CallsKeep.{calls-keep}
 use Rattle.supervisor_claims.specs.FrameHistory.{joinedAll, framesBy, framed, allFramed, carriedOut, leftByFrames}
-use Rattle.supervisor_claims.specs.LastSet.{request, requestsIn, requestsOf, valueFor, setBy, orElse, lastSet}
+use Rattle.supervisor_claims.specs.LastSet.{request, requestsIn, requestsOf, valueFor, setBy, listedIf, setsOf, successful, lastOr, setAfter}
 
--- ---- the last of several
+-- ---- requests one after the other
 
-or-else-assoc : (a b c : Option (List ℕ)) → orElse (orElse a b) c ≡ orElse a (orElse b c)
-or-else-assoc none b c = refl
-or-else-assoc (some v) b c = refl
+-- a setting after a set with a value, or none
+abbrev pub onto : Setting → Option (List ℕ) → Setting
+onto x none = x
+onto x (some v) = cond (eqb (x .edition) Limits.last-edition) x (record { edition = suc (x .edition); value = some v })
 
-pub last-append : (k : ℕ) (ms ns : List Message) → lastSet k (ms ++ ns) ≡ orElse (lastSet k ns) (lastSet k ms)
-unfolding lastSet
-last-append k [] ns = by (lastSet k ns)
+-- after requests, in order
+unfoldable pub afterSets : ℕ → Setting → List Message → Setting
+afterSets k x [] = x
+afterSets k x (m ∷ ms) = afterSets k (onto x (setBy k m)) ms
+
+pub after-append : (k : ℕ) (x : Setting) (ms ns : List Message) → afterSets k x (ms ++ ns) ≡ afterSets k (afterSets k x ms) ns
+unfolding afterSets
+after-append k x [] ns = refl
+after-append k x (m ∷ ms) ns = after-append k (onto x (setBy k m)) ms ns
+
+pub onto-low : (x : Setting) (o : Option (List ℕ)) → x .edition ≤ Limits.last-edition → onto x o .edition ≤ Limits.last-edition
+onto-low x none h = h
+onto-low x (some v) h =
+    cond-by (λ (y : Setting). y .edition ≤ Limits.last-edition) (eqb (x .edition) Limits.last-edition) _ _ (λ e. h) (λ e.
+    omega (arith, eqb-false (x .edition) Limits.last-edition e))
+
+-- the last edition stays, and any other counts on
+at-last : (k : ℕ) (x : Setting) (ms : List Message) → x .edition ≡ Limits.last-edition → setAfter k x ms ≡ x
+unfolding setAfter successful lastOr
+at-last k x ms e = let z : Limits.last-edition - x .edition ≡ 0 = omega arith in rw (z, add-zero)
+
+module _ (k : ℕ) (x : Setting) (m : Message) (ms : List Message) where
+  set-none : setBy k m ≡ none → setAfter k x (m ∷ ms) ≡ setAfter k x ms
+  unfolding setAfter successful setsOf
+  set-none e = rw e
+
+  set-some : (v : List ℕ) → setBy k m ≡ some v → x .edition < Limits.last-edition
+      → setAfter k x (m ∷ ms) ≡ setAfter k (record { edition = suc (x .edition); value = some v }) ms
+  unfolding setAfter successful setsOf lastOr
+  set-some v e low =
+      let n = Limits.last-edition - suc (x .edition) in
+      let z : Limits.last-edition - x .edition ≡ suc n = omega arith in
+      let sum : (i : ℕ) → x .edition + suc i ≡ suc (x .edition) + i = λ i. omega arith in
+      rw (e, z, sum (length (take n (setsOf k ms))))
+
+after-none : (k : ℕ) (x : Setting) → setAfter k x [] ≡ x
+unfolding setAfter successful setsOf lastOr
+after-none k x = rw (take-nil, add-zero)
+
+pub after-sets : (k : ℕ) (x : Setting) (ms : List Message) → x .edition ≤ Limits.last-edition → afterSets k x ms ≡ setAfter k x ms
+unfolding afterSets
+after-sets k x [] h = sym (after-none k x)
+after-sets k x (m ∷ ms) h = after-sets k (onto x (setBy k m)) ms (onto-low x (setBy k m) h) ∙ by (setBy k m) refl
   where
-    by : (o : Option (List ℕ)) → o ≡ orElse o none
-    by none = refl
-    by (some v) = refl
-last-append k (m ∷ ms) ns = rw (last-append k ms ns) (or-else-assoc (lastSet k ns) (lastSet k ms) (setBy k m))
+    by : (o : Option (List ℕ)) → setBy k m ≡ o → setAfter k (onto x o) ms ≡ setAfter k x (m ∷ ms)
+    by none e = sym (set-none k x m ms e)
+    by (some v) e =
+        cond-by (λ (y : Setting). setAfter k y ms ≡ setAfter k x (m ∷ ms)) (eqb (x .edition) Limits.last-edition) _ _
+        (λ f. let l = eqb-true (x .edition) Limits.last-edition f in at-last k x ms l ∙ sym (at-last k x (m ∷ ms) l))
+        (λ f. sym (set-some k x m ms v e (omega (arith, eqb-false (x .edition) Limits.last-edition f))))
 
 request-append : (v : Verdict) (ms ns : List Message) → request v (ms ++ ns) ≡ request v ms ++ ns
-request-append (failure reason sequence) ms ns = refl
+request-append (failure reason version sequence) ms ns = refl
 request-append (good m) ms ns = refl
 
 pub requests-append : (fs gs : List (List ℕ)) → requestsIn (fs ++ gs) ≡ requestsIn fs ++ requestsIn gs
@@ -68,10 +111,10 @@ requests-behind w bs =
 record Kept (s : State) (c : Carried) : Type 0 where
   settings : c .state .settings ≡ s .settings
 
-alert-kept : (s : State) (sequence : ℕ) (r : Option Retained) → Kept s (Requests.alertAsked s sequence r)
+alert-kept : (version : ℕ) (s : State) (sequence : ℕ) (r : Option Retained) → Kept s (Requests.alertAsked version s sequence r)
 unfolding Requests.alertAsked Requests.alertTaken
-alert-kept s sequence none = record { settings = refl }
-alert-kept s sequence (some r) = cond-by (Kept s) (eqb (r .sequence) sequence) _ _ (λ e. record { settings = refl }) (λ e. record { settings = refl })
+alert-kept version s sequence none = record { settings = refl }
+alert-kept version s sequence (some r) = cond-by (Kept s) (eqb (r .sequence) sequence) _ _ (λ e. record { settings = refl }) (λ e. record { settings = refl })
 
 module _ (image : List ℕ) (s : State) (m : Message) where
   effect-kept : (x : Command) → eqb (numberOf x) 0x10 ≡ false → Kept s (effect x image s m)
@@ -85,7 +128,7 @@ module _ (image : List ℕ) (s : State) (m : Message) where
   effect-kept Command.panic n = record { settings = refl }
   effect-kept Command.status n = record { settings = refl }
   effect-kept Command.start-acknowledged n = record { settings = refl }
-  effect-kept Command.alert n = alert-kept s (m .sequence) (s .retained)
+  effect-kept Command.alert n = alert-kept (m .version) s (m .sequence) (s .retained)
   effect-kept Command.image-block n = record { settings = refl }
   effect-kept Command.key-lookup n = record { settings = refl }
   effect-kept Command.inventory n = record { settings = refl }
@@ -106,98 +149,142 @@ module _ (image : List ℕ) (s : State) (m : Message) where
 
 -- ---- what a set stores
 
--- the store has every settings key, and key k has the value o
-pub record Has (z : Settings) (k : ℕ) (o : Option (List ℕ)) : Type 0 where
+-- the store has every settings key, and key k has the setting x
+pub record Has (z : Settings) (k : ℕ) (x : Setting) : Type 0 where
   pub long : length z ≡ Limits.setting-count
-  pub value : setting z k ≡ o
+  pub held : setting z k ≡ x
 
-pub value-held : (s : State) {k : ℕ} → SettingsKey k → valueOf s k ≡ setting (s .settings) k
-unfolding valueOf
-value-held s {k} h = rw (ne-eqb k 0 (λ e. omega (arith, h, e)), ne-eqb k 1 (λ e. omega (arith, h, e)), ne-eqb k 2 (λ e. omega (arith, h, e)))
+pub entry-held : (s : State) {k : ℕ} → SettingsKey k → entryOf s k ≡ setting (s .settings) k
+unfolding entryOf
+entry-held s {k} h = rw (ne-eqb k 0 (λ e. omega (arith, h, e)), ne-eqb k 1 (λ e. omega (arith, h, e)), ne-eqb k 2 (λ e. omega (arith, h, e)))
 
-module _ (z : Settings) (v : List ℕ) {k : ℕ} (h : SettingsKey k) where
-  -- a set is successful where its reply's result is 0
-  abbrev Successful : Option (List ℕ) → Requests.Stored → Type 0
-  Successful o y = o ≡ cond (eqb (y .result) 0) (some v) none
-
-  pub set-successful : valueFor k (k ∷ v) ≡ cond (eqb (stored z k v .result) 0) (some v) none
-  unfolding stored valueFor
+module _ (z : Settings) (v : List ℕ) {k : ℕ} (h : SettingsKey k) (x : Setting) (g : Has z k x) where
+  -- a set is successful, its reply's result being 0, exactly where its value is not too long and the edition is not the last
+  pub set-successful : eqb (stored z k v .result) 0 ≡ (not (ltb (Limits.longest-setting k) (length v)) && not (eqb (x .edition) Limits.last-edition))
+  unfolding stored
   set-successful =
-      rw (eq-eqb k k refl, le-ltb Limits.highest-key k (h .most), le-ltb k Limits.first-setting (h .least))
-      (cond-both Successful (ltb (Limits.longest-setting k) (length v)) (λ e. refl) (λ e. refl))
+      rw (le-ltb Limits.highest-key k (h .most), le-ltb k Limits.first-setting (h .least), g .held)
+      (by (ltb (Limits.longest-setting k) (length v)) (eqb (x .edition) Limits.last-edition) z _)
+    where
+      by : (t u : Bool) (a b : Settings)
+          → eqb ((cond {A = Requests.Stored} t (record { result = 3; settings = a }) (cond u (record { result = 4; settings = a }) (record { result = 0; settings = b }))) .result) 0
+          ≡ (not t && not u)
+      by true u a b = refl
+      by false true a b = refl
+      by false false a b = refl
 
-  module _ (o : Option (List ℕ)) (x : Has z k o) where
-    -- under the key itself
-    same-key : Has (stored z k v .settings) k (orElse (cond (ltb (Limits.longest-setting k) (length v)) none (some v)) o)
-    unfolding stored
-    same-key =
-        rw (le-ltb Limits.highest-key k (h .most), le-ltb k Limits.first-setting (h .least))
-        (cond-both (λ (y : Requests.Stored) p. Has (y .settings) k (orElse p o)) (ltb (Limits.longest-setting k) (length v)) (λ e. x) (λ e.
-        record {
-          long = length-set z (k - Limits.first-setting) (some v) ∙ x .long;
-          value = getD-set-same z (k - Limits.first-setting) (some v) none (omega (arith, h, x .long));
-        }))
+  -- under the key itself
+  same-key : Has (stored z k v .settings) k (onto x (cond (ltb (Limits.longest-setting k) (length v)) none (some v)))
+  unfolding stored
+  same-key =
+      let i = k - Limits.first-setting in
+      rw (le-ltb Limits.highest-key k (h .most), le-ltb k Limits.first-setting (h .least), g .held)
+      (cond-both (λ (y : Requests.Stored) o. Has (y .settings) k (onto x o)) (ltb (Limits.longest-setting k) (length v)) (λ e. g) (λ e.
+      cond-both (λ (y : Requests.Stored) u. Has (y .settings) k u) (eqb (x .edition) Limits.last-edition) (λ f. g) (λ f.
+      record {
+        long = length-set z i (record { edition = suc (x .edition); value = some v }) ∙ g .long;
+        held = getD-set-same z i (record { edition = suc (x .edition); value = some v }) unset (omega (arith, h, g .long));
+      })))
 
-    -- under another key
-    other-key : (key : ℕ) → eqb key k ≡ false → Has (stored z key v .settings) k o
-    unfolding stored
-    other-key key e =
-        let P : Requests.Stored → Type 0 = λ y. Has (y .settings) k o in
-        cond-by P (ltb Limits.highest-key key) _ _ (λ f. x) (λ f.
-        cond-by P (ltb key Limits.first-setting) _ _ (λ g. x) (λ g.
-        cond-by P (ltb (Limits.longest-setting key) (length v)) _ _ (λ i. x) (λ i.
-        record {
-          long = length-set z (key - Limits.first-setting) (some v) ∙ x .long;
-          value =
-              getD-set-other z (key - Limits.first-setting) (k - Limits.first-setting) (some v) none (λ n.
-              eqb-false key k e (omega (arith, h, ltb-false key Limits.first-setting g, n)))
-              ∙ x .value;
-        })))
+  -- under another key
+  other-key : (key : ℕ) → eqb key k ≡ false → Has (stored z key v .settings) k x
+  unfolding stored
+  other-key key e =
+      let P : Requests.Stored → Type 0 = λ y. Has (y .settings) k x in
+      let u : Setting = record { edition = suc (setting z key .edition); value = some v } in
+      cond-by P (ltb Limits.highest-key key) _ _ (λ f. g) (λ f.
+      cond-by P (ltb key Limits.first-setting) _ _ (λ i. g) (λ i.
+      cond-by P (ltb (Limits.longest-setting key) (length v)) _ _ (λ j. g) (λ j.
+      cond-by P (eqb (setting z key .edition) Limits.last-edition) _ _ (λ l. g) (λ l.
+      record {
+        long = length-set z (key - Limits.first-setting) u ∙ g .long;
+        held =
+            getD-set-other z (key - Limits.first-setting) (k - Limits.first-setting) u unset (λ n.
+            eqb-false key k e (omega (arith, h, ltb-false key Limits.first-setting i, n)))
+            ∙ g .held;
+      }))))
 
-    stored-has : (key : ℕ) → Has (stored z key v .settings) k (orElse (valueFor k (key ∷ v)) o)
-    unfolding valueFor
-    stored-has key = by (eqb key k) refl
-      where
-        by : (t : Bool) → eqb key k ≡ t → Has (stored z key v .settings) k (orElse (valueFor k (key ∷ v)) o)
-        by true e = rw (e, eqb-true key k e) same-key
-        by false e = rw e (other-key key e)
+  stored-has : (key : ℕ) → Has (stored z key v .settings) k (onto x (valueFor k (key ∷ v)))
+  unfolding valueFor
+  stored-has key = by (eqb key k) refl
+    where
+      by : (t : Bool) → eqb key k ≡ t → Has (stored z key v .settings) k (onto x (valueFor k (key ∷ v)))
+      by true e = rw (e, eqb-true key k e) same-key
+      by false e = rw e (other-key key e)
 
 -- a key set's data
-data-has : (z : Settings) (bs : List ℕ) {k : ℕ} → SettingsKey k → (o : Option (List ℕ)) → Has z k o
-    → Has (stored z (numberAt 1 bs 0) (drop 1 bs) .settings) k (orElse (valueFor k bs) o)
+data-has : (z : Settings) (bs : List ℕ) {k : ℕ} → SettingsKey k → (x : Setting) → Has z k x
+    → Has (stored z (numberAt 1 bs 0) (drop 1 bs) .settings) k (onto x (valueFor k bs))
 unfolding number stored valueFor
-data-has z [] h o x = x
-data-has z (key ∷ v) h o x = rw add-zero (stored-has z v h o x key)
+data-has z [] h x g = g
+data-has z (key ∷ v) h x g = rw add-zero (stored-has z v h x g key)
+
+-- ---- which sets are successful
+
+sets-append : (k : ℕ) (ms ns : List Message) → setsOf k (ms ++ ns) ≡ setsOf k ms ++ setsOf k ns
+unfolding setsOf
+sets-append k [] ns = refl
+sets-append k (m ∷ ms) ns = rw (sets-append k ms ns, append-assoc)
+
+-- values with one more behind them, or none: as many as the edition leaves room for
+take-one : (n : ℕ) (vs : List (List ℕ)) (v : List ℕ) (t : Bool) → eqb (length (take n vs)) n ≡ t → take n (vs ++ (v ∷ [])) ≡ take n vs ++ cond t [] (v ∷ [])
+take-one zero vs v t e = rw (← e)
+take-one (suc n) [] v t e = rw (← e, eqb·zero-suc) (ap (λ (l : List (List ℕ)). v ∷ l) (take-nil n))
+take-one (suc n) (w ∷ vs) v t e = ap (λ (l : List (List ℕ)). w ∷ l) (take-one n vs v t (sym (eqb·suc-suc (length (take n vs)) n) ∙ e))
+
+counted-one : (n : ℕ) (vs : List (List ℕ)) (v : List ℕ) (t : Bool)
+    → take n (vs ++ listedIf (cond t none (some v))) ≡ take n vs ++ cond (not t && not (eqb (length (take n vs)) n)) (v ∷ []) []
+counted-one n vs v true = rw (append-nil, append-nil)
+counted-one n vs v false = by (eqb (length (take n vs)) n) refl
+  where
+    by : (u : Bool) → eqb (length (take n vs)) n ≡ u → take n (vs ++ (v ∷ [])) ≡ take n vs ++ cond (not (eqb (length (take n vs)) n)) (v ∷ []) []
+    by true e = rw e (take-one n vs v true e)
+    by false e = rw e (take-one n vs v false e)
+
+counted-by : (n : ℕ) (vs : List (List ℕ)) (v : List ℕ) (t : Bool) {all : List (List ℕ)} {r : Bool} → all ≡ vs ++ listedIf (cond t none (some v))
+    → r ≡ (not t && not (eqb (0 + length (take n vs)) n)) → take n all ≡ take n vs ++ cond r (v ∷ []) []
+counted-by n vs v t e f = rw (e, f, zero-add) (counted-one n vs v t)
+
+set-listed : (k : ℕ) (m : Message) (v : List ℕ) → m .command ≡ 0x10 → m .payload ≡ k ∷ v
+    → setsOf k (m ∷ []) ≡ listedIf (cond (ltb (Limits.longest-setting k) (length v)) none (some v))
+unfolding setsOf setBy valueFor
+set-listed k m v c d = rw (c, d, eq-eqb k k refl, append-nil)
+
+-- A key set behind requests counts among the successful sets of its key exactly where its reply's result is 0.
+pub successful-exactly : {k : ℕ} → SettingsKey k → (ms : List Message) (z : Settings) → Has z k (setAfter k unset ms) → (m : Message) (v : List ℕ)
+    → m .command ≡ 0x10 → m .payload ≡ k ∷ v
+    → successful 0 k (ms ++ (m ∷ [])) ≡ successful 0 k ms ++ cond (eqb (stored z k v .result) 0) (v ∷ []) []
+unfolding setAfter successful
+successful-exactly {k} h ms z g m v c d =
+    counted-by Limits.last-edition (setsOf k ms) v (ltb (Limits.longest-setting k) (length v)) (sets-append k ms (m ∷ []) ∙ ap (λ (l : List (List ℕ)). setsOf k ms ++ l) (set-listed k m v c d))
+    (set-successful z v h (setAfter k unset ms) g)
 
 -- ---- requests and frames
 
 module _ (image : List ℕ) {k : ℕ} (h : SettingsKey k) where
-  request-has : (s : State) (m : Message) (o : Option (List ℕ)) → Has (s .settings) k o
-      → Has (carried image s m .state .settings) k (orElse (setBy k m) o)
+  request-has : (s : State) (m : Message) (x : Setting) → Has (s .settings) k x → Has (carried image s m .state .settings) k (onto x (setBy k m))
   unfolding setBy
-  request-has s m o x = by (eqb (m .command) 0x10) refl
+  request-has s m x g = by (eqb (m .command) 0x10) refl
     where
-      by : (t : Bool) → eqb (m .command) 0x10 ≡ t → Has (carried image s m .state .settings) k (orElse (setBy k m) o)
-      by true e = rw (e, set-stored image s m e) (data-has (s .settings) (m .payload) h o x)
-      by false e = rw (e, other-kept image s m e .settings) x
+      by : (t : Bool) → eqb (m .command) 0x10 ≡ t → Has (carried image s m .state .settings) k (onto x (setBy k m))
+      by true e = rw (e, set-stored image s m e) (data-has (s .settings) (m .payload) h x g)
+      by false e = rw (e, other-kept image s m e .settings) g
 
-  judged-has : (s : State) (v : Verdict) (o : Option (List ℕ)) → Has (s .settings) k o
-      → Has (judged image s v .settings) k (orElse (lastSet k (request v [])) o)
-  unfolding judged sent lastSet
-  judged-has s (failure reason sequence) o x = x
-  judged-has s (good m) o x = request-has s m o x
+  judged-has : (s : State) (v : Verdict) (x : Setting) → Has (s .settings) k x → Has (judged image s v .settings) k (afterSets k x (request v []))
+  unfolding judged sent afterSets
+  judged-has s (failure reason version sequence) x g = g
+  judged-has s (good m) x g = request-has s m x g
 
-  pub frames-have : (fs : List (List ℕ)) (s : State) (o : Option (List ℕ)) → Has (s .settings) k o → let gs = nonEmpty fs in
-      Has (allFramed image s gs .settings) k (orElse (lastSet k (requestsIn gs)) o)
-  unfolding nonEmpty allFramed framed requestsIn lastSet
-  frames-have [] s o x = x
-  frames-have ([] ∷ fs) s o x = frames-have fs s o x
-  frames-have ((b ∷ bs) ∷ fs) s o x =
+  pub frames-have : (fs : List (List ℕ)) (s : State) (x : Setting) → Has (s .settings) k x → let gs = nonEmpty fs in
+      Has (allFramed image s gs .settings) k (afterSets k x (requestsIn gs))
+  unfolding nonEmpty allFramed framed requestsIn afterSets
+  frames-have [] s x g = g
+  frames-have ([] ∷ fs) s x g = frames-have fs s x g
+  frames-have ((b ∷ bs) ∷ fs) s x g =
       let v = verdict (b ∷ bs) in
       let r = requestsIn (nonEmpty fs) in
-      let y = lastSet k (request v []) in
-      let z : lastSet k (request v r) ≡ orElse (lastSet k r) y = rw (request-append v [] r) (last-append k (request v []) r) in
-      rw (z, or-else-assoc (lastSet k r) y o) (frames-have fs (judged image s v) (orElse y o) (judged-has s v o x))
+      rw (request-append v [] r, after-append k x (request v []) r)
+      (frames-have fs (judged image s v) (afterSets k x (request v [])) (judged-has s v x g))
 
 -- ---- received bytes and calls
 
@@ -210,24 +297,24 @@ frames-owed image ((b ∷ bs) ∷ fs) s =
     let v = verdict (b ∷ bs) in
     frames-owed image fs (judged image s v) ∙ ap (λ (x : State). x .terminator-owed) (judged-is image s v)
 
--- key k holds the value of its last successful set among the requests of the bytes w
+-- key k holds what its sets among the requests of the bytes w come to
 abbrev pub Holds : ℕ → List ℕ → State → Type 0
-Holds k w s = Has (s .settings) k (lastSet k (requestsOf w))
+Holds k w s = Has (s .settings) k (afterSets k unset (requestsOf w))
 
 module _ {k : ℕ} (h : SettingsKey k) where
   -- none was set yet
   pub fresh-holds : (f : Factory) → Holds k [] (fresh f)
-  unfolding fresh split nonEmpty requestsOf requestsIn lastSet
+  unfolding fresh split nonEmpty requestsOf requestsIn afterSets
   fresh-holds f = record {
-    long = length-replicate {A = Option (List ℕ)} Limits.setting-count none;
-    value = getD-replicate Limits.setting-count (k - Limits.first-setting) none none (omega (arith, h));
+    long = length-replicate {A = Setting} Limits.setting-count unset;
+    held = getD-replicate Limits.setting-count (k - Limits.first-setting) unset unset (omega (arith, h));
   }
 
   module _ (w : List ℕ) (s : State) (x : Holds k w s) where
     pub frames-hold : (image bs : List ℕ) → Holds k (w ++ bs) (allFramed image s (framesBy w bs))
     unfolding framesBy
     frames-hold image bs =
-        rw (requests-behind w bs, last-append k (requestsOf w) (requestsIn (framesBy w bs)))
+        rw (requests-behind w bs, after-append k unset (requestsOf w) (requestsIn (framesBy w bs)))
         (frames-have image h (closedBy w bs) s _ x)
 
   -- the same with the receive progress behind them

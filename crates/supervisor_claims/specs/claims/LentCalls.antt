@@ -76,6 +76,7 @@ widened-same p (Histories.local (Histories.take room)) l = simp back-same
 widened-same p (Histories.local (Histories.post action text)) l = simp back-same
 widened-same p (Histories.local (Histories.setOptions options)) l = simp back-same
 widened-same p (Histories.local (Histories.lookup key most)) l = simp back-same
+widened-same p (Histories.local (Histories.edition key)) l = simp back-same
 widened-same p (Histories.local Histories.signal) l = simp back-same
 widened-same p (Histories.local Histories.flags) l = simp back-same
 widened-same p (Histories.local (Histories.readRecord k)) l = simp back-same

@@ -63,21 +63,22 @@ module _ (p : Parts) {t : Bool} where
   unfolding fit
   outbox-test room e = sym (and-true (validOutbox (p .outbox))) ∙ e
 
-  stores-test : (key most : ℕ) → fit p (Histories.local (Histories.lookup key most)) ≡ t → (validFactory (p .factory) && validSettings (p .settings)) ≡ t
-  unfolding fit
-  stores-test key most e = ap (λ x. validFactory (p .factory) && x) (sym (and-true (validSettings (p .settings)))) ∙ e
+  -- a call that takes both stores
+  stores-test : (c : Call) → fit p c ≡ (validFactory (p .factory) && (validSettings (p .settings) && true)) → fit p c ≡ t → (validFactory (p .factory) && validSettings (p .settings)) ≡ t
+  stores-test c f e = ap (λ x. validFactory (p .factory) && x) (sym (and-true (validSettings (p .settings)))) ∙ sym f ∙ e
 
 -- where they are not: 12, and nothing changes
 pub refused-12 : (p : Parts) (c : Call) → fit p c ≡ false → did p c ≡ didBy (refused 12) (untouched c) p
 unfolding fit did Calls.starting Receive.receiving Receive.stepping Calls.taking Calls.posting Calls.settingOptions
-    Calls.lookupResult Calls.lookupValue Calls.signalOf Calls.flagsOf Calls.recordOf Calls.recordBytes
+    Calls.lookupResult Calls.lookupValue Calls.editionResult Calls.editionAt Calls.signalOf Calls.flagsOf Calls.recordOf Calls.recordBytes
 refused-12 p (Histories.start d) e = rw (room-test p d e)
 refused-12 p (Histories.receive image piece) e = rw (receive-test p image piece e)
 refused-12 p (Histories.step image piece) e = rw (receive-test p image piece e)
 refused-12 p (Histories.local (Histories.take room)) e = rw (outbox-test p room e)
 refused-12 p (Histories.local (Histories.post action text)) e = rw e
 refused-12 p (Histories.local (Histories.setOptions options)) e = rw e
-refused-12 p (Histories.local (Histories.lookup key most)) e = rw (stores-test p key most e)
+refused-12 p (Histories.local (Histories.lookup key most)) e = rw (stores-test p (Histories.local (Histories.lookup key most)) refl e)
+refused-12 p (Histories.local (Histories.edition key)) e = rw (stores-test p (Histories.local (Histories.edition key)) refl e)
 refused-12 p (Histories.local Histories.signal) e = rw e
 refused-12 p (Histories.local Histories.flags) e = rw e
 refused-12 p (Histories.local (Histories.readRecord k)) e = rw e
@@ -91,6 +92,7 @@ WhereRefused Histories.done X = Unit {0}
 WhereRefused (Histories.stepped used ended) X = Unit {0}
 WhereRefused (Histories.moved n) X = Unit {0}
 WhereRefused (Histories.found n k) X = Unit {0}
+WhereRefused (Histories.foundEdition n k) X = Unit {0}
 WhereRefused (Histories.asserted b) X = Unit {0}
 WhereRefused (Histories.asked reboot power-off) X = Unit {0}
 WhereRefused (Histories.recorded r) X = Unit {0}
@@ -120,6 +122,20 @@ module _ (X : ℕ → Type 0) (most : ℕ) where
       cond-by P (eqb key 2) _ _ (λ e. sized-held 8) (λ e.
       setting-held s (Layout.setting-offset key))))
 
+-- nor is its edition
+module _ (X : ℕ → Type 0) where
+  abbrev EditionHeld : {Q : Type 0} → (Q → Calls.EditionReport) → Q → Type 0
+  EditionHeld report q = WhereRefused (Histories.editionAnswer (report q)) X
+
+  edition-held : (f s : List ℕ) (key : ℕ) → EditionHeld (Calls.editionAt s key) (Calls.locationOf f s key)
+  unfolding Calls.editionAt Calls.locationOf Calls.settingAt
+  edition-held f s key =
+      let P = EditionHeld (Calls.editionAt s key) in
+      cond-by P (eqb key 0) _ _ (λ e. tt) (λ e.
+      cond-by P (eqb key 1) _ _ (λ e. tt) (λ e.
+      cond-by P (eqb key 2) _ _ (λ e. tt) (λ e.
+      cond-by P (eqb (Layout.settingHeld s (Layout.setting-offset key)) 1) _ _ (λ e. tt) (λ e. tt))))
+
 -- a refusal, where there is one: its number is not 12, and nothing has changed
 abbrev Other : Parts → Call → Did → Type 0
 Other p c d = WhereRefused (d .answer) (λ n. (n ≡ 12 → ⊥) × (d .parts ≡ p) × (d .out ≡ untouched c))
@@ -131,7 +147,7 @@ module _ (p : Parts) where
 
   fit-other : (c : Call) → fit p c ≡ true → Other p c (did p c)
   unfolding fit did Calls.starting Receive.receiving Receive.stepping Calls.taking Calls.posting Calls.settingOptions
-      Calls.lookupResult Calls.lookupValue Calls.signalOf Calls.flagsOf Calls.recordOf Calls.recordBytes
+      Calls.lookupResult Calls.lookupValue Calls.editionResult Calls.editionAt Calls.signalOf Calls.flagsOf Calls.recordOf Calls.recordBytes
   fit-other (Histories.start d) e = rw (room-test p d e) (cond-by P (goodStart d) _ _ (λ f. tt) (λ f. (λ h. omega (arith, h), refl, refl)))
     where
       P : Calls.Start → Type 0
@@ -149,11 +165,17 @@ module _ (p : Parts) where
       rw e
       (cond-by (registers-other (Histories.setOptions options)) (Local.optionsAllowed options) _ _ (λ f. tt) (λ f. (λ h. omega (arith, h), refl, refl)))
   fit-other (Histories.local (Histories.lookup key most)) e =
-      rw (stores-test p key most e)
+      rw (stores-test p (Histories.local (Histories.lookup key most)) refl e)
       (cond-both P (ltb Limits.highest-key key) (λ f. tt) (λ f. found-held _ most (p .factory) (p .settings) key))
     where
       P : Calls.LookupReport → List ℕ → Type 0
       P a bs = Other p (Histories.local (Histories.lookup key most)) (didBy (Histories.lookupAnswer a) bs p)
+  fit-other (Histories.local (Histories.edition key)) e =
+      rw (stores-test p (Histories.local (Histories.edition key)) refl e)
+      (cond-by P (ltb Limits.highest-key key) _ _ (λ f. tt) (λ f. edition-held _ (p .factory) (p .settings) key))
+    where
+      P : Calls.EditionReport → Type 0
+      P a = Other p (Histories.local (Histories.edition key)) (didBy (Histories.editionAnswer a) [] p)
   fit-other (Histories.local Histories.signal) e = rw e tt
   fit-other (Histories.local Histories.flags) e = rw e tt
   fit-other (Histories.local (Histories.readRecord k)) e = rw e tt

@@ -21,7 +21,7 @@ use Rattle.requests.specs.Requests
 use Rattle.supervisor_claims.specs.View.{pendingOf, factoryOf, view}
 use Rattle.supervisor_claims.specs.Sound.{Bytes, Sound}
 use Rattle.supervisor_claims.specs.Histories
-use Rattle.supervisor_claims.specs.Histories.{Typed, Answer, refused, done, stepped, moved, found, asserted, asked, recorded}
+use Rattle.supervisor_claims.specs.Histories.{Typed, Answer, refused, done, stepped, moved, found, foundEdition, asserted, asked, recorded}
 use Rattle.supervisor_claims.specs.Histories.{Lent, Made, enough, made, meant, meantMade, Told, told}
 use Rattle.supervisor_claims.specs.calls.CallClaims.{Meets}
 use Rattle.supervisor_claims.specs.laws.TakenAll.{larger-room, allTaken, afterAll, turn, session, replies, replies-taken}
@@ -64,6 +64,7 @@ movedBytes done out = []
 movedBytes (stepped n e) out = []
 movedBytes (moved n) out = ListN.take n out
 movedBytes (found n k) out = []
+movedBytes (foundEdition n k) out = []
 movedBytes (asserted b) out = []
 movedBytes (asked a b) out = []
 movedBytes (recorded r) out = []

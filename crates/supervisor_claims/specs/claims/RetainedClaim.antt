@@ -61,6 +61,6 @@ module _ (image : List ℕ) (s : State) (m : Message) where
 
 -- the next alert request, whatever its number, then takes the oldest alert that waits
 pub fresh-alert : (image : List ℕ) (s t : State) (m : Message) → Forgets s t → m .command ≡ 0x0a
-    → (carried image t m .reply ≡ some (0x07, alertData (oldest (s .waiting)))) × (carried image t m .state .waiting ≡ others (s .waiting))
+    → (carried image t m .reply ≡ some (record { version = m .version; command = 0x07; payload = alertData (oldest (s .waiting)) })) × (carried image t m .state .waiting ≡ others (s .waiting))
 unfolding carried commandOf withNumber numberOf effect Requests.alertAsked Requests.alertTaken
 fresh-alert image s t m f e = rw (e, f .retained, f .waiting) (refl, refl)

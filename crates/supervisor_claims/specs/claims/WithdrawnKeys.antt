@@ -3,24 +3,27 @@
 use mathlib.Core.Path.{_≡_, refl, ap, _∙_}
 use mathlib.Core.Bool.{true}
 use mathlib.Core.List.{List, [], _∷_, _++_}
-use Prim.Native.Nat.{ℕ, _<_}
+use mathlib.Core.Option.{Option, none, some}
+use Prim.Native.Nat.{ℕ, _+_, _<_, _≤_}
+use native.Mathlib.Nat.{zero-add}
 use native.Mathlib.Omega.{arith}
-use lib.ListN.{length}
+use lib.ListN.{length, length-append}
 use borrow.Author.Tests.{le-ltb}
 use Rattle.octets.specs.Bytes.{number, bytes, numberAt}
 use Rattle.octets.proofs.Numbers.{number-bytes}
 use Rattle.line.specs.Message.{Message}
 use Rattle.line.specs.Judge
-use Rattle.line.specs.Judge.{good}
 use Rattle.line.specs.Cobs
+use Rattle.line.specs.Frame.{frame}
 use Rattle.line_claims.specs.Pieces.{split}
 use Rattle.supervisor.specs.Limits
+use Rattle.supervisor.specs.Number.{topSet}
 use Rattle.supervisor.specs.Limits.{SettingsKey}
-use Rattle.supervisor.specs.State.{State, fresh}
+use Rattle.supervisor.specs.State.{Setting, unset, State, fresh}
 use Rattle.supervisor.specs.Local
 use Rattle.supervisor.specs.Calls.{Parts}
 use Rattle.requests.specs.Commands.{numberOf, withNumber, commandOf}
-use Rattle.requests.specs.Requests.{verdict, effect, carried, stream, owed, replyOf, replyFrame}
+use Rattle.requests.specs.Requests.{good, second-version, verdict, effect, carried, stream, owed, replyOf, replyFrame}
 use Rattle.supervisor_claims.specs.View.{factoryOf, view}
 use Rattle.supervisor_claims.specs.Sound.{Bytes}
 use Rattle.supervisor_claims.specs.Histories
@@ -29,8 +32,8 @@ use Rattle.supervisor_claims.specs.claims.InOrder.{request-carried}
 use Rattle.supervisor_claims.specs.laws.Progress.{Since}
 use Rattle.supervisor_claims.specs.FrameHistory.{framesBy, joinedAll, framed, allFramed}
 use Rattle.supervisor_claims.specs.claims.FramesClaim.{stream-closes, by-frames}
-use Rattle.supervisor_claims.specs.LastSet.{requestsOf, lastSet, lookupOf, lookupReply}
-use Rattle.supervisor_claims.specs.claims.LastSetLaws.{value-held, frames-owed, Holds, fresh-holds, frames-hold, calls-hold}
+use Rattle.supervisor_claims.specs.LastSet.{requestsOf, successful, lastOr, setAfter, lastSet, lookupOf, lookupReply}
+use Rattle.supervisor_claims.specs.claims.LastSetLaws.{entry-held, after-sets, frames-owed, Holds, fresh-holds, frames-hold, calls-hold}
 use Rattle.supervisor_claims.specs.claims.History.{history, one-call}
 
 -- ---- a lookup carried out
@@ -40,15 +43,19 @@ lookup-data : (k most : ℕ) → k < 256 → most < 65536 → let bs = bytes 1 k
 unfolding number bytes
 lookup-data k most h i = (number-bytes 1 k (omega arith), number-bytes 2 most (omega arith))
 
-found-value : (s : State) (most : ℕ) {k : ℕ} → SettingsKey k → Local.lookup s k most ≡ Local.fitted most (Local.valueOf s k)
+-- a lookup's answer, of what a key has
+abbrev pub fittedOf : ℕ → Setting → Local.Found
+fittedOf most x = Local.fitted most (x .edition) (x .value)
+
+found-value : (s : State) (most : ℕ) {k : ℕ} → SettingsKey k → Local.lookup s k most ≡ fittedOf most (Local.entryOf s k)
 unfolding Local.lookup
 found-value s most {k} h = rw (le-ltb Limits.highest-key k (h .most))
 
 -- the reply's frame
-reply-found : (image : List ℕ) (s : State) (n most : ℕ) {k : ℕ} → SettingsKey k → most < 65536
-    → replyFrame (replyOf n (carried image s (lookupOf n k most) .reply)) ≡ lookupReply n most (Local.valueOf s k)
+reply-found : (image : List ℕ) (s : State) (version n most : ℕ) {k : ℕ} → SettingsKey k → most < 65536
+    → replyFrame (replyOf n (carried image s (lookupOf version n k most) .reply)) ≡ lookupReply version n most (Local.entryOf s k)
 unfolding carried commandOf withNumber numberOf effect replyOf replyFrame lookupReply
-reply-found image s n most {k} h i =
+reply-found image s version n most {k} h i =
     let m = h .most in
     let e = lookup-data k most (omega arith) i in
     rw (e .0, e .1, found-value s most h)
@@ -65,13 +72,27 @@ framed-pending image s (b ∷ bs) m e = ap (λ (x : State). x .pending) (request
 
 -- the 00 of a lookup behind the bytes w and bs, where key k holds its last set among the requests of w
 stream-answers : {k : ℕ} (h : SettingsKey k) (w : List ℕ) (s : State) → Since (split w .rest) s → Holds k w s
-    → (image bs : List ℕ) (n most : ℕ) → most < 65536 → verdict (split (w ++ bs) .rest) ≡ good (lookupOf n k most)
-    → stream image s (bs ++ (0 ∷ [])) .pending ≡ owed (s .terminator-owed) ++ lookupReply n most (lastSet k (requestsOf (w ++ bs)))
-stream-answers h w s since holds image bs n most i e =
+    → (image bs : List ℕ) (version n most : ℕ) → most < 65536 → verdict (split (w ++ bs) .rest) ≡ good (lookupOf version n k most)
+    → stream image s (bs ++ (0 ∷ [])) .pending ≡ owed (s .terminator-owed) ++ lookupReply version n most (lastSet k (requestsOf (w ++ bs)))
+stream-answers h w s since holds image bs version n most i e =
     let a = allFramed image s (framesBy w bs) in
     ap (λ (x : State). x .pending) (stream-closes w s since image bs)
-    ∙ framed-pending image a (split (w ++ bs) .rest) (lookupOf n _ most) e
-    ∙ rw (reply-found image a n most h i, value-held a h, frames-hold h w s holds image bs .value, frames-owed image (framesBy w bs) s)
+    ∙ framed-pending image a (split (w ++ bs) .rest) (lookupOf version n _ most) e
+    ∙ rw (reply-found image a version n most h i, entry-held a h, frames-hold h w s holds image bs .held, after-sets _ unset (requestsOf (w ++ bs)) (omega arith), frames-owed image (framesBy w bs) s)
+
+-- the reply in version 2 that hands out an edition and a value
+unfoldable pub editionReply : ℕ → ℕ → List ℕ → List ℕ
+editionReply n edition v = frame (record { version = second-version; sequence = topSet n; command = 0x0a; payload = 0 ∷ (bytes 4 edition ++ v) })
+
+last-behind : (o : Option (List ℕ)) (vs : List (List ℕ)) (v : List ℕ) → lastOr o (vs ++ (v ∷ [])) ≡ some v
+unfolding lastOr
+last-behind o [] v = refl
+last-behind o (w ∷ vs) v = last-behind (some w) vs v
+
+edition-reply : (n most k : ℕ) (rs : List Message) (vs : List (List ℕ)) (v : List ℕ) → successful 0 k rs ≡ vs ++ (v ∷ []) → length v ≤ most
+    → lookupReply second-version n most (lastSet k rs) ≡ editionReply n (length vs + 1) v
+unfolding lookupReply editionReply setAfter Local.fitted
+edition-reply n most k rs vs v g h = rw (g, last-behind none vs v, length-append, le-ltb most (length v) h, zero-add)
 
 -- ---- the claims: a start that is accepted, on any bytes, then any calls
 
@@ -90,37 +111,49 @@ module _ (p : Parts) (b : Bytes p) (l : Lent) (d : List ℕ) (typed : Typed (His
       rw (by-frames f ms .1) at (calls-hold h ms [] (fresh f) (fresh-holds h f))
 
   -- a settings key has the value of its last successful set in the bytes received since the last accepted start, and none where there is none
-  pub value-last-set : {k : ℕ} → SettingsKey k → Local.valueOf (view (reached p l d ms)) k ≡ lastSet k (requestsOf (joinedAll [] ms))
-  value-last-set h = rw (history p b l d typed accepted ms t .1) (value-held state h ∙ state-holds h .value)
+  pub value-last-set : {k : ℕ} → SettingsKey k → Local.entryOf (view (reached p l d ms)) k ≡ lastSet k (requestsOf (joinedAll [] ms))
+  value-last-set h = rw (history p b l d typed accepted ms t .1) (entry-held state h ∙ state-holds h .held ∙ after-sets _ unset (requestsOf (joinedAll [] ms)) (omega arith))
 
   -- A lookup over the wire: the bytes bs and a 00 are received, and the frame that this 00 closes is the lookup. The requests before it are those of all bytes
   -- received before that 00. Then its reply is pending, behind a 00 where one is owed. Cutting the stream elsewhere changes nothing (`cut-any`), and a step is
   -- a receive up to the first 00 (`step-receives`), so that a receive whose piece ends with that 00 stands for any.
-  pub last-set : {k : ℕ} → SettingsKey k → (n most : ℕ) → most < 65536 → (j : Lent) (image bs : List ℕ)
+  pub last-set : {k : ℕ} → SettingsKey k → (version n most : ℕ) → most < 65536 → (j : Lent) (image bs : List ℕ)
       → let call = Histories.receive image (bs ++ (0 ∷ [])) in Typed call → enough call j ≡ true
-      → let w = joinedAll [] ms ++ bs in verdict (split w .rest) ≡ good (lookupOf n k most)
+      → let w = joinedAll [] ms ++ bs in verdict (split w .rest) ≡ good (lookupOf version n k most)
       → let q = reached p l d ms in let r = made q (record { lent = j; call = call }) in
-      (r .answer ≡ done) × (view (r .parts) .pending ≡ owed (view q .terminator-owed) ++ lookupReply n most (lastSet k (requestsOf w)))
+      (r .answer ≡ done) × (view (r .parts) .pending ≡ owed (view q .terminator-owed) ++ lookupReply version n most (lastSet k (requestsOf w)))
   unfolding meantMade meant
-  last-set h n most i j image bs c e v =
+  last-set h version n most i j image bs c e v =
       let hist = history p b l d typed accepted ms t in
       let call = Histories.receive image (bs ++ (0 ∷ [])) in
       let meets = rw e at (one-call (reached p l d ms) (record { lent = j; call = call }) (hist .2) c) in
-      let x = stream-answers h (joinedAll [] ms) state (by-frames (factoryOf d) ms .2) (state-holds h) image bs n most i v in
+      let x = stream-answers h (joinedAll [] ms) state (by-frames (factoryOf d) ms .2) (state-holds h) image bs version n most i v in
       (meets .answer, ap (λ (y : State). y .pending) (meets .leaves .0) ∙ rw (hist .1) x)
 
   -- the same for key 5, the withdrawn-key list
-  pub withdrawn-list-answered : (n most : ℕ) → most < 65536 → (j : Lent) (image bs : List ℕ)
+  pub withdrawn-list-answered : (version n most : ℕ) → most < 65536 → (j : Lent) (image bs : List ℕ)
       → let call = Histories.receive image (bs ++ (0 ∷ [])) in Typed call → enough call j ≡ true
-      → let w = joinedAll [] ms ++ bs in verdict (split w .rest) ≡ good (lookupOf n 5 most)
+      → let w = joinedAll [] ms ++ bs in verdict (split w .rest) ≡ good (lookupOf version n 5 most)
       → let q = reached p l d ms in let r = made q (record { lent = j; call = call }) in
-      (r .answer ≡ done) × (view (r .parts) .pending ≡ owed (view q .terminator-owed) ++ lookupReply n most (lastSet 5 (requestsOf w)))
-  withdrawn-list-answered n most = last-set {k = 5} (record { least = omega arith; most = omega arith }) n most
+      (r .answer ≡ done) × (view (r .parts) .pending ≡ owed (view q .terminator-owed) ++ lookupReply version n most (lastSet 5 (requestsOf w)))
+  withdrawn-list-answered version n most = last-set {k = 5} (record { least = omega arith; most = omega arith }) version n most
+
+  -- In version 2, where v is the value of the last of the successful sets, and the others are vs: the edition that is handed out is the number of these sets, and the
+  -- value is v
+  pub list-edition-answered : (n most : ℕ) → most < 65536 → (j : Lent) (image bs : List ℕ)
+      → let call = Histories.receive image (bs ++ (0 ∷ [])) in Typed call → enough call j ≡ true
+      → let w = joinedAll [] ms ++ bs in verdict (split w .rest) ≡ good (lookupOf second-version n 5 most)
+      → (vs : List (List ℕ)) (v : List ℕ) → successful 0 5 (requestsOf w) ≡ vs ++ (v ∷ []) → length v ≤ most
+      → let q = reached p l d ms in let r = made q (record { lent = j; call = call }) in
+      (r .answer ≡ done) × (view (r .parts) .pending ≡ owed (view q .terminator-owed) ++ editionReply n (length vs + 1) v)
+  list-edition-answered n most i j image bs c e f vs v g h =
+      let a = withdrawn-list-answered second-version n most i j image bs c e f in
+      (a .0, rw (edition-reply n most 5 (requestsOf (joinedAll [] ms ++ bs)) vs v g h) at (a .1))
 
   -- a lookup by the local call: the same results
   pub lookup-last-set : {k : ℕ} → SettingsKey k → (most : ℕ) → most < 65536 → (j : Lent) → enough (Histories.local (Histories.lookup k most)) j ≡ true
       → let r = made (reached p l d ms) (record { lent = j; call = Histories.local (Histories.lookup k most) }) in
-      let f = Local.fitted most (lastSet k (requestsOf (joinedAll [] ms))) in
+      let f = fittedOf most (lastSet k (requestsOf (joinedAll [] ms))) in
       (r .answer ≡ found (f .result) (length (f .value))) × (r .out ≡ f .value)
   unfolding meantMade meant
   lookup-last-set {k} h most i j e =

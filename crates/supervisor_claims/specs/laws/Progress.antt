@@ -48,6 +48,7 @@ module _ (s : State) where
   local-stays (Histories.setOptions options) =
       cond-by DoneStays (Local.optionsAllowed options) _ _ (λ e. (refl, refl, tt)) (λ e. (refl, refl, λ n. omega (arith, n)))
   local-stays (Histories.lookup key most) = (refl, refl, tt)
+  local-stays (Histories.edition key) = (refl, refl, tt)
   local-stays Histories.signal = (refl, refl, tt)
   local-stays Histories.flags = (refl, refl, tt)
   local-stays (Histories.readRecord k) = record-stays (Histories.recordKept s k)

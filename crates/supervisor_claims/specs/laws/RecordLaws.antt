@@ -203,10 +203,10 @@ module _ (p : Calls.Parts) (w : RegistersValid (p .registers)) where
 
   -- ---- the start acknowledged
 
-  pub acknowledged-view : view (withRegisters p (overlay Layout.status-offset (bytes 8 (Requests.clearBit (Layout.statusOf (p .registers)) 0)) (p .registers)))
-      ≡ Requests.startAcknowledged (view p) .state
+  pub acknowledged-view : (version : ℕ) → view (withRegisters p (overlay Layout.status-offset (bytes 8 (Requests.clearBit (Layout.statusOf (p .registers)) 0)) (p .registers)))
+      ≡ Requests.startAcknowledged version (view p) .state
   unfolding view Requests.startAcknowledged
-  acknowledged-view =
+  acknowledged-view version =
       let r = p .registers in
       let status = Requests.clearBit (Layout.statusOf r) 0 in
       let small = clear-small (Layout.statusOf r) 0 in

@@ -1,35 +1,49 @@
 -- The settings store after a key set: what is stored, what stays, and the result, as the meaning has them.
 -- Assumes nothing.
-use mathlib.Core.Path.{_≡_, refl}
+use mathlib.Core.Path.{_≡_, refl, _∙_}
 use mathlib.Core.Logic.{inl, inr}
 use mathlib.Core.Bool.{cond}
 use mathlib.Core.List.{List}
 use mathlib.Core.Option.{some}
-use Prim.Native.Nat.{ℕ, _+_, _-_, _≤_, _<_}
+use Prim.Native.Nat.{ℕ, suc, _+_, _-_, _≤_, _<_}
 use native.Mathlib.Omega.{arith}
-use lib.Dec.{ltb}
+use lib.Dec.{ltb, eqb}
 use lib.ListN.{length}
-use borrow.Author.Tests.{ltb-false}
+use borrow.Author.Tests.{ltb-false, eqb-false}
 use Rattle.octets.specs.Bytes.{Byte, Each}
 use Rattle.octets.proofs.Conditions.{cond-both}
+use Rattle.octets.proofs.Numbers.{number-small}
 use Rattle.octets.proofs.SameBytes.{Same, number-same}
 use Rattle.supervisor.specs.Limits
 use Rattle.supervisor.specs.Layout
-use Rattle.supervisor.specs.State.{Settings, withSetting}
+use Rattle.supervisor.specs.State.{Setting, unset, Settings, setting, withSetting}
 use Rattle.supervisor.proofs.OffsetLaws.{place-within, Lies, setting-lies}
 use Rattle.supervisor.proofs.ValidLaws.{SettingValid, SettingsValid}
 use Rattle.requests.specs.Requests
 use Rattle.requests.specs.Receive
-use Rattle.requests.proofs.KeptLaws.{length-setting, setting-before, setting-after, setting-held, setting-size, setting-value, value-room, value-small}
+use Rattle.requests.proofs.KeptLaws.{length-setting, setting-before, setting-after, setting-held, setting-edition, setting-size, setting-value, value-room, value-small}
 use Rattle.supervisor_claims.specs.View.{settingOf, settingsOf}
-use Rattle.supervisor_claims.specs.laws.ViewLaws.{listed-set}
+use Rattle.supervisor_claims.specs.laws.ViewLaws.{listed-set, listed-at}
 use Rattle.supervisor_claims.specs.laws.PartLaws.{Like, like-itself, like-put, each-number}
 
 -- ---- the view of a value that was put
 
-put-setting : (s v : List ℕ) (at : ℕ) → at + (Layout.setting-value-offset + length v) ≤ length s → length v < 65536 → settingOf (Receive.withValue s at v) at ≡ some v
+-- the value, one edition on
+abbrev next : ℕ → List ℕ → Setting
+next edition v = record { edition = suc edition; value = some v }
+
+put-setting : (s v : List ℕ) (at : ℕ) → at + (Layout.setting-value-offset + length v) ≤ length s → length v < 65536
+    → Layout.settingEdition s at < Limits.last-edition → settingOf (Receive.withValue s at v) at ≡ next (Layout.settingEdition s at) v
 unfolding settingOf
-put-setting s v at room short = rw (setting-held s v at room, setting-size s v at room short, setting-value s v at room)
+put-setting s v at room short low =
+    rw (setting-held s v at room, setting-edition s v at room low, setting-size s v at room short, setting-value s v at room)
+
+-- a settings key has what its setting holds
+pub setting-is : (s : List ℕ) (key : ℕ) → Limits.SettingsKey key → setting (settingsOf s) key ≡ settingOf s (Layout.setting-offset key)
+unfolding settingsOf
+setting-is s key h =
+    let e : Limits.first-setting + (key - Limits.first-setting) ≡ key = omega (arith, h) in
+    listed-at _ unset Limits.setting-count (key - Limits.first-setting) (omega (arith, h)) ∙ rw e
 
 -- ---- the other settings
 
@@ -39,6 +53,7 @@ unfolding settingOf
 setting-same {s} same at most v h =
     rw (
       number-same same 1 at (omega arith),
+      number-same same 4 (at + Layout.setting-edition-offset) (omega arith),
       number-same same 2 (at + Layout.setting-length-offset) (omega arith),
       same .runs (at + Layout.setting-value-offset) (Layout.settingLength s at) (omega arith),
     )
@@ -58,7 +73,7 @@ pub record Stores (s : List ℕ) (k : Receive.KeyStored) (t : Requests.Stored) :
   pub small : k .result < 256
   pub like : Like s (k .settings)
 
-module _ (s v : List ℕ) (w : SettingsValid s) (each : Each Byte v) where
+module _ (s v : List ℕ) (w : SettingsValid s) (held : Each Byte s) (each : Each Byte v) where
   abbrev told : ℕ → Settings → Requests.Stored
   told n x = record { result = n; settings = x }
 
@@ -68,21 +83,27 @@ module _ (s v : List ℕ) (w : SettingsValid s) (each : Each Byte v) where
 
   -- at the offset of a key
   stored-at : (at most : ℕ) (x : Settings) → at + (Layout.setting-value-offset + most) ≤ Layout.settings-length
-      → (length v ≤ most → settingsOf (Receive.withValue s at v) ≡ x)
-      → Stores s (Receive.storingAt s at most v) (cond (ltb most (length v)) (told 3 (settingsOf s)) (told 0 x))
+      → (length v ≤ most → Layout.settingEdition s at < Limits.last-edition → settingsOf (Receive.withValue s at v) ≡ x)
+      → Stores s (Receive.storingAt s at most v)
+      (cond (ltb most (length v)) (told 3 (settingsOf s)) (cond (eqb (Layout.settingEdition s at) Limits.last-edition) (told 4 (settingsOf s)) (told 0 x)))
   unfolding Receive.storingAt Receive.withValue
   stored-at at most x h e =
       cond-both (Stores s) (ltb most (length v)) (λ f. unstored 3 (omega arith)) (λ f.
+      cond-both (Stores s) (eqb (Layout.settingEdition s at) Limits.last-edition) (λ g. unstored 4 (omega arith)) (λ g.
       let l = ltb-false most (length v) f in
+      let low = number-small 4 (at + Layout.setting-edition-offset) s held in
+      let n = suc (Layout.settingEdition s at) in
       record {
-        settings = e l;
+        settings = e l (omega (arith, low, eqb-false (Layout.settingEdition s at) Limits.last-edition g));
         result = refl;
         small = omega arith;
-        like = like-put at (Layout.settingBytes v) s (omega (arith, length-setting v)) (λ _. each-number 1 1 _ (each-number 2 (length v) v each));
-      })
+        like = like-put at (Layout.settingBytes n v) s (omega (arith, length-setting n v))
+            (λ _. each-number 1 1 _ (each-number 4 n _ (each-number 2 (length v) v each)));
+      }))
 
   -- of a key
-  module _ (key : ℕ) (h : Limits.SettingsKey key) (short : length v ≤ Limits.longest-setting key) where
+  module _ (key : ℕ) (h : Limits.SettingsKey key) (short : length v ≤ Limits.longest-setting key)
+      (low : Layout.settingEdition s (Layout.setting-offset key) < Limits.last-edition) where
     abbrev after : List ℕ
     after = Receive.withValue s (Layout.setting-offset key) v
 
@@ -92,20 +113,20 @@ module _ (s v : List ℕ) (w : SettingsValid s) (each : Each Byte v) where
     other-value j i (inr (inl e)) n = absurd (n e)
     other-value j i (inr (inr l)) n = after-value s v (Layout.setting-offset key) (value-room s v w key h short) (w .each j i) (omega arith)
 
-    pub settings-put : settingsOf after ≡ withSetting (settingsOf s) key v
+    pub settings-put : settingsOf after ≡ withSetting (settingsOf s) key (next (Layout.settingEdition s (Layout.setting-offset key)) v)
     unfolding settingsOf
     settings-put =
         let e : Limits.first-setting + (key - Limits.first-setting) ≡ key = omega (arith, h) in
-        listed-set _ _ (some v) Limits.setting-count (key - Limits.first-setting) (omega (arith, h))
-        (rw e (put-setting s v (Layout.setting-offset key) (value-room s v w key h short) (value-small s v w key h short)))
+        listed-set _ _ (next (Layout.settingEdition s (Layout.setting-offset key)) v) Limits.setting-count (key - Limits.first-setting) (omega (arith, h))
+        (rw e (put-setting s v (Layout.setting-offset key) (value-room s v w key h short) (value-small s v w key h short) low))
         (λ j l n.
         let i : Limits.SettingsKey (Limits.first-setting + j) = record { least = omega arith; most = omega arith } in
         other-value (Limits.first-setting + j) i (setting-lies (Limits.first-setting + j) key i h) (λ o. n (omega (arith, o))))
 
   pub storing-stored : (key : ℕ) → Stores s (Receive.storing s key v) (Requests.stored (settingsOf s) key v)
-  unfolding Receive.storing Requests.stored
+  unfolding Receive.storing Requests.stored settingOf
   storing-stored key =
       cond-both (Stores s) (ltb Limits.highest-key key) (λ e. unstored 1 (omega arith)) (λ e.
       cond-both (Stores s) (ltb key Limits.first-setting) (λ f. unstored 2 (omega arith)) (λ f.
       let h : Limits.SettingsKey key = record { least = ltb-false key Limits.first-setting f; most = ltb-false Limits.highest-key key e } in
-      stored-at _ _ _ (place-within key h) (settings-put key h)))
+      rw (setting-is s key h) (stored-at _ _ _ (place-within key h) (settings-put key h))))

@@ -1,7 +1,7 @@
 -- The registers after an alert request: what is retained, the alerts that wait, the status, and the reply's data.
 -- Assumes nothing.
 use mathlib.Core.Path.{_≡_, refl, ap, _∙_}
-use mathlib.Core.Bool.{Bool, true, false, cond, _&&_}
+use mathlib.Core.Bool.{Bool, true, false, cond, not, _&&_, false≢true}
 use mathlib.Core.List.{List, [], _∷_}
 use mathlib.Core.Option.{none, some}
 use Prim.Native.Nat.{ℕ, zero, suc, _+_, _-_, _^_, _≤_, _<_}
@@ -21,8 +21,9 @@ use Rattle.supervisor.specs.State.{Alert}
 use Rattle.supervisor.specs.Valid.{validAlert}
 use Rattle.supervisor.specs.Calls
 use Rattle.supervisor.proofs.ValidLaws.{all-each, alert-valid, RegistersValid, registers-valid}
-use Rattle.requests.proofs.TakenLaws.{retainedBytes, length-retained, retaining-held, retaining-sequence, retaining-alert, settled}
+use Rattle.requests.proofs.TakenLaws.{retainedBytes, length-retained, retaining-version, retaining-sequence, retaining-alert, settled}
 use Rattle.requests.proofs.KeptLaws.{taken-small, rest-length, length-rest, moved-before, moved-after, moved-run, retained-before}
+use Rattle.requests.proofs.StepLaws.{served-small}
 use Rattle.requests.specs.Requests
 use Rattle.requests.specs.Receive
 use Rattle.supervisor_claims.specs.View.{listed, alertOf, retainedOf, view}
@@ -69,8 +70,8 @@ abbrev firstBytes : List ℕ → List ℕ
 firstBytes r = cond (eqb (Layout.alertCount r) 0) (replicate 3 0) (run Layout.alerts-offset Layout.alert-length r)
 
 -- the registers before the status is stored
-abbrev counted : List ℕ → ℕ → List ℕ
-counted r sequence = overlay Layout.alert-count-offset (bytes 1 (Layout.alertCount r - 1)) (Receive.movedAlerts (Receive.withRetained r sequence))
+abbrev counted : List ℕ → ℕ → ℕ → List ℕ
+counted r version sequence = overlay Layout.alert-count-offset (bytes 1 (Layout.alertCount r - 1)) (Receive.movedAlerts (Receive.withReply r version sequence))
 
 abbrev statusThen : List ℕ → ℕ
 statusThen r = cond (leb (Layout.alertCount r) 1) (Requests.clearBit (Layout.statusOf r) 1) (Layout.statusOf r)
@@ -78,7 +79,7 @@ statusThen r = cond (leb (Layout.alertCount r) 1) (Requests.clearBit (Layout.sta
 three-zeros : Each Byte (replicate 3 0)
 three-zeros = (omega arith, (omega arith, (omega arith, tt)))
 
-module _ (r : List ℕ) (sequence : ℕ) (w : RegistersValid r) where
+module _ (r : List ℕ) (version sequence : ℕ) (w : RegistersValid r) where
   first-long : (3 ≤ length (firstBytes r)) × (length (firstBytes r) ≤ Layout.alert-length)
   first-long =
       let n = length-run Layout.alerts-offset Layout.alert-length r (omega arith) in
@@ -90,66 +91,66 @@ module _ (r : List ℕ) (sequence : ℕ) (w : RegistersValid r) where
       cond-by (Each Byte) (eqb (Layout.alertCount r) 0) (replicate 3 0) _
       (λ e. three-zeros) (λ e. each-run Layout.alerts-offset Layout.alert-length r b)
 
-  retained-like : Like r (Receive.withRetained r sequence)
-  unfolding Receive.withRetained
+  retained-like : Like r (Receive.withReply r version sequence)
+  unfolding Receive.withReply
   retained-like =
-      like-put Layout.retained-offset (retainedBytes sequence (firstBytes r)) r (omega (arith, first-long, length-retained sequence (firstBytes r)))
-      (λ b. each-number 1 1 _ (each-number 8 sequence _ (first-bytes b)))
+      like-put Layout.retained-offset (retainedBytes version sequence (firstBytes r)) r (omega (arith, first-long, length-retained version sequence (firstBytes r)))
+      (λ b. each-number 1 version _ (each-number 8 sequence _ (first-bytes b)))
 
-  retained-long : Layout.registers-length ≤ length (Receive.withRetained r sequence)
+  retained-long : Layout.registers-length ≤ length (Receive.withReply r version sequence)
   retained-long = omega (arith, retained-like .long)
 
-  moved-like : Like (Receive.withRetained r sequence) (Receive.movedAlerts (Receive.withRetained r sequence))
+  moved-like : Like (Receive.withReply r version sequence) (Receive.movedAlerts (Receive.withReply r version sequence))
   unfolding Receive.movedAlerts
   moved-like =
-      let s = Receive.withRetained r sequence in
+      let s = Receive.withReply r version sequence in
       like-put Layout.alerts-offset (run (Layout.alert-offset 1) rest-length s) s (omega (arith, length-rest s retained-long, retained-long))
       (each-run (Layout.alert-offset 1) rest-length s)
 
-  counted-like : Like r (counted r sequence)
+  counted-like : Like r (counted r version sequence)
   counted-like =
       let l = like-then retained-like moved-like in
       like-then l (like-stored 1 Layout.alert-count-offset _ _ (omega (arith, l .long)))
 
-  pub taken-like : Like r (Receive.withTaken r sequence)
+  pub taken-like : Like r (Receive.withTaken r version sequence)
   unfolding Receive.withTaken
-  taken-like = like-then counted-like (like-stored 8 Layout.status-offset _ (counted r sequence) (omega (arith, counted-like .long)))
+  taken-like = like-then counted-like (like-stored 8 Layout.status-offset _ (counted r version sequence) (omega (arith, counted-like .long)))
 
   -- ---- what stays
 
-  counted-room : Layout.registers-length ≤ length (Receive.movedAlerts (Receive.withRetained r sequence))
+  counted-room : Layout.registers-length ≤ length (Receive.movedAlerts (Receive.withReply r version sequence))
   counted-room = omega (arith, retained-long, moved-like .long)
 
   -- the alerts and the retained reply
-  counted-after : Same Layout.alerts-offset Layout.registers-length (Receive.movedAlerts (Receive.withRetained r sequence)) (counted r sequence)
+  counted-after : Same Layout.alerts-offset Layout.registers-length (Receive.movedAlerts (Receive.withReply r version sequence)) (counted r version sequence)
   counted-after = stored-after 1 Layout.alert-count-offset _ _ (omega (arith, counted-room)) (omega arith)
 
-  taken-after : Same Layout.options-offset Layout.registers-length (counted r sequence) (Receive.withTaken r sequence)
+  taken-after : Same Layout.options-offset Layout.registers-length (counted r version sequence) (Receive.withTaken r version sequence)
   unfolding Receive.withTaken
   taken-after = stored-after 8 Layout.status-offset _ _ (omega (arith, counted-like .long)) (omega arith)
 
   -- the options, the flags and the records
-  front : Same Layout.options-offset Layout.alert-count-offset r (Receive.withTaken r sequence)
+  front : Same Layout.options-offset Layout.alert-count-offset r (Receive.withTaken r version sequence)
   front =
-      same-then (retained-before r sequence (w .long) (omega arith))
-      (same-then (moved-before (Receive.withRetained r sequence) retained-long (omega arith))
+      same-then (retained-before r version sequence (w .long) (omega arith))
+      (same-then (moved-before (Receive.withReply r version sequence) retained-long (omega arith))
       (same-then (stored-before 1 Layout.alert-count-offset _ _ (omega (arith, counted-room)) (omega arith)) (same-within taken-after (omega arith))))
 
-  slots : Same Layout.alerts-offset Layout.registers-length (Receive.movedAlerts (Receive.withRetained r sequence)) (Receive.withTaken r sequence)
+  slots : Same Layout.alerts-offset Layout.registers-length (Receive.movedAlerts (Receive.withReply r version sequence)) (Receive.withTaken r version sequence)
   slots = same-then counted-after (same-within taken-after (omega arith))
 
-  kept : Same Layout.retained-offset Layout.registers-length (Receive.withRetained r sequence) (Receive.withTaken r sequence)
-  kept = same-then (moved-after (Receive.withRetained r sequence) retained-long (omega arith)) (same-within slots (omega arith))
+  kept : Same Layout.retained-offset Layout.registers-length (Receive.withReply r version sequence) (Receive.withTaken r version sequence)
+  kept = same-then (moved-after (Receive.withReply r version sequence) retained-long (omega arith)) (same-within slots (omega arith))
 
   -- ---- the status and the count
 
-  taken-status : Layout.statusOf (Receive.withTaken r sequence) ≡ statusThen r
+  taken-status : Layout.statusOf (Receive.withTaken r version sequence) ≡ statusThen r
   unfolding Receive.withTaken
   taken-status =
       let small = taken-small (Layout.statusOf r) (Layout.alertCount r) (w .status) in
-      stored-number 8 Layout.status-offset (statusThen r) (counted r sequence) (omega (arith, counted-like .long)) (omega arith)
+      stored-number 8 Layout.status-offset (statusThen r) (counted r version sequence) (omega (arith, counted-like .long)) (omega arith)
 
-  taken-count : Layout.alertCount (Receive.withTaken r sequence) ≡ Layout.alertCount r - 1
+  taken-count : Layout.alertCount (Receive.withTaken r version sequence) ≡ Layout.alertCount r - 1
   taken-count =
       number-same taken-after 1 Layout.alert-count-offset (omega arith)
       ∙ stored-number 1 Layout.alert-count-offset (Layout.alertCount r - 1) _ (omega (arith, counted-room)) (omega arith)
@@ -159,17 +160,17 @@ module _ (r : List ℕ) (sequence : ℕ) (w : RegistersValid r) where
   valid-at : (i : ℕ) → i < Layout.alertCount r → Layout.alertTextLength r (Layout.alert-offset i) ≤ Limits.longest-alert
   valid-at i h = alert-valid r i (all-each (validAlert r) _ (w .rest .alerts) i h) .size
 
-  moved-down : (i : ℕ) → i + 1 < Limits.most-alerts → Moved Layout.alert-length (Layout.alert-offset (suc i)) (Layout.alert-offset i) r (Receive.withTaken r sequence)
+  moved-down : (i : ℕ) → i + 1 < Limits.most-alerts → Moved Layout.alert-length (Layout.alert-offset (suc i)) (Layout.alert-offset i) r (Receive.withTaken r version sequence)
   moved-down i h = record {
     runs = λ j n k.
         let e : i + 1 ≡ suc i = omega arith in
-        let before : Same 0 Layout.retained-offset r (Receive.withRetained r sequence) = retained-before r sequence (w .long) (omega arith) in
+        let before : Same 0 Layout.retained-offset r (Receive.withReply r version sequence) = retained-before r version sequence (w .long) (omega arith) in
         slots .runs (Layout.alert-offset i + j) n (omega arith)
-        ∙ rw e at (moved-run (Receive.withRetained r sequence) retained-long i j n (omega arith) k)
+        ∙ rw e at (moved-run (Receive.withReply r version sequence) retained-long i j n (omega arith) k)
         ∙ before .runs (Layout.alert-offset (suc i) + j) n (omega arith);
   }
 
-  taken-waiting : alertsOf (Receive.withTaken r sequence) (Layout.alertCount r - 1) ≡ Requests.others (alertsOf r (Layout.alertCount r))
+  taken-waiting : alertsOf (Receive.withTaken r version sequence) (Layout.alertCount r - 1) ≡ Requests.others (alertsOf r (Layout.alertCount r))
   taken-waiting =
       listed-same _ (λ i. alertOf r (Layout.alert-offset (suc i))) _ (λ i h.
       alert-moved (moved-down i (omega arith)) (valid-at (suc i) (omega arith)))
@@ -177,42 +178,47 @@ module _ (r : List ℕ) (sequence : ℕ) (w : RegistersValid r) where
 
   -- ---- the retained reply
 
-  retained-run : (j n : ℕ) → j + n ≤ length (firstBytes r) → run (Layout.retained-alert-offset + j) n (Receive.withTaken r sequence) ≡ run j n (firstBytes r)
-  unfolding Receive.withRetained
+  retained-run : (j n : ℕ) → j + n ≤ length (firstBytes r) → run (Layout.retained-alert-offset + j) n (Receive.withTaken r version sequence) ≡ run j n (firstBytes r)
+  unfolding Receive.withReply
   retained-run j n h =
-      kept .runs (Layout.retained-alert-offset + j) n (omega (arith, first-long)) ∙ retaining-alert r sequence (firstBytes r) (omega arith) j n h
+      kept .runs (Layout.retained-alert-offset + j) n (omega (arith, first-long)) ∙ retaining-alert r version sequence (firstBytes r) (omega arith) j n h
 
-  none-taken : Layout.alertCount r ≡ 0 → alertOf (Receive.withTaken r sequence) Layout.retained-alert-offset ≡ Requests.oldest []
+  none-taken : Layout.alertCount r ≡ 0 → alertOf (Receive.withTaken r version sequence) Layout.retained-alert-offset ≡ Requests.oldest []
   unfolding alertOf number Requests.oldest
   none-taken e =
       let f = eq-eqb (Layout.alertCount r) 0 e in
-      let part : (j n : ℕ) → j + n ≤ 3 → run (Layout.retained-alert-offset + j) n (Receive.withTaken r sequence) ≡ run j n (replicate 3 0)
+      let part : (j n : ℕ) → j + n ≤ 3 → run (Layout.retained-alert-offset + j) n (Receive.withTaken r version sequence) ≡ run j n (replicate 3 0)
       = λ j n h. rw f at (retained-run j n (rw f h)) in
       rw (rw add-zero at (part 0 2 (omega arith)), part 2 1 (omega arith))
 
-  first-taken : (Layout.alertCount r ≡ 0 → ⊥) → alertOf (Receive.withTaken r sequence) Layout.retained-alert-offset ≡ alertOf r (Layout.alert-offset 0)
+  first-taken : (Layout.alertCount r ≡ 0 → ⊥) → alertOf (Receive.withTaken r version sequence) Layout.retained-alert-offset ≡ alertOf r (Layout.alert-offset 0)
   first-taken e =
       let f = ne-eqb (Layout.alertCount r) 0 e in
       let size = length-run Layout.alerts-offset Layout.alert-length r (omega arith) in
-      let moved : Moved Layout.alert-length (Layout.alert-offset 0) Layout.retained-alert-offset r (Receive.withTaken r sequence)
+      let moved : Moved Layout.alert-length (Layout.alert-offset 0) Layout.retained-alert-offset r (Receive.withTaken r version sequence)
       = record {
         runs = λ j n h. rw f at (retained-run j n (rw f (omega arith))) ∙ run-run Layout.alerts-offset Layout.alert-length j n r h;
       } in
       alert-moved moved (valid-at 0 (omega arith))
 
-  oldest-taken : (n : ℕ) → Layout.alertCount r ≡ n → alertOf (Receive.withTaken r sequence) Layout.retained-alert-offset ≡ Requests.oldest (alertsOf r n)
+  oldest-taken : (n : ℕ) → Layout.alertCount r ≡ n → alertOf (Receive.withTaken r version sequence) Layout.retained-alert-offset ≡ Requests.oldest (alertsOf r n)
   unfolding listed Requests.oldest
   oldest-taken zero e = none-taken e
   oldest-taken (suc n) e = rw (listed-first (λ i. alertOf r (Layout.alert-offset i)) n) (first-taken (λ f. omega arith))
 
-  taken-retained : sequence < 2 ^ 64
-      → retainedOf (Receive.withTaken r sequence) ≡ some (record { sequence = sequence; alert = Requests.oldest (alertsOf r (Layout.alertCount r)) })
-  unfolding retainedOf Receive.withRetained
-  taken-retained h =
+  taken-version : version < 256 → Layout.retainedVersion (Receive.withTaken r version sequence) ≡ version
+  unfolding Receive.withReply
+  taken-version small = number-same kept 1 Layout.retained-offset (omega arith) ∙ retaining-version r version sequence (firstBytes r) (omega arith) small
+
+  taken-retained : (version ≡ 0 → ⊥) → version < 256 → sequence < 2 ^ 64
+      → retainedOf (Receive.withTaken r version sequence) ≡ some (record { version = version; sequence = sequence; alert = Requests.oldest (alertsOf r (Layout.alertCount r)) })
+  unfolding retainedOf Receive.withReply
+  taken-retained positive small h =
       let zs = firstBytes r in
       rw (
-        number-same kept 1 Layout.retained-offset (omega arith) ∙ retaining-held r sequence zs (omega arith),
-        number-same kept 8 Layout.retained-sequence-offset (omega arith) ∙ retaining-sequence r sequence zs (omega arith) h,
+        taken-version small,
+        ne-eqb version 0 positive,
+        number-same kept 8 Layout.retained-sequence-offset (omega arith) ∙ retaining-sequence r version sequence zs (omega arith) h,
         oldest-taken (Layout.alertCount r) refl,
       )
 
@@ -227,22 +233,25 @@ retained-data s long h b =
 
 -- ---- an alert request
 
--- registers that hold what a request leaves, and the alert of its reply
+-- registers that hold what a request leaves, and the version and the alert of its reply
 pub record Asked (p : Calls.Parts) (s : List ℕ) (c : Requests.Carried) : Type 0 where
   pub state : view (withRegisters p s) ≡ c .state
-  pub reply : c .reply ≡ some (0x07, Requests.alertData (alertOf s Layout.retained-alert-offset))
+  pub reply : c .reply ≡ some (record { version = Layout.retainedVersion s; command = 0x07; payload = Requests.alertData (alertOf s Layout.retained-alert-offset) })
   pub like : Like (p .registers) s
 
-module _ (p : Calls.Parts) (v : Valid p) (sequence : ℕ) (h : sequence < 2 ^ 64) where
+module _ (p : Calls.Parts) (v : Valid p) (version sequence : ℕ) (is : Requests.served version ≡ true) (h : sequence < 2 ^ 64) where
+  some-version : (version ≡ 0 → ⊥) × (version < 256)
+  some-version = (λ e. false≢true (rw e at is), omega (arith, served-small version is))
+
   -- an alert is taken, or none
-  taken : Asked p (Receive.withTaken (p .registers) sequence) (Requests.alertTaken (view p) sequence)
+  taken : Asked p (Receive.withTaken (p .registers) version sequence) (Requests.alertTaken version (view p) sequence)
   unfolding view Requests.alertTaken
   taken =
       let r = p .registers in
       let w = registers-valid r (v .registers) in
-      let same = front r sequence w in
-      let status : Layout.statusOf (Receive.withTaken r sequence) ≡ Requests.statusAfter (Layout.statusOf r) (Requests.others (alertsOf r (Layout.alertCount r)))
-      = taken-status r sequence w ∙ rw length-listed at (status-after (Layout.statusOf r) (alertsOf r (Layout.alertCount r))) in
+      let same = front r version sequence w in
+      let status : Layout.statusOf (Receive.withTaken r version sequence) ≡ Requests.statusAfter (Layout.statusOf r) (Requests.others (alertsOf r (Layout.alertCount r)))
+      = taken-status r version sequence w ∙ rw length-listed at (status-after (Layout.statusOf r) (alertsOf r (Layout.alertCount r))) in
       record {
         state = rw (
           status,
@@ -251,31 +260,31 @@ module _ (p : Calls.Parts) (v : Valid p) (sequence : ℕ) (h : sequence < 2 ^ 64
           number-same same 1 Layout.power-off-offset (omega arith),
           recorded-same same Layout.boot-failure-offset (omega arith),
           recorded-same same Layout.panic-offset (omega arith),
-          taken-count r sequence w,
-          taken-waiting r sequence w,
-          taken-retained r sequence w h,
+          taken-count r version sequence w,
+          taken-waiting r version sequence w,
+          taken-retained r version sequence w (some-version .0) (some-version .1) h,
         );
-        reply = rw (oldest-taken r sequence w (Layout.alertCount r) refl);
-        like = taken-like r sequence w;
+        reply = rw (taken-version r version sequence w (some-version .1), oldest-taken r version sequence w (Layout.alertCount r) refl);
+        like = taken-like r version sequence w;
       }
 
   -- the retained reply again, or another
   by-retained : (t : Bool) (n : ℕ) → let r = p .registers in
       let a = alertOf r Layout.retained-alert-offset in
-      Asked p (cond (t && eqb n sequence) r (Receive.withTaken r sequence))
-      (Requests.alertAsked (view p) sequence (cond t (some (record { sequence = n; alert = a })) none))
+      Asked p (cond (not t && eqb n sequence) r (Receive.withTaken r version sequence))
+      (Requests.alertAsked version (view p) sequence (cond t none (some (record { version = Layout.retainedVersion r; sequence = n; alert = a }))))
   unfolding Requests.alertAsked
-  by-retained true n = cond-both (Asked p) (eqb n sequence) (λ e. record { state = refl; reply = refl; like = like-itself (p .registers) }) (λ e. taken)
-  by-retained false n = taken
+  by-retained false n = cond-both (Asked p) (eqb n sequence) (λ e. record { state = refl; reply = refl; like = like-itself (p .registers) }) (λ e. taken)
+  by-retained true n = taken
 
-  pub alert-asked : Asked p (Receive.alertRegisters (p .registers) sequence) (Requests.alertAsked (view p) sequence (view p .retained))
+  pub alert-asked : Asked p (Receive.alertRegisters (p .registers) version sequence) (Requests.alertAsked version (view p) sequence (view p .retained))
   unfolding Receive.alertRegisters Receive.isRetained view retainedOf
-  alert-asked = by-retained (eqb (numberAt 1 (p .registers) Layout.retained-offset) 1) (numberAt 8 (p .registers) Layout.retained-sequence-offset)
+  alert-asked = by-retained (eqb (Layout.retainedVersion (p .registers)) 0) (numberAt 8 (p .registers) Layout.retained-sequence-offset)
 
-  pub alert-reply : Each Byte (p .registers)
-      → Requests.alertAsked (view p) sequence (view p .retained) .reply ≡ some (0x07, Receive.retainedData (Receive.alertRegisters (p .registers) sequence))
+  pub alert-reply : Each Byte (p .registers) → let s = Receive.alertRegisters (p .registers) version sequence in
+      Requests.alertAsked version (view p) sequence (view p .retained) .reply ≡ some (record { version = Layout.retainedVersion s; command = 0x07; payload = Receive.retainedData s })
   alert-reply b =
       let r = p .registers in
-      let s = settled r sequence (v .registers) refl in
+      let s = settled r version sequence (v .registers) refl in
       let w = registers-valid r (v .registers) in
-      rw (retained-data (Receive.alertRegisters r sequence) (omega arith) (s .text) (alert-asked .like .bytes b)) (alert-asked .reply)
+      rw (retained-data (Receive.alertRegisters r version sequence) (omega arith) (s .text) (alert-asked .like .bytes b)) (alert-asked .reply)

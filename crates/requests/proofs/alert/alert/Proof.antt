@@ -10,21 +10,24 @@ use Rattle.requests.proofs.alert.alert.Tie as tie
 send-part-requires : tie.Need-send-part-requires
 send-part-requires c κs =
     let text = c .before .before in
-    let settle = text .before .before .before .before in
+    let settle = text .before .before .before .before .before .before .before in
     let start = settle .before .before .before .before in
-    let s = settled _ _ (start .pre .1) (settle .settle-alert .ensures) in
-    let long = registers-valid _ (start .pre .1) .long in
+    let v = start .pre .1 .0 in
+    let s = settled _ _ _ v (settle .settle-alert .ensures) in
+    let long = registers-valid _ v .long in
     let n = text .word-at .ensures .0 in
     (start .pre .0, (omega (arith, s, long, n), omega (arith, s, n)))
 
 returns : tie.Need-returns
 returns c =
     let text = c .before .before .before .before .before in
-    alert-sent _ _ _ _ (text .before .before .before .before .settle-alert .ensures) (text .word-at .ensures .0) (c .before .before .send-part .ensures)
+    let head = text .before .before in
+    alert-sent _ _ _ _ (head .before .before .before .before .before .settle-alert .ensures) (text .word-at .ensures .0) (head .before .read-u8 .ensures) (head .head-to .ensures)
+    (c .before .before .send-part .ensures)
 
 pub alert-spec : {M : Type 1} → statement M
 alert-spec =
     tie.close
     (tie.spec
-    (λ c κs. search needs) (λ c κs. search needs) (λ c. search needs) (λ c. search needs) send-part-requires
-    (λ c. search needs) (λ c. search needs) returns)
+    (λ c κs. search needs) (λ c κs. search needs) (λ c. search needs) (λ c κs. search needs) (λ c κs. search needs) (λ c. search needs)
+    (λ c. search needs) send-part-requires (λ c. search needs) (λ c. search needs) returns)

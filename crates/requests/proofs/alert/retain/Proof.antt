@@ -23,7 +23,7 @@ returns c =
     let none = c .before .before .before .before in
     let sequence = none .before .before .before in
     let p = sequence .before .before .before .pre in
-    none-retained _ _ (p .0) (sym (p .1) ∙ none .if1 .taken) (sequence .write-u64 .ensures) (c .before .before .write-u16 .ensures)
+    none-retained _ _ _ (p .1 .0) (p .0) (sym (p .1 .1) ∙ none .if1 .taken) (sequence .write-u64 .ensures) (c .before .before .write-u16 .ensures)
 
 same-length-2 : tie.Need-same-length-2
 same-length-2 c =
@@ -36,12 +36,12 @@ returns-2 c =
     let some = oldest .before .before .before in
     let sequence = some .before .before .before in
     let p = sequence .before .before .before .pre in
-    oldest-retained _ _ (p .0) _ refl (λ e. some .if1 .left (p .1 ∙ e)) (sequence .write-u64 .ensures) (oldest .copy .ensures)
+    oldest-retained _ _ _ (p .1 .0) (p .0) _ refl (λ e. some .if1 .left (p .1 .1 ∙ e)) (sequence .write-u64 .ensures) (oldest .copy .ensures)
     (c .before .before .copy2 .ensures)
 
 pub retain-spec : {M : Type 1} → statement M
 retain-spec =
     tie.close
     (tie.spec
-    (λ c. search needs) (λ c κs. search needs) (λ c κs. search needs) (λ c. search needs) slice-write-registers-2 same-length
+    (λ c. search needs) (λ c. search needs) (λ c κs. search needs) (λ c κs. search needs) (λ c. search needs) slice-write-registers-2 same-length
     returns (λ c. search needs) (λ c κs. search needs) (λ c. search needs) (λ c κs. search needs) same-length-2 returns-2)

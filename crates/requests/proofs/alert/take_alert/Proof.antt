@@ -12,14 +12,15 @@ use Rattle.requests.proofs.alert.take_alert.Tie as tie
 retain-requires : tie.Need-retain-requires
 retain-requires c κs =
     let count = c .before .before .before in
-    (registers-valid _ (count .before .before .before .pre) .long, count .byte-at .ensures .0)
+    let p = count .before .before .before .pre in
+    (registers-valid _ (p .0) .long, (p .1, count .byte-at .ensures .0))
 
 slice-write-registers : tie.Need-slice-write-registers
 slice-write-registers c =
     let moved = c .before .before in
     let retained = moved .before .before .before .before in
     let start = retained .before .before .before .before .before .before .before .before in
-    omega (arith, moved .registers2 .given, retained .registers .given, registers-valid _ (start .pre) .long)
+    omega (arith, moved .registers2 .given, retained .registers .given, registers-valid _ (start .pre .0) .long)
 
 same-length : tie.Need-same-length
 same-length c =
@@ -33,7 +34,8 @@ returns c =
     let retained = moved .before .before .before .before in
     let status = retained .before .before in
     let count = status .before .before in
-    alert-taken _ _ (registers-valid _ (count .before .before .before .pre) .long) (count .byte-at .ensures .0) (count .byte-at .ensures .1)
+    let p = count .before .before .before .pre in
+    alert-taken _ _ _ (p .1) (registers-valid _ (p .0) .long) (count .byte-at .ensures .0) (count .byte-at .ensures .1)
     (status .read-u64 .ensures) (retained .retain .ensures) (moved .before .before .before .registers .given) (moved .move-down .ensures)
     (left .before .before .registers2 .given) (left .one-less .ensures) (c .before .before .before .status-after .ensures)
     (c .before .before .write-u64 .ensures)

@@ -9,13 +9,14 @@ use denote.Ref.{now}
 use Rattle.octets.specs.Bytes.{bytes}
 use Rattle.line.specs.Reader.{Report, report}
 use Rattle.line.specs.Reader as LineReader
+use Rattle.requests.specs.Requests.{first-version}
 use Rattle.requests.specs.Receive.{Ended, sentBox, Head, failureHead, replyBytes, inner, innerAfter, verdictOf, ended, endedReport}
 use Rattle.requests.proofs.StepLaws.{Settled, data-short, settled-failure, settled-message}
 use Rattle.requests.proofs.receive.settle.Statement.{statement}
 use Rattle.requests.proofs.receive.settle.Tie as tie
 
 by-fail : (c : tie.Start) (reason : ℕ) (sequence : Option ℕ) {t : Report} {h : Head} {g : Ended} {o : List ℕ}
-    → t ≡ LineReader.failed reason sequence → h ≡ failureHead sequence
+    → t ≡ LineReader.failed reason sequence → h ≡ failureHead first-version sequence
     → (g ≡ Ended.failed reason) × (o ≡ sentBox (replyBytes h 0x02 (bytes 1 reason)) (now (c .args .outbox)))
     → Settled (now (c .args .image)) (now (c .args .factory)) (inner (now (c .args .outbox)) (now (c .args .settings)) (now (c .args .registers))) (now (c .args .reader)) t g
     (inner o (now (c .args .settings)) (now (c .args .registers)))

@@ -15,7 +15,7 @@ use Rattle.requests.specs.Receive.{KeySet, AlertParts, Inner, inner, lef
 use Rattle.requests.proofs.CommandLaws.{unlisted, of-number}
 use Rattle.requests.proofs.ReceiveLaws.{boot-failure-long, panic-long, key-set-long}
 use Rattle.requests.proofs.KeptLaws.{InnerValid, inner-valid}
-use Rattle.requests.proofs.StepLaws.{silently-by, answered-by, acknowledged-by, carried-both}
+use Rattle.requests.proofs.StepLaws.{unanswered-by, answered-by, looked-by, acknowledged-by, served-small, carried-both}
 use Rattle.requests.proofs.requests.carry.Statement.{statement}
 use Rattle.requests.proofs.requests.carry.Tie as tie
 
@@ -36,18 +36,18 @@ registers-long h = registers-valid _ (valid h .registers) .long
 
 -- what the number's command leaves
 abbrev Leaves : tie.After-head-to → Option Command → Inner → Type 0
-Leaves h o j = j ≡ leftWhere o (now (start h .args .image)) (now (start h .args .factory)) (lent h) (start h .args .number .0) (now (start h .args .«data»))
+Leaves h o j = j ≡ leftWhere o (now (start h .args .image)) (now (start h .args .factory)) (lent h) (start h .args .version) (start h .args .number .0) (now (start h .args .«data»))
 
 abbrev Carried : tie.After-head-to → Inner → Type 0
 Carried h j =
-    (j ≡ carriedInner (now (start h .args .image)) (now (start h .args .factory)) (lent h) (start h .args .number .0) (start h .args .command) (now (start h .args .«data»)))
+    (j ≡ carriedInner (now (start h .args .image)) (now (start h .args .factory)) (lent h) (start h .args .version) (start h .args .number .0) (start h .args .command) (now (start h .args .«data»)))
     × (validInner j ≡ true)
 
 both : (h : tie.After-head-to) (o : Option Command) {j : Inner} → commandOf (start h .args .command) ≡ o → Leaves h o j → Carried h j
 both h o =
     let a = start h .args in
     let p = start h .pre in
-    carried-both (now (a .image)) (now (a .factory)) (lent h) (a .number .0) (a .command) (now (a .«data»)) (p .1 .0) (p .1 .1 .0) (p .1 .1 .1 .0) (h .before .byte-at .ensures) o
+    carried-both (now (a .image)) (now (a .factory)) (lent h) (a .version) (a .number .0) (a .command) (now (a .«data»)) (p .1 .1 .1 .1 .1) (p .1 .0) (p .1 .1 .0) (p .1 .1 .1 .0) (h .before .byte-at .ensures) o
 
 does : (h : tie.After-head-to) (x : Command) {j : Inner} → start h .args .command ≡ numberOf x → Leaves h (some x) j → Carried h j
 does h x e = both h (some x) (rw e (of-number x))
@@ -57,112 +57,112 @@ boot-failure-requires c κs =
     let told = c .before .before in
     let h = told .before in
     let p = start h .pre in
-    (p .0, (registers-long h, (boot-failure-long _ _ (p .1 .1 .1 .1) (told .match .keys6), p .1 .1 .1 .0)))
+    (p .0, (registers-long h, (boot-failure-long _ _ (p .1 .1 .1 .1 .0) (told .match .keys6), p .1 .1 .1 .0)))
 
 panic-requires : tie.Need-panic-requires
 panic-requires c κs =
     let told = c .before .before in
     let h = told .before in
     let p = start h .pre in
-    (p .0, (registers-long h, (panic-long _ _ (p .1 .1 .1 .1) (told .match .keys7), p .1 .1 .1 .0)))
+    (p .0, (registers-long h, (panic-long _ _ (p .1 .1 .1 .1 .0) (told .match .keys7), p .1 .1 .1 .0)))
 
 set-key-requires : tie.Need-set-key-requires
 set-key-requires c κs =
     let told = c .before .before in
     let h = told .before in
-    (start h .pre .0, (settings-valid _ (valid h .settings) .long, key-set-long _ _ (start h .pre .1 .1 .1 .1) (told .match .keys14)))
+    (start h .pre .0, (settings-valid _ (valid h .settings) .long, key-set-long _ _ (start h .pre .1 .1 .1 .1 .0) (told .match .keys14)))
 
 returns : tie.Need-returns
 unfolding numberOf leftBy
 returns c =
     let told = c .before .before .before .before .before .before .before in
     let h = told .before in
-    does h Command.reboot (told .match .keys1) (silently-by (lent h) _ (c .before .before .before .before .ask-for .ensures))
+    does h Command.reboot (told .match .keys1) (unanswered-by (lent h) _ (c .before .before .before .before .ask-for .ensures))
 
 returns-2 : tie.Need-returns-2
 unfolding numberOf leftBy
 returns-2 c =
     let told = c .before .before .before .before .before .before .before in
     let h = told .before in
-    does h Command.power-off (told .match .keys2) (silently-by (lent h) _ (c .before .before .before .before .ask-for2 .ensures))
+    does h Command.power-off (told .match .keys2) (unanswered-by (lent h) _ (c .before .before .before .before .ask-for2 .ensures))
 
 returns-3 : tie.Need-returns-3
 unfolding numberOf leftBy
 returns-3 c =
     let told = c .before .before .before .before in
     let h = told .before in
-    does h Command.bsu (told .match .keys3) (answered-by (lent h) _ _ _ (h .head-to .ensures) (c .before .before .send-part .ensures))
+    does h Command.bsu (told .match .keys3) (answered-by (lent h) _ _ _ _ (h .head-to .ensures) (c .before .before .send-part .ensures))
 
 returns-4 : tie.Need-returns-4
 unfolding numberOf leftBy
 returns-4 c =
     let told = c .before .before .before .before in
     let h = told .before in
-    does h Command.identity (told .match .keys4) (answered-by (lent h) _ _ _ (h .head-to .ensures) (c .before .before .send-part2 .ensures))
+    does h Command.identity (told .match .keys4) (answered-by (lent h) _ _ _ _ (h .head-to .ensures) (c .before .before .send-part2 .ensures))
 
 returns-5 : tie.Need-returns-5
 unfolding numberOf leftBy
 returns-5 c =
     let told = c .before .before .before .before in
     let h = told .before in
-    does h Command.mac (told .match .keys5) (answered-by (lent h) _ _ _ (h .head-to .ensures) (c .before .before .send-part3 .ensures))
+    does h Command.mac (told .match .keys5) (answered-by (lent h) _ _ _ _ (h .head-to .ensures) (c .before .before .send-part3 .ensures))
 
 returns-6 : tie.Need-returns-6
 unfolding numberOf leftBy
 returns-6 c =
     let told = c .before .before .before .before .before .before .before in
     let h = told .before in
-    does h Command.boot-failure (told .match .keys6) (rw (← h .before .byte-at .ensures .0) (silently-by (lent h) _ (c .before .before .before .before .boot-failure .ensures)))
+    does h Command.boot-failure (told .match .keys6) (rw (← h .before .byte-at .ensures .0) (unanswered-by (lent h) _ (c .before .before .before .before .boot-failure .ensures)))
 
 returns-7 : tie.Need-returns-7
 unfolding numberOf leftBy
 returns-7 c =
     let told = c .before .before .before .before .before .before .before in
     let h = told .before in
-    does h Command.panic (told .match .keys7) (acknowledged-by (lent h) _ _ (h .head-to .ensures) (c .before .before .before .before .panic .ensures))
+    does h Command.panic (told .match .keys7) (acknowledged-by (lent h) _ _ _ (h .head-to .ensures) (c .before .before .before .before .panic .ensures))
 
 returns-8 : tie.Need-returns-8
 unfolding numberOf leftBy
 returns-8 c =
     let told = c .before .before .before .before .before in
     let h = told .before in
-    does h Command.status (told .match .keys8) (answered-by (lent h) _ _ _ (h .head-to .ensures) (c .before .before .send-part4 .ensures))
+    does h Command.status (told .match .keys8) (answered-by (lent h) _ _ _ _ (h .head-to .ensures) (c .before .before .send-part4 .ensures))
 
 returns-9 : tie.Need-returns-9
 unfolding numberOf leftBy
 returns-9 c =
     let told = c .before .before .before .before .before .before .before in
     let h = told .before in
-    does h Command.start-acknowledged (told .match .keys9) (acknowledged-by (lent h) _ _ (h .head-to .ensures) (c .before .before .before .before .start-acknowledged .ensures))
+    does h Command.start-acknowledged (told .match .keys9) (acknowledged-by (lent h) _ _ _ (h .head-to .ensures) (c .before .before .before .before .start-acknowledged .ensures))
 
 returns-10 : tie.Need-returns-10
 unfolding numberOf leftBy
 returns-10 c =
     let told = c .before .before .before .before .before .before .before in
     let h = told .before in
-    does h Command.alert (told .match .keys10) (rw (← h .head-to .ensures)
-    (ap (λ (a : AlertParts). inner (a .outbox) (now (start h .args .settings)) (a .registers)) (c .before .before .before .before .alert .ensures)))
+    does h Command.alert (told .match .keys10)
+    (ap (λ (a : AlertParts). inner (a .outbox) (now (start h .args .settings)) (a .registers)) (c .before .before .before .before .alert .ensures))
 
 returns-11 : tie.Need-returns-11
 unfolding numberOf leftBy
 returns-11 c =
     let told = c .before .before .before .before in
     let h = told .before in
-    does h Command.image-block (told .match .keys11) (answered-by (lent h) _ _ _ (h .head-to .ensures) (c .before .before .send-block .ensures))
+    does h Command.image-block (told .match .keys11) (answered-by (lent h) _ _ _ _ (h .head-to .ensures) (c .before .before .send-block .ensures))
 
 returns-12 : tie.Need-returns-12
 unfolding numberOf leftBy
 returns-12 c =
     let told = c .before .before .before .before .before in
     let h = told .before in
-    does h Command.key-lookup (told .match .keys12) (answered-by (lent h) _ _ _ (h .head-to .ensures) (c .before .before .send-value .ensures))
+    does h Command.key-lookup (told .match .keys12) (looked-by (lent h) _ _ _ _ (h .head-to .ensures) (c .before .before .send-value .ensures))
 
 returns-13 : tie.Need-returns-13
 unfolding numberOf leftBy
 returns-13 c =
     let told = c .before .before .before .before .before in
     let h = told .before in
-    does h Command.inventory (told .match .keys13) (rw (← c .before .before .before .read-u32 .ensures) (answered-by (lent h) _ _ _ (h .head-to .ensures) (c .before .before .send-item .ensures)))
+    does h Command.inventory (told .match .keys13) (rw (← c .before .before .before .read-u32 .ensures) (answered-by (lent h) _ _ _ _ (h .head-to .ensures) (c .before .before .send-item .ensures)))
 
 returns-14 : tie.Need-returns-14
 unfolding numberOf leftBy
@@ -189,7 +189,7 @@ carry-spec =
     (λ c. search needs) boot-failure-requires panic-requires
     (λ c κs. let h = c .before .before .before in (start h .pre .0, (omega (arith, registers-long h), omega arith)))
     (λ c κs. let h = c .before .before .before in (start h .pre .0, registers-long h))
-    (λ c κs. let h = c .before .before .before in (start h .pre .0, valid h .registers))
+    (λ c κs. let h = c .before .before .before in (start h .pre .0, (valid h .registers, omega (arith, served-small (start h .args .version) (start h .pre .1 .1 .1 .1 .1)))))
     (λ c κs. let h = c .before .before in (start h .pre .0, start h .pre .1 .0))
     (λ c κs. let h = c .before .before .before in (start h .pre .0, (start h .pre .1 .0, valid h .settings)))
     (λ c κs. search needs)
