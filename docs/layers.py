@@ -23,6 +23,8 @@ WORDS = {
     'line': 'frames, checksum',
     'line_claims': 'L1 to L12, demand 3',
     'supervisor': 'state, stores, local calls',
+    'saving': 'save, restore',
+    'saving_claims': 'saved and restored',
     'requests': 'requests, replies, receive',
     'supervisor_claims': 'view, demand 2',
     'counters': 'the counter block',

@@ -6,9 +6,10 @@
  * oatcastle_parts.h has the lent parts as one struct, and each call with that struct in their place.
  *
  * @par Result
- * 0: the call was carried out. Any other number is a refusal, one of OATCASTLE_NO_ROOM to OATCASTLE_ROT_BAD_TYPE
+ * 0: the call was carried out. Any other number is a refusal, one of OATCASTLE_NO_ROOM to OATCASTLE_RESTORE_BYTES_AFTER
  * below; which numbers a call can return stands with it. Where several apply, the first of 12, 13, 9, 17, 11, 10, 14, 8
- * is returned; the oatcastle_rot_ calls have an order of their own, which stands with them. A refused call leaves every byte and every number that it was lent as it was.
+ * is returned; the oatcastle_rot_ calls have an order of their own, which stands with them. A refused call leaves every byte and every number that it was lent as it was;
+ * oatcastle_restore alone answers where it finds a fault: with the fault's offset.
  * @par Memory
  * The caller owns all memory; the library allocates nothing, keeps no pointer after a call and has no state of
  * its own. All state lies in the parts that the caller lends: a reader, an outbox, a factory store, a settings
@@ -23,8 +24,8 @@
  * write: they overlap no part, no room and nothing that is read.
  * @par Before the first start
  * Parts of any contents may be lent to a start. Parts that are all 0, as static memory is, are no started supervisor: the calls that are lent the factory
- * store (receive, step, receive_counted, lookup) answer 12; the others find nothing pending, no signal, no flag and no record, and an alert or options
- * given then are lost at the start. A reader and a requester that are all 0 are as after their start. Parts of other contents answer 12, or by whatever their bytes mean.
+ * store (receive, step, receive_counted, lookup) answer 12; the others find nothing pending, no signal, no flag, no record and no setting, and an alert,
+ * options or settings given then are lost at the start. A reader and a requester that are all 0 are as after their start. Parts of other contents answer 12, or by whatever their bytes mean.
  * @par Threads
  * Calls that are lent a common part are made one at a time. Calls with no part in common may run at once. An interrupt counts as a thread.
  * @par answer
@@ -86,6 +87,13 @@ typedef char oatcastle_numbers_are_aligned_to_8[offsetof(struct oatcastle_aligne
 #define OATCASTLE_ROT_BAD_CRC 25u
 #define OATCASTLE_ROT_BAD_TYPE 26u      /**< not 1 to 9 */
 
+#define OATCASTLE_RESTORE_BAD_MARK 30u      /**< these come from oatcastle_restore alone, with the offset of the field at fault in answer[0] */
+#define OATCASTLE_RESTORE_BAD_KEY 31u       /**< not a saved setting's, or not above the one before */
+#define OATCASTLE_RESTORE_TOO_LONG 32u      /**< a length over its key's limit */
+#define OATCASTLE_RESTORE_BAD_CHECKSUM 33u
+#define OATCASTLE_RESTORE_CUT_SHORT 34u     /**< the image ends inside a field, whatever that holds, or before the end mark; the offset is its length */
+#define OATCASTLE_RESTORE_BYTES_AFTER 35u   /**< bytes after the end mark; the offset is the first's */
+
 /* ---- Published lengths of the lent parts, in bytes */
 
 #define OATCASTLE_READER_LENGTH 4142    /**< the line layer's reader; also the `state` of the oatcastle_line_ calls */
@@ -105,6 +113,7 @@ typedef char oatcastle_numbers_are_aligned_to_8[offsetof(struct oatcastle_aligne
 #define OATCASTLE_MOST_PENDING 4142     /**< bytes pending: a frame, and a 00 ahead of it */
 #define OATCASTLE_MOST_ALERTS 8         /**< alerts that wait */
 #define OATCASTLE_MOST_ITEMS 64         /**< inventory items */
+#define OATCASTLE_LONGEST_IMAGE 8483    /**< an image of the settings: see oatcastle_save */
 
 /* ---- What goes over the wire: commands of requests and of replies, keys, results, bits */
 
@@ -201,6 +210,8 @@ typedef char oatcastle_numbers_are_aligned_to_8[offsetof(struct oatcastle_aligne
 #define OATCASTLE_TAKE_NUMBERS 1
 #define OATCASTLE_LOOKUP_NUMBERS 2
 #define OATCASTLE_EDITION_NUMBERS 2
+#define OATCASTLE_SAVE_NUMBERS 1
+#define OATCASTLE_RESTORE_NUMBERS 1
 #define OATCASTLE_SIGNAL_NUMBERS 1
 #define OATCASTLE_FLAGS_NUMBERS 2
 #define OATCASTLE_RECORD_NUMBERS 4
@@ -376,11 +387,22 @@ uint32_t oatcastle_set_options(uint8_t *registers, oatcastle_length registers_le
  * @return 0; 12; 8: the answer is too short, or the room is shorter than the value. */
 uint32_t oatcastle_lookup(const uint8_t *factory, oatcastle_length factory_length, const uint8_t *settings, oatcastle_length settings_length, uint8_t key, uint16_t maxresponse, uint8_t *room, oatcastle_length room_length, uint64_t *answer, oatcastle_length answer_count);
 
-/** The edition of a key: how often it was set since the start; 0 for keys 0 to 2, which cannot be set.
+/** The edition of a key: how often it was set since the start, or the edition that was restored and the sets since then; 0 for keys 0 to 2, which cannot be set.
  * - answer[0]: 0: the key has a value; 1: no such key; 2: the key has no value
  * - answer[1]: the edition; 0 unless the key has a value
  * @return 0; 12; 8: the answer is too short. */
 uint32_t oatcastle_edition(const uint8_t *factory, oatcastle_length factory_length, const uint8_t *settings, oatcastle_length settings_length, uint8_t key, uint64_t *answer, oatcastle_length answer_count);
+
+/** Saves the settings: writes those of keys 3, 4 and 5 that have a value, with their editions, as an image to the start of out; bytes of out past it stay.
+ * - answer[0]: the image's length, at most OATCASTLE_LONGEST_IMAGE
+ * @return 0; 12; 8: the answer is too short, or out is shorter than the image. */
+uint32_t oatcastle_save(const uint8_t *settings, oatcastle_length settings_length, uint8_t *out, oatcastle_length out_length, uint64_t *answer, oatcastle_length answer_count);
+
+/** Restores the settings of keys 3, 4 and 5 from an image; call it behind a start, which forgets every setting. The whole image is checked before anything is written. A good one replaces all three, values and
+ * editions; one that the image lacks has no value and edition 0. Nothing else changes, and the answer stays.
+ * - answer[0]: where the first fault is, for 30 to 35: the offset of the field at fault in the image
+ * @return 0; 12; 8: the answer is too short; OATCASTLE_RESTORE_BAD_MARK to OATCASTLE_RESTORE_BYTES_AFTER: the first fault of the image. */
+uint32_t oatcastle_restore(uint8_t *settings, oatcastle_length settings_length, const uint8_t *image, oatcastle_length image_length, uint64_t *answer, oatcastle_length answer_count);
 
 /** The line signal.
  * - answer[0]: 1 if it is asserted, which it is while the status is not 0; else 0

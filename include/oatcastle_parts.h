@@ -93,6 +93,18 @@ static inline uint32_t oatcastle_supervisor_edition(const oatcastle_supervisor *
     return oatcastle_edition(parts->factory, sizeof parts->factory, parts->settings, sizeof parts->settings, key, answer, OATCASTLE_EDITION_NUMBERS);
 }
 
+/** oatcastle_save on these parts. */
+static inline uint32_t oatcastle_supervisor_save(const oatcastle_supervisor *parts, uint8_t *out, oatcastle_length out_length, uint64_t answer[OATCASTLE_SAVE_NUMBERS])
+{
+    return oatcastle_save(parts->settings, sizeof parts->settings, oatcastle_some_room(out, out_length), out_length, answer, OATCASTLE_SAVE_NUMBERS);
+}
+
+/** oatcastle_restore on these parts. */
+static inline uint32_t oatcastle_supervisor_restore(oatcastle_supervisor *parts, const uint8_t *image, oatcastle_length image_length, uint64_t answer[OATCASTLE_RESTORE_NUMBERS])
+{
+    return oatcastle_restore(parts->settings, sizeof parts->settings, oatcastle_some(image, image_length), image_length, answer, OATCASTLE_RESTORE_NUMBERS);
+}
+
 /** oatcastle_signal on these parts. */
 static inline uint32_t oatcastle_supervisor_signal(const oatcastle_supervisor *parts, uint64_t answer[OATCASTLE_SIGNAL_NUMBERS])
 {

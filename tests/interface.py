@@ -17,10 +17,10 @@ HEADER = 'include/oatcastle.h'
 RAW = 'bindings/rust/src/raw.rs'
 # The wrapper's files that have numbers: lengths, limits, offsets and kinds; then the enums of numbers.
 LIMITS = 'bindings/rust/src/limits.rs'
-ENUMS = {'bindings/rust/src/numbers.rs': ('Refusal', 'Reason', 'NotFound'), 'bindings/rust/src/rot.rs': ('Type',)}
+ENUMS = {'bindings/rust/src/numbers.rs': ('Refusal', 'Reason', 'NotFound', 'Fault'), 'bindings/rust/src/rot.rs': ('Type',)}
 WRAPPER = (LIMITS, *ENUMS)
 # The enums' prefixes in the header's names, and the wrapper's names for refusals of the root-of-trust link.
-PREFIXES = {'Refusal': '', 'Reason': 'REASON_', 'NotFound': 'NOT_FOUND_', 'Type': 'ROT_'}
+PREFIXES = {'Refusal': '', 'Reason': 'REASON_', 'NotFound': 'NOT_FOUND_', 'Fault': 'RESTORE_', 'Type': 'ROT_'}
 LINK_REFUSALS = {'PAYLOAD_TOO_LONG': 'ROT_TOO_LONG'}
 LIMIT = r'const (\w+): (?:usize|u64) = (\d+);'
 VARIANT = r'^    (\w+) = (\d+), "'
@@ -137,7 +137,7 @@ def constants(*paths):
     known = {}
     for path in paths:
         for name, value in re.findall(r'const (\w+): \w+ =\s+([^;]+);', read(path)):
-            known[name] = eval(re.sub(r'\b\w+::| as \w+', '', value).replace('/', '//'), {}, known)
+            known[name] = eval('(' + re.sub(r'\b\w+::| as \w+', '', value).replace('/', '//') + ')', {}, known)
     return known
 
 
@@ -179,11 +179,12 @@ def places(text, known):
 
 def refusals():
     answered = arms(library(link=False))
-    named = {'DONE': ('Started::Done', 'Posted::Done', 'OptionsSet::Done', 'Interrupted::Done', 'Updated::Done'), 'BAD_PROBE': ('Updated::Refused',),
-             'NO_ROOM': ('Written::NoRoom', 'Requested::NoRoom', 'Sent::NoRoom'),
+    named = {'DONE': ('Started::Done', 'Posted::Done', 'OptionsSet::Done', 'Interrupted::Done', 'Updated::Done', 'Restored::Done'), 'BAD_PROBE': ('Updated::Refused',),
+             'NO_ROOM': ('Written::NoRoom', 'Requested::NoRoom', 'Sent::NoRoom', 'Saved::NoRoom'),
              'TOO_LONG': ('Written::TooLong', 'Handed::TooLong', 'Posted::TooLong', 'Requested::TooLong'), 'ALERTS_FULL': ('Posted::Full',),
              'BAD_START': ('Started::BadData',),
-             'BAD_STATE': ('Started::Refused', 'Received::Refused', 'Answer::Refused', 'Requested::Refused', 'Interrupted::Refused', 'Sent::Refused'),
+             'BAD_STATE': ('Started::Refused', 'Received::Refused', 'Answer::Refused', 'Requested::Refused', 'Interrupted::Refused', 'Sent::Refused',
+                           'Saved::Refused', 'Restored::Refused'),
              'BAD_VALUE': ('Posted::BadAction', 'OptionsSet::BadOption'), 'NO_NUMBER': ('Requested::NoNumber', 'Interrupted::NoNumber'),
              'PLAN_PASSES': ('Planned::Passes',), 'OUTSTANDING': ('Requested::Outstanding',)}
     return {name: the_one(name, (n for variant in variants for n in answered[variant])) for name, variants in named.items()}
@@ -204,6 +205,24 @@ def reasons():
     for name, test in (('VERSION', r'not \(served \(m \.version\)\)\)'), ('SEQUENCE', r'leb \(2 \^ 63\) \(m \.sequence\)\)'), ('DATA', r'lengthAllowed [^\n]*\)\)')):
         found[name] = the_one(name, map(int, re.findall(test + r' \(failure (\d+) ', tested)))
     return {f'REASON_{name}': number for name, number in found.items()}
+
+
+# What is wrong with an image, by the test ahead of the fault.
+FAULTS = {'left < image::MARK_LENGTH': 'CUT_SHORT', 'image::MARK_LENGTH < left': 'BYTES_AFTER', 'left < image::EDITION_OFFSET': 'CUT_SHORT',
+          '!octets::same(image, at, b"KV", 0, image::MARK_LENGTH)': 'BAD_MARK', 'left < image::VALUE_OFFSET': 'CUT_SHORT',
+          '!key_follows(before, octets::read_u8(image, at + image::KEY_OFFSET))': 'BAD_KEY', 'layout::longest_setting(key) < n': 'TOO_LONG',
+          'left < image::RECORD_LENGTH + n': 'CUT_SHORT', 'octets::read_u16(image, at + body) != sum': 'BAD_CHECKSUM'}
+
+
+def image_faults():
+    """The faults of an image of the settings."""
+    text = read('crates/saving/src/restore.rt')
+    found = {}
+    for test, number in re.findall(r'if ([^{]*?) \{\s*return Next::Bad\((\d+),', body(text, 'pass') + '\n' + body(text, 'pass_record')):
+        if test not in FAULTS:
+            sys.exit(f'interface.py: restoring finds fault {number} where {test}; FAULTS has no name for it')
+        found.setdefault(FAULTS[test], []).append(int(number))
+    return {f'RESTORE_{name}': the_one(name, numbers) for name, numbers in found.items()}
 
 
 def root_of_trust():
@@ -227,8 +246,9 @@ def root_of_trust():
 def answer_counts():
     counted = told(read('crates/oatcastle/specs'))
     named = {'LINE_READ': 'readGiven', 'LINE_TAIL': 'tailGiven', 'LINE_WRITE': 'writeGiven', 'LINE_CHECKSUM': 'lineChecksumCall', 'STEP': 'stepGiven',
-             'TAKE': 'takeGiven', 'REQUESTER_REQUEST': 'putGiven', 'REQUESTER_SEND': 'putGiven', 'REQUESTER_RECEIVE': 'receiptGiven', 'ROT_WRITE': 'rotWriteGiven', 'ROT_READ': 'rotReadGiven', 'ROT_CRC': 'rotCrcCall', 'LOOKUP': 'lookupGiven', 'EDITION': 'editionGiven', 'SIGNAL': 'signalGiven', 'FLAGS': 'flagsGiven', 'RECORD': 'recordGiven'}
-    return {f'{name}_NUMBERS': counted[definition] for name, definition in named.items()}
+             'TAKE': 'takeGiven', 'REQUESTER_REQUEST': 'putGiven', 'REQUESTER_SEND': 'putGiven', 'REQUESTER_RECEIVE': 'receiptGiven', 'ROT_WRITE': 'rotWriteGiven', 'ROT_READ': 'rotReadGiven', 'ROT_CRC': 'rotCrcCall', 'LOOKUP': 'lookupGiven', 'EDITION': 'editionGiven', 'SIGNAL': 'signalGiven', 'FLAGS': 'flagsGiven', 'RECORD': 'recordGiven', 'SAVE': 'saveGiven'}
+    least = re.search(r'answer\.len\(\) < (\d+)', body(library(link=False), 'oatcastle_restore')).group(1)
+    return {'RESTORE_NUMBERS': int(least), **{f'{name}_NUMBERS': counted[definition] for name, definition in named.items()}}
 
 
 def settings(known):
@@ -254,7 +274,8 @@ def limits():
     found.update({f'ITEM_{name}': place for name, place in item.items()})
     found.update({'READER_LENGTH': known['STATE_LENGTH'], 'REQUESTER_LENGTH': constants('crates/requester/src/layout.rt')['REQUESTER_LENGTH'], 'LONGEST_FRAME': known['LONGEST_FORM'] + 1,
                   'ADDRESS_LENGTH': known['ADDRESS_LENGTH'], 'ADDRESS_ROWS': known['ROWS'], 'ADDRESSES_LENGTH': known['ADDRESS_LENGTH'] * known['ROWS'],
-                  'LONGEST_VALUE': max(settings(known))})
+                  'LONGEST_VALUE': max(settings(known)),
+                  'LONGEST_IMAGE': constants('crates/supervisor/src/layout.rt', 'crates/saving/src/image.rt')['LONGEST_IMAGE']})
     return found
 
 
@@ -336,7 +357,7 @@ def wire():
 @functools.cache
 def wanted_numbers():
     """The header's constants by what the crates have: one entry for each #define."""
-    return {**refusals(), **kinds(), **reasons(), **answer_counts(), **root_of_trust(), **limits(), **wire()}
+    return {**refusals(), **kinds(), **reasons(), **image_faults(), **answer_counts(), **root_of_trust(), **limits(), **wire()}
 
 
 def defined(texts):
@@ -395,7 +416,7 @@ def wrapper_faults(texts):
         if wanted.get(name) != value:
             yield f'{name}: bindings/rust/src has {value}, the crates {wanted.get(name)}'
     for name in wanted:
-        if name.startswith(('NOT_FOUND_', 'LONGEST_SETTINGS[', 'REASON_')) and name not in dict(found):
+        if name.startswith(('NOT_FOUND_', 'LONGEST_SETTINGS[', 'REASON_', 'RESTORE_')) and name not in dict(found):
             yield f'{name}: bindings/rust/src has none, the crates {wanted[name]}'
 
 
@@ -461,6 +482,7 @@ def planted(texts):
     for path in ENUMS:
         yield from raised(path, texts[path], r'\n    \w+ = (\d+), "')
     yield replaced(WRAPPER[1], texts[WRAPPER[1]], 'a reason taken out', '    Data = 7, ', '    // Data = 7, ')
+    yield replaced(WRAPPER[1], texts[WRAPPER[1]], 'a fault taken out', '    BytesAfter = 35, ', '    // BytesAfter = 35, ')
 
 
 def try_planted():

@@ -25,6 +25,8 @@ t COUNT    fills a room of 4,200 bytes with ee and takes into its first COUNT by
 p ACTION   posts an alert with the piece as its text
 o HEX      sets the options (16 digits)
 l KEY COUNT   looks a key up with a maxresponse;  k KEY: asks for its edition
+w COUNT    fills a room of 8,500 bytes with ee and saves the settings into its first COUNT bytes; prints the image and the digest of the room
+x          restores the settings, with the piece as the image; prints a fault's number and offset
 s  f       reads the line signal;  the two flags
 e KIND     reads a record: 0 boot failure, 1 panic
 m          notes the digest of each part;  g: prints whether all are as noted;  h: whether those of the two stores and the registers are
@@ -58,6 +60,7 @@ PARTS = ('reader', 'outbox', 'factory', 'settings', 'registers')
 PUBLISHED = {'reader': 4142, 'outbox': 4147, 'factory': PONG_OFFSET + 4, 'settings': sum(SETTING_HEAD + n for n in KEYS.values()), 'registers': 3393}
 SPARE = 9
 ROOM = 4200
+IMAGE_ROOM = 8500
 
 
 def little(number, width):
@@ -66,6 +69,55 @@ def little(number, width):
 
 def framed(sequence, command, data=b'', version=1, magic=MAGIC):
     return stuffed(message(version, sequence, command, data, magic)) + b'\0'
+
+
+def record(key, edition, value, mark=b'KV'):
+    """A record of an image of the settings, whatever its key and its value's length."""
+    out = mark + bytes([key]) + little(edition, 4) + little(len(value), 2) + value
+    return out + little(fletcher(out), 2)
+
+
+class Fault(Exception):
+    """The first fault of an image: its number, and the offset of the field at fault."""
+
+
+def image_records(image):
+    """The records of an image, read forward field by field, as (key, edition, value); raises its first fault."""
+    at = before = 0
+    out = []
+
+    def field(width):
+        nonlocal at
+        if len(image) - at < width:
+            raise Fault(34, len(image))
+        at += width
+        return image[at - width:at]
+
+    while True:
+        begin = at
+        mark = field(2)
+        if mark == b'KE':
+            break
+        if mark != b'KV':
+            raise Fault(30, begin)
+        place = at
+        key = field(1)[0]
+        if key not in KEYS or key <= before:
+            raise Fault(31, place)
+        edition = int.from_bytes(field(4), 'little')
+        place = at
+        length = int.from_bytes(field(2), 'little')
+        if length > KEYS[key]:
+            raise Fault(32, place)
+        value = field(length)
+        place = at
+        if int.from_bytes(field(2), 'little') != fletcher(image[begin:place]):
+            raise Fault(33, place)
+        out.append((key, edition, value))
+        before = key
+    if at < len(image):
+        raise Fault(35, at)
+    return out
 
 
 class Start:
@@ -236,6 +288,14 @@ class Supervisor:
         self.editions[key] += 1
         return 0
 
+    def saved(self):
+        return b''.join(record(key, self.editions[key], self.settings[key]) for key in KEYS if key in self.settings) + b'KE'
+
+    def restore(self, image):
+        read = image_records(image)
+        self.settings = {key: value for key, _, value in read}
+        self.editions = Counter({key: edition for key, edition, _ in read})
+
     def take(self, room):
         out, self.pending = self.pending[:room], self.pending[room:]
         if out:
@@ -372,6 +432,23 @@ class Case(line_cases.Case):
         result, edition = self.model.edition(key)
         return self.say(f'result {result}' if result else f'result 0 {edition}')
 
+    def save(self, room=IMAGE_ROOM):
+        fine = self.command(f'w {room}', 'settings')
+        image = self.model.saved()
+        out = image if fine and len(image) <= room else b''
+        said = 'refused 12' if not fine else f'saved {shown(out)}' if out else 'refused 8'
+        return self.say(f"{said} {digest(out + bytes([0xee]) * (IMAGE_ROOM - len(out)))}")
+
+    def restore(self, image):
+        self.add(image)
+        if not self.command('x', 'settings'):
+            return self.say('refused 12')
+        try:
+            self.model.restore(image)
+        except Fault as fault:
+            return self.say('refused {} {}'.format(*fault.args))
+        return self.say('restored')
+
     def signal(self):
         fine = self.command('s', 'registers')
         return self.say('refused 12' if not fine else 'asserted' if self.model.status else 'clear')
@@ -444,6 +521,7 @@ CALLS = [(PARTS, lambda c: c.receive(L12).receive(L12, 'q').receive(L12, 'c 5').
          (('outbox',), lambda c: c.take().take(3).take(0)),
          (('registers',), lambda c: c.post(1, b'text').post(0).post(1, nonzero(257)).set_options(1).set_options(512)),
          (('factory', 'settings'), lambda c: c.lookup(0, 4).lookup(9, 0).edition(0).edition(9)),
+         (('settings',), lambda c: c.save().save(0).restore(b'').restore(b'\xff')),
          (('registers',), lambda c: c.signal().flags().record(0).record(1))]
 
 
@@ -650,6 +728,63 @@ def editions():
     for value in (nonzero(4096), bytes(4096), b'\xff' * 4096):
         c = Case(f'key 4 at 4096 bytes in version 2, first byte {value[:1].hex()}', Start()).ask(0x10, b'\4' + value, version=2)
         yield c.ask(0x0e, b'\4' + little(4096, 2), version=2).ask(0x0e, b'\4' + little(4095, 2), version=2).store_edition(4, LAST_EDITION).ask(0x0e, b'\4\0\x10', version=2)
+
+
+def saving():
+    """Document 02's item 11."""
+    values = {3: b'one', 4: b'', 5: b'\0\xff\0'}
+    image = b''.join(record(key, edition, values[key]) for key, edition in ((3, 7), (4, 0), (5, LAST_EDITION))) + b'KE'
+    c = Case('saved as set', FULL).save().save(2).save(1).save(0)
+    for key in (5, 3, 4, 3):
+        c.ask(0x10, bytes([key]) + values[key]).save()
+    size = len(c.model.saved())
+    yield c.save(size - 1).save(size).save(size + 1)
+    c = Case('restored, saved and set', FULL).restore(image).save().local()
+    yield c.ask(0x10, b'\3x').ask(0x10, b'\4x').ask(0x10, b'\5x').edition(5).save().restore(b'KE').save().local().ask(0x10, b'\5x').edition(5)
+    c = Case('every prefix of an image', Start()).ask(0x10, b'\3old').ask(0x10, b'\5old').mark()
+    for n in range(len(image)):
+        c.restore(image[:n])
+    yield c.same().restore(image).save()
+    for place, byte in enumerate(image):
+        c = Case(f'byte {place} of an image changed', Start()).ask(0x10, b'\4old')
+        for other in sorted({byte ^ 1, byte ^ 0x80, 0, 255} - {byte}):
+            c.restore(image[:place] + bytes([other]) + image[place + 1:]).save()
+        yield c
+    for key, longest in KEYS.items():
+        c = Case(f'limits of key {key}', Start()).restore(record(key, 1, b'a' * longest) + b'KE').save().mark()
+        over = record(key, 2, b'a' * (longest + 1))
+        yield c.restore(over + b'KE').restore(over[:9]).restore(over[:8]).restore(over[:7]).same()
+    whole = b''.join(record(key, key, bytes([key]) * longest) for key, longest in KEYS.items()) + b'KE'
+    yield Case('the longest image', Start()).restore(whole).save(len(whole) - 1).save(len(whole)).save(len(whole) + 1).local()
+    c = Case('keys', Start()).ask(0x10, b'\4old').mark()
+    for pair in ((3, 3), (5, 4), (4, 3), (4, 4), (5, 5), (2, 3), (0, 3), (3, 6), (6, 7), (255, 3)):
+        c.restore(record(pair[0], 1, b'a') + record(pair[1], 2, b'b') + b'KE')
+    yield c.same().restore(record(3, 1, b'a') + record(5, 2, b'b') + b'KE').save()
+    c = Case('the first fault speaks', Start()).ask(0x10, b'\3old').mark()
+    first = record(3, 1, b'a')
+    for bad in (b'', b'\xff', b'\xff\xff', b'K', b'KV', b'KE\0', b'KEKE', b'KV\2', b'KV\xff', b'EK', b'VK', b'ke'):
+        c.restore(bad).restore(first + bad)
+    c.restore(first).restore(record(3, 1, b'a', b'KW') + b'KE').restore(first[:2] + b'\2' + first[3:] + b'KE').restore(first[:-1] + bytes([first[-1] ^ 1]))
+    # the checksum of the record without its mark, and its two bytes exchanged
+    yield c.restore(first[:-2] + little(fletcher(first[2:-2]), 2) + b'KE').restore(first[:-2] + first[:-3:-1] + b'KE').same()
+    for edition in (0, 1, LAST_EDITION - 1, LAST_EDITION):
+        c = Case(f'edition {edition} restored', Start()).restore(record(4, edition, b'v') + b'KE').edition(4).save()
+        for _ in range(2):
+            c.ask(0x10, b'\4w').edition(4)
+        yield c.ask(0x0e, b'\4\xff\0', version=2).save()
+    c = Case('an edition that falls', Start())
+    for _ in range(3):
+        c.ask(0x10, b'\3v')
+    yield c.restore(record(3, 1, b'w') + b'KE').edition(3).ask(0x10, b'\3x').edition(3).edition(4)
+    c = Case('what a restore leaves as it is', FULL).post(1, b'a').post(2, b'b').set_options(5).ask(10).send(0x0e, b'\0\4\0').take(3).receive(L12[:9])
+    yield c.restore(image).take().receive(L12[9:]).take().ask(10, b'', 1).ask(10).local()
+    c = Case('short settings', Start()).ask(0x10, b'\3v').mark()
+    for n in (PUBLISHED['settings'] - 1, 0):
+        c.lend('settings', n).save().restore(image).restore(b'')
+    yield c.same().lend('settings', PUBLISHED['settings']).save().restore(image).save()
+    # a setting without a value whose bytes hold an edition, a length and a value
+    c = Case('no value, but an edition', Start()).store_edition(4, 9).store('settings', SETTINGS[4] + SETTING_LENGTH, little(2, 2), False)
+    yield c.save().edition(4).ask(0x10, b'\4v').edition(4).restore(b'KE').edition(4).ask(0x10, b'\4v').edition(4)
 
 
 def inventory():
@@ -1000,7 +1135,7 @@ def sessions():
 
 
 def cases():
-    for group in (line_samples, commands, failures, lengths, keys, editions, inventory, alerts, options, records, images, sending, again, start_data, short_parts, stored_fields, sessions):
+    for group in (line_samples, commands, failures, lengths, keys, editions, saving, inventory, alerts, options, records, images, sending, again, start_data, short_parts, stored_fields, sessions):
         yield from group()
 
 

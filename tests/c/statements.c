@@ -16,6 +16,8 @@ static oatcastle_counters counters;
 static const uint8_t start_data[OATCASTLE_START_LENGTH] = {OATCASTLE_BSU_A};
 static uint8_t room[OATCASTLE_MOST_PENDING];
 static uint64_t answer[OATCASTLE_REQUESTER_RECEIVE_NUMBERS];
+/* key 3 with edition 1 and the value "a" */
+static const uint8_t image[] = {0x4b, 0x56, 0x03, 0x01, 0x00, 0x00, 0x00, 0x01, 0x00, 0x61, 0x08, 0x7d, 0x4b, 0x45};
 static const uint8_t l12[] = {
     0x06, 0xcc, 0x19, 0xde, 0x01, 0x01, 0x01, 0x01, 0x02, 0x01, 0x01, 0x01, 0x01, 0x01, 0x01, 0x01, 0x04, 0x08, 0xcf, 0x66, 0x00,
 };
@@ -38,7 +40,9 @@ static void before_the_first_start(void)
     HOLDS(oatcastle_supervisor_flags(&supervisor, answer) == OATCASTLE_DONE && answer[0] == 0 && answer[1] == 0);
     HOLDS(oatcastle_supervisor_boot_failure_record(&supervisor, NULL, 0, answer) == OATCASTLE_DONE && answer[0] == 0);
     HOLDS(oatcastle_supervisor_panic_record(&supervisor, NULL, 0, answer) == OATCASTLE_DONE && answer[0] == 0);
+    HOLDS(oatcastle_supervisor_save(&supervisor, room, sizeof room, answer) == OATCASTLE_DONE && answer[0] == 2 && memcmp(room, "KE", 2) == 0);
     HOLDS(memcmp(&supervisor, &zeros, sizeof zeros) == 0);
+    HOLDS(oatcastle_supervisor_restore(&supervisor, image, sizeof image, answer) == OATCASTLE_DONE);
     HOLDS(oatcastle_supervisor_post(&supervisor, 1, NULL, 0) == OATCASTLE_DONE);
     HOLDS(oatcastle_supervisor_set_options(&supervisor, OATCASTLE_OPTION_VERBOSE) == OATCASTLE_DONE);
     oatcastle_supervisor other;
@@ -78,6 +82,9 @@ static void null_with_length_0(void)
     HOLDS(oatcastle_supervisor_take(&supervisor, NULL, 0, answer) == OATCASTLE_DONE && answer[0] == 0);
     HOLDS(oatcastle_supervisor_lookup(&supervisor, OATCASTLE_KEY_ETC_SYSTEM, 9, NULL, 0, answer) == OATCASTLE_DONE && answer[0] == OATCASTLE_LOOKUP_NO_VALUE);
     HOLDS(oatcastle_supervisor_lookup(&supervisor, OATCASTLE_KEY_PING, 4, NULL, 0, answer) == OATCASTLE_NO_ROOM);
+    HOLDS(oatcastle_supervisor_save(&supervisor, NULL, 0, answer) == OATCASTLE_NO_ROOM);
+    answer[0] = 9;
+    HOLDS(oatcastle_supervisor_restore(&supervisor, NULL, 0, answer) == OATCASTLE_RESTORE_CUT_SHORT && answer[0] == 0);
     HOLDS(oatcastle_main_end_request(&main_end, OATCASTLE_COMMAND_STATUS, NULL, 0, room, sizeof room, answer) == OATCASTLE_DONE && answer[0] == sizeof l12);
     HOLDS(memcmp(room, l12, sizeof l12) == 0);
 }

@@ -27,6 +27,8 @@ pub enum Call {
     SetOptions { options: u64 },
     Lookup { key: u8, most: u16 },
     Edition { key: u8 },
+    Save,
+    Restore { image: Vec<u8> },
     Signal,
     Flags,
     BootFailure,
@@ -45,6 +47,7 @@ impl Call {
             Call::Start { .. } | Call::Receive { .. } | Call::Step { .. } => &[READER, OUTBOX, FACTORY, SETTINGS, REGISTERS],
             Call::Take => &[OUTBOX],
             Call::Lookup { .. } | Call::Edition { .. } => &[FACTORY, SETTINGS],
+            Call::Save | Call::Restore { .. } => &[SETTINGS],
             _ => &[REGISTERS],
         }
     }
@@ -59,7 +62,7 @@ impl Call {
             Call::LineRead { .. } => 7,
             Call::LineTail { .. } | Call::Lookup { .. } | Call::Edition { .. } | Call::Flags => 2,
             Call::Step { .. } => 3,
-            Call::LineWrite { .. } | Call::Take | Call::Signal => 1,
+            Call::LineWrite { .. } | Call::Take | Call::Save | Call::Restore { .. } | Call::Signal => 1,
             Call::BootFailure | Call::Panic => 4,
             _ => 0,
         }
@@ -85,6 +88,8 @@ impl fmt::Display for Call {
             Call::SetOptions { options } => write!(out, "oatcastle_set_options({options:#x})"),
             Call::Lookup { key, most } => write!(out, "oatcastle_lookup(key {key}, maxresponse {most})"),
             Call::Edition { key } => write!(out, "oatcastle_edition(key {key})"),
+            Call::Save => write!(out, "oatcastle_save"),
+            Call::Restore { image } => write!(out, "oatcastle_restore({})", hex(image)),
             Call::Signal => write!(out, "oatcastle_signal"),
             Call::Flags => write!(out, "oatcastle_flags"),
             Call::BootFailure => write!(out, "oatcastle_boot_failure"),

@@ -2,6 +2,7 @@
 // Assumes nothing of the library; every call goes through the comparison.
 
 use crate::calls::{Call, Image, Lent};
+use crate::images;
 use crate::model::{self, Supervisor};
 use crate::plans::Plan;
 use crate::random::Random;
@@ -10,7 +11,7 @@ use crate::traffic;
 use crate::world::{World, TAIL};
 
 /// Kinds of calls other than the two that start.
-const KINDS: usize = 17;
+const KINDS: usize = 19;
 
 impl World {
     fn image(&mut self) -> Image {
@@ -140,6 +141,8 @@ impl World {
             13 => Call::Panic,
             14 => Call::Addresses { plan: Plan::random(random) },
             15 => Call::PlanFits { plan: Plan::random(random) },
+            16 => Call::Save,
+            17 => Call::Restore { image: images::random_image(random, &self.supervisor.settings) },
             _ => Call::Edition { key: if random.percent(90) { random.below(7) as u8 } else { random.byte() } },
         }
     }
@@ -147,7 +150,7 @@ impl World {
     /// A call other than start, one that takes the part if one is given.
     fn any_call(&mut self, part: Option<usize>) -> Call {
         loop {
-            let kind = if self.random.percent(75) { self.random.below(KINDS) } else { self.random.pick(&[9, 9, 12, 13, 16]) };
+            let kind = if self.random.percent(75) { self.random.below(KINDS) } else { self.random.pick(&[9, 9, 12, 13, 18]) };
             let target = part.filter(|&part| part <= READER).unwrap_or(if self.random.percent(85) { LINE } else { READER });
             let call = self.make(kind, target);
             if part.is_none_or(|part| call.parts().contains(&part)) {

@@ -4,6 +4,7 @@
 mod calls;
 mod counters;
 mod history;
+mod images;
 #[path = "../../bindings/rust/src/raw.rs"]
 mod library;
 mod link;
@@ -108,6 +109,7 @@ fn plain(seed: u64, count: u64, trace: bool) -> ExitCode {
     let mut world = World::new(seed, trace);
     let result = samples(&mut world)
         .and_then(|()| counters::cases(&mut world))
+        .and_then(|()| images::cases(&mut world))
         .and_then(|()| checksums(seed))
         .and_then(|()| compare(&mut world, seed, count));
     let tally = &world.tally;
@@ -115,7 +117,7 @@ fn plain(seed: u64, count: u64, trace: bool) -> ExitCode {
     if let Err(difference) = &result {
         println!("seed {seed}, {difference}");
     }
-    let refused: u64 = tally.refusals[1..].iter().sum();
+    let refused: u64 = tally.refusals.values().sum();
     println!("wire bytes fed {}, calls refused {refused}, reasons {:?}, commands {:?}, set results {:?}", tally.fed, &tally.reasons[1..], tally.commands, tally.sets);
     println!("fields given a forbidden value {} of {FIELDS}; not met:{}", tally.fields.len(), if missing.is_empty() { " none" } else { &missing });
     println!(

@@ -123,6 +123,12 @@ faults! {
     FourteenForgets: "an interrupt refused as 14 forgets the request",
     OutstandingBeforeLong: "17 is tested ahead of 9",
     RebootOutstanding: "0x01 stays outstanding",
+    KeyTwice: "an image's key equal to the one before is let through",
+    OffsetNextField: "an image's length over its limit is found at the field behind it",
+    WrittenEarly: "records of an image ahead of a fault are restored",
+    MarkNotSummed: "an image's checksum leaves out the record's mark",
+    AbsentKept: "a setting that an image lacks stays",
+    EditionKept: "a restore keeps the editions",
 }
 
 static FAULT: AtomicUsize = AtomicUsize::new(0);
@@ -478,7 +484,7 @@ fn record(code: u16, rest: &[u8]) -> Record {
     Record { code, length: if broken(Fault::RecordLengthKept) { kept.len() } else { rest.len() }, kept }
 }
 
-/// The edition counts the successful sets since start.
+/// The edition counts the successful sets since start, or from the restored edition on.
 #[derive(Clone, Debug, PartialEq, Eq, Default)]
 pub struct Setting {
     pub edition: u32,

@@ -3,12 +3,13 @@
 
 use crate::calls::{hex, refused, same, Call, Lent, Outcome};
 use crate::counters::Block;
+use crate::images;
 use crate::library::*;
 use crate::model::{self, broken, Ended, Fault, Reader, Record, Supervisor, Touched, LONGEST_DATA};
 use crate::plans::ROWS_LENGTH;
 use crate::random::Random;
 use crate::state::{self, DATA_OFFSET, FACTORY, LENGTHS, LINE, NAMES, OUTBOX, READER, REGISTERS, SETTINGS, START_LENGTH};
-use std::collections::HashSet;
+use std::collections::{HashMap, HashSet};
 use std::fmt;
 
 /// Bytes behind each part, and behind a room or an answer.
@@ -47,7 +48,7 @@ pub struct Tally {
     pub lent: u64,
     /// Bytes of parts that were compared by what they mean.
     pub meant: u64,
-    pub refusals: [u64; 17],
+    pub refusals: HashMap<u32, u64>,
     pub reasons: [u64; 8],
     /// By the request's version, from 1 on.
     pub commands: [[u64; 17]; 2],
@@ -60,8 +61,8 @@ impl Tally {
     /// What has not come up: refusal numbers, reasons, commands in a version, results of a set.
     pub fn missing(&self) -> String {
         let mut missing = String::new();
-        for number in [8, 9, 10, 11, 12, 13, 16] {
-            if self.refusals[number] == 0 {
+        for number in [8, 9, 10, 11, 12, 13, 16, 30, 31, 32, 33, 34, 35] {
+            if !self.refusals.contains_key(&number) {
                 missing += &format!(" refusal {number}");
             }
         }
@@ -140,6 +141,7 @@ impl World {
             }
             Call::Lookup { key, most } => model::lookup(&self.supervisor.factory, &self.supervisor.settings, *key, *most).1.len(),
             Call::BootFailure | Call::Panic => self.record(call).map_or(0, |record| record.kept.len()),
+            Call::Save => images::saved(&self.supervisor.settings).len(),
             Call::Addresses { .. } => ROWS_LENGTH,
             _ => 0,
         }
@@ -344,6 +346,26 @@ impl World {
                 }
                 outcome.answer = vec![u64::from(result), u64::from(edition)];
             }
+            Call::Save => {
+                let image = images::saved(&self.supervisor.settings);
+                if short_answer || lent.room < image.len() {
+                    return refused(8);
+                }
+                outcome.answer = vec![image.len() as u64];
+                outcome.room = image;
+            }
+            Call::Restore { image } => {
+                if short_answer {
+                    return refused(8);
+                }
+                let (left, result) = images::restored(&self.supervisor.settings, image);
+                outcome.changed[SETTINGS] = result.is_ok() || left != self.supervisor.settings;
+                self.supervisor.settings = left;
+                if let Err((code, offset)) = result {
+                    outcome.code = code;
+                    outcome.answer = vec![offset as u64];
+                }
+            }
             Call::Signal => {
                 if short_answer {
                     return refused(8);
@@ -453,6 +475,10 @@ impl World {
                 Call::Edition { key } => {
                     oatcastle_edition(factory.as_ptr(), factory_n, settings.as_ptr(), settings_n, *key, answer, answer_n)
                 }
+                Call::Save => oatcastle_save(settings.as_ptr(), settings_n, room, room_n, answer, answer_n),
+                Call::Restore { image } => {
+                    oatcastle_restore(settings.as_mut_ptr(), settings_n, image.as_ptr(), image.len(), answer, answer_n)
+                }
                 Call::Signal => oatcastle_signal(registers.as_ptr(), registers_n, answer, answer_n),
                 Call::Flags => oatcastle_flags(registers.as_ptr(), registers_n, answer, answer_n),
                 Call::BootFailure => oatcastle_boot_failure(registers.as_ptr(), registers_n, room, room_n, answer, answer_n),
@@ -497,17 +523,16 @@ impl World {
         let mut room_expected = room.clone();
         let mut answer_expected = answer.clone();
         let expected = self.expect(call, lent);
-        if expected.code == 0 {
-            room_expected[..expected.room.len()].copy_from_slice(&expected.room);
-            answer_expected[..expected.answer.len()].copy_from_slice(&expected.answer);
-        }
+        // Empty for a refusal, but where a restore tells a fault's offset.
+        room_expected[..expected.room.len()].copy_from_slice(&expected.room);
+        answer_expected[..expected.answer.len()].copy_from_slice(&expected.answer);
         // The library gets its own copy of what it may only read.
         let given = call.clone();
         let code = self.library(&given, lent, &mut room, &mut answer);
         self.tally.calls += 1;
         self.tally.said += 4;
-        if let Some(times) = self.tally.refusals.get_mut(code as usize) {
-            *times += 1;
+        if code != 0 {
+            *self.tally.refusals.entry(code).or_default() += 1;
         }
         if code != expected.code {
             return Err(format!("the call's number\n  model   {}\n  library {code}", expected.code));
@@ -559,6 +584,7 @@ impl World {
     fn inputs(&mut self, call: &Call, given: &Call) -> Result<(), String> {
         match (call, given) {
             (Call::LineRead { piece: a, .. }, Call::LineRead { piece: b, .. })
+            | (Call::Restore { image: a }, Call::Restore { image: b })
             | (Call::Post { text: a, .. }, Call::Post { text: b, .. }) => self.same("what was lent for reading", a, b),
             (Call::Receive { image, piece: a }, Call::Receive { piece: b, .. })
             | (Call::Step { image, piece: a }, Call::Step { piece: b, .. }) => {

@@ -38,16 +38,16 @@ mod supervisor;
 
 pub use cell::StaticCell;
 pub use limits::{
-    ADDRESS_LENGTH, ADDRESS_ROWS, LONGEST_ALERT, LONGEST_DATA, LONGEST_FRAME, LONGEST_IMAGE_ID, LONGEST_ITEM_DATA, LONGEST_VALUE, MOST_ALERTS,
-    MOST_ITEMS, MOST_KEPT, MOST_PENDING,
+    ADDRESS_LENGTH, ADDRESS_ROWS, LONGEST_ALERT, LONGEST_DATA, LONGEST_FRAME, LONGEST_IMAGE, LONGEST_IMAGE_ID, LONGEST_ITEM_DATA, LONGEST_VALUE,
+    MOST_ALERTS, MOST_ITEMS, MOST_KEPT, MOST_PENDING,
 };
 pub use line::{checksum, write_frame, Failure, LineReader, Message, Read, ReadEnd, ReaderStorage, Tail};
-pub use numbers::{NotFound, Reason, Refusal};
+pub use numbers::{Fault, NotFound, Reason, Refusal};
 pub use plan::AddressPlan;
 pub use probes::update_probes;
 pub use raw::{Counters, Probe};
 pub use start::{Bsu, Item, ItemResult, StartData};
-pub use supervisor::{Flags, Found, Options, Record, Step, StepEnd, Supervisor, SupervisorStorage};
+pub use supervisor::{Flags, Found, ImageFault, Options, Record, Step, StepEnd, Supervisor, SupervisorStorage};
 
 use raw::Length;
 

@@ -26,6 +26,8 @@ pub const MOST_ALERTS: usize = 8;
 pub const MOST_KEPT: usize = 512;
 /// The inventory has at most so many items.
 pub const MOST_ITEMS: usize = 64;
+/// An image of the settings has at most so many bytes.
+pub const LONGEST_IMAGE: usize = 8483;
 /// An item has at most so many bytes of data.
 pub const LONGEST_ITEM_DATA: usize = 64;
 /// An image ID has at most so many bytes.
@@ -56,6 +58,8 @@ pub(crate) const STEP_NUMBERS: usize = 3;
 pub(crate) const TAKE_NUMBERS: usize = 1;
 pub(crate) const LOOKUP_NUMBERS: usize = 2;
 pub(crate) const EDITION_NUMBERS: usize = 2;
+pub(crate) const SAVE_NUMBERS: usize = 1;
+pub(crate) const RESTORE_NUMBERS: usize = 1;
 pub(crate) const SIGNAL_NUMBERS: usize = 1;
 pub(crate) const FLAGS_NUMBERS: usize = 2;
 pub(crate) const REQUESTER_REQUEST_NUMBERS: usize = 1;

@@ -91,3 +91,15 @@ numbered! {
 }
 
 impl core::error::Error for NotFound {}
+
+numbered! {
+    /// What is wrong with an image of the settings.
+    #[non_exhaustive]
+    Fault as u32, "image fault":
+    BadMark = 30, "a wrong mark";
+    BadKey = 31, "a key that is not a saved setting's, or not above the one before";
+    TooLong = 32, "a length over its key's limit";
+    BadChecksum = 33, "a wrong checksum";
+    CutShort = 34, "the image ends inside a field, or before the end mark";
+    BytesAfter = 35, "bytes after the end mark";
+}

@@ -87,6 +87,12 @@ extern "C" {
     pub(crate) fn oatcastle_edition(
         factory: *const u8, factory_length: Length, settings: *const u8, settings_length: Length, key: u8, answer: *mut u64, answer_count: Length,
     ) -> u32;
+    pub(crate) fn oatcastle_save(
+        settings: *const u8, settings_length: Length, out: *mut u8, out_length: Length, answer: *mut u64, answer_count: Length,
+    ) -> u32;
+    pub(crate) fn oatcastle_restore(
+        settings: *mut u8, settings_length: Length, image: *const u8, image_length: Length, answer: *mut u64, answer_count: Length,
+    ) -> u32;
     pub(crate) fn oatcastle_signal(registers: *const u8, registers_length: Length, answer: *mut u64, answer_count: Length) -> u32;
     pub(crate) fn oatcastle_flags(registers: *const u8, registers_length: Length, answer: *mut u64, answer_count: Length) -> u32;
     pub(crate) fn oatcastle_boot_failure(

@@ -4,11 +4,11 @@
 use crate::limits::{
     setting_offset, ALL_OPTIONS, BOOT_FAILURE_OFFSET, EDITION_NUMBERS, EMPTY, FACTORY_LENGTH, FAILURE, FLAGS_NUMBERS, LOOKUP_NUMBERS, MESSAGE, MORE,
     MOST_KEPT, OUTBOX_LENGTH, PANIC_OFFSET, PONG_OFFSET, READER_LENGTH, RECORD_CODE_OFFSET, RECORD_KEPT_OFFSET, RECORD_WHOLE_OFFSET,
-    REGISTERS_LENGTH, SETTINGS_LENGTH, SETTING_EDITION_OFFSET, SETTING_LENGTH_OFFSET, SETTING_VALUE_OFFSET, SIGNAL_NUMBERS, START_IMAGE_ID,
+    REGISTERS_LENGTH, RESTORE_NUMBERS, SAVE_NUMBERS, SETTINGS_LENGTH, SETTING_EDITION_OFFSET, SETTING_LENGTH_OFFSET, SETTING_VALUE_OFFSET, SIGNAL_NUMBERS, START_IMAGE_ID,
     START_IMAGE_ID_LENGTH, START_ITEM_COUNT, STEP_NUMBERS, TAKE_NUMBERS,
 };
 use crate::raw::Length;
-use crate::{done, first, lent, lent_mut, part, raw, ruled_out, said, Counters, NotFound, Reason, Refusal, StartData};
+use crate::{done, first, lent, lent_mut, part, raw, ruled_out, said, Counters, Fault, NotFound, Reason, Refusal, StartData};
 use core::fmt;
 use core::num::NonZeroU8;
 
@@ -148,11 +148,29 @@ pub enum StepEnd {
 #[derive(Clone, Copy, Debug, PartialEq, Eq)]
 #[non_exhaustive]
 pub struct Found<'s> {
-    /// How often the key was set since the start; 0 for keys 0 to 2.
+    /// How often the key was set since the start, or the edition that was restored and the sets since then; 0 for keys 0 to 2.
     pub edition: u32,
     /// The value, a part of the storage.
     pub value: &'s [u8],
 }
+
+/// The first fault of an image of the settings.
+#[derive(Clone, Copy, Debug, PartialEq, Eq)]
+#[non_exhaustive]
+pub struct ImageFault {
+    /// What is wrong.
+    pub fault: Fault,
+    /// Where in the image the field at fault stands; the image's length where it is cut short.
+    pub offset: usize,
+}
+
+impl fmt::Display for ImageFault {
+    fn fmt(&self, out: &mut fmt::Formatter<'_>) -> fmt::Result {
+        write!(out, "{}, at offset {}", self.fault, self.offset)
+    }
+}
+
+impl core::error::Error for ImageFault {}
 
 /// What the other processor has asked for since the start.
 #[derive(Clone, Copy, Debug, Default, PartialEq, Eq)]
@@ -388,7 +406,7 @@ impl<'s> Supervisor<'s> {
         }
     }
 
-    /// The edition of a key: how often it was set since the start, 0 for keys 0 to 2.
+    /// The edition of a key: how often it was set since the start, or the edition that was restored and the sets since then; 0 for keys 0 to 2.
     ///
     /// # Errors
     ///
@@ -401,6 +419,53 @@ impl<'s> Supervisor<'s> {
         match answer[0] {
             0 => Ok(u32::try_from(answer[1]).unwrap_or_else(|_| ruled_out())),
             result => Err(NotFound::of(result).filter(|&result| result != NotFound::TooLong).unwrap_or_else(|| ruled_out())),
+        }
+    }
+
+    /// Writes the settings that have a value, with their editions, as an image to the room's start; gives the image. A room of `LONGEST_IMAGE` takes any.
+    ///
+    /// # Errors
+    ///
+    /// `NoRoom` where the room is shorter than the image.
+    /// ```
+    /// # use oatcastle::{Bsu, StartData, Supervisor, SupervisorStorage, LONGEST_IMAGE};
+    /// # let mut storage = SupervisorStorage::new();
+    /// # let mut supervisor = Supervisor::start_in(&mut storage, &StartData::new(Bsu::A));
+    /// let mut room = [0; LONGEST_IMAGE];
+    /// let image = supervisor.save(&mut room).expect("the room takes any image");
+    /// assert_eq!(image, b"KE");
+    /// ```
+    pub fn save<'r>(&self, room: &'r mut [u8]) -> Result<&'r [u8], Refusal> {
+        let mut answer = [0; SAVE_NUMBERS];
+        let (settings, to, answers) = (lent(&self.storage.settings), lent_mut(room), lent_mut(&mut answer));
+        // SAFETY: each pointer is valid for the length behind it, and what is written overlaps nothing else.
+        said(unsafe { raw::oatcastle_save(settings.0, settings.1, to.0, to.1, answers.0, answers.1) })?;
+        Ok(first(room, answer[0]))
+    }
+
+    /// Replaces the settings, values and editions, by those of an image, behind a start, which forgets every setting; one that the image lacks has no value and edition 0. Nothing else changes.
+    ///
+    /// # Errors
+    ///
+    /// The image's first fault; then nothing was changed.
+    /// ```
+    /// # use oatcastle::{Bsu, Fault, StartData, Supervisor, SupervisorStorage};
+    /// # let mut storage = SupervisorStorage::new();
+    /// # let mut supervisor = Supervisor::start_in(&mut storage, &StartData::new(Bsu::A));
+    /// assert_eq!(supervisor.restore(b"KE"), Ok(()));
+    /// let fault = supervisor.restore(b"KV\x02KE").unwrap_err();
+    /// assert_eq!((fault.fault, fault.offset), (Fault::BadKey, 2));
+    /// assert_eq!(fault.to_string(), "image fault 31: a key that is not a saved setting's, or not above the one before, at offset 2");
+    /// ```
+    pub fn restore(&mut self, image: &[u8]) -> Result<(), ImageFault> {
+        let mut answer = [0; RESTORE_NUMBERS];
+        let (settings, from, answers) = (lent_mut(&mut self.storage.settings), lent(image), lent_mut(&mut answer));
+        // SAFETY: each pointer is valid for the length behind it, and what is written overlaps nothing else.
+        let number = unsafe { raw::oatcastle_restore(settings.0, settings.1, from.0, from.1, answers.0, answers.1) };
+        match (number, Fault::of(number.into())) {
+            (0, _) => Ok(()),
+            (_, Some(fault)) => Err(ImageFault { fault, offset: answer[0] as usize }),
+            (_, None) => ruled_out(),
         }
     }
 

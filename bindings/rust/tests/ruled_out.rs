@@ -53,6 +53,8 @@ library! {
     oatcastle_set_options(Pointer, usize, u64);
     oatcastle_lookup(Pointer, usize, Pointer, usize, u8, u16, Pointer, usize) answers;
     oatcastle_edition(Pointer, usize, Pointer, usize, u8) answers;
+    oatcastle_save(Pointer, usize, Pointer, usize) answers;
+    oatcastle_restore(Pointer, usize, Pointer, usize) answers;
     oatcastle_signal(Pointer, usize) answers;
     oatcastle_flags(Pointer, usize) answers;
     oatcastle_requester_start(Pointer, usize, Pointer, usize);
@@ -85,7 +87,7 @@ fn made<T>(_: T) {}
 const PLAN: AddressPlan = AddressPlan { base: [0; 6], count: 1, stride: 1 };
 const DATA: StartData = StartData::new(Bsu::A);
 
-const CALLS: [(&str, Call); 30] = [
+const CALLS: [(&str, Call); 32] = [
     ("LineReader::restart", |w| w.reader.restart()),
     ("read", |w| made(w.reader.read(&[1]))),
     ("tail", |w| made(w.reader.tail())),
@@ -102,6 +104,8 @@ const CALLS: [(&str, Call); 30] = [
     ("lookup", |w| made(w.supervisor.lookup(3, 256))),
     ("lookup of a key without a place", |w| made(w.supervisor.lookup(255, 256))),
     ("edition", |w| made(w.supervisor.edition(3))),
+    ("save", |w| made(w.supervisor.save(&mut [0; 64]))),
+    ("restore", |w| made(w.supervisor.restore(&[1]))),
     ("signal", |w| made(w.supervisor.signal())),
     ("flags", |w| made(w.supervisor.flags())),
     ("Requester::restart", |w| w.main.restart()),
@@ -149,14 +153,14 @@ fn numbers() {
 
 #[test]
 fn answers() {
-    let lengths = ["write_frame", "take", "request", "send", "rot::write"];
+    let lengths = ["write_frame", "take", "save", "request", "send", "rot::write"];
     let kinds = ["read", "step", "lookup", "lookup of a key without a place", "edition", "Requester::receive", "rot::read"];
     let mut wanted = [&lengths[..], &kinds].concat();
     wanted.sort_unstable();
     let mut found = panicking(0, [u64::MAX; 7]);
     found.sort_unstable();
     assert_eq!(found, wanted);
-    assert_eq!(panicking(0, [65, 0, 0, 0, 0, 0, 0]), ["write_frame", "take", "lookup", "lookup of a key without a place", "edition", "request", "send", "rot::read", "rot::write"]);
+    assert_eq!(panicking(0, [65, 0, 0, 0, 0, 0, 0]), ["write_frame", "take", "lookup", "lookup of a key without a place", "edition", "save", "request", "send", "rot::read", "rot::write"]);
     assert_eq!(panicking(0, [0; 7]), ["lookup of a key without a place"]);
 }
 

@@ -11,9 +11,9 @@ mod raw;
 use limits::{FACTORY_LENGTH, FIRST_SETTING, LONGEST_SETTINGS, OUTBOX_LENGTH, READER_LENGTH, REGISTERS_LENGTH, SETTINGS_LENGTH};
 use oatcastle::requester::{Handed, Received, Reply, Requester, RequesterStorage, Status};
 use oatcastle::{
-    checksum, update_probes, write_frame, AddressPlan, Bsu, Counters, Failure, Flags, Item, ItemResult, LineReader, Message, NotFound, Options,
+    checksum, update_probes, write_frame, AddressPlan, Bsu, Counters, Failure, Fault, Flags, Item, ItemResult, LineReader, Message, NotFound, Options,
     Probe, ReadEnd, ReaderStorage, Reason, Record, Refusal, StartData, StaticCell, Step, StepEnd, Supervisor, SupervisorStorage, Tail,
-    LONGEST_ALERT, LONGEST_DATA, LONGEST_FRAME, LONGEST_IMAGE_ID, LONGEST_ITEM_DATA, LONGEST_VALUE, MOST_ALERTS, MOST_ITEMS, MOST_KEPT,
+    LONGEST_ALERT, LONGEST_DATA, LONGEST_FRAME, LONGEST_IMAGE, LONGEST_IMAGE_ID, LONGEST_ITEM_DATA, LONGEST_VALUE, MOST_ALERTS, MOST_ITEMS, MOST_KEPT,
     MOST_PENDING,
 };
 use std::num::NonZeroU8;
@@ -272,6 +272,59 @@ fn message_data_are_those_that_the_library_copies_out() {
         assert_eq!((numbers, answer[6]), ([0, 0], length as u64));
         let ReadEnd::Message(message) = reader.read(&frame).end else { panic!("no message") };
         assert_eq!(message.data, &room[..length]);
+    }
+}
+
+#[test]
+fn settings_are_saved_and_restored() {
+    let mut storage = SupervisorStorage::new();
+    let mut supervisor = Supervisor::start_in(&mut storage, &StartData::new(Bsu::A));
+    let mut room = [0; LONGEST_IMAGE];
+    assert_eq!(supervisor.save(&mut room), Ok(&b"KE"[..]));
+    for (index, longest) in LONGEST_SETTINGS.into_iter().enumerate() {
+        let data = [&[(FIRST_SETTING + index) as u8][..], &bytes(longest)].concat();
+        assert_eq!(reply(&mut supervisor, &[], &request(1, 0x10, &data)), (0x0c, vec![0]));
+    }
+    let image = supervisor.save(&mut room).unwrap().to_vec();
+    assert_eq!(image.len(), LONGEST_IMAGE);
+    assert_eq!(supervisor.save(&mut room[1..]), Err(Refusal::NoRoom));
+    let mut other = SupervisorStorage::new();
+    let mut restored = Supervisor::start_in(&mut other, &UNIT);
+    assert_eq!(restored.restore(&image), Ok(()));
+    for (index, longest) in LONGEST_SETTINGS.into_iter().enumerate() {
+        let key = (FIRST_SETTING + index) as u8;
+        assert_eq!(restored.lookup(key, u16::MAX).map(|found| (found.edition, found.value)), Ok((1, &bytes(longest)[..])));
+    }
+    assert_eq!(restored.save(&mut room), Ok(&image[..]));
+    assert_eq!(restored.restore(b"KE"), Ok(()));
+    assert_eq!(found(&restored, 3, 256), Err(NotFound::NoValue));
+}
+
+#[test]
+fn image_faults_have_offsets() {
+    let mut storage = SupervisorStorage::new();
+    let mut supervisor = Supervisor::start_in(&mut storage, &StartData::new(Bsu::A));
+    assert_eq!(reply(&mut supervisor, &[], &request(1, 0x10, b"\x03a")), (0x0c, vec![0]));
+    let mut room = [0; LONGEST_IMAGE];
+    let image = supervisor.save(&mut room).unwrap().to_vec();
+    let changed = |place: usize, byte: u8| {
+        let mut image = image.clone();
+        image[place] = byte;
+        image
+    };
+    let faults = [
+        (changed(1, b'W'), Fault::BadMark, 0),
+        (changed(2, 6), Fault::BadKey, 2),
+        (changed(8, 2), Fault::TooLong, 7),
+        (changed(9, b'b'), Fault::BadChecksum, 10),
+        (image[..13].to_vec(), Fault::CutShort, 13),
+        (vec![], Fault::CutShort, 0),
+        ([&image[..], b"KE"].concat(), Fault::BytesAfter, 14),
+    ];
+    for (image, fault, offset) in faults {
+        let told = supervisor.restore(&image).unwrap_err();
+        assert_eq!((told.fault, told.offset), (fault, offset));
+        assert_eq!(found(&supervisor, 3, 256), Ok(&b"a"[..]));
     }
 }
 

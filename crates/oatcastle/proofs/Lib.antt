@@ -3,6 +3,7 @@
 mod AnswerLaws
 mod LineLaws
 mod SupervisorLaws
+mod SavingCallLaws
 mod ReceiveCallLaws
 mod AddressLaws
 mod RotLaws

@@ -3,6 +3,7 @@
 pub mod Answers
 pub mod LineCalls
 pub mod SupervisorCalls
+pub mod SavingCalls
 pub mod ReceiveCalls
 pub mod AddressCalls
 pub mod ProbeCalls

@@ -9,4 +9,5 @@ pub mod readings;
 pub mod receiving;
 pub mod requesting;
 pub mod rot_link;
+pub mod saving_calls;
 pub mod supervision;

@@ -9,7 +9,7 @@ const SPARE: usize = 9;
 // Each part has as many bytes as the longest.
 const PART_ROOM: usize = layout::SETTINGS_LENGTH + SPARE;
 
-pub(crate) const PIECE_ROOM: usize = 8320;
+pub(crate) const PIECE_ROOM: usize = 8500;
 
 const PART_FILL: u8 = 0xa5;
 

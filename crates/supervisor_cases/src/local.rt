@@ -1,9 +1,12 @@
 // The local calls, each with its answer printed.
 // Assumes nothing.
 use crate::case::Own;
+use crate::case::PIECE_ROOM;
 use crate::case::Parts;
 use crate::case::first;
 use crate::print;
+use saving::restore::restore;
+use saving::save::save;
 use supervisor::alerts::post;
 use supervisor::keys::edition;
 use supervisor::keys::lookup;
@@ -57,6 +60,30 @@ pub(crate) fn ask_edition(line: &[u8], parts: Parts) {
     let factory = octets::part(&factory_bytes, 0, lent.factory);
     let settings = octets::part(&settings_bytes, 0, lent.settings);
     print::edition(edition(factory, settings, fields::decimal_u8(line, 1)));
+}
+
+// Save, into the first n bytes of a room of known contents.
+pub(crate) fn save_into(n: usize, parts: Parts) {
+    let settings = parts.settings;
+    let lent = parts.lent;
+    let mut room = [ROOM_FILL; PIECE_ROOM];
+    let saved = save(
+        octets::part(&settings, 0, lent.settings),
+        first(&mut room, n),
+    );
+    print::saved(saved, &room);
+}
+
+// Restore, with the piece as the image.
+pub(crate) fn restore_from(own: Own, parts: Parts) -> Parts {
+    let mut next = parts;
+    let mut settings = parts.settings;
+    let lent = parts.lent;
+    let piece = own.piece;
+    let image = octets::part(&piece, 0, own.piece_count);
+    print::restored(restore(first(&mut settings, lent.settings), image));
+    next.settings = settings;
+    next
 }
 
 // A call that is lent the registers alone, or the line's end.

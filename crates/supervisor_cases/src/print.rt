@@ -2,6 +2,8 @@
 // Assumes nothing: output that cannot be written is lost.
 use requests::receive::Outcome;
 use requests::receive::Received;
+use saving::restore::Restored;
+use saving::save::Saved;
 use supervisor::alerts::Posted;
 use supervisor::keys::EditionFound;
 use supervisor::keys::Found;
@@ -13,6 +15,7 @@ use supervisor::registers::FlagsRead;
 use supervisor::registers::Recorded;
 use supervisor::registers::SignalRead;
 use supervisor::start::Started;
+use text_lines::streams::NO_ROOM;
 use text_lines::streams::REFUSED;
 use text_lines::streams::TOO_LONG;
 use text_lines::streams::bytes;
@@ -121,6 +124,31 @@ pub(crate) fn edition(a: EditionFound) {
 fn result(n: u64) {
     word(b" result");
     number(n);
+}
+
+// The image in the room, and the digest of the room.
+pub(crate) fn saved(a: Saved, room: &[u8]) {
+    match a {
+        Saved::Refused => refused(REFUSED),
+        Saved::NoRoom => refused(NO_ROOM),
+        Saved::Done(n) => {
+            word(b" saved");
+            bytes(octets::part(room, 0, n));
+        }
+    }
+    digest(room);
+}
+
+// A fault's number and offset.
+pub(crate) fn restored(a: Restored) {
+    match a {
+        Restored::Refused => refused(REFUSED),
+        Restored::Done => word(b" restored"),
+        Restored::Fault(fault, offset) => {
+            refused(fault as u64);
+            number(offset as u64);
+        }
+    }
 }
 
 pub(crate) fn signal(a: SignalRead) {

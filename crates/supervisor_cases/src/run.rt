@@ -25,6 +25,11 @@ pub(crate) fn call(line: &[u8], own: Own, parts: Parts) -> Parts {
             local::ask_edition(line, parts);
             parts
         }
+        b'w' => {
+            local::save_into(fields::count(line, 1), parts);
+            parts
+        }
+        b'x' => local::restore_from(own, parts),
         b'g' | b'h' => {
             compare(key, own, parts);
             parts

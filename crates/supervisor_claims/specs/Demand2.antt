@@ -26,6 +26,8 @@ pub use Rattle.supervisor_claims.specs.claims.FramesClaim.{each-once}
 -- a settings key holds its last successful set and, as edition, their number, and a lookup answers that: key 5 is the withdrawn-key list
 pub use Rattle.supervisor_claims.specs.claims.WithdrawnKeys.{reached, value-last-set, last-set, lookup-last-set, withdrawn-list-answered, list-edition-answered}
 pub use Rattle.supervisor_claims.specs.claims.LastSetLaws.{set-successful, successful-exactly}
+-- what is saved in a state that is reached restores, on any sound parts; an accepted image is the saved form of what it leaves (document 02, item 11)
+pub use Rattle.supervisor_claims.specs.claims.SavedClaim.{key-savable, save-writes, saved-restores, accepted-exact}
 -- step receives the bytes up to and with the first 00; with the bytes left it is receive
 pub use Rattle.supervisor_claims.specs.claims.History.{step-receives, step-then-receive, steps-receive}
 -- 12 exactly where a part that a call takes is not as 12 requires, and so where too little of one is lent; then nothing changes

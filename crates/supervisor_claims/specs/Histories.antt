@@ -5,7 +5,7 @@ use mathlib.Core.Bool.{Bool, true, cond, not, _||_}
 use mathlib.Core.List.{List, [], _∷_}
 use mathlib.Core.Option.{Option, none, some}
 use Prim.Native.Nat.{ℕ, suc, _^_, _<_}
-use lib.Dec.{eqb}
+use lib.Dec.{ltb, eqb}
 use lib.ListN as ListN
 use lib.ListN.{length}
 use Rattle.octets.specs.Bytes.{Each, Byte, overlay}
@@ -17,13 +17,15 @@ use Rattle.supervisor.specs.Calls
 use Rattle.supervisor.specs.Calls.{Parts}
 use Rattle.supervisor.specs.declared.registers.Kind.{Kind}
 use Rattle.supervisor.specs.declared.registers.Kind.the-variants as kind
+use Rattle.saving.specs.Saving
+use Rattle.saving.specs.Calls as SavingCalls
 use Rattle.requests.specs.Requests
 use Rattle.requests.specs.Requests.{Verdict}
 use Rattle.requests.specs.Receive
 use Rattle.requests.specs.Receive.{Ended}
 use Rattle.supervisor_claims.specs.ByPart.{Part, is, published, part, partsBy, everyPart}
 use Rattle.supervisor_claims.specs.View.{factoryOf}
-use Rattle.supervisor_claims.specs.Meant.{withOutbox, withRegisters}
+use Rattle.supervisor_claims.specs.Meant.{withOutbox, withSettingsPart, withRegisters}
 
 -- ---- Calls and answers
 
@@ -41,6 +43,10 @@ pub data LocalCall : Type 0 where
   signal : LocalCall
   flags : LocalCall
   readRecord : Kind → LocalCall
+  -- the room lent
+  save : List ℕ → LocalCall
+  -- an image
+  restore : List ℕ → LocalCall
 
 -- a public call and its arguments
 pub data Call : Type 0 where
@@ -64,6 +70,8 @@ Typed (local (edition key)) = key < 256
 Typed (local signal) = Unit {0}
 Typed (local flags) = Unit {0}
 Typed (local (readRecord k)) = Unit {0}
+Typed (local (save room)) = Each Byte room
+Typed (local (restore image)) = Each Byte image
 
 pub data Answer : Type 0 where
   -- the table's number
@@ -81,6 +89,10 @@ pub data Answer : Type 0 where
   -- reboot, power off
   asked : Bool → Bool → Answer
   recorded : Option Calls.Read → Answer
+  -- how many bytes were written
+  written : ℕ → Answer
+  -- a fault of an image: its number and its offset
+  faulty : ℕ → ℕ → Answer
 
 -- ---- By the promises
 
@@ -121,6 +133,15 @@ abbrev pub readAnswer : {A : Type 0} → (A → Answer) → Calls.ReadReport A �
 readAnswer answer (Calls.ReadReport.is x) = answer x
 readAnswer answer (Calls.ReadReport.refused n) = refused n
 
+abbrev pub saveAnswer : SavingCalls.SaveReport → Answer
+saveAnswer (SavingCalls.written n) = written n
+saveAnswer (SavingCalls.SaveReport.refused n) = refused n
+
+abbrev pub restoreAnswer : SavingCalls.RestoreReport → Answer
+restoreAnswer SavingCalls.done = done
+restoreAnswer (SavingCalls.RestoreReport.refused n) = refused n
+restoreAnswer (SavingCalls.faulty n at) = faulty n at
+
 abbrev pub flagsAsked : Bool × Bool → Answer
 flagsAsked b = asked (b .0) (b .1)
 
@@ -136,6 +157,9 @@ did p (local (lookup key most)) =
 did p (local (edition key)) = didBy (editionAnswer (Calls.editionResult (p .factory) (p .settings) key)) [] p
 did p (local signal) = didBy (readAnswer asserted (Calls.signalOf (p .registers))) [] p
 did p (local flags) = didBy (readAnswer flagsAsked (Calls.flagsOf (p .registers))) [] p
+did p (local (save room)) = let t = SavingCalls.saving (p .settings) room in didBy (saveAnswer (t .report)) (t .room) p
+did p (local (restore image)) =
+    let t = SavingCalls.restoring (p .settings) image in didBy (restoreAnswer (t .report)) [] (withSettingsPart p (t .settings))
 did p (local (readRecord k)) = didBy (readAnswer recorded (Calls.recordOf (p .registers) k)) (Calls.recordBytes (p .registers) k) p
 
 -- ---- By document 01
@@ -175,6 +199,15 @@ abbrev pub recordMeans : State → Option Recorded → Means
 recordMeans s none = means (recorded none) [] s
 recordMeans s (some x) = means (recorded (some (record { code = x .code; whole = x .whole; kept = length (x .kept) }))) (x .kept) s
 
+-- an image goes to a room of sufficient length, else 8
+abbrev pub saveMeans : State → List ℕ → List ℕ → Means
+saveMeans s image room =
+    cond (ltb (length room) (length image)) (means (refused 8) room s) (means (written (length image)) (overlay 0 image room) s)
+
+abbrev pub restoreMeans : State → Saving.Done → Means
+restoreMeans s (Saving.faulty n at) = means (faulty n at) [] s
+restoreMeans s (Saving.left t) = means done [] t
+
 unfoldable pub meant : State → Call → Means
 meant s (start d) = doneMeans s (Local.start (factoryOf d))
 meant s (receive image piece) = means done [] (Requests.stream image s piece)
@@ -190,6 +223,8 @@ meant s (local (edition key)) = let e = Local.edition s key in means (foundEditi
 meant s (local signal) = means (asserted (Local.asserted s)) [] s
 meant s (local flags) = means (asked (s .reboot-asked) (s .power-off-asked)) [] s
 meant s (local (readRecord k)) = recordMeans s (recordKept s k)
+meant s (local (save room)) = saveMeans s (Saving.saved (s .settings)) room
+meant s (local (restore image)) = restoreMeans s (Saving.restore s image)
 
 -- ---- Calls that are lent some of the parts' bytes
 
@@ -225,6 +260,8 @@ takes (local (edition key)) i = is Part.factory i || is Part.settings i
 takes (local signal) i = is Part.registers i
 takes (local flags) i = is Part.registers i
 takes (local (readRecord k)) i = is Part.registers i
+takes (local (save room)) i = is Part.settings i
+takes (local (restore image)) i = is Part.settings i
 
 -- a test that each part passes which a call takes
 abbrev pub ofTaken : Call → (Part → Bool) → Bool
@@ -251,6 +288,8 @@ untouched (local (edition key)) = []
 untouched (local signal) = []
 untouched (local flags) = []
 untouched (local (readRecord k)) = []
+untouched (local (save room)) = room
+untouched (local (restore image)) = []
 
 unfoldable pub made : Parts → Made → Did
 made p m = let d = did (lentOf (m .lent) p) (m .call) in didBy (d .answer) (d .out) (givenBack (m .lent) p (d .parts))

@@ -4,7 +4,7 @@ use mathlib.Core.Bool.{cond}
 use mathlib.Core.List.{List, [], _∷_, _++_}
 use mathlib.Core.Option.{Option, none, some}
 use Prim.Native.Nat.{ℕ, _+_, _-_}
-use lib.Dec.{ltb, eqb}
+use lib.Dec.{leb, ltb, eqb}
 use lib.ListN.{length, take}
 use Rattle.octets.specs.Bytes.{bytes}
 use Rattle.line.specs.Message.{Message}
@@ -13,8 +13,13 @@ use Rattle.line_claims.specs.Pieces.{split, nonEmpty}
 use Rattle.supervisor.specs.Number.{topSet}
 use Rattle.supervisor.specs.Local.{fitted}
 use Rattle.supervisor.specs.Limits.{longest-setting, last-edition}
-use Rattle.supervisor.specs.State.{Setting, unset}
+use Rattle.supervisor.specs.State.{Setting, unset, Settings}
+use Rattle.saving.specs.Saving
+use Rattle.saving.specs.Saving.{Entry}
 use Rattle.requests.specs.Requests.{Verdict, failure, good, verdict, editionBytes}
+use Rattle.supervisor_claims.specs.Histories
+use Rattle.supervisor_claims.specs.Histories.{LocalCall, Call, Made, enough}
+use Rattle.supervisor_claims.specs.FrameHistory.{reads, starts, joined, framesBy}
 
 -- ---- Requests
 
@@ -67,9 +72,63 @@ setAfter k x ms =
     let vs = successful (x .edition) k ms in
     record { edition = x .edition + length vs; value = lastOr (x .value) vs }
 
--- since the start
-abbrev pub lastSet : ℕ → List Message → Setting
-lastSet k ms = setAfter k unset ms
+-- ---- Restores
+
+abbrev pub recordsOf : Saving.Read → Option (List Entry)
+recordsOf (Saving.fault n at) = none
+recordsOf (Saving.good es) = some es
+
+-- the records of an image that a call restores
+unfoldable pub restoredBy : LocalCall → Option (List Entry)
+restoredBy (Histories.take room) = none
+restoredBy (Histories.post action text) = none
+restoredBy (Histories.setOptions options) = none
+restoredBy (Histories.lookup key most) = none
+restoredBy (Histories.edition key) = none
+restoredBy Histories.signal = none
+restoredBy Histories.flags = none
+restoredBy (Histories.readRecord k) = none
+restoredBy (Histories.save room) = none
+restoredBy (Histories.restore image) = recordsOf (Saving.read image)
+
+abbrev pub settingsBy : Option (List Entry) → Settings → Settings
+settingsBy none z = z
+settingsBy (some es) z = Saving.restored es z
+
+-- Where a settings key's value and edition come from: what it had after the last accepted restore, else after the last accepted start, and the valid requests since
+pub record Origin : Type 0 where
+  pub setting : Setting
+  pub requests : List Message
+
+abbrev pub sinceStart : Origin
+sinceStart = record { setting = unset; requests = [] }
+
+-- a restore replaces the settings that are saved
+abbrev pub sinceRestore : ℕ → Origin → Option (List Entry) → Origin
+sinceRestore k x none = x
+sinceRestore k x (some es) = cond (leb k Saving.highest-saved) (record { setting = Saving.settingIn k es; requests = [] }) x
+
+-- more requests
+abbrev pub sinceMore : Origin → List Message → Origin
+sinceMore x ms = record { setting = x .setting; requests = x .requests ++ ms }
+
+-- a call behind the bytes w
+unfoldable pub sinceCall : ℕ → List ℕ → Origin → Call → Origin
+sinceCall k w x (Histories.start d) = cond (starts (Histories.start d)) sinceStart x
+sinceCall k w x (Histories.receive image piece) = sinceMore x (requestsIn (framesBy w piece))
+sinceCall k w x (Histories.step image piece) = sinceMore x (requestsIn (framesBy w (reads (Histories.step image piece))))
+sinceCall k w x (Histories.local c) = sinceRestore k x (restoredBy c)
+
+unfoldable pub sinceMade : ℕ → List ℕ → Origin → Made → Origin
+sinceMade k w x m = cond (enough (m .call) (m .lent)) (sinceCall k w x (m .call)) x
+
+unfoldable pub sinceAll : ℕ → List ℕ → Origin → List Made → Origin
+sinceAll k w x [] = x
+sinceAll k w x (m ∷ ms) = sinceAll k (joined w m) (sinceMade k w x m) ms
+
+-- what the key has then
+abbrev pub setSince : ℕ → Origin → Setting
+setSince k x = setAfter k (x .setting) (x .requests)
 
 -- ---- Lookups
 

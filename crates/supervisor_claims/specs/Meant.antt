@@ -20,12 +20,15 @@ Valid p = Every (λ i. validPart i (part p i) ≡ true)
 pub valid-with : (p : Calls.Parts) (i : Part) (s : List ℕ) → Valid p → validPart i s ≡ true → Valid (withPart p i s)
 valid-with = every-with (λ i s. validPart i s ≡ true)
 
--- the parts with another reader, another outbox, or with other registers
+-- the parts with another reader, another outbox, other settings, or with other registers
 abbrev pub withReader : Calls.Parts → List ℕ → Calls.Parts
 withReader p r = withPart p Part.reader r
 
 abbrev pub withOutbox : Calls.Parts → List ℕ → Calls.Parts
 withOutbox p o = withPart p Part.outbox o
+
+abbrev pub withSettingsPart : Calls.Parts → List ℕ → Calls.Parts
+withSettingsPart p s = withPart p Part.settings s
 
 abbrev pub withRegisters : Calls.Parts → List ℕ → Calls.Parts
 withRegisters p r = withPart p Part.registers r

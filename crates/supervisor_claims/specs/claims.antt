@@ -11,4 +11,5 @@ pub mod AlertClaim
 pub mod ReaderCalls
 pub mod Replies
 pub mod WithdrawnKeys
+pub mod SavedClaim
 pub mod LastSetLaws

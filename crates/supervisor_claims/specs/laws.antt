@@ -6,6 +6,7 @@ pub mod RegisterLaws
 pub mod PostLaws
 pub mod PartLaws
 pub mod SettingLaws
+pub mod SavingLaws
 pub mod RecordLaws
 pub mod TakenLaws
 pub mod Locality

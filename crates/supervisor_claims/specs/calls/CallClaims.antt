@@ -10,7 +10,7 @@ use lib.Dec.{ltb, eqb}
 use lib.ListN as ListN
 use lib.ListN.{length, replicate, length-append, getD}
 use Rattle.octets.specs.Bytes.{Each, Byte, bytes, overlay}
-use Rattle.octets.proofs.Conditions.{cond-by}
+use Rattle.octets.proofs.Conditions.{cond-by, cond-both}
 use Rattle.octets.proofs.Each.{each-append, each-take}
 use Rattle.octets.proofs.Numbers.{length-bytes, bytes-each}
 use Rattle.octets.proofs.Overlay.{length-overlay, overlay-each}
@@ -18,7 +18,7 @@ use Rattle.octets.proofs.SameBytes.{stored-long}
 use Rattle.line.specs.Reader as LineReader
 use Rattle.supervisor.specs.Limits
 use Rattle.supervisor.specs.Layout
-use Rattle.supervisor.specs.State.{Recorded, fresh}
+use Rattle.supervisor.specs.State.{Recorded, withSettings, fresh}
 use Rattle.supervisor.specs.Local
 use Rattle.supervisor.specs.Local.{pong}
 use Rattle.supervisor.specs.Valid.{goodStart}
@@ -27,12 +27,16 @@ use Rattle.supervisor.specs.Calls.{Parts}
 use Rattle.supervisor.specs.declared.registers.Kind.{Kind}
 use Rattle.supervisor.specs.declared.registers.Kind.the-variants as kind
 use Rattle.supervisor.proofs.StartLaws.{LongEnough, long-enough-is}
-use Rattle.supervisor.proofs.ValidLaws.{outbox-valid, registers-valid}
+use Rattle.supervisor.proofs.ValidLaws.{outbox-valid, settings-valid, registers-valid}
+use Rattle.saving.specs.Saving
+use Rattle.saving.specs.Calls as SavingCalls
+use Rattle.saving.proofs.KeptLaws.{restored-valid, restored-long, restored-bytes}
 use Rattle.requests.specs.Receive
-use Rattle.supervisor_claims.specs.View.{factoryOf, view}
+use Rattle.supervisor_claims.specs.View.{settingsOf, factoryOf, view}
 use Rattle.supervisor_claims.specs.laws.ViewLaws.{length-clear}
+use Rattle.supervisor_claims.specs.laws.SavingLaws.{image-meant, good-meant}
 use Rattle.supervisor_claims.specs.ByPart.{Part}
-use Rattle.supervisor_claims.specs.Meant.{Does, Reads, RecordedAs, withRegisters}
+use Rattle.supervisor_claims.specs.Meant.{Does, Reads, RecordedAs, withSettingsPart, withRegisters}
 use Rattle.supervisor_claims.specs.Histories
 use Rattle.supervisor_claims.specs.Histories.{Call, Typed, Did, didBy, did, refusal, Means, means, doneMeans, recordMeans, meant, upTo, frameEnds}
 use Rattle.supervisor_claims.specs.calls.StartClaim.{Starts, start-fresh, start-meant}
@@ -195,6 +199,47 @@ module _ (p : Parts) (s : Sound p) where
       ))
       (λ e. unchanged))
 
+  -- ---- saving and restoring
+
+  save-meets : (room : List ℕ) → Meets p (did p (Histories.local (Histories.save room))) (meant (view p) (Histories.local (Histories.save room)))
+  unfolding did meant SavingCalls.saving view
+  save-meets room =
+      rw (s .valid .settings, image-meant (p .settings))
+      (cond-both P (ltb (length room) (length (Saving.saved (settingsOf (p .settings))))) (λ e. same refl refl) (λ e. same refl refl))
+    where
+      P : SavingCalls.Save → Means → Type 0
+      P t m = Meets p (didBy (Histories.saveAnswer (t .report)) (t .room) p) m
+
+  restored-by : (image : List ℕ) (r : Saving.Read) → Saving.read image ≡ r → SavingCalls.restoring (p .settings) image ≡ SavingCalls.restoringBy (p .settings) r
+  unfolding SavingCalls.restoring
+  restored-by image r e = rw (s .valid .settings, e)
+
+  restore-meets : (image : List ℕ) → Each Byte image
+      → Meets p (did p (Histories.local (Histories.restore image))) (meant (view p) (Histories.local (Histories.restore image)))
+  unfolding did meant Saving.restore SavingCalls.restoringBy view
+  restore-meets image b =
+      by (Saving.read image) refl
+      (sound-with p Part.settings _ s (restored-valid (p .settings) image (s .valid .settings)) (restored-bytes (p .settings) image (s .bytes .settings) b) (restored-long (p .settings) image))
+    where
+      after : Saving.Read → Parts
+      after r = withSettingsPart p (SavingCalls.restoringBy (p .settings) r .settings)
+
+      meets : (r : Saving.Read) → Saving.read image ≡ r → Sound (after r) × Lengths p (after r)
+          → Meets p (didBy (Histories.restoreAnswer (SavingCalls.restoringBy (p .settings) r .report)) [] (after r)) (Histories.restoreMeans (view p) (Saving.restoredBy (view p) r))
+      meets (Saving.fault n at) e w = same refl refl
+      meets (Saving.good es) e w =
+          record {
+            answer = refl;
+            out = refl;
+            leaves = (ap (withSettings (view p)) (good-meant (p .settings) (settings-valid (p .settings) (s .valid .settings)) image b es e), w .0, w .1);
+          }
+
+      by : (r : Saving.Read) → Saving.read image ≡ r → let t = SavingCalls.restoring (p .settings) image .settings in
+          Sound (withSettingsPart p t) × Lengths p (withSettingsPart p t)
+          → Meets p (let t = SavingCalls.restoring (p .settings) image in didBy (Histories.restoreAnswer (t .report)) [] (withSettingsPart p (t .settings)))
+          (Histories.restoreMeans (view p) (Saving.restoredBy (view p) r))
+      by r e w = rw (restored-by image r e) (meets r e (rw (restored-by image r e) at w))
+
   -- ---- the calls that read
 
   -- of what is read
@@ -270,4 +315,6 @@ module _ (p : Parts) (s : Sound p) where
   call-meets (Histories.local (Histories.edition key)) typed = same p s (ap Histories.editionAnswer (edition-meant p (s .valid) key)) refl
   call-meets (Histories.local Histories.signal) typed = same p s (ap (Histories.readAnswer Histories.asserted) (signal-meant p (s .valid))) refl
   call-meets (Histories.local Histories.flags) typed = same p s (ap (Histories.readAnswer Histories.flagsAsked) (flags-meant p (s .valid))) refl
+  call-meets (Histories.local (Histories.save room)) typed = save-meets p s room
+  call-meets (Histories.local (Histories.restore image)) typed = restore-meets p s image typed
   call-meets (Histories.local (Histories.readRecord k)) typed = record-meets p s k

@@ -21,6 +21,7 @@ use Rattle.supervisor.specs.Number.{topSet}
 use Rattle.supervisor.specs.State.{Factory, Recorded, Alert, Retained, State, fresh}
 use Rattle.supervisor.specs.Local
 use Rattle.supervisor.specs.Calls.{Parts}
+use Rattle.saving.specs.Saving
 use Rattle.supervisor.specs.declared.registers.Kind.{Kind}
 use Rattle.requests.specs.Commands.{numberOf, withNumber, commandOf}
 use Rattle.requests.specs.Requests
@@ -28,7 +29,7 @@ use Rattle.requests.specs.Requests.{Verdict, failure, good, Carried, verdict, e
 use Rattle.supervisor_claims.specs.View.{factoryOf, view}
 use Rattle.supervisor_claims.specs.Sound.{Bytes}
 use Rattle.supervisor_claims.specs.Histories
-use Rattle.supervisor_claims.specs.Histories.{LocalCall, Typed, Answer, done, Means, doneMeans, recordMeans, meant}
+use Rattle.supervisor_claims.specs.Histories.{LocalCall, Typed, Answer, done, Means, doneMeans, recordMeans, restoreMeans, meant}
 use Rattle.supervisor_claims.specs.Histories.{Lent, Made, enough, meantMade, made, leftMeant, AllTyped}
 use Rattle.supervisor_claims.specs.FrameHistory.{reads, starts, receivedBy, startsAnew, joined, joinedAll, framesBy, framed, allFramed, carriedOut}
 use Rattle.supervisor_claims.specs.LastSet.{request, requestsIn, requestsOf}
@@ -81,6 +82,8 @@ whereDone (Histories.foundEdition n k) a = []
 whereDone (Histories.asserted t) a = []
 whereDone (Histories.asked t u) a = []
 whereDone (Histories.recorded r) a = []
+whereDone (Histories.written n) a = []
+whereDone (Histories.faulty n at) a = []
 
 abbrev pub added : LocalCall → Answer → List Alert
 added (Histories.take room) x = []
@@ -91,6 +94,8 @@ added (Histories.edition key) x = []
 added Histories.signal x = []
 added Histories.flags x = []
 added (Histories.readRecord k) x = []
+added (Histories.save room) x = []
+added (Histories.restore image) x = []
 
 module _ (s : State) where
   abbrev Keeps : LocalCall → Means → Type 0
@@ -106,10 +111,14 @@ module _ (s : State) where
   record-keeps k none = same
   record-keeps k (some x) = same
 
+  restore-keeps : (image : List ℕ) (r : Saving.Read) → Keeps (Histories.restore image) (restoreMeans s (Saving.restoredBy s r))
+  restore-keeps image (Saving.fault n at) = same
+  restore-keeps image (Saving.good es) = same
+
   -- it leaves the retained reply, and the alerts that wait; a post that is done adds its alert behind them
   pub local-keeps : (c : LocalCall) → let m = meant s (Histories.local c) in
       (m .state .retained ≡ s .retained) × (m .state .waiting ≡ s .waiting ++ added c (m .answer))
-  unfolding meant Local.afterTake Local.post Local.posted Local.setOptions
+  unfolding meant Local.afterTake Local.post Local.posted Local.setOptions Saving.restore
   local-keeps (Histories.take room) = same
   local-keeps (Histories.post action text) =
       let c = Histories.post action text in
@@ -123,6 +132,9 @@ module _ (s : State) where
   local-keeps Histories.signal = same
   local-keeps Histories.flags = same
   local-keeps (Histories.readRecord k) = record-keeps k (Histories.recordKept s k)
+  local-keeps (Histories.save room) =
+      cond-by (Keeps (Histories.save room)) (ltb (length room) (length (Saving.saved (s .settings)))) _ _ (λ e. same) (λ e. same)
+  local-keeps (Histories.restore image) = restore-keeps image (Saving.read image)
 
 -- a frame that fails leaves both
 pub failed-keeps : (image : List ℕ) (s : State) (f : List ℕ) (reason version : ℕ) (sequence : Option ℕ) → verdict f ≡ failure reason version sequence

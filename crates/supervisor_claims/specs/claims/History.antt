@@ -45,7 +45,7 @@ unfolding meant Local.start
 meant-12 s (Histories.start d) = cond-by (λ x. Not12 (doneMeans s x .answer)) (Local.badStart (factoryOf d)) _ _ (λ e f. omega (arith, f)) (λ e. tt)
 meant-12 s (Histories.receive image piece) = tt
 meant-12 s (Histories.step image piece) = tt
-meant-12 s (Histories.local c) = local-stays s c .2
+meant-12 s (Histories.local c) = local-stays s c .1
 
 pub never-12 : (s : State) (m : Made) → enough (m .call) (m .lent) ≡ true → meantMade s m .answer ≡ refused 12 → ⊥
 unfolding meantMade

@@ -4,32 +4,38 @@ use mathlib.Core.Path.{_≡_, refl, sym, ap, _∙_}
 use mathlib.Core.Bool.{Bool, true, false, cond, not, _&&_, false≢true}
 use mathlib.Core.List.{List, [], _∷_, _++_, append-assoc, append-nil}
 use mathlib.Core.Option.{Option, none, some}
-use Prim.Native.Nat.{ℕ, zero, suc, _+_, _-_, _≤_, _<_}
+use Prim.Native.Nat.{ℕ, zero, suc, _+_, _-_, _^_, _≤_, _<_}
 use native.Mathlib.Nat.{add-zero, zero-add}
 use native.Mathlib.Omega.{arith}
-use lib.Dec.{ltb, eqb, eqb·suc-suc, eqb·zero-suc}
+use lib.Dec.{leb, ltb, eqb, eqb·suc-suc, eqb·zero-suc}
 use lib.ListN.{length, take, drop, length-set, length-replicate, getD-replicate}
 use lib.Seq.{take-nil, getD-set-same, getD-set-other}
-use borrow.Author.Tests.{eqb-true, eqb-false, eq-eqb, ne-eqb, le-ltb, ltb-false}
-use Rattle.octets.specs.Bytes.{number, numberAt}
+use borrow.Author.Tests.{leb-true, leb-false, eqb-true, eqb-false, eq-eqb, ne-eqb, le-ltb, ltb-false}
+use Rattle.octets.specs.Bytes.{Byte, Each, number, numberAt}
+use Rattle.octets.proofs.Numbers.{number-small}
 use Rattle.octets.proofs.Conditions.{cond-by, cond-both}
 use Rattle.line.specs.Message.{Message}
 use Rattle.requests.specs.Requests.{Verdict, failure, good}
 use Rattle.line_claims.specs.Pieces.{split, nonEmpty, nonEmpty-append, closedBy, closed-join}
 use Rattle.supervisor.specs.Limits
 use Rattle.supervisor.specs.Limits.{SettingsKey}
-use Rattle.supervisor.specs.State.{Factory, Setting, unset, Settings, Retained, State, setting, fresh}
+use Rattle.supervisor.specs.State.{Factory, Setting, unset, Settings, Retained, State, setting, withSetting, fresh}
+use Rattle.supervisor.specs.Local
 use Rattle.supervisor.specs.Local.{entryOf}
+use Rattle.saving.specs.Saving
+use Rattle.saving.specs.Saving.{Entry}
+use Rattle.saving.proofs.ReadLaws.{entries-each}
+use Rattle.supervisor_claims.specs.View.{factoryOf}
 use Rattle.requests.specs.Commands.{Command, numberOf, withNumber, commandOf}
 use Rattle.requests.specs.Requests
 use Rattle.requests.specs.Requests.{Carried, verdict, effect, carriedBy, carried, stored, judged, sent}
 use Rattle.requests.proofs.CommandLaws.{number-is}
 use Rattle.supervisor_claims.specs.claims.InOrder.{judged-is}
-use Rattle.supervisor_claims.specs.Histories.{Made}
-use Rattle.supervisor_claims.specs.laws.Progress.{local-stays}
-use Rattle.supervisor_claims.specs.laws.CallsKeep.{calls-keep}
-use Rattle.supervisor_claims.specs.FrameHistory.{joinedAll, framesBy, framed, allFramed, carriedOut, leftByFrames}
-use Rattle.supervisor_claims.specs.LastSet.{request, requestsIn, requestsOf, valueFor, setBy, listedIf, setsOf, successful, lastOr, setAfter}
+use Rattle.supervisor_claims.specs.Histories
+use Rattle.supervisor_claims.specs.Histories.{LocalCall, Call, Typed, refused, Made, means, doneMeans, meant, enough, untouched, AllTyped}
+use Rattle.supervisor_claims.specs.laws.Progress.{local-settings}
+use Rattle.supervisor_claims.specs.FrameHistory.{reads, starts, joined, framesBy, framed, allFramed, carriedOut, carriedCall, carriedMade, leftByFrames}
+use Rattle.supervisor_claims.specs.LastSet.{request, requestsIn, requestsOf, valueFor, setBy, listedIf, setsOf, successful, lastOr, setAfter, recordsOf, restoredBy, settingsBy, Origin, sinceStart, sinceRestore, sinceMore, sinceCall, sinceMade, sinceAll}
 
 -- ---- requests one after the other
 
@@ -297,30 +303,153 @@ frames-owed image ((b ∷ bs) ∷ fs) s =
     let v = verdict (b ∷ bs) in
     frames-owed image fs (judged image s v) ∙ ap (λ (x : State). x .terminator-owed) (judged-is image s v)
 
--- key k holds what its sets among the requests of the bytes w come to
-abbrev pub Holds : ℕ → List ℕ → State → Type 0
-Holds k w s = Has (s .settings) k (afterSets k unset (requestsOf w))
+-- key k has what its sets come to since the last accepted restore, or else start
+abbrev pub Holds : ℕ → Origin → State → Type 0
+Holds k x s = Has (s .settings) k (afterSets k (x .setting) (x .requests))
+
+-- the settings after a restore
+module _ (es : List Entry) where
+  replaced-long : (n : ℕ) (z : Settings) → length (Saving.replaced n es z) ≡ length z
+  unfolding Saving.replaced
+  replaced-long zero z = refl
+  replaced-long (suc n) z = length-set (Saving.replaced n es z) (Limits.first-setting + n - Limits.first-setting) (Saving.settingIn (Limits.first-setting + n) es) ∙ replaced-long n z
+
+  replaced-other : (n : ℕ) (z : Settings) {k : ℕ} → SettingsKey k → Limits.first-setting + n ≤ k → setting (Saving.replaced n es z) k ≡ setting z k
+  unfolding Saving.replaced
+  replaced-other zero z h l = refl
+  replaced-other (suc n) z {k} h l =
+      getD-set-other (Saving.replaced n es z) (Limits.first-setting + n - Limits.first-setting) (k - Limits.first-setting) (Saving.settingIn (Limits.first-setting + n) es) unset
+      (λ e. omega (arith, h, e)) ∙ replaced-other n z h (omega arith)
+
+  replaced-here : (n : ℕ) (z : Settings) {k : ℕ} → SettingsKey k → k < Limits.first-setting + n → length z ≡ Limits.setting-count
+      → setting (Saving.replaced n es z) k ≡ Saving.settingIn k es
+  unfolding Saving.replaced
+  replaced-here zero z h l long = absurd (omega (arith, h, l))
+  replaced-here (suc n) z {k} h l long = by (eqb k (Limits.first-setting + n)) refl (replaced-here n z {k = k} h)
+    where
+      x : Setting
+      x = Saving.settingIn (Limits.first-setting + n) es
+
+      by : (t : Bool) → eqb k (Limits.first-setting + n) ≡ t
+          → (k < Limits.first-setting + n → length z ≡ Limits.setting-count → setting (Saving.replaced n es z) k ≡ Saving.settingIn k es)
+          → setting (withSetting (Saving.replaced n es z) (Limits.first-setting + n) x) k ≡ Saving.settingIn k es
+      by true e rest =
+          let f = eqb-true k (Limits.first-setting + n) e in
+          rw f (getD-set-same (Saving.replaced n es z) (Limits.first-setting + n - Limits.first-setting) x unset (omega (arith, h, f, replaced-long n z, long)))
+      by false e rest =
+          let f = eqb-false k (Limits.first-setting + n) e in
+          getD-set-other (Saving.replaced n es z) (Limits.first-setting + n - Limits.first-setting) (k - Limits.first-setting) x unset (λ g. f (omega (arith, h, g)))
+          ∙ rest (omega (arith, l, f)) long
+
+-- a restore of key k
+restore-holds : {k : ℕ} → SettingsKey k → (x : Origin) (s : State) → Holds k x s → (o : Option (List Entry)) (t : State) → t .settings ≡ settingsBy o (s .settings)
+    → Holds k (sinceRestore k x o) t
+unfolding afterSets
+restore-holds h x s g none t e = rw e g
+restore-holds {k} h x s g (some es) t e =
+    rw e
+    (cond-by (λ (y : Origin). Has (Saving.restored es (s .settings)) k (afterSets k (y .setting) (y .requests))) (leb k Saving.highest-saved) _ _
+    (λ f. record { long = replaced-long es Saving.saved-count (s .settings) ∙ g .long; held = here f })
+    (λ f. record {
+      long = replaced-long es Saving.saved-count (s .settings) ∙ g .long;
+      held = replaced-other es Saving.saved-count (s .settings) h (omega (arith, leb-false k Saving.highest-saved f)) ∙ g .held;
+    }))
+  where
+    here : leb k Saving.highest-saved ≡ true → setting (Saving.restored es (s .settings)) k ≡ afterSets k (Saving.settingIn k es) []
+    here f = replaced-here es Saving.saved-count (s .settings) h (omega (arith, leb-true k Saving.highest-saved f)) (g .long)
 
 module _ {k : ℕ} (h : SettingsKey k) where
   -- none was set yet
-  pub fresh-holds : (f : Factory) → Holds k [] (fresh f)
-  unfolding fresh split nonEmpty requestsOf requestsIn afterSets
+  pub fresh-holds : (f : Factory) → Holds k sinceStart (fresh f)
+  unfolding fresh afterSets
   fresh-holds f = record {
     long = length-replicate {A = Setting} Limits.setting-count unset;
     held = getD-replicate Limits.setting-count (k - Limits.first-setting) unset unset (omega (arith, h));
   }
 
-  module _ (w : List ℕ) (s : State) (x : Holds k w s) where
-    pub frames-hold : (image bs : List ℕ) → Holds k (w ++ bs) (allFramed image s (framesBy w bs))
-    unfolding framesBy
-    frames-hold image bs =
-        rw (requests-behind w bs, after-append k unset (requestsOf w) (requestsIn (framesBy w bs)))
-        (frames-have image h (closedBy w bs) s _ x)
+  -- the frames that bytes close behind w
+  pub frames-hold : (w : List ℕ) (x : Origin) (s : State) → Holds k x s → (image bs : List ℕ)
+      → Holds k (sinceMore x (requestsIn (framesBy w bs))) (allFramed image s (framesBy w bs))
+  unfolding framesBy
+  frames-hold w x s g image bs =
+      rw (after-append k (x .setting) (x .requests) (requestsIn (nonEmpty (closedBy w bs)))) (frames-have image h (closedBy w bs) s _ g)
 
   -- the same with the receive progress behind them
-  bytes-hold : (w : List ℕ) (s : State) → Holds k w s → (image bs : List ℕ) → Holds k (w ++ bs) (carriedOut image w s bs)
+  bytes-hold : (w : List ℕ) (x : Origin) (s : State) → Holds k x s → (image bs : List ℕ)
+      → Holds k (sinceMore x (requestsIn (framesBy w bs))) (carriedOut image w s bs)
   unfolding carriedOut
-  bytes-hold w s x image bs = frames-hold w s x image bs
+  bytes-hold w x s g image bs = frames-hold w x s g image bs
 
-  pub calls-hold : (ms : List Made) (w : List ℕ) (s : State) → Holds k w s → Holds k (joinedAll w ms) (leftByFrames w s ms)
-  calls-hold = calls-keep (Holds k) fresh-holds bytes-hold (λ w s x c. rw (local-stays s c .1) x)
+  call-holds : (w : List ℕ) (x : Origin) (s : State) → Holds k x s → (c : Call) → Holds k (sinceCall k w x c) (carriedCall w s c .state)
+  unfolding sinceCall carriedCall starts meant Local.start
+  call-holds w x s g (Histories.start d) = by (Local.badStart (factoryOf d))
+    where
+      by : (bad : Bool) → Holds k (cond (not bad) sinceStart x) (doneMeans s (cond bad (Local.refused 11) (Local.left (fresh (factoryOf d)))) .state)
+      by true = g
+      by false = fresh-holds (factoryOf d)
+  call-holds w x s g (Histories.receive image piece) = bytes-hold w x s g image piece
+  call-holds w x s g (Histories.step image piece) = bytes-hold w x s g image (reads (Histories.step image piece))
+  call-holds w x s g (Histories.local c) = restore-holds h x s g (restoredBy c) (meant s (Histories.local c) .state) (local-settings s c)
+
+  made-holds : (w : List ℕ) (x : Origin) (s : State) → Holds k x s → (m : Made) → Holds k (sinceMade k w x m) (carriedMade w s m .state)
+  unfolding sinceMade carriedMade
+  made-holds w x s g m = by (enough (m .call) (m .lent))
+    where
+      by : (t : Bool) → Holds k (cond t (sinceCall k w x (m .call)) x) (cond t (carriedCall w s (m .call)) (means (refused 12) (untouched (m .call)) s) .state)
+      by true = call-holds w x s g (m .call)
+      by false = g
+
+  pub calls-hold : (ms : List Made) (w : List ℕ) (x : Origin) (s : State) → Holds k x s → Holds k (sinceAll k w x ms) (leftByFrames w s ms)
+  unfolding sinceAll leftByFrames
+  calls-hold [] w x s g = g
+  calls-hold (m ∷ ms) w x s g = calls-hold ms (joined w m) (sinceMade k w x m) (carriedMade w s m .state) (made-holds w x s g m)
+
+-- ---- what holds of the setting that the sets are counted from
+
+-- of an unset one, and of those that an image restores
+module _ (k : ℕ) (P : Setting → Type 0) (at-start : P unset)
+    (at-restore : (image : List ℕ) → Each Byte image → (es : List Entry) → Saving.read image ≡ Saving.good es → P (Saving.settingIn k es)) where
+  read-keeps : (x : Origin) → P (x .setting) → (image : List ℕ) → Each Byte image → (r : Saving.Read) → Saving.read image ≡ r → P (sinceRestore k x (recordsOf r) .setting)
+  read-keeps x h image b (Saving.fault n at) e = h
+  read-keeps x h image b (Saving.good es) e = cond-by (λ (y : Origin). P (y .setting)) (leb k Saving.highest-saved) _ _ (λ _. at-restore image b es e) (λ _. h)
+
+  local-keeps : (x : Origin) → P (x .setting) → (c : LocalCall) → Typed (Histories.local c) → P (sinceRestore k x (restoredBy c) .setting)
+  unfolding restoredBy
+  local-keeps x h (Histories.take room) t = h
+  local-keeps x h (Histories.post action text) t = h
+  local-keeps x h (Histories.setOptions options) t = h
+  local-keeps x h (Histories.lookup key most) t = h
+  local-keeps x h (Histories.edition key) t = h
+  local-keeps x h Histories.signal t = h
+  local-keeps x h Histories.flags t = h
+  local-keeps x h (Histories.readRecord r) t = h
+  local-keeps x h (Histories.save room) t = h
+  local-keeps x h (Histories.restore image) t = read-keeps x h image t (Saving.read image) refl
+
+  call-keeps : (w : List ℕ) (x : Origin) → P (x .setting) → (c : Call) → Typed c → P (sinceCall k w x c .setting)
+  unfolding sinceCall
+  call-keeps w x h (Histories.start d) t = cond-by (λ (y : Origin). P (y .setting)) (starts (Histories.start d)) _ _ (λ _. at-start) (λ _. h)
+  call-keeps w x h (Histories.receive image piece) t = h
+  call-keeps w x h (Histories.step image piece) t = h
+  call-keeps w x h (Histories.local c) t = local-keeps x h c t
+
+  pub since-keeps : (ms : List Made) → AllTyped ms → (w : List ℕ) (x : Origin) → P (x .setting) → P (sinceAll k w x ms .setting)
+  unfolding sinceAll sinceMade
+  since-keeps [] t w x h = h
+  since-keeps (m ∷ ms) t w x h =
+      since-keeps ms (t .1) (joined w m) (sinceMade k w x m)
+      (cond-by (λ (y : Origin). P (y .setting)) (enough (m .call) (m .lent)) _ _ (λ _. call-keeps w x h (m .call) (t .0)) (λ _. h))
+
+-- an edition of 32 bits
+in-low : (k : ℕ) (es : List Entry) → Each (λ (e : Entry). e .edition < 256 ^ 4) es → Saving.settingIn k es .edition ≤ Limits.last-edition
+unfolding Saving.settingIn
+in-low k [] h = omega arith
+in-low k (e ∷ es) h =
+    cond-by (λ (x : Setting). x .edition ≤ Limits.last-edition) (eqb (e .key) k) _ _ (λ _. omega (arith, h .0)) (λ _. in-low k es (h .1))
+
+pub read-low : (image : List ℕ) → Each Byte image → (es : List Entry) → Saving.read image ≡ Saving.good es → Each (λ (e : Entry). e .edition < 256 ^ 4) es
+read-low image b es e = rw e at (entries-each image (λ e. e .edition < 256 ^ 4) (λ before at key there p. number-small 4 (at + 3) image b))
+
+pub since-low : (k : ℕ) (ms : List Made) → AllTyped ms → sinceAll k [] sinceStart ms .setting .edition ≤ Limits.last-edition
+since-low k ms t =
+    since-keeps k (λ x. x .edition ≤ Limits.last-edition) (omega arith) (λ image b es e. in-low k es (read-low image b es e)) ms t [] sinceStart (omega arith)

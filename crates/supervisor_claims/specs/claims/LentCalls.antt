@@ -80,3 +80,5 @@ widened-same p (Histories.local (Histories.edition key)) l = simp back-same
 widened-same p (Histories.local Histories.signal) l = simp back-same
 widened-same p (Histories.local Histories.flags) l = simp back-same
 widened-same p (Histories.local (Histories.readRecord k)) l = simp back-same
+widened-same p (Histories.local (Histories.save room)) l = simp back-same
+widened-same p (Histories.local (Histories.restore image)) l = simp back-same

@@ -15,10 +15,13 @@ use Rattle.supervisor.specs.Layout
 use Rattle.supervisor.specs.Local
 use Rattle.supervisor.specs.Valid.{goodStart, validOutbox, validFactory, validSettings, validRegisters}
 use Rattle.supervisor.specs.Calls
+use Rattle.saving.specs.Saving
+use Rattle.saving.specs.Calls as SavingCalls
 use Rattle.supervisor.specs.Calls.{Parts}
 use Rattle.requests.specs.Receive
 use Rattle.supervisor_claims.specs.ByPart.{Part, published, part, validPart, everyPart}
-use Rattle.supervisor_claims.specs.Meant.{withRegisters}
+use Rattle.supervisor_claims.specs.Meant.{withSettingsPart, withRegisters}
+use Rattle.supervisor_claims.specs.laws.SavingLaws.{Faults, read-faults}
 use Rattle.supervisor_claims.specs.Histories
 use Rattle.supervisor_claims.specs.Histories.{LocalCall, Call, Answer, refused, Did, didBy, did, refusal, ofTaken, untouched}
 use Rattle.supervisor_claims.specs.calls.StepClaim.{valid-step-stepped}
@@ -63,6 +66,10 @@ module _ (p : Parts) {t : Bool} where
   unfolding fit
   outbox-test room e = sym (and-true (validOutbox (p .outbox))) ∙ e
 
+  -- a call that takes the settings alone
+  settings-test : (c : Call) → fit p c ≡ (validSettings (p .settings) && true) → fit p c ≡ t → validSettings (p .settings) ≡ t
+  settings-test c f e = sym (and-true (validSettings (p .settings))) ∙ sym f ∙ e
+
   -- a call that takes both stores
   stores-test : (c : Call) → fit p c ≡ (validFactory (p .factory) && (validSettings (p .settings) && true)) → fit p c ≡ t → (validFactory (p .factory) && validSettings (p .settings)) ≡ t
   stores-test c f e = ap (λ x. validFactory (p .factory) && x) (sym (and-true (validSettings (p .settings)))) ∙ sym f ∙ e
@@ -70,7 +77,7 @@ module _ (p : Parts) {t : Bool} where
 -- where they are not: 12, and nothing changes
 pub refused-12 : (p : Parts) (c : Call) → fit p c ≡ false → did p c ≡ didBy (refused 12) (untouched c) p
 unfolding fit did Calls.starting Receive.receiving Receive.stepping Calls.taking Calls.posting Calls.settingOptions
-    Calls.lookupResult Calls.lookupValue Calls.editionResult Calls.editionAt Calls.signalOf Calls.flagsOf Calls.recordOf Calls.recordBytes
+    Calls.lookupResult Calls.lookupValue Calls.editionResult Calls.editionAt Calls.signalOf Calls.flagsOf Calls.recordOf Calls.recordBytes SavingCalls.saving SavingCalls.restoring
 refused-12 p (Histories.start d) e = rw (room-test p d e)
 refused-12 p (Histories.receive image piece) e = rw (receive-test p image piece e)
 refused-12 p (Histories.step image piece) e = rw (receive-test p image piece e)
@@ -82,6 +89,8 @@ refused-12 p (Histories.local (Histories.edition key)) e = rw (stores-test p (Hi
 refused-12 p (Histories.local Histories.signal) e = rw e
 refused-12 p (Histories.local Histories.flags) e = rw e
 refused-12 p (Histories.local (Histories.readRecord k)) e = rw e
+refused-12 p (Histories.local (Histories.save room)) e = rw (settings-test p (Histories.local (Histories.save room)) refl e)
+refused-12 p (Histories.local (Histories.restore image)) e = rw (settings-test p (Histories.local (Histories.restore image)) refl e)
 
 -- ---- nowhere else
 
@@ -96,6 +105,8 @@ WhereRefused (Histories.foundEdition n k) X = Unit {0}
 WhereRefused (Histories.asserted b) X = Unit {0}
 WhereRefused (Histories.asked reboot power-off) X = Unit {0}
 WhereRefused (Histories.recorded r) X = Unit {0}
+WhereRefused (Histories.written n) X = Unit {0}
+WhereRefused (Histories.faulty n at) X = X n
 
 abbrev pub Not12 : Answer → Type 0
 Not12 a = WhereRefused a (λ n. n ≡ 12 → ⊥)
@@ -147,7 +158,7 @@ module _ (p : Parts) where
 
   fit-other : (c : Call) → fit p c ≡ true → Other p c (did p c)
   unfolding fit did Calls.starting Receive.receiving Receive.stepping Calls.taking Calls.posting Calls.settingOptions
-      Calls.lookupResult Calls.lookupValue Calls.editionResult Calls.editionAt Calls.signalOf Calls.flagsOf Calls.recordOf Calls.recordBytes
+      Calls.lookupResult Calls.lookupValue Calls.editionResult Calls.editionAt Calls.signalOf Calls.flagsOf Calls.recordOf Calls.recordBytes SavingCalls.saving SavingCalls.restoring SavingCalls.restoringBy
   fit-other (Histories.start d) e = rw (room-test p d e) (cond-by P (goodStart d) _ _ (λ f. tt) (λ f. (λ h. omega (arith, h), refl, refl)))
     where
       P : Calls.Start → Type 0
@@ -179,6 +190,20 @@ module _ (p : Parts) where
   fit-other (Histories.local Histories.signal) e = rw e tt
   fit-other (Histories.local Histories.flags) e = rw e tt
   fit-other (Histories.local (Histories.readRecord k)) e = rw e tt
+  fit-other (Histories.local (Histories.save room)) e =
+      rw (settings-test p (Histories.local (Histories.save room)) refl e)
+      (cond-by P (ltb (length room) (length (SavingCalls.imageBytes (p .settings)))) _ _ (λ f. (λ h. omega (arith, h), refl, refl)) (λ f. tt))
+    where
+      P : SavingCalls.Save → Type 0
+      P t = Other p (Histories.local (Histories.save room)) (didBy (Histories.saveAnswer (t .report)) (t .room) p)
+  fit-other (Histories.local (Histories.restore image)) e =
+      rw (settings-test p (Histories.local (Histories.restore image)) refl e) (by (Saving.read image) (read-faults image))
+    where
+      by : (r : Saving.Read) → Faults r
+          → let t = SavingCalls.restoringBy (p .settings) r in
+          Other p (Histories.local (Histories.restore image)) (didBy (Histories.restoreAnswer (t .report)) [] (withSettingsPart p (t .settings)))
+      by (Saving.fault n at) h = (λ k. omega (arith, h, k), refl, refl)
+      by (Saving.good es) h = tt
 
 -- on any parts
 pub refused-exactly : (p : Parts) (c : Call) → (did p c .answer ≡ refused 12) ↔ (fit p c ≡ false)

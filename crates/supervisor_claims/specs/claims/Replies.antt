@@ -21,7 +21,7 @@ use Rattle.requests.specs.Requests
 use Rattle.supervisor_claims.specs.View.{pendingOf, factoryOf, view}
 use Rattle.supervisor_claims.specs.Sound.{Bytes, Sound}
 use Rattle.supervisor_claims.specs.Histories
-use Rattle.supervisor_claims.specs.Histories.{Typed, Answer, refused, done, stepped, moved, found, foundEdition, asserted, asked, recorded}
+use Rattle.supervisor_claims.specs.Histories.{Typed, Answer, refused, done, stepped, moved, found, foundEdition, written, faulty, asserted, asked, recorded}
 use Rattle.supervisor_claims.specs.Histories.{Lent, Made, enough, made, meant, meantMade, Told, told}
 use Rattle.supervisor_claims.specs.calls.CallClaims.{Meets}
 use Rattle.supervisor_claims.specs.laws.TakenAll.{larger-room, allTaken, afterAll, turn, session, replies, replies-taken}
@@ -68,6 +68,8 @@ movedBytes (foundEdition n k) out = []
 movedBytes (asserted b) out = []
 movedBytes (asked a b) out = []
 movedBytes (recorded r) out = []
+movedBytes (written n) out = []
+movedBytes (faulty n at) out = []
 
 -- and those of a list of calls, in order
 unfoldable pub takenBytes : List Told → List ℕ

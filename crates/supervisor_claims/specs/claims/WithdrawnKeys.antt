@@ -3,9 +3,8 @@
 use mathlib.Core.Path.{_≡_, refl, ap, _∙_}
 use mathlib.Core.Bool.{true}
 use mathlib.Core.List.{List, [], _∷_, _++_}
-use mathlib.Core.Option.{Option, none, some}
+use mathlib.Core.Option.{Option, some}
 use Prim.Native.Nat.{ℕ, _+_, _<_, _≤_}
-use native.Mathlib.Nat.{zero-add}
 use native.Mathlib.Omega.{arith}
 use lib.ListN.{length, length-append}
 use borrow.Author.Tests.{le-ltb}
@@ -19,7 +18,7 @@ use Rattle.line_claims.specs.Pieces.{split}
 use Rattle.supervisor.specs.Limits
 use Rattle.supervisor.specs.Number.{topSet}
 use Rattle.supervisor.specs.Limits.{SettingsKey}
-use Rattle.supervisor.specs.State.{Setting, unset, State, fresh}
+use Rattle.supervisor.specs.State.{Setting, setting, State, fresh}
 use Rattle.supervisor.specs.Local
 use Rattle.supervisor.specs.Calls.{Parts}
 use Rattle.requests.specs.Commands.{numberOf, withNumber, commandOf}
@@ -32,8 +31,8 @@ use Rattle.supervisor_claims.specs.claims.InOrder.{request-carried}
 use Rattle.supervisor_claims.specs.laws.Progress.{Since}
 use Rattle.supervisor_claims.specs.FrameHistory.{framesBy, joinedAll, framed, allFramed}
 use Rattle.supervisor_claims.specs.claims.FramesClaim.{stream-closes, by-frames}
-use Rattle.supervisor_claims.specs.LastSet.{requestsOf, successful, lastOr, setAfter, lastSet, lookupOf, lookupReply}
-use Rattle.supervisor_claims.specs.claims.LastSetLaws.{entry-held, after-sets, frames-owed, Holds, fresh-holds, frames-hold, calls-hold}
+use Rattle.supervisor_claims.specs.LastSet.{successful, lastOr, setAfter, Origin, sinceStart, sinceMore, sinceAll, setSince, lookupOf, lookupReply, requestsIn}
+use Rattle.supervisor_claims.specs.claims.LastSetLaws.{afterSets, entry-held, after-sets, frames-owed, Holds, fresh-holds, frames-hold, calls-hold, since-low}
 use Rattle.supervisor_claims.specs.claims.History.{history, one-call}
 
 -- ---- a lookup carried out
@@ -70,15 +69,15 @@ pub framed-pending : (image : List ℕ) (s : State) (f : List ℕ) (m : Message)
 framed-pending image s [] m e = absurd (empty-none m e)
 framed-pending image s (b ∷ bs) m e = ap (λ (x : State). x .pending) (request-carried image s b bs m e)
 
--- the 00 of a lookup behind the bytes w and bs, where key k holds its last set among the requests of w
-stream-answers : {k : ℕ} (h : SettingsKey k) (w : List ℕ) (s : State) → Since (split w .rest) s → Holds k w s
+-- the 00 of a lookup behind the bytes w and bs, where key k has what x says
+stream-answers : {k : ℕ} (h : SettingsKey k) (w : List ℕ) (x : Origin) (s : State) → Since (split w .rest) s → Holds k x s → x .setting .edition ≤ Limits.last-edition
     → (image bs : List ℕ) (version n most : ℕ) → most < 65536 → verdict (split (w ++ bs) .rest) ≡ good (lookupOf version n k most)
-    → stream image s (bs ++ (0 ∷ [])) .pending ≡ owed (s .terminator-owed) ++ lookupReply version n most (lastSet k (requestsOf (w ++ bs)))
-stream-answers h w s since holds image bs version n most i e =
+    → stream image s (bs ++ (0 ∷ [])) .pending ≡ owed (s .terminator-owed) ++ lookupReply version n most (setSince k (sinceMore x (requestsIn (framesBy w bs))))
+stream-answers h w x s since holds low image bs version n most i e =
     let a = allFramed image s (framesBy w bs) in
     ap (λ (x : State). x .pending) (stream-closes w s since image bs)
     ∙ framed-pending image a (split (w ++ bs) .rest) (lookupOf version n _ most) e
-    ∙ rw (reply-found image a version n most h i, entry-held a h, frames-hold h w s holds image bs .held, after-sets _ unset (requestsOf (w ++ bs)) (omega arith), frames-owed image (framesBy w bs) s)
+    ∙ rw (reply-found image a version n most h i, entry-held a h, frames-hold h w x s holds image bs .held, after-sets _ (x .setting) (x .requests ++ requestsIn (framesBy w bs)) low, frames-owed image (framesBy w bs) s)
 
 -- the reply in version 2 that hands out an edition and a value
 unfoldable pub editionReply : ℕ → ℕ → List ℕ → List ℕ
@@ -89,10 +88,10 @@ unfolding lastOr
 last-behind o [] v = refl
 last-behind o (w ∷ vs) v = last-behind (some w) vs v
 
-edition-reply : (n most k : ℕ) (rs : List Message) (vs : List (List ℕ)) (v : List ℕ) → successful 0 k rs ≡ vs ++ (v ∷ []) → length v ≤ most
-    → lookupReply second-version n most (lastSet k rs) ≡ editionReply n (length vs + 1) v
+edition-reply : (n most k : ℕ) (x : Origin) (vs : List (List ℕ)) (v : List ℕ) → successful (x .setting .edition) k (x .requests) ≡ vs ++ (v ∷ []) → length v ≤ most
+    → lookupReply second-version n most (setSince k x) ≡ editionReply n (x .setting .edition + (length vs + 1)) v
 unfolding lookupReply editionReply setAfter Local.fitted
-edition-reply n most k rs vs v g h = rw (g, last-behind none vs v, length-append, le-ltb most (length v) h, zero-add)
+edition-reply n most k x vs v g h = rw (g, last-behind (x .setting .value) vs v, length-append, le-ltb most (length v) h)
 
 -- ---- the claims: a start that is accepted, on any bytes, then any calls
 
@@ -105,55 +104,72 @@ module _ (p : Parts) (b : Bytes p) (l : Lent) (d : List ℕ) (typed : Typed (His
   abbrev state : State
   state = leftMeant (fresh (factoryOf d)) ms
 
-  state-holds : {k : ℕ} (h : SettingsKey k) → Holds k (joinedAll [] ms) state
+  -- where a key's value and edition come from
+  abbrev pub origin : ℕ → Origin
+  origin k = sinceAll k [] sinceStart ms
+
+  state-holds : {k : ℕ} (h : SettingsKey k) → Holds k (origin k) state
   state-holds h =
       let f = factoryOf d in
-      rw (by-frames f ms .1) at (calls-hold h ms [] (fresh f) (fresh-holds h f))
+      rw (by-frames f ms .1) at (calls-hold h ms [] sinceStart (fresh f) (fresh-holds h f))
 
-  -- a settings key has the value of its last successful set in the bytes received since the last accepted start, and none where there is none
-  pub value-last-set : {k : ℕ} → SettingsKey k → Local.entryOf (view (reached p l d ms)) k ≡ lastSet k (requestsOf (joinedAll [] ms))
-  value-last-set h = rw (history p b l d typed accepted ms t .1) (entry-held state h ∙ state-holds h .held ∙ after-sets _ unset (requestsOf (joinedAll [] ms)) (omega arith))
+  -- the setting that the store has, by the sets one after the other
+  pub setting-then : {k : ℕ} → SettingsKey k → setting (view (reached p l d ms) .settings) k ≡ afterSets k (origin k .setting) (origin k .requests)
+  setting-then h = rw (history p b l d typed accepted ms t .1) (state-holds h .held)
+
+  origin-low : (k : ℕ) → origin k .setting .edition ≤ Limits.last-edition
+  origin-low k = since-low k ms t
+
+  -- A settings key has what the last accepted restore, else the last accepted start, left, and the successful sets since then: the edition counts them on, and
+  -- the value is that of the last of them
+  pub value-last-set : {k : ℕ} → SettingsKey k → Local.entryOf (view (reached p l d ms)) k ≡ setSince k (origin k)
+  value-last-set {k} h =
+      rw (history p b l d typed accepted ms t .1)
+      (entry-held state h ∙ state-holds h .held ∙ after-sets k (origin k .setting) (origin k .requests) (origin-low k))
 
   -- A lookup over the wire: the bytes bs and a 00 are received, and the frame that this 00 closes is the lookup. The requests before it are those of all bytes
   -- received before that 00. Then its reply is pending, behind a 00 where one is owed. Cutting the stream elsewhere changes nothing (`cut-any`), and a step is
   -- a receive up to the first 00 (`step-receives`), so that a receive whose piece ends with that 00 stands for any.
   pub last-set : {k : ℕ} → SettingsKey k → (version n most : ℕ) → most < 65536 → (j : Lent) (image bs : List ℕ)
       → let call = Histories.receive image (bs ++ (0 ∷ [])) in Typed call → enough call j ≡ true
-      → let w = joinedAll [] ms ++ bs in verdict (split w .rest) ≡ good (lookupOf version n k most)
+      → let w = joinedAll [] ms in verdict (split (w ++ bs) .rest) ≡ good (lookupOf version n k most)
       → let q = reached p l d ms in let r = made q (record { lent = j; call = call }) in
-      (r .answer ≡ done) × (view (r .parts) .pending ≡ owed (view q .terminator-owed) ++ lookupReply version n most (lastSet k (requestsOf w)))
+      (r .answer ≡ done)
+      × (view (r .parts) .pending ≡ owed (view q .terminator-owed) ++ lookupReply version n most (setSince k (sinceMore (origin k) (requestsIn (framesBy w bs)))))
   unfolding meantMade meant
-  last-set h version n most i j image bs c e v =
+  last-set {k} h version n most i j image bs c e v =
       let hist = history p b l d typed accepted ms t in
       let call = Histories.receive image (bs ++ (0 ∷ [])) in
       let meets = rw e at (one-call (reached p l d ms) (record { lent = j; call = call }) (hist .2) c) in
-      let x = stream-answers h (joinedAll [] ms) state (by-frames (factoryOf d) ms .2) (state-holds h) image bs version n most i v in
+      let x = stream-answers h (joinedAll [] ms) (origin k) state (by-frames (factoryOf d) ms .2) (state-holds h) (origin-low k) image bs version n most i v in
       (meets .answer, ap (λ (y : State). y .pending) (meets .leaves .0) ∙ rw (hist .1) x)
 
   -- the same for key 5, the withdrawn-key list
   pub withdrawn-list-answered : (version n most : ℕ) → most < 65536 → (j : Lent) (image bs : List ℕ)
       → let call = Histories.receive image (bs ++ (0 ∷ [])) in Typed call → enough call j ≡ true
-      → let w = joinedAll [] ms ++ bs in verdict (split w .rest) ≡ good (lookupOf version n 5 most)
+      → let w = joinedAll [] ms in verdict (split (w ++ bs) .rest) ≡ good (lookupOf version n 5 most)
       → let q = reached p l d ms in let r = made q (record { lent = j; call = call }) in
-      (r .answer ≡ done) × (view (r .parts) .pending ≡ owed (view q .terminator-owed) ++ lookupReply version n most (lastSet 5 (requestsOf w)))
+      (r .answer ≡ done)
+      × (view (r .parts) .pending ≡ owed (view q .terminator-owed) ++ lookupReply version n most (setSince 5 (sinceMore (origin 5) (requestsIn (framesBy w bs)))))
   withdrawn-list-answered version n most = last-set {k = 5} (record { least = omega arith; most = omega arith }) version n most
 
-  -- In version 2, where v is the value of the last of the successful sets, and the others are vs: the edition that is handed out is the number of these sets, and the
-  -- value is v
+  -- In version 2, where v is the value of the last of the successful sets since the last accepted restore, else start, and the others are vs: the edition that
+  -- is handed out is the number of these sets, on top of the restored edition, and the value is v
   pub list-edition-answered : (n most : ℕ) → most < 65536 → (j : Lent) (image bs : List ℕ)
       → let call = Histories.receive image (bs ++ (0 ∷ [])) in Typed call → enough call j ≡ true
-      → let w = joinedAll [] ms ++ bs in verdict (split w .rest) ≡ good (lookupOf second-version n 5 most)
-      → (vs : List (List ℕ)) (v : List ℕ) → successful 0 5 (requestsOf w) ≡ vs ++ (v ∷ []) → length v ≤ most
+      → let w = joinedAll [] ms in verdict (split (w ++ bs) .rest) ≡ good (lookupOf second-version n 5 most)
+      → let x = sinceMore (origin 5) (requestsIn (framesBy w bs)) in
+      (vs : List (List ℕ)) (v : List ℕ) → successful (x .setting .edition) 5 (x .requests) ≡ vs ++ (v ∷ []) → length v ≤ most
       → let q = reached p l d ms in let r = made q (record { lent = j; call = call }) in
-      (r .answer ≡ done) × (view (r .parts) .pending ≡ owed (view q .terminator-owed) ++ editionReply n (length vs + 1) v)
+      (r .answer ≡ done) × (view (r .parts) .pending ≡ owed (view q .terminator-owed) ++ editionReply n (x .setting .edition + (length vs + 1)) v)
   list-edition-answered n most i j image bs c e f vs v g h =
       let a = withdrawn-list-answered second-version n most i j image bs c e f in
-      (a .0, rw (edition-reply n most 5 (requestsOf (joinedAll [] ms ++ bs)) vs v g h) at (a .1))
+      (a .0, rw (edition-reply n most 5 (sinceMore (origin 5) (requestsIn (framesBy (joinedAll [] ms) bs))) vs v g h) at (a .1))
 
   -- a lookup by the local call: the same results
   pub lookup-last-set : {k : ℕ} → SettingsKey k → (most : ℕ) → most < 65536 → (j : Lent) → enough (Histories.local (Histories.lookup k most)) j ≡ true
       → let r = made (reached p l d ms) (record { lent = j; call = Histories.local (Histories.lookup k most) }) in
-      let f = fittedOf most (lastSet k (requestsOf (joinedAll [] ms))) in
+      let f = fittedOf most (setSince k (origin k)) in
       (r .answer ≡ found (f .result) (length (f .value))) × (r .out ≡ f .value)
   unfolding meantMade meant
   lookup-last-set {k} h most i j e =

@@ -1,4 +1,4 @@
--- What a call leaves by document 01: the bytes since the last 00 are the receive progress; a local call leaves it and the settings.
+-- What a call leaves by document 01: the bytes since the last 00 are the receive progress; a local call leaves it, and but for a restore the settings.
 -- Assumes nothing.
 use mathlib.Core.Path.{_≡_, refl, ap, _∙_}
 use mathlib.Core.Bool.{Bool, true, false, cond, not}
@@ -15,11 +15,14 @@ use Rattle.line_claims.specs.Pieces.{split, ahead, split-join}
 use Rattle.supervisor.specs.Limits
 use Rattle.supervisor.specs.State.{Recorded, State, fresh}
 use Rattle.supervisor.specs.Local
+use Rattle.saving.specs.Saving
 use Rattle.requests.specs.Requests.{stream}
 use Rattle.supervisor_claims.specs.View.{factoryOf}
 use Rattle.supervisor_claims.specs.Histories
-use Rattle.supervisor_claims.specs.Histories.{LocalCall, Call, Means, doneMeans, recordMeans, meant, upTo}
+use Rattle.supervisor_claims.specs.Histories.{LocalCall, Call, Means, doneMeans, recordMeans, restoreMeans, meant, upTo}
 use Rattle.supervisor_claims.specs.claims.Refusals.{Not12}
+use Rattle.supervisor_claims.specs.laws.SavingLaws.{Faults, read-faults}
+use Rattle.supervisor_claims.specs.LastSet.{recordsOf, restoredBy, settingsBy}
 use Rattle.supervisor_claims.specs.claims.InOrder.{in-order-behind}
 use Rattle.supervisor_claims.specs.FrameHistory.{starts, reads, tailOf}
 
@@ -27,31 +30,67 @@ use Rattle.supervisor_claims.specs.FrameHistory.{starts, reads, tailOf}
 
 module _ (s : State) where
   abbrev Stays : Means → Type 0
-  Stays m = (m .state .received ≡ s .received) × (m .state .settings ≡ s .settings) × Not12 (m .answer)
+  Stays m = (m .state .received ≡ s .received) × Not12 (m .answer)
 
   abbrev DoneStays : Local.Done → Type 0
   DoneStays x = Stays (doneMeans s x)
 
   record-stays : (x : Option Recorded) → Stays (recordMeans s x)
-  record-stays none = (refl, refl, tt)
-  record-stays (some x) = (refl, refl, tt)
+  record-stays none = (refl, tt)
+  record-stays (some x) = (refl, tt)
 
-  -- it leaves the receive progress and the settings as they are, and is not refused as 12
+  restore-stays : (r : Saving.Read) → Faults r → Stays (restoreMeans s (Saving.restoredBy s r))
+  restore-stays (Saving.fault n at) h = (refl, λ e. omega (arith, h, e))
+  restore-stays (Saving.good es) h = (refl, tt)
+
+  abbrev DoneSame : Local.Done → Type 0
+  DoneSame x = doneMeans s x .state .settings ≡ s .settings
+
+  record-same : (x : Option Recorded) → recordMeans s x .state .settings ≡ s .settings
+  record-same none = refl
+  record-same (some x) = refl
+
+  restore-same : (r : Saving.Read) → restoreMeans s (Saving.restoredBy s r) .state .settings ≡ settingsBy (recordsOf r) (s .settings)
+  restore-same (Saving.fault n at) = refl
+  restore-same (Saving.good es) = refl
+
+  -- it leaves the receive progress as it is, and is not refused as 12
   pub local-stays : (c : LocalCall) → let m = meant s (Histories.local c) in
-      (m .state .received ≡ s .received) × (m .state .settings ≡ s .settings) × Not12 (m .answer)
-  unfolding meant Local.afterTake Local.post Local.posted Local.setOptions
-  local-stays (Histories.take room) = (refl, refl, tt)
+      (m .state .received ≡ s .received) × Not12 (m .answer)
+  unfolding meant Local.afterTake Local.post Local.posted Local.setOptions Saving.restore
+  local-stays (Histories.take room) = (refl, tt)
   local-stays (Histories.post action text) =
-      cond-by DoneStays (eqb action 0) _ _ (λ e. (refl, refl, λ n. omega (arith, n))) (λ e.
-      cond-by DoneStays (ltb Limits.longest-alert (length text)) _ _ (λ f. (refl, refl, λ n. omega (arith, n))) (λ f.
-      cond-by DoneStays (ltb (length (s .waiting)) Limits.most-alerts) _ _ (λ g. (refl, refl, tt)) (λ g. (refl, refl, λ n. omega (arith, n)))))
+      cond-by DoneStays (eqb action 0) _ _ (λ e. (refl, λ n. omega (arith, n))) (λ e.
+      cond-by DoneStays (ltb Limits.longest-alert (length text)) _ _ (λ f. (refl, λ n. omega (arith, n))) (λ f.
+      cond-by DoneStays (ltb (length (s .waiting)) Limits.most-alerts) _ _ (λ g. (refl, tt)) (λ g. (refl, λ n. omega (arith, n)))))
   local-stays (Histories.setOptions options) =
-      cond-by DoneStays (Local.optionsAllowed options) _ _ (λ e. (refl, refl, tt)) (λ e. (refl, refl, λ n. omega (arith, n)))
-  local-stays (Histories.lookup key most) = (refl, refl, tt)
-  local-stays (Histories.edition key) = (refl, refl, tt)
-  local-stays Histories.signal = (refl, refl, tt)
-  local-stays Histories.flags = (refl, refl, tt)
+      cond-by DoneStays (Local.optionsAllowed options) _ _ (λ e. (refl, tt)) (λ e. (refl, λ n. omega (arith, n)))
+  local-stays (Histories.lookup key most) = (refl, tt)
+  local-stays (Histories.edition key) = (refl, tt)
+  local-stays Histories.signal = (refl, tt)
+  local-stays Histories.flags = (refl, tt)
   local-stays (Histories.readRecord k) = record-stays (Histories.recordKept s k)
+  local-stays (Histories.save room) =
+      cond-by Stays (ltb (length room) (length (Saving.saved (s .settings)))) _ _ (λ e. (refl, λ n. omega (arith, n))) (λ e. (refl, tt))
+  local-stays (Histories.restore image) = restore-stays (Saving.read image) (read-faults image)
+
+  -- the settings, by what a call restores
+  pub local-settings : (c : LocalCall) → meant s (Histories.local c) .state .settings ≡ settingsBy (restoredBy c) (s .settings)
+  unfolding meant Local.afterTake Local.post Local.posted Local.setOptions Saving.restore restoredBy
+  local-settings (Histories.take room) = refl
+  local-settings (Histories.post action text) =
+      cond-by DoneSame (eqb action 0) _ _ (λ e. refl) (λ e.
+      cond-by DoneSame (ltb Limits.longest-alert (length text)) _ _ (λ f. refl) (λ f.
+      cond-by DoneSame (ltb (length (s .waiting)) Limits.most-alerts) _ _ (λ g. refl) (λ g. refl)))
+  local-settings (Histories.setOptions options) = cond-by DoneSame (Local.optionsAllowed options) _ _ (λ e. refl) (λ e. refl)
+  local-settings (Histories.lookup key most) = refl
+  local-settings (Histories.edition key) = refl
+  local-settings Histories.signal = refl
+  local-settings Histories.flags = refl
+  local-settings (Histories.readRecord k) = record-same (Histories.recordKept s k)
+  local-settings (Histories.save room) =
+      cond-by (λ (m : Means). m .state .settings ≡ s .settings) (ltb (length room) (length (Saving.saved (s .settings)))) _ _ (λ e. refl) (λ e. refl)
+  local-settings (Histories.restore image) = restore-same (Saving.read image)
 
 -- ---- the bytes since the last 00
 

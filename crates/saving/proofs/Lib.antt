@@ -1,0 +1,8 @@
+-- The laws of saving and restoring, and the proofs of their functions.
+-- Assumes nothing.
+pub mod StepLaws
+pub mod ReadLaws
+pub mod StoreLaws
+pub mod PlaceLaws
+pub mod ImageLaws
+pub mod KeptLaws

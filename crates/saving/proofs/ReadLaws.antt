@@ -1,0 +1,143 @@
+-- Reading an image goes on from offset to offset: the turns are always enough.
+-- Assumes nothing.
+use mathlib.Core.Path.{_≡_, refl, sym, ap, _∙_}
+use mathlib.Core.Bool.{true, false, false≢true}
+use mathlib.Core.List.{List, [], _∷_}
+use mathlib.Core.Option.{none}
+use Prim.Native.Nat.{ℕ, zero, suc, _+_, _-_, _≤_, _<_}
+use native.Mathlib.Omega.{arith}
+use lib.ListN.{length}
+use Rattle.octets.specs.Bytes.{Each, sameRun}
+use Rattle.octets.proofs.Equal.{sameRun-true, sameRun-equal}
+use Rattle.supervisor.specs.Limits.{first-setting}
+use Rattle.saving.specs.Saving.{highest-saved, saved-count, record-mark, end-mark, Entry, Read, fault, good, ahead, Step, bad, ended, to}
+use Rattle.saving.specs.Saving.{entryAt, step, readBy, readIn, readFrom, read}
+use Rattle.saving.specs.Calls.{faultIn, entriesIn}
+use Rattle.saving.proofs.StepLaws.{Passed, Sound, step-sound, passed}
+
+-- n turns are enough for the records of keys above `before`
+abbrev Enough : ℕ → ℕ → Type 0
+Enough n before = (key : ℕ) → first-setting ≤ key → key ≤ highest-saved → before < key → highest-saved < key + n
+
+count-enough : (before : ℕ) → Enough saved-count before
+count-enough before key least most above = omega arith
+
+module _ (image : List ℕ) where
+  -- one turn fewer is enough behind a record
+  fewer : (n before at : ℕ) {key there : ℕ} → Enough (suc n) before → step image before at ≡ to key there → Enough n key
+  fewer n before at h e =
+      let p = passed image before at e in
+      λ j least most above. omega (arith, h _ (p .whole .least) (p .whole .most) (p .above), p .its-key)
+
+  none-left : (before at : ℕ) {key there : ℕ} → Enough 0 before → step image before at ≡ to key there → ⊥
+  none-left before at h e =
+      let p = passed image before at e in
+      omega (arith, h _ (p .whole .least) (p .whole .most) (p .above), p .whole .most)
+
+  -- what is read depends on the rest only behind a record
+  rest-same : (next other : ℕ → ℕ → Read) (before at : ℕ)
+      → ((key there : ℕ) → step image before at ≡ to key there → next key there ≡ other key there)
+      → readBy next image at (step image before at) ≡ readBy other image at (step image before at)
+  rest-same next other before at f = by (step image before at) f
+    where
+      by : (s : Step) → ((key there : ℕ) → s ≡ to key there → next key there ≡ other key there) → readBy next image at s ≡ readBy other image at s
+      by (bad n there) f = refl
+      by ended f = refl
+      by (to key there) f = ap (ahead (entryAt image at)) (f key there refl)
+
+  -- more turns change nothing
+  pub turns-enough : (n m before at : ℕ) → Enough n before → Enough m before → readIn (suc n) image before at ≡ readIn (suc m) image before at
+  unfolding readIn
+  turns-enough zero m before at h k = rest-same (readIn zero image) (readIn m image) before at (λ key there e. absurd (none-left before at h e))
+  turns-enough (suc n) zero before at h k = rest-same (readIn (suc n) image) (readIn zero image) before at (λ key there e. absurd (none-left before at k e))
+  turns-enough (suc n) (suc m) before at h k =
+      rest-same (readIn (suc n) image) (readIn (suc m) image) before at
+      (λ key there e. turns-enough n m key there (fewer n before at h e) (fewer m before at k e))
+
+  -- reading goes on by what stands at the offset
+  pub read-at : (before at : ℕ) {s : Step} → step image before at ≡ s → readFrom image before at ≡ readBy (readFrom image) image at s
+  unfolding readFrom readIn
+  read-at before at e =
+      rest-same (readIn saved-count image) (readFrom image) before at
+      (λ key there f. turns-enough (highest-saved - first-setting) saved-count key there (fewer _ before at (count-enough before) f) (count-enough key))
+      ∙ ap (readBy (readFrom image) image at) e
+
+-- ---- what holds of all that is read, by what stands at each offset
+
+module _ (image : List ℕ) (P : ℕ → ℕ → Read → Type 0)
+    (at-bad : (before at n there : ℕ) → step image before at ≡ bad n there → P before at (fault n there))
+    (at-end : (before at : ℕ) → step image before at ≡ ended → P before at (good []))
+    (at-record : (before at key there : ℕ) (r : Read) → step image before at ≡ to key there → P key there r → P before at (ahead (entryAt image at) r)) where
+  by-turns : (n before at : ℕ) → Enough n before → P before at (readIn (suc n) image before at)
+  unfolding readIn
+  by-turns zero before at h = by (step image before at) refl
+    where
+      by : (s : Step) → step image before at ≡ s → P before at (readBy (readIn zero image) image at s)
+      by (bad n there) e = at-bad before at n there e
+      by ended e = at-end before at e
+      by (to key there) e = absurd (none-left image before at h e)
+  by-turns (suc n) before at h = by (by-turns n) (step image before at) refl
+    where
+      by : ((before at : ℕ) → Enough n before → P before at (readIn (suc n) image before at)) → (s : Step) → step image before at ≡ s
+          → P before at (readBy (readIn (suc n) image) image at s)
+      by rest (bad n there) e = at-bad before at n there e
+      by rest ended e = at-end before at e
+      by rest (to key there) e = at-record before at key there _ e (rest key there (fewer image n before at h e))
+
+  pub reading-by : (before at : ℕ) → P before at (readFrom image before at)
+  unfolding readFrom
+  reading-by before at = by-turns saved-count before at (count-enough before)
+
+-- of every record
+pub entries-each : (image : List ℕ) (Q : Entry → Type 0)
+    → ((before at key there : ℕ) → Passed image before at key there → Q (entryAt image at)) → Each Q (entriesIn (read image))
+unfolding read
+entries-each image Q f =
+    reading-by image (λ before at r. Each Q (entriesIn r)) (λ before at n there e. tt) (λ before at e. tt)
+    (λ before at key there r e h. more (entryAt image at) r (f before at key there (passed image before at e)) h) 0 0
+  where
+    more : (e : Entry) (r : Read) → Q e → Each Q (entriesIn r) → Each Q (entriesIn (ahead e r))
+    more e (fault n at) q h = tt
+    more e (good es) q h = (q, h)
+
+-- ---- reading on without a fault
+
+pub fault-ahead : (e : Entry) (r : Read) → faultIn (ahead e r) ≡ faultIn r
+fault-ahead e (fault n at) = refl
+fault-ahead e (good es) = refl
+
+pub entries-ahead : (e : Entry) (r : Read) → faultIn r ≡ none → entriesIn (ahead e r) ≡ e ∷ entriesIn r
+entries-ahead e (fault n at) h = cc
+entries-ahead e (good es) h = refl
+
+module _ (image : List ℕ) (before at : ℕ) where
+  -- the offset behind a record is greater and lies within the image
+  pub further : {key there : ℕ} → step image before at ≡ to key there → (at < there) × (there ≤ length image)
+  further e = let p = passed image before at e in omega (arith, p .behind, p .whole .complete)
+
+  pub fault-behind : {key there : ℕ} → step image before at ≡ to key there → faultIn (readFrom image before at) ≡ faultIn (readFrom image key there)
+  fault-behind {key} {there} e = ap faultIn (read-at image before at e) ∙ fault-ahead (entryAt image at) (readFrom image key there)
+
+  module _ (no-fault : faultIn (readFrom image before at) ≡ none) where
+    no-bad : {n there : ℕ} → step image before at ≡ bad n there → ⊥
+    no-bad e = let f = sym (ap faultIn (read-at image before at e)) ∙ no-fault in let z : _≡_ {A = ℕ} 0 1 = cc in omega arith
+
+    -- where no end mark stands, a record does
+    pub record-here : sameRun image at end-mark 0 2 ≡ false → (key : ℕ) × (there : ℕ) × (step image before at ≡ to key there)
+    record-here h = by (step image before at) refl (step-sound image before at)
+      where
+        by : (s : Step) → step image before at ≡ s → Sound image before at s → (key : ℕ) × (there : ℕ) × (step image before at ≡ to key there)
+        by (bad n there) e p = absurd (no-bad e)
+        by ended e p = absurd (false≢true (sym h ∙ sameRun-equal image at end-mark 0 2 (omega (arith, p .1)) (omega arith) (p .0)))
+        by (to key there) e p = (key, there, e)
+
+    pub end-here : sameRun image at end-mark 0 2 ≡ true → readFrom image before at ≡ good []
+    end-here h = by (step image before at) refl (step-sound image before at)
+      where
+        by : (s : Step) → step image before at ≡ s → Sound image before at s → readFrom image before at ≡ good []
+        by (bad n there) e p = absurd (no-bad e)
+        by ended e p = read-at image before at e
+        by (to key there) e p =
+            let m : end-mark ≡ record-mark = sym (sameRun-true image at end-mark 0 2 h .2) ∙ p .mark in
+            let z : _≡_ {A = ℕ} 0x45 0x56 = cc in
+            absurd (omega arith)

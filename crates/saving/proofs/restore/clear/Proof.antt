@@ -1,0 +1,40 @@
+-- `saving::restore::clear` meets its contract. The loop's invariant: the first i settings are cleared.
+-- Assumes nothing.
+use mathlib.Core.Path.{_≡_, refl}
+use Prim.Native.Nat.{_-_, _≤_}
+use native.Mathlib.Omega.{arith}
+use borrow.Author.Needs.{needs}
+use lib.ListN.{length}
+use Rattle.saving.specs.Saving.{saved-count}
+use Rattle.saving.specs.Calls.{cleared}
+use Rattle.saving.proofs.PlaceLaws.{head-room, cleared-more}
+use Rattle.saving.proofs.restore.clear.Statement.{statement}
+use Rattle.saving.proofs.restore.clear.Tie as tie
+
+abbrev Inv-loop : tie.InvT-loop
+Inv-loop settings₀ i₀ settings i = (i ≤ saved-count) × (length settings ≡ length settings₀) × (settings ≡ cleared i settings₀)
+
+abbrev μ-loop : tie.MeasureT-loop
+μ-loop settings₀ i₀ settings i = saved-count - i
+
+loop-holds : tie.Need-loop-holds Inv-loop μ-loop
+unfolding cleared
+loop-holds c = (search needs, search needs, refl)
+
+set-head-requires : tie.Need-set-head-requires Inv-loop μ-loop
+set-head-requires c κs = omega (arith, c .before .setting-offset .ensures .0, head-room (c .before .before .before .loop .i) (omega arith))
+
+loop-again : tie.Need-loop-again Inv-loop μ-loop
+loop-again c =
+    let place = c .before .before .before .before in
+    (search needs, search needs, cleared-more _ _ (place .before .before .loop .inv .2) (place .setting-offset .ensures .0) (c .before .before .set-head .ensures))
+
+returns : tie.Need-returns Inv-loop μ-loop
+returns c = let e : c .before .loop .i ≡ saved-count = omega arith in rw e at (c .before .loop .inv .2)
+
+pub clear-spec : {M : Type 1} → statement M
+clear-spec =
+    tie.close
+    (tie.spec
+    Inv-loop μ-loop loop-holds (λ c. search needs) (λ c κs. search needs) set-head-requires (λ c. search needs)
+    (λ c. search needs) loop-again (λ c. search needs) returns)

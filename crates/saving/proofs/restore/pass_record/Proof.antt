@@ -1,0 +1,47 @@
+-- `saving::restore::pass_record` meets its contract.
+-- Assumes nothing.
+use native.Mathlib.Omega.{arith}
+use borrow.Author.Needs.{needs}
+use Rattle.saving.specs.Calls.{stepOf}
+use Rattle.saving.proofs.StepLaws.{head-cut, value-long, value-cut, sum-wrong, record-good}
+use Rattle.saving.proofs.restore.pass_record.Statement.{statement}
+use Rattle.saving.proofs.restore.pass_record.Tie as tie
+
+returns : tie.Need-returns
+unfolding stepOf
+returns c = head-cut _ _ (omega arith)
+
+returns-2 : tie.Need-returns-2
+unfolding stepOf
+returns-2 c =
+    let size = c .before .before in
+    value-long _ _ _ _ _ (size .word-at .ensures .0) (size .before .read-u8 .ensures) (c .before .longest-setting .ensures .0) (omega arith) (c .if2 .taken)
+
+returns-3 : tie.Need-returns-3
+unfolding stepOf
+returns-3 c =
+    let most = c .before .before in
+    value-cut _ _ _ _ _ (most .before .word-at .ensures .0) (most .before .before .read-u8 .ensures) (most .longest-setting .ensures .0) (omega arith)
+    (c .before .if2 .left) (omega arith)
+
+returns-4 : tie.Need-returns-4
+unfolding stepOf
+returns-4 c =
+    let most = c .before .before .before .before .before in
+    sum-wrong _ _ _ _ _ (most .before .word-at .ensures .0) (most .before .before .read-u8 .ensures) (most .longest-setting .ensures .0) (omega arith)
+    (c .before .before .before .before .if2 .left) _ _ (omega arith) (c .before .before .checksum-of .ensures) (c .before .read-u16 .ensures) (c .if4 .taken)
+
+returns-5 : tie.Need-returns-5
+unfolding stepOf
+returns-5 c =
+    let most = c .before .before .before .before .before in
+    record-good _ _ _ _ _ (most .before .word-at .ensures .0) (most .before .before .read-u8 .ensures) (most .longest-setting .ensures .0) (omega arith)
+    (c .before .before .before .before .if2 .left) _ _ (omega arith) (c .before .before .checksum-of .ensures) (c .before .read-u16 .ensures) (c .if4 .left)
+
+pub pass-record-spec : {M : Type 1} → statement M
+pass-record-spec =
+    tie.close
+    (tie.spec
+    (λ c. search needs) returns (λ c. search needs) (λ c κs. search needs) (λ c. search needs) (λ c κs. search needs)
+    (λ c κs. search needs) (λ c. search needs) returns-2 (λ c. search needs) returns-3 (λ c. search needs) (λ c κs. search needs)
+    (λ c. search needs) (λ c κs. search needs) (λ c. search needs) returns-4 (λ c. search needs) (λ c. search needs) returns-5)

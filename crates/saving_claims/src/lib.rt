@@ -1,0 +1,2 @@
+// The claims over saving and restoring stand in specs/.
+// No code.
