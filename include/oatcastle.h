@@ -8,7 +8,7 @@
  * @par Result
  * 0: the call was carried out. Any other number is a refusal, one of OATCASTLE_NO_ROOM to OATCASTLE_RESTORE_BYTES_AFTER
  * below; which numbers a call can return stands with it. Where several apply, the first of 12, 13, 9, 17, 11, 10, 14, 8
- * is returned; the oatcastle_rot_ calls have an order of their own, which stands with them. A refused call leaves every byte and every number that it was lent as it was;
+ * is returned; the oatcastle_rot_ calls have an order of their own, which stands with them, and oatcastle_restore tests 12, 8, then the image, 30 to 35. A refused call leaves every byte and every number that it was lent as it was;
  * oatcastle_restore alone answers where it finds a fault: with the fault's offset.
  * @par Memory
  * The caller owns all memory; the library allocates nothing, keeps no pointer after a call and has no state of
@@ -24,7 +24,7 @@
  * write: they overlap no part, no room and nothing that is read.
  * @par Before the first start
  * Parts of any contents may be lent to a start. Parts that are all 0, as static memory is, are no started supervisor: the calls that are lent the factory
- * store (receive, step, receive_counted, lookup) answer 12; the others find nothing pending, no signal, no flag, no record and no setting, and an alert,
+ * store (receive, step, receive_counted, lookup, edition) answer 12; the others find nothing pending, no signal, no flag, no record and no setting, and an alert,
  * options or settings given then are lost at the start. A reader and a requester that are all 0 are as after their start. Parts of other contents answer 12, or by whatever their bytes mean.
  * @par Threads
  * Calls that are lent a common part are made one at a time. Calls with no part in common may run at once. An interrupt counts as a thread.
@@ -99,7 +99,7 @@ typedef char oatcastle_numbers_are_aligned_to_8[offsetof(struct oatcastle_aligne
 #define OATCASTLE_READER_LENGTH 4142    /**< the line layer's reader; also the `state` of the oatcastle_line_ calls */
 #define OATCASTLE_OUTBOX_LENGTH 4147
 #define OATCASTLE_FACTORY_LENGTH 6481
-#define OATCASTLE_SETTINGS_LENGTH 8469
+#define OATCASTLE_SETTINGS_LENGTH 8539
 #define OATCASTLE_REGISTERS_LENGTH 3393
 #define OATCASTLE_REQUESTER_LENGTH 4118
 
@@ -150,16 +150,18 @@ typedef char oatcastle_numbers_are_aligned_to_8[offsetof(struct oatcastle_aligne
 #define OATCASTLE_KEY_ETC_SYSTEM 3u             /**< the settings keys begin here */
 #define OATCASTLE_KEY_DTRACE_CONF 4u
 #define OATCASTLE_KEY_WITHDRAWN_KEYS 5u
+#define OATCASTLE_KEY_PASSPHRASE 6u             /**< the wireless passphrase: set, and never read back */
 
 #define OATCASTLE_LOOKUP_VALUE 0u               /**< answer[0] of oatcastle_lookup, and the first byte of a key lookup's reply */
 #define OATCASTLE_LOOKUP_BAD_KEY 1u
 #define OATCASTLE_LOOKUP_NO_VALUE 2u
 #define OATCASTLE_LOOKUP_TOO_LONG 3u            /**< the value is longer than maxresponse */
+#define OATCASTLE_LOOKUP_SET_ONLY 4u            /**< the passphrase, whether or not one is held */
 
 #define OATCASTLE_SET_STORED 0u                 /**< the byte of a key set's reply */
 #define OATCASTLE_SET_BAD_KEY 1u
 #define OATCASTLE_SET_READ_ONLY 2u
-#define OATCASTLE_SET_TOO_LONG 3u
+#define OATCASTLE_SET_TOO_LONG 3u               /**< or, for the passphrase, too short */
 #define OATCASTLE_SET_LAST_EDITION 4u           /**< the edition is 4,294,967,295 already; nothing is stored */
 
 #define OATCASTLE_INVENTORY_ITEM 0u             /**< the first byte of an inventory reply; 0, 2 and 3 are also what an item's result may be */
@@ -186,6 +188,8 @@ typedef char oatcastle_numbers_are_aligned_to_8[offsetof(struct oatcastle_aligne
 #define OATCASTLE_LONGEST_ETC_SYSTEM 256        /**< bytes of each settings key's value */
 #define OATCASTLE_LONGEST_DTRACE_CONF 4096
 #define OATCASTLE_LONGEST_WITHDRAWN_KEYS 4096
+#define OATCASTLE_SHORTEST_PASSPHRASE 8
+#define OATCASTLE_LONGEST_PASSPHRASE 63
 #define OATCASTLE_LONGEST_IMAGE_ID 64
 #define OATCASTLE_LONGEST_ITEM_DATA 64
 #define OATCASTLE_LONGEST_BLOCK 4096            /**< bytes of an image in one reply */
@@ -381,14 +385,15 @@ uint32_t oatcastle_post(uint8_t *registers, oatcastle_length registers_length, u
 uint32_t oatcastle_set_options(uint8_t *registers, oatcastle_length registers_length, uint64_t options);
 
 /** Looks a key up and copies its value to the room. Key 0 is "pong", 1 the image ID (at most 64 bytes), 2 the inventory's count and
- * version (8 bytes), 3 (at most 256 bytes), 4 (4,096) and 5, the withdrawn-key list (4,096), are what was stored.
- * - answer[0]: 0: found; 1: no such key; 2: the key has no value; 3: the value is longer than maxresponse
+ * version (8 bytes), 3 (at most 256 bytes), 4 (4,096) and 5, the withdrawn-key list (4,096), are what was stored. Key 6, the wireless
+ * passphrase, is never handed out.
+ * - answer[0]: 0: found; 1: no such key; 2: the key has no value; 3: the value is longer than maxresponse; 4: key 6, with or without a value
  * - answer[1]: how many bytes the value has; 0 unless it was found
  * @return 0; 12; 8: the answer is too short, or the room is shorter than the value. */
 uint32_t oatcastle_lookup(const uint8_t *factory, oatcastle_length factory_length, const uint8_t *settings, oatcastle_length settings_length, uint8_t key, uint16_t maxresponse, uint8_t *room, oatcastle_length room_length, uint64_t *answer, oatcastle_length answer_count);
 
 /** The edition of a key: how often it was set since the start, or the edition that was restored and the sets since then; 0 for keys 0 to 2, which cannot be set.
- * - answer[0]: 0: the key has a value; 1: no such key; 2: the key has no value
+ * - answer[0]: 0: the key has a value; 1: no such key; 2: the key has no value; 4: key 6, with or without a value
  * - answer[1]: the edition; 0 unless the key has a value
  * @return 0; 12; 8: the answer is too short. */
 uint32_t oatcastle_edition(const uint8_t *factory, oatcastle_length factory_length, const uint8_t *settings, oatcastle_length settings_length, uint8_t key, uint64_t *answer, oatcastle_length answer_count);

@@ -251,13 +251,14 @@ def answer_counts():
     return {'RESTORE_NUMBERS': int(least), **{f'{name}_NUMBERS': counted[definition] for name, definition in named.items()}}
 
 
-def settings(known):
-    """The longest value of each settings key: the table of the definitions, which the code's constants must be too, one for each key."""
-    table = re.search(r'^longest-settings = (.*)∷ \[\]$', read('crates/supervisor/specs/Limits.antt'), re.M).group(1)
+def settings(known, most='longest'):
+    """The longest (or shortest) value of each settings key: the table of the definitions, which the code's constants must be too, one for each key
+    (of the shortest those that are not 0)."""
+    table = re.search(rf'^{most}-settings = (.*)∷ \[\]$', read('crates/supervisor/specs/Limits.antt'), re.M).group(1)
     keys = range(known['FIRST_SETTING'], known['HIGHEST_KEY'] + 1)
     listed = [int(n) for n in table.split('∷') if n.strip()]
-    if listed != [known.get(f'LONGEST_KEY_{key}') for key in keys]:
-        sys.exit(f'interface.py: the longest settings are {listed} in the definitions, and the code has others for keys {list(keys)}')
+    if listed != [known.get(f'{most.upper()}_KEY_{key}', None if most == 'longest' else 0) for key in keys]:
+        sys.exit(f'interface.py: the {most} settings are {listed} in the definitions, and the code has others for keys {list(keys)}')
     return listed
 
 
@@ -283,7 +284,7 @@ def limits():
 SETTINGS = ('ETC_SYSTEM', 'DTRACE_CONF', 'WITHDRAWN_KEYS', 'PASSPHRASE')
 OPTIONS = ('RECOVERY', 'KBM', 'BOOT_RD', 'PROM', 'KMDB', 'KMDB_BOOT', 'RAMDISK', 'NET_BOOT', 'VERBOSE')
 # What a key set's answer other than 0 is for, by the test ahead of it.
-SET_RESULTS = {'layout::HIGHEST_KEY < key': 'BAD_KEY', 'key < layout::FIRST_SETTING': 'READ_ONLY', 'most < n': 'TOO_LONG',
+SET_RESULTS = {'layout::HIGHEST_KEY < key': 'BAD_KEY', 'key < layout::FIRST_SETTING': 'READ_ONLY', 'most < n': 'TOO_LONG', 'n < least': 'TOO_LONG',
                'edition == layout::LAST_EDITION': 'LAST_EDITION'}
 
 
@@ -320,6 +321,7 @@ def keys(known):
     for i, longest in enumerate(settings(known)):
         found[f'KEY_{SETTINGS[i]}'] = known['FIRST_SETTING'] + i
         found[f'LONGEST_{SETTINGS[i]}'] = longest
+    found.update({f'SHORTEST_{SETTINGS[i]}': shortest for i, shortest in enumerate(settings(known, 'shortest')) if shortest})
     for variant, numbers in arms(body(text, 'result_number')).items():
         if variant != 'Found::Refused':
             found[f'LOOKUP_{snake(variant.removeprefix("Found::"))}'] = the_one(variant, numbers)
@@ -328,7 +330,8 @@ def keys(known):
     for test, number in re.findall(r'if ([^{]*?) \{\s*return (\d+);', store):
         if test not in SET_RESULTS:
             sys.exit(f'interface.py: a key set answers {number} where {test}; SET_RESULTS has no name for it')
-        found[f'SET_{SET_RESULTS[test]}'] = int(number)
+        if found.setdefault(f'SET_{SET_RESULTS[test]}', int(number)) != int(number):
+            sys.exit(f'interface.py: a key set answers {number} where {test}, and another number for {SET_RESULTS[test]} elsewhere')
     found['SET_STORED'] = the_one('a key set that stores', map(int, re.findall(r'^    (\d+)$', store, re.M)))
     return found
 

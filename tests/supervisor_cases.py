@@ -43,9 +43,15 @@ from line_cases import L12, MAGIC, body, digest, fletcher, last_ones, message, n
 
 TOP = 1 << 63
 ONES = (1 << 64) - 1
-# limits: items of the inventory, bytes of an item's data and of the image ID; the longest value of each settings key
+# limits: items of the inventory, bytes of an item's data and of the image ID; the longest value of each settings key, and the shortest where it is not 0
 MOST_ITEMS, ITEM_DATA, IMAGE_ID = 64, 64, 64
-KEYS = {3: 256, 4: 4096, 5: 4096}
+KEYS = {3: 256, 4: 4096, 5: 4096, 6: 63}
+SHORTEST = {6: 8}
+HIGHEST_KEY = max(KEYS)
+# set, and never read back
+PASSPHRASE = 6
+# the keys of a saved image
+SAVED = {key: longest for key, longest in KEYS.items() if key != PASSPHRASE}
 VERSIONS = (1, 2)
 LAST_EDITION = (1 << 32) - 1
 # the places of docs/STATE.md: the items, their count, the inventory's version, key 0; each setting with its flag, edition and length ahead of the value
@@ -102,12 +108,12 @@ def image_records(image):
             raise Fault(30, begin)
         place = at
         key = field(1)[0]
-        if key not in KEYS or key <= before:
+        if key not in SAVED or key <= before:
             raise Fault(31, place)
         edition = int.from_bytes(field(4), 'little')
         place = at
         length = int.from_bytes(field(2), 'little')
-        if length > KEYS[key]:
+        if length > SAVED[key]:
             raise Fault(32, place)
         value = field(length)
         place = at
@@ -262,8 +268,10 @@ class Supervisor:
         return fixed[key] if key in fixed else self.settings.get(key)
 
     def lookup(self, key, most):
-        if key > 5:
+        if key > HIGHEST_KEY:
             return 1, b''
+        if key == PASSPHRASE:
+            return 4, b''
         value = self.value(key)
         if value is None:
             return 2, b''
@@ -271,16 +279,18 @@ class Supervisor:
 
     def edition(self, key):
         """A lookup's result whatever maxresponse is, and the edition."""
-        if key > 5:
+        if key > HIGHEST_KEY:
             return 1, 0
+        if key == PASSPHRASE:
+            return 4, 0
         return (2, 0) if self.value(key) is None else (0, self.editions[key])
 
     def set(self, key, value):
-        if key > 5:
+        if key > HIGHEST_KEY:
             return 1
         if key < 3:
             return 2
-        if len(value) > KEYS[key]:
+        if not SHORTEST.get(key, 0) <= len(value) <= KEYS[key]:
             return 3
         if self.editions[key] == LAST_EDITION:
             return 4
@@ -289,12 +299,15 @@ class Supervisor:
         return 0
 
     def saved(self):
-        return b''.join(record(key, self.editions[key], self.settings[key]) for key in KEYS if key in self.settings) + b'KE'
+        return b''.join(record(key, self.editions[key], self.settings[key]) for key in SAVED if key in self.settings) + b'KE'
 
     def restore(self, image):
         read = image_records(image)
-        self.settings = {key: value for key, _, value in read}
-        self.editions = Counter({key: edition for key, edition, _ in read})
+        for key in SAVED:
+            self.settings.pop(key, None)
+            self.editions.pop(key, None)
+        self.settings.update((key, value) for key, _, value in read)
+        self.editions.update({key: edition for key, edition, _ in read})
 
     def take(self, room):
         out, self.pending = self.pending[:room], self.pending[room:]
@@ -503,7 +516,7 @@ class Case(line_cases.Case):
     def local(self):
         """Every local call that only reads, and the status by the wire."""
         self.signal().flags().record(0).record(1)
-        for key in range(7):
+        for key in range(8):
             self.lookup(key, 65535).edition(key)
         return self.ask(8)
 
@@ -674,7 +687,7 @@ def keys():
         c.mark().ask(0x10, value + b'x').stores_same().ask(0x10, value[:-1]).lookup(key, most).ask(0x10, bytes([key])).lookup(key, 0)
         yield c.ask(0x0e, bytes([key, 0, 0])).ask(0x10, bytes([key]) + b'short').lookup(key, 4).lookup(key, 5).lookup(key, 65535)
     c = Case('keys that cannot be set', FULL).mark()
-    for key in (0, 1, 2, 6, 7, 255):
+    for key in (0, 1, 2, 7, 8, 255):
         c.ask_both(0x10, bytes([key])).ask(0x10, bytes([key]) + nonzero(9)).ask(0x10, bytes([key]) + nonzero(4103)).ask_both(0x0e, bytes([key]) + b'\xff\xff')
         c.lookup(key, 0).lookup(key, 65535).edition(key)
     yield c.stores_same()
@@ -706,18 +719,18 @@ def editions():
         c.ask_both(0x0e, bytes([key]) + b'\xff\xff')
     yield c.local()
     c = Case('a refused set does not count', Start()).ask(0x10, b'\3once').ask(0x10, b'\5once').mark()
-    for key in (*range(3), 6, 7, 255):
+    for key in (*range(3), 7, 8, 255):
         c.ask_both(0x10, bytes([key]) + b'x')
     for key, most in KEYS.items():
         c.ask_both(0x10, bytes([key]) + nonzero(most + 1)).edition(key)
     yield c.stores_same().local()
     for key, most in KEYS.items():
-        past, data = bytes([key]) + nonzero(most + 1), bytes([key]) + b'last'
+        past, data = bytes([key]) + nonzero(most + 1), bytes([key]) + b'last'.ljust(SHORTEST.get(key, 0), b'.')
         c = Case(f"the last edition of key {key}", FULL).ask(0x10, data).store_edition(key, LAST_EDITION - 1).edition(key).ask(0x0e, bytes([key]) + b'\4\0', version=2)
         c.ask_both(0x10, past).ask(0x10, data + b' of all').edition(key).ask_both(0x0e, bytes([key]) + b'\xff\xff').mark()
         c.ask_both(0x10, data).ask_both(0x10, bytes([key])).ask_both(0x10, data[:1] + nonzero(most)).ask_both(0x10, past).stores_same()
         for other in KEYS:
-            c.ask(0x10, bytes([other]) + b'other').edition(other)
+            c.ask(0x10, bytes([other]) + b'the other').edition(other)
         yield c.local().start(FULL).ask(0x10, data).local()
         c = Case(f'the last edition of key {key} without a value', Start()).store_edition(key, LAST_EDITION).mark().ask_both(0x10, data).ask_both(0x10, past).stores_same()
         yield c.ask_both(0x0e, bytes([key]) + b'\xff\xff').local()
@@ -728,6 +741,35 @@ def editions():
     for value in (nonzero(4096), bytes(4096), b'\xff' * 4096):
         c = Case(f'key 4 at 4096 bytes in version 2, first byte {value[:1].hex()}', Start()).ask(0x10, b'\4' + value, version=2)
         yield c.ask(0x0e, b'\4' + little(4096, 2), version=2).ask(0x0e, b'\4' + little(4095, 2), version=2).store_edition(4, LAST_EDITION).ask(0x0e, b'\4\0\x10', version=2)
+
+
+def passphrase():
+    key = bytes([PASSPHRASE])
+
+    def asked(case):
+        for most in (0, 8, 63, 65535):
+            case.lookup(PASSPHRASE, most).ask_both(0x0e, key + little(most, 2))
+        return case.edition(PASSPHRASE)
+
+    for size in (0, 7, 8, 63, 64, 4103):
+        c = asked(Case(f'a passphrase of {size} bytes', FULL)).mark().ask_both(0x10, key + nonzero(size))
+        c = asked(c if 8 <= size <= 63 else c.stores_same()).mark().ask_both(0x10, key + bytes(7)).ask_both(0x10, key + bytes(64)).stores_same()
+        yield asked(c.ask(0x10, key + bytes(8))).start(FULL).local()
+    c = Case('a passphrase changes its own setting alone', Start())
+    for other in KEYS:
+        c.ask(0x10, bytes([other]) + bytes([other]) * 20)
+    yield c.ask(0x10, key + nonzero(63)).ask(0x10, key + nonzero(8)).local().mark().ask(0x10, key + nonzero(64)).stores_same().local()
+    c = Case('wrong lengths at the last edition of the passphrase', FULL).ask(0x10, key + nonzero(8)).store_edition(PASSPHRASE, LAST_EDITION).mark()
+    for size in (0, 7, 8, 63, 64):
+        c.ask_both(0x10, key + nonzero(size))
+    yield c.stores_same().local()
+    for size in (0, 8, 63):
+        c = Case(f'a stored length of {size} without a passphrase', FULL).store('settings', SETTINGS[PASSPHRASE] + SETTING_LENGTH, two(size), False)
+        yield asked(c).ask(0x10, key + nonzero(9)).local()
+    image = record(3, 1, b'a') + record(4, 2, b'b') + record(5, 3, b'c')
+    c = Case('images leave the passphrase alone', FULL).ask(0x10, key + nonzero(20)).restore(image + b'KE').save().mark()
+    c.restore(image + record(PASSPHRASE, 4, nonzero(8)) + b'KE').restore(record(PASSPHRASE, 4, nonzero(8)) + b'KE')
+    yield c.stores_same().restore(b'KE').save().restore(image + b'KE').stores_same()
 
 
 def saving():
@@ -750,11 +792,11 @@ def saving():
         for other in sorted({byte ^ 1, byte ^ 0x80, 0, 255} - {byte}):
             c.restore(image[:place] + bytes([other]) + image[place + 1:]).save()
         yield c
-    for key, longest in KEYS.items():
+    for key, longest in SAVED.items():
         c = Case(f'limits of key {key}', Start()).restore(record(key, 1, b'a' * longest) + b'KE').save().mark()
         over = record(key, 2, b'a' * (longest + 1))
         yield c.restore(over + b'KE').restore(over[:9]).restore(over[:8]).restore(over[:7]).same()
-    whole = b''.join(record(key, key, bytes([key]) * longest) for key, longest in KEYS.items()) + b'KE'
+    whole = b''.join(record(key, key, bytes([key]) * longest) for key, longest in SAVED.items()) + b'KE'
     yield Case('the longest image', Start()).restore(whole).save(len(whole) - 1).save(len(whole)).save(len(whole) + 1).local()
     c = Case('keys', Start()).ask(0x10, b'\4old').mark()
     for pair in ((3, 3), (5, 4), (4, 3), (4, 4), (5, 5), (2, 3), (0, 3), (3, 6), (6, 7), (255, 3)):
@@ -1002,10 +1044,12 @@ def fields():
     yield 'factory', 'inventory version', [], VERSION_OFFSET, [little(1, 4), little(256, 4), little(1 << 24, 4)], []
     yield 'factory', 'key 0', [], PONG_OFFSET, [b'Pong', b'poNg', b'ponG', bytes(4)], []
     for key, at in SETTINGS.items():
-        yield 'settings', f'key {key} flag', [], at, [b'\2', b'\xff'], [b'\1']
+        least = SHORTEST.get(key, 0)
+        yield 'settings', f'key {key} flag', [('settings', at + SETTING_LENGTH, two(least))], at, [b'\2', b'\xff'], [b'\1']
         yield 'settings', f'key {key} edition', [], at + SETTING_EDITION, [], [little(n, 4) for n in (1, LAST_EDITION - 1, LAST_EDITION)]
-        yield 'settings', f'key {key} length', [], at + SETTING_LENGTH, [two(KEYS[key] + 1), two(65535)], [two(KEYS[key])]
-        yield 'settings', f'key {key} length of a value', [('settings', at, b'\1')], at + SETTING_LENGTH, [two(KEYS[key] + 1), two(65535)], [two(KEYS[key])]
+        long, right = [two(KEYS[key] + 1), two(65535)], [two(least), two(KEYS[key])]
+        yield 'settings', f'key {key} length', [], at + SETTING_LENGTH, [two(n) for n in range(1, least, 6)] + long, [two(0)] + right
+        yield 'settings', f'key {key} length of a value', [('settings', at, b'\1')], at + SETTING_LENGTH, [two(n) for n in (0, 1, 7) if n < least] + long, right
     yield 'registers', 'status', [], 0, [little(4, 8), little(256, 8), little(TOP + 1, 8)], [little(3, 8)]
     yield 'registers', 'options', [], 8, [little(512, 8), little(65536, 8), little(TOP, 8)], [little(511, 8)]
     yield 'registers', 'reboot flag', [], 16, [b'\2', b'\xff'], []
@@ -1070,11 +1114,11 @@ def some_data(dice, command):
     if command == 0x0d:
         return dice.pick((FULL.hash, FULL.hash, FULL.hash, bytes(32))) + little(dice.pick((0, 1, 99, 100, 101, dice.below(100), ONES)), 8)
     if command == 0x0e:
-        return bytes([dice.below(7)]) + little(dice.pick((0, 3, 4, 8, 64, 256, 4096, 65535)), 2)
+        return bytes([dice.below(8)]) + little(dice.pick((0, 3, 4, 8, 64, 256, 4096, 65535)), 2)
     if command == 0x0f:
         return little(dice.pick((0, 1, 2, 3, 4, 5, 16, MOST_ITEMS, (1 << 32) - 1)), 4)
     if command == 0x10:
-        return bytes([dice.below(7)]) + dice.bytes(dice.pick((size, size, 1024, KEYS[5], KEYS[5] + 1)))
+        return bytes([dice.below(8)]) + dice.bytes(dice.pick((size, size, 8, 63, 1024, KEYS[5], KEYS[5] + 1)))
     return b''
 
 
@@ -1123,7 +1167,7 @@ def session(seed, turns):
         elif act == 9:
             c.set_options(1 << dice.below(11)).signal().flags()
         elif act == 10:
-            c.record(0).record(1).lookup(dice.below(7), dice.pick((4, 65535))).edition(dice.below(7))
+            c.record(0).record(1).lookup(dice.below(8), dice.pick((4, 65535))).edition(dice.below(8))
         elif dice.below(8) == 0:
             c.start(dice.pick((FULL, Start(bsu=0), Start())))
     return c.take().local()
@@ -1135,7 +1179,7 @@ def sessions():
 
 
 def cases():
-    for group in (line_samples, commands, failures, lengths, keys, editions, saving, inventory, alerts, options, records, images, sending, again, start_data, short_parts, stored_fields, sessions):
+    for group in (line_samples, commands, failures, lengths, keys, editions, saving, passphrase, inventory, alerts, options, records, images, sending, again, start_data, short_parts, stored_fields, sessions):
         yield from group()
 
 

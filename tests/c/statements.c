@@ -81,6 +81,7 @@ static void null_with_length_0(void)
     HOLDS(oatcastle_supervisor_receive(&supervisor, NULL, 0, NULL, 0) == OATCASTLE_DONE);
     HOLDS(oatcastle_supervisor_take(&supervisor, NULL, 0, answer) == OATCASTLE_DONE && answer[0] == 0);
     HOLDS(oatcastle_supervisor_lookup(&supervisor, OATCASTLE_KEY_ETC_SYSTEM, 9, NULL, 0, answer) == OATCASTLE_DONE && answer[0] == OATCASTLE_LOOKUP_NO_VALUE);
+    HOLDS(oatcastle_supervisor_lookup(&supervisor, OATCASTLE_KEY_PASSPHRASE, 9, NULL, 0, answer) == OATCASTLE_DONE && answer[0] == OATCASTLE_LOOKUP_SET_ONLY);
     HOLDS(oatcastle_supervisor_lookup(&supervisor, OATCASTLE_KEY_PING, 4, NULL, 0, answer) == OATCASTLE_NO_ROOM);
     HOLDS(oatcastle_supervisor_save(&supervisor, NULL, 0, answer) == OATCASTLE_NO_ROOM);
     answer[0] = 9;

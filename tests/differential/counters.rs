@@ -91,6 +91,14 @@ impl Block {
         }
     }
 
+    /// Whether another supervisor's block holds the same.
+    pub fn alike(&self, other: &Block) -> Result<(), String> {
+        if (self.held, self.met) == (other.held, other.met) {
+            return Ok(());
+        }
+        Err(format!("the counter block\n  one   {:?}\n  other {:?}", self.held, other.held))
+    }
+
     pub fn same(&self) -> Result<(), String> {
         let mut model = [0x5a5a_5a5a; 11];
         for (place, &met) in self.met.iter().enumerate() {

@@ -45,7 +45,7 @@ impl World {
         held[..length.min(held.len())].to_vec()
     }
 
-    fn advance(&mut self, wire: usize, used: usize) {
+    pub fn advance(&mut self, wire: usize, used: usize) {
         self.tally.fed += used as u64;
         self.wires[wire].drain(..used);
     }
@@ -86,7 +86,7 @@ impl World {
     }
 
     /// A call of this kind, other than start, with random arguments.
-    fn make(&mut self, kind: usize, target: usize) -> Call {
+    pub fn make(&mut self, kind: usize, target: usize) -> Call {
         let image = self.image();
         let random = &mut self.random;
         match kind {
@@ -129,7 +129,7 @@ impl World {
                 Call::SetOptions { options }
             }
             9 => {
-                let key = if random.percent(90) { random.below(7) as u8 } else { random.byte() };
+                let key = if random.percent(90) { random.below(8) as u8 } else { random.byte() };
                 let (_, value) = model::lookup(&self.supervisor.factory, &self.supervisor.settings, key, u16::MAX);
                 let held = value.len() as u16;
                 let most = random.pick(&[held, held, held.saturating_sub(1), held + 1, 0, 3, 4, 8, u16::MAX, u16::MAX, u16::MAX]);
@@ -143,12 +143,12 @@ impl World {
             15 => Call::PlanFits { plan: Plan::random(random) },
             16 => Call::Save,
             17 => Call::Restore { image: images::random_image(random, &self.supervisor.settings) },
-            _ => Call::Edition { key: if random.percent(90) { random.below(7) as u8 } else { random.byte() } },
+            _ => Call::Edition { key: if random.percent(90) { random.below(8) as u8 } else { random.byte() } },
         }
     }
 
     /// A call other than start, one that takes the part if one is given.
-    fn any_call(&mut self, part: Option<usize>) -> Call {
+    pub fn any_call(&mut self, part: Option<usize>) -> Call {
         loop {
             let kind = if self.random.percent(75) { self.random.below(KINDS) } else { self.random.pick(&[9, 9, 12, 13, 18]) };
             let target = part.filter(|&part| part <= READER).unwrap_or(if self.random.percent(85) { LINE } else { READER });
@@ -238,7 +238,7 @@ impl World {
         let field = &fields[self.random.below(fields.len())];
         let held = field.value(&self.parts[part]);
         let value = match self.random.below(4) {
-            0 | 1 => field.past(),
+            0 | 1 => self.random.pick(&field.past()),
             2 => u64::MAX,
             _ => self.random.next(),
         } & field.most();
@@ -273,8 +273,9 @@ impl World {
         for part in LINE..=REGISTERS {
             for field in state::fields(part, &self.parts[part]) {
                 let held = field.value(&self.parts[part]);
-                let values: Vec<u64> = [field.past(), u64::MAX, 1 << (8 * field.width - 1), self.random.next()]
+                let values: Vec<u64> = [u64::MAX, 1 << (8 * field.width - 1), self.random.next()]
                     .iter()
+                    .chain(&field.past())
                     .map(|value| value & field.most())
                     .filter(|&value| !field.allows(value))
                     .collect();
@@ -294,7 +295,8 @@ impl World {
         Ok(())
     }
 
-    fn mean(&mut self) {
+    /// The model's state is what the parts hold.
+    pub fn mean(&mut self) {
         let [line, reader, outbox, factory, settings, registers] = &self.parts;
         self.line = state::reader(line);
         self.supervisor = Supervisor {
@@ -310,7 +312,8 @@ impl World {
     fn allowed_value(&mut self, allowed: &Allowed) -> u64 {
         match *allowed {
             Allowed::UpTo(most) => self.random.pick(&[0, most, most]).min(self.random.next() % (most + 1)),
-            Allowed::Between(least, most) => least + self.random.next() % (most - least + 1),
+            Allowed::ZeroOr(..) if self.random.percent(30) => 0,
+            Allowed::Between(least, most) | Allowed::ZeroOr(least, most) => least + self.random.next() % (most - least + 1),
             Allowed::OneOf(values) => self.random.pick(values),
         }
     }
@@ -332,6 +335,21 @@ impl World {
         }
         self.other(Some(part))?;
         state::put(&mut self.parts[part], field.place, field.width, held);
+        Ok(())
+    }
+
+    /// Key 6 with and without a value, and each length at the edges of those that 12 allows.
+    fn passphrase_lengths(&mut self) -> Result<(), String> {
+        let stored = self.parts[SETTINGS].clone();
+        for held in [0, 1] {
+            for length in [0, 1, 7, 8, 63, 64, 65535] {
+                state::put(&mut self.parts[SETTINGS], state::PASSPHRASE_OFFSET, 1, held);
+                state::put(&mut self.parts[SETTINGS], state::PASSPHRASE_OFFSET + state::VALUE_LENGTH_OFFSET, 2, length);
+                self.call(&Call::Edition { key: 3 }, &Lent { parts: LENGTHS, room: 0, answer: 2 })?;
+            }
+        }
+        self.parts[SETTINGS] = stored;
+        self.mean();
         Ok(())
     }
 
@@ -399,7 +417,8 @@ impl World {
             }
             913..=917 => self.alerts(),
             918..=952 => self.forbid(),
-            953..=972 => self.allow(),
+            953..=971 => self.allow(),
+            972 => self.passphrase_lengths(),
             973..=996 => {
                 self.scatter();
                 Ok(())

@@ -2,14 +2,16 @@
 // Assumes the model's settings and checksum, and nothing else of the library.
 
 use crate::calls::{Call, Lent};
-use crate::model::{broken, checksum, Fault, Setting, Settings, LAST_EDITION, LONGEST};
+use crate::model::{broken, checksum, Fault, Setting, Settings, LAST_EDITION, LONGEST, PASSPHRASE};
 use crate::random::Random;
 use crate::state::LENGTHS;
 use crate::world::World;
 
 const RECORD: &[u8] = b"KV";
 const END: &[u8] = b"KE";
+/// The keys of an image; the passphrase, the key above them, is not saved.
 const FIRST_KEY: u8 = 3;
+const LAST_KEY: u8 = PASSPHRASE - 1;
 
 /// A fault's number, and the offset of the field at fault.
 pub type Found = (u32, usize);
@@ -31,7 +33,8 @@ fn record(key: u8, edition: u32, value: &[u8]) -> Vec<u8> {
 
 pub fn saved(settings: &Settings) -> Vec<u8> {
     let mut image = Vec::new();
-    for (key, setting) in (FIRST_KEY..).zip(settings) {
+    let last = if broken(Fault::PassphraseSaved) { PASSPHRASE } else { LAST_KEY };
+    for (key, setting) in (FIRST_KEY..=last).zip(settings) {
         if let Some(value) = &setting.value {
             image.extend(record(key, setting.edition, value));
         }
@@ -77,7 +80,8 @@ fn read(image: &[u8], settings: &mut Settings) -> Result<(), Found> {
         let place = reader.at;
         let key = reader.number::<1>()? as u8;
         let above = before < key || broken(Fault::KeyTwice) && before == key;
-        if !(FIRST_KEY..=5).contains(&key) || !above {
+        let last = if broken(Fault::PassphraseRestored) { PASSPHRASE } else { LAST_KEY };
+        if !(FIRST_KEY..=last).contains(&key) || !above {
             return Err((31, place));
         }
         let edition = reader.number::<4>()?;
@@ -102,12 +106,15 @@ fn read(image: &[u8], settings: &mut Settings) -> Result<(), Found> {
 /// What a restore leaves, and its fault.
 pub fn restored(settings: &Settings, image: &[u8]) -> (Settings, Result<(), Found>) {
     let mut left = if broken(Fault::AbsentKept) || broken(Fault::EditionKept) { settings.clone() } else { Settings::default() };
+    if !broken(Fault::PassphraseLost) {
+        left[usize::from(PASSPHRASE - FIRST_KEY)] = settings[usize::from(PASSPHRASE - FIRST_KEY)].clone();
+    }
     let result = read(image, &mut left);
     (if result.is_ok() || broken(Fault::WrittenEarly) { left } else { settings.clone() }, result)
 }
 
 fn value(random: &mut Random, key: u8) -> Vec<u8> {
-    let longest = LONGEST[usize::from(key.clamp(FIRST_KEY, 5) - FIRST_KEY)];
+    let longest = LONGEST[usize::from(key.clamp(FIRST_KEY, PASSPHRASE) - FIRST_KEY)];
     let length = match random.below(10) {
         0 => longest,
         1 => longest + 1,
@@ -121,9 +128,9 @@ fn value(random: &mut Random, key: u8) -> Vec<u8> {
 /// Records of rising keys, some left out; at times of any keys.
 fn made(random: &mut Random) -> Vec<u8> {
     let keys: Vec<u8> = if random.percent(70) {
-        (FIRST_KEY..=5).filter(|_| random.percent(60)).collect()
+        (FIRST_KEY..=LAST_KEY).filter(|_| random.percent(60)).collect()
     } else {
-        (0..random.below(5)).map(|_| random.pick(&[2, 3, 3, 4, 4, 5, 5, 6, 255])).collect()
+        (0..random.below(5)).map(|_| random.pick(&[2, 3, 3, 4, 4, 5, 5, 6, 6, 7, 255])).collect()
     };
     let mut image = Vec::new();
     for key in keys {
@@ -181,8 +188,8 @@ pub fn cases(world: &mut World) -> Result<(), String> {
         }
         restore([RECORD, &[key, 0, 0, 0, 0], &(longest as u16 + 1).to_le_bytes()].concat())?;
     }
-    for keys in [[3, 3], [5, 4], [4, 3], [3, 5], [2, 3], [5, 6]] {
-        restore([record(keys[0], 1, b"a"), record(keys[1], 2, b"b"), END.to_vec()].concat())?;
+    for keys in [[3, 3], [5, 4], [4, 3], [3, 5], [2, 3], [5, 6], [6, 6], [6, 7]] {
+        restore([record(keys[0], 1, b"one"), record(keys[1], 2, b"passphrase"), END.to_vec()].concat())?;
     }
     for image in [&[0xff][..], &[0xff, 0xff], b"KEK", b"K", b"KVV", b"KEKE"] {
         restore(image.to_vec())?;

@@ -15,6 +15,7 @@ mod random;
 mod requester;
 mod state;
 mod traffic;
+mod twins;
 mod world;
 
 use calls::{same, Call, Image, Lent};
@@ -154,8 +155,16 @@ fn faults(numbers: &[usize], seed: u64, count: u64) -> ExitCode {
     if missed == 0 { ExitCode::SUCCESS } else { ExitCode::FAILURE }
 }
 
+/// Two supervisors that differ only in key 6's setting.
+fn two(seed: u64, count: u64) -> ExitCode {
+    let result = twins::compare(seed, count);
+    let (Ok(said) | Err(said)) = &result;
+    println!("seed {seed}: {}; {said}", if result.is_ok() { "no difference" } else { "a difference" });
+    if result.is_ok() { ExitCode::SUCCESS } else { ExitCode::FAILURE }
+}
+
 fn usage() -> ExitCode {
-    eprintln!("usage: run [--trace] SEED COUNT, run --broken NUMBER|all [SEED COUNT], run --faults");
+    eprintln!("usage: run [--trace] SEED COUNT, run --broken NUMBER|all [SEED COUNT], run --twins SEED COUNT, run --faults");
     ExitCode::from(2)
 }
 
@@ -187,6 +196,7 @@ fn main() -> ExitCode {
             };
             limits.map_or_else(usage, |(seed, count)| faults(&chosen, seed, count))
         }
+        ["--twins", seed, count] => numbers(seed, count).map_or_else(usage, |(seed, count)| two(seed, count)),
         [seed, count] => numbers(seed, count).map_or_else(usage, |(seed, count)| plain(seed, count, trace)),
         _ => usage(),
     }

@@ -12,7 +12,10 @@ pub const LONGEST_DATA: usize = 4104;
 pub const TOP_BIT: u64 = 1 << 63;
 pub const MOST_ITEMS: usize = 64;
 /// The longest value of each settings key, from 3 on.
-pub const LONGEST: [usize; 3] = [256, 4096, 4096];
+pub const LONGEST: [usize; 4] = [256, 4096, 4096, 63];
+/// The key that is set and never read back, and its shortest value.
+pub const PASSPHRASE: u8 = 6;
+pub const SHORTEST_PASSPHRASE: usize = 8;
 pub const LAST_EDITION: u32 = u32::MAX;
 
 macro_rules! faults {
@@ -66,6 +69,20 @@ faults! {
     EndBeforeLength: "setting a key at its last edition gives 4 for a long value too",
     RefusedCounts: "a set that gives 3 adds to the edition",
     OtherEdition: "a lookup carries the edition of another key",
+    PassphraseHandedOut: "key 6 is looked up as any other setting",
+    PassphraseNoValue: "a lookup of key 6 gives 2 where no value is held",
+    PassphraseTooLong: "a lookup of key 6 gives 3 where its value is longer than maxresponse",
+    PassphraseEdition: "the edition of key 6 is handed out",
+    PassphraseOf7: "key 6 takes 7 bytes",
+    PassphraseOf64: "key 6 takes 64 bytes",
+    PassphraseSaved: "an image holds key 6",
+    PassphraseRestored: "an image restores key 6",
+    PassphraseLost: "a restore takes key 6 away",
+    PassphraseOf7Held: "12 lets a passphrase of 7 bytes through",
+    PassphraseOf64Held: "12 lets a passphrase of 64 bytes through",
+    PassphraseEmptyHeld: "12 lets a passphrase of no bytes through",
+    PassphraseNotHeld: "12 refuses a length above 0 where no passphrase is held",
+    Key7Found: "key 7 is looked up as key 6 is",
     ItemDataKept: "an item with result 2 carries its data",
     ItemIndexLast: "the index equal to the count gives the last item",
     OptionBit9: "option bit 9 is let through",
@@ -491,7 +508,16 @@ pub struct Setting {
     pub value: Option<Vec<u8>>,
 }
 
-pub type Settings = [Setting; 3];
+pub type Settings = [Setting; 4];
+
+/// The result of a lookup of key 6, whatever it holds.
+fn set_only(held: &Setting, most: u16) -> u8 {
+    match &held.value {
+        None if broken(Fault::PassphraseNoValue) => 2,
+        Some(value) if value.len() > usize::from(most) && broken(Fault::PassphraseTooLong) => 3,
+        _ => 4,
+    }
+}
 
 /// Key lookup: the result, and the value where it is 0.
 pub fn lookup(factory: &Factory, settings: &Settings, key: u8, most: u16) -> (u8, Vec<u8>) {
@@ -504,6 +530,9 @@ pub fn lookup(factory: &Factory, settings: &Settings, key: u8, most: u16) -> (u8
             Some(both)
         }
         3..=5 => settings[usize::from(key) - 3].value.clone(),
+        PASSPHRASE if broken(Fault::PassphraseHandedOut) => settings[3].value.clone(),
+        PASSPHRASE => return (set_only(&settings[3], most), Vec::new()),
+        7 if broken(Fault::Key7Found) => return (4, Vec::new()),
         _ => return (1, Vec::new()),
     };
     let limit = usize::from(most);
@@ -528,6 +557,8 @@ pub fn edition(settings: &Settings, key: u8) -> (u8, u32) {
                 Some(_) => (0, setting.edition),
             }
         }
+        PASSPHRASE if broken(Fault::PassphraseEdition) && settings[3].value.is_some() => (0, settings[3].edition),
+        PASSPHRASE => (4, 0),
         _ => (1, 0),
     }
 }
@@ -538,15 +569,17 @@ fn set_key(settings: &mut Settings, key: u8, value: &[u8]) -> u8 {
         0..=2 => return 2,
         3 => LONGEST[0] + usize::from(broken(Fault::Key3At257)),
         5 if broken(Fault::Key5At1024) => 1024,
+        PASSPHRASE => LONGEST[3] + usize::from(broken(Fault::PassphraseOf64)),
         4..=5 => LONGEST[usize::from(key) - 3],
         _ => return 1,
     };
+    let least = if key == PASSPHRASE { SHORTEST_PASSPHRASE - usize::from(broken(Fault::PassphraseOf7)) } else { 0 };
     let setting = &mut settings[usize::from(key) - 3];
     let ended = setting.edition == LAST_EDITION;
     if ended && broken(Fault::EndBeforeLength) {
         return 4;
     }
-    if value.len() > most {
+    if value.len() < least || value.len() > most {
         setting.edition += u32::from(!ended && broken(Fault::RefusedCounts));
         return 3;
     }

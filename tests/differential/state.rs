@@ -1,7 +1,9 @@
 // Defines the lent parts as docs/STATE.md lists them: lengths, fields with their allowed values, and the typed state that valid bytes mean.
 // Assumes docs/STATE.md alone.
 
-use crate::model::{broken, Alert, Factory, Fault, Item, Outbox, Reader, Record, Registers, Retained, Setting, Settings, LONGEST, MOST_ITEMS};
+use crate::model::{
+    broken, Alert, Factory, Fault, Item, Outbox, Reader, Record, Registers, Retained, Setting, Settings, LONGEST, MOST_ITEMS, SHORTEST_PASSPHRASE,
+};
 
 /// The parts: a line reader's of its own, then the supervisor's five.
 pub const LINE: usize = 0;
@@ -26,18 +28,22 @@ const FACTORY_LENGTH: usize = PONG_OFFSET + 4;
 
 /// Where the setting of each settings key from 3 on stands, and its longest value; a value stands behind a flag, an edition and a length.
 pub const EDITION_OFFSET: usize = 1;
-const VALUE_LENGTH_OFFSET: usize = 5;
+pub const VALUE_LENGTH_OFFSET: usize = 5;
 const VALUE_OFFSET: usize = 7;
-pub const KEYS: [(usize, usize); 3] = {
+pub const KEYS: [(usize, usize); 4] = {
     let second = VALUE_OFFSET + LONGEST[0];
     let third = second + VALUE_OFFSET + LONGEST[1];
-    [(0, LONGEST[0]), (second, LONGEST[1]), (third, LONGEST[2])]
+    let fourth = third + VALUE_OFFSET + LONGEST[2];
+    [(0, LONGEST[0]), (second, LONGEST[1]), (third, LONGEST[2]), (fourth, LONGEST[3])]
 };
-const SETTINGS_LENGTH: usize = KEYS[2].0 + VALUE_OFFSET + LONGEST[2];
+const SETTINGS_LENGTH: usize = KEYS[3].0 + VALUE_OFFSET + LONGEST[3];
+/// The setting of key 6 runs from here to the store's end.
+pub const PASSPHRASE_OFFSET: usize = KEYS[3].0;
 
 pub enum Allowed {
     UpTo(u64),
     Between(u64, u64),
+    ZeroOr(u64, u64),
     OneOf(&'static [u64]),
 }
 
@@ -57,12 +63,13 @@ impl Field {
         u64::MAX >> (64 - 8 * self.width)
     }
 
-    /// A number next to the allowed ones.
-    pub fn past(&self) -> u64 {
+    /// Numbers next to the allowed ones.
+    pub fn past(&self) -> Vec<u64> {
         match self.allowed {
-            Allowed::UpTo(most) => most + 1,
-            Allowed::Between(least, _) => least - 1,
-            Allowed::OneOf(values) => values[values.len() - 1] + 1,
+            Allowed::UpTo(most) => vec![most + 1],
+            Allowed::Between(least, most) => vec![least - 1, 0, most + 1],
+            Allowed::ZeroOr(least, most) => vec![least - 1, 1, most + 1],
+            Allowed::OneOf(values) => vec![values[values.len() - 1] + 1],
         }
     }
 
@@ -70,6 +77,7 @@ impl Field {
         match self.allowed {
             Allowed::UpTo(most) => value <= most,
             Allowed::Between(least, most) => least <= value && value <= most,
+            Allowed::ZeroOr(least, most) => value == 0 || least <= value && value <= most,
             Allowed::OneOf(values) => values.contains(&value),
         }
     }
@@ -99,6 +107,19 @@ fn start_fields(bytes: &[u8]) -> Vec<Field> {
     fields
 }
 
+/// The length of key 6's value: 8 to 63, and 0 only where none is held.
+fn passphrase_length(held: bool) -> Allowed {
+    let least = SHORTEST_PASSPHRASE - usize::from(broken(Fault::PassphraseOf7Held));
+    let most = LONGEST[3] + usize::from(broken(Fault::PassphraseOf64Held));
+    if held && !broken(Fault::PassphraseEmptyHeld) {
+        Allowed::Between(least as u64, most as u64)
+    } else if !held && broken(Fault::PassphraseNotHeld) {
+        Allowed::UpTo(0)
+    } else {
+        Allowed::ZeroOr(least as u64, most as u64)
+    }
+}
+
 /// The fields of a part that 12 tests; the bytes have at least the published length.
 pub fn fields(part: usize, bytes: &[u8]) -> Vec<Field> {
     let flag = |place| Field { place, width: 1, allowed: Allowed::UpTo(1) };
@@ -112,7 +133,13 @@ pub fn fields(part: usize, bytes: &[u8]) -> Vec<Field> {
             fields.push(Field { place: PONG_OFFSET, width: 4, allowed: Allowed::OneOf(&[0x676e_6f70]) });
             fields
         }
-        SETTINGS => KEYS.iter().flat_map(|&(place, most)| [flag(place), up_to(place + VALUE_LENGTH_OFFSET, 2, most as u64)]).collect(),
+        SETTINGS => {
+            let [lengths @ .., (passphrase, _)] = KEYS;
+            let mut fields: Vec<Field> = lengths.iter().flat_map(|&(place, most)| [flag(place), up_to(place + VALUE_LENGTH_OFFSET, 2, most as u64)]).collect();
+            fields.push(flag(passphrase));
+            fields.push(Field { place: passphrase + VALUE_LENGTH_OFFSET, width: 2, allowed: passphrase_length(bytes[passphrase] == 1) });
+            fields
+        }
         _ => {
             let mut fields = vec![
                 up_to(0, 8, 3),

@@ -1,7 +1,7 @@
 // Defines the random frames that are fed to both sides, and random start data.
 // Assumes the model for forms, checksums and what the supervisor holds.
 
-use crate::model::{body, checksum, cobs, frame, Supervisor, LONGEST, MAGIC, MOST_ITEMS, TOP_BIT};
+use crate::model::{body, checksum, cobs, frame, Supervisor, LONGEST, MAGIC, MOST_ITEMS, PASSPHRASE, SHORTEST_PASSPHRASE, TOP_BIT};
 use crate::random::Random;
 use crate::state::{number, put, COUNT_OFFSET, ITEMS_OFFSET, ITEM_DATA_LENGTH, ITEM_LENGTH, START_LENGTH};
 
@@ -60,12 +60,12 @@ fn data(random: &mut Random, supervisor: &Supervisor, command: u8, image: usize)
             data
         }
         0x0e => {
-            let key = if random.percent(90) { random.below(6) as u8 } else { random.byte() };
+            let key = if random.percent(90) { random.below(8) as u8 } else { random.byte() };
             let held = match key {
                 0 => 4,
                 1 => supervisor.factory.image_id.len(),
                 2 => 8,
-                3..=5 => supervisor.settings[usize::from(key) - 3].value.as_ref().map_or(0, Vec::len),
+                3..=6 => supervisor.settings[usize::from(key) - 3].value.as_ref().map_or(0, Vec::len),
                 _ => 0,
             };
             let most = match random.below(5) {
@@ -88,9 +88,10 @@ fn data(random: &mut Random, supervisor: &Supervisor, command: u8, image: usize)
             index.to_le_bytes().to_vec()
         }
         0x10 => {
-            let key = if random.percent(90) { random.below(6) as u8 } else { random.byte() };
+            let key = if random.percent(90) { random.below(8) as u8 } else { random.byte() };
             let limits: &[usize] = match key {
                 3..=5 => &[0, LONGEST[usize::from(key) - 3]],
+                PASSPHRASE => &[SHORTEST_PASSPHRASE, LONGEST[3]],
                 _ => &[0, LONGEST[0], LONGEST[1]],
             };
             let length = length_near(random, limits);

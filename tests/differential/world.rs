@@ -15,7 +15,7 @@ use std::fmt;
 /// Bytes behind each part, and behind a room or an answer.
 pub const TAIL: usize = 24;
 const GUARD: usize = 16;
-/// The fields of docs/STATE.md with forbidden values: 1 in a line reader's part (two of them), 3, 37, 6 and 28 in the others.
+/// The fields of docs/STATE.md with forbidden values: 1 in a line reader's part (two of them), 3, 37, 8 and 28 in the others.
 pub const FIELDS: usize = 2 + 3 + (3 + 2 * model::MOST_ITEMS + 2) + 2 * model::LONGEST.len() + 28;
 
 /// Both sides: the library's lent parts, and the model.
@@ -188,7 +188,7 @@ impl World {
     }
 
     /// What document 01 says of the call; the model's state moves on unless it is refused.
-    fn expect(&mut self, call: &Call, lent: &Lent) -> Outcome {
+    pub fn expect(&mut self, call: &Call, lent: &Lent) -> Outcome {
         let short_answer = lent.answer < call.answers();
         if broken(Fault::TwelveLast) && short_answer {
             return refused(8);
@@ -413,7 +413,7 @@ impl World {
         bytes
     }
 
-    fn library(&mut self, call: &Call, lent: &Lent, room: &mut [u8], answer: &mut [u64]) -> u32 {
+    pub fn library(&mut self, call: &Call, lent: &Lent, room: &mut [u8], answer: &mut [u64]) -> u32 {
         let [line, reader, outbox, factory, settings, registers] = &mut self.parts;
         let [line_n, reader_n, outbox_n, factory_n, settings_n, registers_n] = lent.parts;
         let (room_n, answer_n) = (lent.room, lent.answer);

@@ -6,7 +6,7 @@
 pub(crate) const READER_LENGTH: usize = 4142;
 pub(crate) const OUTBOX_LENGTH: usize = 4147;
 pub(crate) const FACTORY_LENGTH: usize = 6481;
-pub(crate) const SETTINGS_LENGTH: usize = 8469;
+pub(crate) const SETTINGS_LENGTH: usize = 8539;
 pub(crate) const REGISTERS_LENGTH: usize = 3393;
 pub(crate) const REQUESTER_LENGTH: usize = 4118;
 
@@ -36,10 +36,14 @@ pub const LONGEST_IMAGE_ID: usize = 64;
 pub const ADDRESS_LENGTH: usize = 6;
 /// So many addresses of a plan are given.
 pub const ADDRESS_ROWS: usize = 8;
+/// A wireless passphrase has at least so many bytes.
+pub const SHORTEST_PASSPHRASE: usize = 8;
+/// A wireless passphrase has at most so many bytes.
+pub const LONGEST_PASSPHRASE: usize = 63;
 /// Option bits 0 to 8.
 pub(crate) const ALL_OPTIONS: u64 = 511;
 /// The longest value of each settings key, from `FIRST_SETTING` on.
-pub(crate) const LONGEST_SETTINGS: [usize; 3] = [256, 4096, 4096];
+pub(crate) const LONGEST_SETTINGS: [usize; 4] = [256, 4096, 4096, 63];
 pub(crate) const FIRST_SETTING: usize = 3;
 /// A root-of-trust message ahead of its payload.
 pub(crate) const ROT_HEADER_LENGTH: usize = 8;

@@ -88,6 +88,7 @@ numbered! {
     BadKey = 1, "there is no such key";
     NoValue = 2, "the key has no value";
     TooLong = 3, "the value is longer than maxresponse";
+    SetOnly = 4, "the key is set and never read back";
 }
 
 impl core::error::Error for NotFound {}

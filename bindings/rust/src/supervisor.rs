@@ -364,7 +364,7 @@ impl<'s> Supervisor<'s> {
         done(unsafe { raw::oatcastle_set_options(registers.0, registers.1, options.bits()) });
     }
 
-    /// Looks a key up; a value longer than `maxresponse` is not found.
+    /// Looks a key up; a value longer than `maxresponse` is not found, and the wireless passphrase is never handed out.
     ///
     /// # Errors
     ///
@@ -410,7 +410,7 @@ impl<'s> Supervisor<'s> {
     ///
     /// # Errors
     ///
-    /// `BadKey` or `NoValue`, as from a lookup.
+    /// `BadKey`, `NoValue` or `SetOnly`, as from a lookup.
     pub fn edition(&self, key: u8) -> Result<u32, NotFound> {
         let mut answer = [0; EDITION_NUMBERS];
         let (factory, settings, answers) = (lent(&self.storage.factory), lent(&self.storage.settings), lent_mut(&mut answer));
@@ -422,7 +422,7 @@ impl<'s> Supervisor<'s> {
         }
     }
 
-    /// Writes the settings that have a value, with their editions, as an image to the room's start; gives the image. A room of `LONGEST_IMAGE` takes any.
+    /// Writes the settings of keys 3, 4 and 5 that have a value, with their editions, as an image to the room's start; gives the image. A room of `LONGEST_IMAGE` takes any.
     ///
     /// # Errors
     ///
@@ -443,7 +443,7 @@ impl<'s> Supervisor<'s> {
         Ok(first(room, answer[0]))
     }
 
-    /// Replaces the settings, values and editions, by those of an image, behind a start, which forgets every setting; one that the image lacks has no value and edition 0. Nothing else changes.
+    /// Replaces the settings of keys 3, 4 and 5, values and editions, by those of an image, behind a start, which forgets every setting; one that the image lacks has no value and edition 0. Nothing else changes.
     ///
     /// # Errors
     ///

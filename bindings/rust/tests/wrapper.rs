@@ -13,8 +13,8 @@ use oatcastle::requester::{Handed, Received, Reply, Requester, RequesterStorage,
 use oatcastle::{
     checksum, update_probes, write_frame, AddressPlan, Bsu, Counters, Failure, Fault, Flags, Item, ItemResult, LineReader, Message, NotFound, Options,
     Probe, ReadEnd, ReaderStorage, Reason, Record, Refusal, StartData, StaticCell, Step, StepEnd, Supervisor, SupervisorStorage, Tail,
-    LONGEST_ALERT, LONGEST_DATA, LONGEST_FRAME, LONGEST_IMAGE, LONGEST_IMAGE_ID, LONGEST_ITEM_DATA, LONGEST_VALUE, MOST_ALERTS, MOST_ITEMS, MOST_KEPT,
-    MOST_PENDING,
+    LONGEST_ALERT, LONGEST_DATA, LONGEST_FRAME, LONGEST_IMAGE, LONGEST_IMAGE_ID, LONGEST_ITEM_DATA, LONGEST_PASSPHRASE, LONGEST_VALUE, MOST_ALERTS,
+    MOST_ITEMS, MOST_KEPT, MOST_PENDING, SHORTEST_PASSPHRASE,
 };
 use std::num::NonZeroU8;
 
@@ -133,7 +133,7 @@ fn local_calls() {
 fn editions() {
     let mut storage = SupervisorStorage::new();
     let mut supervisor = Supervisor::start_in(&mut storage, &UNIT);
-    assert_eq!([0, 1, 2, 5, 6, 255].map(|key| supervisor.edition(key)), [Ok(0), Ok(0), Ok(0), Err(NotFound::NoValue), Err(NotFound::BadKey), Err(NotFound::BadKey)]);
+    assert_eq!([0, 1, 2, 5, 7, 255].map(|key| supervisor.edition(key)), [Ok(0), Ok(0), Ok(0), Err(NotFound::NoValue), Err(NotFound::BadKey), Err(NotFound::BadKey)]);
     for edition in 1..=3 {
         assert_eq!(reply(&mut supervisor, &[], &request(edition, 0x10, b"\x05list")), (0x0c, vec![0]));
         assert_eq!(supervisor.lookup(5, 4).map(|found| (found.edition, found.value)), Ok((edition as u32, &b"list"[..])));
@@ -144,6 +144,24 @@ fn editions() {
     assert_eq!((version, command, data), (2, 0x0a, b"\0\x03\0\0\0list".to_vec()));
     supervisor.restart(&UNIT);
     assert_eq!(supervisor.edition(5), Err(NotFound::NoValue));
+}
+
+#[test]
+fn passphrase() {
+    let mut storage = SupervisorStorage::new();
+    let mut supervisor = Supervisor::start_in(&mut storage, &UNIT);
+    let mut set_only = |length: usize, result: u8| {
+        assert_eq!(reply(&mut supervisor, &[], &request(1, 0x10, &[&[6][..], &bytes(length)].concat())), (0x0c, vec![result]), "{length} bytes");
+        for maxresponse in [0, 1, LONGEST_PASSPHRASE as u16, u16::MAX] {
+            assert_eq!(supervisor.lookup(6, maxresponse), Err(NotFound::SetOnly));
+            assert_eq!(reply(&mut supervisor, &[], &request(2, 0x0e, &[&[6][..], &maxresponse.to_le_bytes()].concat())), (0x0a, vec![4]));
+        }
+        assert_eq!(supervisor.edition(6), Err(NotFound::SetOnly));
+    };
+    for (length, result) in [(SHORTEST_PASSPHRASE - 1, 3), (LONGEST_PASSPHRASE + 1, 3), (SHORTEST_PASSPHRASE, 0), (LONGEST_PASSPHRASE, 0)] {
+        set_only(length, result);
+    }
+    assert_eq!(NotFound::SetOnly.to_string(), "lookup result 4: the key is set and never read back");
 }
 
 /// The supervisor's parts, started and lent to the C functions themselves, and a supervisor in storage of the wrapper.
@@ -239,7 +257,7 @@ fn values_are_those_that_the_library_copies_out() {
     }
     let mut both = Both::start(&mut storage, &UNIT);
     for (index, longest) in LONGEST_SETTINGS.into_iter().enumerate() {
-        for length in [1, 0, 63, longest - 1, longest, longest + 1, 8] {
+        for length in [1, 0, 63, longest - 1, longest, longest + 1, 7, 8] {
             both.receive(&request(1, 0x10, &[&[(FIRST_SETTING + index) as u8][..], &bytes(length)].concat()));
             both.compare();
         }
@@ -291,7 +309,8 @@ fn settings_are_saved_and_restored() {
     let mut other = SupervisorStorage::new();
     let mut restored = Supervisor::start_in(&mut other, &UNIT);
     assert_eq!(restored.restore(&image), Ok(()));
-    for (index, longest) in LONGEST_SETTINGS.into_iter().enumerate() {
+    // keys 3, 4 and 5; the passphrase behind them is not saved
+    for (index, longest) in LONGEST_SETTINGS.into_iter().take(3).enumerate() {
         let key = (FIRST_SETTING + index) as u8;
         assert_eq!(restored.lookup(key, u16::MAX).map(|found| (found.edition, found.value)), Ok((1, &bytes(longest)[..])));
     }

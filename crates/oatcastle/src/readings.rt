@@ -42,6 +42,7 @@ fn answer_value(value: &[u8], found: Found, room: &mut [u8], answer: &mut [u64])
         Found::BadKey => write_both(value, room, [1, 0, 0, 0, 0, 0, 0], 2, answer),
         Found::NoValue => write_both(value, room, [2, 0, 0, 0, 0, 0, 0], 2, answer),
         Found::TooLong => write_both(value, room, [3, 0, 0, 0, 0, 0, 0], 2, answer),
+        Found::SetOnly => write_both(value, room, [4, 0, 0, 0, 0, 0, 0], 2, answer),
     }
 }
 
@@ -61,6 +62,7 @@ pub extern "C" fn oatcastle_edition(
         EditionFound::Edition(n) => write_answer(answer, [0, n as u64, 0, 0, 0, 0, 0], 2),
         EditionFound::BadKey => write_answer(answer, [1, 0, 0, 0, 0, 0, 0], 2),
         EditionFound::NoValue => write_answer(answer, [2, 0, 0, 0, 0, 0, 0], 2),
+        EditionFound::SetOnly => write_answer(answer, [4, 0, 0, 0, 0, 0, 0], 2),
     }
 }
 

@@ -1,8 +1,8 @@
 -- What a request does keeps the outbox, the settings and the registers valid.
 -- Assumes nothing.
 use mathlib.Core.Path.{_≡_, refl, ap, _∙_}
-use mathlib.Core.Logic.{inl, inr}
-use mathlib.Core.Bool.{Bool, true, false, cond, and-eq-true-iff}
+use mathlib.Core.Logic.{inl, inr, ⊎-map}
+use mathlib.Core.Bool.{Bool, true, false, cond, _||_, and-eq-true-iff}
 use mathlib.Core.List.{List, [], _∷_, _++_}
 use mathlib.Core.Option.{Option, none, some}
 use Prim.Native.Nat.{ℕ, suc, _+_, _-_, _*_, _^_, _≤_, _<_}
@@ -34,6 +34,7 @@ use Rattle.requests.specs.Requests.{clearBit}
 use Rattle.requests.specs.Commands.{Command, commandOf}
 use Rattle.requests.specs.Receive
 use Rattle.requests.proofs.ReceiveLaws.{item-held}
+use Rattle.requests.proofs.RecordLaws.{length-right}
 use Rattle.requests.proofs.TakenLaws.{retaining-version, retained-settled, settled}
 
 -- ---- the outbox
@@ -379,11 +380,11 @@ module _ (s v : List ℕ) (at : ℕ) (room : at + (Layout.setting-value-offset +
       overlay-part at Layout.setting-value-offset (length v) (Layout.settingBytes next v) s (omega arith) (omega (arith, length-setting next v)) ∙ take-length v
 
 -- what stands before its value is the same
-pub setting-kept : {s t : List ℕ} {at most : ℕ} → Same at (at + Layout.setting-value-offset) s t → SettingValid s at most → SettingValid t at most
+pub setting-kept : {s t : List ℕ} {at least most : ℕ} → Same at (at + Layout.setting-value-offset) s t → SettingValid s at least most → SettingValid t at least most
 setting-kept {at = at} same g =
     let held = number-same same 1 at (omega arith) in
     let size = number-same same 2 (at + Layout.setting-length-offset) (omega arith) in
-    omega arith
+    record { held = omega arith; size = omega arith; short = ⊎-map (λ l. omega arith) (λ n. omega arith) (g .short) }
 
 module _ (s v : List ℕ) (w : SettingsValid s) (key : ℕ) (h : Limits.SettingsKey key) (short : length v ≤ Limits.longest-setting key) where
   abbrev here : ℕ
@@ -395,27 +396,33 @@ module _ (s v : List ℕ) (w : SettingsValid s) (key : ℕ) (h : Limits.Settings
   pub value-small : length v < 65536
   value-small = omega (arith, longest-short key)
 
-  setting-left : (j : ℕ) → Lies j key → SettingValid s (Layout.setting-offset j) (Limits.longest-setting j)
-      → SettingValid (Receive.withValue s here v) (Layout.setting-offset j) (Limits.longest-setting j)
-  setting-left j (inl l) g = setting-kept (setting-before s v here value-room (omega arith)) g
-  setting-left j (inr (inl e)) g = rw e (omega (arith, setting-held s v here value-room, setting-size s v here value-room value-small))
-  setting-left j (inr (inr l)) g = setting-kept (setting-after s v here value-room (omega arith)) g
+  module _ (enough : Limits.shortest-setting key ≤ length v) where
+    setting-left : (j : ℕ) → Lies j key → SettingValid s (Layout.setting-offset j) (Limits.shortest-setting j) (Limits.longest-setting j)
+        → SettingValid (Receive.withValue s here v) (Layout.setting-offset j) (Limits.shortest-setting j) (Limits.longest-setting j)
+    setting-left j (inl l) g = setting-kept (setting-before s v here value-room (omega arith)) g
+    setting-left j (inr (inl e)) g =
+        let held = setting-held s v here value-room in
+        let size = setting-size s v here value-room value-small in
+        rw e (record { held = omega arith; size = omega arith; short = inl (omega arith) })
+    setting-left j (inr (inr l)) g = setting-kept (setting-after s v here value-room (omega arith)) g
 
-  settings-left : validSettings (Receive.withValue s here v) ≡ true
-  settings-left =
-      valid-settings _
-      (record { long = omega (arith, setting-long s v here value-room, w .long); each = λ j i. setting-left j (setting-lies j key i h) (w .each j i) })
+    settings-left : validSettings (Receive.withValue s here v) ≡ true
+    settings-left =
+        valid-settings _
+        (record { long = omega (arith, setting-long s v here value-room, w .long); each = λ j i. setting-left j (setting-lies j key i h) (w .each j i) })
 
 module _ (s v : List ℕ) (w : validSettings s ≡ true) where
   abbrev Left : Receive.KeyStored → Type 0
   Left k = validSettings (k .settings) ≡ true
 
-  -- a value that is not too long is stored
-  stored-valid : (at most : ℕ) → (length v ≤ most → validSettings (Receive.withValue s at v) ≡ true) → Left (Receive.storingAt s at most v)
+  -- a value whose length is right is stored
+  stored-valid : (at least most : ℕ) → (length v ≤ most → least ≤ length v → validSettings (Receive.withValue s at v) ≡ true)
+      → Left (Receive.storingAt s at least most v)
   unfolding Receive.storingAt
-  stored-valid at most f =
-      cond-by Left (ltb most (length v)) _ _ (λ _. w) (λ e.
-      cond-by Left (eqb (Layout.settingEdition s at) Limits.last-edition) _ _ (λ _. w) (λ _. f (ltb-false _ _ e)))
+  stored-valid at least most f =
+      cond-by Left (ltb (length v) least || ltb most (length v)) _ _ (λ _. w) (λ e.
+      let l = length-right least most (length v) e in
+      cond-by Left (eqb (Layout.settingEdition s at) Limits.last-edition) _ _ (λ _. w) (λ _. f (l .1) (l .0)))
 
   pub storing-valid : (key : ℕ) → validSettings (Receive.storing s key v .settings) ≡ true
   unfolding Receive.storing
@@ -423,7 +430,7 @@ module _ (s v : List ℕ) (w : validSettings s ≡ true) where
       let g = settings-valid s w in
       cond-by Left (ltb Limits.highest-key key) _ _ (λ _. w) (λ e.
       cond-by Left (ltb key Limits.first-setting) _ _ (λ _. w) (λ f.
-      stored-valid _ _ (settings-left s v g key (record { least = ltb-false _ _ f; most = ltb-false _ _ e }))))
+      stored-valid _ _ _ (settings-left s v g key (record { least = ltb-false _ _ f; most = ltb-false _ _ e }))))
 
 -- ---- the data of a reply
 

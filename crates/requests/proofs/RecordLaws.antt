@@ -1,12 +1,14 @@
 -- Laws of stores right behind one another: a record of the registers, and a value of the settings store.
 -- Assumes nothing.
-use mathlib.Core.Path.{_≡_, refl, ap, _∙_}
+use mathlib.Core.Path.{_≡_, refl, sym, ap, _∙_}
+use mathlib.Core.Bool.{Bool, true, false, _||_, or-true, false≢true}
 use mathlib.Core.List.{List, [], _∷_, _++_, append-assoc}
 use Prim.Native.Nat.{ℕ, zero, suc, _+_, _-_, min, _≤_, _<_}
 use native.Mathlib.Nat.{min-zero, suc-min-suc}
 use native.Mathlib.Numerals.{add-one}
 use native.Mathlib.Omega.{arith}
-use borrow.Author.Tests.{lt-ltb, le-ltb, eq-eqb, ne-eqb}
+use lib.Dec.{ltb}
+use borrow.Author.Tests.{ltb-false, lt-ltb, le-ltb, eq-eqb, ne-eqb}
 use lib.ListN.{length, take, drop, set, length-append, length-drop}
 use lib.Seq.{take-nil, take-length}
 use Rattle.octets.specs.Bytes.{bytes, run, overlay, put, copied}
@@ -77,20 +79,36 @@ record-put r d at code from {whole} {kept} low long l w k f g h =
 
 -- ---- the data behind a key
 
-module _ (s d : List ℕ) (at most : ℕ) where
-  pub value-long : most < length d - 1 → keyStored 3 s ≡ storingAt s at most (drop 1 d)
+-- a length that is right, and what its tests say
+pub right-length : (least most n : ℕ) → least ≤ n → n ≤ most → (ltb n least || ltb most n) ≡ false
+right-length least most n h k = rw (le-ltb n least h, le-ltb most n k)
+
+pub length-right : (least most n : ℕ) → (ltb n least || ltb most n) ≡ false → (least ≤ n) × (n ≤ most)
+length-right least most n e = by (ltb n least) (ltb most n) refl refl e
+  where
+    by : (t u : Bool) → ltb n least ≡ t → ltb most n ≡ u → (t || u) ≡ false → (least ≤ n) × (n ≤ most)
+    by true u f g e = absurd (false≢true (sym e))
+    by false true f g e = absurd (false≢true (sym e))
+    by false false f g e = (ltb-false n least f, ltb-false most n g)
+
+module _ (s d : List ℕ) (at least most : ℕ) where
+  pub value-short : length d - 1 < least → keyStored 3 s ≡ storingAt s at least most (drop 1 d)
   unfolding storingAt
-  value-long h = rw (length-drop 1 d, lt-ltb most (length d - 1) h)
+  value-short h = rw (length-drop 1 d, lt-ltb (length d - 1) least h)
+
+  pub value-long : most < length d - 1 → keyStored 3 s ≡ storingAt s at least most (drop 1 d)
+  unfolding storingAt
+  value-long h = rw (length-drop 1 d, lt-ltb most (length d - 1) h, or-true)
 
   -- by the edition that was read
-  module _ {edition : ℕ} (short : length d - 1 ≤ most) (e : edition ≡ settingEdition s at) where
-    pub edition-last : edition ≡ last-edition → keyStored 4 s ≡ storingAt s at most (drop 1 d)
+  module _ {edition : ℕ} (enough : least ≤ length d - 1) (short : length d - 1 ≤ most) (e : edition ≡ settingEdition s at) where
+    pub edition-last : edition ≡ last-edition → keyStored 4 s ≡ storingAt s at least most (drop 1 d)
     unfolding storingAt
-    edition-last f = rw (length-drop 1 d, le-ltb most (length d - 1) short, ← e, eq-eqb edition last-edition f)
+    edition-last f = rw (length-drop 1 d, right-length least most (length d - 1) enough short, ← e, eq-eqb edition last-edition f)
 
     pub value-put : {t u v : List ℕ} → 1 ≤ length d → at + (setting-value-offset + most) ≤ length s → (edition ≡ last-edition → ⊥)
         → t ≡ put (at + setting-edition-offset) (bytes 4 (edition + 1)) (set s at 1) → u ≡ put (at + setting-length-offset) (bytes 2 (length d - 1)) t
-        → v ≡ copied d 1 (length d - 1) u (at + setting-value-offset) → keyStored 0 v ≡ storingAt s at most (drop 1 d)
+        → v ≡ copied d 1 (length d - 1) u (at + setting-value-offset) → keyStored 0 v ≡ storingAt s at least most (drop 1 d)
     unfolding storingAt withValue
     value-put one l o f g h =
         let n = length (drop 1 d) in
@@ -103,7 +121,7 @@ module _ (s d : List ℕ) (at most : ℕ) where
           g,
           f,
           ← k,
-          le-ltb most n (omega arith),
+          right-length least most n (omega arith) (omega arith),
           ← e,
           ne-eqb edition last-edition o,
           marked 1 4 (edition + 1) at s (omega arith) (omega arith),

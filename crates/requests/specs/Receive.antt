@@ -1,6 +1,6 @@
 -- What a received byte does to the lent parts, and what the calls that receive answer and leave.
 -- Assumes nothing: these are definitions.
-use mathlib.Core.Bool.{Bool, cond, not, _&&_}
+use mathlib.Core.Bool.{Bool, cond, not, _&&_, _||_}
 use mathlib.Core.List.{List, [], _∷_, _++_}
 use mathlib.Core.Option.{Option, none, some}
 use Prim.Native.Nat.{ℕ, suc, _+_, _-_, _*_}
@@ -156,9 +156,9 @@ pub record KeyStored : Type 0 where
 abbrev pub keyStored : ℕ → List ℕ → KeyStored
 keyStored n s = record { result = n; settings = s }
 
-unfoldable pub storingAt : List ℕ → ℕ → ℕ → List ℕ → KeyStored
-storingAt s at most v =
-    cond (ltb most (length v)) (keyStored 3 s)
+unfoldable pub storingAt : List ℕ → ℕ → ℕ → ℕ → List ℕ → KeyStored
+storingAt s at least most v =
+    cond (ltb (length v) least || ltb most (length v)) (keyStored 3 s)
     (cond (eqb (Layout.settingEdition s at) Limits.last-edition) (keyStored 4 s)
     (keyStored 0 (withValue s at v)))
 
@@ -166,7 +166,7 @@ unfoldable pub storing : List ℕ → ℕ → List ℕ → KeyStored
 storing s key v =
     cond (ltb Limits.highest-key key) (keyStored 1 s)
     (cond (ltb key Limits.first-setting) (keyStored 2 s)
-    (storingAt s (Layout.setting-offset key) (Limits.longest-setting key) v))
+    (storingAt s (Layout.setting-offset key) (Limits.shortest-setting key) (Limits.longest-setting key) v))
 
 pub record KeySet : Type 0 where
   pub outbox : List ℕ

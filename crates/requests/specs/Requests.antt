@@ -12,7 +12,7 @@ use Rattle.line.specs.Message.{Message}
 use Rattle.line.specs.Frame.{frame}
 use Rattle.line.specs.Judge as Line
 use Rattle.line.specs.Judge.{judge}
-use Rattle.supervisor.specs.Limits.{highest-key, first-setting, longest-setting, last-edition, most-kept, longest-block}
+use Rattle.supervisor.specs.Limits.{highest-key, first-setting, longest-setting, shortest-setting, last-edition, most-kept, longest-block}
 use Rattle.supervisor.specs.State.{Item, Factory, Settings, setting, Recorded, Alert, Retained, State}
 use Rattle.supervisor.specs.State.{withStatus, withReboot, withPowerOff, withBootFailure, withPanic, withSetting, withSettings, withWaiting, withRetained, withReceived, withPending}
 use Rattle.supervisor.specs.Number.{topSet}
@@ -178,16 +178,19 @@ unfoldable pub inventoried : Option Item → List ℕ
 inventoried none = 1 ∷ replicate 33 0
 inventoried (some i) = itemData i
 
--- 0x10: an invalid key 1, a read-only one 2, too long 3, at the last edition 4, else 0 and stored, one edition on
+-- 0x10: an invalid key 1, a read-only one 2, a wrong length 3, at the last edition 4, else 0 and stored, one edition on
 pub record Stored : Type 0 where
   pub result : ℕ
   pub settings : Settings
+
+abbrev pub wrongValueLength : ℕ → ℕ → Bool
+wrongValueLength key n = ltb n (shortest-setting key) || ltb (longest-setting key) n
 
 unfoldable pub stored : Settings → ℕ → List ℕ → Stored
 stored s key v =
     cond (ltb highest-key key) (record { result = 1; settings = s })
     (cond (ltb key first-setting) (record { result = 2; settings = s })
-    (cond (ltb (longest-setting key) (length v)) (record { result = 3; settings = s })
+    (cond (wrongValueLength key (length v)) (record { result = 3; settings = s })
     (cond (eqb (setting s key .edition) last-edition) (record { result = 4; settings = s })
     (record { result = 0; settings = withSetting s key (record { edition = suc (setting s key .edition); value = some v }) }))))
 

@@ -1,30 +1,41 @@
 -- Restoring keeps the settings valid, their length, and that they are bytes.
 -- Assumes nothing.
 use mathlib.Core.Path.{_≡_, refl, ap, _∙_}
-use mathlib.Core.Logic.{inl, inr}
+use mathlib.Core.Logic.{inl, inr, ⊎-map}
 use mathlib.Core.Bool.{true}
 use mathlib.Core.List.{List, [], _∷_}
-use Prim.Native.Nat.{ℕ, zero, suc, _+_, _≤_}
+use Prim.Native.Nat.{ℕ, zero, suc, _+_, _-_, _≤_, _<_}
 use native.Mathlib.Nat.{add-zero}
 use native.Mathlib.Omega.{arith}
-use lib.ListN.{length, replicate}
+use lib.ListN.{length, replicate, getD}
 use Rattle.octets.specs.Bytes.{Byte, Each, bytes, number, numberAt, overlay}
 use Rattle.octets.proofs.Conditions.{cond-by}
 use Rattle.octets.proofs.Each.{each-append, each-run}
 use Rattle.octets.proofs.Numbers.{bytes-each}
 use Rattle.octets.proofs.Overlay.{length-run, length-overlay, overlay-part, overlay-each}
 use Rattle.octets.proofs.SameBytes.{Same, same-before, same-after, number-same}
-use Rattle.supervisor.specs.Limits.{first-setting, SettingsKey, longest-setting}
+use Rattle.supervisor.specs.Limits.{first-setting, SettingsKey, longest-setting, shortest-settings, shortest-setting}
 use Rattle.supervisor.specs.Layout.{setting-offset, setting-length-offset, setting-value-offset, settingBytes}
 use Rattle.supervisor.specs.Valid.{validSettings}
 use Rattle.supervisor.proofs.OffsetLaws.{place-within, longest-short, Lies, setting-lies}
 use Rattle.supervisor.proofs.ValidLaws.{SettingValid, SettingsValid, settings-valid, valid-settings}
-use Rattle.saving.specs.Saving.{saved-count, lengthAt, entryAt, Entry, Read, fault, good, read}
+use Rattle.saving.specs.Saving.{highest-saved, saved-count, lengthAt, entryAt, Entry, Read, fault, good, read}
 use Rattle.saving.specs.Calls.{Restore, cleared, put, putAll, restoringBy, restoring, entriesIn}
 use Rattle.saving.proofs.StepLaws.{Passed}
 use Rattle.saving.proofs.ReadLaws.{entries-each}
 use Rattle.saving.proofs.StoreLaws.{length-setting, whole-key}
 use Rattle.saving.proofs.PlaceLaws.{saved-key}
+
+-- the shortest value of a saved key is empty
+saved-shortest : (key : ℕ) → key ≤ highest-saved → shortest-setting key ≡ 0
+unfolding shortest-setting
+saved-shortest key h = by (key - first-setting) (omega arith)
+  where
+    by : (i : ℕ) → i < saved-count → getD shortest-settings i 0 ≡ 0
+    by zero l = refl
+    by (suc zero) l = refl
+    by (suc (suc zero)) l = refl
+    by (suc (suc (suc i))) l = absurd (omega arith)
 
 -- ---- bytes put over a setting
 
@@ -39,23 +50,25 @@ module _ (s xs : List ℕ) (key : ℕ) (w : SettingsValid s) (k : SettingsKey ke
   pub put-long : length (overlay here xs s) ≡ length s
   put-long = length-overlay here xs s put-room
 
-  other-kept : (at limit : ℕ) → Same at (at + setting-value-offset) s (overlay here xs s) → SettingValid s at limit → SettingValid (overlay here xs s) at limit
-  other-kept at limit same v =
+  other-kept : {at shortest longest : ℕ} → Same at (at + setting-value-offset) s (overlay here xs s) → SettingValid s at shortest longest
+      → SettingValid (overlay here xs s) at shortest longest
+  other-kept {at} same v =
       let held = number-same same 1 at (omega arith) in
       let size = number-same same 2 (at + setting-length-offset) (omega arith) in
-      omega arith
+      record { held = omega arith; size = omega arith; short = ⊎-map (λ l. omega arith) (λ n. omega arith) (v .short) }
 
-  module _ (held : numberAt 1 xs 0 ≤ 1) (size : numberAt 2 xs setting-length-offset ≤ longest-setting key) where
-    this-valid : SettingValid (overlay here xs s) here (longest-setting key)
+  module _ (saved : key ≤ highest-saved) (held : numberAt 1 xs 0 ≤ 1) (size : numberAt 2 xs setting-length-offset ≤ longest-setting key) where
+    this-valid : SettingValid (overlay here xs s) here (shortest-setting key) (longest-setting key)
     this-valid =
         let a = ap number (rw add-zero at (overlay-part here 0 1 xs s (omega (arith, put-room)) (omega arith))) in
         let b = ap number (overlay-part here setting-length-offset 2 xs s (omega (arith, put-room)) (omega arith)) in
-        omega (arith, a, b)
+        record { held = omega (arith, a); size = omega (arith, b); short = inl (omega (arith, saved-shortest key saved)) }
 
-    each-valid : (j : ℕ) → Lies j key → SettingValid s (setting-offset j) (longest-setting j) → SettingValid (overlay here xs s) (setting-offset j) (longest-setting j)
-    each-valid j (inl l) v = other-kept (setting-offset j) _ (same-before here xs s (omega (arith, put-room)) (omega arith)) v
+    each-valid : (j : ℕ) → Lies j key → SettingValid s (setting-offset j) (shortest-setting j) (longest-setting j)
+        → SettingValid (overlay here xs s) (setting-offset j) (shortest-setting j) (longest-setting j)
+    each-valid j (inl l) v = other-kept (same-before here xs s (omega (arith, put-room)) (omega arith)) v
     each-valid j (inr (inl e)) v = rw e this-valid
-    each-valid j (inr (inr l)) v = other-kept (setting-offset j) _ (same-after here xs s (omega (arith, put-room)) (omega arith)) v
+    each-valid j (inr (inr l)) v = other-kept (same-after here xs s (omega (arith, put-room)) (omega arith)) v
 
     pub put-valid : SettingsValid (overlay here xs s)
     put-valid = record { long = omega (arith, put-long, w .long); each = λ j i. each-valid j (setting-lies j key i k) (w .each j i) }
@@ -70,7 +83,7 @@ module _ (s : List ℕ) (w : SettingsValid s) where
       let v = cleared-valid n (omega arith) in
       let zeros : List ℕ = replicate setting-value-offset 0 in
       let k = saved-key n (omega arith) in (
-        put-valid (cleared n s) zeros (first-setting + n) (v .0) k (omega arith) (omega arith) (omega arith) (omega arith),
+        put-valid (cleared n s) zeros (first-setting + n) (v .0) k (omega arith) (omega arith) (omega arith) (omega arith) (omega arith),
         put-long (cleared n s) zeros (first-setting + n) (v .0) k (omega arith) (omega arith) ∙ v .1,
       )
 
@@ -86,12 +99,13 @@ cleared-bytes (suc n) s b =
 -- a record that may stand in its setting
 pub record Allowed (e : Entry) : Type 0 where
   pub its-key : SettingsKey (e .key)
+  pub saved : e .key ≤ highest-saved
   pub short : length (e .value) ≤ longest-setting (e .key)
 
 pub passed-allowed : (image : List ℕ) {before at key there : ℕ} → Passed image before at key there → Allowed (entryAt image at)
 passed-allowed image {at = at} p =
     let l = length-run (at + 9) (lengthAt image at) image (omega (arith, p .whole .complete)) in
-    record { its-key = whole-key image at (p .whole); short = omega (arith, l, p .whole .short) }
+    record { its-key = whole-key image at (p .whole); saved = p .whole .most; short = omega (arith, l, p .whole .short) }
 
 pub entries-allowed : (image : List ℕ) → Each Allowed (entriesIn (read image))
 entries-allowed image = entries-each image Allowed (λ before at key there p. passed-allowed image p)
@@ -104,7 +118,7 @@ module _ (e : Entry) (a : Allowed e) (s : List ℕ) (w : SettingsValid s) where
   unfolding number bytes
   entry-valid =
       let l = length-setting (e .edition) (e .value) in
-      put-valid s xs (e .key) w (a .its-key) (omega arith) (omega (arith, a .short)) (omega arith) (omega (arith, a .short, longest-short (e .key)))
+      put-valid s xs (e .key) w (a .its-key) (omega arith) (omega (arith, a .short)) (a .saved) (omega arith) (omega (arith, a .short, longest-short (e .key)))
 
   entry-long : length (put e s) ≡ length s
   entry-long =

@@ -60,7 +60,8 @@ module _ (f s : List ℕ) (most : ℕ) where
       cond-by Short (eqb key 0) _ _ (λ _. within-short most Layout.pong-offset 4 f (omega arith)) (λ a.
       cond-by Short (eqb key 1) _ _ (λ _. within-short most Layout.image-id-offset (Layout.imageIdLength f) f (omega arith)) (λ b.
       cond-by Short (eqb key 2) _ _ (λ _. within-short most Layout.item-count-offset 8 f (omega arith)) (λ c.
-      setting-short (Layout.setting-offset key) (omega (arith, w .each key (settings-key key a b c h), longest-short key)))))
+      cond-by Short (eqb key Limits.passphrase-key) _ _ (λ _. omega arith) (λ _.
+      setting-short (Layout.setting-offset key) (omega (arith, w .each key (settings-key key a b c h), longest-short key))))))
 
 pub value-short : (f s : List ℕ) (key most : ℕ) → validFactory f ≡ true → validSettings s ≡ true → length (lookupValue f s key most) ≤ Limits.longest-value
 unfolding lookupValue

@@ -1,7 +1,7 @@
 -- What each test of specs/Valid.antt says of the numbers that it reads, as a record, and back.
 -- Assumes nothing.
 use mathlib.Core.Path.{_≡_, refl, sym, _∙_}
-use mathlib.Core.Logic.{_⊎_, inl, inr, ⊎-map}
+use mathlib.Core.Logic.{_⊎_, inl, inr, ⊎-elim, ⊎-map}
 use mathlib.Core.Bool.{Bool, true, false, not, _&&_, _||_, false≢true, or-true, and-eq-true-iff}
 use mathlib.Core.List.{List}
 use Prim.Native.Nat.{ℕ, zero, suc, _+_, _-_, _≤_, _<_}
@@ -174,21 +174,32 @@ valid-factory f v =
 
 -- ---- the settings store
 
-pub record SettingValid (s : List ℕ) (at most : ℕ) : Type 0 where
+pub record SettingValid (s : List ℕ) (at least most : ℕ) : Type 0 where
   pub held : Layout.settingHeld s at ≤ 1
   pub size : Layout.settingLength s at ≤ most
+  pub short : (least ≤ Layout.settingLength s at) ⊎ ((Layout.settingLength s at ≡ 0) × (Layout.settingHeld s at ≡ 0))
 
-pub setting-valid : (s : List ℕ) (at most : ℕ) → Valid.validSetting s at most ≡ true → SettingValid s at most
+pub setting-valid : (s : List ℕ) (at least most : ℕ) → Valid.validSetting s at least most ≡ true → SettingValid s at least most
 unfolding Valid.validSetting
-setting-valid s at most e = let a = le-and _ _ _ e in record { held = a .0; size = leb-true _ _ (a .1) }
+setting-valid s at least most e =
+    let a = le-and _ _ _ e in
+    let b = le-and _ _ _ (a .1) in
+    record { held = a .0; size = b .0; short = ⊎-map (leb-true _ _) (λ t. let z = both _ _ t in (eqb-true _ _ (z .0), eqb-true _ _ (z .1))) (either _ _ (b .1)) }
 
-pub valid-setting : (s : List ℕ) (at most : ℕ) → SettingValid s at most → Valid.validSetting s at most ≡ true
+pub valid-setting : (s : List ℕ) (at least most : ℕ) → SettingValid s at least most → Valid.validSetting s at least most ≡ true
 unfolding Valid.validSetting
-valid-setting s at most v = and-le _ _ _ (v .held) (le-leb _ _ (v .size))
+valid-setting s at least most v =
+    and-le _ _ _ (v .held)
+    (and-le _ _ _ (v .size) (or _ _ (⊎-map (le-leb _ _) (λ z. and _ _ (eq-eqb _ _ (z .0)) (eq-eqb _ _ (z .1))) (v .short))))
+
+-- where the length is below the shortest no value is held
+pub none-held : (s : List ℕ) (at least most : ℕ) → Valid.validSetting s at least most ≡ true → Layout.settingLength s at < least
+    → (Layout.settingLength s at ≡ 0) × (Layout.settingHeld s at ≡ 0)
+none-held s at least most e h = ⊎-elim (λ l. absurd (omega arith)) (λ z. z) (setting-valid s at least most e .short)
 
 pub record SettingsValid (s : List ℕ) : Type 0 where
   pub long : Layout.settings-length ≤ length s
-  pub each : (key : ℕ) → Limits.SettingsKey key → SettingValid s (Layout.setting-offset key) (Limits.longest-setting key)
+  pub each : (key : ℕ) → Limits.SettingsKey key → SettingValid s (Layout.setting-offset key) (Limits.shortest-setting key) (Limits.longest-setting key)
 
 pub settings-valid : (s : List ℕ) → Valid.validSettings s ≡ true → SettingsValid s
 unfolding Valid.validSettings
@@ -198,14 +209,14 @@ settings-valid s e =
       long = a .0;
       each = λ key h.
           let f : Limits.first-setting + (key - Limits.first-setting) ≡ key = omega (arith, h) in
-          setting-valid _ _ _ (rw f at (all-each _ _ (a .1) (key - Limits.first-setting) (omega (arith, h))));
+          setting-valid _ _ _ _ (rw f at (all-each _ _ (a .1) (key - Limits.first-setting) (omega (arith, h))));
     }
 
 pub valid-settings : (s : List ℕ) → SettingsValid s → Valid.validSettings s ≡ true
 unfolding Valid.validSettings
 valid-settings s v =
     and-le _ _ _ (v .long)
-    (each-all _ _ (λ i l. valid-setting _ _ _ (v .each (Limits.first-setting + i) (record { least = omega arith; most = omega arith }))))
+    (each-all _ _ (λ i l. valid-setting _ _ _ _ (v .each (Limits.first-setting + i) (record { least = omega arith; most = omega arith }))))
 
 -- ---- the registers
 

@@ -183,13 +183,14 @@ settingOptions r options =
 unfoldable pub settingAt : List ℕ → ℕ → Location
 settingAt s at = cond (eqb (Layout.settingHeld s at) 1) (location.Settings (at + Layout.setting-value-offset) (Layout.settingLength s at)) location.Nowhere
 
--- of a key from 0 to 5
+-- of a key from 0 to 6; the passphrase is not handed out
 unfoldable pub locationOf : List ℕ → List ℕ → ℕ → Location
 locationOf f s key =
     cond (eqb key 0) (location.Factory Layout.pong-offset 4)
     (cond (eqb key 1) (location.Factory Layout.image-id-offset (Layout.imageIdLength f))
     (cond (eqb key 2) (location.Factory Layout.item-count-offset 8)
-    (settingAt s (Layout.setting-offset key))))
+    (cond (eqb key Limits.passphrase-key) location.SetOnly
+    (settingAt s (Layout.setting-offset key)))))
 
 -- the result of a lookup and how many bytes were found, or the table's number
 pub data LookupReport : Type 0 where
@@ -202,6 +203,7 @@ lookupReport (found.Value n) = result 0 n
 lookupReport found.BadKey = result 1 0
 lookupReport found.NoValue = result 2 0
 lookupReport found.TooLong = result 3 0
+lookupReport found.SetOnly = result 4 0
 
 -- the number of a lookup's result
 abbrev pub resultNumber : LookupReport → ℕ
@@ -215,6 +217,7 @@ unfoldable pub resultAt : ℕ → Location → LookupReport
 resultAt most (location.Factory at n) = sized most n
 resultAt most (location.Settings at n) = sized most n
 resultAt most location.Nowhere = result 2 0
+resultAt most location.SetOnly = result 4 0
 
 unfoldable pub lookupResult : List ℕ → List ℕ → ℕ → ℕ → LookupReport
 lookupResult f s key most =
@@ -232,6 +235,7 @@ editionReport edition-found.Refused = EditionReport.refused 12
 editionReport (edition-found.Edition n) = EditionReport.result 0 n
 editionReport edition-found.BadKey = EditionReport.result 1 0
 editionReport edition-found.NoValue = EditionReport.result 2 0
+editionReport edition-found.SetOnly = EditionReport.result 4 0
 
 -- the edition, 0 where none is handed out
 abbrev pub editionNumber : EditionReport → ℕ
@@ -243,6 +247,7 @@ unfoldable pub editionAt : List ℕ → ℕ → Location → EditionReport
 editionAt s key (location.Factory at n) = EditionReport.result 0 0
 editionAt s key (location.Settings at n) = EditionReport.result 0 (Layout.settingEdition s (Layout.setting-offset key))
 editionAt s key location.Nowhere = EditionReport.result 2 0
+editionAt s key location.SetOnly = EditionReport.result 4 0
 
 unfoldable pub editionResult : List ℕ → List ℕ → ℕ → EditionReport
 editionResult f s key =
@@ -257,6 +262,7 @@ unfoldable pub valueAt : List ℕ → List ℕ → ℕ → Location → List ℕ
 valueAt f s most (location.Factory at n) = within most n (run at n f)
 valueAt f s most (location.Settings at n) = within most n (run at n s)
 valueAt f s most location.Nowhere = []
+valueAt f s most location.SetOnly = []
 
 -- a result other than 0 and a refusal hand out an empty part
 unfoldable pub lookupValue : List ℕ → List ℕ → ℕ → ℕ → List ℕ

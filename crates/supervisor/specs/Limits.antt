@@ -17,7 +17,7 @@ abbrev pub longest-image-id : ℕ
 longest-image-id = 64
 
 abbrev pub highest-key : ℕ
-highest-key = 5
+highest-key = 6
 
 -- the keys of the settings store
 abbrev pub first-setting : ℕ
@@ -30,12 +30,23 @@ pub record SettingsKey (key : ℕ) : Type 0 where
   pub least : first-setting ≤ key
   pub most : key ≤ highest-key
 
--- the longest value of each from the first on: 3, 4, and 5, the withdrawn-key list
+-- the longest value of each from the first on: 3, 4, 5, the withdrawn-key list, and 6, the wireless passphrase (document 02, item 14)
 abbrev pub longest-settings : List ℕ
-longest-settings = 256 ∷ 4096 ∷ 4096 ∷ []
+longest-settings = 256 ∷ 4096 ∷ 4096 ∷ 63 ∷ []
 
 unfoldable pub longest-setting : ℕ → ℕ
 longest-setting key = getD longest-settings (key - first-setting) 0
+
+-- and the shortest
+abbrev pub shortest-settings : List ℕ
+shortest-settings = 0 ∷ 0 ∷ 0 ∷ 8 ∷ []
+
+unfoldable pub shortest-setting : ℕ → ℕ
+shortest-setting key = getD shortest-settings (key - first-setting) 0
+
+-- the key that is set and never read back
+abbrev pub passphrase-key : ℕ
+passphrase-key = 6
 
 -- no value is longer
 abbrev pub longest-value : ℕ

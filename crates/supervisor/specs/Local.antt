@@ -7,7 +7,7 @@ use Prim.Native.Nat.{ℕ, zero, suc, _+_, _/_, _%_, _^_}
 use lib.Dec.{leb, ltb, eqb}
 use lib.ListN.{length, take, drop, getD}
 use Rattle.octets.specs.Bytes.{bytes}
-use Rattle.supervisor.specs.Limits.{most-items, longest-item-data, longest-image-id, highest-key, most-alerts, longest-alert, highest-option}
+use Rattle.supervisor.specs.Limits.{most-items, longest-item-data, longest-image-id, highest-key, passphrase-key, most-alerts, longest-alert, highest-option}
 use Rattle.supervisor.specs.State.{Item, Factory, Setting, State, setting, withStatus, withOptions, withWaiting, withPending, withTerminatorOwed, fresh}
 
 -- ---- Start data: refused as 11
@@ -86,11 +86,14 @@ unfoldable pub fitted : ℕ → ℕ → Option (List ℕ) → Found
 fitted most edition none = without 2
 fitted most edition (some v) = cond (ltb most (length v)) (without 3) (record { result = 0; edition = edition; value = v })
 
--- an invalid key 1
+-- an invalid key 1, the passphrase 4, whether or not a value is held (document 02, item 14)
 unfoldable pub lookup : State → ℕ → ℕ → Found
-lookup s key most = cond (ltb highest-key key) (without 1) (let x = entryOf s key in fitted most (x .edition) (x .value))
+lookup s key most =
+    cond (ltb highest-key key) (without 1)
+    (cond (eqb key passphrase-key) (without 4)
+    (let x = entryOf s key in fitted most (x .edition) (x .value)))
 
--- the edition of a key, with a lookup's results: an invalid key 1, no value 2
+-- the edition of a key, with a lookup's results: an invalid key 1, the passphrase 4, no value 2
 pub record Edition : Type 0 where
   pub result : ℕ
   pub edition : ℕ
@@ -103,7 +106,10 @@ editionOf x = by (x .value)
     by (some v) = record { result = 0; edition = x .edition }
 
 unfoldable pub edition : State → ℕ → Edition
-edition s key = cond (ltb highest-key key) (record { result = 1; edition = 0 }) (editionOf (entryOf s key))
+edition s key =
+    cond (ltb highest-key key) (record { result = 1; edition = 0 })
+    (cond (eqb key passphrase-key) (record { result = 4; edition = 0 })
+    (editionOf (entryOf s key)))
 
 -- ---- Alerts, options and sending: the state afterwards
 

@@ -56,12 +56,16 @@ validFactory f =
     && (eqb (numberAt 4 f Layout.inventory-version-offset) 0
     && equal (run Layout.pong-offset 4 f) pong))
 
-unfoldable pub validSetting : List ℕ → ℕ → ℕ → Bool
-validSetting s at most = leb (Layout.settingHeld s at) 1 && leb (Layout.settingLength s at) most
+-- a length below the shortest is 0, and no value is held
+unfoldable pub validSetting : List ℕ → ℕ → ℕ → ℕ → Bool
+validSetting s at least most =
+    leb (Layout.settingHeld s at) 1
+    && (leb (Layout.settingLength s at) most
+    && (leb least (Layout.settingLength s at) || (eqb (Layout.settingLength s at) 0 && eqb (Layout.settingHeld s at) 0)))
 
 -- of a key
 abbrev pub validValue : List ℕ → ℕ → Bool
-validValue s key = validSetting s (Layout.setting-offset key) (Limits.longest-setting key)
+validValue s key = validSetting s (Layout.setting-offset key) (Limits.shortest-setting key) (Limits.longest-setting key)
 
 -- of the first n settings keys
 abbrev pub validValues : List ℕ → ℕ → Bool

@@ -15,6 +15,7 @@ pub enum Found {
     BadKey,
     NoValue,
     TooLong,
+    SetOnly,
 }
 
 pub enum EditionFound {
@@ -22,13 +23,15 @@ pub enum EditionFound {
     Edition(u32),
     BadKey,
     NoValue,
+    SetOnly,
 }
 
-// Where a key's value lies: from which byte, and how many.
+// Where a key's value lies: from which byte, and how many; the value of a key that is only set is not handed out.
 pub(crate) enum Location {
     Factory(usize, usize),
     Settings(usize, usize),
     Nowhere,
+    SetOnly,
 }
 
 // The value of a key, if it has at most `most` bytes; an empty part where `lookup_result` is not 0.
@@ -46,6 +49,7 @@ pub fn lookup<'a>(factory: &'a [u8], settings: &'a [u8], key: u8, most: u16) -> 
         Location::Factory(at, n) => part(factory, at, n, most),
         Location::Settings(at, n) => part(settings, at, n, most),
         Location::Nowhere => &factory[0..0],
+        Location::SetOnly => &factory[0..0],
     }
 }
 
@@ -64,6 +68,7 @@ pub fn lookup_result(factory: &[u8], settings: &[u8], key: u8, most: u16) -> Fou
         Location::Factory(_, n) => size(n, most),
         Location::Settings(_, n) => size(n, most),
         Location::Nowhere => Found::NoValue,
+        Location::SetOnly => Found::SetOnly,
     }
 }
 
@@ -83,6 +88,7 @@ pub fn edition(factory: &[u8], settings: &[u8], key: u8) -> EditionFound
         Location::Factory(_, _) => EditionFound::Edition(0),
         Location::Settings(_, _) => EditionFound::Edition(octets::read_u32(settings, at)),
         Location::Nowhere => EditionFound::NoValue,
+        Location::SetOnly => EditionFound::SetOnly,
     }
 }
 
@@ -96,6 +102,7 @@ pub fn edition_number(factory: &[u8], settings: &[u8], key: u8) -> u32
         EditionFound::Edition(n) => n,
         EditionFound::BadKey => 0,
         EditionFound::NoValue => 0,
+        EditionFound::SetOnly => 0,
     }
 }
 
@@ -120,10 +127,11 @@ pub fn result_number(factory: &[u8], settings: &[u8], key: u8, most: u16) -> u8
         Found::BadKey => 1,
         Found::NoValue => 2,
         Found::TooLong => 3,
+        Found::SetOnly => 4,
     }
 }
 
-// Where the value of a key from 0 to 5 lies.
+// Where the value of a key from 0 to 6 lies.
 fn find(factory: &[u8], settings: &[u8], key: u8) -> Location
     ensures { λ r. ⌜ r ≡ locationOf (now (factory .entry)) (now (settings .entry)) key ⌝ }
 {
@@ -138,6 +146,9 @@ fn find(factory: &[u8], settings: &[u8], key: u8) -> Location
     }
     if key == 2 {
         return Location::Factory(layout::ITEM_COUNT_OFFSET, 8);
+    }
+    if key == layout::PASSPHRASE_KEY {
+        return Location::SetOnly;
     }
     setting(settings, layout::setting_offset(key))
 }

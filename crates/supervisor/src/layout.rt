@@ -2,7 +2,7 @@
 // Numbers are little-endian. Assumes nothing.
 ghost use mathlib.Core.Path.{_≡_};
 ghost use Prim.Native.Nat.{_≤_};
-ghost use Rattle.supervisor.specs.Limits.{longest-setting, longest-value};
+ghost use Rattle.supervisor.specs.Limits.{longest-setting, shortest-setting, longest-value};
 ghost use Rattle.supervisor.specs.Layout.{setting-offset, settings-length};
 
 // Limits of document 01, as document 02 has moved them.
@@ -12,7 +12,7 @@ pub const LONGEST_ITEM_DATA: usize = 64;
 
 pub const LONGEST_IMAGE_ID: usize = 64;
 
-pub const HIGHEST_KEY: u8 = 5;
+pub const HIGHEST_KEY: u8 = 6;
 
 // The settings keys run from this one to the highest.
 pub const FIRST_SETTING: u8 = 3;
@@ -25,6 +25,13 @@ pub const LONGEST_KEY_4: usize = 4096;
 
 // The withdrawn-key list.
 pub const LONGEST_KEY_5: usize = 4096;
+
+// The wireless passphrase, which is set and never read back.
+pub const PASSPHRASE_KEY: u8 = 6;
+
+pub const SHORTEST_KEY_6: usize = 8;
+
+pub const LONGEST_KEY_6: usize = 63;
 
 // The last edition of a setting.
 pub const LAST_EDITION: u32 = 4294967295;
@@ -100,7 +107,9 @@ pub const KEY_4_OFFSET: usize = SETTING_VALUE_OFFSET + LONGEST_KEY_3;
 
 pub const KEY_5_OFFSET: usize = KEY_4_OFFSET + SETTING_VALUE_OFFSET + LONGEST_KEY_4;
 
-pub const SETTINGS_LENGTH: usize = KEY_5_OFFSET + SETTING_VALUE_OFFSET + LONGEST_KEY_5;
+pub const KEY_6_OFFSET: usize = KEY_5_OFFSET + SETTING_VALUE_OFFSET + LONGEST_KEY_5;
+
+pub const SETTINGS_LENGTH: usize = KEY_6_OFFSET + SETTING_VALUE_OFFSET + LONGEST_KEY_6;
 
 // The longest value of a settings key.
 pub fn longest_setting(key: u8) -> usize
@@ -114,6 +123,19 @@ pub fn longest_setting(key: u8) -> usize
     }
     if key == 5 {
         return LONGEST_KEY_5;
+    }
+    if key == PASSPHRASE_KEY {
+        return LONGEST_KEY_6;
+    }
+    0
+}
+
+// The shortest value of a settings key.
+pub fn shortest_setting(key: u8) -> usize
+    ensures { λ r. ⌜ r ≡ shortest-setting key ⌝ }
+{
+    if key == PASSPHRASE_KEY {
+        return SHORTEST_KEY_6;
     }
     0
 }
@@ -130,6 +152,9 @@ pub fn setting_offset(key: u8) -> usize
     }
     if key == 5 {
         return KEY_5_OFFSET;
+    }
+    if key == PASSPHRASE_KEY {
+        return KEY_6_OFFSET;
     }
     SETTINGS_LENGTH
 }

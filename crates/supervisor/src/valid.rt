@@ -88,14 +88,26 @@ pub fn factory_is_valid(factory: &[u8]) -> bool
     octets::same(factory, layout::PONG_OFFSET, b"pong", 0, 4)
 }
 
-fn setting_is_valid(settings: &[u8], at: usize, most: usize) -> bool
+// A length below the shortest is 0, and no value is held.
+fn setting_is_valid(settings: &[u8], at: usize, least: usize, most: usize) -> bool
     requires { ⌜ at < 65536 ⌝ }
-    ensures { λ r. ⌜ r ≡ validSetting (now (settings .entry)) at most ⌝ }
+    ensures { λ r. ⌜ r ≡ validSetting (now (settings .entry)) at least most ⌝ }
 {
-    if 1 < octets::byte_at(settings, at) {
+    let held = octets::byte_at(settings, at);
+    if 1 < held {
         return false;
     }
-    octets::word_at(settings, at + layout::SETTING_LENGTH_OFFSET) <= most
+    let n = octets::word_at(settings, at + layout::SETTING_LENGTH_OFFSET);
+    if most < n {
+        return false;
+    }
+    if least <= n {
+        return true;
+    }
+    if n != 0 {
+        return false;
+    }
+    held == 0
 }
 
 pub fn settings_are_valid(settings: &[u8]) -> bool
@@ -114,7 +126,8 @@ fn values_are_valid(settings: &[u8]) -> bool
     while i < layout::SETTING_COUNT {
         let key = layout::FIRST_SETTING + i;
         let at = layout::setting_offset(key);
-        if !setting_is_valid(settings, at, layout::longest_setting(key)) {
+        let least = layout::shortest_setting(key);
+        if !setting_is_valid(settings, at, least, layout::longest_setting(key)) {
             return false;
         }
         i += 1;

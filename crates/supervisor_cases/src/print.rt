@@ -104,6 +104,7 @@ pub(crate) fn found(a: Found, value: &[u8]) {
         Found::BadKey => result(1),
         Found::NoValue => result(2),
         Found::TooLong => result(3),
+        Found::SetOnly => result(4),
     }
     bytes(value);
 }
@@ -118,6 +119,7 @@ pub(crate) fn edition(a: EditionFound) {
         }
         EditionFound::BadKey => result(1),
         EditionFound::NoValue => result(2),
+        EditionFound::SetOnly => result(4),
     }
 }
 

@@ -23,8 +23,10 @@ pub use Rattle.supervisor_claims.specs.claims.History.{history, one-call
 pub use Rattle.supervisor_claims.specs.claims.Cuts.{receives, AllAnswer, AllDone, AllRefused, pieces-whole, cut-any}
 -- after any calls, the frames carried out or answered since the last accepted start are those of the joined bytes: each once, in order
 pub use Rattle.supervisor_claims.specs.claims.FramesClaim.{each-once}
--- a settings key holds its last successful set and, as edition, their number, and a lookup answers that: key 5 is the withdrawn-key list
+-- a settings key holds its last successful set and, as edition, their number on top of a restored one, and a lookup answers that: key 5 is the withdrawn-key list
 pub use Rattle.supervisor_claims.specs.claims.WithdrawnKeys.{reached, value-last-set, last-set, lookup-last-set, withdrawn-list-answered, list-edition-answered}
+-- a lookup of key 6, the passphrase, answers 4, whether or not a value is held
+pub use Rattle.supervisor_claims.specs.claims.WithdrawnKeys.{passphrase-unread, passphrase-unread-locally}
 pub use Rattle.supervisor_claims.specs.claims.LastSetLaws.{set-successful, successful-exactly}
 -- what is saved in a state that is reached restores, on any sound parts; an accepted image is the saved form of what it leaves (document 02, item 11)
 pub use Rattle.supervisor_claims.specs.claims.SavedClaim.{key-savable, save-writes, saved-restores, accepted-exact}

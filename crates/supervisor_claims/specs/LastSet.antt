@@ -4,7 +4,7 @@ use mathlib.Core.Bool.{cond}
 use mathlib.Core.List.{List, [], _∷_, _++_}
 use mathlib.Core.Option.{Option, none, some}
 use Prim.Native.Nat.{ℕ, _+_, _-_}
-use lib.Dec.{leb, ltb, eqb}
+use lib.Dec.{leb, eqb}
 use lib.ListN.{length, take}
 use Rattle.octets.specs.Bytes.{bytes}
 use Rattle.line.specs.Message.{Message}
@@ -12,11 +12,11 @@ use Rattle.line.specs.Frame.{frame}
 use Rattle.line_claims.specs.Pieces.{split, nonEmpty}
 use Rattle.supervisor.specs.Number.{topSet}
 use Rattle.supervisor.specs.Local.{fitted}
-use Rattle.supervisor.specs.Limits.{longest-setting, last-edition}
+use Rattle.supervisor.specs.Limits.{last-edition}
 use Rattle.supervisor.specs.State.{Setting, unset, Settings}
 use Rattle.saving.specs.Saving
 use Rattle.saving.specs.Saving.{Entry}
-use Rattle.requests.specs.Requests.{Verdict, failure, good, verdict, editionBytes}
+use Rattle.requests.specs.Requests.{Verdict, failure, good, verdict, wrongValueLength, editionBytes}
 use Rattle.supervisor_claims.specs.Histories
 use Rattle.supervisor_claims.specs.Histories.{LocalCall, Call, Made, enough}
 use Rattle.supervisor_claims.specs.FrameHistory.{reads, starts, joined, framesBy}
@@ -39,10 +39,10 @@ requestsOf w = requestsIn (nonEmpty (split w .closed))
 
 -- ---- Sets
 
--- the value that a key set's data have for key k: the first byte is the key, the rest the value; none where it is too long
+-- the value that a key set's data have for key k: the first byte is the key, the rest the value; none where its length is wrong
 unfoldable pub valueFor : ℕ → List ℕ → Option (List ℕ)
 valueFor k [] = none
-valueFor k (key ∷ v) = cond (eqb key k) (cond (ltb (longest-setting k) (length v)) none (some v)) none
+valueFor k (key ∷ v) = cond (eqb key k) (cond (wrongValueLength k (length v)) none (some v)) none
 
 -- the value that a request has for key k, where it is a set of it
 unfoldable pub setBy : ℕ → Message → Option (List ℕ)
@@ -95,7 +95,8 @@ abbrev pub settingsBy : Option (List Entry) → Settings → Settings
 settingsBy none z = z
 settingsBy (some es) z = Saving.restored es z
 
--- Where a settings key's value and edition come from: what it had after the last accepted restore, else after the last accepted start, and the valid requests since
+-- Where a settings key's value and edition come from: what it had after the last accepted start or, of a saved key,
+-- after the last accepted restore behind it, and the valid requests since
 pub record Origin : Type 0 where
   pub setting : Setting
   pub requests : List Message

@@ -13,3 +13,4 @@ pub mod Replies
 pub mod WithdrawnKeys
 pub mod SavedClaim
 pub mod LastSetLaws
+pub mod TwoRunLaws

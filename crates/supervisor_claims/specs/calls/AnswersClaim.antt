@@ -161,10 +161,13 @@ unfolding Local.fitted
 fitted-small most edition none = omega arith
 fitted-small most edition (some v) = cond-by (λ (x : Local.Found). x .result ≤ 3) (ltb most (length v)) _ _ (λ e. omega arith) (λ e. omega arith)
 
-found-small : (s : State) (key most : ℕ) → Local.lookup s key most .result ≤ 3
+found-small : (s : State) (key most : ℕ) → Local.lookup s key most .result ≤ 4
 unfolding Local.lookup
 found-small s key most =
-    cond-by (λ (x : Local.Found). x .result ≤ 3) (ltb Limits.highest-key key) _ _ (λ e. omega arith) (λ e. let x = Local.entryOf s key in fitted-small most (x .edition) (x .value))
+    let P : Local.Found → Type 0 = λ x. x .result ≤ 4 in
+    cond-by P (ltb Limits.highest-key key) _ _ (λ e. omega arith) (λ e.
+    cond-by P (eqb key Limits.passphrase-key) _ _ (λ e. omega arith) (λ e.
+    let x = Local.entryOf s key in omega (arith, fitted-small most (x .edition) (x .value))))
 
 -- the bytes at a location q
 abbrev BytesAt : {Q : Type 0} → (Q → List ℕ) → Q → Type 0
@@ -188,7 +191,8 @@ module _ (f s : List ℕ) (fb : Each Byte f) (sb : Each Byte s) (most : ℕ) whe
       cond-by P (eqb key 0) _ _ (λ e. part-each Layout.pong-offset 4 f fb) (λ e.
       cond-by P (eqb key 1) _ _ (λ e. part-each Layout.image-id-offset (Layout.imageIdLength f) f fb) (λ e.
       cond-by P (eqb key 2) _ _ (λ e. part-each Layout.item-count-offset 8 f fb) (λ e.
-      setting-each (Layout.setting-offset key))))
+      cond-by P (eqb key Limits.passphrase-key) _ _ (λ e. tt) (λ e.
+      setting-each (Layout.setting-offset key)))))
 
   value-each : (key : ℕ) → Each Byte (Calls.lookupValue f s key most)
   unfolding Calls.lookupValue
@@ -200,7 +204,7 @@ module _ (f s : List ℕ) (fb : Each Byte f) (sb : Each Byte s) (most : ℕ) whe
 
 module _ (p : Calls.Parts) (v : Valid p) (fb : Each Byte (p .factory)) (sb : Each Byte (p .settings)) where
   -- what stands ahead of the value
-  head-meant : (version : ℕ) (f : Local.Found) (edition : ℕ) → f .result ≤ 3 → (f .result ≡ 0 → edition ≡ f .edition)
+  head-meant : (version : ℕ) (f : Local.Found) (edition : ℕ) → f .result ≤ 4 → (f .result ≡ 0 → edition ≡ f .edition)
       → valueHead version (f .result) edition ++ f .value ≡ f .result ∷ (Requests.editionBytes version f ++ f .value)
   unfolding valueHead
   head-meant version f edition small e =

@@ -8,7 +8,7 @@ use Prim.Native.Nat.{ℕ, _+_, _≤_}
 use native.Mathlib.Omega.{arith}
 use lib.Dec.{ltb, eqb}
 use lib.ListN.{length}
-use borrow.Author.Tests.{ltb-false}
+use borrow.Author.Tests.{ltb-false, eqb-true}
 use Rattle.octets.specs.Bytes.{Byte, Each, bytes, run}
 use Rattle.octets.proofs.Conditions.{cond-by, cond-both}
 use Rattle.octets.proofs.Overlay.{length-run, number-run, run-add}
@@ -61,7 +61,8 @@ abbrev Looked : {Q : Type 0} → (Q → Calls.LookupReport) → (Q → List ℕ)
 Looked report bs most q x = Answers (report q) (bs q) (Local.fitted most (x .edition) (x .value))
 
 module _ (p : Calls.Parts) (v : Valid p) where
-  setting-answers : (most at longest : ℕ) → at + Layout.setting-value-offset + longest ≤ Layout.settings-length → SettingValid (p .settings) at longest
+  setting-answers : (most at longest : ℕ) {shortest : ℕ} → at + Layout.setting-value-offset + longest ≤ Layout.settings-length
+      → SettingValid (p .settings) at shortest longest
       → Looked (Calls.resultAt most) (Calls.valueAt (p .factory) (p .settings) most) most (Calls.settingAt (p .settings) at) (settingOf (p .settings) at)
   unfolding Calls.resultAt Calls.valueAt Calls.settingAt settingOf Local.fitted
   setting-answers most at longest h k =
@@ -74,10 +75,10 @@ module _ (p : Calls.Parts) (v : Valid p) where
       (λ e. part-answers most edition n (run (at + Layout.setting-value-offset) n s) _ refl size) (λ e. (refl, refl))
 
   -- of a key from 0 to 5
-  key-answers : Each Byte (p .factory) → (key most : ℕ) → key ≤ Limits.highest-key → let q = Calls.locationOf (p .factory) (p .settings) key in
+  key-answers : Each Byte (p .factory) → (key most : ℕ) → key ≤ Limits.highest-key → eqb key Limits.passphrase-key ≡ false → let q = Calls.locationOf (p .factory) (p .settings) key in
       Looked (Calls.resultAt most) (Calls.valueAt (p .factory) (p .settings) most) most q (Local.entryOf (view p) key)
   unfolding Calls.locationOf Calls.resultAt Calls.valueAt Local.entryOf view factoryOf
-  key-answers b key most h =
+  key-answers b key most h o =
       let f = p .factory in
       let u = factory-valid f (v .factory) in
       let w = settings-valid (p .settings) (v .settings) in
@@ -87,20 +88,32 @@ module _ (p : Calls.Parts) (v : Valid p) where
       cond-both P (eqb key 1) (λ e. part-answers most 0 _ (run Layout.image-id-offset (Layout.imageIdLength f) f) _ refl image) (λ j.
       cond-both P (eqb key 2) (λ e. part-answers most 0 8 _ _ (inventory-run f u b) (length-run Layout.item-count-offset 8 f (omega arith))) (λ k.
       let s = settings-key key i j k h in
-      rw (setting-is (p .settings) key s)
+      rw (o, setting-is (p .settings) key s)
       (setting-answers most (Layout.setting-offset key) (Limits.longest-setting key) (omega (arith, place-within key s)) (w .each key s)))))
+
+  -- the passphrase is not handed out
+  location-answers : Each Byte (p .factory) → (key most : ℕ) → key ≤ Limits.highest-key → let q = Calls.locationOf (p .factory) (p .settings) key in
+      let x = Local.entryOf (view p) key in
+      Answers (Calls.resultAt most q) (Calls.valueAt (p .factory) (p .settings) most q)
+      (cond (eqb key Limits.passphrase-key) (Local.without 4) (Local.fitted most (x .edition) (x .value)))
+  unfolding Calls.locationOf Calls.resultAt Calls.valueAt
+  location-answers b key most h =
+      cond-by (Answers _ _) (eqb key Limits.passphrase-key) _ _ (λ e. rw (eqb-true key Limits.passphrase-key e) (refl, refl)) (λ e. key-answers b key most h e)
 
   -- the factory store holds bytes
   pub lookup-meant : Each Byte (p .factory) → (key most : ℕ) → let f = Local.lookup (view p) key most in
       (Calls.lookupResult (p .factory) (p .settings) key most ≡ Calls.LookupReport.result (f .result) (length (f .value)))
       × (Calls.lookupValue (p .factory) (p .settings) key most ≡ f .value)
   unfolding Calls.lookupResult Calls.lookupValue Local.lookup
-  lookup-meant b key most = rw (v .factory, v .settings) (choose (ltb Limits.highest-key key) _ (λ e. key-answers b key most (ltb-false Limits.highest-key key e)))
+  lookup-meant b key most = rw (v .factory, v .settings) (choose (ltb Limits.highest-key key) _ (λ e. location-answers b key most (ltb-false Limits.highest-key key e)))
 
   -- ---- the edition of a key
 
+  abbrev EditionsAs : Calls.EditionReport → Local.Edition → Type 0
+  EditionsAs r e = r ≡ Calls.EditionReport.result (e .result) (e .edition)
+
   abbrev Editions : {Q : Type 0} → (Q → Calls.EditionReport) → Q → Setting → Type 0
-  Editions report q x = let e = Local.editionOf x in report q ≡ Calls.EditionReport.result (e .result) (e .edition)
+  Editions report q x = EditionsAs (report q) (Local.editionOf x)
 
   setting-edition : (key : ℕ) → let at = Layout.setting-offset key in
       Editions (Calls.editionAt (p .settings) key) (Calls.settingAt (p .settings) at) (settingOf (p .settings) at)
@@ -110,23 +123,30 @@ module _ (p : Calls.Parts) (v : Valid p) where
       let at = Layout.setting-offset key in
       cond-both (λ q o. Editions (Calls.editionAt s key) q (record { edition = Layout.settingEdition s at; value = o })) (eqb (Layout.settingHeld s at) 1) (λ e. refl) (λ e. refl)
 
-  key-edition : (key : ℕ) → key ≤ Limits.highest-key
+  key-edition : (key : ℕ) → key ≤ Limits.highest-key → eqb key Limits.passphrase-key ≡ false
       → Editions (Calls.editionAt (p .settings) key) (Calls.locationOf (p .factory) (p .settings) key) (Local.entryOf (view p) key)
   unfolding Calls.locationOf Calls.editionAt Local.entryOf view
-  key-edition key h =
+  key-edition key h o =
       let P = Editions (Calls.editionAt (p .settings) key) in
       cond-both P (eqb key 0) (λ e. refl) (λ i.
       cond-both P (eqb key 1) (λ e. refl) (λ j.
       cond-both P (eqb key 2) (λ e. refl) (λ k.
-      rw (setting-is (p .settings) key (settings-key key i j k h)) (setting-edition key))))
+      rw (o, setting-is (p .settings) key (settings-key key i j k h)) (setting-edition key))))
+
+  location-edition : (key : ℕ) → key ≤ Limits.highest-key
+      → EditionsAs (Calls.editionAt (p .settings) key (Calls.locationOf (p .factory) (p .settings) key))
+      (cond (eqb key Limits.passphrase-key) (record { result = 4; edition = 0 }) (Local.editionOf (Local.entryOf (view p) key)))
+  unfolding Calls.locationOf Calls.editionAt
+  location-edition key h =
+      cond-by (EditionsAs _) (eqb key Limits.passphrase-key) _ _ (λ e. rw (eqb-true key Limits.passphrase-key e)) (λ e. key-edition key h e)
 
   pub edition-meant : (key : ℕ) → let e = Local.edition (view p) key in
       Calls.editionResult (p .factory) (p .settings) key ≡ Calls.EditionReport.result (e .result) (e .edition)
   unfolding Calls.editionResult Local.edition
   edition-meant key =
       rw (v .factory, v .settings)
-      (cond-both (λ (r : Calls.EditionReport) (e : Local.Edition). r ≡ Calls.EditionReport.result (e .result) (e .edition)) (ltb Limits.highest-key key)
-      (λ e. refl) (λ e. key-edition key (ltb-false Limits.highest-key key e)))
+      (cond-both EditionsAs (ltb Limits.highest-key key)
+      (λ e. refl) (λ e. location-edition key (ltb-false Limits.highest-key key e)))
 
 -- a lookup that succeeds hands out that edition
 fitted-edition : (most : ℕ) (x : Setting) → let f = Local.fitted most (x .edition) (x .value) in f .result ≡ 0 → Local.editionOf x .edition ≡ f .edition
@@ -141,5 +161,6 @@ fitted-edition most x = by (x .value)
 pub lookup-edition : (s : State) (key most : ℕ) → Local.lookup s key most .result ≡ 0 → Local.edition s key .edition ≡ Local.lookup s key most .edition
 unfolding Local.lookup Local.edition
 lookup-edition s key most =
-    cond-both (λ (f : Local.Found) (e : Local.Edition). f .result ≡ 0 → e .edition ≡ f .edition) (ltb Limits.highest-key key)
-    (λ h e. refl) (λ h. fitted-edition most (Local.entryOf s key))
+    let P : Local.Found → Local.Edition → Type 0 = λ f e. f .result ≡ 0 → e .edition ≡ f .edition in
+    cond-both P (ltb Limits.highest-key key) (λ h e. refl) (λ h.
+    cond-both P (eqb key Limits.passphrase-key) (λ i e. refl) (λ i. fitted-edition most (Local.entryOf s key)))

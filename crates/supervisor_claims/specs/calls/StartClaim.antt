@@ -1,6 +1,7 @@
 -- Start on any parts of sufficient length: what is refused, and the fresh state that is left.
 -- Assumes nothing.
 use mathlib.Core.Path.{_≡_, refl, ap, _∙_}
+use mathlib.Core.Logic.{inr}
 use mathlib.Core.Bool.{true, false, not}
 use mathlib.Core.List.{List, [], _++_, append-assoc, append-nil}
 use mathlib.Core.Option.{none, some}
@@ -53,14 +54,14 @@ module _ (s : List ℕ) (z : Clear 0 Layout.settings-length s) where
   settings-clear : Layout.settings-length ≤ length s → SettingsValid s
   settings-clear h = record {
     long = h;
-    each = λ key i. setting-clear (Layout.setting-offset key) (Limits.longest-setting key) (omega (arith, place-within key i));
+    each = λ key i. setting-clear (Layout.setting-offset key) _ _ (omega (arith, place-within key i));
   }
     where
-      setting-clear : (at most : ℕ) → at + Layout.setting-value-offset ≤ Layout.settings-length → SettingValid s at most
-      setting-clear at most h = record {
-        held = omega (arith, z 1 at (omega arith) (omega arith));
-        size = omega (arith, z 2 (at + Layout.setting-length-offset) (omega arith) (omega arith));
-      }
+      setting-clear : (at least most : ℕ) → at + Layout.setting-value-offset ≤ Layout.settings-length → SettingValid s at least most
+      setting-clear at least most h =
+          let held = z 1 at (omega arith) (omega arith) in
+          let size = z 2 (at + Layout.setting-length-offset) (omega arith) (omega arith) in
+          record { held = omega arith; size = omega arith; short = inr (size, held) }
 
 module _ (r : List ℕ) (status : Layout.statusOf r ≡ 1) (z : Clear 8 Layout.registers-length r) where
   registers-clear : Layout.registers-length ≤ length r → RegistersValid r

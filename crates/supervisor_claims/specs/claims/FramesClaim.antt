@@ -93,7 +93,7 @@ made-carried w s h m = by (enough (m .call) (m .lent)) refl
 
 -- ---- lists of calls
 
-frames-follow : (ms : List Made) (w : List ℕ) (s : State) → Since (split w .rest) s
+pub frames-follow : (ms : List Made) (w : List ℕ) (s : State) → Since (split w .rest) s
     → (toldByFrames w s ms ≡ toldMeant s ms)
     × (leftByFrames w s ms ≡ leftMeant s ms)
     × Since (split (joinedAll w ms) .rest) (leftMeant s ms)

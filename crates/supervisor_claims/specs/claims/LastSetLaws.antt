@@ -1,11 +1,11 @@
--- A settings key holds the value of its last successful set among the requests that were carried out, and as edition their number.
+-- A settings key holds the value of its last successful set among the requests that were carried out, and as edition their number on top of the one before.
 -- Assumes nothing.
 use mathlib.Core.Path.{_≡_, refl, sym, ap, _∙_}
 use mathlib.Core.Bool.{Bool, true, false, cond, not, _&&_, false≢true}
 use mathlib.Core.List.{List, [], _∷_, _++_, append-assoc, append-nil}
 use mathlib.Core.Option.{Option, none, some}
 use Prim.Native.Nat.{ℕ, zero, suc, _+_, _-_, _^_, _≤_, _<_}
-use native.Mathlib.Nat.{add-zero, zero-add}
+use native.Mathlib.Nat.{add-zero}
 use native.Mathlib.Omega.{arith}
 use lib.Dec.{leb, ltb, eqb, eqb·suc-suc, eqb·zero-suc}
 use lib.ListN.{length, take, drop, length-set, length-replicate, getD-replicate}
@@ -28,7 +28,7 @@ use Rattle.saving.proofs.ReadLaws.{entries-each}
 use Rattle.supervisor_claims.specs.View.{factoryOf}
 use Rattle.requests.specs.Commands.{Command, numberOf, withNumber, commandOf}
 use Rattle.requests.specs.Requests
-use Rattle.requests.specs.Requests.{Carried, verdict, effect, carriedBy, carried, stored, judged, sent}
+use Rattle.requests.specs.Requests.{Carried, verdict, effect, carriedBy, carried, wrongValueLength, stored, judged, sent}
 use Rattle.requests.proofs.CommandLaws.{number-is}
 use Rattle.supervisor_claims.specs.claims.InOrder.{judged-is}
 use Rattle.supervisor_claims.specs.Histories
@@ -95,7 +95,7 @@ after-sets k x (m ∷ ms) h = after-sets k (onto x (setBy k m)) ms (onto-low x (
         (λ f. let l = eqb-true (x .edition) Limits.last-edition f in at-last k x ms l ∙ sym (at-last k x (m ∷ ms) l))
         (λ f. sym (set-some k x m ms v e (omega (arith, eqb-false (x .edition) Limits.last-edition f))))
 
-request-append : (v : Verdict) (ms ns : List Message) → request v (ms ++ ns) ≡ request v ms ++ ns
+pub request-append : (v : Verdict) (ms ns : List Message) → request v (ms ++ ns) ≡ request v ms ++ ns
 request-append (failure reason version sequence) ms ns = refl
 request-append (good m) ms ns = refl
 
@@ -165,12 +165,12 @@ unfolding entryOf
 entry-held s {k} h = rw (ne-eqb k 0 (λ e. omega (arith, h, e)), ne-eqb k 1 (λ e. omega (arith, h, e)), ne-eqb k 2 (λ e. omega (arith, h, e)))
 
 module _ (z : Settings) (v : List ℕ) {k : ℕ} (h : SettingsKey k) (x : Setting) (g : Has z k x) where
-  -- a set is successful, its reply's result being 0, exactly where its value is not too long and the edition is not the last
-  pub set-successful : eqb (stored z k v .result) 0 ≡ (not (ltb (Limits.longest-setting k) (length v)) && not (eqb (x .edition) Limits.last-edition))
+  -- a set is successful, its reply's result being 0, exactly where its value's length is right and the edition is not the last
+  pub set-successful : eqb (stored z k v .result) 0 ≡ (not (wrongValueLength k (length v)) && not (eqb (x .edition) Limits.last-edition))
   unfolding stored
   set-successful =
       rw (le-ltb Limits.highest-key k (h .most), le-ltb k Limits.first-setting (h .least), g .held)
-      (by (ltb (Limits.longest-setting k) (length v)) (eqb (x .edition) Limits.last-edition) z _)
+      (by (wrongValueLength k (length v)) (eqb (x .edition) Limits.last-edition) z _)
     where
       by : (t u : Bool) (a b : Settings)
           → eqb ((cond {A = Requests.Stored} t (record { result = 3; settings = a }) (cond u (record { result = 4; settings = a }) (record { result = 0; settings = b }))) .result) 0
@@ -180,12 +180,12 @@ module _ (z : Settings) (v : List ℕ) {k : ℕ} (h : SettingsKey k) (x : Settin
       by false false a b = refl
 
   -- under the key itself
-  same-key : Has (stored z k v .settings) k (onto x (cond (ltb (Limits.longest-setting k) (length v)) none (some v)))
+  same-key : Has (stored z k v .settings) k (onto x (cond (wrongValueLength k (length v)) none (some v)))
   unfolding stored
   same-key =
       let i = k - Limits.first-setting in
       rw (le-ltb Limits.highest-key k (h .most), le-ltb k Limits.first-setting (h .least), g .held)
-      (cond-both (λ (y : Requests.Stored) o. Has (y .settings) k (onto x o)) (ltb (Limits.longest-setting k) (length v)) (λ e. g) (λ e.
+      (cond-both (λ (y : Requests.Stored) o. Has (y .settings) k (onto x o)) (wrongValueLength k (length v)) (λ e. g) (λ e.
       cond-both (λ (y : Requests.Stored) u. Has (y .settings) k u) (eqb (x .edition) Limits.last-edition) (λ f. g) (λ f.
       record {
         long = length-set z i (record { edition = suc (x .edition); value = some v }) ∙ g .long;
@@ -200,7 +200,7 @@ module _ (z : Settings) (v : List ℕ) {k : ℕ} (h : SettingsKey k) (x : Settin
       let u : Setting = record { edition = suc (setting z key .edition); value = some v } in
       cond-by P (ltb Limits.highest-key key) _ _ (λ f. g) (λ f.
       cond-by P (ltb key Limits.first-setting) _ _ (λ i. g) (λ i.
-      cond-by P (ltb (Limits.longest-setting key) (length v)) _ _ (λ j. g) (λ j.
+      cond-by P (wrongValueLength key (length v)) _ _ (λ j. g) (λ j.
       cond-by P (eqb (setting z key .edition) Limits.last-edition) _ _ (λ l. g) (λ l.
       record {
         long = length-set z (key - Limits.first-setting) u ∙ g .long;
@@ -227,7 +227,7 @@ data-has z (key ∷ v) h x g = rw add-zero (stored-has z v h x g key)
 
 -- ---- which sets are successful
 
-sets-append : (k : ℕ) (ms ns : List Message) → setsOf k (ms ++ ns) ≡ setsOf k ms ++ setsOf k ns
+pub sets-append : (k : ℕ) (ms ns : List Message) → setsOf k (ms ++ ns) ≡ setsOf k ms ++ setsOf k ns
 unfolding setsOf
 sets-append k [] ns = refl
 sets-append k (m ∷ ms) ns = rw (sets-append k ms ns, append-assoc)
@@ -248,22 +248,31 @@ counted-one n vs v false = by (eqb (length (take n vs)) n) refl
     by false e = rw e (take-one n vs v false e)
 
 counted-by : (n : ℕ) (vs : List (List ℕ)) (v : List ℕ) (t : Bool) {all : List (List ℕ)} {r : Bool} → all ≡ vs ++ listedIf (cond t none (some v))
-    → r ≡ (not t && not (eqb (0 + length (take n vs)) n)) → take n all ≡ take n vs ++ cond r (v ∷ []) []
-counted-by n vs v t e f = rw (e, f, zero-add) (counted-one n vs v t)
+    → r ≡ (not t && not (eqb (length (take n vs)) n)) → take n all ≡ take n vs ++ cond r (v ∷ []) []
+counted-by n vs v t e f = rw (e, f) (counted-one n vs v t)
+
+-- n sets on top of an edition come to the last one
+last-more : (edition n : ℕ) → edition ≤ Limits.last-edition → eqb (edition + n) Limits.last-edition ≡ eqb n (Limits.last-edition - edition)
+last-more edition n h = by (eqb n (Limits.last-edition - edition)) refl
+  where
+    by : (t : Bool) → eqb n (Limits.last-edition - edition) ≡ t → eqb (edition + n) Limits.last-edition ≡ t
+    by true g = let e = eqb-true n (Limits.last-edition - edition) g in eq-eqb (edition + n) Limits.last-edition (omega arith)
+    by false g = ne-eqb (edition + n) Limits.last-edition (λ e. eqb-false n (Limits.last-edition - edition) g (omega arith))
 
 set-listed : (k : ℕ) (m : Message) (v : List ℕ) → m .command ≡ 0x10 → m .payload ≡ k ∷ v
-    → setsOf k (m ∷ []) ≡ listedIf (cond (ltb (Limits.longest-setting k) (length v)) none (some v))
+    → setsOf k (m ∷ []) ≡ listedIf (cond (wrongValueLength k (length v)) none (some v))
 unfolding setsOf setBy valueFor
 set-listed k m v c d = rw (c, d, eq-eqb k k refl, append-nil)
 
--- A key set behind requests counts among the successful sets of its key exactly where its reply's result is 0.
-pub successful-exactly : {k : ℕ} → SettingsKey k → (ms : List Message) (z : Settings) → Has z k (setAfter k unset ms) → (m : Message) (v : List ℕ)
-    → m .command ≡ 0x10 → m .payload ≡ k ∷ v
-    → successful 0 k (ms ++ (m ∷ [])) ≡ successful 0 k ms ++ cond (eqb (stored z k v .result) 0) (v ∷ []) []
+-- A key set behind requests counts among the successful sets of its key exactly where its reply's result is 0, whatever the key had ahead of them.
+pub successful-exactly : {k : ℕ} → SettingsKey k → (x : Setting) → x .edition ≤ Limits.last-edition → (ms : List Message) (z : Settings) → Has z k (setAfter k x ms)
+    → (m : Message) (v : List ℕ) → m .command ≡ 0x10 → m .payload ≡ k ∷ v
+    → successful (x .edition) k (ms ++ (m ∷ [])) ≡ successful (x .edition) k ms ++ cond (eqb (stored z k v .result) 0) (v ∷ []) []
 unfolding setAfter successful
-successful-exactly {k} h ms z g m v c d =
-    counted-by Limits.last-edition (setsOf k ms) v (ltb (Limits.longest-setting k) (length v)) (sets-append k ms (m ∷ []) ∙ ap (λ (l : List (List ℕ)). setsOf k ms ++ l) (set-listed k m v c d))
-    (set-successful z v h (setAfter k unset ms) g)
+successful-exactly {k} h x low ms z g m v c d =
+    let n = Limits.last-edition - x .edition in
+    counted-by n (setsOf k ms) v (wrongValueLength k (length v)) (sets-append k ms (m ∷ []) ∙ ap (λ (l : List (List ℕ)). setsOf k ms ++ l) (set-listed k m v c d))
+    (rw (last-more (x .edition) (length (take n (setsOf k ms))) low) at (set-successful z v h (setAfter k x ms) g))
 
 -- ---- requests and frames
 
@@ -276,7 +285,7 @@ module _ (image : List ℕ) {k : ℕ} (h : SettingsKey k) where
       by true e = rw (e, set-stored image s m e) (data-has (s .settings) (m .payload) h x g)
       by false e = rw (e, other-kept image s m e .settings) g
 
-  judged-has : (s : State) (v : Verdict) (x : Setting) → Has (s .settings) k x → Has (judged image s v .settings) k (afterSets k x (request v []))
+  pub judged-has : (s : State) (v : Verdict) (x : Setting) → Has (s .settings) k x → Has (judged image s v .settings) k (afterSets k x (request v []))
   unfolding judged sent afterSets
   judged-has s (failure reason version sequence) x g = g
   judged-has s (good m) x g = request-has s m x g
@@ -303,18 +312,18 @@ frames-owed image ((b ∷ bs) ∷ fs) s =
     let v = verdict (b ∷ bs) in
     frames-owed image fs (judged image s v) ∙ ap (λ (x : State). x .terminator-owed) (judged-is image s v)
 
--- key k has what its sets come to since the last accepted restore, or else start
+-- key k has what its sets come to since the last accepted start or a later restore
 abbrev pub Holds : ℕ → Origin → State → Type 0
 Holds k x s = Has (s .settings) k (afterSets k (x .setting) (x .requests))
 
 -- the settings after a restore
 module _ (es : List Entry) where
-  replaced-long : (n : ℕ) (z : Settings) → length (Saving.replaced n es z) ≡ length z
+  pub replaced-long : (n : ℕ) (z : Settings) → length (Saving.replaced n es z) ≡ length z
   unfolding Saving.replaced
   replaced-long zero z = refl
   replaced-long (suc n) z = length-set (Saving.replaced n es z) (Limits.first-setting + n - Limits.first-setting) (Saving.settingIn (Limits.first-setting + n) es) ∙ replaced-long n z
 
-  replaced-other : (n : ℕ) (z : Settings) {k : ℕ} → SettingsKey k → Limits.first-setting + n ≤ k → setting (Saving.replaced n es z) k ≡ setting z k
+  pub replaced-other : (n : ℕ) (z : Settings) {k : ℕ} → SettingsKey k → Limits.first-setting + n ≤ k → setting (Saving.replaced n es z) k ≡ setting z k
   unfolding Saving.replaced
   replaced-other zero z h l = refl
   replaced-other (suc n) z {k} h l =

@@ -131,7 +131,8 @@ module _ (X : ℕ → Type 0) (most : ℕ) where
       cond-by P (eqb key 0) _ _ (λ e. sized-held 4) (λ e.
       cond-by P (eqb key 1) _ _ (λ e. sized-held (Layout.imageIdLength f)) (λ e.
       cond-by P (eqb key 2) _ _ (λ e. sized-held 8) (λ e.
-      setting-held s (Layout.setting-offset key))))
+      cond-by P (eqb key Limits.passphrase-key) _ _ (λ e. tt) (λ e.
+      setting-held s (Layout.setting-offset key)))))
 
 -- nor is its edition
 module _ (X : ℕ → Type 0) where
@@ -145,7 +146,8 @@ module _ (X : ℕ → Type 0) where
       cond-by P (eqb key 0) _ _ (λ e. tt) (λ e.
       cond-by P (eqb key 1) _ _ (λ e. tt) (λ e.
       cond-by P (eqb key 2) _ _ (λ e. tt) (λ e.
-      cond-by P (eqb (Layout.settingHeld s (Layout.setting-offset key)) 1) _ _ (λ e. tt) (λ e. tt))))
+      cond-by P (eqb key Limits.passphrase-key) _ _ (λ e. tt) (λ e.
+      cond-by P (eqb (Layout.settingHeld s (Layout.setting-offset key)) 1) _ _ (λ e. tt) (λ e. tt)))))
 
 -- a refusal, where there is one: its number is not 12, and nothing has changed
 abbrev Other : Parts → Call → Did → Type 0

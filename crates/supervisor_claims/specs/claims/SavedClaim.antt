@@ -1,7 +1,7 @@
 -- Saving and restoring over any calls: what was saved restores, and an accepted image is the saved form of what it leaves (document 02, item 11).
 -- Assumes nothing.
 use mathlib.Core.Path.{_≡_, refl, sym, ap, subst, _∙_}
-use mathlib.Core.Bool.{Bool, true, false, cond}
+use mathlib.Core.Bool.{Bool, true, false, cond, _||_, false≢true}
 use mathlib.Core.List.{List, [], _∷_, _++_}
 use mathlib.Core.Option.{Option, none, some}
 use Prim.Native.Nat.{ℕ, suc, _+_, _-_, _^_, _≤_, _<_}
@@ -17,8 +17,9 @@ use Rattle.line.specs.Message.{Message}
 use Rattle.supervisor.specs.Limits
 use Rattle.supervisor.specs.Limits.{SettingsKey}
 use Rattle.supervisor.specs.Layout
-use Rattle.supervisor.specs.State.{Setting, unset, Settings, setting, State}
+use Rattle.supervisor.specs.State.{Setting, unset, Settings, setting, State, withSettings}
 use Rattle.supervisor.specs.Calls.{Parts}
+use Rattle.requests.specs.Requests.{wrongValueLength}
 use Rattle.saving.specs.Saving
 use Rattle.saving.specs.Saving.{Entry, saved-count, read, saved}
 use Rattle.saving.proofs.KeptLaws.{Allowed, entries-allowed}
@@ -47,7 +48,7 @@ value-short : (k : ℕ) (bs v : List ℕ) → valueFor k bs ≡ some v → lengt
 unfolding valueFor
 value-short k [] v e = let z : _≡_ {A = ℕ} 0 1 = cc in absurd (omega arith)
 value-short k (key ∷ w) v e =
-    cond-by P (eqb key k) _ _ (λ _. cond-by P (ltb (Limits.longest-setting k) (length w)) _ _ (λ _ g. absurd (unlike g)) (λ f g. rw (same g) (ltb-false _ _ f))) (λ _ g. absurd (unlike g)) e
+    cond-by P (eqb key k) _ _ (λ _. cond-by P (wrongValueLength k (length w)) _ _ (λ _ g. absurd (unlike g)) (λ f g. rw (same g) (ltb-false _ _ (second (ltb (length w) (Limits.shortest-setting k)) _ f)))) (λ _ g. absurd (unlike g)) e
   where
     P : Option (List ℕ) → Type 0
     P o = o ≡ some v → length v ≤ Limits.longest-setting k
@@ -57,6 +58,10 @@ value-short k (key ∷ w) v e =
 
     same : some w ≡ some v → v ≡ w
     same g = cc
+
+    second : (a b : Bool) → (a || b) ≡ false → b ≡ false
+    second true b g = absurd (false≢true (sym g))
+    second false b g = g
 
 set-short : (k : ℕ) (m : Message) (v : List ℕ) → setBy k m ≡ some v → length v ≤ Limits.longest-setting k
 unfolding setBy
@@ -137,7 +142,7 @@ module _ (p : Parts) (b : Bytes p) (l : Lent) (d : List ℕ) (typed : Typed (His
   unfolding view
   image-holds = image-bytes (reached p l d ms .settings) (history p b l d typed accepted ms t .2 .bytes .settings)
 
-  -- a save with room for the image writes it, and bytes past it stay; with less room it is refused as 8
+  -- a save with room for the image writes it, and bytes past it stay
   pub save-writes : (j : Lent) (room : List ℕ) → Each Byte room → enough (Histories.local (Histories.save room)) j ≡ true → length imageThen ≤ length room
       → let r = made (reached p l d ms) (record { lent = j; call = Histories.local (Histories.save room) }) in
       (r .answer ≡ written (length imageThen)) × (r .out ≡ overlay 0 imageThen room)
@@ -148,15 +153,15 @@ module _ (p : Parts) (b : Bytes p) (l : Lent) (d : List ℕ) (typed : Typed (His
       rw (meets .answer, meets .out, le-ltb (length room) (length imageThen) h) (refl, refl)
 
   -- What was saved restores: on any sound parts q, of this supervisor at any time or of another, a restore of that image is done; then the saved settings are
-  -- those of the time of saving, values, presence and editions, and every other is as it was.
+  -- those of the time of saving, values, presence and editions, and all else of the state is as it was.
   pub saved-restores : (q : Parts) → Sound q → (j : Lent) → enough (Histories.local (Histories.restore imageThen)) j ≡ true
       → let r = made q (record { lent = j; call = Histories.local (Histories.restore imageThen) }) in
-      (r .answer ≡ done) × (view (r .parts) .settings ≡ take saved-count settingsThen ++ drop saved-count (view q .settings))
+      (r .answer ≡ done) × (view (r .parts) ≡ withSettings (view q) (take saved-count settingsThen ++ drop saved-count (view q .settings)))
   unfolding meantMade meant Saving.restore
   saved-restores q sound j e =
       let meets = rw e at (one-call q (record { lent = j; call = Histories.local (Histories.restore imageThen) }) sound image-holds) in
       let m = rw image-read at meets in
-      (m .answer, ap (λ (x : State). x .settings) (m .leaves .0) ∙ saved-restores-into settingsThen (omega (arith, settings-long)) all-savable (view q .settings) (long-enough q))
+      (m .answer, m .leaves .0 ∙ ap (withSettings (view q)) (saved-restores-into settingsThen (omega (arith, settings-long)) all-savable (view q .settings) (long-enough q)))
 
 -- An accepted image is the saved form of what it leaves, byte for byte, on any sound parts.
 pub accepted-exact : (q : Parts) → Sound q → (j : Lent) (image : List ℕ) → Each Byte image

@@ -1,13 +1,13 @@
--- A lookup of the withdrawn-key list, or of another settings key, answers the value of the last successful set of it since the start.
+-- What a lookup of the withdrawn-key list, or of another settings key that is read back, answers: the value of its last successful set, or what a later restore left; of the passphrase 4.
 -- Assumes nothing.
 use mathlib.Core.Path.{_≡_, refl, ap, _∙_}
-use mathlib.Core.Bool.{true}
+use mathlib.Core.Bool.{true, and-false}
 use mathlib.Core.List.{List, [], _∷_, _++_}
 use mathlib.Core.Option.{Option, some}
 use Prim.Native.Nat.{ℕ, _+_, _<_, _≤_}
 use native.Mathlib.Omega.{arith}
 use lib.ListN.{length, length-append}
-use borrow.Author.Tests.{le-ltb}
+use borrow.Author.Tests.{le-ltb, ne-eqb}
 use Rattle.octets.specs.Bytes.{number, bytes, numberAt}
 use Rattle.octets.proofs.Numbers.{number-bytes}
 use Rattle.line.specs.Message.{Message}
@@ -26,7 +26,7 @@ use Rattle.requests.specs.Requests.{good, second-version, verdict, effect, carr
 use Rattle.supervisor_claims.specs.View.{factoryOf, view}
 use Rattle.supervisor_claims.specs.Sound.{Bytes}
 use Rattle.supervisor_claims.specs.Histories
-use Rattle.supervisor_claims.specs.Histories.{Typed, done, found, Lent, Made, enough, meant, meantMade, made, left, leftMeant, AllTyped}
+use Rattle.supervisor_claims.specs.Histories.{Typed, done, found, foundEdition, Lent, Made, enough, meant, meantMade, made, left, leftMeant, AllTyped}
 use Rattle.supervisor_claims.specs.claims.InOrder.{request-carried}
 use Rattle.supervisor_claims.specs.laws.Progress.{Since}
 use Rattle.supervisor_claims.specs.FrameHistory.{framesBy, joinedAll, framed, allFramed}
@@ -46,16 +46,21 @@ lookup-data k most h i = (number-bytes 1 k (omega arith), number-bytes 2 most (o
 abbrev pub fittedOf : ℕ → Setting → Local.Found
 fittedOf most x = Local.fitted most (x .edition) (x .value)
 
-found-value : (s : State) (most : ℕ) {k : ℕ} → SettingsKey k → Local.lookup s k most ≡ fittedOf most (Local.entryOf s k)
+-- a settings key that is read back
+pub record ReadBack (k : ℕ) : Type 0 where
+  pub key : SettingsKey k
+  pub other : k ≡ Limits.passphrase-key → ⊥
+
+found-value : (s : State) (most : ℕ) {k : ℕ} → ReadBack k → Local.lookup s k most ≡ fittedOf most (Local.entryOf s k)
 unfolding Local.lookup
-found-value s most {k} h = rw (le-ltb Limits.highest-key k (h .most))
+found-value s most {k} h = rw (le-ltb Limits.highest-key k (h .key .most), ne-eqb k Limits.passphrase-key (h .other))
 
 -- the reply's frame
-reply-found : (image : List ℕ) (s : State) (version n most : ℕ) {k : ℕ} → SettingsKey k → most < 65536
+reply-found : (image : List ℕ) (s : State) (version n most : ℕ) {k : ℕ} → ReadBack k → most < 65536
     → replyFrame (replyOf n (carried image s (lookupOf version n k most) .reply)) ≡ lookupReply version n most (Local.entryOf s k)
 unfolding carried commandOf withNumber numberOf effect replyOf replyFrame lookupReply
 reply-found image s version n most {k} h i =
-    let m = h .most in
+    let m = h .key .most in
     let e = lookup-data k most (omega arith) i in
     rw (e .0, e .1, found-value s most h)
 
@@ -69,15 +74,32 @@ pub framed-pending : (image : List ℕ) (s : State) (f : List ℕ) (m : Message)
 framed-pending image s [] m e = absurd (empty-none m e)
 framed-pending image s (b ∷ bs) m e = ap (λ (x : State). x .pending) (request-carried image s b bs m e)
 
--- the 00 of a lookup behind the bytes w and bs, where key k has what x says
-stream-answers : {k : ℕ} (h : SettingsKey k) (w : List ℕ) (x : Origin) (s : State) → Since (split w .rest) s → Holds k x s → x .setting .edition ≤ Limits.last-edition
+-- a lookup of the passphrase
+abbrev pub passphraseReply : ℕ → ℕ → List ℕ
+passphraseReply version n = frame (record { version = version; sequence = topSet n; command = 0x0a; payload = 4 ∷ [] })
+
+reply-refused : (image : List ℕ) (s : State) (version n most : ℕ) → most < 65536
+    → replyFrame (replyOf n (carried image s (lookupOf version n Limits.passphrase-key most) .reply)) ≡ passphraseReply version n
+unfolding carried commandOf withNumber numberOf effect replyOf replyFrame Local.lookup
+reply-refused image s version n most i = rw (lookup-data Limits.passphrase-key most (omega arith) i .0, and-false)
+
+-- the 00 of a request behind the bytes w and bs
+stream-replies : (w : List ℕ) (s : State) → Since (split w .rest) s → (image bs : List ℕ) (m : Message) → verdict (split (w ++ bs) .rest) ≡ good m
+    → let a = allFramed image s (framesBy w bs) in
+    stream image s (bs ++ (0 ∷ [])) .pending ≡ owed (s .terminator-owed) ++ replyFrame (replyOf (m .sequence) (carried image a m .reply))
+stream-replies w s since image bs m e =
+    ap (λ (x : State). x .pending) (stream-closes w s since image bs)
+    ∙ framed-pending image (allFramed image s (framesBy w bs)) (split (w ++ bs) .rest) m e
+    ∙ rw (frames-owed image (framesBy w bs) s)
+
+-- of a lookup, where key k has what x says
+stream-answers : {k : ℕ} (h : ReadBack k) (w : List ℕ) (x : Origin) (s : State) → Since (split w .rest) s → Holds k x s → x .setting .edition ≤ Limits.last-edition
     → (image bs : List ℕ) (version n most : ℕ) → most < 65536 → verdict (split (w ++ bs) .rest) ≡ good (lookupOf version n k most)
     → stream image s (bs ++ (0 ∷ [])) .pending ≡ owed (s .terminator-owed) ++ lookupReply version n most (setSince k (sinceMore x (requestsIn (framesBy w bs))))
 stream-answers h w x s since holds low image bs version n most i e =
     let a = allFramed image s (framesBy w bs) in
-    ap (λ (x : State). x .pending) (stream-closes w s since image bs)
-    ∙ framed-pending image a (split (w ++ bs) .rest) (lookupOf version n _ most) e
-    ∙ rw (reply-found image a version n most h i, entry-held a h, frames-hold h w x s holds image bs .held, after-sets _ (x .setting) (x .requests ++ requestsIn (framesBy w bs)) low, frames-owed image (framesBy w bs) s)
+    stream-replies w s since image bs (lookupOf version n _ most) e
+    ∙ rw (reply-found image a version n most h i, entry-held a (h .key), frames-hold (h .key) w x s holds image bs .held, after-sets _ (x .setting) (x .requests ++ requestsIn (framesBy w bs)) low)
 
 -- the reply in version 2 that hands out an edition and a value
 unfoldable pub editionReply : ℕ → ℕ → List ℕ → List ℕ
@@ -120,29 +142,63 @@ module _ (p : Parts) (b : Bytes p) (l : Lent) (d : List ℕ) (typed : Typed (His
   origin-low : (k : ℕ) → origin k .setting .edition ≤ Limits.last-edition
   origin-low k = since-low k ms t
 
-  -- A settings key has what the last accepted restore, else the last accepted start, left, and the successful sets since then: the edition counts them on, and
-  -- the value is that of the last of them
+  -- A settings key has what the last accepted start or, of a saved key, a later restore left, and the successful sets since then: the edition counts them on,
+  -- and the value is that of the last of them
   pub value-last-set : {k : ℕ} → SettingsKey k → Local.entryOf (view (reached p l d ms)) k ≡ setSince k (origin k)
   value-last-set {k} h =
       rw (history p b l d typed accepted ms t .1)
       (entry-held state h ∙ state-holds h .held ∙ after-sets k (origin k .setting) (origin k .requests) (origin-low k))
 
+  -- what the 00 of a request behind the bytes bs does
+  replied-made : (j : Lent) (image bs : List ℕ) → let call = Histories.receive image (bs ++ (0 ∷ [])) in Typed call → enough call j ≡ true → (reply : List ℕ)
+      → stream image state (bs ++ (0 ∷ [])) .pending ≡ owed (state .terminator-owed) ++ reply
+      → let q = reached p l d ms in let r = made q (record { lent = j; call = call }) in
+      (r .answer ≡ done) × (view (r .parts) .pending ≡ owed (view q .terminator-owed) ++ reply)
+  unfolding meantMade meant
+  replied-made j image bs c e reply x =
+      let hist = history p b l d typed accepted ms t in
+      let call = Histories.receive image (bs ++ (0 ∷ [])) in
+      let meets = rw e at (one-call (reached p l d ms) (record { lent = j; call = call }) (hist .2) c) in
+      (meets .answer, ap (λ (y : State). y .pending) (meets .leaves .0) ∙ rw (hist .1) x)
+
   -- A lookup over the wire: the bytes bs and a 00 are received, and the frame that this 00 closes is the lookup. The requests before it are those of all bytes
   -- received before that 00. Then its reply is pending, behind a 00 where one is owed. Cutting the stream elsewhere changes nothing (`cut-any`), and a step is
   -- a receive up to the first 00 (`step-receives`), so that a receive whose piece ends with that 00 stands for any.
-  pub last-set : {k : ℕ} → SettingsKey k → (version n most : ℕ) → most < 65536 → (j : Lent) (image bs : List ℕ)
+  pub last-set : {k : ℕ} → ReadBack k → (version n most : ℕ) → most < 65536 → (j : Lent) (image bs : List ℕ)
       → let call = Histories.receive image (bs ++ (0 ∷ [])) in Typed call → enough call j ≡ true
       → let w = joinedAll [] ms in verdict (split (w ++ bs) .rest) ≡ good (lookupOf version n k most)
       → let q = reached p l d ms in let r = made q (record { lent = j; call = call }) in
       (r .answer ≡ done)
       × (view (r .parts) .pending ≡ owed (view q .terminator-owed) ++ lookupReply version n most (setSince k (sinceMore (origin k) (requestsIn (framesBy w bs)))))
-  unfolding meantMade meant
   last-set {k} h version n most i j image bs c e v =
-      let hist = history p b l d typed accepted ms t in
-      let call = Histories.receive image (bs ++ (0 ∷ [])) in
-      let meets = rw e at (one-call (reached p l d ms) (record { lent = j; call = call }) (hist .2) c) in
-      let x = stream-answers h (joinedAll [] ms) (origin k) state (by-frames (factoryOf d) ms .2) (state-holds h) (origin-low k) image bs version n most i v in
-      (meets .answer, ap (λ (y : State). y .pending) (meets .leaves .0) ∙ rw (hist .1) x)
+      replied-made j image bs c e _
+      (stream-answers h (joinedAll [] ms) (origin k) state (by-frames (factoryOf d) ms .2) (state-holds (h .key)) (origin-low k) image bs version n most i v)
+
+  -- a lookup of the passphrase over the wire: result 4 and nothing else, whatever was set before, for any maxresponse and in both versions
+  pub passphrase-unread : (version n most : ℕ) → most < 65536 → (j : Lent) (image bs : List ℕ)
+      → let call = Histories.receive image (bs ++ (0 ∷ [])) in Typed call → enough call j ≡ true
+      → verdict (split (joinedAll [] ms ++ bs) .rest) ≡ good (lookupOf version n Limits.passphrase-key most)
+      → let q = reached p l d ms in let r = made q (record { lent = j; call = call }) in
+      (r .answer ≡ done) × (view (r .parts) .pending ≡ owed (view q .terminator-owed) ++ passphraseReply version n)
+  passphrase-unread version n most i j image bs c e v =
+      let w = joinedAll [] ms in
+      replied-made j image bs c e _
+      (stream-replies w state (by-frames (factoryOf d) ms .2) image bs (lookupOf version n Limits.passphrase-key most) v
+      ∙ rw (reply-refused image (allFramed image state (framesBy w bs)) version n most i))
+
+  -- and by the local calls: no byte and no edition goes out
+  pub passphrase-unread-locally : (most : ℕ) → most < 65536 → (j : Lent) → enough (Histories.local (Histories.lookup Limits.passphrase-key most)) j ≡ true
+      → let q = reached p l d ms in
+      let r = made q (record { lent = j; call = Histories.local (Histories.lookup Limits.passphrase-key most) }) in
+      let f = made q (record { lent = j; call = Histories.local (Histories.edition Limits.passphrase-key) }) in
+      (r .answer ≡ found 4 0) × (r .out ≡ []) × (f .answer ≡ foundEdition 4 0)
+  unfolding meantMade meant enough Local.lookup Local.edition
+  passphrase-unread-locally most i j e =
+      let s = history p b l d typed accepted ms t .2 in
+      let q = reached p l d ms in
+      let r = rw e at (one-call q (record { lent = j; call = Histories.local (Histories.lookup Limits.passphrase-key most) }) s (omega arith, i)) in
+      let f = rw e at (one-call q (record { lent = j; call = Histories.local (Histories.edition Limits.passphrase-key) }) s (omega arith)) in
+      (r .answer, r .out, f .answer)
 
   -- the same for key 5, the withdrawn-key list
   pub withdrawn-list-answered : (version n most : ℕ) → most < 65536 → (j : Lent) (image bs : List ℕ)
@@ -151,10 +207,10 @@ module _ (p : Parts) (b : Bytes p) (l : Lent) (d : List ℕ) (typed : Typed (His
       → let q = reached p l d ms in let r = made q (record { lent = j; call = call }) in
       (r .answer ≡ done)
       × (view (r .parts) .pending ≡ owed (view q .terminator-owed) ++ lookupReply version n most (setSince 5 (sinceMore (origin 5) (requestsIn (framesBy w bs)))))
-  withdrawn-list-answered version n most = last-set {k = 5} (record { least = omega arith; most = omega arith }) version n most
+  withdrawn-list-answered version n most = last-set {k = 5} (record { key = record { least = omega arith; most = omega arith }; other = λ e. omega arith }) version n most
 
-  -- In version 2, where v is the value of the last of the successful sets since the last accepted restore, else start, and the others are vs: the edition that
-  -- is handed out is the number of these sets, on top of the restored edition, and the value is v
+  -- In version 2, where v is the value of the last of the successful sets since the last accepted start or a later restore, and the others are vs: the edition
+  -- that is handed out is the number of these sets, on top of the restored edition, and the value is v
   pub list-edition-answered : (n most : ℕ) → most < 65536 → (j : Lent) (image bs : List ℕ)
       → let call = Histories.receive image (bs ++ (0 ∷ [])) in Typed call → enough call j ≡ true
       → let w = joinedAll [] ms in verdict (split (w ++ bs) .rest) ≡ good (lookupOf second-version n 5 most)
@@ -167,13 +223,13 @@ module _ (p : Parts) (b : Bytes p) (l : Lent) (d : List ℕ) (typed : Typed (His
       (a .0, rw (edition-reply n most 5 (sinceMore (origin 5) (requestsIn (framesBy (joinedAll [] ms) bs))) vs v g h) at (a .1))
 
   -- a lookup by the local call: the same results
-  pub lookup-last-set : {k : ℕ} → SettingsKey k → (most : ℕ) → most < 65536 → (j : Lent) → enough (Histories.local (Histories.lookup k most)) j ≡ true
+  pub lookup-last-set : {k : ℕ} → ReadBack k → (most : ℕ) → most < 65536 → (j : Lent) → enough (Histories.local (Histories.lookup k most)) j ≡ true
       → let r = made (reached p l d ms) (record { lent = j; call = Histories.local (Histories.lookup k most) }) in
       let f = fittedOf most (setSince k (origin k)) in
       (r .answer ≡ found (f .result) (length (f .value))) × (r .out ≡ f .value)
   unfolding meantMade meant
   lookup-last-set {k} h most i j e =
-      let m = h .most in
+      let m = h .key .most in
       let q = reached p l d ms in
       let meets = rw e at (one-call q (record { lent = j; call = Histories.local (Histories.lookup k most) }) (history p b l d typed accepted ms t .2) (omega arith, i)) in
-      rw (meets .answer, meets .out, found-value (view q) most h, value-last-set h) (refl, refl)
+      rw (meets .answer, meets .out, found-value (view q) most h, value-last-set (h .key)) (refl, refl)

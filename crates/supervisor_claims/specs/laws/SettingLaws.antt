@@ -2,7 +2,7 @@
 -- Assumes nothing.
 use mathlib.Core.Path.{_≡_, refl, _∙_}
 use mathlib.Core.Logic.{inl, inr}
-use mathlib.Core.Bool.{cond}
+use mathlib.Core.Bool.{cond, _||_}
 use mathlib.Core.List.{List}
 use mathlib.Core.Option.{some}
 use Prim.Native.Nat.{ℕ, suc, _+_, _-_, _≤_, _<_}
@@ -21,6 +21,7 @@ use Rattle.supervisor.proofs.OffsetLaws.{place-within, Lies, setting-lies}
 use Rattle.supervisor.proofs.ValidLaws.{SettingValid, SettingsValid}
 use Rattle.requests.specs.Requests
 use Rattle.requests.specs.Receive
+use Rattle.requests.proofs.RecordLaws.{length-right}
 use Rattle.requests.proofs.KeptLaws.{length-setting, setting-before, setting-after, setting-held, setting-edition, setting-size, setting-value, value-room, value-small}
 use Rattle.supervisor_claims.specs.View.{settingOf, settingsOf}
 use Rattle.supervisor_claims.specs.laws.ViewLaws.{listed-set, listed-at}
@@ -47,7 +48,7 @@ setting-is s key h =
 
 -- ---- the other settings
 
-pub setting-same : {from to : ℕ} {s t : List ℕ} → Same from to s t → (at most : ℕ) → SettingValid s at most
+pub setting-same : {from to least : ℕ} {s t : List ℕ} → Same from to s t → (at most : ℕ) → SettingValid s at least most
     → (from ≤ at) × (at + Layout.setting-value-offset + most ≤ to) → settingOf t at ≡ settingOf s at
 unfolding settingOf
 setting-same {s} same at most v h =
@@ -58,7 +59,7 @@ setting-same {s} same at most v h =
       same .runs (at + Layout.setting-value-offset) (Layout.settingLength s at) (omega arith),
     )
 
-module _ (s v : List ℕ) (at : ℕ) (room : at + (Layout.setting-value-offset + length v) ≤ length s) {bt most : ℕ} (valid : SettingValid s bt most) where
+module _ (s v : List ℕ) (at : ℕ) (room : at + (Layout.setting-value-offset + length v) ≤ length s) {bt least most : ℕ} (valid : SettingValid s bt least most) where
   before-value : bt + Layout.setting-value-offset + most ≤ at → settingOf (Receive.withValue s at v) bt ≡ settingOf s bt
   before-value h = setting-same (setting-before s v at room {from = bt} h) bt most valid (omega arith)
 
@@ -82,15 +83,15 @@ module _ (s v : List ℕ) (w : SettingsValid s) (held : Each Byte s) (each : Eac
   unstored n h = record { settings = refl; result = refl; small = h; like = like-itself s }
 
   -- at the offset of a key
-  stored-at : (at most : ℕ) (x : Settings) → at + (Layout.setting-value-offset + most) ≤ Layout.settings-length
+  stored-at : (at least most : ℕ) (x : Settings) → at + (Layout.setting-value-offset + most) ≤ Layout.settings-length
       → (length v ≤ most → Layout.settingEdition s at < Limits.last-edition → settingsOf (Receive.withValue s at v) ≡ x)
-      → Stores s (Receive.storingAt s at most v)
-      (cond (ltb most (length v)) (told 3 (settingsOf s)) (cond (eqb (Layout.settingEdition s at) Limits.last-edition) (told 4 (settingsOf s)) (told 0 x)))
+      → Stores s (Receive.storingAt s at least most v)
+      (cond (ltb (length v) least || ltb most (length v)) (told 3 (settingsOf s)) (cond (eqb (Layout.settingEdition s at) Limits.last-edition) (told 4 (settingsOf s)) (told 0 x)))
   unfolding Receive.storingAt Receive.withValue
-  stored-at at most x h e =
-      cond-both (Stores s) (ltb most (length v)) (λ f. unstored 3 (omega arith)) (λ f.
+  stored-at at least most x h e =
+      cond-both (Stores s) (ltb (length v) least || ltb most (length v)) (λ f. unstored 3 (omega arith)) (λ f.
       cond-both (Stores s) (eqb (Layout.settingEdition s at) Limits.last-edition) (λ g. unstored 4 (omega arith)) (λ g.
-      let l = ltb-false most (length v) f in
+      let l = length-right least most (length v) f .1 in
       let low = number-small 4 (at + Layout.setting-edition-offset) s held in
       let n = suc (Layout.settingEdition s at) in
       record {
@@ -129,4 +130,4 @@ module _ (s v : List ℕ) (w : SettingsValid s) (held : Each Byte s) (each : Eac
       cond-both (Stores s) (ltb Limits.highest-key key) (λ e. unstored 1 (omega arith)) (λ e.
       cond-both (Stores s) (ltb key Limits.first-setting) (λ f. unstored 2 (omega arith)) (λ f.
       let h : Limits.SettingsKey key = record { least = ltb-false key Limits.first-setting f; most = ltb-false Limits.highest-key key e } in
-      rw (setting-is s key h) (stored-at _ _ _ (place-within key h) (settings-put key h))))
+      rw (setting-is s key h) (stored-at _ _ _ _ (place-within key h) (settings-put key h))))

@@ -30,11 +30,16 @@ returns-5 : tie.Need-returns-5
 unfolding lookupGiven lookupReport
 returns-5 c = rw (c .before .before .before .before .before .before .before .enum-told4 .given .1) (c .before .before .before .before .write-both4 .ensures)
 
+returns-6 : tie.Need-returns-6
+unfolding lookupGiven lookupReport
+returns-6 c = rw (c .before .before .before .before .before .before .before .enum-told5 .given .1) (c .before .before .before .before .write-both5 .ensures)
+
 pub answer-value-spec : {M : Type 1} → statement M
 answer-value-spec =
     tie.close
     (tie.spec
     (λ c. search needs) (λ c. search needs) (λ c κs. search needs) (λ c. search needs) (λ c κs. search needs)
-    (λ c. search needs) (λ c κs. search needs) (λ c. search needs) (λ c κs. search needs) returns (λ c. search needs)
-    (λ c. search needs) returns-2 (λ c. search needs) (λ c. search needs) returns-3 (λ c. search needs)
-    (λ c. search needs) returns-4 (λ c. search needs) (λ c. search needs) returns-5)
+    (λ c. search needs) (λ c κs. search needs) (λ c. search needs) (λ c κs. search needs) (λ c. search needs)
+    (λ c κs. search needs) returns (λ c. search needs) (λ c. search needs) returns-2 (λ c. search needs)
+    (λ c. search needs) returns-3 (λ c. search needs) (λ c. search needs) returns-4 (λ c. search needs)
+    (λ c. search needs) returns-5 (λ c. search needs) (λ c. search needs) returns-6)

@@ -35,9 +35,18 @@ returns-4 c =
     let asked = arm .before .before in
     rw (← asked .edition .ensures, arm .enum-told3 .given .1) (told .write-answer3 .ensures)
 
+returns-5 : tie.Need-returns-5
+unfolding editionCall editionGiven editionReport
+returns-5 c =
+    let told = c .before .before in
+    let arm = told .before .before in
+    let asked = arm .before .before in
+    rw (← asked .edition .ensures, arm .enum-told4 .given .1) (told .write-answer4 .ensures)
+
 pub oatcastle-edition-spec : {M : Type 1} → statement M
 oatcastle-edition-spec =
     tie.close
     (tie.spec
     (λ c κs. search needs) (λ c. search needs) (λ c. search needs) (λ c. search needs) (λ c κs. search needs) (λ c. search needs) (λ c κs. search needs)
-    (λ c. search needs) (λ c κs. search needs) returns (λ c. search needs) returns-2 (λ c. search needs) returns-3 (λ c. search needs) returns-4)
+    (λ c. search needs) (λ c κs. search needs) (λ c. search needs) (λ c κs. search needs) returns (λ c. search needs) returns-2 (λ c. search needs)
+    returns-3 (λ c. search needs) returns-4 (λ c. search needs) returns-5)

@@ -22,7 +22,14 @@ returns-3 : tie.Need-returns-3
 unfolding storing
 returns-3 c =
     let stored = c .before .before in
-    search (cases, stored .store-at .ensures, stored .before .longest-setting .ensures .0, stored .before .before .before .setting-offset .ensures .0)
+    let least = stored .before .before .before in
+    search (
+      cases,
+      stored .store-at .ensures,
+      stored .before .longest-setting .ensures .0,
+      least .shortest-setting .ensures,
+      least .before .setting-offset .ensures .0,
+    )
 
 -- the setting of a settings key lies in the store
 within : (key : ℕ) → first-setting ≤ key → key ≤ highest-key → setting-offset key + (setting-value-offset + longest-setting key) ≤ settings-length
@@ -30,10 +37,10 @@ within key h k = place-within key (record { least = h; most = k })
 
 store-at-requires : tie.Need-store-at-requires
 store-at-requires c κs =
-    let settable = c .before .before .before in
+    let settable = c .before .before .before .before in
     let l = within _ (settable .if2 .left) (settable .before .if1 .left) in
     search needs
 
 pub store-spec : {M : Type 1} → statement M
 store-spec = tie.close (tie.spec
-    returns returns-2 (λ c κs. search needs) (λ c κs. search needs) store-at-requires (λ c. search needs) returns-3)
+    returns returns-2 (λ c κs. search needs) (λ c κs. search needs) (λ c κs. search needs) store-at-requires (λ c. search needs) returns-3)

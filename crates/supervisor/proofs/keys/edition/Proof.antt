@@ -43,9 +43,16 @@ returns-5 c =
     let v = passed _ _ (found .before .before .before .stores-are-valid .ensures) (found .before .before .if1 .left) in
     rw (edition-found _ _ _ _ v (found .before .if2 .left) (found .find .ensures), c .enum-told3 .given .1)
 
+returns-6 : tie.Need-returns-6
+unfolding editionReport editionAt
+returns-6 c =
+    let found = c .before .before .before in
+    let v = passed _ _ (found .before .before .before .stores-are-valid .ensures) (found .before .before .if1 .left) in
+    rw (edition-found _ _ _ _ v (found .before .if2 .left) (found .find .ensures), c .enum-told4 .given .1)
+
 pub edition-spec : {M : Type 1} → statement M
 edition-spec =
     tie.close
     (tie.spec
     (λ c κs. search needs) returns returns-2 (λ c κs. search needs) (λ c κs. search needs) (λ c. search needs) (λ c. search needs)
-    (λ c. search needs) (λ c κs. search needs) (λ c. search needs) returns-3 returns-4 returns-5)
+    (λ c. search needs) (λ c κs. search needs) (λ c. search needs) (λ c. search needs) returns-3 returns-4 returns-5 returns-6)

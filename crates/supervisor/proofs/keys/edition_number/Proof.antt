@@ -21,9 +21,13 @@ returns-4 : tie.Need-returns-4
 unfolding editionReport
 returns-4 c = rw (← c .before .before .edition .ensures, c .enum-told3 .given .1)
 
+returns-5 : tie.Need-returns-5
+unfolding editionReport
+returns-5 c = rw (← c .before .before .edition .ensures, c .enum-told4 .given .1)
+
 pub edition-number-spec : {M : Type 1} → statement M
 edition-number-spec =
     tie.close
     (tie.spec
     (λ c κs. search needs) (λ c. search needs) (λ c. search needs) (λ c. search needs) (λ c. search needs)
-    returns returns-2 returns-3 returns-4)
+    (λ c. search needs) returns returns-2 returns-3 returns-4 returns-5)

@@ -20,10 +20,14 @@ returns-3 c = search cases
 
 returns-4 : tie.Need-returns-4
 unfolding locationOf
-returns-4 c = search (cases, c .setting .ensures, c .before .setting-offset .ensures .0)
+returns-4 c = search cases
+
+returns-5 : tie.Need-returns-5
+unfolding locationOf
+returns-5 c = search (cases, c .setting .ensures, c .before .setting-offset .ensures .0)
 
 pub find-spec : {M : Type 1} → statement M
 find-spec =
     tie.close
     (tie.spec
-    returns (λ c κs. search needs) returns-2 returns-3 (λ c κs. search needs) (λ c κs. search needs) returns-4)
+    returns (λ c κs. search needs) returns-2 returns-3 returns-4 (λ c κs. search needs) (λ c κs. search needs) returns-5)

@@ -38,6 +38,13 @@ returns-5 c =
     let v = passed _ _ (found .before .before .before .stores-are-valid .ensures) (found .before .before .if1 .left) in
     rw (value-found _ _ _ _ _ v (found .before .if2 .left) (found .find .ensures), c .before .enum-told .given .1)
 
+returns-6 : tie.Need-returns-6
+unfolding valueAt
+returns-6 c =
+    let found = c .before .before .before in
+    let v = passed _ _ (found .before .before .before .stores-are-valid .ensures) (found .before .before .if1 .left) in
+    rw (value-found _ _ _ _ _ v (found .before .if2 .left) (found .find .ensures), c .before .enum-told2 .given .1)
+
 pub lookup-spec : {M : Type 1} → statement M
 lookup-spec =
     tie.close
@@ -45,4 +52,4 @@ lookup-spec =
     (λ c κs. search needs) (λ c. search needs) (λ c. search needs) (λ c. search needs) returns (λ c. search needs)
     (λ c. search needs) (λ c. search needs) returns-2 (λ c κs. search needs) (λ c. search needs) (λ c κs. search needs)
     (λ c. search needs) (λ c κs. search needs) (λ c. search needs) (λ c. search needs) (λ c. search needs) (λ c. search needs)
-    returns-3 returns-4 returns-5)
+    (λ c. search needs) (λ c. search needs) (λ c. search needs) (λ c. search needs) returns-3 returns-4 returns-5 returns-6)

@@ -38,9 +38,16 @@ returns-5 c =
     let v = passed _ _ (found .before .before .before .stores-are-valid .ensures) (found .before .before .if1 .left) in
     rw (result-found _ _ _ _ _ v (found .before .if2 .left) (found .find .ensures), c .enum-told .given .1)
 
+returns-6 : tie.Need-returns-6
+unfolding lookupReport resultAt
+returns-6 c =
+    let found = c .before .before in
+    let v = passed _ _ (found .before .before .before .stores-are-valid .ensures) (found .before .before .if1 .left) in
+    rw (result-found _ _ _ _ _ v (found .before .if2 .left) (found .find .ensures), c .enum-told2 .given .1)
+
 pub lookup-result-spec : {M : Type 1} → statement M
 lookup-result-spec =
     tie.close
     (tie.spec
     (λ c κs. search needs) returns returns-2 (λ c κs. search needs) (λ c. search needs)
-    (λ c κs. search needs) (λ c. search needs) (λ c κs. search needs) (λ c. search needs) returns-3 returns-4 returns-5)
+    (λ c κs. search needs) (λ c. search needs) (λ c κs. search needs) (λ c. search needs) (λ c. search needs) returns-3 returns-4 returns-5 returns-6)

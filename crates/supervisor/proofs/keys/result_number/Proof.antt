@@ -25,9 +25,13 @@ returns-5 : tie.Need-returns-5
 unfolding lookupReport
 returns-5 c = rw (← c .before .before .lookup-result .ensures, c .enum-told5 .given .1)
 
+returns-6 : tie.Need-returns-6
+unfolding lookupReport
+returns-6 c = rw (← c .before .before .lookup-result .ensures, c .enum-told6 .given .1)
+
 pub result-number-spec : {M : Type 1} → statement M
 result-number-spec =
     tie.close
     (tie.spec
     (λ c κs. search needs) (λ c. search needs) (λ c. search needs) (λ c. search needs) (λ c. search needs)
-    (λ c. search needs) returns returns-2 returns-3 returns-4 returns-5)
+    (λ c. search needs) (λ c. search needs) returns returns-2 returns-3 returns-4 returns-5 returns-6)

@@ -22,7 +22,11 @@ returns-3 c = (rw (c .if3 .taken), omega arith)
 
 returns-4 : tie.Need-returns-4
 unfolding longest-setting
-returns-4 c = (rw (List·getD-eq-default longest-settings 0 {n = c .before .before .before .args .key - first-setting} (omega arith)), omega arith)
+returns-4 c = (rw (c .if4 .taken), omega arith)
+
+returns-5 : tie.Need-returns-5
+unfolding longest-setting
+returns-5 c = (rw (List·getD-eq-default longest-settings 0 {n = c .before .before .before .before .args .key - first-setting} (omega arith)), omega arith)
 
 pub longest-setting-spec : {M : Type 1} → statement M
-longest-setting-spec = tie.close (tie.spec returns returns-2 returns-3 returns-4)
+longest-setting-spec = tie.close (tie.spec returns returns-2 returns-3 returns-4 returns-5)

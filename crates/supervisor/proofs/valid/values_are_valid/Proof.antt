@@ -19,17 +19,19 @@ abbrev μ-loop : tie.MeasureT-loop
 returns : tie.Need-returns Inv-loop μ-loop
 returns c =
     let longest = c .before .before in
+    let least = longest .before in
     untrue _ (λ e.
     failed _ _ (c .before .setting-is-valid .ensures) (c .if1 .taken)
-    (rw (longest .before .setting-offset .ensures .0, longest .longest-setting .ensures .0)
-    (all-each _ _ e _ (longest .before .before .loop-test .taken))))
+    (rw (least .before .setting-offset .ensures .0, least .shortest-setting .ensures, longest .longest-setting .ensures .0)
+    (all-each _ _ e _ (least .before .before .loop-test .taken))))
 
 loop-again : tie.Need-loop-again Inv-loop μ-loop
 loop-again c =
-    let longest = c .before .before in (
+    let longest = c .before .before in
+    let least = longest .before in (
       search needs,
-      all-more _ _ (longest .before .before .before .loop .inv .1)
-          (rw (← longest .before .setting-offset .ensures .0, ← longest .longest-setting .ensures .0)
+      all-more _ _ (least .before .before .before .loop .inv .1)
+          (rw (← least .before .setting-offset .ensures .0, ← least .shortest-setting .ensures, ← longest .longest-setting .ensures .0)
           (passed _ _ (c .before .setting-is-valid .ensures) (c .if1 .left))),
     )
 
@@ -38,5 +40,5 @@ values-are-valid-spec =
     tie.close
     (tie.spec
     Inv-loop μ-loop (λ c. (search needs, all-none _)) (λ c. search needs) (λ c κs. search needs) (λ c κs. search needs)
-    (λ c κs. search needs) returns (λ c. search needs) (λ c. search needs) loop-again
+    (λ c κs. search needs) (λ c κs. search needs) returns (λ c. search needs) (λ c. search needs) loop-again
     (λ c. all-done _ _ _ (c .before .loop .inv .0) (c .loop-test .left) (c .before .loop .inv .1)))

@@ -1,0 +1,210 @@
+// Defines two supervisors that differ only in key 6's setting: the same calls on both, and the comparison of all that they answer, write and leave.
+// Assumes that no call brings either edition to its end; with a fault of the model, what the model says of each stands for what the library does.
+
+use crate::calls::{same, Call, Lent};
+use crate::model::{self, break_rule, Fault, FAULTS, LAST_EDITION, PASSPHRASE, SHORTEST_PASSPHRASE};
+use crate::random::Random;
+use crate::state::{self, LENGTHS, LINE, NAMES, PASSPHRASE_OFFSET, REGISTERS, SETTINGS, START_LENGTH};
+use crate::traffic;
+use crate::world::World;
+
+/// In a run of so many calls key 6 must be made to differ, be asked for by a local call and be stored so often at least.
+const DEMANDED: u64 = 10_000;
+const DEMANDED_TIMES: u64 = 50;
+
+/// The faults with which an answer tells of key 6.
+const LEAKS: [Fault; 4] = [Fault::PassphraseHandedOut, Fault::PassphraseNoValue, Fault::PassphraseTooLong, Fault::PassphraseEdition];
+
+/// A set or a lookup of key 6.
+fn about_passphrase(random: &mut Random) -> Vec<u8> {
+    let (version, sequence) = (random.pick(&[1, 2]), random.next() >> 1);
+    let mut data = vec![PASSPHRASE];
+    if random.percent(50) {
+        data.extend_from_slice(&random.pick(&[0, 7, 8, 63, 64, u16::MAX]).to_le_bytes());
+        return model::frame(version, sequence, 0x0e, &data);
+    }
+    let length = random.pick(&[0, 7, 8, 9, 20, 62, 63, 64]);
+    data.extend(random.bytes(length));
+    model::frame(version, sequence, 0x10, &data)
+}
+
+pub struct Twins {
+    random: Random,
+    worlds: [World; 2],
+    /// Whether the models speak, and not the libraries.
+    models: bool,
+    calls: u64,
+    /// Bytes of numbers, answers and rooms, and of parts.
+    said: u64,
+    lent: u64,
+    /// How often the settings were made to differ, key 6 was asked for by a local call, and a call has stored it.
+    planted: u64,
+    asked: u64,
+    stored: u64,
+}
+
+impl Twins {
+    fn new(seed: u64, models: bool) -> Twins {
+        let worlds = [World::new(seed, false), World::new(seed, false)];
+        Twins { random: Random(seed ^ 0x7777), worlds, models, calls: 0, said: 0, lent: 0, planted: 0, asked: 0, stored: 0 }
+    }
+
+    /// Each twin gets a setting of key 6 of its own: held or not, of any length, value and bytes past it, its edition far from the end.
+    fn plant(&mut self) {
+        for world in &mut self.worlds {
+            let random = &mut self.random;
+            let setting = &mut world.parts[SETTINGS][PASSPHRASE_OFFSET..LENGTHS[SETTINGS]];
+            random.fill(setting);
+            let (held, longest) = (random.percent(60), model::LONGEST[3]);
+            let length = if held || random.percent(50) { SHORTEST_PASSPHRASE + random.below(longest - SHORTEST_PASSPHRASE + 1) } else { 0 };
+            state::put(setting, 0, 1, u64::from(held));
+            state::put(setting, state::EDITION_OFFSET, 4, random.next() % u64::from(LAST_EDITION / 2));
+            state::put(setting, state::VALUE_LENGTH_OFFSET, 2, length as u64);
+            world.supervisor.settings = state::settings(&world.parts[SETTINGS]);
+        }
+        self.planted += 1;
+    }
+
+    /// A call and what is lent with it; the first twin's state guides the choice.
+    fn next(&mut self) -> (Call, Lent) {
+        let first = &mut self.worlds[0];
+        if !self.models {
+            first.mean();
+        }
+        if first.wires[1].is_empty() && first.random.percent(40) {
+            let request = about_passphrase(&mut first.random);
+            first.wires[1].extend(request);
+        }
+        let call = match first.random.below(400) {
+            0 => Call::Start { data: Box::new(traffic::start_data(&mut first.random)) },
+            1 => Call::LineStart { part: first.random.below(2) },
+            2..=150 => {
+                let kind = first.random.pick(&[4, 5]);
+                first.make(kind, LINE)
+            }
+            151..=200 => Call::Take,
+            201..=230 => Call::Lookup { key: PASSPHRASE, most: first.random.pick(&[0, 7, 8, 63, 64, u16::MAX]) },
+            231..=240 => Call::Edition { key: PASSPHRASE },
+            _ => first.any_call(None),
+        };
+        let lent = first.lend(&call);
+        (call, lent)
+    }
+
+    /// What one twin answers and writes outside its state: the call's number, the answer and the room.
+    fn answered(&mut self, twin: usize, call: &Call, lent: &Lent, seed: u64) -> (u32, Vec<u64>, Vec<u8>) {
+        let world = &mut self.worlds[twin];
+        let mut fill = Random(seed);
+        let mut room = vec![0; lent.room];
+        fill.fill(&mut room);
+        let mut answer: Vec<u64> = (0..lent.answer).map(|_| fill.next()).collect();
+        world.block.prepare(&mut fill, None);
+        if !self.models {
+            return (world.library(call, lent, &mut room, &mut answer), answer, room);
+        }
+        let outcome = world.expect(call, lent);
+        if outcome.code == 0 {
+            room[..outcome.room.len()].copy_from_slice(&outcome.room);
+            answer[..outcome.answer.len()].copy_from_slice(&outcome.answer);
+        }
+        (outcome.code, answer, room)
+    }
+
+    fn turn(&mut self) -> Result<(), String> {
+        let (call, lent) = self.next();
+        let seed = self.random.next();
+        let before = self.worlds[0].parts[SETTINGS][PASSPHRASE_OFFSET..].to_vec();
+        let [first, second] = [0, 1].map(|twin| self.answered(twin, &call, &lent, seed));
+        self.calls += 1;
+        self.said += 4 + 8 * first.1.len() as u64 + first.2.len() as u64;
+        let told = |what: String| format!("call {}: {call}\n  lent {lent:?}\n  {what}", self.calls);
+        if (first.0, &first.1) != (second.0, &second.1) {
+            return Err(told(format!("the number and the answer\n  one   {} {:x?}\n  other {} {:x?}", first.0, first.1, second.0, second.1)));
+        }
+        same("the room", &first.2, &second.2).map_err(told)?;
+        self.same_state().map_err(|what| format!("call {}: {call}\n  {what}", self.calls))?;
+        self.stored += u64::from(before != self.worlds[0].parts[SETTINGS][PASSPHRASE_OFFSET..] && !call.starts());
+        self.noted(&call, &first);
+        if matches!(call, Call::Start { .. }) && first.0 == 0 || self.random.percent(1) {
+            self.plant();
+        }
+        Ok(())
+    }
+
+    /// The state outside key 6's setting, the bytes past the parts and the counter blocks.
+    fn same_state(&mut self) -> Result<(), String> {
+        let [first, second] = &self.worlds;
+        for part in LINE..=REGISTERS {
+            let (one, other) = (&first.parts[part][..], &second.parts[part][..]);
+            self.lent += one.len() as u64;
+            if part == SETTINGS {
+                same(NAMES[part], &one[..PASSPHRASE_OFFSET], &other[..PASSPHRASE_OFFSET])?;
+                same("past the settings", &one[LENGTHS[part]..], &other[LENGTHS[part]..])?;
+            } else {
+                same(NAMES[part], one, other)?;
+            }
+        }
+        first.block.alike(&second.block)
+    }
+
+    /// The wires move on, and what was asked of key 6 is counted.
+    fn noted(&mut self, call: &Call, said: &(u32, Vec<u64>, Vec<u8>)) {
+        if said.0 != 0 {
+            return;
+        }
+        match call {
+            Call::LineRead { part, .. } => self.worlds[0].advance(*part, said.1[0] as usize),
+            Call::Step { .. } => self.worlds[0].advance(1, said.1[0] as usize),
+            Call::Receive { piece, .. } => self.worlds[0].advance(1, piece.len()),
+            Call::Lookup { key: PASSPHRASE, .. } | Call::Edition { key: PASSPHRASE } => self.asked += 1,
+            _ => {}
+        }
+    }
+
+    /// Both are started with the same start data.
+    fn begin(&mut self) {
+        let mut data = Box::new([0; START_LENGTH]);
+        data[0] = 0x41;
+        let whole = Lent { parts: LENGTHS, room: 0, answer: 0 };
+        for world in &mut self.worlds {
+            for call in [Call::LineStart { part: LINE }, Call::Start { data: data.clone() }] {
+                assert_eq!(world.library(&call, &whole, &mut [], &mut []), 0);
+            }
+            world.mean();
+        }
+        self.plant();
+    }
+
+    fn run(&mut self, count: u64) -> Result<(), String> {
+        self.begin();
+        while self.calls < count {
+            self.turn()?;
+        }
+        Ok(())
+    }
+}
+
+/// Each leak must show between two models, and nothing between two without one; then nothing between two libraries.
+pub fn compare(seed: u64, count: u64) -> Result<String, String> {
+    for leak in LEAKS {
+        let place = FAULTS.iter().position(|&(fault, _)| fault == leak).unwrap();
+        break_rule(place + 1);
+        let mut twins = Twins::new(seed, true);
+        let found = twins.run(count).is_err();
+        break_rule(0);
+        if !found {
+            return Err(format!("a leak ({}) is not found in {count} calls", FAULTS[place].1));
+        }
+        println!("two supervisors, a leak ({}): found after {} calls", FAULTS[place].1, twins.calls);
+    }
+    Twins::new(seed, true).run(count)?;
+    let mut twins = Twins::new(seed, false);
+    twins.run(count)?;
+    let Twins { calls, said, lent, planted, asked, stored, .. } = twins;
+    if count >= DEMANDED && [planted, asked, stored].iter().any(|&times| times < DEMANDED_TIMES) {
+        return Err(format!("key 6 came up too seldom: made to differ {planted} times, asked for {asked}, stored {stored}"));
+    }
+    Ok(format!(
+        "{calls} calls on two supervisors, {said} bytes of answers and rooms and {lent} of parts compared; key 6 made to differ {planted} times, asked for {asked}, stored {stored}"
+    ))
+}
