@@ -31,6 +31,7 @@ WORDS = {
     'counters_claims': 'frames counted',
     'requester': "main processor's end",
     'requester_claims': 'numbers, answers',
+    'both_claims': 'both ends, fresh answers',
     'replay': 'the replay program',
     'plain': 'the second, plain reader',
     'plain_claims': 'agrees with the reader',

@@ -453,7 +453,8 @@ static inline uint32_t oatcastle_panic_record(const uint8_t *registers, oatcastl
  *     answer: a frame that is wholly lost is asked for by oatcastle_requester_interrupt.
  *   - In a recovery an interrupt adds nothing and a request gets 17. A frame that is wholly lost in a recovery leaves it waiting, and a request that
  *     the supervisor cannot decode is sent again for ever: only a start gives up.
- *   - After a start the numbers begin at 1 again. Bytes still on their way from before it must be thrown away, or a late reply may have a number in use.
+ *   - After a start the numbers begin at 1 again. Bytes still on their way from before it must be thrown away, or a late reply may have a number in use. If a
+ *     frame may have gone out in part, one 00 ahead of the start ends it; its reply is thrown away too.
  *   - An interrupt cuts the outstanding request off and puts it out anew, under a new number, after the recovery. The supervisor may carry it out twice; a
  *     caller's own 0x0a that is cut off can lose the alert that its first answer had.
  *   - A frame whose transmission has begun is finished, or ended by one 00, before the bytes of a newer one. */

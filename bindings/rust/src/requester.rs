@@ -123,7 +123,8 @@ impl<'s> Requester<'s> {
         requester
     }
 
-    /// Begins anew, under number 1. Bytes still on their way must be thrown away first, or a late reply may have a number in use.
+    /// Begins anew, under number 1. Bytes still on their way must be thrown away first, or a late reply may have a number in use. If a frame may have gone out
+    /// in part, one 00 ahead of this ends it; its reply is thrown away too.
     pub fn restart(&mut self) {
         let (reader, requester) = (lent_mut(&mut self.storage.reader.state), lent_mut(&mut self.storage.requester));
         // SAFETY: each pointer is valid for the length behind it, and the two runs do not overlap.

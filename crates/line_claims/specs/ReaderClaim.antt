@@ -30,7 +30,7 @@ use Rattle.line_claims.specs.Calls.{restarted, afterStart, after, afterA
 use Rattle.line_claims.specs.Calls.{tailMeant, frameReport, gathered, goodOf, reasonOf, goodMessages, failureReasons}
 use Rattle.line_claims.specs.Streams.{afterByte, stream, stream-read, bytesRead, call-stream, reads-stream}
 
-gathered-append : {A : Type 0} (f : Verdict → List A) (ps qs : List (List ℕ)) → gathered f (ps ++ qs) ≡ gathered f ps ++ gathered f qs
+pub gathered-append : {A : Type 0} (f : Verdict → List A) (ps qs : List (List ℕ)) → gathered f (ps ++ qs) ≡ gathered f ps ++ gathered f qs
 unfolding gathered
 gathered-append f [] qs = refl
 gathered-append f (p ∷ ps) qs = rw (gathered-append f ps qs, append-assoc)

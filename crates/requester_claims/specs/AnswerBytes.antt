@@ -56,12 +56,12 @@ AnswerFrom piece bs (received used t e u) d = TellsFrom piece bs used t d
 -- ---- a frame
 
 -- an answer is a good message
-abbrev HeardGood : Verdict → Heard → Type 0
+abbrev pub HeardGood : Verdict → Heard → Type 0
 HeardGood v ground = Unit {0}
 HeardGood v other = Unit {0}
 HeardGood v (answer m) = v ≡ good m
 
-heard-good : (n : ℕ) (v : Verdict) → HeardGood v (heard n v)
+pub heard-good : (n : ℕ) (v : Verdict) → HeardGood v (heard n v)
 unfolding heard
 heard-good n (failure reason sequence) = tt
 heard-good n (good m) =

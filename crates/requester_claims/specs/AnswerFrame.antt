@@ -71,7 +71,7 @@ abbrev Since : Option (List ℕ) → Type 0
 Since none = Unit {0}
 Since (some xs) = Each NonZero xs
 
-moved-received : (x : Requester.Next) (s : State) → Requester.movedTo x s .state .received ≡ s .received
+pub moved-received : (x : Requester.Next) (s : State) → Requester.movedTo x s .state .received ≡ s .received
 unfolding Requester.movedTo
 moved-received Requester.same s = refl
 moved-received Requester.again s = refl
@@ -108,10 +108,10 @@ receive-since (b ∷ bs) s h w =
 
 -- the calls that receive nothing keep them
 module _ (s : State) where
-  abbrev DoneKeeps : Requester.Done → Type 0
+  abbrev pub DoneKeeps : Requester.Done → Type 0
   DoneKeeps x = x .state .received ≡ s .received
 
-  request-keeps : (room : ℕ) (q : Request) → DoneKeeps (Requester.request room q s)
+  pub request-keeps : (room : ℕ) (q : Request) → DoneKeeps (Requester.request room q s)
   unfolding Requester.request
   request-keeps room q =
       cond-by DoneKeeps (ltb longest-data (length (q .payload))) _ _ (λ _. refl) (λ _.
@@ -119,16 +119,16 @@ module _ (s : State) where
       cond-by DoneKeeps (leb last-number (s .newest)) _ _ (λ _. refl) (λ _.
       cond-by DoneKeeps (ltb room (length (requestFrame (suc (s .newest)) q))) _ _ (λ _. refl) (λ _. refl))))
 
-  interrupt-keeps : (t : Option Step) → DoneKeeps (Requester.interruptedIn t s)
+  pub interrupt-keeps : (t : Option Step) → DoneKeeps (Requester.interruptedIn t s)
   interrupt-keeps (some t) = refl
   interrupt-keeps none = cond-by DoneKeeps (leb last-number (s .newest)) _ _ (λ _. refl) (λ _. refl)
 
-  send-keeps : (room : ℕ) (q : Option Request) → DoneKeeps (Requester.sentOf room q s)
+  pub send-keeps : (room : ℕ) (q : Option Request) → DoneKeeps (Requester.sentOf room q s)
   send-keeps room none = refl
   send-keeps room (some q) =
       cond-by DoneKeeps (s .unsent) _ _ (λ _. cond-by DoneKeeps (ltb room (length (requestFrame (s .newest) q))) _ _ (λ _. refl) (λ _. refl)) (λ _. refl)
 
-  put-keeps : (x : Requester.Done) (room : List ℕ) → Histories.putMeans (x .refusal) room (x .out) (x .state) .state ≡ x .state
+  pub put-keeps : (x : Requester.Done) (room : List ℕ) → Histories.putMeans (x .refusal) room (x .out) (x .state) .state ≡ x .state
   put-keeps x room = by (x .refusal)
     where
       by : (k : Option ℕ) → Histories.putMeans k room (x .out) (x .state) .state ≡ x .state

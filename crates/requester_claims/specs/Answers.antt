@@ -54,12 +54,12 @@ abbrev pub AllMatch : Parts → List Made → Type 0
 AllMatch p [] = Unit {0}
 AllMatch p (m ∷ ms) = Matches (Layout.numberOf (p .requester)) (made p m .answer) × AllMatch (made p m .parts) ms
 
-abbrev HeardMatches : ℕ → Heard → Type 0
+abbrev pub HeardMatches : ℕ → Heard → Type 0
 HeardMatches n ground = Unit {0}
 HeardMatches n other = Unit {0}
 HeardMatches n (answer m) = Matching n (m .version) (m .sequence) (m .command)
 
-heard-matches : (n : ℕ) (v : Verdict) → HeardMatches n (heard n v)
+pub heard-matches : (n : ℕ) (v : Verdict) → HeardMatches n (heard n v)
 unfolding heard
 heard-matches n (failure reason sequence) = tt
 heard-matches n (good m) =

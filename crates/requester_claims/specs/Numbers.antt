@@ -84,11 +84,11 @@ RequestFrame x = (q : Request) × (x .bytes ≡ requestFrame (x .number) q)
 
 -- ---- one call
 
-abbrev framed : ℕ → Request → List Frame
+abbrev pub framed : ℕ → Request → List Frame
 framed n q = record { number = n; bytes = requestFrame n q } ∷ []
 
 -- the number stays, and so does the one outstanding, unless none is left; or the next number is taken
-data Goes (s t : State) (fs : List Frame) : Type 0 where
+pub data Goes (s t : State) (fs : List Frame) : Type 0 where
   stays : t .newest ≡ s .newest → (outstanding t ≡ outstanding s) ⊎ (outstanding t ≡ none)
       → (fs ≡ []) ⊎ ((q : Request) × (outstanding s ≡ some q) × (fs ≡ framed (s .newest) q)) → Goes s t fs
   takes : t .newest ≡ suc (s .newest) → (fs ≡ []) ⊎ ((q : Request) × ((outstanding t ≡ some q) ⊎ (outstanding t ≡ none)) × (fs ≡ framed (t .newest) q)) → Goes s t fs
@@ -146,21 +146,21 @@ receive-goes (b ∷ bs) s =
 -- ---- what is put out
 
 -- a frame at the start of the room
-frames-put : (n : ℕ) (bs room : List ℕ) → 0 < length bs → framesBy (put (length bs)) (overlay 0 bs room) n ≡ record { number = n; bytes = bs } ∷ []
+pub frames-put : (n : ℕ) (bs room : List ℕ) → 0 < length bs → framesBy (put (length bs)) (overlay 0 bs room) n ≡ record { number = n; bytes = bs } ∷ []
 unfolding framesBy
 frames-put n [] room h = absurd (omega arith)
 frames-put n (b ∷ bs) room h = rw (overlay-inside 0 (b ∷ bs) room (omega arith))
 
-some-bytes : (n : ℕ) (q : Request) → 0 < length (requestFrame n q)
+pub some-bytes : (n : ℕ) (q : Request) → 0 < length (requestFrame n q)
 unfolding requestFrame frame
 some-bytes n q = rw length-append (omega arith)
 
 -- by what a call means
-abbrev framesOf : Means → List Frame
+abbrev pub framesOf : Means → List Frame
 framesOf x = framesBy (x .answer) (x .out) (x .state .newest)
 
 module _ (s : State) where
-  abbrev MeansGoes : Means → Type 0
+  abbrev pub MeansGoes : Means → Type 0
   MeansGoes x = Goes s (x .state) (framesOf x)
 
   abbrev PutGoes : List ℕ → Requester.Done → Type 0
@@ -214,7 +214,7 @@ module _ (s : State) where
       by false f = refl
       by true f = absurd (false≢true (sym (h f) ∙ e))
 
-  call-goes : (m : Made) → NoStart m → MeansGoes (meantMade s m)
+  pub call-goes : (m : Made) → NoStart m → MeansGoes (meantMade s m)
   unfolding meantMade
   call-goes m h =
       cond-by MeansGoes (enough (m .call) (m .lent)) _ _ (λ e. meant-goes (m .call) (not-start m h e)) (λ _. refused-goes 12 _)
@@ -229,7 +229,7 @@ newest-is : (p : Parts) → Layout.numberOf (p .requester) ≡ view p .newest
 unfolding view
 newest-is p = refl
 
-newest-after : (p : Parts) → PartsValid p → (m : Made) → Layout.numberOf (made p m .parts .requester) ≡ meantMade (view p) m .state .newest
+pub newest-after : (p : Parts) → PartsValid p → (m : Made) → Layout.numberOf (made p m .parts .requester) ≡ meantMade (view p) m .state .newest
 newest-after p v m = newest-is (made p m .parts) ∙ ap (λ (s : State). s .newest) (one-call p m v .state)
 
 frames-meant : (p : Parts) → PartsValid p → (ms : List Made) → frames p ms ≡ framesMeant (view p) ms
@@ -241,17 +241,17 @@ frames-meant p v (m ∷ ms) =
     rw (k .answer, k .out, newest-after p v m, i, k .state)
 
 -- a frame that was put out: later ones under its number are the same
-record Agrees (x : Frame) (s : State) : Type 0 where
-  most : x .number ≤ s .newest
-  same : s .newest ≡ x .number → (q : Request) → outstanding s ≡ some q → requestFrame (x .number) q ≡ x .bytes
+pub record Agrees (x : Frame) (s : State) : Type 0 where
+  pub most : x .number ≤ s .newest
+  pub same : s .newest ≡ x .number → (q : Request) → outstanding s ≡ some q → requestFrame (x .number) q ≡ x .bytes
 
-abbrev Behind : Frame → Frame → Type 0
+abbrev pub Behind : Frame → Frame → Type 0
 Behind x y = (x .number ≤ y .number) × (y .number ≡ x .number → y .bytes ≡ x .bytes)
 
 never-some : {q : Request} {k : Option Request} → k ≡ none → k ≡ some q → ⊥
 never-some e f = let z : _≡_ {A = ℕ} 0 1 = cc in omega arith
 
-agrees-goes : (x : Frame) {s t : State} {fs : List Frame} → Agrees x s → Goes s t fs → Agrees x t × Each (Behind x) fs
+pub agrees-goes : (x : Frame) {s t : State} {fs : List Frame} → Agrees x s → Goes s t fs → Agrees x t × Each (Behind x) fs
 agrees-goes x {s} {t} a (stays e k f) = (record { most = omega (arith, a .most); same = λ n q o. same k n q o }, behind f)
   where
     same : (outstanding t ≡ outstanding s) ⊎ (outstanding t ≡ none) → t .newest ≡ x .number → (q : Request) → outstanding t ≡ some q
@@ -269,7 +269,7 @@ agrees-goes x {s} {t} a (takes e f) = (record { most = omega (arith, a .most); s
     behind (inr (q, o, h)) = rw h ((omega (arith, a .most), λ n. absurd (omega (arith, a .most))), tt)
 
 -- what a call puts out is one frame at most, a request's, and agrees with the state that is left
-put-goes : {s t : State} {fs : List Frame} → Goes s t fs → Each (λ (x : Frame). Agrees x t) fs × OnePerNumber fs × Each RequestFrame fs
+pub put-goes : {s t : State} {fs : List Frame} → Goes s t fs → Each (λ (x : Frame). Agrees x t) fs × OnePerNumber fs × Each RequestFrame fs
 put-goes {s} {t} (stays e k (inl h)) = rw h (tt, tt, tt)
 put-goes {s} {t} (stays e k (inr (q, o, h))) = rw h ((record { most = omega arith; same = λ n r w. same k r w }, tt), (tt, tt), ((q, refl), tt))
   where

@@ -400,7 +400,7 @@ module _ {k : ℕ} (h : SettingsKey k) where
   call-holds w x s g (Histories.step image piece) = bytes-hold w x s g image (reads (Histories.step image piece))
   call-holds w x s g (Histories.local c) = restore-holds h x s g (restoredBy c) (meant s (Histories.local c) .state) (local-settings s c)
 
-  made-holds : (w : List ℕ) (x : Origin) (s : State) → Holds k x s → (m : Made) → Holds k (sinceMade k w x m) (carriedMade w s m .state)
+  pub made-holds : (w : List ℕ) (x : Origin) (s : State) → Holds k x s → (m : Made) → Holds k (sinceMade k w x m) (carriedMade w s m .state)
   unfolding sinceMade carriedMade
   made-holds w x s g m = by (enough (m .call) (m .lent))
     where
@@ -450,7 +450,7 @@ module _ (k : ℕ) (P : Setting → Type 0) (at-start : P unset)
       (cond-by (λ (y : Origin). P (y .setting)) (enough (m .call) (m .lent)) _ _ (λ _. call-keeps w x h (m .call) (t .0)) (λ _. h))
 
 -- an edition of 32 bits
-in-low : (k : ℕ) (es : List Entry) → Each (λ (e : Entry). e .edition < 256 ^ 4) es → Saving.settingIn k es .edition ≤ Limits.last-edition
+pub in-low : (k : ℕ) (es : List Entry) → Each (λ (e : Entry). e .edition < 256 ^ 4) es → Saving.settingIn k es .edition ≤ Limits.last-edition
 unfolding Saving.settingIn
 in-low k [] h = omega arith
 in-low k (e ∷ es) h =

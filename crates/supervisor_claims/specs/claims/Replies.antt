@@ -58,7 +58,7 @@ streamOf [] = []
 streamOf (t ∷ ts) = t .byte ∷ streamOf ts
 
 -- the bytes that a call moved
-abbrev movedBytes : Answer → List ℕ → List ℕ
+abbrev pub movedBytes : Answer → List ℕ → List ℕ
 movedBytes (refused n) out = []
 movedBytes done out = []
 movedBytes (stepped n e) out = []

@@ -38,7 +38,7 @@ use Rattle.supervisor_claims.specs.claims.History.{history, one-call}
 -- ---- a lookup carried out
 
 -- key and maxresponse in a lookup's data
-lookup-data : (k most : ℕ) → k < 256 → most < 65536 → let bs = bytes 1 k ++ bytes 2 most in (numberAt 1 bs 0 ≡ k) × (numberAt 2 bs 1 ≡ most)
+pub lookup-data : (k most : ℕ) → k < 256 → most < 65536 → let bs = bytes 1 k ++ bytes 2 most in (numberAt 1 bs 0 ≡ k) × (numberAt 2 bs 1 ≡ most)
 unfolding number bytes
 lookup-data k most h i = (number-bytes 1 k (omega arith), number-bytes 2 most (omega arith))
 
@@ -51,7 +51,7 @@ pub record ReadBack (k : ℕ) : Type 0 where
   pub key : SettingsKey k
   pub other : k ≡ Limits.passphrase-key → ⊥
 
-found-value : (s : State) (most : ℕ) {k : ℕ} → ReadBack k → Local.lookup s k most ≡ fittedOf most (Local.entryOf s k)
+pub found-value : (s : State) (most : ℕ) {k : ℕ} → ReadBack k → Local.lookup s k most ≡ fittedOf most (Local.entryOf s k)
 unfolding Local.lookup
 found-value s most {k} h = rw (le-ltb Limits.highest-key k (h .key .most), ne-eqb k Limits.passphrase-key (h .other))
 

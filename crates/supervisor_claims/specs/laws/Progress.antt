@@ -102,7 +102,7 @@ ahead-rest b [] rest h = (omega arith, h)
 ahead-rest b (p ∷ ps) rest h = h
 
 -- no 00 stands behind the last one
-rest-nonzero : (w : List ℕ) → NonZero (split w .rest)
+pub rest-nonzero : (w : List ℕ) → NonZero (split w .rest)
 unfolding split
 rest-nonzero [] = tt
 rest-nonzero (zero ∷ w) = rest-nonzero w

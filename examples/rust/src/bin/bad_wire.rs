@@ -250,16 +250,17 @@ impl<'s> World<'s> {
         Ok(())
     }
 
-    /// Gives up: bytes on their way are thrown away, a frame that has begun is ended by a 00, and the numbers begin again.
+    /// Gives up: bytes on their way are thrown away, a frame that has begun is ended by a 00 and its reply thrown away too, and the numbers begin again.
     fn start(&mut self, tick: u64) {
         println!("{tick:7} main: nothing comes in a recovery; starts again");
+        self.supervisor.receive(&[], &[0]);
         while !self.supervisor.take(&mut [0; 64]).is_empty() {}
         self.there.bytes.clear();
         self.back.bytes.clear();
         self.back.clean.restart();
         self.given.clear();
         self.asked.clear();
-        self.main.out = VecDeque::from([0]);
+        self.main.out.clear();
         self.main.requester.restart();
         self.main.starts += 1;
         self.main.waiting = None;

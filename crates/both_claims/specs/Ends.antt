@@ -1,0 +1,452 @@
+-- Both ends: calls of the two in any order, what each has put out and read since the main processor's end was last started, the wire between them,
+-- and what an answer must come from. Assumes nothing: these are definitions.
+use mathlib.Core.Path.{_≡_}
+use mathlib.Core.Bool.{Bool, true, false, cond, _&&_, _||_}
+use mathlib.Core.List.{List, [], _∷_, _++_, map}
+use mathlib.Core.Logic.{_⊎_}
+use mathlib.Core.Option.{Option, none, some}
+use Prim.Native.Nat.{ℕ, _<_}
+use lib.Dec.{eqb}
+use lib.ListN.{length, take}
+use Rattle.octets.specs.Bytes.{Each, Byte, bytes}
+use Rattle.line.specs.Message.{Message}
+use Rattle.line.specs.Frame.{frame}
+use Rattle.line_claims.specs.Pieces.{split, nonEmpty}
+use Rattle.line_claims.specs.Calls.{goodMessages}
+use Rattle.requester.specs.State as MainState
+use Rattle.requester.specs.State.{isSome, Request, outstanding, requestFrame}
+use Rattle.requester.specs.Requester.{replySequence, statusOf, optionsOf}
+use Rattle.requester.specs.Limits.{status-length}
+use Rattle.requester.specs.Layout
+use Rattle.requester.specs.Calls as MainCalls
+use Rattle.requester_claims.specs.View as MainView
+use Rattle.requester_claims.specs.Histories as Main
+use Rattle.requester_claims.specs.Numbers.{Frame, framesBy, isStart}
+use Rattle.supervisor.specs.State.{Retained, State}
+use Rattle.supervisor.specs.Local.{entryOf}
+use Rattle.supervisor.specs.Calls as SupervisorCalls
+use Rattle.requests.specs.Requests.{Verdict, failure, good, Reply, verdict, carried, replyOf, alertData, oldest}
+use Rattle.supervisor_claims.specs.View.{view}
+use Rattle.supervisor_claims.specs.Sound.{Bytes}
+use Rattle.supervisor_claims.specs.Histories as Supervisor
+use Rattle.supervisor_claims.specs.FrameHistory as Received
+use Rattle.supervisor_claims.specs.FrameHistory.{framed}
+use Rattle.supervisor_claims.specs.LastSet.{requestsIn, setAfter, restoredBy, Origin, sinceStart, sinceMore, sinceMade, setSince}
+use Rattle.supervisor_claims.specs.claims.WithdrawnKeys.{fittedOf, ReadBack}
+use Rattle.supervisor_claims.specs.claims.InOrder.{replyBy}
+
+-- an element of a list has the property
+abbrev pub Any : {A : Type 0} → (A → Type 0) → List A → Type 0
+Any P [] = ⊥
+Any P (x ∷ xs) = P x ⊎ Any P xs
+
+-- ---- Calls of both ends, in any order
+
+-- a call of one of them, with what it is lent
+pub data Turn : Type 0 where
+  main : Main.Made → Turn
+  supervisor : Supervisor.Made → Turn
+
+-- the arguments have the types that the calls give them
+abbrev pub MainTyped : Main.Call → Type 0
+MainTyped Main.start = Unit {0}
+MainTyped (Main.request command d room) = (command < 256) × Each Byte d
+MainTyped Main.interrupt = Unit {0}
+MainTyped (Main.send room) = Unit {0}
+MainTyped (Main.receive piece) = Each Byte piece
+
+abbrev pub TurnTyped : Turn → Type 0
+TurnTyped (main m) = MainTyped (m .call)
+TurnTyped (supervisor m) = Supervisor.Typed (m .call)
+
+-- ---- What they have put out and read
+
+-- a frame that is not empty, as the supervisor came to it
+pub record Handled : Type 0 where
+  -- the bytes before its 00
+  pub form : List ℕ
+  -- the image lent to the call that brought the 00
+  pub image : List ℕ
+  -- the supervisor's state, the frames before it carried out or answered
+  pub state : State
+  -- those frames, since the supervisor's last accepted start, without the empty ones
+  pub earlier : List (List ℕ)
+  -- for each settings key, where its value and edition came from then
+  pub origin : ℕ → Origin
+  -- the frames that the main processor's end had put out by then, since its last accepted start
+  pub asked : List Frame
+  -- whether, since that start, the supervisor had been started, or had carried out a reboot or power-off, which drop the retained alert reply
+  pub cleared : Bool
+
+-- the message of a reply
+abbrev pub messageOf : Option Reply → Option Message
+messageOf none = none
+messageOf (some r) = some (record { version = r .version; sequence = r .sequence; command = r .command; payload = r .payload })
+
+-- the reply to a request that is carried out in the state s, with this image lent; none where it earns none
+abbrev pub replyTo : List ℕ → State → Message → Option Message
+replyTo image s m = messageOf (replyOf (m .sequence) (carried image s m .reply))
+
+-- the reply that the supervisor made to a frame: a valid request is carried out, any other frame earns its numbered failure
+unfoldable pub replyMade : Handled → Option Message
+replyMade h = messageOf (replyBy (h .image) (h .state) (verdict (h .form)))
+
+-- all but `received` and `origin` since the main processor's end was last started
+pub record Log : Type 0 where
+  -- the bytes that the main processor's end has read
+  pub read : List ℕ
+  -- the frames that it has put out
+  pub asked : List Frame
+  -- the bytes that the supervisor has received since its own last accepted start
+  pub received : List ℕ
+  -- for each settings key, where its value and edition come from: the supervisor's last accepted start or, of a saved key, a later
+  -- accepted restore, and the requests since
+  pub origin : ℕ → Origin
+  -- the good messages that the supervisor has read
+  pub heard : List Message
+  -- the frames that it has carried out or answered
+  pub handled : List Handled
+  -- whether it has been started, or has carried out a reboot or power-off
+  pub cleared : Bool
+  -- its newest reply, where bytes of it are still to be taken
+  pub pending : Option Message
+  -- its replies whose bytes were all taken; one that was made before the main processor's end was started is not among them
+  pub sent : List Message
+
+-- nothing yet, with whether the supervisor was just started too, the bytes that it had received, and where its keys' values came from
+abbrev pub emptyLog : Bool → List ℕ → (ℕ → Origin) → Log
+emptyLog started w o = record { read = []; asked = []; received = w; origin = o; heard = []; handled = []; cleared = started; pending = none; sent = [] }
+
+-- both just started
+abbrev pub firstLog : Log
+firstLog = emptyLog true [] (λ k. sinceStart)
+
+-- the good messages among the bytes that the main processor's end has read
+abbrev pub got : Log → List Message
+got l = goodMessages (nonEmpty (split (l .read) .closed))
+
+-- ---- A call of the main processor's end
+
+-- the bytes that it reads, by its answer
+abbrev usedBy : List ℕ → Main.Answer → List ℕ
+usedBy piece (Main.refused n) = []
+usedBy piece Main.done = []
+usedBy piece (Main.put n) = []
+usedBy piece (Main.received used t e u) = take used piece
+
+abbrev pub readBy : Main.Call → Main.Answer → List ℕ
+readBy Main.start a = []
+readBy (Main.request command d room) a = []
+readBy Main.interrupt a = []
+readBy (Main.send room) a = []
+readBy (Main.receive piece) a = usedBy piece a
+
+-- whether it is a start that was accepted
+abbrev pub restarts : Main.Call → Main.Answer → Bool
+restarts c (Main.refused n) = false
+restarts c Main.done = isStart c
+restarts c (Main.put n) = false
+restarts c (Main.received used t e u) = false
+
+-- by its answer, what it wrote outside the state, and the newest number that it left
+unfoldable pub mainLogged : Log → Main.Call → Main.Answer → List ℕ → ℕ → Log
+mainLogged l c a out n =
+    cond (restarts c a) (emptyLog false (l .received) (l .origin))
+    (record {
+      read = l .read ++ readBy c a;
+      asked = l .asked ++ framesBy a out n;
+      received = l .received;
+      origin = l .origin;
+      heard = l .heard;
+      handled = l .handled;
+      cleared = l .cleared;
+      pending = l .pending;
+      sent = l .sent;
+    })
+
+-- ---- A call of the supervisor
+
+-- the image that it is lent
+abbrev pub imageOf : Supervisor.Call → List ℕ
+imageOf (Supervisor.start d) = []
+imageOf (Supervisor.receive image piece) = image
+imageOf (Supervisor.step image piece) = image
+imageOf (Supervisor.local c) = []
+
+-- whether a frame drops the retained alert reply: a reboot or power-off that is carried out
+abbrev pub dropsBy : Verdict → Bool
+dropsBy (failure reason version sequence) = false
+dropsBy (good m) = eqb (m .command) 0x01 || eqb (m .command) 0x02
+
+unfoldable pub drops : List ℕ → Bool
+drops f = dropsBy (verdict f)
+
+-- where the keys' values come from behind a frame
+abbrev pub originBy : (ℕ → Origin) → List ℕ → ℕ → Origin
+originBy o f k = sinceMore (o k) (requestsIn (f ∷ []))
+
+-- the frames that it brings, one after the other
+unfoldable pub handledBy : List Frame → List ℕ → Bool → State → (ℕ → Origin) → List (List ℕ) → List (List ℕ) → List Handled
+handledBy asked image cleared s o earlier [] = []
+handledBy asked image cleared s o earlier (f ∷ fs) =
+    (record { form = f; image = image; state = s; earlier = earlier; origin = o; asked = asked; cleared = cleared })
+    ∷ handledBy asked image (cleared || drops f) (framed image s f) (originBy o f) (earlier ++ (f ∷ [])) fs
+
+unfoldable pub clearedBy : Bool → List (List ℕ) → Bool
+clearedBy cleared [] = cleared
+clearedBy cleared (f ∷ fs) = clearedBy (cleared || drops f) fs
+
+-- the newest reply: each frame discards what is unsent
+abbrev pub newestReply : Option Message → List Handled → Option Message
+newestReply r [] = r
+newestReply r (h ∷ hs) = newestReply (replyMade h) hs
+
+-- the bytes that wait tell whether it was taken whole
+abbrev pub stillPending : List ℕ → Option Message → Option Message
+stillPending [] r = none
+stillPending (b ∷ bs) r = r
+
+abbrev pub takenWhole : List ℕ → Option Message → List Message
+takenWhole [] none = []
+takenWhole [] (some r) = r ∷ []
+takenWhole (b ∷ bs) r = []
+
+-- the frames that a call brings, on the state s
+unfoldable pub brought : Log → State → Supervisor.Made → List Handled
+brought l s m =
+    handledBy (l .asked) (imageOf (m .call)) (l .cleared) s (l .origin) (nonEmpty (split (l .received) .closed)) (Received.framesBy (l .received) (Received.receivedBy m))
+
+-- by the state before it, and the bytes that are pending after it
+unfoldable pub supervisorLogged : Log → State → Supervisor.Made → List ℕ → Log
+supervisorLogged l s m waiting =
+    let hs = brought l s m in
+    let r = cond (Received.startsAnew m) none (newestReply (l .pending) hs) in
+    record {
+      read = l .read;
+      asked = l .asked;
+      received = Received.joined (l .received) m;
+      origin = λ k. sinceMade k (l .received) (l .origin k) m;
+      heard = l .heard ++ goodMessages (Received.framesBy (l .received) (Received.receivedBy m));
+      handled = l .handled ++ hs;
+      cleared = Received.startsAnew m || clearedBy (l .cleared) (Received.framesBy (l .received) (Received.receivedBy m));
+      pending = stillPending waiting r;
+      sent = l .sent ++ takenWhole waiting r;
+    }
+
+-- ---- Both ends after calls
+
+pub record Ends : Type 0 where
+  pub main : MainCalls.Parts
+  pub supervisor : SupervisorCalls.Parts
+  pub log : Log
+
+-- the parts, and what was put out and read, after one call by the definitions that the promises cite
+unfoldable pub after : Ends → Turn → Ends
+after e (main m) =
+    let d = Main.made (e .main) m in
+    record {
+      main = d .parts;
+      supervisor = e .supervisor;
+      log = mainLogged (e .log) (m .call) (d .answer) (d .out) (Layout.numberOf (d .parts .requester));
+    }
+after e (supervisor m) =
+    let d = Supervisor.made (e .supervisor) m in
+    record {
+      main = e .main;
+      supervisor = d .parts;
+      log = supervisorLogged (e .log) (view (e .supervisor)) m (view (d .parts) .pending);
+    }
+
+-- a start of each end that is accepted, on any bytes
+pub record Starts : Type 0 where
+  pub main-parts : MainCalls.Parts
+  pub main-lent : Main.Lent
+  pub main-accepted : Main.made main-parts (record { lent = main-lent; call = Main.start }) .answer ≡ Main.done
+  pub supervisor-parts : SupervisorCalls.Parts
+  pub supervisor-bytes : Bytes supervisor-parts
+  pub supervisor-lent : Supervisor.Lent
+  pub start-data : List ℕ
+  pub start-typed : Supervisor.Typed (Supervisor.start start-data)
+  pub supervisor-accepted : Supervisor.made supervisor-parts (record { lent = supervisor-lent; call = Supervisor.start start-data }) .answer ≡ Supervisor.done
+
+-- both ends then
+abbrev pub begun : Starts → Ends
+begun s = record {
+  main = Main.made (s .main-parts) (record { lent = s .main-lent; call = Main.start }) .parts;
+  supervisor = Supervisor.made (s .supervisor-parts) (record { lent = s .supervisor-lent; call = Supervisor.start (s .start-data) }) .parts;
+  log = firstLog;
+}
+
+unfoldable pub afterAll : Ends → List Turn → Ends
+afterAll e [] = e
+afterAll e (t ∷ ts) = afterAll (after e t) ts
+
+-- a claim about each call, with both ends as it found them
+abbrev pub Always : (Ends → Turn → Type 0) → Ends → List Turn → Type 0
+Always C e [] = Unit {0}
+Always C e (t ∷ ts) = C e t × Always C (after e t) ts
+
+-- ---- The wire
+
+-- each good message that an end has read since the main processor's end was last started is that of a whole frame that the other has put out since: bytes may
+-- be lost, delayed, cut and damaged, frames may come late, twice and in another order, but no good message comes of damage, of half a frame, or of a
+-- frame that was put out, or a reply that was made, before that start
+pub record Wire (l : Log) : Type 0 where
+  pub to-supervisor : Each (λ (m : Message). Any (λ (x : Frame). x .bytes ≡ frame m) (l .asked)) (l .heard)
+  pub to-main : Each (λ (r : Message). Any (λ (y : Message). frame y ≡ frame r) (l .sent)) (got l)
+
+-- a list whose elements stand in another, in order: some were lost
+pub data Among (A : Type 0) : List A → List A → Type 0 where
+  over : Among A [] []
+  lost : {y : A} {xs ys : List A} → Among A xs ys → Among A xs (y ∷ ys)
+  came : {x : A} {xs ys : List A} → Among A xs ys → Among A (x ∷ xs) (x ∷ ys)
+
+-- the same with the order kept, and each frame read once at most: `Wire` follows (`in-order-wire`)
+pub record InOrder (l : Log) : Type 0 where
+  pub to-supervisor : Among (List ℕ) (map frame (l .heard)) (map (λ (x : Frame). x .bytes) (l .asked))
+  pub to-main : Among (List ℕ) (map frame (got l)) (map frame (l .sent))
+
+-- at every moment
+abbrev pub WireAfter : Ends → Turn → Type 0
+WireAfter e t = Wire (after e t .log)
+
+-- ---- What an answer comes from
+
+-- the message of a request under a number
+abbrev pub asMessage : ℕ → Request → Message
+asMessage n q = record { version = 1; sequence = n; command = q .command; payload = q .payload }
+
+-- the supervisor carried out exactly this request under this number, after the main processor's end had put it out, and r is the reply that it made
+pub record CarriedOut (n : ℕ) (q : Request) (r : Message) (h : Handled) : Type 0 where
+  -- the frame is the one put out under n, byte for byte
+  pub form : h .form ++ (0 ∷ []) ≡ requestFrame n q
+  -- it passes the whole table, as that message
+  pub passed : verdict (h .form) ≡ good (asMessage n q)
+  -- it had been put out by then
+  pub put-out : Any (λ (x : Frame). (x .number ≡ n) × (x .bytes ≡ requestFrame n q)) (h .asked)
+  -- its reply
+  pub reply : replyTo (h .image) (h .state) (asMessage n q) ≡ some r
+
+-- a message that the main processor's end takes for the answer to the request that is outstanding, in the state s
+pub record Fresh (s : MainState.State) (l : Log) (r : Message) : Type 0 where
+  pub request : Request
+  pub waiting : outstanding s ≡ some request
+  pub made : Any (CarriedOut (s .newest) request r) (l .handled)
+
+-- what is handed out: an answer, an alert's answer, or a status
+abbrev pub FreshTold : MainState.State → Log → MainCalls.Told → List ℕ → Type 0
+FreshTold s l (MainCalls.Told.refused n) d = Unit {0}
+FreshTold s l MainCalls.nothing d = Unit {0}
+FreshTold s l (MainCalls.answered v q c n) d = Fresh s l (record { version = v; sequence = q; command = c; payload = d })
+FreshTold s l (MainCalls.status x o k) d =
+    (r : Message) × Fresh s l r × (statusOf r ≡ x) × (optionsOf r ≡ o) × (r .command ≡ 0x06) × (length (r .payload) ≡ status-length)
+FreshTold s l (MainCalls.alerted v q c n) d = Fresh s l (record { version = v; sequence = q; command = c; payload = d })
+
+abbrev pub FreshAnswer : MainState.State → Log → Main.Answer → List ℕ → Type 0
+FreshAnswer s l (Main.refused n) d = Unit {0}
+FreshAnswer s l Main.done d = Unit {0}
+FreshAnswer s l (Main.put n) d = Unit {0}
+FreshAnswer s l (Main.received used t e u) d = FreshTold s l t d
+
+-- of each call, with what was put out and read before it
+abbrev pub TurnFresh : Ends → Turn → Type 0
+TurnFresh e (main m) = let d = Main.made (e .main) m in FreshAnswer (MainView.view (e .main)) (e .log) (d .answer) (d .out)
+TurnFresh e (supervisor m) = Unit {0}
+
+-- ---- What an alert's answer comes from
+
+-- whether a reply is retained under this number
+abbrev pub retainedUnder : ℕ → Option Retained → Bool
+retainedUnder n none = false
+retainedUnder n (some t) = eqb (t .sequence) n
+
+-- in carrying the request out, the supervisor took the oldest alert that waited then
+pub record AlertTaken (n : ℕ) (q : Request) (r : Message) (h : Handled) : Type 0 where
+  pub carried-out : CarriedOut n q r h
+  pub none-retained : retainedUnder n (h .state .retained) ≡ false
+  pub oldest-waiting : r .payload ≡ alertData (oldest (h .state .waiting))
+
+-- an answer to an alert request holds an alert that was taken in carrying out that request, after it was put out, if no alert reply from before the main
+-- processor's end was started was still retained: if since that start the supervisor was started or carried out a reboot or power-off, and then this request
+abbrev pub FreshAlert : MainState.State → Log → Message → Type 0
+FreshAlert s l r =
+    (q : Request) → outstanding s ≡ some q → q .command ≡ 0x0a → Any (λ (h : Handled). CarriedOut (s .newest) q r h × (h .cleared ≡ true)) (l .handled)
+    → Any (AlertTaken (s .newest) q r) (l .handled)
+
+-- of each message that a call hands out
+abbrev pub ToldOf : (Message → Type 0) → MainCalls.Told → List ℕ → Type 0
+ToldOf P (MainCalls.Told.refused n) d = Unit {0}
+ToldOf P MainCalls.nothing d = Unit {0}
+ToldOf P (MainCalls.answered v q c n) d = P (record { version = v; sequence = q; command = c; payload = d })
+ToldOf P (MainCalls.status x o k) d = Unit {0}
+ToldOf P (MainCalls.alerted v q c n) d = P (record { version = v; sequence = q; command = c; payload = d })
+
+abbrev pub AnswerOf : (Message → Type 0) → Main.Answer → List ℕ → Type 0
+AnswerOf P (Main.refused n) d = Unit {0}
+AnswerOf P Main.done d = Unit {0}
+AnswerOf P (Main.put n) d = Unit {0}
+AnswerOf P (Main.received used t e u) d = ToldOf P t d
+
+abbrev pub TurnOf : (MainState.State → Log → Message → Type 0) → Ends → Turn → Type 0
+TurnOf P e (main m) = let d = Main.made (e .main) m in AnswerOf (P (MainView.view (e .main)) (e .log)) (d .answer) (d .out)
+TurnOf P e (supervisor m) = Unit {0}
+
+-- ---- What a lookup's answer comes from
+
+-- a lookup of key k with maxresponse `most`
+abbrev pub lookupRequest : ℕ → ℕ → Request
+lookupRequest k most = record { command = 0x0e; payload = bytes 1 k ++ bytes 2 most }
+
+-- the supervisor carried the lookup out, after it was put out
+pub record ValueThen (n k most : ℕ) (r : Message) (h : Handled) : Type 0 where
+  pub carried-out : CarriedOut n (lookupRequest k most) r h
+  -- the answer is the value that key k had then: result 2 where it had none, 3 where the value is longer than maxresponse, else 0 and the value
+  pub value : let f = fittedOf most (entryOf (h .state) k) in r .payload ≡ f .result ∷ f .value
+  -- and that is the value of the last successful set of key k, or what the last accepted restore left if that is later, among what the supervisor had carried
+  -- out since its last start; a restored image may itself be old
+  pub last-set : entryOf (h .state) k ≡ setSince k (h .origin k)
+
+-- of a lookup that is outstanding, of a settings key that is read back
+abbrev pub FreshValue : MainState.State → Log → Message → Type 0
+FreshValue s l r =
+    (k most : ℕ) → ReadBack k → most < 65536 → outstanding s ≡ some (lookupRequest k most)
+    → (r .version ≡ 1) × (r .sequence ≡ replySequence (s .newest)) × (r .command ≡ 0x0a) × Any (ValueThen (s .newest) k most r) (l .handled)
+
+-- the frames that the supervisor has received since its last accepted start, without the empty ones
+abbrev pub framesOf : Ends → List (List ℕ)
+framesOf e = nonEmpty (split (e .log .received) .closed)
+
+-- whether a call restores an image that is good
+abbrev pub isRestore : Supervisor.Call → Bool
+isRestore (Supervisor.start d) = false
+isRestore (Supervisor.receive image piece) = false
+isRestore (Supervisor.step image piece) = false
+isRestore (Supervisor.local c) = isSome (restoredBy c)
+
+-- whether it is a restore that is accepted: one that is lent too little is not
+unfoldable pub restores : Supervisor.Made → Bool
+restores m = Supervisor.enough (m .call) (m .lent) && isRestore (m .call)
+
+-- a call of the supervisor that is neither an accepted start nor an accepted restore: a restore can bring an older value back
+pub record Stays (m : Supervisor.Made) : Type 0 where
+  pub no-start : Received.startsAnew m ≡ false
+  pub no-restore : restores m ≡ false
+
+abbrev pub TurnStays : Turn → Type 0
+TurnStays (main m) = Unit {0}
+TurnStays (supervisor m) = Stays m
+
+-- the same against an earlier moment
+pub record ValueSince (e : Ends) (n k most : ℕ) (r : Message) (h : Handled) : Type 0 where
+  pub value-then : ValueThen n k most r h
+  -- the frames since that moment
+  pub later : List (List ℕ)
+  pub behind : h .earlier ≡ framesOf e ++ later
+  -- the value is that of the last successful set since then, or else the one that key k had then
+  pub last-since : entryOf (h .state) k ≡ setAfter k (entryOf (view (e .supervisor)) k) (requestsIn later)
+
+-- of a lookup whose number was not taken yet at that moment
+abbrev pub NotReplaced : Ends → MainState.State → Log → Message → Type 0
+NotReplaced e s l r =
+    (k most : ℕ) → ReadBack k → most < 65536 → outstanding s ≡ some (lookupRequest k most) → MainView.view (e .main) .newest < s .newest
+    → Any (ValueSince e (s .newest) k most r) (l .handled)

@@ -1,0 +1,58 @@
+-- An answer that is handed out was made by the supervisor in carrying out exactly the request that is outstanding, after it was put out.
+-- Assumes nothing.
+use mathlib.Core.Path.{_≡_, refl}
+use mathlib.Core.List.{List, [], _∷_, map}
+use mathlib.Core.Logic.{inl, inr}
+use Prim.Native.Nat.{ℕ}
+use Rattle.octets.specs.Bytes.{Each}
+use Rattle.line.specs.Message.{Message}
+use Rattle.line.specs.Frame.{frame}
+use Rattle.requester_claims.specs.View as MainView
+use Rattle.requester_claims.specs.Numbers.{Frame}
+use Rattle.both_claims.specs.Ends
+use Rattle.both_claims.specs.Ends.{TurnTyped, after, Starts, begun, Always, Wire, WireAfter, FreshAnswer, TurnFresh}
+use Rattle.both_claims.specs.Ends.{Any, Log, got, Among, over, lost, came, InOrder}
+use Rattle.both_claims.specs.laws.Lists.{each-then}
+use Rattle.both_claims.specs.laws.MainCalls.{main-fresh}
+use Rattle.both_claims.specs.laws.Turns.{Both, main-log, main-answer, each-turn, begun-both}
+
+pub turn-fresh : (e : Ends.Ends) → Both e → (t : Ends.Turn) → TurnTyped t → Wire (after e t .log) → TurnFresh e t
+turn-fresh e both (Ends.main m) typed w =
+    let s = MainView.view (e .main) in
+    main-answer e both (FreshAnswer s (e .log)) m (main-fresh s (e .log) (both .kept) m typed (rw (main-log e both m) at w))
+turn-fresh e both (Ends.supervisor m) typed w = tt
+
+-- A start of each end that is accepted, on any bytes; then any calls of both in any order, further starts among them, each lent any run of each part; at every
+-- moment the wire is as `Wire` says. Then what each receive of the main processor's end hands out was made by the supervisor in carrying out exactly the request
+-- outstanding, after it was put out under its number.
+pub fresh-answer : (s : Starts) (ts : List Ends.Turn) → Each TurnTyped ts → Always WireAfter (begun s) ts → Always TurnFresh (begun s) ts
+fresh-answer s ts t w = each-turn (λ e. Unit {0}) TurnFresh (λ e both x t typed v. (turn-fresh e both t typed v, tt)) (begun s) (begun-both s) tt ts t w
+
+-- ---- a wire that keeps the order
+
+among-each : {A : Type 0} {xs ys : List A} → Among A xs ys → Each (λ (x : A). Any (λ (y : A). y ≡ x) ys) xs
+among-each over = tt
+among-each {A} (lost {y = y} {xs = xs} {ys = ys} a) = each-then (λ (x : A). Any (λ (z : A). z ≡ x) ys) (λ (x : A). Any (λ (z : A). z ≡ x) (y ∷ ys)) (λ x h. inr h) xs (among-each a)
+among-each {A} (came {x = x} {xs = xs} {ys = ys} a) =
+    (inl refl, each-then (λ (z : A). Any (λ (y : A). y ≡ z) ys) (λ (z : A). Any (λ (y : A). y ≡ z) (x ∷ ys)) (λ z h. inr h) xs (among-each a))
+
+-- of the elements' images
+any-map : {A B : Type 0} (f : A → B) (b : B) (xs : List A) → Any (λ (y : B). y ≡ b) (map f xs) → Any (λ (x : A). f x ≡ b) xs
+any-map f b [] h = h
+any-map f b (x ∷ xs) (inl h) = inl h
+any-map f b (x ∷ xs) (inr h) = inr (any-map f b xs h)
+
+each-map : {A B : Type 0} (f : A → B) (P : B → Type 0) (xs : List A) → Each P (map f xs) → Each (λ (x : A). P (f x)) xs
+each-map f P [] h = tt
+each-map f P (x ∷ xs) h = (h .0, each-map f P xs (h .1))
+
+-- so `fresh-answer` holds on a wire on which each end has read, in order, only messages of whole frames that the other had put out
+pub in-order-wire : (l : Log) → InOrder l → Wire l
+in-order-wire l o = record {
+  to-supervisor =
+      each-then _ _ (λ (m : Message) h. any-map (λ (x : Frame). x .bytes) (frame m) (l .asked) h) (l .heard)
+      (each-map frame (λ (b : List ℕ). Any (λ (y : List ℕ). y ≡ b) (map (λ (x : Frame). x .bytes) (l .asked))) (l .heard) (among-each (o .to-supervisor)));
+  to-main =
+      each-then _ _ (λ (r : Message) h. any-map frame (frame r) (l .sent) h) (got l)
+      (each-map frame (λ (b : List ℕ). Any (λ (y : List ℕ). y ≡ b) (map frame (l .sent))) (got l) (among-each (o .to-main)));
+}

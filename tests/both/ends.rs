@@ -1,0 +1,185 @@
+// Defines both ends in parts that are lent to the C functions of include/oatcastle.h, one method for each call that the simulation makes.
+// Assumes the lengths of bindings/rust/src/limits.rs. A refusal that the header rules out ends the program.
+
+use crate::library;
+use crate::limits::{
+    ALERT, ANSWER, FACTORY_LENGTH, LONGEST_FRAME, NOTHING, OUTBOX_LENGTH, READER_LENGTH, REGISTERS_LENGTH, REQUESTER_LENGTH, REQUESTER_RECEIVE_NUMBERS,
+    SETTINGS_LENGTH, START_LENGTH, STATUS, STEP_NUMBERS,
+};
+
+fn done(call: &str, number: u32) {
+    assert_eq!(number, 0, "{call} is refused");
+}
+
+pub struct Supervisor {
+    reader: [u8; READER_LENGTH],
+    outbox: [u8; OUTBOX_LENGTH],
+    factory: [u8; FACTORY_LENGTH],
+    settings: [u8; SETTINGS_LENGTH],
+    registers: [u8; REGISTERS_LENGTH],
+}
+
+impl Supervisor {
+    /// Parts of these contents, not started.
+    pub fn new(byte: u8) -> Box<Supervisor> {
+        Box::new(Supervisor {
+            reader: [byte; READER_LENGTH],
+            outbox: [byte; OUTBOX_LENGTH],
+            factory: [byte; FACTORY_LENGTH],
+            settings: [byte; SETTINGS_LENGTH],
+            registers: [byte; REGISTERS_LENGTH],
+        })
+    }
+
+    pub fn start(&mut self, data: &[u8; START_LENGTH]) {
+        let Supervisor { reader, outbox, factory, settings, registers } = self;
+        // Here and below, each pointer is to a run of the length behind it, and no two runs overlap.
+        done("start", unsafe {
+            library::oatcastle_start(
+                data.as_ptr(), reader.as_mut_ptr(), READER_LENGTH, outbox.as_mut_ptr(), OUTBOX_LENGTH, factory.as_mut_ptr(), FACTORY_LENGTH,
+                settings.as_mut_ptr(), SETTINGS_LENGTH, registers.as_mut_ptr(), REGISTERS_LENGTH,
+            )
+        });
+    }
+
+    pub fn receive(&mut self, image: &[u8], piece: &[u8]) {
+        let Supervisor { reader, outbox, factory, settings, registers } = self;
+        done("receive", unsafe {
+            library::oatcastle_receive(
+                image.as_ptr(), image.len(), piece.as_ptr(), piece.len(), reader.as_mut_ptr(), READER_LENGTH, outbox.as_mut_ptr(), OUTBOX_LENGTH,
+                factory.as_ptr(), FACTORY_LENGTH, settings.as_mut_ptr(), SETTINGS_LENGTH, registers.as_mut_ptr(), REGISTERS_LENGTH,
+            )
+        });
+    }
+
+    /// How many bytes of the piece were read.
+    pub fn step(&mut self, image: &[u8], piece: &[u8]) -> usize {
+        let Supervisor { reader, outbox, factory, settings, registers } = self;
+        let mut answer = [0; STEP_NUMBERS];
+        done("step", unsafe {
+            library::oatcastle_step(
+                image.as_ptr(), image.len(), piece.as_ptr(), piece.len(), reader.as_mut_ptr(), READER_LENGTH, outbox.as_mut_ptr(), OUTBOX_LENGTH,
+                factory.as_ptr(), FACTORY_LENGTH, settings.as_mut_ptr(), SETTINGS_LENGTH, registers.as_mut_ptr(), REGISTERS_LENGTH,
+                answer.as_mut_ptr(), answer.len(),
+            )
+        });
+        answer[0] as usize
+    }
+
+    /// The bytes that go out, at most so many.
+    pub fn take(&mut self, most: usize) -> Vec<u8> {
+        let mut room = vec![0; most];
+        let mut answer = [0];
+        done("take", unsafe { library::oatcastle_take(self.outbox.as_mut_ptr(), OUTBOX_LENGTH, room.as_mut_ptr(), most, answer.as_mut_ptr(), 1) });
+        room.truncate(answer[0] as usize);
+        room
+    }
+
+    pub fn post(&mut self, action: u8, text: &[u8]) -> u32 {
+        unsafe { library::oatcastle_post(self.registers.as_mut_ptr(), REGISTERS_LENGTH, action, text.as_ptr(), text.len()) }
+    }
+
+    pub fn set_options(&mut self, options: u64) -> u32 {
+        unsafe { library::oatcastle_set_options(self.registers.as_mut_ptr(), REGISTERS_LENGTH, options) }
+    }
+
+    pub fn signal(&self) -> bool {
+        let mut answer = [0];
+        done("signal", unsafe { library::oatcastle_signal(self.registers.as_ptr(), REGISTERS_LENGTH, answer.as_mut_ptr(), 1) });
+        answer[0] == 1
+    }
+}
+
+/// What the main processor's end hands out.
+pub enum Handed {
+    Nothing,
+    Answer(Reply),
+    Status { status: u64, options: u64, set_bits: u64 },
+    Alert(Reply),
+}
+
+pub struct Reply {
+    pub sequence: u64,
+    pub command: u8,
+    pub data: Vec<u8>,
+}
+
+pub struct Received {
+    pub used: usize,
+    pub handed: Handed,
+    /// A frame is to go out.
+    pub unsent: bool,
+}
+
+pub struct Main {
+    reader: [u8; READER_LENGTH],
+    requester: [u8; REQUESTER_LENGTH],
+}
+
+impl Main {
+    /// Parts of these contents, not started.
+    pub fn new(byte: u8) -> Box<Main> {
+        Box::new(Main { reader: [byte; READER_LENGTH], requester: [byte; REQUESTER_LENGTH] })
+    }
+
+    pub fn start(&mut self) {
+        let Main { reader, requester } = self;
+        done("requester_start", unsafe {
+            library::oatcastle_requester_start(reader.as_mut_ptr(), READER_LENGTH, requester.as_mut_ptr(), REQUESTER_LENGTH)
+        });
+    }
+
+    /// The frame that goes out.
+    pub fn request(&mut self, command: u8, data: &[u8]) -> Vec<u8> {
+        let mut room = vec![0; LONGEST_FRAME];
+        let mut answer = [0];
+        done("requester_request", unsafe {
+            library::oatcastle_requester_request(
+                self.requester.as_mut_ptr(), REQUESTER_LENGTH, command, data.as_ptr(), data.len(), room.as_mut_ptr(), room.len(), answer.as_mut_ptr(), 1,
+            )
+        });
+        room.truncate(answer[0] as usize);
+        room
+    }
+
+    pub fn interrupt(&mut self) {
+        done("requester_interrupt", unsafe { library::oatcastle_requester_interrupt(self.requester.as_mut_ptr(), REQUESTER_LENGTH) });
+    }
+
+    /// The frame that goes out; empty where none does.
+    pub fn send(&mut self) -> Vec<u8> {
+        let mut room = vec![0; LONGEST_FRAME];
+        let mut answer = [0];
+        done("requester_send", unsafe {
+            library::oatcastle_requester_send(self.requester.as_mut_ptr(), REQUESTER_LENGTH, room.as_mut_ptr(), room.len(), answer.as_mut_ptr(), 1)
+        });
+        room.truncate(answer[0] as usize);
+        room
+    }
+
+    pub fn receive(&mut self, piece: &[u8]) -> Received {
+        let Main { reader, requester } = self;
+        let mut answer = [0; REQUESTER_RECEIVE_NUMBERS];
+        done("requester_receive", unsafe {
+            library::oatcastle_requester_receive(
+                piece.as_ptr(), piece.len(), reader.as_mut_ptr(), READER_LENGTH, requester.as_mut_ptr(), REQUESTER_LENGTH, answer.as_mut_ptr(), answer.len(),
+            )
+        });
+        let [used, kind, ended, unsent, first, second, third] = answer;
+        assert_eq!(ended, 0, "numbers ran out");
+        let handed = match kind {
+            NOTHING => Handed::Nothing,
+            STATUS => Handed::Status { status: first, options: second, set_bits: third },
+            ANSWER => Handed::Answer(self.reply(first, second, third)),
+            ALERT => Handed::Alert(self.reply(first, second, third)),
+            _ => panic!("requester_receive hands out kind {kind}"),
+        };
+        Received { used: used as usize, handed, unsent: unsent == 1 }
+    }
+
+    fn reply(&self, sequence: u64, command: u64, length: u64) -> Reply {
+        let mut data = vec![0; length as usize];
+        done("line_data", unsafe { library::oatcastle_line_data(self.reader.as_ptr(), READER_LENGTH, length, data.as_mut_ptr(), data.len()) });
+        Reply { sequence, command: command as u8, data }
+    }
+}
