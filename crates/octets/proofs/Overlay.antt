@@ -12,7 +12,7 @@ use lib.Seq.{take-suc, take-add, getD-drop, take-nil, drop-nil, drop-drop, take-
 use borrow.Author.Tests.{leb-true, le-leb, lt-leb}
 use Rattle.octets.specs.Bytes.{Byte, Each, number, bytes, run, numberAt, fits, overlay, put, copied, movedDown}
 use Rattle.octets.proofs.Each.{each-append, each-take, each-drop, each-run}
-use Rattle.octets.proofs.Numbers.{length-bytes, bytes-join, number-bytes, bytes-number}
+use Rattle.octets.proofs.Numbers.{length-bytes, one-byte, bytes-join, number-bytes, bytes-number}
 use Rattle.octets.proofs.Conditions.{cond-by}
 
 -- ---- runs
@@ -293,3 +293,21 @@ module _ (t u : List ℕ) where
   run-append at n h =
       let k : n ≤ length (drop at t) = simp length-drop (omega arith) in
       rw (drop-append-le at t u (omega arith), take-append-le n (drop at t) u k)
+
+-- more put right behind what was put
+module _ (at behind : ℕ) (xs s : List ℕ) (e : behind ≡ at + length xs) where
+  pub next-put : (ys : List ℕ) → behind + length ys ≤ length s → put behind ys (overlay at xs s) ≡ overlay at (xs ++ ys) s
+  next-put ys h =
+      let l : length (overlay at xs s) ≡ length s = length-overlay at xs s (omega arith) in
+      put-fits behind ys (overlay at xs s) (omega arith) ∙ rw e (overlay-next at xs ys s (omega arith))
+
+  pub next-copied : (src : List ℕ) (from n : ℕ) → from + n ≤ length src → behind + n ≤ length s
+      → copied src from n (overlay at xs s) behind ≡ overlay at (xs ++ run from n src) s
+  next-copied src from n f h =
+      let l : length (overlay at xs s) ≡ length s = length-overlay at xs s (omega arith) in
+      copied-fits src from n (overlay at xs s) behind f (omega arith) ∙ rw e (overlay-next at xs (run from n src) s (omega arith))
+
+  pub next-byte : (v : ℕ) → v < 256 → behind < length s → set (overlay at xs s) behind v ≡ overlay at (xs ++ bytes 1 v) s
+  next-byte v small h =
+      let l : length (overlay at xs s) ≡ length s = length-overlay at xs s (omega arith) in
+      overlay-one behind v (overlay at xs s) (omega arith) ∙ rw (e, one-byte v small) (overlay-next at xs (v ∷ []) s (omega arith))

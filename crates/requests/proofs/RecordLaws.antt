@@ -11,27 +11,12 @@ use lib.Dec.{ltb}
 use borrow.Author.Tests.{ltb-false, lt-ltb, le-ltb, eq-eqb, ne-eqb}
 use lib.ListN.{length, take, drop, set, length-append, length-drop}
 use lib.Seq.{take-nil, take-length}
-use Rattle.octets.specs.Bytes.{bytes, run, overlay, put, copied}
+use Rattle.octets.specs.Bytes.{bytes, overlay, put, copied}
 use Rattle.octets.proofs.Numbers.{length-bytes, one-byte}
-use Rattle.octets.proofs.Overlay.{length-overlay, overlay-one, overlay-next, put-fits, copied-fits}
+use Rattle.octets.proofs.Overlay.{overlay-one, put-fits, next-put, next-copied}
 use Rattle.supervisor.specs.Limits.{most-kept, last-edition}
 use Rattle.supervisor.specs.Layout.{registers-length, panic-offset, record-code-offset, record-whole-offset, record-kept-offset, setting-edition-offset, setting-length-offset, setting-value-offset, settingEdition}
 use Rattle.requests.specs.Receive.{withRecord, withValue, keyStored, storingAt}
-
--- ---- bytes put, and more behind them
-
-module _ (at place : ℕ) (xs s : List ℕ) (e : place ≡ at + length xs) where
-  pub next-number : (k v : ℕ) → place + k ≤ length s → put place (bytes k v) (overlay at xs s) ≡ overlay at (xs ++ bytes k v) s
-  next-number k v h =
-      let n = length-bytes k v in
-      let l : length (overlay at xs s) ≡ length s = length-overlay at xs s (omega arith) in
-      put-fits place (bytes k v) (overlay at xs s) (omega arith) ∙ rw e (overlay-next at xs (bytes k v) s (omega arith))
-
-  pub next-run : (src : List ℕ) (from n : ℕ) → from + n ≤ length src → place + n ≤ length s
-      → copied src from n (overlay at xs s) place ≡ overlay at (xs ++ run from n src) s
-  next-run src from n f h =
-      let l : length (overlay at xs s) ≡ length s = length-overlay at xs s (omega arith) in
-      copied-fits src from n (overlay at xs s) place f (omega arith) ∙ rw e (overlay-next at xs (run from n src) s (omega arith))
 
 -- a number alone
 pub number-stored : (k at : ℕ) (s : List ℕ) {v w : ℕ} {t : List ℕ} → at + k ≤ length s → v ≡ w → t ≡ put at (bytes k v) s → t ≡ overlay at (bytes k w) s
@@ -41,7 +26,7 @@ number-stored k at s {v} h e f =
 
 -- a byte that marks what is there, and a number behind it
 pub marked : (m k v at : ℕ) (s : List ℕ) → m < 256 → at + 1 + k ≤ length s → put (at + 1) (bytes k v) (set s at m) ≡ overlay at (bytes 1 m ++ bytes k v) s
-marked m k v at s small h = rw (overlay-one at m s (omega arith), one-byte m small) (next-number at (at + 1) (m ∷ []) s refl k v h)
+marked m k v at s small h = rw (overlay-one at m s (omega arith), one-byte m small) (next-put at (at + 1) (m ∷ []) s refl (bytes k v) (omega (arith, length-bytes k v)))
 
 pub length-marked : (m k v : ℕ) → length (bytes 1 m ++ bytes k v) ≡ 1 + k
 length-marked m k v = simp (length-append, length-bytes)
@@ -69,8 +54,8 @@ record-put r d at code from {whole} {kept} low long l w k f g h =
       g,
       f,
       marked 1 2 code at r (omega arith) (omega arith),
-      next-number at (at + record-whole-offset) head r (omega arith) 2 whole (omega arith),
-      next-run at (at + record-kept-offset) (head ++ bytes 2 whole) r (omega arith) d from kept (omega arith) (omega arith),
+      next-put at (at + record-whole-offset) head r (omega arith) (bytes 2 whole) (omega (arith, length-bytes 2 whole)),
+      next-copied at (at + record-kept-offset) (head ++ bytes 2 whole) r (omega arith) d from kept (omega arith) (omega arith),
       k,
       n,
       take-least,
@@ -125,8 +110,8 @@ module _ (s d : List ℕ) (at least most : ℕ) where
           ← e,
           ne-eqb edition last-edition o,
           marked 1 4 (edition + 1) at s (omega arith) (omega arith),
-          next-number at (at + setting-length-offset) head s (omega arith) 2 n (omega arith),
-          next-run at (at + setting-value-offset) (head ++ bytes 2 n) s (omega arith) d 1 n (omega arith) (omega arith),
+          next-put at (at + setting-length-offset) head s (omega arith) (bytes 2 n) (omega (arith, length-bytes 2 n)),
+          next-copied at (at + setting-value-offset) (head ++ bytes 2 n) s (omega arith) d 1 n (omega arith) (omega arith),
           take-length,
           add-one,
         )

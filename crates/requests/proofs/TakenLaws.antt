@@ -13,14 +13,14 @@ use lib.Seq.{take-take, drop-drop}
 use Rattle.octets.specs.Bytes.{bytes, number, run, numberAt, overlay, put, copied, movedDown}
 use Rattle.octets.proofs.Numbers.{length-bytes, number-bytes, one-byte}
 use Rattle.octets.proofs.Conditions.{cond-by}
-use Rattle.octets.proofs.Overlay.{length-run, length-overlay, overlay-before, overlay-after, overlay-inside, overlay-part, overlay-one, overlay-more, copied-fits, movedDown-fits}
+use Rattle.octets.proofs.Overlay.{length-run, length-overlay, overlay-before, overlay-after, overlay-inside, overlay-part, overlay-one, overlay-more, copied-fits, movedDown-fits, next-put, next-copied}
 use Rattle.supervisor.specs.Limits.{most-alerts, longest-alert}
 use Rattle.supervisor.specs.Layout
 use Rattle.supervisor.specs.Valid.{validRegisters}
 use Rattle.requests.specs.Requests.{clearBit}
 use Rattle.requests.specs.Receive.{withReply, movedAlerts, withTaken, isRetained, alertRegisters, alertParts, alertAnswered, sentBox, Head, replyHead, replyBytes}
 use Rattle.supervisor.proofs.ValidLaws.{registers-valid, all-each, alert-valid}
-use Rattle.requests.proofs.RecordLaws.{marked, length-marked, next-number, next-run, number-stored}
+use Rattle.requests.proofs.RecordLaws.{marked, length-marked, number-stored}
 
 -- ---- whether a reply is retained
 
@@ -54,7 +54,7 @@ module _ (r : List ℕ) (version sequence : ℕ) (small : version < 256) (long :
         g,
         f,
         marked version 8 sequence at r small (omega arith),
-        next-number at Layout.retained-alert-offset head r (omega arith) 2 0 (omega arith),
+        next-put at Layout.retained-alert-offset head r (omega arith) (bytes 2 0) (omega (arith, length-bytes 2 0)),
         m,
         eq-eqb (Layout.alertCount r) 0 e,
       )
@@ -82,7 +82,7 @@ module _ (r : List ℕ) (version sequence : ℕ) (small : version < 256) (long :
       rw (
         h,
         i,
-        next-run at Layout.retained-alert-offset head r (omega arith) t 0 Layout.alert-length (omega arith) (omega arith),
+        next-copied at Layout.retained-alert-offset head r (omega arith) t 0 Layout.alert-length (omega arith) (omega arith),
         o,
         ne-eqb (Layout.alertCount r) 0 e,
         append-assoc,

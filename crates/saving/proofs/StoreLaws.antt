@@ -1,13 +1,13 @@
 -- Bytes put right behind one another: the head of a setting, a setting, a record.
 -- Assumes nothing.
 use mathlib.Core.Path.{_≡_, refl, ap, _∙_}
-use mathlib.Core.List.{List, [], _∷_, _++_, append-assoc}
+use mathlib.Core.List.{List, _++_, append-assoc}
 use Prim.Native.Nat.{ℕ, _+_, _≤_, _<_}
 use native.Mathlib.Omega.{arith}
 use lib.ListN.{length, set, length-append}
 use Rattle.octets.specs.Bytes.{bytes, run, overlay, put, copied}
 use Rattle.octets.proofs.Numbers.{length-bytes, one-byte}
-use Rattle.octets.proofs.Overlay.{length-run, length-overlay, overlay-one, overlay-next, overlay-inside, put-fits, copied-fits}
+use Rattle.octets.proofs.Overlay.{length-run, overlay-one, overlay-inside, copied-fits, next-put, next-copied, next-byte}
 use Rattle.line.specs.Checksum.{checksum}
 use Rattle.supervisor.specs.Limits.{SettingsKey}
 use Rattle.supervisor.specs.Layout.{setting-value-offset, setting-offset, settings-length, settingBytes}
@@ -15,25 +15,6 @@ use Rattle.supervisor.proofs.OffsetLaws.{place-within}
 use Rattle.saving.specs.Saving.{record-mark, recordBody, recordOf, keyAt, editionAt, lengthAt, entryAt}
 use Rattle.saving.specs.Calls
 use Rattle.saving.specs.Calls.{settingHead, Whole}
-
--- ---- bytes put, and more behind them
-
-module _ (at place : ℕ) (xs s : List ℕ) (e : place ≡ at + length xs) where
-  pub next-put : (ys : List ℕ) → place + length ys ≤ length s → put place ys (overlay at xs s) ≡ overlay at (xs ++ ys) s
-  next-put ys h =
-      let l : length (overlay at xs s) ≡ length s = length-overlay at xs s (omega arith) in
-      put-fits place ys (overlay at xs s) (omega arith) ∙ rw e (overlay-next at xs ys s (omega arith))
-
-  pub next-copied : (src : List ℕ) (from n : ℕ) → from + n ≤ length src → place + n ≤ length s
-      → copied src from n (overlay at xs s) place ≡ overlay at (xs ++ run from n src) s
-  next-copied src from n f h =
-      let l : length (overlay at xs s) ≡ length s = length-overlay at xs s (omega arith) in
-      copied-fits src from n (overlay at xs s) place f (omega arith) ∙ rw e (overlay-next at xs (run from n src) s (omega arith))
-
-  pub next-byte : (v : ℕ) → v < 256 → place < length s → set (overlay at xs s) place v ≡ overlay at (xs ++ bytes 1 v) s
-  next-byte v small h =
-      let l : length (overlay at xs s) ≡ length s = length-overlay at xs s (omega arith) in
-      overlay-one place v (overlay at xs s) (omega arith) ∙ rw (e, one-byte v small) (overlay-next at xs (v ∷ []) s (omega arith))
 
 -- ---- a setting
 
