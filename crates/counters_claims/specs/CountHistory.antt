@@ -52,6 +52,15 @@ toldLending p [] = []
 toldLending p (x ∷ xs) =
     let d = doneBy p (x .call) (x .block) in record { answer = d .answer; out = d .out } ∷ toldLending (d .parts) xs
 
+-- the block that a call leaves, where it is lent one, and those that a list leaves
+abbrev pub blockBy : Parts → Made → Option Counters → Option Counters
+blockBy p m none = none
+blockBy p m (some c) = some (madeCounted c p m .block)
+
+unfoldable pub blocksLending : Parts → List Lending → List (Option Counters)
+blocksLending p [] = []
+blocksLending p (x ∷ xs) = blockBy p (x .call) (x .block) ∷ blocksLending (doneBy p (x .call) (x .block) .parts) xs
+
 unfoldable pub leftLending : Parts → List Lending → Parts
 leftLending p [] = p
 leftLending p (x ∷ xs) = leftLending (doneBy p (x .call) (x .block) .parts) xs

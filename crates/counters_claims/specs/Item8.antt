@@ -41,11 +41,11 @@ pub same-made : (c : Counters) (p : Parts) (m : Made) → madeCounted c p m .did
 unfolding madeCounted made
 same-made c p m = rw (same-did c (Histories.lentOf (m .lent) p) (m .call))
 
-same-by : (p : Parts) (m : Made) (block : Option Counters) → doneBy p m block ≡ made p m
+pub same-by : (p : Parts) (m : Made) (block : Option Counters) → doneBy p m block ≡ made p m
 same-by p m none = refl
 same-by p m (some c) = same-made c p m
 
-same-as-unlent : (p : Parts) (xs : List Lending) → (toldLending p xs ≡ told p (unlent xs)) × (leftLending p xs ≡ left p (unlent xs))
+pub same-as-unlent : (p : Parts) (xs : List Lending) → (toldLending p xs ≡ told p (unlent xs)) × (leftLending p xs ≡ left p (unlent xs))
 unfolding toldLending leftLending unlent told left
 same-as-unlent p [] = (refl, refl)
 same-as-unlent p (x ∷ xs) =

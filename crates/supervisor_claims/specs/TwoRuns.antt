@@ -104,10 +104,10 @@ view-room : (n : ℕ) (p : Parts) → passphraseEdition p + n ≤ Limits.last-ed
 unfolding view
 view-room n p h = store-room n (p .settings) h
 
-run-sound : (r : Run) → Sound (leftBy r)
+pub run-sound : (r : Run) → Sound (leftBy r)
 run-sound r = history (r .room) (r .bytes) (r .lent) (r .start-data) (r .typed) (r .accepted) (r .calls) (r .all-typed) .2
 
-run-since : (r : Run) → Since (split (receivedIn r) .rest) (view (leftBy r))
+pub run-since : (r : Run) → Since (split (receivedIn r) .rest) (view (leftBy r))
 run-since r =
     rw (history (r .room) (r .bytes) (r .lent) (r .start-data) (r .typed) (r .accepted) (r .calls) (r .all-typed) .1)
     (by-frames (factoryOf (r .start-data)) (r .calls) .2)
@@ -135,7 +135,7 @@ two-states r s e ms t h k =
     (rw (a .0, b .0, ← c .0, ← d .0) (f .0), rw (a .1, b .1, ← c .1, ← d .1) (f .1))
 
 -- parts that are the same but for the passphrase's record hold such states
-same-states : (p q : Parts) → Sound p → SameBut p q → withoutPassphrase (view p) ≡ withoutPassphrase (view q)
+pub same-states : (p q : Parts) → Sound p → SameBut p q → withoutPassphrase (view p) ≡ withoutPassphrase (view q)
 unfolding view
 same-states p q s e =
     rw (
