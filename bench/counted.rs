@@ -20,7 +20,7 @@ fn time(times: usize, mut action: impl FnMut()) -> f64 {
     begin.elapsed().as_nanos() as f64 / times as f64
 }
 
-/// The least time of all rounds of each, in which the two take turns.
+/// The minimum time of all rounds of each, in which the two take turns.
 fn measure(name: &str, piece: &[u8]) {
     let (mut one_storage, mut other_storage) = (SupervisorStorage::new(), SupervisorStorage::new());
     let mut plain = Supervisor::start_in(&mut one_storage, &StartData::new(Bsu::A));
@@ -29,12 +29,12 @@ fn measure(name: &str, piece: &[u8]) {
     let mut one = || plain.receive(&[], black_box(piece));
     let mut other = || counted.receive_counted(&mut counters, &[], black_box(piece));
     let times = (ROUND_NANOSECONDS / time(20, &mut one).max(1.0)).max(5.0) as usize;
-    let mut least = [f64::INFINITY; 2];
+    let mut minimum = [f64::INFINITY; 2];
     for _ in 0..ROUNDS {
-        least[0] = least[0].min(time(times, &mut one));
-        least[1] = least[1].min(time(times, &mut other));
+        minimum[0] = minimum[0].min(time(times, &mut one));
+        minimum[1] = minimum[1].min(time(times, &mut other));
     }
-    println!("{name},{},{:.0},{:.0},{:.2}", piece.len(), least[0], least[1], least[1] / least[0]);
+    println!("{name},{},{:.0},{:.0},{:.2}", piece.len(), minimum[0], minimum[1], minimum[1] / minimum[0]);
     assert_ne!(black_box(counters), Counters::default());
 }
 

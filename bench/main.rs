@@ -46,16 +46,16 @@ fn times(action: &mut Action) -> usize {
     ((ROUND_NANOSECONDS / once) as usize).max(5)
 }
 
-/// The least time of all rounds, in which the sides take turns.
+/// The minimum time of all rounds, in which the sides take turns.
 fn measure(case: &mut Case) {
     let counts: Vec<usize> = case.sides.iter_mut().map(times).collect();
-    let mut least = [f64::INFINITY; 3];
+    let mut minimum = [f64::INFINITY; 3];
     for _ in 0..ROUNDS {
         for side in 0..3 {
-            least[side] = least[side].min(time(&mut case.sides[side], counts[side]));
+            minimum[side] = minimum[side].min(time(&mut case.sides[side], counts[side]));
         }
     }
-    let [library, ordinary, strong] = least;
+    let [library, ordinary, strong] = minimum;
     println!("{},{},{library:.1},{ordinary:.1},{strong:.1}", case.name, case.bytes);
 }
 

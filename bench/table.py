@@ -1,4 +1,4 @@
-# Defines docs/bench.csv: of each case the least time of each side over all processes, and the library's time divided by each yardstick's.
+# Defines docs/bench.csv: of each case the minimum time of each side over all processes, and the library's time divided by each yardstick's.
 # Assumes the folder that bench/run fills. Without an archive of the library before, what the table says of it stays.
 
 import csv
@@ -10,8 +10,8 @@ SIDES = ("library", "ordinary", "strong")
 BEFORE = ("before ns", "before to ordinary", "before to strong")
 
 
-def least(folder):
-    """Of each case its bytes, and the least time of each side."""
+def minimum(folder):
+    """Of each case its bytes, and the minimum time of each side."""
     cases = {}
     for path in sorted(folder.glob("*.csv")):
         with path.open(newline="") as file:
@@ -22,7 +22,7 @@ def least(folder):
     return cases
 
 
-def told():
+def recorded():
     """What the table says of the library before."""
     with TABLE.open(newline="") as file:
         return {row["case"]: [row.get(name, "") for name in BEFORE] for row in csv.DictReader(file)}
@@ -30,8 +30,8 @@ def told():
 
 def main():
     out = pathlib.Path(sys.argv[1])
-    now, before = least(out / "now"), least(out / "before")
-    old = told()
+    now, before = minimum(out / "now"), minimum(out / "before")
+    old = recorded()
     with TABLE.open("w", newline="") as file:
         write = csv.writer(file, lineterminator="\n").writerow
         write(["case", "bytes", "library ns", "ordinary ns", "ratio to ordinary", "strong ns", "ratio to strong", *BEFORE])

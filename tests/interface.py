@@ -160,7 +160,7 @@ def arms(text):
     return found
 
 
-def told(text):
+def numbers_given(text):
     """How many numbers each definition of what a call writes gives."""
     found = {}
     for name, given in re.findall(r'^(\w+)[^\n]*\bgiven \(([^\n]*∷ \[\])\)', text, re.M):
@@ -231,8 +231,8 @@ def root_of_trust():
     named = {'NO_INPUT': 'NoInput', 'BAD_PROTOCOL': 'BadProtocol', 'SHORT_HEADER': 'ShortHeader', 'TOO_LONG': 'TooLong', 'CUT_SHORT': 'CutShort',
              'BAD_CRC': 'BadCrc', 'BAD_TYPE': 'BadType'}
     found = {name: the_one(name, arms(text)[f'Refusal::{variant}']) for name, variant in named.items()}
-    told_kinds = {variant: int(kind) for variant, kind in re.findall(r'Answer::(\w+)(?:\(\w+\))? => write_answer\(\s*answer,\s*\[(\d+),', text)}
-    found.update({name: told_kinds[name.title()] for name in ('NOTHING', 'MESSAGE', 'ECHOED')})
+    kinds = {variant: int(kind) for variant, kind in re.findall(r'Answer::(\w+)(?:\(\w+\))? => write_answer\(\s*answer,\s*\[(\d+),', text)}
+    found.update({name: kinds[name.title()] for name in ('NOTHING', 'MESSAGE', 'ECHOED')})
     known = constants('crates/rot/src/limits.rt')
     found.update({'HEADER_LENGTH': known['HEADER_LENGTH'], 'LONGEST_PAYLOAD': known['LONGEST_PAYLOAD'],
                   'LONGEST_MESSAGE': known['HEADER_LENGTH'] + known['LONGEST_PAYLOAD']})
@@ -244,7 +244,7 @@ def root_of_trust():
 
 
 def answer_counts():
-    counted = told(read('crates/oatcastle/specs'))
+    counted = numbers_given(read('crates/oatcastle/specs'))
     named = {'LINE_READ': 'readGiven', 'LINE_TAIL': 'tailGiven', 'LINE_WRITE': 'writeGiven', 'LINE_CHECKSUM': 'lineChecksumCall', 'STEP': 'stepGiven',
              'TAKE': 'takeGiven', 'REQUESTER_REQUEST': 'putGiven', 'REQUESTER_SEND': 'putGiven', 'REQUESTER_RECEIVE': 'receiptGiven', 'ROT_WRITE': 'rotWriteGiven', 'ROT_READ': 'rotReadGiven', 'ROT_CRC': 'rotCrcCall', 'LOOKUP': 'lookupGiven', 'EDITION': 'editionGiven', 'SIGNAL': 'signalGiven', 'FLAGS': 'flagsGiven', 'RECORD': 'recordGiven', 'SAVE': 'saveGiven'}
     least = re.search(r'answer\.len\(\) < (\d+)', body(library(link=False), 'oatcastle_restore')).group(1)
@@ -284,7 +284,7 @@ def limits():
 SETTINGS = ('ETC_SYSTEM', 'DTRACE_CONF', 'WITHDRAWN_KEYS', 'PASSPHRASE')
 OPTIONS = ('RECOVERY', 'KBM', 'BOOT_RD', 'PROM', 'KMDB', 'KMDB_BOOT', 'RAMDISK', 'NET_BOOT', 'VERBOSE')
 # What a key set's answer other than 0 is for, by the test ahead of it.
-SET_RESULTS = {'layout::HIGHEST_KEY < key': 'BAD_KEY', 'key < layout::FIRST_SETTING': 'READ_ONLY', 'most < n': 'TOO_LONG', 'n < least': 'TOO_LONG',
+SET_RESULTS = {'layout::HIGHEST_KEY < key': 'BAD_KEY', 'key < layout::FIRST_SETTING': 'READ_ONLY', 'longest < n': 'TOO_LONG', 'n < shortest': 'TOO_LONG',
                'edition == layout::LAST_EDITION': 'LAST_EDITION'}
 
 

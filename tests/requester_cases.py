@@ -125,28 +125,28 @@ class Model:
             return self.ground()
         if sequence != self.newest + TOP:
             return 'nothing', False
-        told = f'{version} {sequence:016x} {command:02x} {len(data)} {digest(data)}'
+        report = f'{version} {sequence:016x} {command:02x} {len(data)} {digest(data)}'
         if self.step is None:
             self.idle()
-            return 'answer ' + told, False
+            return 'answer ' + report, False
         if self.step == FETCH:
             return self.fetched(command, data)
-        word = 'nothing' if self.step == ACKNOWLEDGE else 'alert ' + told
+        word = 'nothing' if self.step == ACKNOWLEDGE else 'alert ' + report
         return word, self.anew(FETCH)
 
     def fetched(self, command, data):
         if command != 0x06 or len(data) != 16:
             return self.ground()
         value, options = (int.from_bytes(data[at:at + 8], 'little') for at in (0, 8))
-        told = f'status {value:016x} {options:016x} {bin(value).count("1")}'
+        report = f'status {value:016x} {options:016x} {bin(value).count("1")}'
         if value & 1:
-            return told, self.anew(ACKNOWLEDGE)
+            return report, self.anew(ACKNOWLEDGE)
         if value & 2:
-            return told, self.anew(ALERT)
+            return report, self.anew(ALERT)
         if self.kept:
-            return told, self.anew(None)
+            return report, self.anew(None)
         self.idle()
-        return told, False
+        return report, False
 
     def ground(self):
         if self.outstanding():
@@ -201,10 +201,10 @@ class Case(LineCase):
         if self.refuses:
             self.say('0 refused 12')
             return 0
-        used, told, ended = self.main.receive(piece)
+        used, report, ended = self.main.receive(piece)
         out = bool(self.main.outstanding()) and self.main.unsent
-        if not quiet or told != 'nothing' or ended:
-            self.say(f'{used} {told}' + ' ended' * ended + ' out' * out)
+        if not quiet or report != 'nothing' or ended:
+            self.say(f'{used} {report}' + ' ended' * ended + ' out' * out)
         return used
 
     def calls(self, piece):

@@ -72,7 +72,7 @@ def judged(data):
     return data[1], payload
 
 
-def told(data):
+def printed(data):
     """Bytes as the program prints them."""
     return f'{len(data)} {data[:48].hex()} {digest(data)}' if data else '0'
 
@@ -105,7 +105,7 @@ class Case(LineCase):
         else:
             payload = verdict[1]
             answer = f'message {verdict[0]:02x} {len(payload)}'
-        return self.say(answer).say(told(payload)).say(f'{digest(self.out)}')
+        return self.say(answer).say(printed(payload)).say(f'{digest(self.out)}')
 
     def write(self, kind, room=ROOM):
         self.commands.append(f'w {kind:02x} {room}')

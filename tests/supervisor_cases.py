@@ -1044,12 +1044,12 @@ def fields():
     yield 'factory', 'inventory version', [], VERSION_OFFSET, [little(1, 4), little(256, 4), little(1 << 24, 4)], []
     yield 'factory', 'key 0', [], PONG_OFFSET, [b'Pong', b'poNg', b'ponG', bytes(4)], []
     for key, at in SETTINGS.items():
-        least = SHORTEST.get(key, 0)
-        yield 'settings', f'key {key} flag', [('settings', at + SETTING_LENGTH, two(least))], at, [b'\2', b'\xff'], [b'\1']
+        shortest = SHORTEST.get(key, 0)
+        yield 'settings', f'key {key} flag', [('settings', at + SETTING_LENGTH, two(shortest))], at, [b'\2', b'\xff'], [b'\1']
         yield 'settings', f'key {key} edition', [], at + SETTING_EDITION, [], [little(n, 4) for n in (1, LAST_EDITION - 1, LAST_EDITION)]
-        long, right = [two(KEYS[key] + 1), two(65535)], [two(least), two(KEYS[key])]
-        yield 'settings', f'key {key} length', [], at + SETTING_LENGTH, [two(n) for n in range(1, least, 6)] + long, [two(0)] + right
-        yield 'settings', f'key {key} length of a value', [('settings', at, b'\1')], at + SETTING_LENGTH, [two(n) for n in (0, 1, 7) if n < least] + long, right
+        long, right = [two(KEYS[key] + 1), two(65535)], [two(shortest), two(KEYS[key])]
+        yield 'settings', f'key {key} length', [], at + SETTING_LENGTH, [two(n) for n in range(1, shortest, 6)] + long, [two(0)] + right
+        yield 'settings', f'key {key} length of a value', [('settings', at, b'\1')], at + SETTING_LENGTH, [two(n) for n in (0, 1, 7) if n < shortest] + long, right
     yield 'registers', 'status', [], 0, [little(4, 8), little(256, 8), little(TOP + 1, 8)], [little(3, 8)]
     yield 'registers', 'options', [], 8, [little(512, 8), little(65536, 8), little(TOP, 8)], [little(511, 8)]
     yield 'registers', 'reboot flag', [], 16, [b'\2', b'\xff'], []

@@ -19,7 +19,7 @@ static void fail(const char *what)
     exit(1);
 }
 
-static void told(size_t start, const uint64_t *answer, size_t room)
+static void print_answer(size_t start, const uint64_t *answer, size_t room)
 {
     uint64_t digest = 0;
 
@@ -47,7 +47,7 @@ static size_t give(size_t at, size_t end, size_t start, size_t room)
         if (oatcastle_line_read(state, room, capture + at, end - at, answer, OATCASTLE_LINE_READ_NUMBERS) != OATCASTLE_DONE)
             fail("a piece is refused");
         at += answer[0];
-        told(start, answer, room);
+        print_answer(start, answer, room);
         if (answer[1] != OATCASTLE_MORE)
             start = at;
     } while (at < end);

@@ -153,7 +153,7 @@ static void want_all(const struct function *f)
 }
 
 /* Says of a call what differs: its number, or the first byte of its first run that does. */
-static void show(uint32_t call, const struct function *f, uint32_t answered, uint32_t told, int32_t first)
+static void show(uint32_t call, const struct function *f, uint32_t answered, uint32_t expected, int32_t first)
 {
     static uint32_t shown;
     if (shown++ >= SHOWN)
@@ -161,7 +161,7 @@ static void show(uint32_t call, const struct function *f, uint32_t answered, uin
     say("differs: call ", call, " of ");
     port_text(f->name);
     say(", number ", answered, "");
-    say(" where the trace has ", told, "");
+    say(" where the trace has ", expected, "");
     if (first >= 0)
         say(", a run from byte ", (uint32_t)first, "");
     port_text("\n");
@@ -189,7 +189,7 @@ static int one(uint32_t call)
         port_end("replay: no such function\n", 2);
     const struct function *f = &FUNCTION[place];
     unsigned runs = lend_all(f);
-    uint32_t told = (uint32_t)value(4), depth, answered = spoilt(call, measured(f->call, &depth));
+    uint32_t expected = (uint32_t)value(4), depth, answered = spoilt(call, measured(f->call, &depth));
     want_all(f);
     met[place].calls++;
     if (depth > met[place].stack)
@@ -199,9 +199,9 @@ static int one(uint32_t call)
         int32_t here = differs(&run[i]);
         first = first < 0 ? here : first;
     }
-    if (answered == told && first < 0)
+    if (answered == expected && first < 0)
         return 0;
-    show(call, f, answered, told, first);
+    show(call, f, answered, expected, first);
     return 1;
 }
 

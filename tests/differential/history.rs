@@ -313,7 +313,7 @@ impl World {
         match *allowed {
             Allowed::UpTo(most) => self.random.pick(&[0, most, most]).min(self.random.next() % (most + 1)),
             Allowed::ZeroOr(..) if self.random.percent(30) => 0,
-            Allowed::Between(least, most) | Allowed::ZeroOr(least, most) => least + self.random.next() % (most - least + 1),
+            Allowed::Between(lower, upper) | Allowed::ZeroOr(lower, upper) => lower + self.random.next() % (upper - lower + 1),
             Allowed::OneOf(values) => self.random.pick(values),
         }
     }

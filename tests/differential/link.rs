@@ -87,41 +87,41 @@ fn judge(input: &[u8]) -> Read {
 
 /// What a call returns and writes: its number, the numbers of its answer and bytes at the start of what it was lent.
 #[derive(Default)]
-struct Told {
+struct Expected {
     code: u32,
     answer: Vec<u64>,
     bytes: Vec<u8>,
 }
 
-fn refused(code: u32) -> Told {
-    Told { code, ..Told::default() }
+fn refused(code: u32) -> Expected {
+    Expected { code, ..Expected::default() }
 }
 
 /// Bytes to a room and numbers to an answer, or 8.
-fn told(answer: Vec<u64>, bytes: Vec<u8>, room: usize, places: usize) -> Told {
-    if room < bytes.len() || places < answer.len() { refused(8) } else { Told { code: 0, answer, bytes } }
+fn answered(answer: Vec<u64>, bytes: Vec<u8>, room: usize, places: usize) -> Expected {
+    if room < bytes.len() || places < answer.len() { refused(8) } else { Expected { code: 0, answer, bytes } }
 }
 
-fn read(input: &[u8], room: usize, places: usize) -> Told {
+fn read(input: &[u8], room: usize, places: usize) -> Expected {
     match judge(input) {
         Read::Refused(code) => refused(code),
-        Read::Nothing => told(vec![0, 0, 0], Vec::new(), room, places),
+        Read::Nothing => answered(vec![0, 0, 0], Vec::new(), room, places),
         Read::Message(ECHO_REQUEST, payload) => {
             let answer = message(ECHO_RESPONSE, &payload);
-            told(vec![2, 0, answer.len() as u64], answer, room, places)
+            answered(vec![2, 0, answer.len() as u64], answer, room, places)
         }
-        Read::Message(kind, payload) => told(vec![1, kind.into(), payload.len() as u64], Vec::new(), room, places),
+        Read::Message(kind, payload) => answered(vec![1, kind.into(), payload.len() as u64], Vec::new(), room, places),
     }
 }
 
-fn payload(input: &[u8], room: usize) -> Told {
+fn payload(input: &[u8], room: usize) -> Expected {
     match judge(input) {
-        Read::Message(kind, payload) if kind != ECHO_REQUEST => told(Vec::new(), payload, room, 0),
-        _ => Told::default(),
+        Read::Message(kind, payload) if kind != ECHO_REQUEST => answered(Vec::new(), payload, room, 0),
+        _ => Expected::default(),
     }
 }
 
-fn write(kind: u8, payload: &[u8], room: usize, places: usize) -> Told {
+fn write(kind: u8, payload: &[u8], room: usize, places: usize) -> Expected {
     if payload.len() > LONGEST_PAYLOAD {
         return refused(23);
     }
@@ -129,7 +129,7 @@ fn write(kind: u8, payload: &[u8], room: usize, places: usize) -> Told {
         return refused(26);
     }
     let bytes = message(kind, payload);
-    told(vec![bytes.len() as u64], bytes, room, places)
+    answered(vec![bytes.len() as u64], bytes, room, places)
 }
 
 /// A message, whole or with one or several things wrong.
@@ -176,7 +176,7 @@ fn room(random: &mut Random, wanted: usize) -> usize {
 /// One call on both sides: its words, what the model says, and the library's number, answer and room, with what stood there before.
 struct Call {
     words: String,
-    model: Told,
+    model: Expected,
     code: u32,
     answers: [Vec<u64>; 2],
     rooms: [Vec<u8>; 2],
@@ -197,7 +197,7 @@ fn call(random: &mut Random) -> Call {
         0 => read(&bytes, size, places),
         1 => payload(&bytes, size),
         2 => write(kind, &bytes, size, places),
-        _ => told(vec![crc(&bytes).into()], Vec::new(), 0, places),
+        _ => answered(vec![crc(&bytes).into()], Vec::new(), 0, places),
     };
     let (room, answers) = (out.as_mut_ptr(), answer.as_mut_ptr());
     // The pointers are to slices of these lengths.

@@ -573,13 +573,13 @@ fn set_key(settings: &mut Settings, key: u8, value: &[u8]) -> u8 {
         4..=5 => LONGEST[usize::from(key) - 3],
         _ => return 1,
     };
-    let least = if key == PASSPHRASE { SHORTEST_PASSPHRASE - usize::from(broken(Fault::PassphraseOf7)) } else { 0 };
+    let shortest = if key == PASSPHRASE { SHORTEST_PASSPHRASE - usize::from(broken(Fault::PassphraseOf7)) } else { 0 };
     let setting = &mut settings[usize::from(key) - 3];
     let ended = setting.edition == LAST_EDITION;
     if ended && broken(Fault::EndBeforeLength) {
         return 4;
     }
-    if value.len() < least || value.len() > most {
+    if value.len() < shortest || value.len() > most {
         setting.edition += u32::from(!ended && broken(Fault::RefusedCounts));
         return 3;
     }

@@ -237,7 +237,7 @@ enum Call {
 
 /// What the model says of a call: its number, the numbers of its answer, the bytes of its room, the data of a reply.
 #[derive(Default)]
-struct Told {
+struct Expected {
     code: u32,
     answer: Vec<u64>,
     room: Vec<u8>,
@@ -275,31 +275,31 @@ impl Pair {
     }
 
     /// What the model says; a refusal leaves it as it was.
-    fn model(&mut self, call: &Call, lent: [usize; 2], room: usize, places: usize) -> Told {
+    fn model(&mut self, call: &Call, lent: [usize; 2], room: usize, places: usize) -> Expected {
         if !self.valid(lent, call) {
-            return Told { code: 12, ..Told::default() };
+            return Expected { code: 12, ..Expected::default() };
         }
         let (before, reader) = (self.requester.clone(), self.reader.clone());
-        let mut told = self.carried_out(call, room);
-        if told.code == 0 && places < told.answer.len() {
-            told = Told { code: 8, ..Told::default() };
+        let mut outcome = self.carried_out(call, room);
+        if outcome.code == 0 && places < outcome.answer.len() {
+            outcome = Expected { code: 8, ..Expected::default() };
             (self.requester, self.reader) = (before, reader);
         }
-        told
+        outcome
     }
 
-    fn carried_out(&mut self, call: &Call, room: usize) -> Told {
+    fn carried_out(&mut self, call: &Call, room: usize) -> Expected {
         let put = |out: Result<Vec<u8>, u32>| match out {
-            Ok(bytes) => Told { answer: vec![bytes.len() as u64], room: bytes, ..Told::default() },
-            Err(code) => Told { code, ..Told::default() },
+            Ok(bytes) => Expected { answer: vec![bytes.len() as u64], room: bytes, ..Expected::default() },
+            Err(code) => Expected { code, ..Expected::default() },
         };
         match call {
             Call::Start => {
                 (self.reader, self.requester) = (Reader::default(), Requester::default());
-                Told::default()
+                Expected::default()
             }
             Call::Request { command, data } => put(self.requester.request(*command, data, room)),
-            Call::Interrupt => Told { code: self.requester.interrupt().err().unwrap_or(0), ..Told::default() },
+            Call::Interrupt => Expected { code: self.requester.interrupt().err().unwrap_or(0), ..Expected::default() },
             Call::Send => put(self.requester.send(room)),
             Call::Receive { piece } => {
                 let (used, (handed, ended)) = self.requester.receive(&mut self.reader, piece);
@@ -311,7 +311,7 @@ impl Pair {
                     Handed::Alert(m) => (3, [m.sequence, m.command.into(), m.data.len() as u64], Some(m.data)),
                 };
                 let unsent = self.requester.to_go_out();
-                Told { answer: [&[used as u64, kind, ended.into(), unsent.into()][..], &rest].concat(), data, ..Told::default() }
+                Expected { answer: [&[used as u64, kind, ended.into(), unsent.into()][..], &rest].concat(), data, ..Expected::default() }
             }
         }
     }
@@ -338,31 +338,31 @@ impl Pair {
     }
 
     /// One call on both sides; what it answers, writes and leaves is compared.
-    fn call(&mut self, call: &Call, lent: [usize; 2], room: usize, places: usize) -> Result<Told, String> {
+    fn call(&mut self, call: &Call, lent: [usize; 2], room: usize, places: usize) -> Result<Expected, String> {
         let words = words(call, lent, room, places);
         let before = self.parts.clone();
         let old_room = self.random.bytes(room);
         let (mut out, mut answer) = (old_room.clone(), vec![u64::MAX; places]);
-        let told = self.model(call, lent, room, places);
+        let outcome = self.model(call, lent, room, places);
         let code = self.library(call, lent, &mut out, &mut answer);
-        if code != told.code {
-            return Err(format!("{words}: the model says {}, the library {code}", told.code));
+        if code != outcome.code {
+            return Err(format!("{words}: the model says {}, the library {code}", outcome.code));
         }
-        let numbers = [&told.answer[..], &vec![u64::MAX; places][told.answer.len()..]].concat();
+        let numbers = [&outcome.answer[..], &vec![u64::MAX; places][outcome.answer.len()..]].concat();
         if numbers != answer {
             return Err(format!("{words}: the model answers {numbers:x?}, the library {answer:x?}"));
         }
-        same(&format!("{words}: the room"), &[&told.room[..], &old_room[told.room.len()..]].concat(), &out)?;
+        same(&format!("{words}: the room"), &[&outcome.room[..], &old_room[outcome.room.len()..]].concat(), &out)?;
         self.left(&words, call, code != 0, &before)?;
-        if let Some(data) = &told.data {
+        if let Some(data) = &outcome.data {
             self.handed_out(&words, data)?;
         }
         self.met[code as usize] += 1;
-        if let [_, kind, ended, ..] = told.answer[..] {
+        if let [_, kind, ended, ..] = outcome.answer[..] {
             self.kinds[kind as usize] += 1;
             self.ended += ended;
         }
-        Ok(told)
+        Ok(outcome)
     }
 
     /// What a call leaves: all of it where it is refused, else what the parts mean and the bytes past them.
@@ -474,12 +474,12 @@ impl Pair {
         let any = self.random.below(60);
         let room = self.random.pick(&[4141, 4141, 4141, 4200, 20, 21, any]);
         let places = if self.random.percent(92) { 7 + self.random.below(2) } else { self.random.below(7) };
-        let told = self.call(&call, lent, room, places)?;
-        if let (Call::Receive { .. }, [used, ..]) = (&call, &told.answer[..]) {
+        let outcome = self.call(&call, lent, room, places)?;
+        if let (Call::Receive { .. }, [used, ..]) = (&call, &outcome.answer[..]) {
             let used = (*used as usize).min(self.wire.len());
             self.wire.drain(..used);
         }
-        if matches!(call, Call::Start) && told.code == 0 && self.random.percent(40) {
+        if matches!(call, Call::Start) && outcome.code == 0 && self.random.percent(40) {
             let newest = LAST - self.random.below(6) as u64;
             put(&mut self.parts[1], 0, 8, newest);
             self.requester.newest = newest;

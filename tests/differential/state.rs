@@ -67,8 +67,8 @@ impl Field {
     pub fn past(&self) -> Vec<u64> {
         match self.allowed {
             Allowed::UpTo(most) => vec![most + 1],
-            Allowed::Between(least, most) => vec![least - 1, 0, most + 1],
-            Allowed::ZeroOr(least, most) => vec![least - 1, 1, most + 1],
+            Allowed::Between(lower, upper) => vec![lower - 1, 0, upper + 1],
+            Allowed::ZeroOr(lower, upper) => vec![lower - 1, 1, upper + 1],
             Allowed::OneOf(values) => vec![values[values.len() - 1] + 1],
         }
     }
@@ -76,8 +76,8 @@ impl Field {
     pub fn allows(&self, value: u64) -> bool {
         match self.allowed {
             Allowed::UpTo(most) => value <= most,
-            Allowed::Between(least, most) => least <= value && value <= most,
-            Allowed::ZeroOr(least, most) => value == 0 || least <= value && value <= most,
+            Allowed::Between(lower, upper) => lower <= value && value <= upper,
+            Allowed::ZeroOr(lower, upper) => value == 0 || lower <= value && value <= upper,
             Allowed::OneOf(values) => values.contains(&value),
         }
     }
@@ -109,14 +109,14 @@ fn start_fields(bytes: &[u8]) -> Vec<Field> {
 
 /// The length of key 6's value: 8 to 63, and 0 only where none is held.
 fn passphrase_length(held: bool) -> Allowed {
-    let least = SHORTEST_PASSPHRASE - usize::from(broken(Fault::PassphraseOf7Held));
-    let most = LONGEST[3] + usize::from(broken(Fault::PassphraseOf64Held));
+    let lower = SHORTEST_PASSPHRASE - usize::from(broken(Fault::PassphraseOf7Held));
+    let upper = LONGEST[3] + usize::from(broken(Fault::PassphraseOf64Held));
     if held && !broken(Fault::PassphraseEmptyHeld) {
-        Allowed::Between(least as u64, most as u64)
+        Allowed::Between(lower as u64, upper as u64)
     } else if !held && broken(Fault::PassphraseNotHeld) {
         Allowed::UpTo(0)
     } else {
-        Allowed::ZeroOr(least as u64, most as u64)
+        Allowed::ZeroOr(lower as u64, upper as u64)
     }
 }
 

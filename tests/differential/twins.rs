@@ -117,11 +117,11 @@ impl Twins {
         let [first, second] = [0, 1].map(|twin| self.answered(twin, &call, &lent, seed));
         self.calls += 1;
         self.said += 4 + 8 * first.1.len() as u64 + first.2.len() as u64;
-        let told = |what: String| format!("call {}: {call}\n  lent {lent:?}\n  {what}", self.calls);
+        let difference = |what: String| format!("call {}: {call}\n  lent {lent:?}\n  {what}", self.calls);
         if (first.0, &first.1) != (second.0, &second.1) {
-            return Err(told(format!("the number and the answer\n  one   {} {:x?}\n  other {} {:x?}", first.0, first.1, second.0, second.1)));
+            return Err(difference(format!("the number and the answer\n  one   {} {:x?}\n  other {} {:x?}", first.0, first.1, second.0, second.1)));
         }
-        same("the room", &first.2, &second.2).map_err(told)?;
+        same("the room", &first.2, &second.2).map_err(difference)?;
         self.same_state().map_err(|what| format!("call {}: {call}\n  {what}", self.calls))?;
         self.stored += u64::from(before != self.worlds[0].parts[SETTINGS][PASSPHRASE_OFFSET..] && !call.starts());
         self.noted(&call, &first);

@@ -77,7 +77,7 @@ fn part(run: &[u8], offset: usize, length: usize) -> &[u8] {
 
 /// What a call's number means where a caller can meet refusals of its promise. 12 is not among them: `no-12` of `crates/supervisor_claims` and of
 /// `crates/requester_claims` rules it out.
-fn said(number: u32) -> Result<(), Refusal> {
+fn checked(number: u32) -> Result<(), Refusal> {
     match (number, Refusal::of(number.into())) {
         (0, _) => Ok(()),
         (_, Some(refusal)) => Err(refusal),
@@ -93,7 +93,7 @@ fn done(number: u32) {
     }
 }
 
-/// The library said what its promise rules out. A panic, and no assumption that it cannot be reached: a wrong archive may be linked.
+/// The library answered what its promise rules out. A panic, and no assumption that it cannot be reached: a wrong archive may be linked.
 #[cold]
 #[inline(never)]
 fn ruled_out() -> ! {

@@ -5,7 +5,7 @@ use crate::limits::{
     EMPTY, FAILURE, LINE_CHECKSUM_NUMBERS, LINE_READ_NUMBERS, LINE_TAIL_NUMBERS, LINE_WRITE_NUMBERS, MESSAGE, MESSAGE_DATA_OFFSET, MORE,
     READER_LENGTH,
 };
-use crate::{done, first, lent, lent_mut, part, raw, ruled_out, said, Reason, Refusal};
+use crate::{checked, done, first, lent, lent_mut, part, raw, ruled_out, Reason, Refusal};
 use core::fmt;
 
 /// Storage for one line reader, which may be a `static`.
@@ -205,7 +205,7 @@ pub fn write_frame<'o>(
     let mut answer = [0; LINE_WRITE_NUMBERS];
     let (head, rest, room, answers) = (lent(head), lent(rest), lent_mut(out), lent_mut(&mut answer));
     // SAFETY: each pointer is valid for the length behind it, and what is written overlaps nothing else.
-    said(unsafe {
+    checked(unsafe {
         raw::oatcastle_line_write(
             version, sequence, command, head.0, head.1, rest.0, rest.1, room.0, room.1, answers.0, answers.1,
         )

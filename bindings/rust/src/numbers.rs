@@ -3,7 +3,7 @@
 
 /// An enum whose variants have numbers: `number`, the variant of a number, and the text as its documentation and its `Display`.
 macro_rules! numbered {
-    ($(#[$about:meta])* $name:ident as $width:ident, $said:literal: $($variant:ident = $number:literal, $text:literal;)*) => {
+    ($(#[$about:meta])* $name:ident as $width:ident, $label:literal: $($variant:ident = $number:literal, $text:literal;)*) => {
         $(#[$about])*
         #[derive(Clone, Copy, Debug, PartialEq, Eq, Hash)]
         #[repr($width)]
@@ -28,7 +28,7 @@ macro_rules! numbered {
         impl core::fmt::Display for $name {
             fn fmt(&self, out: &mut core::fmt::Formatter<'_>) -> core::fmt::Result {
                 out.write_str(match self {
-                    $($name::$variant => concat!($said, " ", $number, ": ", $text),)*
+                    $($name::$variant => concat!($label, " ", $number, ": ", $text),)*
                 })
             }
         }

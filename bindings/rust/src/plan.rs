@@ -2,7 +2,7 @@
 //! Assumes the C functions of `raw`.
 
 use crate::limits::{ADDRESS_LENGTH, ADDRESS_ROWS};
-use crate::{done, lent_mut, raw, said, Refusal};
+use crate::{checked, done, lent_mut, raw, Refusal};
 
 /// A base, how many addresses are counted from it on, and their distance.
 ///
@@ -38,6 +38,6 @@ impl AddressPlan {
     /// `PlanPasses` where the last counted address passes that.
     pub fn fits(&self) -> Result<(), Refusal> {
         // SAFETY: the pointer is to an address.
-        said(unsafe { raw::oatcastle_plan(self.base.as_ptr(), self.count, self.stride) })
+        checked(unsafe { raw::oatcastle_plan(self.base.as_ptr(), self.count, self.stride) })
     }
 }

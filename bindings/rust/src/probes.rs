@@ -2,7 +2,7 @@
 //! Assumes the C function of `raw`.
 
 use crate::raw::{Length, Probe};
-use crate::{lent, lent_mut, raw, said, Refusal};
+use crate::{checked, lent, lent_mut, raw, Refusal};
 
 // An index of `update_probes` is a `Length` in all but its name, on every target.
 const _: () = assert!(size_of::<u64>() == size_of::<Length>() && align_of::<u64>() == align_of::<Length>());
@@ -23,5 +23,5 @@ const _: () = assert!(size_of::<u64>() == size_of::<Length>() && align_of::<u64>
 pub fn update_probes(list: &mut [Probe], indices: &[u64], results: &[u8]) -> Result<(), Refusal> {
     let (list, indices, results) = (lent_mut(list), lent(indices), lent(results));
     // SAFETY: each pointer is valid for the length behind it, the list overlaps nothing else, and a `Length` has the size and the alignment of a u64.
-    said(unsafe { raw::oatcastle_probe_update(list.0, list.1, indices.0.cast::<Length>(), indices.1, results.0, results.1) })
+    checked(unsafe { raw::oatcastle_probe_update(list.0, list.1, indices.0.cast::<Length>(), indices.1, results.0, results.1) })
 }

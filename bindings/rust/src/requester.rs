@@ -4,7 +4,7 @@
 use crate::limits::{
     ALERT, ANSWER, NOTHING, REQUESTER_LENGTH, REQUESTER_RECEIVE_NUMBERS, REQUESTER_REQUEST_NUMBERS, REQUESTER_SEND_NUMBERS, STATUS,
 };
-use crate::{done, first, lent, lent_mut, raw, ruled_out, said, ReaderStorage, Refusal};
+use crate::{checked, done, first, lent, lent_mut, raw, ruled_out, ReaderStorage, Refusal};
 use core::fmt;
 
 /// Storage for one main processor's end: a reader's part and its own, which may be a `static`.
@@ -143,7 +143,7 @@ impl<'s> Requester<'s> {
         let (requester, data) = (lent_mut(&mut self.storage.requester), lent(data));
         let (room, answers) = (lent_mut(out), lent_mut(&mut answer));
         // SAFETY: each pointer is valid for the length behind it, and what is written overlaps nothing else.
-        said(unsafe {
+        checked(unsafe {
             raw::oatcastle_requester_request(
                 requester.0, requester.1, command, data.0, data.1, room.0, room.1, answers.0, answers.1,
             )
@@ -159,7 +159,7 @@ impl<'s> Requester<'s> {
     pub fn interrupt(&mut self) -> Result<(), Refusal> {
         let requester = lent_mut(&mut self.storage.requester);
         // SAFETY: the pointer is valid for the length behind it.
-        said(unsafe { raw::oatcastle_requester_interrupt(requester.0, requester.1) })
+        checked(unsafe { raw::oatcastle_requester_interrupt(requester.0, requester.1) })
     }
 
     /// Writes the outstanding frame to the start of `out` and hands it out; nothing unless it is to go out.
@@ -171,7 +171,7 @@ impl<'s> Requester<'s> {
         let mut answer = [0; REQUESTER_SEND_NUMBERS];
         let (requester, room, answers) = (lent_mut(&mut self.storage.requester), lent_mut(out), lent_mut(&mut answer));
         // SAFETY: each pointer is valid for the length behind it, and no two runs overlap.
-        said(unsafe { raw::oatcastle_requester_send(requester.0, requester.1, room.0, room.1, answers.0, answers.1) })?;
+        checked(unsafe { raw::oatcastle_requester_send(requester.0, requester.1, room.0, room.1, answers.0, answers.1) })?;
         Ok(first(out, answer[0]))
     }
 

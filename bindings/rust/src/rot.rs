@@ -4,7 +4,7 @@
 pub use crate::limits::{ROT_LONGEST_MESSAGE as LONGEST_MESSAGE, ROT_LONGEST_PAYLOAD as LONGEST_PAYLOAD};
 use crate::limits::{ROT_CRC_NUMBERS, ROT_ECHOED, ROT_HEADER_LENGTH, ROT_MESSAGE, ROT_NOTHING, ROT_READ_NUMBERS, ROT_WRITE_NUMBERS};
 use crate::numbers::numbered;
-use crate::{done, first, lent, lent_mut, part, raw, ruled_out, said, Refusal};
+use crate::{checked, done, first, lent, lent_mut, part, raw, ruled_out, Refusal};
 
 numbered! {
     /// A message's type.
@@ -53,7 +53,7 @@ pub fn read<'i, 'o>(input: &'i [u8], out: &'o mut [u8]) -> Result<Received<'i, '
     let mut answer = [0; ROT_READ_NUMBERS];
     let (given, room, answers) = (lent(input), lent_mut(out), lent_mut(&mut answer));
     // SAFETY: each pointer is valid for the length behind it, and what is written overlaps nothing else.
-    said(unsafe { raw::oatcastle_rot_read(given.0, given.1, room.0, room.1, answers.0, answers.1) })?;
+    checked(unsafe { raw::oatcastle_rot_read(given.0, given.1, room.0, room.1, answers.0, answers.1) })?;
     let [kind, number, count] = answer;
     Ok(match kind {
         ROT_NOTHING => Received::Nothing,
@@ -74,7 +74,7 @@ pub fn read<'i, 'o>(input: &'i [u8], out: &'o mut [u8]) -> Result<Received<'i, '
 pub fn copy_payload(input: &[u8], room: &mut [u8]) -> Result<(), Refusal> {
     let (input, room) = (lent(input), lent_mut(room));
     // SAFETY: each pointer is valid for the length behind it, and the two runs do not overlap.
-    said(unsafe { raw::oatcastle_rot_payload(input.0, input.1, room.0, room.1) })
+    checked(unsafe { raw::oatcastle_rot_payload(input.0, input.1, room.0, room.1) })
 }
 
 /// Writes a message to the start of `out`, and hands it out; a room of `LONGEST_MESSAGE` is always enough.
@@ -86,7 +86,7 @@ pub fn write<'o>(kind: Type, payload: &[u8], out: &'o mut [u8]) -> Result<&'o [u
     let mut answer = [0; ROT_WRITE_NUMBERS];
     let (payload, room, answers) = (lent(payload), lent_mut(out), lent_mut(&mut answer));
     // SAFETY: each pointer is valid for the length behind it, and what is written overlaps nothing else.
-    said(unsafe { raw::oatcastle_rot_write(kind.number(), payload.0, payload.1, room.0, room.1, answers.0, answers.1) })?;
+    checked(unsafe { raw::oatcastle_rot_write(kind.number(), payload.0, payload.1, room.0, room.1, answers.0, answers.1) })?;
     Ok(first(out, answer[0]))
 }
 

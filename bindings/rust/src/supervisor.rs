@@ -8,7 +8,7 @@ use crate::limits::{
     START_IMAGE_ID_LENGTH, START_ITEM_COUNT, STEP_NUMBERS, TAKE_NUMBERS,
 };
 use crate::raw::Length;
-use crate::{done, first, lent, lent_mut, part, raw, ruled_out, said, Counters, Fault, NotFound, Reason, Refusal, StartData};
+use crate::{checked, done, first, lent, lent_mut, part, raw, ruled_out, Counters, Fault, NotFound, Reason, Refusal, StartData};
 use core::fmt;
 use core::num::NonZeroU8;
 
@@ -354,7 +354,7 @@ impl<'s> Supervisor<'s> {
     pub fn post(&mut self, action: NonZeroU8, text: &[u8]) -> Result<(), Refusal> {
         let (registers, text) = (lent_mut(&mut self.storage.registers), lent(text));
         // SAFETY: each pointer is valid for the length behind it, and the two runs do not overlap.
-        said(unsafe { raw::oatcastle_post(registers.0, registers.1, action.get(), text.0, text.1) })
+        checked(unsafe { raw::oatcastle_post(registers.0, registers.1, action.get(), text.0, text.1) })
     }
 
     /// Sets the startup options.
@@ -439,7 +439,7 @@ impl<'s> Supervisor<'s> {
         let mut answer = [0; SAVE_NUMBERS];
         let (settings, to, answers) = (lent(&self.storage.settings), lent_mut(room), lent_mut(&mut answer));
         // SAFETY: each pointer is valid for the length behind it, and what is written overlaps nothing else.
-        said(unsafe { raw::oatcastle_save(settings.0, settings.1, to.0, to.1, answers.0, answers.1) })?;
+        checked(unsafe { raw::oatcastle_save(settings.0, settings.1, to.0, to.1, answers.0, answers.1) })?;
         Ok(first(room, answer[0]))
     }
 

@@ -225,9 +225,9 @@ impl Both<'_> {
                 )
             };
             assert_eq!(number, 0);
-            let told = self.supervisor.edition(key);
-            assert_eq!(told, self.supervisor.lookup(key, u16::MAX).map(|found| found.edition), "key {key}");
-            assert_eq!(told.map_or_else(|result| [result.number().into(), 0], |edition| [0, edition.into()]), answer, "key {key}");
+            let answered = self.supervisor.edition(key);
+            assert_eq!(answered, self.supervisor.lookup(key, u16::MAX).map(|found| found.edition), "key {key}");
+            assert_eq!(answered.map_or_else(|result| [result.number().into(), 0], |edition| [0, edition.into()]), answer, "key {key}");
         }
         let copies = [raw::oatcastle_boot_failure, raw::oatcastle_panic];
         for (copy, record) in copies.into_iter().zip([self.supervisor.boot_failure_record(), self.supervisor.panic_record()]) {
@@ -341,8 +341,8 @@ fn image_faults_have_offsets() {
         ([&image[..], b"KE"].concat(), Fault::BytesAfter, 14),
     ];
     for (image, fault, offset) in faults {
-        let told = supervisor.restore(&image).unwrap_err();
-        assert_eq!((told.fault, told.offset), (fault, offset));
+        let answered = supervisor.restore(&image).unwrap_err();
+        assert_eq!((answered.fault, answered.offset), (fault, offset));
         assert_eq!(found(&supervisor, 3, 256), Ok(&b"a"[..]));
     }
 }

@@ -96,13 +96,13 @@ module _ (base : List ℕ) (stride : ℕ) where
       (set-from (row base i stride) (row base (i + 1) stride) i 8 0 h (λ j q. same-row i (i + 1) j (λ l. omega arith) (λ l. omega arith)))
 
   -- of a longer plan the eight rows are all counted
-  rows-least : (count : ℕ) → first-rows base stride (min count 8) ≡ first-rows base stride count
-  rows-least count =
+  rows-min : (count : ℕ) → first-rows base stride (min count 8) ≡ first-rows base stride count
+  rows-min count =
       from-same (row base (min count 8) stride) (row base count stride) 8 0 (λ j b. same-row (min count 8) count j (λ l. omega arith) (λ l. omega arith))
 
   pub rows-fitting : (count : ℕ) → passes base count stride ≡ false → first-rows base stride (min count 8) ≡ rows base count stride
   unfolding rows
-  rows-fitting count e = rw e (rows-least count)
+  rows-fitting count e = rw e (rows-min count)
 
   -- in a plan that fits, a counted row is exactly base plus i times stride
   pub row-number : (count i : ℕ) → passes base count stride ≡ false → i < count → addressNumber (row base count stride i) ≡ address base stride i

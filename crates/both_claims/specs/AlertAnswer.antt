@@ -26,14 +26,14 @@ use Rattle.supervisor_claims.specs.claims.AlertClaim.{local-keeps}
 use Rattle.supervisor_claims.specs.claims.FramesClaim.{made-carried, by-frames}
 use Rattle.supervisor_claims.specs.claims.History as SupervisorHistory
 use Rattle.both_claims.specs.Ends
-use Rattle.both_claims.specs.Ends.{Any, Handled, Log, CarriedOut, AlertTaken, FreshAlert, TurnOf, AnswerOf, ToldOf, retainedUnder, messageOf, asMessage}
-use Rattle.both_claims.specs.Ends.{TurnTyped, after, Starts, begun, Always, WireAfter, firstLog, mainLogged, supervisorLogged, brought, clearedBy, imageOf, restarts}
+use Rattle.both_claims.specs.Ends.{Any, Handled, Log, CarriedOut, AlertTaken, FreshAlert, CallOf, AnswerOf, ReportOf, retainedUnder, messageOf, asMessage}
+use Rattle.both_claims.specs.Ends.{CallTyped, after, Starts, begun, Always, WireAfter, firstLog, mainLogged, supervisorLogged, brought, clearedBy, imageOf, restarts}
 use Rattle.both_claims.specs.laws.Lists.{none-some, any-or, each-then, each-any}
 use Rattle.both_claims.specs.laws.Kept.{Known, Kept}
 use Rattle.both_claims.specs.laws.ThatRequest.{answered}
 use Rattle.both_claims.specs.laws.SupervisorFrames.{made-field, made-started}
 use Rattle.both_claims.specs.laws.RetainedSince.{alertAnswer, sends-again, takes-alert, Takes, RetainedBy, retained-later, under-is, frames-kept}
-use Rattle.both_claims.specs.laws.Turns.{Both, each-turn, begun-both}
+use Rattle.both_claims.specs.laws.BothCalls.{Both, each-call, begun-both}
 
 -- ---- what holds of the supervisor's state
 
@@ -153,29 +153,29 @@ module _ (s : MainState.State) (l : Log) (kept : Kept s l) (x : State) (retains 
 -- ---- the claim
 
 -- where it holds of every message
-told-of : (P : Message → Type 0) → ((r : Message) → P r) → (t : MainCalls.Told) (d : List ℕ) → ToldOf P t d
-told-of P f (MainCalls.Told.refused n) d = tt
-told-of P f MainCalls.nothing d = tt
-told-of P f (MainCalls.answered v q c n) d = f _
-told-of P f (MainCalls.status x o k) d = tt
-told-of P f (MainCalls.alerted v q c n) d = f _
+report-of : (P : Message → Type 0) → ((r : Message) → P r) → (t : MainCalls.Report) (d : List ℕ) → ReportOf P t d
+report-of P f (MainCalls.Report.refused n) d = tt
+report-of P f MainCalls.nothing d = tt
+report-of P f (MainCalls.answered v q c n) d = f _
+report-of P f (MainCalls.status x o k) d = tt
+report-of P f (MainCalls.alerted v q c n) d = f _
 
 answer-of : (P : Message → Type 0) → ((r : Message) → P r) → (a : Main.Answer) (d : List ℕ) → AnswerOf P a d
 answer-of P f (Main.refused n) d = tt
 answer-of P f Main.done d = tt
 answer-of P f (Main.put n) d = tt
-answer-of P f (Main.received used t e u) d = told-of P f t d
+answer-of P f (Main.received used t e u) d = report-of P f t d
 
-turn-alert : (e : Ends.Ends) → Both e → Retains (view (e .supervisor)) (e .log) → (t : Ends.Turn) → TurnTyped t
-    → TurnOf FreshAlert e t × Retains (view (after e t .supervisor)) (after e t .log)
+call-alert : (e : Ends.Ends) → Both e → Retains (view (e .supervisor)) (e .log) → (t : Ends.Call) → CallTyped t
+    → CallOf FreshAlert e t × Retains (view (after e t .supervisor)) (after e t .log)
 unfolding after
-turn-alert e both r (Ends.main m) typed =
+call-alert e both r (Ends.main m) typed =
     let s = MainView.view (e .main) in
     let d = Main.made (e .main) m in (
       answer-of (FreshAlert s (e .log)) (λ x q waiting alert. alert-taken s (e .log) (both .kept) (view (e .supervisor)) r x q waiting alert) (d .answer) (d .out),
       main-retains (view (e .supervisor)) (e .log) r (m .call) _ _ _,
     )
-turn-alert e both r (Ends.supervisor m) typed =
+call-alert e both r (Ends.supervisor m) typed =
     let k = SupervisorHistory.one-call (e .supervisor) m (both .supervisor) typed .leaves .0 in
     (tt, rw k (supervisor-retains (view (e .supervisor)) (e .log) r m _))
 
@@ -188,6 +188,6 @@ begun-retains s =
 -- As in `fresh-answer`: where an answer to an alert request is handed out, and since the main processor's end was last started the supervisor had been started, or
 -- had carried out a reboot or power-off, before it carried out that request, the answer is the alert that was the oldest waiting at some moment at which the
 -- supervisor carried out that very request, after it was put out.
-pub alert-answer : (s : Starts) (ts : List Ends.Turn) → Each TurnTyped ts → Always WireAfter (begun s) ts → Always (TurnOf FreshAlert) (begun s) ts
+pub alert-answer : (s : Starts) (ts : List Ends.Call) → Each CallTyped ts → Always WireAfter (begun s) ts → Always (CallOf FreshAlert) (begun s) ts
 alert-answer s ts t w =
-    each-turn (λ e. Retains (view (e .supervisor)) (e .log)) (TurnOf FreshAlert) (λ e both r t typed v. turn-alert e both r t typed) (begun s) (begun-both s) (begun-retains s) ts t w
+    each-call (λ e. Retains (view (e .supervisor)) (e .log)) (CallOf FreshAlert) (λ e both r t typed v. call-alert e both r t typed) (begun s) (begun-both s) (begun-retains s) ts t w

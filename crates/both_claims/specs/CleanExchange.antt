@@ -41,7 +41,7 @@ use Rattle.supervisor.specs.Local
 use Rattle.supervisor.specs.Calls as SupervisorCalls
 use Rattle.supervisor_claims.specs.Sound.{Sound}
 use Rattle.supervisor_claims.specs.calls.SendingClaim.{frame-bytes}
-use Rattle.both_claims.specs.laws.Turns.{begun-both}
+use Rattle.both_claims.specs.laws.BothCalls.{begun-both}
 use Rattle.supervisor_claims.specs.claims.InOrder.{replyBy}
 use Rattle.both_claims.specs.Ends.{Any, Log, Wire, messageOf, replyTo, replyMade, readBy, restarts, mainLogged, imageOf, handledBy, newestReply, stillPending, takenWhole, brought, supervisorLogged, firstLog}
 
@@ -199,7 +199,7 @@ module _ (starts : Starts) (j : Main.Lent) (command : ℕ) (d room : List ℕ) (
       abbrev hearing : Main.Made
       hearing = record { lent = h; call = Main.receive (frame r) }
 
-      abbrev pub exchange : List Ends.Turn
+      abbrev pub exchange : List Ends.Call
       exchange = Ends.main asking ∷ (Ends.supervisor bringing ∷ (Ends.supervisor taking ∷ (Ends.main hearing ∷ [])))
 
       abbrev e₁ : Ends.Ends

@@ -43,9 +43,9 @@ Any P (x ∷ xs) = P x ⊎ Any P xs
 -- ---- Calls of both ends, in any order
 
 -- a call of one of them, with what it is lent
-pub data Turn : Type 0 where
-  main : Main.Made → Turn
-  supervisor : Supervisor.Made → Turn
+pub data Call : Type 0 where
+  main : Main.Made → Call
+  supervisor : Supervisor.Made → Call
 
 -- the arguments have the types that the calls give them
 abbrev pub MainTyped : Main.Call → Type 0
@@ -55,9 +55,9 @@ MainTyped Main.interrupt = Unit {0}
 MainTyped (Main.send room) = Unit {0}
 MainTyped (Main.receive piece) = Each Byte piece
 
-abbrev pub TurnTyped : Turn → Type 0
-TurnTyped (main m) = MainTyped (m .call)
-TurnTyped (supervisor m) = Supervisor.Typed (m .call)
+abbrev pub CallTyped : Call → Type 0
+CallTyped (main m) = MainTyped (m .call)
+CallTyped (supervisor m) = Supervisor.Typed (m .call)
 
 -- ---- What they have put out and read
 
@@ -241,7 +241,7 @@ pub record Ends : Type 0 where
   pub log : Log
 
 -- the parts, and what was put out and read, after one call by the definitions that the promises cite
-unfoldable pub after : Ends → Turn → Ends
+unfoldable pub after : Ends → Call → Ends
 after e (main m) =
     let d = Main.made (e .main) m in
     record {
@@ -277,12 +277,12 @@ begun s = record {
   log = firstLog;
 }
 
-unfoldable pub afterAll : Ends → List Turn → Ends
+unfoldable pub afterAll : Ends → List Call → Ends
 afterAll e [] = e
 afterAll e (t ∷ ts) = afterAll (after e t) ts
 
 -- a claim about each call, with both ends as it found them
-abbrev pub Always : (Ends → Turn → Type 0) → Ends → List Turn → Type 0
+abbrev pub Always : (Ends → Call → Type 0) → Ends → List Call → Type 0
 Always C e [] = Unit {0}
 Always C e (t ∷ ts) = C e t × Always C (after e t) ts
 
@@ -307,7 +307,7 @@ pub record InOrder (l : Log) : Type 0 where
   pub to-main : Among (List ℕ) (map frame (got l)) (map frame (l .sent))
 
 -- at every moment
-abbrev pub WireAfter : Ends → Turn → Type 0
+abbrev pub WireAfter : Ends → Call → Type 0
 WireAfter e t = Wire (after e t .log)
 
 -- ---- What an answer comes from
@@ -334,24 +334,24 @@ pub record Fresh (s : MainState.State) (l : Log) (r : Message) : Type 0 where
   pub made : Any (CarriedOut (s .newest) request r) (l .handled)
 
 -- what is handed out: an answer, an alert's answer, or a status
-abbrev pub FreshTold : MainState.State → Log → MainCalls.Told → List ℕ → Type 0
-FreshTold s l (MainCalls.Told.refused n) d = Unit {0}
-FreshTold s l MainCalls.nothing d = Unit {0}
-FreshTold s l (MainCalls.answered v q c n) d = Fresh s l (record { version = v; sequence = q; command = c; payload = d })
-FreshTold s l (MainCalls.status x o k) d =
+abbrev pub FreshReport : MainState.State → Log → MainCalls.Report → List ℕ → Type 0
+FreshReport s l (MainCalls.Report.refused n) d = Unit {0}
+FreshReport s l MainCalls.nothing d = Unit {0}
+FreshReport s l (MainCalls.answered v q c n) d = Fresh s l (record { version = v; sequence = q; command = c; payload = d })
+FreshReport s l (MainCalls.status x o k) d =
     (r : Message) × Fresh s l r × (statusOf r ≡ x) × (optionsOf r ≡ o) × (r .command ≡ 0x06) × (length (r .payload) ≡ status-length)
-FreshTold s l (MainCalls.alerted v q c n) d = Fresh s l (record { version = v; sequence = q; command = c; payload = d })
+FreshReport s l (MainCalls.alerted v q c n) d = Fresh s l (record { version = v; sequence = q; command = c; payload = d })
 
 abbrev pub FreshAnswer : MainState.State → Log → Main.Answer → List ℕ → Type 0
 FreshAnswer s l (Main.refused n) d = Unit {0}
 FreshAnswer s l Main.done d = Unit {0}
 FreshAnswer s l (Main.put n) d = Unit {0}
-FreshAnswer s l (Main.received used t e u) d = FreshTold s l t d
+FreshAnswer s l (Main.received used t e u) d = FreshReport s l t d
 
 -- of each call, with what was put out and read before it
-abbrev pub TurnFresh : Ends → Turn → Type 0
-TurnFresh e (main m) = let d = Main.made (e .main) m in FreshAnswer (MainView.view (e .main)) (e .log) (d .answer) (d .out)
-TurnFresh e (supervisor m) = Unit {0}
+abbrev pub CallFresh : Ends → Call → Type 0
+CallFresh e (main m) = let d = Main.made (e .main) m in FreshAnswer (MainView.view (e .main)) (e .log) (d .answer) (d .out)
+CallFresh e (supervisor m) = Unit {0}
 
 -- ---- What an alert's answer comes from
 
@@ -374,22 +374,22 @@ FreshAlert s l r =
     → Any (AlertTaken (s .newest) q r) (l .handled)
 
 -- of each message that a call hands out
-abbrev pub ToldOf : (Message → Type 0) → MainCalls.Told → List ℕ → Type 0
-ToldOf P (MainCalls.Told.refused n) d = Unit {0}
-ToldOf P MainCalls.nothing d = Unit {0}
-ToldOf P (MainCalls.answered v q c n) d = P (record { version = v; sequence = q; command = c; payload = d })
-ToldOf P (MainCalls.status x o k) d = Unit {0}
-ToldOf P (MainCalls.alerted v q c n) d = P (record { version = v; sequence = q; command = c; payload = d })
+abbrev pub ReportOf : (Message → Type 0) → MainCalls.Report → List ℕ → Type 0
+ReportOf P (MainCalls.Report.refused n) d = Unit {0}
+ReportOf P MainCalls.nothing d = Unit {0}
+ReportOf P (MainCalls.answered v q c n) d = P (record { version = v; sequence = q; command = c; payload = d })
+ReportOf P (MainCalls.status x o k) d = Unit {0}
+ReportOf P (MainCalls.alerted v q c n) d = P (record { version = v; sequence = q; command = c; payload = d })
 
 abbrev pub AnswerOf : (Message → Type 0) → Main.Answer → List ℕ → Type 0
 AnswerOf P (Main.refused n) d = Unit {0}
 AnswerOf P Main.done d = Unit {0}
 AnswerOf P (Main.put n) d = Unit {0}
-AnswerOf P (Main.received used t e u) d = ToldOf P t d
+AnswerOf P (Main.received used t e u) d = ReportOf P t d
 
-abbrev pub TurnOf : (MainState.State → Log → Message → Type 0) → Ends → Turn → Type 0
-TurnOf P e (main m) = let d = Main.made (e .main) m in AnswerOf (P (MainView.view (e .main)) (e .log)) (d .answer) (d .out)
-TurnOf P e (supervisor m) = Unit {0}
+abbrev pub CallOf : (MainState.State → Log → Message → Type 0) → Ends → Call → Type 0
+CallOf P e (main m) = let d = Main.made (e .main) m in AnswerOf (P (MainView.view (e .main)) (e .log)) (d .answer) (d .out)
+CallOf P e (supervisor m) = Unit {0}
 
 -- ---- What a lookup's answer comes from
 
@@ -432,9 +432,9 @@ pub record Stays (m : Supervisor.Made) : Type 0 where
   pub no-start : Received.startsAnew m ≡ false
   pub no-restore : restores m ≡ false
 
-abbrev pub TurnStays : Turn → Type 0
-TurnStays (main m) = Unit {0}
-TurnStays (supervisor m) = Stays m
+abbrev pub CallStays : Call → Type 0
+CallStays (main m) = Unit {0}
+CallStays (supervisor m) = Stays m
 
 -- the same against an earlier moment
 pub record ValueSince (e : Ends) (n k most : ℕ) (r : Message) (h : Handled) : Type 0 where

@@ -10,23 +10,23 @@ use Rattle.line.specs.Frame.{frame}
 use Rattle.requester_claims.specs.View as MainView
 use Rattle.requester_claims.specs.Numbers.{Frame}
 use Rattle.both_claims.specs.Ends
-use Rattle.both_claims.specs.Ends.{TurnTyped, after, Starts, begun, Always, Wire, WireAfter, FreshAnswer, TurnFresh}
+use Rattle.both_claims.specs.Ends.{CallTyped, after, Starts, begun, Always, Wire, WireAfter, FreshAnswer, CallFresh}
 use Rattle.both_claims.specs.Ends.{Any, Log, got, Among, over, lost, came, InOrder}
 use Rattle.both_claims.specs.laws.Lists.{each-then}
 use Rattle.both_claims.specs.laws.MainCalls.{main-fresh}
-use Rattle.both_claims.specs.laws.Turns.{Both, main-log, main-answer, each-turn, begun-both}
+use Rattle.both_claims.specs.laws.BothCalls.{Both, main-log, main-answer, each-call, begun-both}
 
-pub turn-fresh : (e : Ends.Ends) → Both e → (t : Ends.Turn) → TurnTyped t → Wire (after e t .log) → TurnFresh e t
-turn-fresh e both (Ends.main m) typed w =
+pub fresh-call : (e : Ends.Ends) → Both e → (t : Ends.Call) → CallTyped t → Wire (after e t .log) → CallFresh e t
+fresh-call e both (Ends.main m) typed w =
     let s = MainView.view (e .main) in
     main-answer e both (FreshAnswer s (e .log)) m (main-fresh s (e .log) (both .kept) m typed (rw (main-log e both m) at w))
-turn-fresh e both (Ends.supervisor m) typed w = tt
+fresh-call e both (Ends.supervisor m) typed w = tt
 
 -- A start of each end that is accepted, on any bytes; then any calls of both in any order, further starts among them, each lent any run of each part; at every
 -- moment the wire is as `Wire` says. Then what each receive of the main processor's end hands out was made by the supervisor in carrying out exactly the request
 -- outstanding, after it was put out under its number.
-pub fresh-answer : (s : Starts) (ts : List Ends.Turn) → Each TurnTyped ts → Always WireAfter (begun s) ts → Always TurnFresh (begun s) ts
-fresh-answer s ts t w = each-turn (λ e. Unit {0}) TurnFresh (λ e both x t typed v. (turn-fresh e both t typed v, tt)) (begun s) (begun-both s) tt ts t w
+pub fresh-answer : (s : Starts) (ts : List Ends.Call) → Each CallTyped ts → Always WireAfter (begun s) ts → Always CallFresh (begun s) ts
+fresh-answer s ts t w = each-call (λ e. Unit {0}) CallFresh (λ e both x t typed v. (fresh-call e both t typed v, tt)) (begun s) (begun-both s) tt ts t w
 
 -- ---- a wire that keeps the order
 

@@ -37,15 +37,15 @@ use Rattle.supervisor_claims.specs.claims.FramesClaim.{made-carried, by-frames}
 use Rattle.supervisor_claims.specs.claims.LastSetLaws.{afterSets, after-append, after-sets, onto, onto-low, entry-held, requests-append, frames-have, Holds, fresh-holds, made-holds, since-keeps, in-low, read-low}
 use Rattle.supervisor_claims.specs.claims.History as SupervisorHistory
 use Rattle.both_claims.specs.Ends
-use Rattle.both_claims.specs.Ends.{Any, Handled, Log, CarriedOut, Fresh, FreshTold, FreshAnswer, ToldOf, AnswerOf, messageOf, asMessage, drops, originBy, handledBy, imageOf, brought, supervisorLogged, mainLogged, restarts, firstLog}
-use Rattle.both_claims.specs.Ends.{afterAll, framesOf, isRestore, restores, Stays, TurnStays, ValueSince, NotReplaced}
-use Rattle.both_claims.specs.Ends.{TurnTyped, after, Starts, begun, Always, Wire, WireAfter, TurnOf, lookupRequest, ValueThen, FreshValue}
+use Rattle.both_claims.specs.Ends.{Any, Handled, Log, CarriedOut, Fresh, FreshReport, FreshAnswer, ReportOf, AnswerOf, messageOf, asMessage, drops, originBy, handledBy, imageOf, brought, supervisorLogged, mainLogged, restarts, firstLog}
+use Rattle.both_claims.specs.Ends.{afterAll, framesOf, isRestore, restores, Stays, CallStays, ValueSince, NotReplaced}
+use Rattle.both_claims.specs.Ends.{CallTyped, after, Starts, begun, Always, Wire, WireAfter, CallOf, lookupRequest, ValueThen, FreshValue}
 use Rattle.both_claims.specs.laws.Lists.{any-so, each-then, each-and, each-any}
 use Rattle.both_claims.specs.laws.Table.{top-set}
 use Rattle.both_claims.specs.laws.SupervisorFrames.{frames-none}
 use Rattle.both_claims.specs.laws.Kept.{PutOut, Known, Kept}
-use Rattle.both_claims.specs.FreshAnswer.{turn-fresh}
-use Rattle.both_claims.specs.laws.Turns.{Both, turn-keeps, each-turn, after-turns, begun-both}
+use Rattle.both_claims.specs.FreshAnswer.{fresh-call}
+use Rattle.both_claims.specs.laws.BothCalls.{Both, keeps-both, each-call, after-calls, begun-both}
 
 -- ---- what holds of the supervisor's settings
 
@@ -117,7 +117,7 @@ carried-lookup : (image : List ℕ) (x : State) (n k most : ℕ) → ReadBack k 
     carried image x (asMessage n (lookupRequest k most)) .reply ≡ some (record { version = 1; command = 0x0a; payload = f .result ∷ f .value })
 unfolding carried commandOf withNumber numberOf effect
 carried-lookup image x n k most s i =
-    let m = s .key .most in
+    let m = s .key .upper in
     let e = lookup-data k most (omega arith) i in
     rw (e .0, e .1, found-value x most s)
 
@@ -162,29 +162,29 @@ value-fresh s l kept x aged r f k most key i e =
 -- ---- the claim
 
 -- what holds of what is fresh
-told-then : (s : MainState.State) (l : Log) (P : Message → Type 0) → ((r : Message) → Fresh s l r → P r) → (t : MainCalls.Told) (d : List ℕ) → FreshTold s l t d → ToldOf P t d
-told-then s l P f (MainCalls.Told.refused n) d h = tt
-told-then s l P f MainCalls.nothing d h = tt
-told-then s l P f (MainCalls.answered v q c n) d h = f _ h
-told-then s l P f (MainCalls.status x o k) d h = tt
-told-then s l P f (MainCalls.alerted v q c n) d h = f _ h
+report-then : (s : MainState.State) (l : Log) (P : Message → Type 0) → ((r : Message) → Fresh s l r → P r) → (t : MainCalls.Report) (d : List ℕ) → FreshReport s l t d → ReportOf P t d
+report-then s l P f (MainCalls.Report.refused n) d h = tt
+report-then s l P f MainCalls.nothing d h = tt
+report-then s l P f (MainCalls.answered v q c n) d h = f _ h
+report-then s l P f (MainCalls.status x o k) d h = tt
+report-then s l P f (MainCalls.alerted v q c n) d h = f _ h
 
 answer-then : (s : MainState.State) (l : Log) (P : Message → Type 0) → ((r : Message) → Fresh s l r → P r) → (a : Main.Answer) (d : List ℕ) → FreshAnswer s l a d → AnswerOf P a d
 answer-then s l P f (Main.refused n) d h = tt
 answer-then s l P f Main.done d h = tt
 answer-then s l P f (Main.put n) d h = tt
-answer-then s l P f (Main.received used t e u) d h = told-then s l P f t d h
+answer-then s l P f (Main.received used t e u) d h = report-then s l P f t d h
 
-turn-aged : (e : Ends.Ends) → Both e → Aged (view (e .supervisor)) (e .log) → (t : Ends.Turn) → TurnTyped t → Wire (after e t .log)
-    → TurnOf FreshValue e t × Aged (view (after e t .supervisor)) (after e t .log)
+call-aged : (e : Ends.Ends) → Both e → Aged (view (e .supervisor)) (e .log) → (t : Ends.Call) → CallTyped t → Wire (after e t .log)
+    → CallOf FreshValue e t × Aged (view (after e t .supervisor)) (after e t .log)
 unfolding after
-turn-aged e both a (Ends.main m) typed w =
+call-aged e both a (Ends.main m) typed w =
     let s = MainView.view (e .main) in
     let d = Main.made (e .main) m in (
-      answer-then s (e .log) (FreshValue s (e .log)) (value-fresh s (e .log) (both .kept) (view (e .supervisor)) a) (d .answer) (d .out) (turn-fresh e both (Ends.main m) typed w),
+      answer-then s (e .log) (FreshValue s (e .log)) (value-fresh s (e .log) (both .kept) (view (e .supervisor)) a) (d .answer) (d .out) (fresh-call e both (Ends.main m) typed w),
       main-ages (view (e .supervisor)) (e .log) a (m .call) _ _ _,
     )
-turn-aged e both a (Ends.supervisor m) typed w =
+call-aged e both a (Ends.supervisor m) typed w =
     let k = SupervisorHistory.one-call (e .supervisor) m (both .supervisor) typed .leaves .0 in
     (tt, rw k (supervisor-ages (view (e .supervisor)) (e .log) a m typed _))
 
@@ -198,8 +198,8 @@ begun-aged s =
 -- As in `fresh-answer`: an answer that is handed out while a lookup of a settings key is outstanding, one that is read back, is the value of the last successful set
 -- of that key, or what the last accepted restore left of it if that is later, since the supervisor's last start, at a moment at which it carried out that lookup,
 -- after it was put out. A restored image may itself be old.
-pub list-age : (s : Starts) (ts : List Ends.Turn) → Each TurnTyped ts → Always WireAfter (begun s) ts → Always (TurnOf FreshValue) (begun s) ts
-list-age s ts t w = each-turn (λ e. Aged (view (e .supervisor)) (e .log)) (TurnOf FreshValue) turn-aged (begun s) (begun-both s) (begun-aged s) ts t w
+pub list-age : (s : Starts) (ts : List Ends.Call) → Each CallTyped ts → Always WireAfter (begun s) ts → Always (CallOf FreshValue) (begun s) ts
+list-age s ts t w = each-call (λ e. Aged (view (e .supervisor)) (e .log)) (CallOf FreshValue) call-aged (begun s) (begun-both s) (begun-aged s) ts t w
 
 -- ---- against an earlier moment
 
@@ -291,10 +291,10 @@ module _ (e₀ : Ends.Ends) where
   main-later l h c a out n =
       cond-by Later (restarts c a) _ _ (λ _. record { received = h .received; each = tt }) (λ _. record { received = h .received; each = h .each })
 
-  turn-later : (e : Ends.Ends) (t : Ends.Turn) → TurnStays t → Later (e .log) → Later (after e t .log)
+  call-later : (e : Ends.Ends) (t : Ends.Call) → CallStays t → Later (e .log) → Later (after e t .log)
   unfolding after
-  turn-later e (Ends.main m) n h = main-later (e .log) h (m .call) _ _ _
-  turn-later e (Ends.supervisor m) n h = supervisor-later _ (e .log) m _ n h
+  call-later e (Ends.main m) n h = main-later (e .log) h (m .call) _ _ _
+  call-later e (Ends.supervisor m) n h = supervisor-later _ (e .log) m _ n h
 
   -- at the moment itself
   moment-later : Both e₀ → Later (e₀ .log)
@@ -341,31 +341,31 @@ module _ (e₀ : Ends.Ends) where
       let q : f .request ≡ lookupRequest k most = (let w = f .waiting in cc) in
       value-since a₀ s l kept x aged later r k most key i new (rw q at (f .made))
 
-  turn-since : Aged (view (e₀ .supervisor)) (e₀ .log) → (e : Ends.Ends) → Both e → Aged (view (e .supervisor)) (e .log) → Later (e .log) → (t : Ends.Turn) → TurnTyped t → Wire (after e t .log)
-      → TurnOf (NotReplaced e₀) e t
-  turn-since a₀ e both a h (Ends.main m) typed w =
+  call-since : Aged (view (e₀ .supervisor)) (e₀ .log) → (e : Ends.Ends) → Both e → Aged (view (e .supervisor)) (e .log) → Later (e .log) → (t : Ends.Call) → CallTyped t → Wire (after e t .log)
+      → CallOf (NotReplaced e₀) e t
+  call-since a₀ e both a h (Ends.main m) typed w =
       let s = MainView.view (e .main) in
       let d = Main.made (e .main) m in
       answer-then s (e .log) (NotReplaced e₀ s (e .log)) (not-replaced-fresh a₀ s (e .log) (both .kept) (view (e .supervisor)) a h) (d .answer) (d .out)
-      (turn-fresh e both (Ends.main m) typed w)
-  turn-since a₀ e both a h (Ends.supervisor m) typed w = tt
+      (fresh-call e both (Ends.main m) typed w)
+  call-since a₀ e both a h (Ends.supervisor m) typed w = tt
 
   -- calls after that moment
-  since-turns : Aged (view (e₀ .supervisor)) (e₀ .log) → (e : Ends.Ends) → Both e → Aged (view (e .supervisor)) (e .log) → Later (e .log) → (ts : List Ends.Turn) → Each TurnTyped ts
-      → Each TurnStays ts → Always WireAfter e ts → Always (TurnOf (NotReplaced e₀)) e ts
-  since-turns a₀ e both a h [] typed n w = tt
-  since-turns a₀ e both a h (t ∷ ts) typed n w =
-      let k = turn-aged e both a t (typed .0) (w .0) in (
-        turn-since a₀ e both a h t (typed .0) (w .0),
-        since-turns a₀ (after e t) (turn-keeps e both t (typed .0) (w .0)) (k .1) (turn-later e t (n .0) h) ts (typed .1) (n .1) (w .1),
+  since-calls : Aged (view (e₀ .supervisor)) (e₀ .log) → (e : Ends.Ends) → Both e → Aged (view (e .supervisor)) (e .log) → Later (e .log) → (ts : List Ends.Call) → Each CallTyped ts
+      → Each CallStays ts → Always WireAfter e ts → Always (CallOf (NotReplaced e₀)) e ts
+  since-calls a₀ e both a h [] typed n w = tt
+  since-calls a₀ e both a h (t ∷ ts) typed n w =
+      let k = call-aged e both a t (typed .0) (w .0) in (
+        call-since a₀ e both a h t (typed .0) (w .0),
+        since-calls a₀ (after e t) (keeps-both e both t (typed .0) (w .0)) (k .1) (call-later e t (n .0) h) ts (typed .1) (n .1) (w .1),
       )
 
 -- As in `fresh-answer`, and any moment among the calls, behind which the supervisor is neither started again nor accepts a restore, which can bring an older list
 -- back: an answer to a lookup whose number was not taken yet at that moment is the value of the last successful set since that moment, or else the value that the
 -- key had at that moment. So a value that had been replaced before the lookup was put out is its answer only if a set since brings it back.
-pub not-replaced : (s : Starts) (ts us : List Ends.Turn) → Each TurnTyped ts → Each TurnTyped us → Each TurnStays us → Always WireAfter (begun s) ts
-    → let e = afterAll (begun s) ts in Always WireAfter e us → Always (TurnOf (NotReplaced e)) e us
+pub not-replaced : (s : Starts) (ts us : List Ends.Call) → Each CallTyped ts → Each CallTyped us → Each CallStays us → Always WireAfter (begun s) ts
+    → let e = afterAll (begun s) ts in Always WireAfter e us → Always (CallOf (NotReplaced e)) e us
 not-replaced s ts us t u n w v =
-    let k = after-turns (λ e. Aged (view (e .supervisor)) (e .log)) (TurnOf FreshValue) turn-aged (begun s) (begun-both s) (begun-aged s) ts t w in
+    let k = after-calls (λ e. Aged (view (e .supervisor)) (e .log)) (CallOf FreshValue) call-aged (begun s) (begun-both s) (begun-aged s) ts t w in
     let e = afterAll (begun s) ts in
-    since-turns e (k .1) e (k .0) (k .1) (moment-later e (k .0)) us u n v
+    since-calls e (k .1) e (k .0) (k .1) (moment-later e (k .0)) us u n v

@@ -30,7 +30,7 @@ use Rattle.supervisor_claims.specs.laws.Progress.{Since}
 use Rattle.supervisor_claims.specs.claims.FramesClaim.{made-carried, by-frames}
 use Rattle.supervisor_claims.specs.claims.History as SupervisorHistory
 use Rattle.both_claims.specs.Ends
-use Rattle.both_claims.specs.Ends.{TurnTyped, after, Starts, begun, Always, firstLog, restarts, mainLogged, imageOf, stillPending, brought, supervisorLogged}
+use Rattle.both_claims.specs.Ends.{CallTyped, after, Starts, begun, Always, firstLog, restarts, mainLogged, imageOf, stillPending, brought, supervisorLogged}
 use Rattle.both_claims.specs.Ends.{Log, messageOf, replyMade, originBy, handledBy, newestReply, drops}
 use Rattle.both_claims.specs.laws.Table.{frame-some}
 use Rattle.both_claims.specs.laws.SupervisorFrames.{frames-none}
@@ -189,20 +189,20 @@ main-pends x l p c a out n =
 -- ---- the claim
 
 -- as each call begins, where the newest reply counts as not taken whole: the bytes pending are what is left of its frame
-abbrev pub TurnPends : Ends.Ends → Ends.Turn → Type 0
-TurnPends e t = Waits (e .log .pending) (view (e .supervisor) .pending)
+abbrev pub CallPends : Ends.Ends → Ends.Call → Type 0
+CallPends e t = Waits (e .log .pending) (view (e .supervisor) .pending)
 
-turn-pends : (e : Ends.Ends) → Sound (e .supervisor) → Pends (view (e .supervisor)) (e .log) → (t : Ends.Turn) → TurnTyped t
+call-pends : (e : Ends.Ends) → Sound (e .supervisor) → Pends (view (e .supervisor)) (e .log) → (t : Ends.Call) → CallTyped t
     → Sound (after e t .supervisor) × Pends (view (after e t .supervisor)) (after e t .log)
 unfolding after
-turn-pends e s p (Ends.main m) typed = (s, main-pends (view (e .supervisor)) (e .log) p (m .call) _ _ _)
-turn-pends e s p (Ends.supervisor m) typed =
+call-pends e s p (Ends.main m) typed = (s, main-pends (view (e .supervisor)) (e .log) p (m .call) _ _ _)
+call-pends e s p (Ends.supervisor m) typed =
     let k = SupervisorHistory.one-call (e .supervisor) m s typed .leaves in
     (k .1, rw (k .0) (supervisor-pends (view (e .supervisor)) (e .log) p m))
 
-turns-pend : (e : Ends.Ends) → Sound (e .supervisor) → Pends (view (e .supervisor)) (e .log) → (ts : List Ends.Turn) → Each TurnTyped ts → Always TurnPends e ts
-turns-pend e s p [] typed = tt
-turns-pend e s p (t ∷ ts) typed = let k = turn-pends e s p t (typed .0) in (p .waits, turns-pend (after e t) (k .0) (k .1) ts (typed .1))
+calls-pend : (e : Ends.Ends) → Sound (e .supervisor) → Pends (view (e .supervisor)) (e .log) → (ts : List Ends.Call) → Each CallTyped ts → Always CallPends e ts
+calls-pend e s p [] typed = tt
+calls-pend e s p (t ∷ ts) typed = let k = call-pends e s p t (typed .0) in (p .waits, calls-pend (after e t) (k .0) (k .1) ts (typed .1))
 
 begun-pends : (s : Starts) → Pends (view (begun s .supervisor)) firstLog
 unfolding Received.joinedAll Supervisor.leftMeant
@@ -211,7 +211,7 @@ begun-pends s =
     rw k (record { since = by-frames (factoryOf (s .start-data)) [] .2; waits = λ r e. absurd (none-some e) })
 
 -- over any wire
-pub pending-bytes : (s : Starts) (ts : List Ends.Turn) → Each TurnTyped ts → Always TurnPends (begun s) ts
+pub pending-bytes : (s : Starts) (ts : List Ends.Call) → Each CallTyped ts → Always CallPends (begun s) ts
 pending-bytes s ts t =
     let k = SupervisorHistory.started (s .supervisor-parts) (s .supervisor-bytes) (s .supervisor-lent) (s .start-data) (s .start-typed) (s .supervisor-accepted) in
-    turns-pend (begun s) (k .1) (begun-pends s) ts t
+    calls-pend (begun s) (k .1) (begun-pends s) ts t

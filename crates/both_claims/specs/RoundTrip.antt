@@ -158,7 +158,7 @@ pub record Taking (q : Parts) : Type 0 where
 
 -- the bytes that they move
 abbrev pub takenOf : {q : Parts} → Taking q → List ℕ
-takenOf {q} t = takenBytes (Supervisor.told q (t .takes))
+takenOf {q} t = takenBytes (Supervisor.outputs q (t .takes))
 
 -- the supervisor's side
 module _ (q : Parts) (s : Sound q) (idle : view q .received ≡ some []) (image : List ℕ) (m : Message) (passed : verdict (form m) ≡ good m)
@@ -200,7 +200,7 @@ module _ (q : Parts) (s : Sound q) (idle : view q .received ≡ some []) (image 
 
 -- a message that is handed out as the answer
 abbrev pub handedOut : Message → Event
-handedOut r = record { told = MainCalls.answered (r .version) (r .sequence) (r .command) (length (r .payload)); payload = r .payload; ended = false }
+handedOut r = record { report = MainCalls.answered (r .version) (r .sequence) (r .command) (length (r .payload)); payload = r .payload; ended = false }
 
 -- all that a call takes is lent
 abbrev allLent : Main.Lent
@@ -251,7 +251,7 @@ module _ (p : MainCalls.Parts) (v : PartsValid p) (q : Request) (kept : MainView
       × (MainView.view (x .parts) ≡ MainState.state (s .newest) none none false (some []))
 
   in-two : (b : Bool) → Answered (owed b ++ frame r) (afterReads (listening p) (owedRead b ∷ (frameRead ∷ [])))
-  unfolding afterReads events MainCalls.toldOf Main.dataOf
+  unfolding afterReads events MainCalls.reportOf Main.dataOf
   in-two b =
       let x = afterRead (listening p) (owedRead b) in
       let k = one-read (listening p) (owedRead b) v (lent-enough (owed b)) in

@@ -10,7 +10,7 @@ pub mod Kept
 pub mod ThatRequest
 pub mod MainCalls
 pub mod SupervisorCalls
-pub mod Turns
+pub mod BothCalls
 pub mod Held
 pub mod Delivered
 pub mod FrameHeard

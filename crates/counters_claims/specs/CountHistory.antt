@@ -12,7 +12,7 @@ use Rattle.counters.specs.declared.Counters.{Counters}
 use Rattle.counters.specs.Count.{frameEnded, zeros, bumpedFor}
 use Rattle.counters.specs.Counting.{counting}
 use Rattle.supervisor_claims.specs.Histories
-use Rattle.supervisor_claims.specs.Histories.{Call, Did, didBy, refusal, stepAnswer, did, lentOf, givenBack, Made, made, Told}
+use Rattle.supervisor_claims.specs.Histories.{Call, Did, didBy, refusal, stepAnswer, did, lentOf, givenBack, Made, made, Output}
 use Rattle.supervisor_claims.specs.FrameHistory.{receivedBy, startsAnew}
 
 -- ---- A call that is lent a block
@@ -47,10 +47,10 @@ abbrev pub doneBy : Parts → Made → Option Counters → Did
 doneBy p m none = made p m
 doneBy p m (some c) = madeCounted c p m .did
 
-unfoldable pub toldLending : Parts → List Lending → List Told
-toldLending p [] = []
-toldLending p (x ∷ xs) =
-    let d = doneBy p (x .call) (x .block) in record { answer = d .answer; out = d .out } ∷ toldLending (d .parts) xs
+unfoldable pub outputsLending : Parts → List Lending → List Output
+outputsLending p [] = []
+outputsLending p (x ∷ xs) =
+    let d = doneBy p (x .call) (x .block) in record { answer = d .answer; out = d .out } ∷ outputsLending (d .parts) xs
 
 -- the block that a call leaves, where it is lent one, and those that a list leaves
 abbrev pub blockBy : Parts → Made → Option Counters → Option Counters

@@ -19,7 +19,7 @@ use Rattle.supervisor_claims.specs.laws.Progress.{Since}
 use Rattle.supervisor_claims.specs.claims.History.{one-call}
 use Rattle.supervisor_claims.specs.claims.FramesClaim.{made-carried}
 use Rattle.supervisor_claims.specs.TwoRuns.{Run, leftBy, receivedIn, SameBut, passphraseEdition, setsToCome, withoutPassphrase, run-sound, run-since, same-states, two-states}
-use Rattle.counters_claims.specs.CountHistory.{Lending, toldLending, blockBy, blocksLending, unlent, endedAll}
+use Rattle.counters_claims.specs.CountHistory.{Lending, outputsLending, blockBy, blocksLending, unlent, endedAll}
 use Rattle.counters_claims.specs.Item8.{same-by, same-as-unlent}
 use Rattle.counters_claims.specs.CallCounts.{call-counts}
 
@@ -48,7 +48,7 @@ blocks-by-frames (x ∷ xs) t w p s h =
 -- As in `two-states`, and each call may be lent a block, whatever it holds, the same in both runs: the calls give the same, and leave each block the same.
 pub two-counted-states : (r s : Run) → withoutPassphrase (view (leftBy r)) ≡ withoutPassphrase (view (leftBy s)) → (xs : List Lending) → AllTyped (unlent xs)
     → let n = setsToCome (receivedIn r) (unlent xs) in passphraseEdition (leftBy r) + n < last-edition → passphraseEdition (leftBy s) + n < last-edition
-    → (toldLending (leftBy r) xs ≡ toldLending (leftBy s) xs) × (blocksLending (leftBy r) xs ≡ blocksLending (leftBy s) xs)
+    → (outputsLending (leftBy r) xs ≡ outputsLending (leftBy s) xs) × (blocksLending (leftBy r) xs ≡ blocksLending (leftBy s) xs)
 two-counted-states r s e xs t h k =
     let p = leftBy r in
     let q = leftBy s in
@@ -62,5 +62,5 @@ two-counted-states r s e xs t h k =
 -- over the bytes, as in `two-runs`
 pub two-counted-runs : (r s : Run) → SameBut (leftBy r) (leftBy s) → (xs : List Lending) → AllTyped (unlent xs) → let n = setsToCome (receivedIn r) (unlent xs) in
     passphraseEdition (leftBy r) + n < last-edition → passphraseEdition (leftBy s) + n < last-edition
-    → (toldLending (leftBy r) xs ≡ toldLending (leftBy s) xs) × (blocksLending (leftBy r) xs ≡ blocksLending (leftBy s) xs)
+    → (outputsLending (leftBy r) xs ≡ outputsLending (leftBy s) xs) × (blocksLending (leftBy r) xs ≡ blocksLending (leftBy s) xs)
 two-counted-runs r s e = two-counted-states r s (same-states (leftBy r) (leftBy s) (run-sound r) e)

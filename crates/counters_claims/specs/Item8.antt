@@ -14,14 +14,14 @@ use Rattle.counters.specs.declared.Counters.{Counters}
 use Rattle.counters.specs.Count.{frameEnded, isGood, isEmpty, isReason, zeros, bumpedForAll, howMany, tallyOf}
 use Rattle.supervisor_claims.specs.View.{factoryOf, view}
 use Rattle.supervisor_claims.specs.Histories
-use Rattle.supervisor_claims.specs.Histories.{Call, Typed, done, Did, Lent, Made, made, told, left, AllTyped}
+use Rattle.supervisor_claims.specs.Histories.{Call, Typed, done, Did, Lent, Made, made, outputs, left, AllTyped}
 use Rattle.supervisor_claims.specs.FrameHistory.{joined, joinedAll}
 use Rattle.supervisor_claims.specs.Sound.{Bytes, Sound}
 use Rattle.supervisor_claims.specs.laws.Progress.{Since}
 use Rattle.supervisor_claims.specs.claims.History.{one-call, history}
 use Rattle.supervisor_claims.specs.claims.InOrder.{verdict-over}
 use Rattle.supervisor_claims.specs.claims.FramesClaim.{made-carried, by-frames}
-use Rattle.counters_claims.specs.CountHistory.{didCounted, madeCounted, Lending, doneBy, toldLending, leftLending, unlent}
+use Rattle.counters_claims.specs.CountHistory.{didCounted, madeCounted, Lending, doneBy, outputsLending, leftLending, unlent}
 use Rattle.counters_claims.specs.CountHistory.{Event, plain, counted, clear, Held, after, afterAll, callsOf, allCounted, framesSince, endedAll}
 use Rattle.counters_claims.specs.FrameLaws.{ended-append, closedSince, frames-since}
 use Rattle.counters_claims.specs.TallyLaws.{bumped-tally, bumped-append, every-once}
@@ -45,8 +45,8 @@ pub same-by : (p : Parts) (m : Made) (block : Option Counters) → doneBy p m bl
 same-by p m none = refl
 same-by p m (some c) = same-made c p m
 
-pub same-as-unlent : (p : Parts) (xs : List Lending) → (toldLending p xs ≡ told p (unlent xs)) × (leftLending p xs ≡ left p (unlent xs))
-unfolding toldLending leftLending unlent told left
+pub same-as-unlent : (p : Parts) (xs : List Lending) → (outputsLending p xs ≡ outputs p (unlent xs)) × (leftLending p xs ≡ left p (unlent xs))
+unfolding outputsLending leftLending unlent outputs left
 same-as-unlent p [] = (refl, refl)
 same-as-unlent p (x ∷ xs) =
     let i = same-as-unlent (made p (x .call) .parts) xs in
@@ -55,7 +55,7 @@ same-as-unlent p (x ∷ xs) =
 -- Two lists of calls on the same parts that differ only in the blocks lent, any or none and whatever they hold: the same answers, the same bytes written
 -- outside the state or handed out, and the same parts.
 pub blocks-alone : (p : Parts) (xs ys : List Lending) → unlent xs ≡ unlent ys
-    → (toldLending p xs ≡ toldLending p ys) × (leftLending p xs ≡ leftLending p ys)
+    → (outputsLending p xs ≡ outputsLending p ys) × (leftLending p xs ≡ leftLending p ys)
 blocks-alone p xs ys e =
     let x = same-as-unlent p xs in
     let y = same-as-unlent p ys in

@@ -31,7 +31,7 @@ pub use Rattle.line_claims.specs.WireClaim.{one-meaning}
 pub use Rattle.line_claims.specs.WriterClaim.{Sent, sent-wire, written-frame, one-meaning-sent}
 pub use Rattle.line_claims.specs.ReaderClaim.{any-stream, any-messages, any-failures, any-tail, hands-out, stays-valid, cut}
 pub use Rattle.line_claims.specs.SpellingClaim.{read-written, one-spelling, good-frame}
-pub use Rattle.line_claims.specs.FrameClaim.{goodFrames, handed-frames, handed-wire, toldBytes, answers-tell}
+pub use Rattle.line_claims.specs.FrameClaim.{goodFrames, handed-frames, handed-wire, reportedBytes, answers-determine}
 pub use Rattle.line_claims.specs.Changes.{Multiple, change, changes, summed, placed, checksum-changes}
 pub use Rattle.line_claims.specs.ApartClaim.{DifferApart, changeAt, Missed, checksum-apart, checksum-255-apart, opposite-255-apart, exchanged-255-apart}
 pub use Rattle.line_claims.specs.DistanceClaim.{DividesOne, Factors, checksum-distance}

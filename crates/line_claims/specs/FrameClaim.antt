@@ -61,24 +61,24 @@ pieces-wire ((b ∷ bs) ∷ ps) n e =
     (λ m j f. rw (frame-ahead (b ∷ bs) m (withZeros ps) (n .0) j) (sent (good-form (b ∷ bs) m (n .0) j .1) (pieces-wire ps (n .1) f)))
 
 -- the bytes that answers to a 00 determine, with the messages that they handed out: a 00 for an empty frame, and a message's frame; a failure gives none
-unfoldable pub toldBytes : List Report → List Message → List ℕ
-toldBytes [] ms = []
-toldBytes (empty ∷ report) ms = 0 ∷ toldBytes report ms
-toldBytes (message version sequence command n ∷ report) [] = []
-toldBytes (message version sequence command n ∷ report) (m ∷ ms) = frame m ++ toldBytes report ms
-toldBytes (failed reason sequence ∷ report) ms = []
-toldBytes (refused number ∷ report) ms = []
-toldBytes (more ∷ report) ms = []
+unfoldable pub reportedBytes : List Report → List Message → List ℕ
+reportedBytes [] ms = []
+reportedBytes (empty ∷ report) ms = 0 ∷ reportedBytes report ms
+reportedBytes (message version sequence command n ∷ report) [] = []
+reportedBytes (message version sequence command n ∷ report) (m ∷ ms) = frame m ++ reportedBytes report ms
+reportedBytes (failed reason sequence ∷ report) ms = []
+reportedBytes (refused number ∷ report) ms = []
+reportedBytes (more ∷ report) ms = []
 
-pieces-told : (ps : List (List ℕ)) → Each (Each NonZero) ps → failureReasons (nonEmpty ps) ≡ []
-    → withZeros ps ≡ toldBytes (map frameReport ps) (goodMessages (nonEmpty ps))
-unfolding withZeros nonEmpty gathered toldBytes frameReport verdictReport
-pieces-told [] n e = refl
-pieces-told ([] ∷ ps) n e = rw (← pieces-told ps (n .1) e)
-pieces-told ((b ∷ bs) ∷ ps) n e =
+pieces-reported : (ps : List (List ℕ)) → Each (Each NonZero) ps → failureReasons (nonEmpty ps) ≡ []
+    → withZeros ps ≡ reportedBytes (map frameReport ps) (goodMessages (nonEmpty ps))
+unfolding withZeros nonEmpty gathered reportedBytes frameReport verdictReport
+pieces-reported [] n e = refl
+pieces-reported ([] ∷ ps) n e = rw (← pieces-reported ps (n .1) e)
+pieces-reported ((b ∷ bs) ∷ ps) n e =
     first-good (b ∷ bs) (failureReasons (nonEmpty ps))
-    (λ v. (b ∷ bs) ++ 0 ∷ withZeros ps ≡ toldBytes (verdictReport v ∷ map frameReport ps) (goodOf v ++ goodMessages (nonEmpty ps))) e
-    (λ m j f. frame-ahead (b ∷ bs) m (withZeros ps) (n .0) j ∙ ap (λ (w : List ℕ). frame m ++ w) (pieces-told ps (n .1) f))
+    (λ v. (b ∷ bs) ++ 0 ∷ withZeros ps ≡ reportedBytes (verdictReport v ∷ map frameReport ps) (goodOf v ++ goodMessages (nonEmpty ps))) e
+    (λ m j f. frame-ahead (b ∷ bs) m (withZeros ps) (n .0) j ∙ ap (λ (w : List ℕ). frame m ++ w) (pieces-reported ps (n .1) f))
 
 -- ---- the claims
 
@@ -107,8 +107,8 @@ module _ (room : List ℕ) (enough : state-length ≤ length room) (cs : List Ca
   )
 
   -- and its answers determine those bytes, up to the tail
-  pub answers-tell : afterAll (begun room) cs .failures ≡ []
-      → afterAll (begun room) cs .bytes ≡ toldBytes (afterAll (begun room) cs .answered) (afterAll (begun room) cs .messages) ++ split (afterAll (begun room) cs .bytes) .rest
-  answers-tell e =
-      rw (any-stream room enough cs, any-messages room enough cs, ← pieces-told pieces pieces-each (none-failed e))
+  pub answers-determine : afterAll (begun room) cs .failures ≡ []
+      → afterAll (begun room) cs .bytes ≡ reportedBytes (afterAll (begun room) cs .answered) (afterAll (begun room) cs .messages) ++ split (afterAll (begun room) cs .bytes) .rest
+  answers-determine e =
+      rw (any-stream room enough cs, any-messages room enough cs, ← pieces-reported pieces pieces-each (none-failed e))
       (sym (split-whole (afterAll (begun room) cs .bytes)))

@@ -67,8 +67,8 @@ module _ {A : Type 0} (before after : A) (answer : List ℕ) {k : ℕ} where
   answering-short (given ns) g h = rw (lt-ltb (length answer) (length ns) (omega arith))
 
   -- any other is answered behind it
-  pub answering-given : {r : ℕ} {told : List ℕ} (s : Report) → Leaves k before after s → k ≤ length answer → outcome r told ≡ writingAnswer s answer
-      → outcome r (after, told) ≡ answering s before after answer
+  pub answering-given : {r : ℕ} {answer' : List ℕ} (s : Report) → Leaves k before after s → k ≤ length answer → outcome r answer' ≡ writingAnswer s answer
+      → outcome r (after, answer') ≡ answering s before after answer
   unfolding writingAnswer answering
   answering-given (refused n) g h e = rw (g, ap (λ (x : Outcome (List ℕ)). x .number) e, ap (λ (x : Outcome (List ℕ)). x .left) e)
   answering-given (given ns) g h e =
@@ -102,8 +102,8 @@ module _ (count : ℕ) (numbers : List ℕ) (m : count ≤ length numbers) where
         cond-by (λ (x : Outcome (List ℕ × List ℕ)). outcome 8 (room, answer) ≡ x) (ltb (length room) (length bs)) _ _ (λ _. refl)
         (λ _. answering-short room _ answer (given (take count numbers)) first h)
 
-    pub writingBoth-given : {r : ℕ} {copy told : List ℕ} → count ≤ length answer → length bs ≤ length room → copy ≡ copied bs 0 (length bs) room 0
-        → outcome r told ≡ writingAnswer (given (take count numbers)) answer → outcome r (copy, told) ≡ writingBoth (given (take count numbers)) bs room answer
+    pub writingBoth-given : {r : ℕ} {copy answer' : List ℕ} → count ≤ length answer → length bs ≤ length room → copy ≡ copied bs 0 (length bs) room 0
+        → outcome r answer' ≡ writingAnswer (given (take count numbers)) answer → outcome r (copy, answer') ≡ writingBoth (given (take count numbers)) bs room answer
     unfolding writingBoth
     writingBoth-given h l e f =
         rw (le-ltb (length room) (length bs) l, e, copied-all bs room l) (answering-given room _ answer (given (take count numbers)) first h f)

@@ -78,9 +78,9 @@ module _ (s piece answer : List ℕ) where
         let report = readGiven (o .used) (o .answer) in
         answering-short s (o .state) answer report (writes-says 7 report (writes (o .used))) h
 
-    pub read-given : (read : Reading) {r : ℕ} {after told : List ℕ} → 7 ≤ length answer → LineReader.outcome read after ≡ reading s piece
-        → outcome r told ≡ writingAnswer (readGiven (read .used) (LineReader.report (read .answer))) answer
-        → outcome r (after, told) ≡ lineReadCall s piece answer
+    pub read-given : (read : Reading) {r : ℕ} {after answer' : List ℕ} → 7 ≤ length answer → LineReader.outcome read after ≡ reading s piece
+        → outcome r answer' ≡ writingAnswer (readGiven (read .used) (LineReader.report (read .answer))) answer
+        → outcome r (after, answer') ≡ lineReadCall s piece answer
     unfolding lineReadCall
     read-given read {after} h e f =
         let report = readGiven (read .used) (LineReader.report (read .answer)) in
@@ -108,7 +108,7 @@ module _ (m : Message) (out answer : List ℕ) where
     unfolding lineWriteCall
     write-short h = answering-short out (writing m out .out) answer (writeGiven (writing m out .answer)) (settles .0) h
 
-    pub write-given : (w : Written) {r : ℕ} {after told : List ℕ} → 1 ≤ length answer → LineWriter.outcome w after ≡ writing m out
-        → outcome r told ≡ writingAnswer (writeGiven (report w)) answer → outcome r (after, told) ≡ lineWriteCall m out answer
+    pub write-given : (w : Written) {r : ℕ} {after answer' : List ℕ} → 1 ≤ length answer → LineWriter.outcome w after ≡ writing m out
+        → outcome r answer' ≡ writingAnswer (writeGiven (report w)) answer → outcome r (after, answer') ≡ lineWriteCall m out answer
     unfolding lineWriteCall
     write-given w {after} h e f = rw (← e) (answering-given out after answer (writeGiven (report w)) (rw (← e) at settles .1) h f)

@@ -68,8 +68,8 @@ module _ (image : List ℕ) (p : Parts) (piece answer : List ℕ) where
       cond-by (λ (o : Receive.StepDone). Leaves 3 p (o .parts) (stepGiven (o .used) (o .ended))) (validParts p) _ _
       (λ v. writes-leaves 3 p (o .parts) (stepGiven (o .used) (o .ended)) (given-valid (o .used))) (λ _. refl)
 
-  pub step-given : (t : Stepped) {r : ℕ} {q : Parts} {told : List ℕ} → 3 ≤ length answer → Receive.stepOf t q ≡ stepping image p piece
-      → outcome r told ≡ writingAnswer (stepGiven (t .used) (endedReport (t .outcome))) answer → outcome r (q, told) ≡ stepCall image p piece answer
+  pub step-given : (t : Stepped) {r : ℕ} {q : Parts} {answer' : List ℕ} → 3 ≤ length answer → Receive.stepOf t q ≡ stepping image p piece
+      → outcome r answer' ≡ writingAnswer (stepGiven (t .used) (endedReport (t .outcome))) answer → outcome r (q, answer') ≡ stepCall image p piece answer
   unfolding stepCall
   step-given t {q} h e f =
       rw (← e) (answering-given p q answer (stepGiven (t .used) (endedReport (t .outcome))) (rw (← e) at leaves) h f)

@@ -21,7 +21,7 @@ use Rattle.requester.specs.Requester
 use Rattle.requester.specs.Layout
 use Rattle.requester.specs.Valid.{validRequester}
 use Rattle.requester.specs.Calls
-use Rattle.requester.specs.Calls.{Parts, putInto, withRequest, requesting, sending, toldOf, heardOf, outcomeOf, received, receiving, validParts}
+use Rattle.requester.specs.Calls.{Parts, putInto, withRequest, requesting, sending, reportOf, heardOf, outcomeOf, received, receiving, validParts}
 use Rattle.requester.specs.declared.receive.Received.{Received}
 use Rattle.oatcastle.specs.Answers.{outcome, Report, writingAnswer, answering}
 use Rattle.oatcastle.specs.RequesterCalls.{putGiven, putAnswered, requestCall, sendCall, shortPut, receiptGiven, receiptAnswered, listenCall, shortReceipt}
@@ -65,8 +65,8 @@ module _ (r out answer : List ℕ) where
   put-kept bs after = cond-by Kept (ltb (length out) (length bs)) _ _ (λ _. refl) (λ _. refl)
 
   -- the answer to the caller, of what a call answered and left
-  put-given : (o : Calls.Put) → Kept o → {a : Calls.PutReport} {r' out' : List ℕ} {n : ℕ} {told : List ℕ} → 1 ≤ length answer → Calls.putBy a out' r' ≡ o
-      → outcome n told ≡ writingAnswer (putGiven a) answer → outcome n ((r', out'), told) ≡ putAnswered o r out answer
+  put-given : (o : Calls.Put) → Kept o → {a : Calls.PutReport} {r' out' : List ℕ} {n : ℕ} {answer' : List ℕ} → 1 ≤ length answer → Calls.putBy a out' r' ≡ o
+      → outcome n answer' ≡ writingAnswer (putGiven a) answer → outcome n ((r', out'), answer') ≡ putAnswered o r out answer
   put-given o k {a} h e f = rw (← e) (answering-given (r, out) _ answer (putGiven a) (rw (← e) at k) h f)
 
   module _ (command : ℕ) (d : List ℕ) where
@@ -88,8 +88,8 @@ module _ (r out answer : List ℕ) where
         cond-both Short (leb last-number (Layout.numberOf r)) (λ _. refused-short 14 z) (λ _. put-short asked kept z l (omega arith)))))
         (λ _. refused-short 12 z))
 
-    pub request-given : {a : Calls.PutReport} {r' out' : List ℕ} {n : ℕ} {told : List ℕ} → 1 ≤ length answer → Calls.putBy a out' r' ≡ requesting r command d out
-        → outcome n told ≡ writingAnswer (putGiven a) answer → outcome n ((r', out'), told) ≡ requestCall r command d out answer
+    pub request-given : {a : Calls.PutReport} {r' out' : List ℕ} {n : ℕ} {answer' : List ℕ} → 1 ≤ length answer → Calls.putBy a out' r' ≡ requesting r command d out
+        → outcome n answer' ≡ writingAnswer (putGiven a) answer → outcome n ((r', out'), answer') ≡ requestCall r command d out answer
     unfolding requestCall requesting
     request-given h e f =
         put-given (requesting r command d out)
@@ -124,8 +124,8 @@ module _ (r out answer : List ℕ) where
       (λ _. cond-both Short (Layout.isUnsent r) (λ _. put-short sent flagged z l (omega arith)) (λ _. nothing-short z l))
       (λ _. refused-short 12 z))
 
-  pub send-given : {a : Calls.PutReport} {r' out' : List ℕ} {n : ℕ} {told : List ℕ} → 1 ≤ length answer → Calls.putBy a out' r' ≡ sending r out
-      → outcome n told ≡ writingAnswer (putGiven a) answer → outcome n ((r', out'), told) ≡ sendCall r out answer
+  pub send-given : {a : Calls.PutReport} {r' out' : List ℕ} {n : ℕ} {answer' : List ℕ} → 1 ≤ length answer → Calls.putBy a out' r' ≡ sending r out
+      → outcome n answer' ≡ writingAnswer (putGiven a) answer → outcome n ((r', out'), answer') ≡ sendCall r out answer
   unfolding sendCall sending
   send-given h e f =
       put-given (sending r out)
@@ -137,15 +137,15 @@ module _ (r out answer : List ℕ) where
 -- ---- Receive
 
 -- what is handed out is written as seven numbers
-handed-writes : (used : ℕ) (h : Requester.Handed) (e u : Bool) → Writes 7 (receiptGiven used (toldOf h) e u)
-unfolding receiptGiven toldOf
+handed-writes : (used : ℕ) (h : Requester.Handed) (e u : Bool) → Writes 7 (receiptGiven used (reportOf h) e u)
+unfolding receiptGiven reportOf
 handed-writes used Requester.nothing e u = refl
 handed-writes used (Requester.answered m) e u = refl
 handed-writes used (Requester.status s o n) e u = refl
 handed-writes used (Requester.alerted m) e u = refl
 
 abbrev givenBy : Calls.Receipt → Report
-givenBy x = receiptGiven (x .used) (x .told) (x .ended) (x .unsent)
+givenBy x = receiptGiven (x .used) (x .report) (x .ended) (x .unsent)
 
 module _ (p : Parts) (answer : List ℕ) where
   receipt-writes : (piece : List ℕ) → Writes 7 (givenBy (received p piece))
@@ -155,27 +155,27 @@ module _ (p : Parts) (answer : List ℕ) where
   -- an empty piece changes nothing
   none-received : received p [] .parts ≡ p
   unfolding received LineReader.readPiece heardOf outcomeOf Calls.movedTo
-  none-received = by (Calls.overran (p .reader)) refl
+  none-received = by (Calls.isOverlong (p .reader)) refl
     where
-      by : (x : Bool) → Calls.overran (p .reader) ≡ x → received p [] .parts ≡ p
+      by : (x : Bool) → Calls.isOverlong (p .reader) ≡ x → received p [] .parts ≡ p
       by true e = rw e
       by false e = rw (e, take-nil) (rw e)
 
-  none-handed : shortReceipt (received p [] .told) ≡ 8
-  unfolding received LineReader.readPiece heardOf outcomeOf Calls.toldOf shortReceipt
-  none-handed = by (Calls.overran (p .reader)) refl
+  none-handed : shortReceipt (received p [] .report) ≡ 8
+  unfolding received LineReader.readPiece heardOf outcomeOf Calls.reportOf shortReceipt
+  none-handed = by (Calls.isOverlong (p .reader)) refl
     where
-      by : (x : Bool) → Calls.overran (p .reader) ≡ x → shortReceipt (received p [] .told) ≡ 8
+      by : (x : Bool) → Calls.isOverlong (p .reader) ≡ x → shortReceipt (received p [] .report) ≡ 8
       by true e = rw e
       by false e = rw (e, take-nil) (rw e)
 
   pub listen-short : (t : Received) (piece : List ℕ) {q : Parts} {n : ℕ} → length answer < 7 → Calls.receiptOf t q ≡ receiving p []
-      → n ≡ shortReceipt (Calls.told (t .handed)) → outcome n (q, answer) ≡ listenCall p piece answer
+      → n ≡ shortReceipt (Calls.receiveReport (t .handed)) → outcome n (q, answer) ≡ listenCall p piece answer
   unfolding receiving listenCall shortReceipt receiptGiven answering
   listen-short t piece l e f =
       let x = received p piece in
-      rw (f, ap (λ (y : Calls.Receipt). y .told) e, ap (λ (y : Calls.Receipt). y .parts) e)
-      (cond-both (λ (y z : Calls.Receipt). outcome (shortReceipt (y .told)) (y .parts, answer) ≡ receiptAnswered z p answer) (validParts p)
+      rw (f, ap (λ (y : Calls.Receipt). y .report) e, ap (λ (y : Calls.Receipt). y .parts) e)
+      (cond-both (λ (y z : Calls.Receipt). outcome (shortReceipt (y .report)) (y .parts, answer) ≡ receiptAnswered z p answer) (validParts p)
       (λ _. rw (none-received, none-handed)
       (answering-short p (x .parts) answer (givenBy x) (writes-says 7 (givenBy x) (receipt-writes piece)) l))
       (λ _. refl))
@@ -187,9 +187,9 @@ module _ (p : Parts) (answer : List ℕ) where
       cond-by (λ (y : Calls.Receipt). Leaves 7 p (y .parts) (givenBy y)) (validParts p) _ _
       (λ _. writes-leaves 7 p (x .parts) (givenBy x) (receipt-writes piece)) (λ _. refl)
 
-  pub listen-given : (t : Received) (piece : List ℕ) {q : Parts} {n : ℕ} {told : List ℕ} → 7 ≤ length answer → Calls.receiptOf t q ≡ receiving p piece
-      → outcome n told ≡ writingAnswer (receiptGiven (t .used) (Calls.told (t .handed)) (t .ended) (t .unsent)) answer → outcome n (q, told) ≡ listenCall p piece answer
+  pub listen-given : (t : Received) (piece : List ℕ) {q : Parts} {n : ℕ} {answer' : List ℕ} → 7 ≤ length answer → Calls.receiptOf t q ≡ receiving p piece
+      → outcome n answer' ≡ writingAnswer (receiptGiven (t .used) (Calls.receiveReport (t .handed)) (t .ended) (t .unsent)) answer → outcome n (q, answer') ≡ listenCall p piece answer
   unfolding listenCall
   listen-given t piece {q} h e f =
       rw (← e)
-      (answering-given p q answer (receiptGiven (t .used) (Calls.told (t .handed)) (t .ended) (t .unsent)) (rw (← e) at (listen-kept piece)) h f)
+      (answering-given p q answer (receiptGiven (t .used) (Calls.receiveReport (t .handed)) (t .ended) (t .unsent)) (rw (← e) at (listen-kept piece)) h f)

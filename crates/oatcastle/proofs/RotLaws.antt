@@ -26,18 +26,18 @@ use Rattle.oatcastle.proofs.AnswerLaws.{Says, Leaves, Writes, writes-sa
 
 -- ---- bytes sent to a room, answered by k numbers
 
-module _ (k : ℕ) (told : RotAnswers.Report → Report) (bs : List ℕ) (no : told (RotAnswers.refused 8) ≡ refused 8) (yes : Writes k (told (RotAnswers.wrote (length bs)))) where
-  says-sent : (out : List ℕ) → Says k (told (sending bs out .answer))
+module _ (k : ℕ) (reported : RotAnswers.Report → Report) (bs : List ℕ) (no : reported (RotAnswers.refused 8) ≡ refused 8) (yes : Writes k (reported (RotAnswers.wrote (length bs)))) where
+  says-sent : (out : List ℕ) → Says k (reported (sending bs out .answer))
   unfolding sending
   says-sent out =
-      cond-by (λ (o : RotAnswers.Outcome). Says k (told (o .answer))) (ltb (length out) (length bs)) _ _
-      (λ _. rw no refl) (λ _. writes-says k (told (RotAnswers.wrote (length bs))) yes)
+      cond-by (λ (o : RotAnswers.Outcome). Says k (reported (o .answer))) (ltb (length out) (length bs)) _ _
+      (λ _. rw no refl) (λ _. writes-says k (reported (RotAnswers.wrote (length bs))) yes)
 
-  leaves-sent : (out : List ℕ) → Leaves k out (sending bs out .out) (told (sending bs out .answer))
+  leaves-sent : (out : List ℕ) → Leaves k out (sending bs out .out) (reported (sending bs out .answer))
   unfolding sending
   leaves-sent out =
-      cond-by (λ (o : RotAnswers.Outcome). Leaves k out (o .out) (told (o .answer))) (ltb (length out) (length bs)) _ _
-      (λ _. rw no refl) (λ _. writes-leaves k out (overlay 0 bs out) (told (RotAnswers.wrote (length bs))) yes)
+      cond-by (λ (o : RotAnswers.Outcome). Leaves k out (o .out) (reported (o .answer))) (ltb (length out) (length bs)) _ _
+      (λ _. rw no refl) (λ _. writes-leaves k out (overlay 0 bs out) (reported (RotAnswers.wrote (length bs))) yes)
 
 -- a room that no message fits
 sent-nowhere : (m : Message) (z : List ℕ) → length z < header-length → sending (message m) z ≡ RotAnswers.outcome (RotAnswers.refused 8) z
@@ -86,9 +86,9 @@ read-leaves : (input out : List ℕ) → Leaves 3 out (reading input out .out) (
 unfolding reading
 read-leaves input out = judged-leaves (judge input) out
 
-pub read-given : (t : Answer) (input out answer : List ℕ) {r : ℕ} {after told : List ℕ} → 3 ≤ length answer
-    → RotAnswers.outcome (RotReading.report t) after ≡ reading input out → outcome r told ≡ writingAnswer (rotReadGiven (RotReading.report t)) answer
-    → outcome r (after, told) ≡ rotReadCall input out answer
+pub read-given : (t : Answer) (input out answer : List ℕ) {r : ℕ} {after answer' : List ℕ} → 3 ≤ length answer
+    → RotAnswers.outcome (RotReading.report t) after ≡ reading input out → outcome r answer' ≡ writingAnswer (rotReadGiven (RotReading.report t)) answer
+    → outcome r (after, answer') ≡ rotReadCall input out answer
 unfolding rotReadCall
 read-given t input out answer {after} h e f =
     rw (← e) (answering-given out after answer (rotReadGiven (RotReading.report t)) (rw (← e) at (read-leaves input out)) h f)
@@ -103,9 +103,9 @@ module _ (m : Message) (out answer : List ℕ) where
       cond-by P (ltb longest-payload (length (m .payload))) _ _ (λ _. refl) (λ _.
       cond-by P (listed (m .type)) _ _ (λ _. leaves-sent 1 rotWriteGiven (message m) refl refl out) (λ _. refl))
 
-  pub write-given : (w : Written) {r : ℕ} {after told : List ℕ} → 1 ≤ length answer
-      → RotAnswers.outcome (RotWriting.report w) after ≡ writing m out → outcome r told ≡ writingAnswer (rotWriteGiven (RotWriting.report w)) answer
-      → outcome r (after, told) ≡ rotWriteCall m out answer
+  pub write-given : (w : Written) {r : ℕ} {after answer' : List ℕ} → 1 ≤ length answer
+      → RotAnswers.outcome (RotWriting.report w) after ≡ writing m out → outcome r answer' ≡ writingAnswer (rotWriteGiven (RotWriting.report w)) answer
+      → outcome r (after, answer') ≡ rotWriteCall m out answer
   unfolding rotWriteCall
   write-given w {after} h e f =
       rw (← e) (answering-given out after answer (rotWriteGiven (RotWriting.report w)) (rw (← e) at write-leaves) h f)

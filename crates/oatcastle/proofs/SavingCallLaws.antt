@@ -36,8 +36,8 @@ module _ (s out answer : List ℕ) where
     unfolding saveCall
     save-short h = answering-short out (Calls.saving s out .room) answer (saveGiven (Calls.saving s out .report)) (settles .0) h
 
-    pub save-given : (w : Saved) {r : ℕ} {after told : List ℕ} → 1 ≤ length answer → Calls.saveOf w after ≡ Calls.saving s out
-        → outcome r told ≡ writingAnswer (saveGiven (Calls.saveReport w)) answer → outcome r (after, told) ≡ saveCall s out answer
+    pub save-given : (w : Saved) {r : ℕ} {after answer' : List ℕ} → 1 ≤ length answer → Calls.saveOf w after ≡ Calls.saving s out
+        → outcome r answer' ≡ writingAnswer (saveGiven (Calls.saveReport w)) answer → outcome r (after, answer') ≡ saveCall s out answer
     unfolding saveCall
     save-given w {after} h e f = rw (← e) (answering-given out after answer (saveGiven (Calls.saveReport w)) (rw (← e) at settles .1) h f)
 

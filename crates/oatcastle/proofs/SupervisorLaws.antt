@@ -32,8 +32,8 @@ module _ (outbox room answer : List ℕ) where
         let report = takeGiven (Calls.taking outbox room .report) in
         answering-short (outbox, room) _ answer report (writes-says 1 report writes) h
 
-    pub take-given : (t : Taken) {r : ℕ} {o s told : List ℕ} → 1 ≤ length answer → Calls.takeOf t o s ≡ Calls.taking outbox room
-        → outcome r told ≡ writingAnswer (takeGiven (takeReport t)) answer → outcome r ((o, s), told) ≡ takeCall outbox room answer
+    pub take-given : (t : Taken) {r : ℕ} {o s answer' : List ℕ} → 1 ≤ length answer → Calls.takeOf t o s ≡ Calls.taking outbox room
+        → outcome r answer' ≡ writingAnswer (takeGiven (takeReport t)) answer → outcome r ((o, s), answer') ≡ takeCall outbox room answer
     unfolding takeCall
     take-given t {o} {s} h e f =
         let report = takeGiven (takeReport t) in

@@ -4,7 +4,7 @@ use mathlib.Core.Bool.{Bool, cond}
 use mathlib.Core.List.{List, [], _∷_}
 use Prim.Native.Nat.{ℕ}
 use Rattle.requester.specs.Calls
-use Rattle.requester.specs.Calls.{Parts, Told}
+use Rattle.requester.specs.Calls.{Parts}
 use Rattle.oatcastle.specs.Answers.{Outcome, outcome, numbered, Report, refused, given, answering}
 
 -- ---- Start
@@ -50,21 +50,21 @@ interruptCall r = interruptDone (Calls.interrupting r)
 abbrev pub flag : Bool → ℕ
 flag b = cond b 1 0
 
-unfoldable pub receiptGiven : ℕ → Told → Bool → Bool → Report
-receiptGiven used (Told.refused n) e u = refused n
+unfoldable pub receiptGiven : ℕ → Calls.Report → Bool → Bool → Report
+receiptGiven used (Calls.Report.refused n) e u = refused n
 receiptGiven used Calls.nothing e u = given (used ∷ 0 ∷ flag e ∷ flag u ∷ 0 ∷ 0 ∷ 0 ∷ [])
 receiptGiven used (Calls.answered version sequence command n) e u = given (used ∷ 1 ∷ flag e ∷ flag u ∷ sequence ∷ command ∷ n ∷ [])
 receiptGiven used (Calls.status s o n) e u = given (used ∷ 2 ∷ flag e ∷ flag u ∷ s ∷ o ∷ n ∷ [])
 receiptGiven used (Calls.alerted version sequence command n) e u = given (used ∷ 3 ∷ flag e ∷ flag u ∷ sequence ∷ command ∷ n ∷ [])
 
 abbrev pub receiptAnswered : Calls.Receipt → Parts → List ℕ → Outcome (Parts × List ℕ)
-receiptAnswered x p answer = answering (receiptGiven (x .used) (x .told) (x .ended) (x .unsent)) p (x .parts) answer
+receiptAnswered x p answer = answering (receiptGiven (x .used) (x .report) (x .ended) (x .unsent)) p (x .parts) answer
 
 unfoldable pub listenCall : Parts → List ℕ → List ℕ → Outcome (Parts × List ℕ)
 listenCall p piece answer = receiptAnswered (Calls.receiving p piece) p answer
 
-unfoldable pub shortReceipt : Told → ℕ
-shortReceipt (Told.refused n) = n
+unfoldable pub shortReceipt : Calls.Report → ℕ
+shortReceipt (Calls.Report.refused n) = n
 shortReceipt Calls.nothing = 8
 shortReceipt (Calls.answered version sequence command n) = 8
 shortReceipt (Calls.status s o n) = 8

@@ -8,7 +8,7 @@ use requester::sending::Requested;
 use requester::sending::Sent;
 use requester::start::Started;
 ghost use mathlib.Core.Path.{_≡_};
-ghost use Rattle.requester.specs.Calls.{parts, requestReport, sendReport, told};
+ghost use Rattle.requester.specs.Calls.{parts, requestReport, sendReport, receiveReport};
 ghost use Rattle.oatcastle.specs.Answers.{outcome, writingAnswer};
 ghost use Rattle.oatcastle.specs.RequesterCalls.{requesterStartCall, putGiven, requestCall, sendCall, shortPut, interruptCall, flag, receiptGiven, listenCall, shortReceipt};
 
@@ -148,7 +148,7 @@ pub extern "C" fn oatcastle_requester_receive(
 }
 
 fn short_received(handed: Handed) -> u32
-    ensures { λ r. ⌜ r ≡ shortReceipt (told handed) ⌝ }
+    ensures { λ r. ⌜ r ≡ shortReceipt (receiveReport handed) ⌝ }
 {
     match handed {
         Handed::Refused => 12,
@@ -161,7 +161,7 @@ fn short_received(handed: Handed) -> u32
 
 // The numbers of a receive's answer.
 fn answer_received(answer: &mut [u64], received: Received) -> u32
-    ensures { λ r. ⌜ outcome r (now (answer .exit)) ≡ writingAnswer (receiptGiven (received .used) (told (received .handed)) (received .ended) (received .unsent)) (now (answer .entry)) ⌝ }
+    ensures { λ r. ⌜ outcome r (now (answer .exit)) ≡ writingAnswer (receiptGiven (received .used) (receiveReport (received .handed)) (received .ended) (received .unsent)) (now (answer .entry)) ⌝ }
 {
     let used = received.used as u64;
     let ended = flag_number(received.ended);

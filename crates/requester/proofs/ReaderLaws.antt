@@ -51,7 +51,7 @@ finish-fit s =
 
 -- ---- a piece
 
--- the state stays one that is read and keeps its length, and the data told fit
+-- the state stays one that is read and keeps its length, and the reported data fit
 pub record Read (s : List ℕ) (o : LineReader.Outcome) : Type 0 where
   pub ready : Ready (o .state)
   pub long : length (o .state) ≡ length s

@@ -12,8 +12,8 @@ use Rattle.requester.specs.Requester
 use Rattle.requester.specs.Layout
 use Rattle.requester.specs.Valid.{validRequester}
 use Rattle.requester.specs.Calls
-use Rattle.requester.specs.Calls.{Parts, parts, Told, Receipt, heardOf, outcomeOf, movedBy, movedTo, received, receiving, validParts, within}
-use Rattle.requester.specs.Hearing.{OutcomeTold, outcomeTold}
+use Rattle.requester.specs.Calls.{Parts, parts, Report, Receipt, heardOf, outcomeOf, movedBy, movedTo, received, receiving, validParts, readable}
+use Rattle.requester.specs.Hearing.{OutcomeReport, outcomeReportOf}
 use Rattle.requester.proofs.ValidLaws.{parts-valid}
 use Rattle.requester.proofs.ReaderLaws.{read-by, take-min}
 
@@ -25,10 +25,10 @@ pub invalid-requester : (p : Parts) → validRequester (p .requester) ≡ false 
 unfolding validParts
 invalid-requester p e = rw (e, and-false)
 
-abbrev pub receipt : ℕ → Told → Bool → Bool → Parts → Receipt
-receipt used t ended unsent p = record { used = used; told = t; ended = ended; unsent = unsent; parts = p }
+abbrev pub receipt : ℕ → Report → Bool → Bool → Parts → Receipt
+receipt used t ended unsent p = record { used = used; report = t; ended = ended; unsent = unsent; parts = p }
 
-pub receive-refused : (p : Parts) (piece : List ℕ) → validParts p ≡ false → receipt 0 (Told.refused 12) false false p ≡ receiving p piece
+pub receive-refused : (p : Parts) (piece : List ℕ) → validParts p ≡ false → receipt 0 (Report.refused 12) false false p ≡ receiving p piece
 unfolding receiving
 receive-refused p piece e = rw e
 
@@ -46,13 +46,13 @@ module _ (p : Parts) (piece : List ℕ) (v : validParts p ≡ true) {used : ℕ}
     short : LineReader.count (p .reader) ≤ longest-form
     short = rw e at l
 
-    read : outcomeBy used a reader ≡ LineReader.readPiece (p .reader) (within (p .reader) piece)
+    read : outcomeBy used a reader ≡ LineReader.readPiece (p .reader) (readable (p .reader) piece)
     read =
         rw (le-ltb longest-form (LineReader.count (p .reader)) short, ← take-min, ← e, ← f)
         (read-by (p .reader) (take end piece) (parts-valid p v .reader) w)
 
-    pub heard-received : {t : Told} {x : Requester.Next} {ended unsent : Bool} {r : List ℕ}
-        → record { told = t; next = x } ≡ outcomeTold (outcomeOf (p .requester) (heardOf (Layout.numberOf (p .requester)) reader a))
+    pub heard-received : {t : Report} {x : Requester.Next} {ended unsent : Bool} {r : List ℕ}
+        → record { report = t; next = x } ≡ outcomeReportOf (outcomeOf (p .requester) (heardOf (Layout.numberOf (p .requester)) reader a))
         → movedBy ended r ≡ movedTo x (p .requester) → unsent ≡ Layout.isUnsent r
         → receipt used t ended unsent (parts reader r) ≡ received p piece
     unfolding received
@@ -60,15 +60,15 @@ module _ (p : Parts) (piece : List ℕ) (v : validParts p ≡ true) {used : ℕ}
         rw (
           ← read,
           le-ltb longest-form (LineReader.count (p .reader)) short,
-          ← ap (λ (y : OutcomeTold). y .told) o,
-          ← ap (λ (y : OutcomeTold). y .next) o,
+          ← ap (λ (y : OutcomeReport). y .report) o,
+          ← ap (λ (y : OutcomeReport). y .next) o,
           ← m,
           u,
         )
 
   pub rest-received : {unsent : Bool} → longest-form < LineReader.count (p .reader) → outcomeBy used a reader ≡ LineReader.reading (p .reader) piece
       → unsent ≡ Layout.isUnsent (p .requester) → receipt used Calls.nothing false unsent (parts reader (p .requester)) ≡ received p piece
-  unfolding received outcomeOf movedTo Calls.toldOf
+  unfolding received outcomeOf movedTo Calls.reportOf
   rest-received l w u =
       let q = read-by (p .reader) piece (parts-valid p v .reader) w in
       rw (lt-ltb longest-form (LineReader.count (p .reader)) l, ← q, u)

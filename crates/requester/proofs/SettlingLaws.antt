@@ -23,8 +23,8 @@ use Rattle.requester.specs.Requester
 use Rattle.requester.specs.Requester.{Heard, ground, other, answer, heard, failsDecode, replySequence, served, fetched, answeredIn, heardIn, settled, anew, idle}
 use Rattle.requester.specs.Layout
 use Rattle.requester.specs.Calls
-use Rattle.requester.specs.Calls.{told, toldOf, progressed, movedBy, movedTo}
-use Rattle.requester.specs.Hearing.{headMessage, nextOf, outcomeReport, outcomeTold}
+use Rattle.requester.specs.Calls.{receiveReport, reportOf, progressed, movedBy, movedTo}
+use Rattle.requester.specs.Hearing.{headMessage, nextOf, outcomeReport, outcomeReportOf}
 use Rattle.requester.specs.declared.hearing.Handed.the-variants as handed
 use Rattle.requester.specs.declared.hearing.Next.the-variants as next
 use Rattle.requester.proofs.ProgressLaws.{step-number}
@@ -82,41 +82,41 @@ module _ (s : List ℕ) (h : Head) (v : LineReader.valid s ≡ true) (l : h .len
   held = headMessage h (LineReader.dataOf s (h .length))
 
   module _ (original : Bool) where
-    pub fetch-other : (h .command ≡ 0x06 → ⊥) → outcomeReport (record { handed = handed.Nothing; next = next.Again }) ≡ outcomeTold (fetched original held)
-    unfolding fetched told toldOf nextOf
+    pub fetch-other : (h .command ≡ 0x06 → ⊥) → outcomeReport (record { handed = handed.Nothing; next = next.Again }) ≡ outcomeReportOf (fetched original held)
+    unfolding fetched receiveReport reportOf nextOf
     fetch-other e = rw (ne-eqb (h .command) 0x06 e)
 
     module _ (a : h .command ≡ 0x06) where
-      pub fetch-length : (h .length ≡ 16 → ⊥) → outcomeReport (record { handed = handed.Nothing; next = next.Again }) ≡ outcomeTold (fetched original held)
-      unfolding fetched told toldOf nextOf
+      pub fetch-length : (h .length ≡ 16 → ⊥) → outcomeReport (record { handed = handed.Nothing; next = next.Again }) ≡ outcomeReportOf (fetched original held)
+      unfolding fetched receiveReport reportOf nextOf
       fetch-length e = rw (eq-eqb (h .command) 0x06 a, data-length s (h .length) v l, ne-eqb (h .length) 16 e)
 
       pub fetch-status : {d : List ℕ} {n o : ℕ} {x : Requester.Next} → h .length ≡ 16 → d ≡ LineReader.dataOf s (h .length) → n ≡ numberAt 8 d 0 → o ≡ numberAt 8 d 8
           → x ≡ served original n
-          → record { told = told (handed.Status (record { status = n; options = o; «set_bits» = ones n })); next = x } ≡ outcomeTold (fetched original held)
-      unfolding fetched told toldOf
+          → record { report = receiveReport (handed.Status (record { status = n; options = o; «set_bits» = ones n })); next = x } ≡ outcomeReportOf (fetched original held)
+      unfolding fetched receiveReport reportOf
       fetch-status e f p q w =
           rw (eq-eqb (h .command) 0x06 a, data-length s (h .length) v l, eq-eqb (h .length) 16 e, ← f, ← p, ← q, w)
 
   module _ (r : List ℕ) {t : ℕ} (e : t ≡ Layout.recoveryOf r) where
-    abbrev Settles : Calls.Told → Requester.Next → Type 0
-    Settles a x = record { told = a; next = x } ≡ outcomeTold (answeredIn (Layout.stepOf r) (Layout.isKept r) held)
+    abbrev Settles : Calls.Report → Requester.Next → Type 0
+    Settles a x = record { report = a; next = x } ≡ outcomeReportOf (answeredIn (Layout.stepOf r) (Layout.isKept r) held)
 
-    pub answer-waited : t ≡ 0 → Settles (told (handed.Answer h)) idle
-    unfolding Layout.stepAt told toldOf
+    pub answer-waited : t ≡ 0 → Settles (receiveReport (handed.Answer h)) idle
+    unfolding Layout.stepAt receiveReport reportOf
     answer-waited z = rw (← e, z, data-length s (h .length) v l)
 
-    pub answer-fetched : t ≡ 1 → {k : Bool} {a : Calls.Told} {x : Requester.Next} → k ≡ Layout.isKept r
-        → record { told = a; next = x } ≡ outcomeTold (fetched k held) → Settles a x
+    pub answer-fetched : t ≡ 1 → {k : Bool} {a : Calls.Report} {x : Requester.Next} → k ≡ Layout.isKept r
+        → record { report = a; next = x } ≡ outcomeReportOf (fetched k held) → Settles a x
     unfolding Layout.stepAt
     answer-fetched z f w = rw (← e, z, ← f) w
 
-    pub answer-acknowledged : t ≡ 2 → Settles (told handed.Nothing) (anew (some fetch))
-    unfolding Layout.stepAt told toldOf
+    pub answer-acknowledged : t ≡ 2 → Settles (receiveReport handed.Nothing) (anew (some fetch))
+    unfolding Layout.stepAt receiveReport reportOf
     answer-acknowledged z = rw (← e, z)
 
-    pub answer-alerted : (t ≡ 0 → ⊥) → (t ≡ 1 → ⊥) → (t ≡ 2 → ⊥) → Settles (told (handed.Alert h)) (anew (some fetch))
-    unfolding Layout.stepAt told toldOf
+    pub answer-alerted : (t ≡ 0 → ⊥) → (t ≡ 1 → ⊥) → (t ≡ 2 → ⊥) → Settles (receiveReport (handed.Alert h)) (anew (some fetch))
+    unfolding Layout.stepAt receiveReport reportOf
     answer-alerted x y z = rw (← e, ne-eqb t 0 x, ne-eqb t 1 y, ne-eqb t 2 z, data-length s (h .length) v l)
 
 -- ---- whether one is outstanding

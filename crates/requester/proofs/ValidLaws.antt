@@ -1,4 +1,4 @@
--- What the test of specs/Valid.antt says of the numbers that it reads, as a record, and back; valid parts and roomy ones.
+-- What the test of specs/Valid.antt says of the numbers that it reads, as a record, and back; valid parts and parts that are long enough.
 -- Assumes nothing.
 use mathlib.Core.Path.{_≡_, sym, ap}
 use mathlib.Core.Bool.{true, and-eq-true-iff}

@@ -153,41 +153,41 @@ interrupting r =
 -- ---- Receive
 
 -- what is handed out, in numbers
-pub data Told : Type 0 where
+pub data Report : Type 0 where
   -- the table's number
-  refused : ℕ → Told
-  nothing : Told
+  refused : ℕ → Report
+  nothing : Report
   -- version, sequence, command and how many bytes of data
-  answered : ℕ → ℕ → ℕ → ℕ → Told
+  answered : ℕ → ℕ → ℕ → ℕ → Report
   -- status, options, and how many bits of the status are set
-  status : ℕ → ℕ → ℕ → Told
-  alerted : ℕ → ℕ → ℕ → ℕ → Told
+  status : ℕ → ℕ → ℕ → Report
+  alerted : ℕ → ℕ → ℕ → ℕ → Report
 
-unfoldable pub told : Handed → Told
-told handed.Refused = Told.refused 12
-told handed.Nothing = nothing
-told (handed.Answer h) = answered (h .version) (h .sequence) (h .command) (h .length)
-told (handed.Status s) = status (s .status) (s .options) (s .«set_bits»)
-told (handed.Alert h) = alerted (h .version) (h .sequence) (h .command) (h .length)
+unfoldable pub receiveReport : Handed → Report
+receiveReport handed.Refused = Report.refused 12
+receiveReport handed.Nothing = nothing
+receiveReport (handed.Answer h) = answered (h .version) (h .sequence) (h .command) (h .length)
+receiveReport (handed.Status s) = status (s .status) (s .options) (s .«set_bits»)
+receiveReport (handed.Alert h) = alerted (h .version) (h .sequence) (h .command) (h .length)
 
-unfoldable pub toldOf : Requester.Handed → Told
-toldOf Requester.nothing = nothing
-toldOf (Requester.answered m) = answered (m .version) (m .sequence) (m .command) (length (m .payload))
-toldOf (Requester.status s o n) = status s o n
-toldOf (Requester.alerted m) = alerted (m .version) (m .sequence) (m .command) (length (m .payload))
+unfoldable pub reportOf : Requester.Handed → Report
+reportOf Requester.nothing = nothing
+reportOf (Requester.answered m) = answered (m .version) (m .sequence) (m .command) (length (m .payload))
+reportOf (Requester.status s o n) = status s o n
+reportOf (Requester.alerted m) = alerted (m .version) (m .sequence) (m .command) (length (m .payload))
 
 -- more than 4,140 bytes of a frame have come
-abbrev pub overran : List ℕ → Bool
-overran reader = ltb longest-form (LineReader.count reader)
+abbrev pub isOverlong : List ℕ → Bool
+isOverlong reader = ltb longest-form (LineReader.count reader)
 
 -- the bytes of a piece that may be read: to a frame's 4,141st, unless it has passed
-abbrev pub within : List ℕ → List ℕ → List ℕ
-within reader piece = cond (overran reader) piece (take (LineReader.overlong - LineReader.count reader) piece)
+abbrev pub readable : List ℕ → List ℕ → List ℕ
+readable reader piece = cond (isOverlong reader) piece (take (LineReader.overlong - LineReader.count reader) piece)
 
 -- what is heard under the newest number, by the line reader's answer and the state that it left
 unfoldable pub heardOf : ℕ → List ℕ → LineReader.Report → Option Heard
 heardOf n reader (LineReader.refused k) = none
-heardOf n reader LineReader.more = cond (overran reader) (some ground) none
+heardOf n reader LineReader.more = cond (isOverlong reader) (some ground) none
 heardOf n reader LineReader.empty = none
 heardOf n reader (LineReader.failed reason sequence) = some (heard n (failure reason sequence))
 heardOf n reader (LineReader.message version sequence command k) =
@@ -220,18 +220,18 @@ movedTo Requester.idle r = movedBy false (idled r)
 -- how many bytes were read, what is handed out, whether 14 ended a recovery, whether a frame is to go out; the parts
 pub record Receipt : Type 0 where
   pub used : ℕ
-  pub told : Told
+  pub report : Report
   pub ended : Bool
   pub unsent : Bool
   pub parts : Parts
 
 abbrev pub receiptOf : Received → Parts → Receipt
-receiptOf r p = record { used = r .used; told = told (r .handed); ended = r .ended; unsent = r .unsent; parts = p }
+receiptOf r p = record { used = r .used; report = receiveReport (r .handed); ended = r .ended; unsent = r .unsent; parts = p }
 
-abbrev pub receiptBy : ℕ → List ℕ → Told → Moved → Receipt
+abbrev pub receiptBy : ℕ → List ℕ → Report → Moved → Receipt
 receiptBy used reader t m = record {
   used = used;
-  told = t;
+  report = t;
   ended = m .ended;
   unsent = Layout.isUnsent (m .requester);
   parts = parts reader (m .requester);
@@ -240,10 +240,10 @@ receiptBy used reader t m = record {
 -- what is left of a frame of more than 4,140 bytes is dropped, with its 00
 unfoldable pub received : Parts → List ℕ → Receipt
 received p piece =
-    let o = LineReader.readPiece (p .reader) (within (p .reader) piece) in
+    let o = LineReader.readPiece (p .reader) (readable (p .reader) piece) in
     let r = p .requester in
-    let x = outcomeOf r (cond (overran (p .reader)) none (heardOf (Layout.numberOf r) (o .state) (o .answer))) in
-    receiptBy (o .used) (o .state) (toldOf (x .handed)) (movedTo (x .next) r)
+    let x = outcomeOf r (cond (isOverlong (p .reader)) none (heardOf (Layout.numberOf r) (o .state) (o .answer))) in
+    receiptBy (o .used) (o .state) (reportOf (x .handed)) (movedTo (x .next) r)
 
 unfoldable pub validParts : Parts → Bool
 validParts p = LineReader.valid (p .reader) && validRequester (p .requester)
@@ -251,4 +251,4 @@ validParts p = LineReader.valid (p .reader) && validRequester (p .requester)
 unfoldable pub receiving : Parts → List ℕ → Receipt
 receiving p piece =
     cond (validParts p) (received p piece)
-    (record { used = 0; told = Told.refused 12; ended = false; unsent = false; parts = p })
+    (record { used = 0; report = Report.refused 12; ended = false; unsent = false; parts = p })

@@ -11,7 +11,7 @@ use Rattle.line.specs.Reader as LineReader
 use Rattle.line.specs.declared.reader.Head.{Head}
 use Rattle.requester.specs.State.{fetch, acknowledge, alert}
 use Rattle.requester.specs.Requester
-use Rattle.requester.specs.Calls.{Told, told, toldOf}
+use Rattle.requester.specs.Calls.{Report, receiveReport, reportOf}
 use Rattle.requester.specs.declared.hearing.Heard.{Heard}
 use Rattle.requester.specs.declared.hearing.Heard.the-variants as heard
 use Rattle.requester.specs.declared.hearing.Next.{Next}
@@ -37,15 +37,15 @@ nextOf next.Original = Requester.anew none
 nextOf next.Idle = Requester.idle
 
 -- what is handed out, in numbers, and what comes next
-pub record OutcomeTold : Type 0 where
-  pub told : Told
+pub record OutcomeReport : Type 0 where
+  pub report : Report
   pub next : Requester.Next
 
-abbrev pub outcomeReport : Outcome → OutcomeTold
-outcomeReport o = record { told = told (o .handed); next = nextOf (o .next) }
+abbrev pub outcomeReport : Outcome → OutcomeReport
+outcomeReport o = record { report = receiveReport (o .handed); next = nextOf (o .next) }
 
-abbrev pub outcomeTold : Requester.Outcome → OutcomeTold
-outcomeTold o = record { told = toldOf (o .handed); next = o .next }
+abbrev pub outcomeReportOf : Requester.Outcome → OutcomeReport
+outcomeReportOf o = record { report = reportOf (o .handed); next = o .next }
 
 -- the data's length in an answer of the line reader fits a message
 unfoldable pub dataFit : LineReader.Report → Bool

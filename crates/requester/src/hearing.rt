@@ -21,8 +21,8 @@ ghost use Rattle.requester.specs.Limits.{all-ones};
 ghost use Rattle.requester.specs.Requester.{heard, ground, nothing, same, outcome, served, fetched, answeredIn};
 ghost use Rattle.requester.specs.Layout.{numberOf, stepOf, isKept};
 ghost use Rattle.requester.specs.Valid.{validRequester};
-ghost use Rattle.requester.specs.Calls.{overran, heardOf, outcomeOf};
-ghost use Rattle.requester.specs.Hearing.{headMessage, heardReport, nextOf, outcomeReport, outcomeTold, dataFit};
+ghost use Rattle.requester.specs.Calls.{isOverlong, heardOf, outcomeOf};
+ghost use Rattle.requester.specs.Hearing.{headMessage, heardReport, nextOf, outcomeReport, outcomeReportOf, dataFit};
 
 const ALL_ONES: u64 = 0xffffffffffffffff;
 
@@ -33,7 +33,7 @@ pub struct Status {
     pub set_bits: u32,
 }
 
-// What a call of `receive` hands out; `told` in specs/Calls.antt gives the papers' numbers. The data of an answer lie in the
+// What a call of `receive` hands out; `receiveReport` in specs/Calls.antt gives the papers' numbers. The data of an answer lie in the
 // reader's part: `line::reader::message_data` with its length.
 pub enum Handed {
     Refused,
@@ -120,7 +120,7 @@ fn serve(original: bool, status: u64) -> Next
 fn settle_fetch(reader: &[u8], original: bool, head: Head) -> Outcome
     requires { ⌜ readerValid (now reader) ≡ true ⌝ }
     requires { ⌜ head .length ≤ longest-data ⌝ }
-    ensures { λ r. ⌜ outcomeReport r ≡ outcomeTold (fetched original (headMessage head (dataOf (now (reader .entry)) (head .length)))) ⌝ }
+    ensures { λ r. ⌜ outcomeReport r ≡ outcomeReportOf (fetched original (headMessage head (dataOf (now (reader .entry)) (head .length)))) ⌝ }
 {
     if head.command != 0x06 {
         return Outcome {
@@ -153,7 +153,7 @@ fn settle_fetch(reader: &[u8], original: bool, head: Head) -> Outcome
 fn settle_answer(reader: &[u8], requester: &[u8], head: Head) -> Outcome
     requires { ⌜ readerValid (now reader) ≡ true ⌝ }
     requires { ⌜ head .length ≤ longest-data ⌝ }
-    ensures { λ r. ⌜ outcomeReport r ≡ outcomeTold (answeredIn (stepOf (now (requester .entry))) (isKept (now (requester .entry))) (headMessage head (dataOf (now (reader .entry)) (head .length)))) ⌝ }
+    ensures { λ r. ⌜ outcomeReport r ≡ outcomeReportOf (answeredIn (stepOf (now (requester .entry))) (isKept (now (requester .entry))) (headMessage head (dataOf (now (reader .entry)) (head .length)))) ⌝ }
 {
     let step = octets::read_u8(requester, layout::RECOVERY_OFFSET);
     if step == layout::NO_STEP {
@@ -182,7 +182,7 @@ fn settle_message(reader: &[u8], requester: &[u8], head: Head) -> Outcome
     requires { ⌜ readerValid (now reader) ≡ true ⌝ }
     requires { ⌜ validRequester (now requester) ≡ true ⌝ }
     requires { ⌜ head .length ≤ longest-data ⌝ }
-    ensures { λ r. ⌜ outcomeReport r ≡ outcomeTold (outcomeOf (now (requester .entry)) (some (heard (numberOf (now (requester .entry))) (good (headMessage head (dataOf (now (reader .entry)) (head .length))))))) ⌝ }
+    ensures { λ r. ⌜ outcomeReport r ≡ outcomeReportOf (outcomeOf (now (requester .entry)) (some (heard (numberOf (now (requester .entry))) (good (headMessage head (dataOf (now (reader .entry)) (head .length))))))) ⌝ }
 {
     if !progress::is_outstanding(requester) {
         return Outcome {
@@ -207,7 +207,7 @@ fn settle_message(reader: &[u8], requester: &[u8], head: Head) -> Outcome
 
 // A ground for sending the same bytes again.
 fn settle_ground(requester: &[u8]) -> Outcome
-    ensures { λ r. ⌜ outcomeReport r ≡ outcomeTold (outcomeOf (now (requester .entry)) (some ground)) ⌝ }
+    ensures { λ r. ⌜ outcomeReport r ≡ outcomeReportOf (outcomeOf (now (requester .entry)) (some ground)) ⌝ }
 {
     if progress::is_outstanding(requester) {
         return Outcome {
@@ -224,7 +224,7 @@ fn settle_ground(requester: &[u8]) -> Outcome
 // No 00 has come: a ground where the frame has passed 4,140 bytes.
 fn settle_more(reader: &[u8], requester: &[u8]) -> Outcome
     requires { ⌜ readerValid (now reader) ≡ true ⌝ }
-    ensures { λ r. ⌜ outcomeReport r ≡ outcomeTold (outcomeOf (now (requester .entry)) (cond (overran (now (reader .entry))) (some ground) none)) ⌝ }
+    ensures { λ r. ⌜ outcomeReport r ≡ outcomeReportOf (outcomeOf (now (requester .entry)) (cond (isOverlong (now (reader .entry))) (some ground) none)) ⌝ }
 {
     let tail = line::reader::tail(reader);
     match tail {
@@ -236,7 +236,7 @@ fn settle_more(reader: &[u8], requester: &[u8]) -> Outcome
 
 // Nothing is heard.
 fn settle_none() -> Outcome
-    ensures { λ r. ⌜ outcomeReport r ≡ outcomeTold (outcome nothing same) ⌝ }
+    ensures { λ r. ⌜ outcomeReport r ≡ outcomeReportOf (outcome nothing same) ⌝ }
 {
     Outcome {
         handed: Handed::Nothing,
@@ -249,7 +249,7 @@ pub(crate) fn settle(reader: &[u8], requester: &[u8], answer: Answer) -> Outcome
     requires { ⌜ readerValid (now reader) ≡ true ⌝ }
     requires { ⌜ validRequester (now requester) ≡ true ⌝ }
     requires { ⌜ dataFit (report answer) ≡ true ⌝ }
-    ensures { λ r. ⌜ outcomeReport r ≡ outcomeTold (outcomeOf (now (requester .entry)) (heardOf (numberOf (now (requester .entry))) (now (reader .entry)) (report answer))) ⌝ }
+    ensures { λ r. ⌜ outcomeReport r ≡ outcomeReportOf (outcomeOf (now (requester .entry)) (heardOf (numberOf (now (requester .entry))) (now (reader .entry)) (report answer))) ⌝ }
 {
     match answer {
         Answer::Refused => settle_none(),

@@ -20,7 +20,7 @@ use Rattle.requester.specs.State.{Step, fetch, acknowledge, alert, State, isSom
 use Rattle.requester.specs.Requester
 use Rattle.requester.specs.Requester.{Handed, Heard, ground, other, answer, heard, failsDecode, replySequence, settled}
 use Rattle.requester.specs.Calls
-use Rattle.requester.specs.Calls.{Parts, Told, toldOf}
+use Rattle.requester.specs.Calls.{Parts, Report, reportOf}
 use Rattle.requester.proofs.ValidLaws.{PartsValid}
 use Rattle.requester_claims.specs.View.{view}
 use Rattle.requester_claims.specs.Histories
@@ -40,18 +40,18 @@ pub record Comes (piece : List ℕ) (bs : Option (List ℕ)) (used : ℕ) (m : M
   pub judged : judge (since ++ take ahead piece) ≡ good m
 
 -- of what is handed out with a message: its version, sequence and command, and the data
-abbrev pub TellsFrom : List ℕ → Option (List ℕ) → ℕ → Told → List ℕ → Type 0
-TellsFrom piece bs used (Told.refused n) d = Unit {0}
-TellsFrom piece bs used Calls.nothing d = Unit {0}
-TellsFrom piece bs used (Calls.answered v q c n) d = Comes piece bs used (record { version = v; sequence = q; command = c; payload = d })
-TellsFrom piece bs used (Calls.status s o n) d = Unit {0}
-TellsFrom piece bs used (Calls.alerted v q c n) d = Comes piece bs used (record { version = v; sequence = q; command = c; payload = d })
+abbrev pub ReportFrom : List ℕ → Option (List ℕ) → ℕ → Report → List ℕ → Type 0
+ReportFrom piece bs used (Report.refused n) d = Unit {0}
+ReportFrom piece bs used Calls.nothing d = Unit {0}
+ReportFrom piece bs used (Calls.answered v q c n) d = Comes piece bs used (record { version = v; sequence = q; command = c; payload = d })
+ReportFrom piece bs used (Calls.status s o n) d = Unit {0}
+ReportFrom piece bs used (Calls.alerted v q c n) d = Comes piece bs used (record { version = v; sequence = q; command = c; payload = d })
 
 abbrev pub AnswerFrom : List ℕ → Option (List ℕ) → Answer → List ℕ → Type 0
 AnswerFrom piece bs (refused n) d = Unit {0}
 AnswerFrom piece bs done d = Unit {0}
 AnswerFrom piece bs (put n) d = Unit {0}
-AnswerFrom piece bs (received used t e u) d = TellsFrom piece bs used t d
+AnswerFrom piece bs (received used t e u) d = ReportFrom piece bs used t d
 
 -- ---- a frame
 
@@ -177,12 +177,12 @@ receive-hands (b ∷ bs) s = by (Requester.stops s b) refl (λ x. receive-hands 
 
 -- ---- a call
 
-told-from : (piece : List ℕ) (bs : Option (List ℕ)) (used : ℕ) (h : Handed) → Hands (Comes piece bs used) h → TellsFrom piece bs used (toldOf h) (Histories.dataOf h)
-unfolding toldOf Histories.dataOf
-told-from piece bs used Requester.nothing w = tt
-told-from piece bs used (Requester.answered m) w = w
-told-from piece bs used (Requester.status s o n) w = tt
-told-from piece bs used (Requester.alerted m) w = w
+report-from : (piece : List ℕ) (bs : Option (List ℕ)) (used : ℕ) (h : Handed) → Hands (Comes piece bs used) h → ReportFrom piece bs used (reportOf h) (Histories.dataOf h)
+unfolding reportOf Histories.dataOf
+report-from piece bs used Requester.nothing w = tt
+report-from piece bs used (Requester.answered m) w = w
+report-from piece bs used (Requester.status s o n) w = tt
+report-from piece bs used (Requester.alerted m) w = w
 
 -- a receive on valid parts, whatever it is lent: the message handed out is what the tests find in the bytes since the last 00 up to the last byte
 -- that the call read, and that byte is a 00
@@ -194,5 +194,5 @@ answer-bytes p v l piece =
     let r = Requester.receive (view p) piece in
     rw (k .answer, k .out)
     (cond-by (λ (x : Means). AnswerFrom piece (view p .received) (x .answer) (x .out)) (enough (Histories.receive piece) l) _ _
-    (λ _. told-from piece (view p .received) (r .used) (r .result .handed) (receive-hands piece (view p)))
+    (λ _. report-from piece (view p .received) (r .used) (r .result .handed) (receive-hands piece (view p)))
     (λ _. tt))

@@ -22,13 +22,13 @@ use Rattle.requester.specs.State.{Request, Step, State, fresh, isSome, outstand
 use Rattle.requester.specs.Requester
 use Rattle.requester.specs.Requester.{Heard, ground, heard, settled}
 use Rattle.requester.specs.Calls
-use Rattle.requester.specs.Calls.{Parts, Told}
+use Rattle.requester.specs.Calls.{Parts, Report}
 use Rattle.requester_claims.specs.View.{view}
 use Rattle.requester_claims.specs.Histories
 use Rattle.requester_claims.specs.Histories.{Call, Answer, refused, done, put, received, Means, meant, Lent, Made, made, meantMade, enough, left, leftMeant}
 use Rattle.requester_claims.specs.MeaningLaws.{positive}
 use Rattle.requester_claims.specs.History.{history}
-use Rattle.requester_claims.specs.AnswerBytes.{Comes, TellsFrom, AnswerFrom, answer-bytes}
+use Rattle.requester_claims.specs.AnswerBytes.{Comes, ReportFrom, AnswerFrom, answer-bytes}
 
 -- a piece of the received stream is made of bytes
 abbrev pub Typed : Call → Type 0
@@ -52,18 +52,18 @@ pub record Framed (piece : List ℕ) (bs : Option (List ℕ)) (used : ℕ) (m : 
   pub framed : (since ++ take ahead piece) ++ 0 ∷ [] ≡ frame m
 
 -- of what is handed out with a message
-abbrev pub TellsFramed : List ℕ → Option (List ℕ) → ℕ → Told → List ℕ → Type 0
-TellsFramed piece bs used (Told.refused n) d = Unit {0}
-TellsFramed piece bs used Calls.nothing d = Unit {0}
-TellsFramed piece bs used (Calls.answered v q c n) d = Framed piece bs used (record { version = v; sequence = q; command = c; payload = d })
-TellsFramed piece bs used (Calls.status s o n) d = Unit {0}
-TellsFramed piece bs used (Calls.alerted v q c n) d = Framed piece bs used (record { version = v; sequence = q; command = c; payload = d })
+abbrev pub ReportFramed : List ℕ → Option (List ℕ) → ℕ → Report → List ℕ → Type 0
+ReportFramed piece bs used (Report.refused n) d = Unit {0}
+ReportFramed piece bs used Calls.nothing d = Unit {0}
+ReportFramed piece bs used (Calls.answered v q c n) d = Framed piece bs used (record { version = v; sequence = q; command = c; payload = d })
+ReportFramed piece bs used (Calls.status s o n) d = Unit {0}
+ReportFramed piece bs used (Calls.alerted v q c n) d = Framed piece bs used (record { version = v; sequence = q; command = c; payload = d })
 
 abbrev pub AnswerFramed : List ℕ → Option (List ℕ) → Answer → List ℕ → Type 0
 AnswerFramed piece bs (refused n) d = Unit {0}
 AnswerFramed piece bs done d = Unit {0}
 AnswerFramed piece bs (put n) d = Unit {0}
-AnswerFramed piece bs (received used t e u) d = TellsFramed piece bs used t d
+AnswerFramed piece bs (received used t e u) d = ReportFramed piece bs used t d
 
 -- ---- the bytes since the last 00 are not 00
 
@@ -178,18 +178,18 @@ module _ (piece : List ℕ) (h : Each Byte piece) (bs : Option (List ℕ)) (w : 
         framed = good-frame (c .since ++ take (c .ahead) piece) m (each-append NonZero (c .since) (take (c .ahead) piece) f g) (c .judged);
       }
 
-  told-framed : (used : ℕ) (t : Told) (d : List ℕ) → TellsFrom piece bs used t d → TellsFramed piece bs used t d
-  told-framed used (Told.refused n) d c = tt
-  told-framed used Calls.nothing d c = tt
-  told-framed used (Calls.answered v q k n) d c = comes-framed used _ c
-  told-framed used (Calls.status s o n) d c = tt
-  told-framed used (Calls.alerted v q k n) d c = comes-framed used _ c
+  report-framed : (used : ℕ) (t : Report) (d : List ℕ) → ReportFrom piece bs used t d → ReportFramed piece bs used t d
+  report-framed used (Report.refused n) d c = tt
+  report-framed used Calls.nothing d c = tt
+  report-framed used (Calls.answered v q k n) d c = comes-framed used _ c
+  report-framed used (Calls.status s o n) d c = tt
+  report-framed used (Calls.alerted v q k n) d c = comes-framed used _ c
 
   answer-framed : (a : Answer) (d : List ℕ) → AnswerFrom piece bs a d → AnswerFramed piece bs a d
   answer-framed (refused n) d c = tt
   answer-framed done d c = tt
   answer-framed (put n) d c = tt
-  answer-framed (received used t e u) d c = told-framed used t d c
+  answer-framed (received used t e u) d c = report-framed used t d c
 
 -- a start that is accepted, on any bytes, then any calls, whatever each is lent, then a receive: where it hands out an answer or an alert's answer, the
 -- bytes since the last 00 up to and with the last byte that it read are exactly that message's frame

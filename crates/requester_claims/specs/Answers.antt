@@ -19,7 +19,7 @@ use Rattle.requester.specs.Requester
 use Rattle.requester.specs.Requester.{Heard, ground, other, answer, heard, failsDecode, replySequence, settled, staysOut}
 use Rattle.requester.specs.Layout
 use Rattle.requester.specs.Calls
-use Rattle.requester.specs.Calls.{Parts, Told, toldOf}
+use Rattle.requester.specs.Calls.{Parts, Report, reportOf}
 use Rattle.requester.proofs.ValidLaws.{PartsValid}
 use Rattle.requester_claims.specs.View.{view, keptOf}
 use Rattle.requester_claims.specs.Histories
@@ -36,18 +36,18 @@ pub record Matching (n version sequence command : ℕ) : Type 0 where
   pub no-failure : command ≡ 0x02 → ⊥
 
 -- of what is handed out to the caller, or as a recovery's alert
-abbrev pub TellsMatching : ℕ → Told → Type 0
-TellsMatching n (Told.refused k) = Unit {0}
-TellsMatching n Calls.nothing = Unit {0}
-TellsMatching n (Calls.answered v q c k) = Matching n v q c
-TellsMatching n (Calls.status s o k) = Unit {0}
-TellsMatching n (Calls.alerted v q c k) = Matching n v q c
+abbrev pub ReportMatching : ℕ → Report → Type 0
+ReportMatching n (Report.refused k) = Unit {0}
+ReportMatching n Calls.nothing = Unit {0}
+ReportMatching n (Calls.answered v q c k) = Matching n v q c
+ReportMatching n (Calls.status s o k) = Unit {0}
+ReportMatching n (Calls.alerted v q c k) = Matching n v q c
 
 abbrev pub Matches : ℕ → Answer → Type 0
 Matches n (refused k) = Unit {0}
 Matches n done = Unit {0}
 Matches n (put k) = Unit {0}
-Matches n (received used t e u) = TellsMatching n t
+Matches n (received used t e u) = ReportMatching n t
 
 -- each call of a list: the number is the newest as the call begins
 abbrev pub AllMatch : Parts → List Made → Type 0
@@ -74,8 +74,8 @@ heard-matches n (good m) =
 
 -- whatever is outstanding
 module _ (n : ℕ) where
-  settled-matches : (t : Option Step) (k : Bool) (h : Heard) → HeardMatches n h → TellsMatching n (toldOf (settled t k h .handed))
-  unfolding settled toldOf Requester.fetched
+  settled-matches : (t : Option Step) (k : Bool) (h : Heard) → HeardMatches n h → ReportMatching n (reportOf (settled t k h .handed))
+  unfolding settled reportOf Requester.fetched
   settled-matches none false h w = tt
   settled-matches none true ground w = tt
   settled-matches none true other w = tt
@@ -83,16 +83,16 @@ module _ (n : ℕ) where
   settled-matches (some t) k ground w = tt
   settled-matches (some t) k other w = tt
   settled-matches (some fetch) k (answer m) w =
-      cond-by (λ (o : Requester.Outcome). TellsMatching n (toldOf (o .handed))) (eqb (m .command) 0x06 && eqb (length (m .payload)) status-length) _ _ (λ _. tt) (λ _. tt)
+      cond-by (λ (o : Requester.Outcome). ReportMatching n (reportOf (o .handed))) (eqb (m .command) 0x06 && eqb (length (m .payload)) status-length) _ _ (λ _. tt) (λ _. tt)
   settled-matches (some acknowledge) k (answer m) w = tt
   settled-matches (some alert) k (answer m) w = w
 
 module _ (s : State) where
   abbrev ResultMatches : Requester.Result → Type 0
-  ResultMatches x = TellsMatching (s .newest) (toldOf (x .handed))
+  ResultMatches x = ReportMatching (s .newest) (reportOf (x .handed))
 
-  nothing-matches : TellsMatching (s .newest) (toldOf Requester.nothing)
-  unfolding toldOf
+  nothing-matches : ReportMatching (s .newest) (reportOf Requester.nothing)
+  unfolding reportOf
   nothing-matches = tt
 
   closes-matches : (bs : Option (List ℕ)) → ResultMatches (Requester.closes bs (Requester.withReceived s (some [])))
@@ -109,15 +109,15 @@ module _ (s : State) where
   unfolding Requester.byte
   byte-matches b = cond-by ResultMatches (eqb b 0) _ _ (λ _. closes-matches (s .received)) (λ _. more-matches (s .received) b)
 
-receive-matches : (piece : List ℕ) (s : State) → TellsMatching (s .newest) (toldOf (Requester.receive s piece .result .handed))
+receive-matches : (piece : List ℕ) (s : State) → ReportMatching (s .newest) (reportOf (Requester.receive s piece .result .handed))
 unfolding Requester.receive
 receive-matches [] s = nothing-matches s
 receive-matches (b ∷ bs) s = by (Requester.stops s b) refl (λ x. receive-matches bs (Requester.withReceived s x))
   where
     P : Requester.Received → Type 0
-    P x = TellsMatching (s .newest) (toldOf (x .result .handed))
+    P x = ReportMatching (s .newest) (reportOf (x .result .handed))
 
-    by : (t : Bool) → Requester.stops s b ≡ t → ((x : Option (List ℕ)) → TellsMatching (s .newest) (toldOf (Requester.receive (Requester.withReceived s x) bs .result .handed)))
+    by : (t : Bool) → Requester.stops s b ≡ t → ((x : Option (List ℕ)) → ReportMatching (s .newest) (reportOf (Requester.receive (Requester.withReceived s x) bs .result .handed)))
         → let r = Requester.receive (Requester.byte s b .state) bs in P (cond t (Requester.received 1 (Requester.byte s b)) (Requester.received (suc (r .used)) (r .result)))
     by true e i = byte-matches s b
     by false e i = rw (quiet-byte s b e) (i (grown (s .received) b))
@@ -159,19 +159,19 @@ answer-matches p v (m ∷ ms) =
 
 -- ---- at most one answer for each request
 
-abbrev answersTold : Told → ℕ
-answersTold (Told.refused k) = 0
-answersTold Calls.nothing = 0
-answersTold (Calls.answered v q c k) = 1
-answersTold (Calls.status s o k) = 0
-answersTold (Calls.alerted v q c k) = 0
+abbrev answersReported : Report → ℕ
+answersReported (Report.refused k) = 0
+answersReported Calls.nothing = 0
+answersReported (Calls.answered v q c k) = 1
+answersReported (Calls.status s o k) = 0
+answersReported (Calls.alerted v q c k) = 0
 
 -- how many answers a call hands out to the caller
 abbrev pub answersIn : Answer → ℕ
 answersIn (refused k) = 0
 answersIn done = 0
 answersIn (put k) = 0
-answersIn (received used t e u) = answersTold t
+answersIn (received used t e u) = answersReported t
 
 -- how many requests it puts out that stay outstanding
 abbrev asked : ℕ → Answer → ℕ
@@ -204,7 +204,7 @@ keptNumber (some q) = 1
 
 -- handed out as an answer, or not
 abbrev answersOut : Requester.Handed → ℕ
-answersOut h = answersTold (toldOf h)
+answersOut h = answersReported (reportOf h)
 
 -- an answer leaves none outstanding, and one was
 data Counted (k : Bool) (o : Requester.Outcome) : Type 0 where
@@ -212,7 +212,7 @@ data Counted (k : Bool) (o : Requester.Outcome) : Type 0 where
   one-answer : answersOut (o .handed) ≡ 1 → k ≡ true → o .next ≡ Requester.idle → Counted k o
 
 settled-counted : (t : Option Step) (k : Bool) (h : Heard) → Counted k (settled t k h)
-unfolding settled toldOf Requester.fetched
+unfolding settled reportOf Requester.fetched
 settled-counted none false h = no-answer refl
 settled-counted none true ground = no-answer refl
 settled-counted none true other = no-answer refl
@@ -253,7 +253,7 @@ module _ (s : State) where
       by o (one-answer e k n) = rw (n, idle-kept s, e) (omega (arith, kept-one (s .kept) k))
 
 nothing-balanced : (s t : State) → t .kept ≡ s .kept → Balanced s (Requester.dropped t)
-unfolding toldOf
+unfolding reportOf
 nothing-balanced s t e = rw e (omega arith)
 
 module _ (s : State) where

@@ -22,7 +22,7 @@ use Rattle.requester.specs.Requester
 use Rattle.requester.specs.Requester.{Heard, ground, heard, settled, dropped, hears, byte, receive}
 use Rattle.requester.specs.Layout
 use Rattle.requester.specs.Calls
-use Rattle.requester.specs.Calls.{Parts, parts, overran, heardOf, outcomeOf, received}
+use Rattle.requester.specs.Calls.{Parts, parts, isOverlong, heardOf, outcomeOf, received}
 use Rattle.requester.proofs.ValidLaws.{requester-valid, valid-requester, PartsValid}
 use Rattle.requester.specs.Hearing.{dataFit}
 use Rattle.requester.proofs.ReaderLaws.{read-leaves, data-length}
@@ -94,7 +94,7 @@ module _ (p : Parts) (v : PartsValid p) (reader : List ℕ) (bs : Option (List �
 
 -- ---- the data of what is heard
 
--- of what the line reader's answer makes heard, where the state that it left is valid and the data told fit
+-- of what the line reader's answer makes heard, where the state that it left is valid and the reported data fit
 module _ (number : ℕ) (reader : List ℕ) (t : Option Step) (k : Bool) where
   abbrev GivenHeard : Option Heard → Type 0
   GivenHeard none = Unit {0}
@@ -103,7 +103,7 @@ module _ (number : ℕ) (reader : List ℕ) (t : Option Step) (k : Bool) where
   given-heard : (a : LineReader.Report) → LineReader.valid reader ≡ true → dataFit a ≡ true → GivenHeard (heardOf number reader a)
   unfolding heardOf dataFit heard
   given-heard (LineReader.refused n) v f = tt
-  given-heard LineReader.more v f = cond-by GivenHeard (overran reader) (some ground) none (λ _. given-ground reader t k) (λ _. tt)
+  given-heard LineReader.more v f = cond-by GivenHeard (isOverlong reader) (some ground) none (λ _. given-ground reader t k) (λ _. tt)
   given-heard LineReader.empty v f = tt
   given-heard (LineReader.failed reason sequence) v f = given-ground reader t k
   given-heard (LineReader.message version sequence command n) v f =
@@ -251,7 +251,7 @@ walk-follows (b ∷ bs) p v =
 -- ---- a call of receive is the bytes that it reads
 
 abbrev later : Calls.Receipt → Calls.Receipt
-later x = record { used = suc (x .used); told = x .told; ended = x .ended; unsent = x .unsent; parts = x .parts }
+later x = record { used = suc (x .used); report = x .report; ended = x .ended; unsent = x .unsent; parts = x .parts }
 
 module _ (p : Parts) (r : Ready (p .reader)) where
   -- one byte more may be read where the frame has not passed 4,140
@@ -260,17 +260,17 @@ module _ (p : Parts) (r : Ready (p .reader)) where
 
   received-none-read : received p [] ≡ receiptOf (walk p [])
   unfolding received walk LineReader.readPiece heardOf outcomeOf Calls.movedTo
-  received-none-read = by (overran (p .reader)) refl
+  received-none-read = by (isOverlong (p .reader)) refl
     where
-      by : (x : Bool) → overran (p .reader) ≡ x → received p [] ≡ receiptOf (walk p [])
+      by : (x : Bool) → isOverlong (p .reader) ≡ x → received p [] ≡ receiptOf (walk p [])
       by true e = rw e
       by false e = rw (e, take-nil) (rw e)
 
   received-closed : (bs : List ℕ) → received p (0 ∷ bs) ≡ receiptOf (walk p (0 ∷ bs))
   unfolding received walk LineReader.readPiece feed fedBy
-  received-closed bs = by (overran (p .reader)) refl
+  received-closed bs = by (isOverlong (p .reader)) refl
     where
-      by : (x : Bool) → overran (p .reader) ≡ x → received p (0 ∷ bs) ≡ receiptOf (walk p (0 ∷ bs))
+      by : (x : Bool) → isOverlong (p .reader) ≡ x → received p (0 ∷ bs) ≡ receiptOf (walk p (0 ∷ bs))
       by true e = rw e
       by false e = rw (e, room (ltb-false _ _ e))
 
@@ -286,7 +286,7 @@ module _ (p : Parts) (r : Ready (p .reader)) where
   pub feed-quiet : (b : ℕ) → (LineReader.count (p .reader) ≡ longest-form → ⊥)
       → feed p (suc b) ≡ fed Requester.nothing false (parts (LineReader.pushed (p .reader) (suc b)) (p .requester))
   unfolding feed fedBy heardOf outcomeOf Calls.movedTo
-  feed-quiet b z = by (overran (p .reader)) refl
+  feed-quiet b z = by (isOverlong (p .reader)) refl
     where
       n : ℕ
       n = LineReader.count (p .reader)
@@ -294,7 +294,7 @@ module _ (p : Parts) (r : Ready (p .reader)) where
       t : List ℕ
       t = LineReader.pushed (p .reader) (suc b)
 
-      by : (x : Bool) → overran (p .reader) ≡ x → feed p (suc b) ≡ fed Requester.nothing false (parts t (p .requester))
+      by : (x : Bool) → isOverlong (p .reader) ≡ x → feed p (suc b) ≡ fed Requester.nothing false (parts t (p .requester))
       by true e = rw e
       by false e =
           let h = below n longest-form (ltb-false longest-form n e) z in
@@ -304,7 +304,7 @@ module _ (p : Parts) (r : Ready (p .reader)) where
   received-later : (b : ℕ) (bs : List ℕ) → (LineReader.count (p .reader) ≡ longest-form → ⊥)
       → received p (suc b ∷ bs) ≡ later (received (parts (LineReader.pushed (p .reader) (suc b)) (p .requester)) bs)
   unfolding received LineReader.readPiece LineReader.next
-  received-later b bs z = by (overran (p .reader)) refl
+  received-later b bs z = by (isOverlong (p .reader)) refl
     where
       n : ℕ
       n = LineReader.count (p .reader)
@@ -312,7 +312,7 @@ module _ (p : Parts) (r : Ready (p .reader)) where
       t : List ℕ
       t = LineReader.pushed (p .reader) (suc b)
 
-      by : (x : Bool) → overran (p .reader) ≡ x → received p (suc b ∷ bs) ≡ later (received (parts t (p .requester)) bs)
+      by : (x : Bool) → isOverlong (p .reader) ≡ x → received p (suc b ∷ bs) ≡ later (received (parts t (p .requester)) bs)
       by true e =
           let h = ltb-true longest-form n e in
           let c = over-count (p .reader) (suc b) r (omega arith) in

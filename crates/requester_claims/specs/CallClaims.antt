@@ -22,7 +22,7 @@ use Rattle.requester.specs.Requester
 use Rattle.requester.specs.Requester.{staysOut}
 use Rattle.requester.specs.Layout
 use Rattle.requester.specs.Calls
-use Rattle.requester.specs.Calls.{Parts, parts, toldOf}
+use Rattle.requester.specs.Calls.{Parts, parts, reportOf}
 use Rattle.requester.proofs.ValidLaws.{RequesterValid, requester-valid, valid-requester, PartsValid, valid-parts, LongEnough, long-enough-is}
 use Rattle.requester_claims.specs.View.{receivedOf, keptOf, held, view}
 use Rattle.requester_claims.specs.Histories
@@ -140,12 +140,12 @@ module _ (p : Parts) (room : LongEnough p) where
       })
 
 -- what is handed out is no refusal
-pub told-received : (used : ℕ) (h : Requester.Handed) (e u : Bool) → receiveAnswer used (toldOf h) e u ≡ Histories.received used (toldOf h) e u
-unfolding toldOf
-told-received used Requester.nothing e u = refl
-told-received used (Requester.answered m) e u = refl
-told-received used (Requester.status s o k) e u = refl
-told-received used (Requester.alerted m) e u = refl
+pub report-received : (used : ℕ) (h : Requester.Handed) (e u : Bool) → receiveAnswer used (reportOf h) e u ≡ Histories.received used (reportOf h) e u
+unfolding reportOf
+report-received used Requester.nothing e u = refl
+report-received used (Requester.answered m) e u = refl
+report-received used (Requester.status s o k) e u = refl
+report-received used (Requester.alerted m) e u = refl
 
 module _ (p : Parts) (v : PartsValid p) where
   abbrev r : List ℕ
@@ -262,7 +262,7 @@ module _ (p : Parts) (v : PartsValid p) where
   receive-meets piece =
       let f = walk-follows piece p v in
       let x = f .1 in
-      rw (valid-parts p v, received-walk piece p (valid-ready (p .reader) (v .reader)), told-received _ (walk p piece .fed .handed) _ _)
+      rw (valid-parts p v, received-walk piece p (valid-ready (p .reader) (v .reader)), report-received _ (walk p piece .fed .handed) _ _)
       (record {
         answer = rw (f .0, x .handed, x .ended, ← x .state, to-go-out (walk p piece .fed .parts));
         out = x .given ∙ ap Histories.dataOf (x .handed);

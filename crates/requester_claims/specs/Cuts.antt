@@ -10,13 +10,13 @@ use lib.Seq.{append-snoc}
 use borrow.Author.Tests.{eqb-false}
 use Rattle.line.proofs.State.{valid-ready}
 use Rattle.requester.specs.Calls
-use Rattle.requester.specs.Calls.{Parts, parts, Told, toldOf}
+use Rattle.requester.specs.Calls.{Parts, parts, Report, reportOf}
 use Rattle.requester.proofs.ValidLaws.{PartsValid, valid-parts}
 use Rattle.requester_claims.specs.Histories
-use Rattle.requester_claims.specs.Histories.{Call, Answer, refused, done, put, received, Did, did, dataGiven, receiptDid, Lent, enough, Made, made, Tells}
+use Rattle.requester_claims.specs.Histories.{Call, Answer, refused, done, put, received, Did, did, dataGiven, receiptDid, Lent, enough, Made, made, Output}
 use Rattle.requester_claims.specs.OneByte.{Fed, feed, stopsAt, Walked, walked, walk}
 use Rattle.requester_claims.specs.ByteClaim.{feed-follows, feed-quiet, received-walk}
-use Rattle.requester_claims.specs.CallClaims.{told-received}
+use Rattle.requester_claims.specs.CallClaims.{report-received}
 use Rattle.requester_claims.specs.LentCalls.{whole, too-little}
 use Rattle.requester_claims.specs.History.{one-call, valid-long-enough, started}
 
@@ -24,18 +24,18 @@ use Rattle.requester_claims.specs.History.{one-call, valid-long-enough, 
 
 -- what a call hands out, with its data, and whether 14 ended a recovery
 pub record Event : Type 0 where
-  pub told : Told
+  pub report : Report
   pub payload : List ℕ
   pub ended : Bool
 
 -- nothing is no event
-unfoldable pub events : Told → List ℕ → Bool → List Event
-events (Told.refused n) d e = []
+unfoldable pub events : Report → List ℕ → Bool → List Event
+events (Report.refused n) d e = []
 events Calls.nothing d false = []
-events Calls.nothing d true = record { told = Calls.nothing; payload = d; ended = true } ∷ []
-events (Calls.answered v q c n) d e = record { told = Calls.answered v q c n; payload = d; ended = e } ∷ []
-events (Calls.status s o n) d e = record { told = Calls.status s o n; payload = d; ended = e } ∷ []
-events (Calls.alerted v q c n) d e = record { told = Calls.alerted v q c n; payload = d; ended = e } ∷ []
+events Calls.nothing d true = record { report = Calls.nothing; payload = d; ended = true } ∷ []
+events (Calls.answered v q c n) d e = record { report = Calls.answered v q c n; payload = d; ended = e } ∷ []
+events (Calls.status s o n) d e = record { report = Calls.status s o n; payload = d; ended = e } ∷ []
+events (Calls.alerted v q c n) d e = record { report = Calls.alerted v q c n; payload = d; ended = e } ∷ []
 
 -- a call of receive: what it is lent, and the piece
 pub record Read : Type 0 where
@@ -69,7 +69,7 @@ afterReads x (c ∷ cs) = afterReads (afterRead x c) cs
 
 fedTo : Listener → List ℕ → Fed → Listener
 fedTo x bs f = record {
-  handed = x .handed ++ events (toldOf (f .handed)) (dataGiven (toldOf (f .handed)) (f .parts .reader)) (f .ended);
+  handed = x .handed ++ events (reportOf (f .handed)) (dataGiven (reportOf (f .handed)) (f .parts .reader)) (f .ended);
   bytes = x .bytes ++ bs;
   parts = f .parts;
 }
@@ -94,7 +94,7 @@ stream-read x (b ∷ bs) = stream-read (afterByte x b) bs ∙ append-snoc (x .by
 -- a byte that does not stop a call hands nothing out
 quiet : (x : Listener) (b : ℕ) → PartsValid (x .parts) → stopsAt (x .parts .reader) b ≡ false
     → afterByte x b ≡ record { handed = x .handed; bytes = x .bytes ++ b ∷ []; parts = feed (x .parts) b .parts }
-unfolding afterByte fedTo events toldOf
+unfolding afterByte fedTo events reportOf
 quiet x zero v e = absurd (false≢true (sym e))
 quiet x (suc b) v e =
     let p = x .parts in
@@ -106,7 +106,7 @@ unfolding fedTo
 fed-later x b cs f v e = rw (quiet x b v e) (rw append-snoc)
 
 walk-stream : (piece : List ℕ) (x : Listener) → PartsValid (x .parts) → let w = walk (x .parts) piece in fedTo x (take (w .used) piece) (w .fed) ≡ stream x (take (w .used) piece)
-unfolding walk stream fedTo afterByte events toldOf
+unfolding walk stream fedTo afterByte events reportOf
 walk-stream [] x v = rw (append-nil, append-nil)
 walk-stream (b ∷ bs) x v =
     by (stopsAt (x .parts .reader) b) refl (walk-stream bs (afterByte x b) (feed-follows (x .parts) v b .valid))
@@ -140,7 +140,7 @@ unfolding did Calls.receiving receiptDid fedTo
 did-stream x c v =
     let p = x .parts in
     let w = walk p (c .piece) in
-    rw (valid-parts p v, received-walk (c .piece) p (valid-ready (p .reader) (v .reader)), told-received (w .used) (w .fed .handed) (w .fed .ended) _)
+    rw (valid-parts p v, received-walk (c .piece) p (valid-ready (p .reader) (v .reader)), report-received (w .used) (w .fed .handed) (w .fed .ended) _)
     (walk-stream (c .piece) x v)
 
 call-stream : (x : Listener) (c : Read) → PartsValid (x .parts) → afterRead x c ≡ stream x (bytesRead x c)
@@ -207,10 +207,10 @@ pub record Stretch : Type 0 where
 -- what the receives hand out, and what the other call answers and writes
 pub record Heard : Type 0 where
   pub handed : List Event
-  pub tells : Tells
+  pub output : Output
 
 abbrev heardIn : Listener → Made → Heard
-heardIn x m = record { handed = x .handed; tells = record { answer = made (x .parts) m .answer; out = made (x .parts) m .out } }
+heardIn x m = record { handed = x .handed; output = record { answer = made (x .parts) m .answer; out = made (x .parts) m .out } }
 
 -- all that stretches hand out, answer and write, and the parts that they leave
 unfoldable pub heard : Parts → List Stretch → List Heard

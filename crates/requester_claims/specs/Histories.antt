@@ -12,7 +12,7 @@ use Rattle.requester.specs.State.{State, fresh}
 use Rattle.requester.specs.Requester
 use Rattle.requester.specs.Layout
 use Rattle.requester.specs.Calls
-use Rattle.requester.specs.Calls.{Parts, parts, Told, toldOf}
+use Rattle.requester.specs.Calls.{Parts, parts, Report, reportOf}
 
 -- ---- Calls and answers
 
@@ -34,7 +34,7 @@ pub data Answer : Type 0 where
   -- how many bytes were put out
   put : ℕ → Answer
   -- how many bytes were read, what is handed out, whether 14 ended a recovery, whether a frame is to go out
-  received : ℕ → Told → Bool → Bool → Answer
+  received : ℕ → Report → Bool → Bool → Answer
 
 -- ---- By the promises
 
@@ -61,23 +61,23 @@ withRequester p r = parts (p .reader) r
 abbrev pub putDid : Parts → Calls.Put → Did
 putDid p t = didBy (putAnswer (t .report)) (t .out) (withRequester p (t .requester))
 
-abbrev pub receiveAnswer : ℕ → Told → Bool → Bool → Answer
-receiveAnswer used (Told.refused n) e u = refused n
+abbrev pub receiveAnswer : ℕ → Report → Bool → Bool → Answer
+receiveAnswer used (Report.refused n) e u = refused n
 receiveAnswer used Calls.nothing e u = received used Calls.nothing e u
 receiveAnswer used (Calls.answered v q c n) e u = received used (Calls.answered v q c n) e u
 receiveAnswer used (Calls.status s o n) e u = received used (Calls.status s o n) e u
 receiveAnswer used (Calls.alerted v q c n) e u = received used (Calls.alerted v q c n) e u
 
 -- the data of an answer: so many bytes, as the line layer hands them out of the reader's part at the call's return
-unfoldable pub dataGiven : Told → List ℕ → List ℕ
-dataGiven (Told.refused n) reader = []
+unfoldable pub dataGiven : Report → List ℕ → List ℕ
+dataGiven (Report.refused n) reader = []
 dataGiven Calls.nothing reader = []
 dataGiven (Calls.answered v q c n) reader = LineReader.dataOf reader n
 dataGiven (Calls.status s o n) reader = []
 dataGiven (Calls.alerted v q c n) reader = LineReader.dataOf reader n
 
 unfoldable pub receiptDid : Calls.Receipt → Did
-receiptDid r = didBy (receiveAnswer (r .used) (r .told) (r .ended) (r .unsent)) (dataGiven (r .told) (r .parts .reader)) (r .parts)
+receiptDid r = didBy (receiveAnswer (r .used) (r .report) (r .ended) (r .unsent)) (dataGiven (r .report) (r .parts .reader)) (r .parts)
 
 unfoldable pub did : Parts → Call → Did
 did p start = let t = Calls.starting p in didBy (refusal (t .refusal)) [] (t .parts)
@@ -114,7 +114,7 @@ dataOf (Requester.alerted m) = m .payload
 abbrev pub receivedMeans : Requester.Received → Means
 receivedMeans r =
     let x = r .result in
-    means (received (r .used) (toldOf (x .handed)) (x .ended) (Requester.toGoOut (x .state))) (dataOf (x .handed)) (x .state)
+    means (received (r .used) (reportOf (x .handed)) (x .ended) (Requester.toGoOut (x .state))) (dataOf (x .handed)) (x .state)
 
 unfoldable pub meant : State → Call → Means
 meant s start = doneMeans none fresh
@@ -180,21 +180,21 @@ meantMade s m = cond (enough (m .call) (m .lent)) (meant s (m .call)) (means (re
 -- ---- Lists of calls
 
 -- each call's answer and what it wrote in the caller's room or handed out
-pub record Tells : Type 0 where
+pub record Output : Type 0 where
   pub answer : Answer
   pub out : List ℕ
 
-unfoldable pub told : Parts → List Made → List Tells
-told p [] = []
-told p (m ∷ ms) = record { answer = made p m .answer; out = made p m .out } ∷ told (made p m .parts) ms
+unfoldable pub outputs : Parts → List Made → List Output
+outputs p [] = []
+outputs p (m ∷ ms) = record { answer = made p m .answer; out = made p m .out } ∷ outputs (made p m .parts) ms
 
 unfoldable pub left : Parts → List Made → Parts
 left p [] = p
 left p (m ∷ ms) = left (made p m .parts) ms
 
-unfoldable pub toldMeant : State → List Made → List Tells
-toldMeant s [] = []
-toldMeant s (m ∷ ms) = record { answer = meantMade s m .answer; out = meantMade s m .out } ∷ toldMeant (meantMade s m .state) ms
+unfoldable pub outputsMeant : State → List Made → List Output
+outputsMeant s [] = []
+outputsMeant s (m ∷ ms) = record { answer = meantMade s m .answer; out = meantMade s m .out } ∷ outputsMeant (meantMade s m .state) ms
 
 unfoldable pub leftMeant : State → List Made → State
 leftMeant s [] = s

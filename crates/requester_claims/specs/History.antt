@@ -25,9 +25,9 @@ use Rattle.requester_claims.specs.View.{view}
 use Rattle.requester_claims.specs.Histories
 use Rattle.requester_claims.specs.Histories.{Call, Answer, refused, done, put, received, Did, didBy, did, putDid, refusal, receiptDid, dataGiven}
 use Rattle.requester_claims.specs.Histories.{means, putMeans, doneMeans, meant, Lent, lentOf, enough, Made, untouched, made, meantMade}
-use Rattle.requester_claims.specs.Histories.{told, left, toldMeant, leftMeant}
+use Rattle.requester_claims.specs.Histories.{outputs, left, outputsMeant, leftMeant}
 use Rattle.requester_claims.specs.ByteClaim.{Lengths, lengths-same, lengths-then}
-use Rattle.requester_claims.specs.CallClaims.{Meets, told-received, start-meets, call-meets}
+use Rattle.requester_claims.specs.CallClaims.{Meets, report-received, start-meets, call-meets}
 use Rattle.requester_claims.specs.LentCalls.{whole, room-enough, too-little}
 
 -- ---- refusals change nothing
@@ -73,7 +73,7 @@ module _ (p : Parts) where
     where
       P : Calls.Put → Type 0
       P t = Held (Histories.send room) (putDid p t)
-  held (Histories.receive piece) = cond-by P (Calls.validParts p) _ _ (λ _. rw told-received tt) (λ _. (refl, refl))
+  held (Histories.receive piece) = cond-by P (Calls.validParts p) _ _ (λ _. rw report-received tt) (λ _. (refl, refl))
     where
       P : Calls.Receipt → Type 0
       P x = Held (Histories.receive piece) (receiptDid x)
@@ -146,10 +146,10 @@ earns-no-12 p m v e h = never-12 (view p) m e (sym (one-call p m v .answer) ∙ 
 
 -- calls on q do what document 02 has of the same calls on the state s, and leave valid parts
 abbrev pub Follow : Parts → State → List Made → Type 0
-Follow q s ms = (told q ms ≡ toldMeant s ms) × (view (left q ms) ≡ leftMeant s ms) × PartsValid (left q ms) × Lengths q (left q ms)
+Follow q s ms = (outputs q ms ≡ outputsMeant s ms) × (view (left q ms) ≡ leftMeant s ms) × PartsValid (left q ms) × Lengths q (left q ms)
 
 pub follow : (q : Parts) → PartsValid q → (ms : List Made) → Follow q (view q) ms
-unfolding told left toldMeant leftMeant
+unfolding outputs left outputsMeant leftMeant
 follow q v [] = (refl, refl, v, lengths-same)
 follow q v (m ∷ ms) =
     let k = one-call q m v in
@@ -194,7 +194,7 @@ module _ (p : Parts) (l : Lent) where
 -- state or handed out, and the state that is left are document 02's; the parts stay valid and keep their lengths
 pub history : (p : Parts) (l : Lent) → made p (record { lent = l; call = Histories.start }) .answer ≡ done → (ms : List Made)
     → let q = made p (record { lent = l; call = Histories.start }) .parts in
-    (told q ms ≡ toldMeant fresh ms)
+    (outputs q ms ≡ outputsMeant fresh ms)
     × (view (left q ms) ≡ leftMeant fresh ms)
     × PartsValid (left q ms)
     × Lengths p (left q ms)

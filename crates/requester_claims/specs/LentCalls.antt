@@ -14,7 +14,7 @@ use Rattle.line_claims.specs.LoanLaws.{back-same, lent-long, lent-enough, Front
 use Rattle.requester.specs.Layout
 use Rattle.requester.specs.Valid.{validRequester}
 use Rattle.requester.specs.Calls
-use Rattle.requester.specs.Calls.{Parts, parts, Told}
+use Rattle.requester.specs.Calls.{Parts, parts, Report}
 use Rattle.requester.proofs.Cases.{untrue}
 use Rattle.requester.proofs.ValidLaws.{requester-valid, parts-valid, LongEnough, is-long-enough}
 use Rattle.requester.proofs.ReaderLaws.{read-leaves}
@@ -25,9 +25,9 @@ use Rattle.requester_claims.specs.Locality
 -- ---- enough of each part that a call takes
 
 -- the data given do not depend on what stands behind the reader's published bytes
-data-behind : (a : Told) (s u : List ℕ) → LineReader.state-length ≤ length s → dataGiven a (s ++ u) ≡ dataGiven a s
+data-behind : (a : Report) (s u : List ℕ) → LineReader.state-length ≤ length s → dataGiven a (s ++ u) ≡ dataGiven a s
 unfolding dataGiven
-data-behind (Told.refused n) s u h = refl
+data-behind (Report.refused n) s u h = refl
 data-behind Calls.nothing s u h = refl
 data-behind (Calls.answered v q c n) s u h = dataOf-append s u h n
 data-behind (Calls.status x o n) s u h = refl
@@ -38,7 +38,7 @@ receiving-long : (p : Parts) (piece : List ℕ) → length (Calls.receiving p pi
 unfolding Calls.receiving Calls.received
 receiving-long p piece =
     cond-by (λ (x : Calls.Receipt). length (x .parts .reader) ≡ length (p .reader)) (Calls.validParts p) _ _
-    (λ v. read-leaves (Calls.within (p .reader) piece) (p .reader) (valid-ready (p .reader) (parts-valid p v .reader)) .long) (λ _. refl)
+    (λ v. read-leaves (Calls.readable (p .reader) piece) (p .reader) (valid-ready (p .reader) (parts-valid p v .reader)) .long) (λ _. refl)
 
 module _ (l : Lent) (p : Parts) (room : LongEnough p) where
   abbrev q : Parts
@@ -112,7 +112,7 @@ module _ (l : Lent) (p : Parts) (room : LongEnough p) where
             rw (f .whole, h .whole) at (Locality.receiving-behind q (h .rest) (f .rest) reader-long requester-long piece),
             h .back (x .parts .reader),
             f .back (x .parts .requester),
-            data-behind (x .told) (x .parts .reader) (h .rest) (omega (arith, receiving-long q piece, reader-long)),
+            data-behind (x .report) (x .parts .reader) (h .rest) (omega (arith, receiving-long q piece, reader-long)),
           )
 
   pub whole : (c : Call) → enough c l ≡ true → Whole c

@@ -175,7 +175,7 @@ abbrev pub partsBehind : List ℕ → List ℕ → Parts → Parts
 partsBehind a u p = parts (p .reader ++ a) (p .requester ++ u)
 
 abbrev receiptBehind : List ℕ → List ℕ → Calls.Receipt → Calls.Receipt
-receiptBehind a u x = record { used = x .used; told = x .told; ended = x .ended; unsent = x .unsent; parts = partsBehind a u (x .parts) }
+receiptBehind a u x = record { used = x .used; report = x .report; ended = x .ended; unsent = x .unsent; parts = partsBehind a u (x .parts) }
 
 module _ (p : Parts) (a u : List ℕ) (reader : LineReader.state-length ≤ length (p .reader)) (requester : Layout.requester-length ≤ length (p .requester)) where
   valid-parts-behind : Calls.validParts (partsBehind a u p) ≡ Calls.validParts p
@@ -186,10 +186,10 @@ module _ (p : Parts) (a u : List ℕ) (reader : LineReader.state-length ≤ leng
   unfolding Calls.received
   received-behind v piece =
       let r = valid-ready (p .reader) (parts-valid p v .reader) in
-      let q = Calls.within (p .reader) piece in
+      let q = Calls.readable (p .reader) piece in
       let o = LineReader.readPiece (p .reader) q in
       let w = read-leaves q (p .reader) r in
-      let h = cond (Calls.overran (p .reader)) none (heardOf (Layout.numberOf (p .requester)) (o .state) (o .answer)) in
+      let h = cond (Calls.isOverlong (p .reader)) none (heardOf (Layout.numberOf (p .requester)) (o .state) (o .answer)) in
       let x = outcomeOf (p .requester) h in
       rw (
         count-append (p .reader) a reader,

@@ -19,7 +19,7 @@ use Rattle.requester.specs.Requester
 use Rattle.requester.specs.Requester.{Heard, ground, other, answer, Next, same, again, anew, idle, heard, failsDecode, replySequence, settled}
 use Rattle.requester.specs.Layout
 use Rattle.requester.specs.Calls
-use Rattle.requester.specs.Calls.{toldOf}
+use Rattle.requester.specs.Calls.{reportOf}
 use Rattle.requester.proofs.ProgressLaws.{step-at}
 use Rattle.requester.proofs.ValidLaws.{RequesterValid}
 use Rattle.requester_claims.specs.View.{keptOf, held}
@@ -79,15 +79,15 @@ module _ (r : List ℕ) (v : RequesterValid r) (bs : Option (List ℕ)) where
 
 -- what is handed out in numbers, and the reader's part, give the data
 abbrev pub Given : List ℕ → Requester.Handed → Type 0
-Given reader h = dataGiven (toldOf h) reader ≡ dataOf h
+Given reader h = dataGiven (reportOf h) reader ≡ dataOf h
 
 pub given-nothing : (reader : List ℕ) → Given reader Requester.nothing
-unfolding dataGiven toldOf dataOf
+unfolding dataGiven reportOf dataOf
 given-nothing reader = refl
 
 module _ (reader : List ℕ) (m : Message) (g : LineReader.dataOf reader (length (m .payload)) ≡ m .payload) where
   given-answer : (t : Option Step) (k : Bool) → Given reader (settled t k (answer m) .handed)
-  unfolding settled Requester.fetched dataGiven toldOf dataOf
+  unfolding settled Requester.fetched dataGiven reportOf dataOf
   given-answer none false = refl
   given-answer none true = g
   given-answer (some fetch) k =
@@ -96,13 +96,13 @@ module _ (reader : List ℕ) (m : Message) (g : LineReader.dataOf reader (length
   given-answer (some alert) k = g
 
 pub given-ground : (reader : List ℕ) (t : Option Step) (k : Bool) → Given reader (settled t k ground .handed)
-unfolding settled dataGiven toldOf dataOf
+unfolding settled dataGiven reportOf dataOf
 given-ground reader none false = refl
 given-ground reader none true = refl
 given-ground reader (some t) k = refl
 
 given-other : (reader : List ℕ) (t : Option Step) (k : Bool) → Given reader (settled t k other .handed)
-unfolding settled dataGiven toldOf dataOf
+unfolding settled dataGiven reportOf dataOf
 given-other reader none false = refl
 given-other reader none true = refl
 given-other reader (some t) k = refl

@@ -11,7 +11,7 @@ use Rattle.requester.specs.Requester
 use Rattle.requester.specs.Requester.{Heard}
 use Rattle.requester.specs.Layout
 use Rattle.requester.specs.Calls
-use Rattle.requester.specs.Calls.{Parts, parts, overran, heardOf, outcomeOf, toldOf}
+use Rattle.requester.specs.Calls.{Parts, parts, isOverlong, heardOf, outcomeOf, reportOf}
 
 -- what is handed out, whether 14 ended a recovery, and the parts
 pub record Fed : Type 0 where
@@ -40,7 +40,7 @@ reportAfter s (suc b) = LineReader.more
 unfoldable pub feed : Parts → ℕ → Fed
 feed p b =
     let s = readerAfter (p .reader) b in
-    fedBy p s (cond (overran (p .reader)) none (heardOf (Layout.numberOf (p .requester)) s (reportAfter (p .reader) b)))
+    fedBy p s (cond (isOverlong (p .reader)) none (heardOf (Layout.numberOf (p .requester)) s (reportAfter (p .reader) b)))
 
 -- whether a byte is a 00, or the 4,141st of its frame
 abbrev pub stopsAt : List ℕ → ℕ → Bool
@@ -64,7 +64,7 @@ walk p (b ∷ bs) =
 abbrev pub receiptOf : Walked → Calls.Receipt
 receiptOf w = record {
   used = w .used;
-  told = toldOf (w .fed .handed);
+  report = reportOf (w .fed .handed);
   ended = w .fed .ended;
   unsent = Layout.isUnsent (w .fed .parts .requester);
   parts = w .fed .parts;

@@ -26,7 +26,7 @@ use Rattle.supervisor.specs.Local
 use Rattle.supervisor.specs.Valid.{validOutbox, validFactory, validSettings, validAlert, validRegisters}
 use Rattle.supervisor.specs.Calls.{resultNumber, lookupResult, editionNumber, editionResult}
 use Rattle.supervisor.proofs.KeyLaws.{value-short}
-use Rattle.supervisor.proofs.OffsetLaws.{place-within, longest-short, Lies, setting-lies}
+use Rattle.supervisor.proofs.OffsetLaws.{offset-within, longest-short, Lies, setting-lies}
 use Rattle.supervisor.proofs.ValidLaws.{all-each, each-all, outbox-valid, valid-outbox, SettingValid, SettingsValid, settings-valid, valid-settings}
 use Rattle.supervisor.proofs.ValidLaws.{alert-valid, valid-alert, RecordValid, RegistersValid, registers-valid}
 use Rattle.supervisor.proofs.KeptRegisters.{FlagsValid, FailureValid, PanicValid, groups-valid, numbers-kept, flags-kept, failure-kept, panic-kept, waiting-kept, retained-kept, kept-valid}
@@ -44,8 +44,8 @@ abbrev pub begun : Bool → ℕ
 begun terminator-owed = cond terminator-owed 0 1
 
 -- the two offsets that say which bytes are pending
-abbrev pub places : ℕ → ℕ → List ℕ
-places from to = bytes 2 from ++ bytes 2 to
+abbrev pub offsets : ℕ → ℕ → List ℕ
+offsets from to = bytes 2 from ++ bytes 2 to
 
 -- a 00 and the bytes
 abbrev pub filled : List ℕ → List ℕ → List ℕ
@@ -66,23 +66,23 @@ module _ (o bs : List ℕ) (valid : validOutbox o ≡ true) (short : length bs �
   unfolding Receive.sentBox bytes
   sent-long =
       let v = outbox-valid o valid in
-      length-overlay Layout.outbox-from-offset (places _ _) (filled bs o) (omega (arith, filled-long)) ∙ filled-long
+      length-overlay Layout.outbox-from-offset (offsets _ _) (filled bs o) (omega (arith, filled-long)) ∙ filled-long
 
   pub sent-from : Layout.outboxFrom (Receive.sentBox bs o) ≡ first
   unfolding Receive.sentBox bytes
   sent-from =
-      ap number (overlay-part Layout.outbox-from-offset 0 2 (places _ _) (filled bs o) (omega arith) (omega arith))
+      ap number (overlay-part Layout.outbox-from-offset 0 2 (offsets _ _) (filled bs o) (omega arith) (omega arith))
       ∙ number-bytes 2 _ (omega (arith, first-low))
 
   pub sent-to : Layout.outboxTo (Receive.sentBox bs o) ≡ suc (length bs)
   unfolding Receive.sentBox bytes
   sent-to =
-      ap number (overlay-part Layout.outbox-from-offset 2 2 (places _ _) (filled bs o) (omega arith) (omega arith)) ∙ number-bytes 2 _ (omega arith)
+      ap number (overlay-part Layout.outbox-from-offset 2 2 (offsets _ _) (filled bs o) (omega arith) (omega arith)) ∙ number-bytes 2 _ (omega arith)
 
   -- all behind the two offsets
   pub sent-rest : Same Layout.outbox-terminator-owed-offset Layout.outbox-length (filled bs o) (Receive.sentBox bs o)
   unfolding Receive.sentBox bytes
-  sent-rest = same-after Layout.outbox-from-offset (places _ _) (filled bs o) (omega arith) (omega arith)
+  sent-rest = same-after Layout.outbox-from-offset (offsets _ _) (filled bs o) (omega arith) (omega arith)
 
   pub sent-owed : Layout.outboxTerminatorOwed (Receive.sentBox bs o) ≡ Layout.outboxTerminatorOwed o
   sent-owed =
@@ -380,7 +380,7 @@ module _ (s v : List ℕ) (at : ℕ) (room : at + (Layout.setting-value-offset +
       overlay-part at Layout.setting-value-offset (length v) (Layout.settingBytes next v) s (omega arith) (omega (arith, length-setting next v)) ∙ take-length v
 
 -- what stands before its value is the same
-pub setting-kept : {s t : List ℕ} {at least most : ℕ} → Same at (at + Layout.setting-value-offset) s t → SettingValid s at least most → SettingValid t at least most
+pub setting-kept : {s t : List ℕ} {at shortest longest : ℕ} → Same at (at + Layout.setting-value-offset) s t → SettingValid s at shortest longest → SettingValid t at shortest longest
 setting-kept {at = at} same g =
     let held = number-same same 1 at (omega arith) in
     let size = number-same same 2 (at + Layout.setting-length-offset) (omega arith) in
@@ -391,7 +391,7 @@ module _ (s v : List ℕ) (w : SettingsValid s) (key : ℕ) (h : Limits.Settings
   here = Layout.setting-offset key
 
   pub value-room : Layout.setting-offset key + (Layout.setting-value-offset + length v) ≤ length s
-  value-room = omega (arith, place-within key h, w .long)
+  value-room = omega (arith, offset-within key h, w .long)
 
   pub value-small : length v < 65536
   value-small = omega (arith, longest-short key)
@@ -416,12 +416,12 @@ module _ (s v : List ℕ) (w : validSettings s ≡ true) where
   Left k = validSettings (k .settings) ≡ true
 
   -- a value whose length is right is stored
-  stored-valid : (at least most : ℕ) → (length v ≤ most → least ≤ length v → validSettings (Receive.withValue s at v) ≡ true)
-      → Left (Receive.storingAt s at least most v)
+  stored-valid : (at shortest longest : ℕ) → (length v ≤ longest → shortest ≤ length v → validSettings (Receive.withValue s at v) ≡ true)
+      → Left (Receive.storingAt s at shortest longest v)
   unfolding Receive.storingAt
-  stored-valid at least most f =
-      cond-by Left (ltb (length v) least || ltb most (length v)) _ _ (λ _. w) (λ e.
-      let l = length-right least most (length v) e in
+  stored-valid at shortest longest f =
+      cond-by Left (ltb (length v) shortest || ltb longest (length v)) _ _ (λ _. w) (λ e.
+      let l = length-right shortest longest (length v) e in
       cond-by Left (eqb (Layout.settingEdition s at) Limits.last-edition) _ _ (λ _. w) (λ _. f (l .1) (l .0)))
 
   pub storing-valid : (key : ℕ) → validSettings (Receive.storing s key v .settings) ≡ true
@@ -430,7 +430,7 @@ module _ (s v : List ℕ) (w : validSettings s ≡ true) where
       let g = settings-valid s w in
       cond-by Left (ltb Limits.highest-key key) _ _ (λ _. w) (λ e.
       cond-by Left (ltb key Limits.first-setting) _ _ (λ _. w) (λ f.
-      stored-valid _ _ _ (settings-left s v g key (record { least = ltb-false _ _ f; most = ltb-false _ _ e }))))
+      stored-valid _ _ _ (settings-left s v g key (record { lower = ltb-false _ _ f; upper = ltb-false _ _ e }))))
 
 -- ---- the data of a reply
 

@@ -100,13 +100,13 @@ same-hash f d h =
 
 -- by what the code's test of the hash answered
 module _ (f image d : List ℕ) (v : validFactory f ≡ true) (r : Bool) (e : r ≡ sameRun d 0 f Layout.hash-offset 32) where
-  hash-told : equal (run 0 32 d) (run Layout.hash-offset 32 f) ≡ r
-  hash-told = let l = factory-valid f v .long in sym (e ∙ same-hash f d (omega arith))
+  hash-compared : equal (run 0 32 d) (run Layout.hash-offset 32 f) ≡ r
+  hash-compared = let l = factory-valid f v .long in sym (e ∙ same-hash f d (omega arith))
 
   pub block-same : not r ≡ false → run (numberAt 8 d 32) Limits.longest-block image ≡ blockBytes f image d
   unfolding blockBytes
-  block-same h = rw (hash-told ∙ not-false r h)
+  block-same h = rw (hash-compared ∙ not-false r h)
 
   pub block-other : not r ≡ true → [] ≡ blockBytes f image d
   unfolding blockBytes
-  block-other h = rw (hash-told ∙ not-true r h)
+  block-other h = rw (hash-compared ∙ not-true r h)

@@ -32,10 +32,10 @@ pub length-marked : (m k v : ℕ) → length (bytes 1 m ++ bytes k v) ≡ 1 + k
 length-marked m k v = simp (length-append, length-bytes)
 
 -- as many bytes as there are, up to a bound
-take-least : (n : ℕ) (l : List ℕ) → take (min (length l) n) l ≡ take n l
-take-least n [] = simp take-nil
-take-least zero (x ∷ l) = rw min-zero
-take-least (suc n) (x ∷ l) = rw suc-min-suc (ap (λ (t : List ℕ). x ∷ t) (take-least n l))
+take-min : (n : ℕ) (l : List ℕ) → take (min (length l) n) l ≡ take n l
+take-min n [] = simp take-nil
+take-min zero (x ∷ l) = rw min-zero
+take-min (suc n) (x ∷ l) = rw suc-min-suc (ap (λ (t : List ℕ). x ∷ t) (take-min n l))
 
 -- ---- a record
 
@@ -58,42 +58,42 @@ record-put r d at code from {whole} {kept} low long l w k f g h =
       next-copied at (at + record-kept-offset) (head ++ bytes 2 whole) r (omega arith) d from kept (omega arith) (omega arith),
       k,
       n,
-      take-least,
+      take-min,
     )
     (simp append-assoc)
 
 -- ---- the data behind a key
 
 -- a length that is right, and what its tests say
-pub right-length : (least most n : ℕ) → least ≤ n → n ≤ most → (ltb n least || ltb most n) ≡ false
-right-length least most n h k = rw (le-ltb n least h, le-ltb most n k)
+pub right-length : (shortest longest n : ℕ) → shortest ≤ n → n ≤ longest → (ltb n shortest || ltb longest n) ≡ false
+right-length shortest longest n h k = rw (le-ltb n shortest h, le-ltb longest n k)
 
-pub length-right : (least most n : ℕ) → (ltb n least || ltb most n) ≡ false → (least ≤ n) × (n ≤ most)
-length-right least most n e = by (ltb n least) (ltb most n) refl refl e
+pub length-right : (shortest longest n : ℕ) → (ltb n shortest || ltb longest n) ≡ false → (shortest ≤ n) × (n ≤ longest)
+length-right shortest longest n e = by (ltb n shortest) (ltb longest n) refl refl e
   where
-    by : (t u : Bool) → ltb n least ≡ t → ltb most n ≡ u → (t || u) ≡ false → (least ≤ n) × (n ≤ most)
+    by : (t u : Bool) → ltb n shortest ≡ t → ltb longest n ≡ u → (t || u) ≡ false → (shortest ≤ n) × (n ≤ longest)
     by true u f g e = absurd (false≢true (sym e))
     by false true f g e = absurd (false≢true (sym e))
-    by false false f g e = (ltb-false n least f, ltb-false most n g)
+    by false false f g e = (ltb-false n shortest f, ltb-false longest n g)
 
-module _ (s d : List ℕ) (at least most : ℕ) where
-  pub value-short : length d - 1 < least → keyStored 3 s ≡ storingAt s at least most (drop 1 d)
+module _ (s d : List ℕ) (at shortest longest : ℕ) where
+  pub value-short : length d - 1 < shortest → keyStored 3 s ≡ storingAt s at shortest longest (drop 1 d)
   unfolding storingAt
-  value-short h = rw (length-drop 1 d, lt-ltb (length d - 1) least h)
+  value-short h = rw (length-drop 1 d, lt-ltb (length d - 1) shortest h)
 
-  pub value-long : most < length d - 1 → keyStored 3 s ≡ storingAt s at least most (drop 1 d)
+  pub value-long : longest < length d - 1 → keyStored 3 s ≡ storingAt s at shortest longest (drop 1 d)
   unfolding storingAt
-  value-long h = rw (length-drop 1 d, lt-ltb most (length d - 1) h, or-true)
+  value-long h = rw (length-drop 1 d, lt-ltb longest (length d - 1) h, or-true)
 
   -- by the edition that was read
-  module _ {edition : ℕ} (enough : least ≤ length d - 1) (short : length d - 1 ≤ most) (e : edition ≡ settingEdition s at) where
-    pub edition-last : edition ≡ last-edition → keyStored 4 s ≡ storingAt s at least most (drop 1 d)
+  module _ {edition : ℕ} (enough : shortest ≤ length d - 1) (short : length d - 1 ≤ longest) (e : edition ≡ settingEdition s at) where
+    pub edition-last : edition ≡ last-edition → keyStored 4 s ≡ storingAt s at shortest longest (drop 1 d)
     unfolding storingAt
-    edition-last f = rw (length-drop 1 d, right-length least most (length d - 1) enough short, ← e, eq-eqb edition last-edition f)
+    edition-last f = rw (length-drop 1 d, right-length shortest longest (length d - 1) enough short, ← e, eq-eqb edition last-edition f)
 
-    pub value-put : {t u v : List ℕ} → 1 ≤ length d → at + (setting-value-offset + most) ≤ length s → (edition ≡ last-edition → ⊥)
+    pub value-put : {t u v : List ℕ} → 1 ≤ length d → at + (setting-value-offset + longest) ≤ length s → (edition ≡ last-edition → ⊥)
         → t ≡ put (at + setting-edition-offset) (bytes 4 (edition + 1)) (set s at 1) → u ≡ put (at + setting-length-offset) (bytes 2 (length d - 1)) t
-        → v ≡ copied d 1 (length d - 1) u (at + setting-value-offset) → keyStored 0 v ≡ storingAt s at least most (drop 1 d)
+        → v ≡ copied d 1 (length d - 1) u (at + setting-value-offset) → keyStored 0 v ≡ storingAt s at shortest longest (drop 1 d)
     unfolding storingAt withValue
     value-put one l o f g h =
         let n = length (drop 1 d) in
@@ -106,7 +106,7 @@ module _ (s d : List ℕ) (at least most : ℕ) where
           g,
           f,
           ← k,
-          right-length least most n (omega arith) (omega arith),
+          right-length shortest longest n (omega arith) (omega arith),
           ← e,
           ne-eqb edition last-edition o,
           marked 1 4 (edition + 1) at s (omega arith) (omega arith),

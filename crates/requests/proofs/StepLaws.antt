@@ -1,4 +1,4 @@
--- Laws of a turn: the reader's state stays valid, what a frame comes to by its verdict, and what is left of a piece.
+-- Laws of an iteration: the reader's state stays valid, what a frame comes to by its verdict, and what is left of a piece.
 -- Assumes nothing.
 use mathlib.Core.Path.{_≡_, refl, ap, _∙_}
 use mathlib.Core.Bool.{Bool, true, false, cond, and-eq-true-iff}
@@ -49,7 +49,7 @@ valid-parts p v = rw (v .reader, v .factory) (v .inner)
 record Read (piece : List ℕ) (o : LineReader.Outcome) : Type 0 where
   ready : Ready (o .state)
   most : o .used ≤ length piece
-  least : 0 < length piece → 1 ≤ o .used
+  reads-one : 0 < length piece → 1 ≤ o .used
 
 module _ (s : List ℕ) (b : ℕ) (bs : List ℕ) where
   read-next : LineReader.readPiece s (suc b ∷ bs) ≡ LineReader.next (LineReader.readPiece (LineReader.pushed s (suc b)) bs)
@@ -58,14 +58,14 @@ module _ (s : List ℕ) (b : ℕ) (bs : List ℕ) where
 
 read-leaves : (piece s : List ℕ) → Ready s → Read piece (LineReader.readPiece s piece)
 unfolding LineReader.readPiece LineReader.next
-read-leaves [] s r = record { ready = r; most = omega arith; least = λ h. h }
+read-leaves [] s r = record { ready = r; most = omega arith; reads-one = λ h. h }
 read-leaves (zero ∷ bs) s r =
     let f = finish-leaves s (r .0) in
-    record { ready = (omega arith, omega arith); most = omega arith; least = λ h. omega arith }
+    record { ready = (omega arith, omega arith); most = omega arith; reads-one = λ h. omega arith }
 read-leaves (suc b ∷ bs) s r =
     let p = ready-pushed s (suc b) r in
     let q = read-leaves bs (LineReader.pushed s (suc b)) (omega arith, p .1) in
-    rw (read-next s b bs) (record { ready = q .ready; most = omega (arith, q .most); least = λ h. omega arith })
+    rw (read-next s b bs) (record { ready = q .ready; most = omega (arith, q .most); reads-one = λ h. omega arith })
 
 pub read-valid : (s piece : List ℕ) → LineReader.valid s ≡ true → LineReader.valid (LineReader.readPiece s piece .state) ≡ true
 read-valid s piece v = ready-valid _ (read-leaves piece s (valid-ready s v) .ready)
@@ -206,18 +206,18 @@ pub settled-message : (image f : List ℕ) (i : Receive.Inner) (reader : List �
 unfolding Receive.ended Receive.innerAfter Receive.verdictOf
 settled-message image f i reader version sequence command n e h w = rw e (rw h at w)
 
--- ---- a turn
+-- ---- an iteration
 
--- what is left of a piece is fed to the parts that a turn leaves
-pub turn-rest : (image piece : List ℕ) (p : Parts)
+-- what is left of a piece is fed to the parts that an iteration leaves
+pub iteration-rest : (image piece : List ℕ) (p : Parts)
     → let o = LineReader.readPiece (p .reader) piece in
     Receive.fed image p piece ≡ Receive.fed image (Receive.answered image p (o .state) (o .answer)) (drop (o .used) piece)
 unfolding LineReader.readPiece LineReader.next Receive.fed Receive.feed Receive.answered Receive.innerAfter Receive.verdictOf
-turn-rest image [] p = refl
-turn-rest image (zero ∷ bs) p = refl
-turn-rest image (suc b ∷ bs) p =
+iteration-rest image [] p = refl
+iteration-rest image (zero ∷ bs) p = refl
+iteration-rest image (suc b ∷ bs) p =
     rw (read-next (p .reader) b bs, ne-eqb (suc b) 0 (λ e. omega arith))
-    (turn-rest image bs (Receive.partsWith p (LineReader.pushed (p .reader) (suc b)) (Receive.innerOf p)))
+    (iteration-rest image bs (Receive.partsWith p (LineReader.pushed (p .reader) (suc b)) (Receive.innerOf p)))
 
 module _ (image piece : List ℕ) (p : Parts) (v : Receive.validParts p ≡ true) where
   abbrev read : LineReader.Outcome
@@ -268,7 +268,7 @@ pub over : {image piece : List ℕ} {p₀ p : Parts} {at : ℕ} → Held image p
 unfolding Receive.receiptReport Receive.fed
 over {piece = piece} h l = rw (h .same, drop-of-length-le piece l)
 
--- a turn at an offset of the piece
+-- an iteration at an offset of the piece
 module _ {image piece : List ℕ} {p₀ p p' : Parts} {at : ℕ} {n : ℕ} {g : Receive.Ended} (h : Held image piece p₀ p at) (l : at < length piece)
     (e : record { used = n; ended = g; parts = p' } ≡ Receive.validStep image p (take (length piece - at) (drop at piece))) where
   abbrev left : List ℕ
@@ -284,7 +284,7 @@ module _ {image piece : List ℕ} {p₀ p p' : Parts} {at : ℕ} {n : ℕ} {g : 
       let u : n ≡ LineReader.readPiece (p .reader) left .used = ap (λ (d : Receive.StepDone). d .used) by-left in
       let k : length left ≡ length piece - at = length-drop at piece in
       let m = w .most in
-      let o = w .least (omega arith) in
+      let o = w .reads-one (omega arith) in
       (omega arith, omega arith)
 
   pub went : Receive.validParts p' ≡ true → length (p' .reader) ≡ length (p .reader) → length (p' .outbox) ≡ length (p .outbox)
@@ -296,7 +296,7 @@ module _ {image piece : List ℕ} {p₀ p p' : Parts} {at : ℕ} {n : ℕ} {g : 
       record {
         within = valid-step-used .1;
         valid = v;
-        same = h .same ∙ rw (turn-rest image left p, ← u, ← q, drop-drop);
+        same = h .same ∙ rw (iteration-rest image left p, ← u, ← q, drop-drop);
         reader-kept = a ∙ h .reader-kept;
         outbox-kept = b ∙ h .outbox-kept;
         settings-kept = c ∙ h .settings-kept;

@@ -157,8 +157,8 @@ abbrev pub keyStored : ℕ → List ℕ → KeyStored
 keyStored n s = record { result = n; settings = s }
 
 unfoldable pub storingAt : List ℕ → ℕ → ℕ → ℕ → List ℕ → KeyStored
-storingAt s at least most v =
-    cond (ltb (length v) least || ltb most (length v)) (keyStored 3 s)
+storingAt s at shortest longest v =
+    cond (ltb (length v) shortest || ltb longest (length v)) (keyStored 3 s)
     (cond (eqb (Layout.settingEdition s at) Limits.last-edition) (keyStored 4 s)
     (keyStored 0 (withValue s at v)))
 

@@ -33,22 +33,22 @@ fn store(settings: &mut [u8], key: u8, data: &[u8]) -> u8
         return 2;
     }
     let at = layout::setting_offset(key);
-    let least = layout::shortest_setting(key);
-    store_at(settings, at, least, layout::longest_setting(key), data)
+    let shortest = layout::shortest_setting(key);
+    store_at(settings, at, shortest, layout::longest_setting(key), data)
 }
 
 // Stores the data behind the key in the setting at an offset, if their length is right.
-fn store_at(settings: &mut [u8], at: usize, least: usize, most: usize, data: &[u8]) -> u8
-    requires { ⌜ at + (setting-value-offset + most) ≤ length (now settings) ⌝ }
-    requires { ⌜ most < 65536 ⌝ }
+fn store_at(settings: &mut [u8], at: usize, shortest: usize, longest: usize, data: &[u8]) -> u8
+    requires { ⌜ at + (setting-value-offset + longest) ≤ length (now settings) ⌝ }
+    requires { ⌜ longest < 65536 ⌝ }
     requires { ⌜ 1 ≤ length (now «data») ⌝ }
-    ensures { λ r. ⌜ keyStored r (now (settings .exit)) ≡ storingAt (now (settings .entry)) at least most (drop 1 (now («data» .entry))) ⌝ }
+    ensures { λ r. ⌜ keyStored r (now (settings .exit)) ≡ storingAt (now (settings .entry)) at shortest longest (drop 1 (now («data» .entry))) ⌝ }
 {
     let n = data.len() - 1;
-    if n < least {
+    if n < shortest {
         return 3;
     }
-    if most < n {
+    if longest < n {
         return 3;
     }
     let edition = octets::read_u32(settings, at + layout::SETTING_EDITION_OFFSET);

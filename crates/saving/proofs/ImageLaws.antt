@@ -13,7 +13,7 @@ use Rattle.octets.proofs.Overlay.{length-run, overlay-next, copied-fits}
 use Rattle.supervisor.specs.Limits.{first-setting, SettingsKey, longest-setting}
 use Rattle.supervisor.specs.Layout.{setting-offset, setting-value-offset, settingHeld, settingEdition, settingLength}
 use Rattle.supervisor.specs.Valid.{validSettings}
-use Rattle.supervisor.proofs.OffsetLaws.{place-within}
+use Rattle.supervisor.proofs.OffsetLaws.{offset-within}
 use Rattle.supervisor.proofs.ValidLaws.{settings-valid}
 use Rattle.saving.specs.Saving.{saved-count, end-mark, recordOf}
 use Rattle.saving.specs.Calls.{recordBytes, recordsFrom, imageBytes, longest-image}
@@ -40,7 +40,7 @@ module _ (s : List ℕ) (key at : ℕ) {held : ℕ} (p : at ≡ setting-offset k
   held-record {n} f h valid k =
       let v = settings-valid s valid in
       let short : settingLength s at ≤ longest-setting key = rw p (v .each key k .size) in
-      let within : at + setting-value-offset + n ≤ length s = omega (arith, place-within key k, v .long) in
+      let within : at + setting-value-offset + n ≤ length s = omega (arith, offset-within key k, v .long) in
       let r = a-record n f h in
       record {
         within = within;
@@ -93,7 +93,7 @@ image-short s valid =
     simp length-append
     (omega (
       arith,
-      record-most s 3 valid (record { least = omega arith; most = omega arith }),
-      record-most s 4 valid (record { least = omega arith; most = omega arith }),
-      record-most s 5 valid (record { least = omega arith; most = omega arith }),
+      record-most s 3 valid (record { lower = omega arith; upper = omega arith }),
+      record-most s 4 valid (record { lower = omega arith; upper = omega arith }),
+      record-most s 5 valid (record { lower = omega arith; upper = omega arith }),
     ))

@@ -17,14 +17,14 @@ use Rattle.octets.proofs.SameBytes.{Same, same-before, same-after, number-same}
 use Rattle.supervisor.specs.Limits.{first-setting, SettingsKey, longest-setting, shortest-settings, shortest-setting}
 use Rattle.supervisor.specs.Layout.{setting-offset, setting-length-offset, setting-value-offset, settingBytes}
 use Rattle.supervisor.specs.Valid.{validSettings}
-use Rattle.supervisor.proofs.OffsetLaws.{place-within, longest-short, Lies, setting-lies}
+use Rattle.supervisor.proofs.OffsetLaws.{offset-within, longest-short, Lies, setting-lies}
 use Rattle.supervisor.proofs.ValidLaws.{SettingValid, SettingsValid, settings-valid, valid-settings}
 use Rattle.saving.specs.Saving.{highest-saved, saved-count, lengthAt, entryAt, Entry, Read, fault, good, read}
 use Rattle.saving.specs.Calls.{Restore, cleared, put, putAll, restoringBy, restoring, entriesIn}
 use Rattle.saving.proofs.StepLaws.{Passed}
 use Rattle.saving.proofs.ReadLaws.{entries-each}
 use Rattle.saving.proofs.StoreLaws.{length-setting, whole-key}
-use Rattle.saving.proofs.PlaceLaws.{saved-key}
+use Rattle.saving.proofs.RestoreLaws.{saved-key}
 
 -- the shortest value of a saved key is empty
 saved-shortest : (key : ℕ) → key ≤ highest-saved → shortest-setting key ≡ 0
@@ -39,13 +39,13 @@ saved-shortest key h = by (key - first-setting) (omega arith)
 
 -- ---- bytes put over a setting
 
-module _ (s xs : List ℕ) (key : ℕ) (w : SettingsValid s) (k : SettingsKey key) (least : setting-value-offset ≤ length xs)
+module _ (s xs : List ℕ) (key : ℕ) (w : SettingsValid s) (k : SettingsKey key) (head : setting-value-offset ≤ length xs)
     (most : length xs ≤ setting-value-offset + longest-setting key) where
   abbrev here : ℕ
   here = setting-offset key
 
   put-room : here + length xs ≤ length s
-  put-room = omega (arith, place-within key k, w .long)
+  put-room = omega (arith, offset-within key k, w .long)
 
   pub put-long : length (overlay here xs s) ≡ length s
   put-long = length-overlay here xs s put-room
@@ -105,7 +105,7 @@ pub record Allowed (e : Entry) : Type 0 where
 pub passed-allowed : (image : List ℕ) {before at key there : ℕ} → Passed image before at key there → Allowed (entryAt image at)
 passed-allowed image {at = at} p =
     let l = length-run (at + 9) (lengthAt image at) image (omega (arith, p .whole .complete)) in
-    record { its-key = whole-key image at (p .whole); saved = p .whole .most; short = omega (arith, l, p .whole .short) }
+    record { its-key = whole-key image at (p .whole); saved = p .whole .upper; short = omega (arith, l, p .whole .short) }
 
 pub entries-allowed : (image : List ℕ) → Each Allowed (entriesIn (read image))
 entries-allowed image = entries-each image Allowed (λ before at key there p. passed-allowed image p)

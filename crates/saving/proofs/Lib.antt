@@ -3,6 +3,6 @@
 pub mod StepLaws
 pub mod ReadLaws
 pub mod StoreLaws
-pub mod PlaceLaws
+pub mod RestoreLaws
 pub mod ImageLaws
 pub mod KeptLaws

@@ -1,4 +1,4 @@
--- Reading an image goes on from offset to offset: the turns are always enough.
+-- Reading an image goes on from offset to offset: the iterations are always enough.
 -- Assumes nothing.
 use mathlib.Core.Path.{_≡_, refl, sym, ap, _∙_}
 use mathlib.Core.Bool.{true, false, false≢true}
@@ -15,24 +15,24 @@ use Rattle.saving.specs.Saving.{entryAt, step, readBy, readIn, readFrom,
 use Rattle.saving.specs.Calls.{faultIn, entriesIn}
 use Rattle.saving.proofs.StepLaws.{Passed, Sound, step-sound, passed}
 
--- n turns are enough for the records of keys above `before`
+-- n iterations are enough for the records of keys above `before`
 abbrev Enough : ℕ → ℕ → Type 0
 Enough n before = (key : ℕ) → first-setting ≤ key → key ≤ highest-saved → before < key → highest-saved < key + n
 
 count-enough : (before : ℕ) → Enough saved-count before
-count-enough before key least most above = omega arith
+count-enough before key lower upper above = omega arith
 
 module _ (image : List ℕ) where
-  -- one turn fewer is enough behind a record
+  -- one iteration fewer is enough behind a record
   fewer : (n before at : ℕ) {key there : ℕ} → Enough (suc n) before → step image before at ≡ to key there → Enough n key
   fewer n before at h e =
       let p = passed image before at e in
-      λ j least most above. omega (arith, h _ (p .whole .least) (p .whole .most) (p .above), p .its-key)
+      λ j lower upper above. omega (arith, h _ (p .whole .lower) (p .whole .upper) (p .above), p .its-key)
 
   none-left : (before at : ℕ) {key there : ℕ} → Enough 0 before → step image before at ≡ to key there → ⊥
   none-left before at h e =
       let p = passed image before at e in
-      omega (arith, h _ (p .whole .least) (p .whole .most) (p .above), p .whole .most)
+      omega (arith, h _ (p .whole .lower) (p .whole .upper) (p .above), p .whole .upper)
 
   -- what is read depends on the rest only behind a record
   rest-same : (next other : ℕ → ℕ → Read) (before at : ℕ)
@@ -45,21 +45,21 @@ module _ (image : List ℕ) where
       by ended f = refl
       by (to key there) f = ap (ahead (entryAt image at)) (f key there refl)
 
-  -- more turns change nothing
-  pub turns-enough : (n m before at : ℕ) → Enough n before → Enough m before → readIn (suc n) image before at ≡ readIn (suc m) image before at
+  -- more iterations change nothing
+  pub iterations-enough : (n m before at : ℕ) → Enough n before → Enough m before → readIn (suc n) image before at ≡ readIn (suc m) image before at
   unfolding readIn
-  turns-enough zero m before at h k = rest-same (readIn zero image) (readIn m image) before at (λ key there e. absurd (none-left before at h e))
-  turns-enough (suc n) zero before at h k = rest-same (readIn (suc n) image) (readIn zero image) before at (λ key there e. absurd (none-left before at k e))
-  turns-enough (suc n) (suc m) before at h k =
+  iterations-enough zero m before at h k = rest-same (readIn zero image) (readIn m image) before at (λ key there e. absurd (none-left before at h e))
+  iterations-enough (suc n) zero before at h k = rest-same (readIn (suc n) image) (readIn zero image) before at (λ key there e. absurd (none-left before at k e))
+  iterations-enough (suc n) (suc m) before at h k =
       rest-same (readIn (suc n) image) (readIn (suc m) image) before at
-      (λ key there e. turns-enough n m key there (fewer n before at h e) (fewer m before at k e))
+      (λ key there e. iterations-enough n m key there (fewer n before at h e) (fewer m before at k e))
 
   -- reading goes on by what stands at the offset
   pub read-at : (before at : ℕ) {s : Step} → step image before at ≡ s → readFrom image before at ≡ readBy (readFrom image) image at s
   unfolding readFrom readIn
   read-at before at e =
       rest-same (readIn saved-count image) (readFrom image) before at
-      (λ key there f. turns-enough (highest-saved - first-setting) saved-count key there (fewer _ before at (count-enough before) f) (count-enough key))
+      (λ key there f. iterations-enough (highest-saved - first-setting) saved-count key there (fewer _ before at (count-enough before) f) (count-enough key))
       ∙ ap (readBy (readFrom image) image at) e
 
 -- ---- what holds of all that is read, by what stands at each offset
@@ -68,15 +68,15 @@ module _ (image : List ℕ) (P : ℕ → ℕ → Read → Type 0)
     (at-bad : (before at n there : ℕ) → step image before at ≡ bad n there → P before at (fault n there))
     (at-end : (before at : ℕ) → step image before at ≡ ended → P before at (good []))
     (at-record : (before at key there : ℕ) (r : Read) → step image before at ≡ to key there → P key there r → P before at (ahead (entryAt image at) r)) where
-  by-turns : (n before at : ℕ) → Enough n before → P before at (readIn (suc n) image before at)
+  by-iterations : (n before at : ℕ) → Enough n before → P before at (readIn (suc n) image before at)
   unfolding readIn
-  by-turns zero before at h = by (step image before at) refl
+  by-iterations zero before at h = by (step image before at) refl
     where
       by : (s : Step) → step image before at ≡ s → P before at (readBy (readIn zero image) image at s)
       by (bad n there) e = at-bad before at n there e
       by ended e = at-end before at e
       by (to key there) e = absurd (none-left image before at h e)
-  by-turns (suc n) before at h = by (by-turns n) (step image before at) refl
+  by-iterations (suc n) before at h = by (by-iterations n) (step image before at) refl
     where
       by : ((before at : ℕ) → Enough n before → P before at (readIn (suc n) image before at)) → (s : Step) → step image before at ≡ s
           → P before at (readBy (readIn (suc n) image) image at s)
@@ -86,7 +86,7 @@ module _ (image : List ℕ) (P : ℕ → ℕ → Read → Type 0)
 
   pub reading-by : (before at : ℕ) → P before at (readFrom image before at)
   unfolding readFrom
-  reading-by before at = by-turns saved-count before at (count-enough before)
+  reading-by before at = by-iterations saved-count before at (count-enough before)
 
 -- of every record
 pub entries-each : (image : List ℕ) (Q : Entry → Type 0)

@@ -173,7 +173,7 @@ module _ (image : List ℕ) (before at : ℕ) where
       cond-by P (eqb (checksumAt image at) (checksum (bodyAt image at))) _ _
       (λ sum. record {
         mark = equal-true _ _ m;
-        whole = record { least = k .0; most = k .1; short = ltb-false _ _ short; complete = whole };
+        whole = record { lower = k .0; upper = k .1; short = ltb-false _ _ short; complete = whole };
         above = k .2;
         sum = eqb-true _ _ sum;
         its-key = refl;

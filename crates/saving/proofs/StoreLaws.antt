@@ -11,7 +11,7 @@ use Rattle.octets.proofs.Overlay.{length-run, overlay-one, overlay-inside, copi
 use Rattle.line.specs.Checksum.{checksum}
 use Rattle.supervisor.specs.Limits.{SettingsKey}
 use Rattle.supervisor.specs.Layout.{setting-value-offset, setting-offset, settings-length, settingBytes}
-use Rattle.supervisor.proofs.OffsetLaws.{place-within}
+use Rattle.supervisor.proofs.OffsetLaws.{offset-within}
 use Rattle.saving.specs.Saving.{record-mark, recordBody, recordOf, keyAt, editionAt, lengthAt, entryAt}
 use Rattle.saving.specs.Calls
 use Rattle.saving.specs.Calls.{settingHead, Whole}
@@ -48,14 +48,14 @@ setting-put at edition n from src s f room =
 -- a record of an image in its setting
 module _ (image : List ℕ) (at : ℕ) (w : Whole image at) where
   pub whole-key : SettingsKey (keyAt image at)
-  whole-key = record { least = w .least; most = omega (arith, w .most) }
+  whole-key = record { lower = w .lower; upper = omega (arith, w .upper) }
 
   pub whole-room : setting-offset (keyAt image at) + (setting-value-offset + lengthAt image at) ≤ settings-length
-  whole-room = omega (arith, place-within (keyAt image at) whole-key, w .short)
+  whole-room = omega (arith, offset-within (keyAt image at) whole-key, w .short)
 
-  pub entry-put : (s : List ℕ) {n key place edition : ℕ} {t u : List ℕ} → n ≡ lengthAt image at → key ≡ keyAt image at → place ≡ setting-offset key
-      → edition ≡ editionAt image at → settings-length ≤ length s → t ≡ overlay place (settingHead 1 edition n) s
-      → u ≡ copied image (at + 9) n t (place + setting-value-offset) → u ≡ Calls.put (entryAt image at) s
+  pub entry-put : (s : List ℕ) {n key offset edition : ℕ} {t u : List ℕ} → n ≡ lengthAt image at → key ≡ keyAt image at → offset ≡ setting-offset key
+      → edition ≡ editionAt image at → settings-length ≤ length s → t ≡ overlay offset (settingHead 1 edition n) s
+      → u ≡ copied image (at + 9) n t (offset + setting-value-offset) → u ≡ Calls.put (entryAt image at) s
   entry-put s e k p d room f g =
       rw (g, f, p, k, e, d)
       (setting-put (setting-offset (keyAt image at)) (editionAt image at) (lengthAt image at) (at + 9) image s (omega (arith, w .complete)) (omega (arith, whole-room)))

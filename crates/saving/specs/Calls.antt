@@ -143,7 +143,7 @@ settingHead held edition n = bytes 1 held ++ (bytes 4 edition ++ bytes 2 n)
 
 -- at an offset stands a record of a saved setting's key that is complete and not too long
 pub record Whole (image : List ℕ) (at : ℕ) : Type 0 where
-  pub least : Limits.first-setting ≤ Saving.keyAt image at
-  pub most : Saving.keyAt image at ≤ Saving.highest-saved
+  pub lower : Limits.first-setting ≤ Saving.keyAt image at
+  pub upper : Saving.keyAt image at ≤ Saving.highest-saved
   pub short : Saving.lengthAt image at ≤ Limits.longest-setting (Saving.keyAt image at)
   pub complete : at + (11 + Saving.lengthAt image at) ≤ length image

@@ -139,7 +139,7 @@ readIn zero image before at = fault 34 (length image)
 readIn (suc n) image before at = readBy (readIn n image) image at (step image before at)
 
 -- behind a record of the key `before`, or 0 where there is none. Keys rise, so that no image has more records than there are saved settings, and more
--- turns change nothing (`turns-enough`)
+-- iterations change nothing (`iterations-enough`)
 unfoldable pub readFrom : List ℕ → ℕ → ℕ → Read
 readFrom image before at = readIn (suc saved-count) image before at
 

@@ -25,22 +25,22 @@ module _ (image : List ℕ) where
       → drop at image ≡ recordFor key (record { edition = edition; value = o }) ++ imageFrom (suc key) xs
       → ((before at : ℕ) → before < suc key → drop at image ≡ imageFrom (suc key) xs → readFrom image before at ≡ good (entriesOf (suc key) xs))
       → readFrom image before at ≡ good (aheadOf key edition o (entriesOf (suc key) xs))
-  record-first xs key before at edition none h least most s e rest = rest before at (omega arith) e
-  record-first xs key before at edition (some v) h least most s e rest =
+  record-first xs key before at edition none h lower upper s e rest = rest before at (omega arith) e
+  record-first xs key before at edition (some v) h lower upper s e rest =
       let behind = imageFrom (suc key) xs in
-      read-at image before at (record-read image at key edition v behind e least most (s .0) (s .1) before h)
+      read-at image before at (record-read image at key edition v behind e lower upper (s .0) (s .1) before h)
       ∙ rw (
-        rest key (at + (11 + length v)) (omega arith) (rest-here image at key edition v behind e least most (s .0) (s .1)),
-        entry-read image at key edition v behind e least most (s .0) (s .1),
+        rest key (at + (11 + length v)) (omega arith) (rest-here image at key edition v behind e lower upper (s .0) (s .1)),
+        entry-read image at key edition v behind e lower upper (s .0) (s .1),
       )
 
   -- from a key on
   saved-read-from : (xs : Settings) (key before at : ℕ) → before < key → first-setting ≤ key → key + length xs ≤ suc highest-saved → Savable key xs
       → drop at image ≡ imageFrom key xs → readFrom image before at ≡ good (entriesOf key xs)
   unfolding imageFrom entriesOf
-  saved-read-from [] key before at h least most s e = read-at image before at (end-read image before at e)
-  saved-read-from (x ∷ xs) key before at h least most s e =
-      record-first xs key before at (x .edition) (x .value) h least (omega arith) (s .0) e
+  saved-read-from [] key before at h lower upper s e = read-at image before at (end-read image before at e)
+  saved-read-from (x ∷ xs) key before at h lower upper s e =
+      record-first xs key before at (x .edition) (x .value) h lower (omega arith) (s .0) e
       (λ before at h e. saved-read-from xs (suc key) before at h (omega arith) (omega arith) (s .1) e)
 
 module _ (xs : Settings) (long : saved-count ≤ length xs) (savable : Savable first-setting (take saved-count xs)) where
@@ -76,7 +76,7 @@ module _ (image : List ℕ) (byte : Each Byte image) where
   unfolding written
   exact-more before at key there (fault n offset) p h = tt
   exact-more before at key there (good es) p h =
-      (record-exact image byte p ∙ rw (h .0), (p .above, p .whole .least, p .whole .most, rw (p .its-key) at (h .1)))
+      (record-exact image byte p ∙ rw (h .0), (p .above, p .whole .lower, p .whole .upper, rw (p .its-key) at (h .1)))
 
   exact-end : (before at : ℕ) → Sound image before at ended → Exact before at (good [])
   unfolding written

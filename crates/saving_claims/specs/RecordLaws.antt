@@ -39,7 +39,7 @@ end-read image before at e =
 -- ---- a record that was written
 
 module _ (image : List ℕ) (at key edition : ℕ) (v rest : List ℕ) (e : drop at image ≡ recordOf key edition v ++ rest)
-    (least : first-setting ≤ key) (most : key ≤ highest-saved) (short : length v ≤ longest-setting key) (small : edition < 256 ^ 4) where
+    (lower : first-setting ≤ key) (upper : key ≤ highest-saved) (short : length v ≤ longest-setting key) (small : edition < 256 ^ 4) where
   abbrev size : ℕ
   size = 11 + length v
 
@@ -95,7 +95,7 @@ module _ (image : List ℕ) (at key edition : ℕ) (v rest : List ℕ) (e : drop
       sym (record-good image at (length v) key (longest-setting key) (sym size-here) (sym key-here) refl (omega (arith, long)) short _ _ long
       (ap checksum (sym body-here)) (sym sum-here) refl
       ∙ key-good image before at (omega (arith, long)) refl no-end refl (rw a-mark) (omega (arith, long)) (sym key-here) refl
-      (rw (le-leb first-setting key least, le-leb key highest-saved most, lt-ltb before key above)))
+      (rw (le-leb first-setting key lower, le-leb key highest-saved upper, lt-ltb before key above)))
 
   pub entry-read : entryAt image at ≡ record { key = key; edition = edition; value = v }
   entry-read = cc (key-here, edition-here, value-here)

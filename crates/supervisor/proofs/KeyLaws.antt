@@ -54,9 +54,9 @@ module _ (f s : List ℕ) (most : ℕ) where
   unfolding settingAt valueAt
   setting-short at h = cond-by Short (eqb (Layout.settingHeld s at) 1) _ _ (λ _. within-short most (at + Layout.setting-value-offset) _ s h) (λ _. omega arith)
 
-  place-short : (key : ℕ) → FactoryValid f → SettingsValid s → key ≤ highest-key → Short (locationOf f s key)
+  location-short : (key : ℕ) → FactoryValid f → SettingsValid s → key ≤ highest-key → Short (locationOf f s key)
   unfolding locationOf valueAt
-  place-short key v w h =
+  location-short key v w h =
       cond-by Short (eqb key 0) _ _ (λ _. within-short most Layout.pong-offset 4 f (omega arith)) (λ a.
       cond-by Short (eqb key 1) _ _ (λ _. within-short most Layout.image-id-offset (Layout.imageIdLength f) f (omega arith)) (λ b.
       cond-by Short (eqb key 2) _ _ (λ _. within-short most Layout.item-count-offset 8 f (omega arith)) (λ c.
@@ -68,4 +68,4 @@ unfolding lookupValue
 value-short f s key most v w =
     rw (v, w)
     (cond-by (λ l. length l ≤ Limits.longest-value) (ltb Limits.highest-key key) [] _ (λ _. omega arith) (λ e.
-    place-short f s most key (factory-valid f v) (settings-valid s w) (ltb-false _ _ e)))
+    location-short f s most key (factory-valid f v) (settings-valid s w) (ltb-false _ _ e)))

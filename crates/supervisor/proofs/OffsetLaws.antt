@@ -1,4 +1,4 @@
--- The places of the settings: they don't overlap and lie within the store; and the longest values.
+-- The offsets of the settings: they don't overlap and lie within the store; and the longest values.
 -- Assumes nothing.
 use mathlib.Core.Path.{_≡_, refl}
 use mathlib.Core.Logic.{_⊎_, inl, inr}
@@ -47,16 +47,16 @@ none-shortest (suc (suc zero)) h = refl
 none-shortest (suc (suc (suc zero))) h = absurd (h refl)
 none-shortest (suc (suc (suc (suc i)))) h = refl
 
-pub place-short : (key : ℕ) → setting-offset key ≤ settings-length
+pub offset-short : (key : ℕ) → setting-offset key ≤ settings-length
 unfolding setting-offset
-place-short key = size-within longest-settings (key - first-setting)
+offset-short key = size-within longest-settings (key - first-setting)
 
-place-apart : (j k : ℕ) → SettingsKey j → j < k → setting-offset j + (setting-value-offset + longest-setting j) ≤ setting-offset k
+offset-apart : (j k : ℕ) → SettingsKey j → j < k → setting-offset j + (setting-value-offset + longest-setting j) ≤ setting-offset k
 unfolding setting-offset longest-setting
-place-apart j k h l = size-apart longest-settings (j - first-setting) (k - first-setting) (omega arith) (omega arith)
+offset-apart j k h l = size-apart longest-settings (j - first-setting) (k - first-setting) (omega arith) (omega arith)
 
-pub place-within : (key : ℕ) → SettingsKey key → setting-offset key + (setting-value-offset + longest-setting key) ≤ settings-length
-place-within key h = omega (arith, place-apart key (key + 1) h (omega arith), place-short (key + 1))
+pub offset-within : (key : ℕ) → SettingsKey key → setting-offset key + (setting-value-offset + longest-setting key) ≤ settings-length
+offset-within key h = omega (arith, offset-apart key (key + 1) h (omega arith), offset-short (key + 1))
 
 -- the setting of a key lies before another's, or is the same, or lies behind it
 abbrev pub Lies : ℕ → ℕ → Type 0
@@ -69,10 +69,10 @@ pub setting-lies : (j k : ℕ) → SettingsKey j → SettingsKey k → Lies j k
 setting-lies j k h i = by (ltb j k) (ltb k j) refl refl
   where
     by : (t u : Bool) → ltb j k ≡ t → ltb k j ≡ u → Lies j k
-    by true u e f = inl (place-apart j k h (ltb-true j k e))
-    by false true e f = inr (inr (place-apart k j i (ltb-true k j f)))
+    by true u e f = inl (offset-apart j k h (ltb-true j k e))
+    by false true e f = inr (inr (offset-apart k j i (ltb-true k j f)))
     by false false e f = inr (inl (omega (arith, ltb-false j k e, ltb-false k j f)))
 
 -- a key that is none of the factory store's
 pub settings-key : (key : ℕ) → eqb key 0 ≡ false → eqb key 1 ≡ false → eqb key 2 ≡ false → key ≤ highest-key → SettingsKey key
-settings-key key e f g h = record { least = omega (arith, eqb-false key 0 e, eqb-false key 1 f, eqb-false key 2 g); most = h }
+settings-key key e f g h = record { lower = omega (arith, eqb-false key 0 e, eqb-false key 1 f, eqb-false key 2 g); upper = h }

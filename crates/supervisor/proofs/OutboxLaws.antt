@@ -60,11 +60,11 @@ module _ (o room : List ℕ) {from to n : ℕ} (valid : validOutbox o ≡ true) 
   outbox-after p =
       let at = outbox-bytes-offset + from in
       let h = there in
-      let place = bytes 2 (from + n) in
-      let k : length place ≡ 2 = length-bytes 2 (from + n) in
+      let offset = bytes 2 (from + n) in
+      let k : length offset ≡ 2 = length-bytes 2 (from + n) in
       let q : length (run at n o) ≡ n = length-run at n o h in
-      let l : length (overlay outbox-from-offset place o) ≡ length o = length-overlay outbox-from-offset place o (omega arith) in
-      rw (← same, ← first, put-fits outbox-from-offset place o (omega arith), overlay-one outbox-terminator-owed-offset _ (overlay outbox-from-offset place o) (omega arith))
+      let l : length (overlay outbox-from-offset offset o) ≡ length o = length-overlay outbox-from-offset offset o (omega arith) in
+      rw (← same, ← first, put-fits outbox-from-offset offset o (omega arith), overlay-one outbox-terminator-owed-offset _ (overlay outbox-from-offset offset o) (omega arith))
       (rw (last-of-run at n o p h, q, ← first) at (after-some (run at n o) o (omega arith)))
 
   pub take-some : {last owed : ℕ} {s t : List ℕ} → (n ≡ 0 → ⊥) → last ≡ numberAt 1 o (outbox-bytes-offset + from + n - 1)

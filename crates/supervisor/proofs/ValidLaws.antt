@@ -174,28 +174,28 @@ valid-factory f v =
 
 -- ---- the settings store
 
-pub record SettingValid (s : List ℕ) (at least most : ℕ) : Type 0 where
+pub record SettingValid (s : List ℕ) (at shortest longest : ℕ) : Type 0 where
   pub held : Layout.settingHeld s at ≤ 1
-  pub size : Layout.settingLength s at ≤ most
-  pub short : (least ≤ Layout.settingLength s at) ⊎ ((Layout.settingLength s at ≡ 0) × (Layout.settingHeld s at ≡ 0))
+  pub size : Layout.settingLength s at ≤ longest
+  pub short : (shortest ≤ Layout.settingLength s at) ⊎ ((Layout.settingLength s at ≡ 0) × (Layout.settingHeld s at ≡ 0))
 
-pub setting-valid : (s : List ℕ) (at least most : ℕ) → Valid.validSetting s at least most ≡ true → SettingValid s at least most
+pub setting-valid : (s : List ℕ) (at shortest longest : ℕ) → Valid.validSetting s at shortest longest ≡ true → SettingValid s at shortest longest
 unfolding Valid.validSetting
-setting-valid s at least most e =
+setting-valid s at shortest longest e =
     let a = le-and _ _ _ e in
     let b = le-and _ _ _ (a .1) in
     record { held = a .0; size = b .0; short = ⊎-map (leb-true _ _) (λ t. let z = both _ _ t in (eqb-true _ _ (z .0), eqb-true _ _ (z .1))) (either _ _ (b .1)) }
 
-pub valid-setting : (s : List ℕ) (at least most : ℕ) → SettingValid s at least most → Valid.validSetting s at least most ≡ true
+pub valid-setting : (s : List ℕ) (at shortest longest : ℕ) → SettingValid s at shortest longest → Valid.validSetting s at shortest longest ≡ true
 unfolding Valid.validSetting
-valid-setting s at least most v =
+valid-setting s at shortest longest v =
     and-le _ _ _ (v .held)
     (and-le _ _ _ (v .size) (or _ _ (⊎-map (le-leb _ _) (λ z. and _ _ (eq-eqb _ _ (z .0)) (eq-eqb _ _ (z .1))) (v .short))))
 
 -- where the length is below the shortest no value is held
-pub none-held : (s : List ℕ) (at least most : ℕ) → Valid.validSetting s at least most ≡ true → Layout.settingLength s at < least
+pub none-held : (s : List ℕ) (at shortest longest : ℕ) → Valid.validSetting s at shortest longest ≡ true → Layout.settingLength s at < shortest
     → (Layout.settingLength s at ≡ 0) × (Layout.settingHeld s at ≡ 0)
-none-held s at least most e h = ⊎-elim (λ l. absurd (omega arith)) (λ z. z) (setting-valid s at least most e .short)
+none-held s at shortest longest e h = ⊎-elim (λ l. absurd (omega arith)) (λ z. z) (setting-valid s at shortest longest e .short)
 
 pub record SettingsValid (s : List ℕ) : Type 0 where
   pub long : Layout.settings-length ≤ length s
@@ -216,7 +216,7 @@ pub valid-settings : (s : List ℕ) → SettingsValid s → Valid.validSettings 
 unfolding Valid.validSettings
 valid-settings s v =
     and-le _ _ _ (v .long)
-    (each-all _ _ (λ i l. valid-setting _ _ _ _ (v .each (Limits.first-setting + i) (record { least = omega arith; most = omega arith }))))
+    (each-all _ _ (λ i l. valid-setting _ _ _ _ (v .each (Limits.first-setting + i) (record { lower = omega arith; upper = omega arith }))))
 
 -- ---- the registers
 

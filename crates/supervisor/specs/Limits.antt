@@ -27,8 +27,8 @@ abbrev pub setting-count : ℕ
 setting-count = highest-key + 1 - first-setting
 
 pub record SettingsKey (key : ℕ) : Type 0 where
-  pub least : first-setting ≤ key
-  pub most : key ≤ highest-key
+  pub lower : first-setting ≤ key
+  pub upper : key ≤ highest-key
 
 -- the longest value of each from the first on: 3, 4, 5, the withdrawn-key list, and 6, the wireless passphrase (document 02, item 14)
 abbrev pub longest-settings : List ℕ

@@ -58,10 +58,10 @@ validFactory f =
 
 -- a length below the shortest is 0, and no value is held
 unfoldable pub validSetting : List ℕ → ℕ → ℕ → ℕ → Bool
-validSetting s at least most =
+validSetting s at shortest longest =
     leb (Layout.settingHeld s at) 1
-    && (leb (Layout.settingLength s at) most
-    && (leb least (Layout.settingLength s at) || (eqb (Layout.settingLength s at) 0 && eqb (Layout.settingHeld s at) 0)))
+    && (leb (Layout.settingLength s at) longest
+    && (leb shortest (Layout.settingLength s at) || (eqb (Layout.settingLength s at) 0 && eqb (Layout.settingHeld s at) 0)))
 
 -- of a key
 abbrev pub validValue : List ℕ → ℕ → Bool

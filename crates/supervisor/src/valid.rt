@@ -89,19 +89,19 @@ pub fn factory_is_valid(factory: &[u8]) -> bool
 }
 
 // A length below the shortest is 0, and no value is held.
-fn setting_is_valid(settings: &[u8], at: usize, least: usize, most: usize) -> bool
+fn setting_is_valid(settings: &[u8], at: usize, shortest: usize, longest: usize) -> bool
     requires { ⌜ at < 65536 ⌝ }
-    ensures { λ r. ⌜ r ≡ validSetting (now (settings .entry)) at least most ⌝ }
+    ensures { λ r. ⌜ r ≡ validSetting (now (settings .entry)) at shortest longest ⌝ }
 {
     let held = octets::byte_at(settings, at);
     if 1 < held {
         return false;
     }
     let n = octets::word_at(settings, at + layout::SETTING_LENGTH_OFFSET);
-    if most < n {
+    if longest < n {
         return false;
     }
-    if least <= n {
+    if shortest <= n {
         return true;
     }
     if n != 0 {
@@ -126,8 +126,8 @@ fn values_are_valid(settings: &[u8]) -> bool
     while i < layout::SETTING_COUNT {
         let key = layout::FIRST_SETTING + i;
         let at = layout::setting_offset(key);
-        let least = layout::shortest_setting(key);
-        if !setting_is_valid(settings, at, least, layout::longest_setting(key)) {
+        let shortest = layout::shortest_setting(key);
+        if !setting_is_valid(settings, at, shortest, layout::longest_setting(key)) {
             return false;
         }
         i += 1;

@@ -13,8 +13,8 @@ use Rattle.supervisor_claims.specs.View.{factoryOf, view}
 use Rattle.supervisor_claims.specs.Meant.{withReader}
 use Rattle.supervisor_claims.specs.Sound.{Bytes, Sound, Lengths}
 use Rattle.supervisor_claims.specs.Histories
-use Rattle.supervisor_claims.specs.Histories.{Typed, refused, done, Lent, Made, enough, made, told, left, AllTyped}
-use Rattle.supervisor_claims.specs.FrameHistory.{joinedAll, toldByFrames, leftByFrames, carriedFrames}
+use Rattle.supervisor_claims.specs.Histories.{Typed, refused, done, Lent, Made, enough, made, outputs, left, AllTyped}
+use Rattle.supervisor_claims.specs.FrameHistory.{joinedAll, outputsByFrames, leftByFrames, carriedFrames}
 use Rattle.supervisor_claims.specs.claims.FramesClaim.{by-frames}
 -- any list of calls from a start that is accepted, on any bytes: every answer, all that is written outside the state, and the state that is
 -- left are document 01's, whatever is lent; one call among them; a refused call changes nothing; a stream in two calls or in one
@@ -50,13 +50,13 @@ pub use Rattle.supervisor_claims.specs.claims.Replies.{replies-in-order}
 -- Demand 2 in one statement. A start that is accepted, on any bytes, then any calls, whatever each is lent. The bytes received since the last accepted start
 -- are joined (`joinedAll`). At each call, in order: a receive or step takes, in order, those frames of the joined bytes that are not empty and whose 00 it
 -- brings, and carries out each valid request, with the image lent to it, and answers every other with its numbered failure; a local call does what document 01
--- has of it; a call that is lent too little is refused as 12 and does nothing. Every answer and all that is written outside the state (`toldByFrames`), and the
+-- has of it; a call that is lent too little is refused as 12 and does nothing. Every answer and all that is written outside the state (`outputsByFrames`), and the
 -- state that is left (`leftByFrames`), are those got so. The frames so taken since the last accepted start (`carriedFrames`) are all those of the joined bytes
 -- that are not empty, each exactly once and in order.
 pub history-frames : (p : Parts) → Bytes p → (l : Lent) (d : List ℕ) → Typed (Histories.start d)
     → made p (record { lent = l; call = Histories.start d }) .answer ≡ done → (ms : List Made) → AllTyped ms
     → let q = made p (record { lent = l; call = Histories.start d }) .parts in
-    (told q ms ≡ toldByFrames [] (fresh (factoryOf d)) ms)
+    (outputs q ms ≡ outputsByFrames [] (fresh (factoryOf d)) ms)
     × (view (left q ms) ≡ leftByFrames [] (fresh (factoryOf d)) ms)
     × (carriedFrames [] [] ms ≡ nonEmpty (split (joinedAll [] ms) .closed))
     × Sound (left q ms)

@@ -16,7 +16,7 @@ use Rattle.requests.specs.Receive
 use Rattle.requests.specs.Receive.{Ended}
 use Rattle.supervisor_claims.specs.View.{factoryOf}
 use Rattle.supervisor_claims.specs.Histories
-use Rattle.supervisor_claims.specs.Histories.{Call, refused, done, stepped, Means, means, upTo, meant, Made, enough, untouched, Told}
+use Rattle.supervisor_claims.specs.Histories.{Call, refused, done, stepped, Means, means, upTo, meant, Made, enough, untouched, Output}
 
 -- ---- The received bytes
 
@@ -98,9 +98,9 @@ carriedMade w s m = cond (enough (m .call) (m .lent)) (carriedCall w s (m .call)
 -- ---- Lists of calls
 
 -- each call's answer and what it wrote in the caller's room or handed out
-unfoldable pub toldByFrames : List ℕ → State → List Made → List Told
-toldByFrames w s [] = []
-toldByFrames w s (m ∷ ms) = let c = carriedMade w s m in (record { answer = c .answer; out = c .out }) ∷ toldByFrames (joined w m) (c .state) ms
+unfoldable pub outputsByFrames : List ℕ → State → List Made → List Output
+outputsByFrames w s [] = []
+outputsByFrames w s (m ∷ ms) = let c = carriedMade w s m in (record { answer = c .answer; out = c .out }) ∷ outputsByFrames (joined w m) (c .state) ms
 
 -- the state that they leave
 unfoldable pub leftByFrames : List ℕ → State → List Made → State

@@ -301,21 +301,21 @@ meantMade s m = cond (enough (m .call) (m .lent)) (meant s (m .call)) (means (re
 -- ---- Lists of calls
 
 -- each call's answer and what it wrote in the caller's room or handed out
-pub record Told : Type 0 where
+pub record Output : Type 0 where
   pub answer : Answer
   pub out : List ℕ
 
-unfoldable pub told : Parts → List Made → List Told
-told p [] = []
-told p (m ∷ ms) = record { answer = made p m .answer; out = made p m .out } ∷ told (made p m .parts) ms
+unfoldable pub outputs : Parts → List Made → List Output
+outputs p [] = []
+outputs p (m ∷ ms) = record { answer = made p m .answer; out = made p m .out } ∷ outputs (made p m .parts) ms
 
 unfoldable pub left : Parts → List Made → Parts
 left p [] = p
 left p (m ∷ ms) = left (made p m .parts) ms
 
-unfoldable pub toldMeant : State → List Made → List Told
-toldMeant s [] = []
-toldMeant s (m ∷ ms) = record { answer = meantMade s m .answer; out = meantMade s m .out } ∷ toldMeant (meantMade s m .state) ms
+unfoldable pub outputsMeant : State → List Made → List Output
+outputsMeant s [] = []
+outputsMeant s (m ∷ ms) = record { answer = meantMade s m .answer; out = meantMade s m .out } ∷ outputsMeant (meantMade s m .state) ms
 
 unfoldable pub leftMeant : State → List Made → State
 leftMeant s [] = s

@@ -1,4 +1,4 @@
--- The wireless passphrase is told by no call: two runs that differ only in its record answer and write the same (document 02, item 14).
+-- The wireless passphrase is in no answer: two runs that differ only in its record answer and write the same (document 02, item 14).
 -- Assumes nothing.
 use mathlib.Core.Path.{_≡_, refl, sym, ap, _∙_}
 use mathlib.Core.Bool.{Bool, true, false, cond}
@@ -15,8 +15,8 @@ use Rattle.supervisor.proofs.ValidLaws.{settings-valid}
 use Rattle.supervisor_claims.specs.View.{factoryOf, view}
 use Rattle.supervisor_claims.specs.Sound.{Bytes, Sound}
 use Rattle.supervisor_claims.specs.Histories
-use Rattle.supervisor_claims.specs.Histories.{Typed, done, Means, Lent, Made, made, told, left, AllTyped}
-use Rattle.supervisor_claims.specs.FrameHistory.{receivedBy, startsAnew, joined, joinedAll, framesBy, toldByFrames, leftByFrames}
+use Rattle.supervisor_claims.specs.Histories.{Typed, done, Means, Lent, Made, made, outputs, left, AllTyped}
+use Rattle.supervisor_claims.specs.FrameHistory.{receivedBy, startsAnew, joined, joinedAll, framesBy, outputsByFrames, leftByFrames}
 use Rattle.supervisor_claims.specs.LastSet.{requestsIn, setsOf}
 use Rattle.supervisor_claims.specs.laws.Progress.{Since}
 use Rattle.supervisor_claims.specs.claims.FramesClaim.{frames-follow, by-frames}
@@ -75,16 +75,16 @@ withoutPassphrase s = withSettings s (withSetting (s .settings) Limits.passphras
 
 -- ---- Proof
 
--- the same is told, and what is left differs only in the passphrase
+-- the same comes out, and what is left differs only in the passphrase
 abbrev Follow : List ℕ → List Made → State → State → Type 0
-Follow w ms s t = (toldByFrames w s ms ≡ toldByFrames w t ms) × (withoutPassphrase (leftByFrames w s ms) ≡ withoutPassphrase (leftByFrames w t ms))
+Follow w ms s t = (outputsByFrames w s ms ≡ outputsByFrames w t ms) × (withoutPassphrase (leftByFrames w s ms) ≡ withoutPassphrase (leftByFrames w t ms))
 
 like-without : {s t : State} → Like s t → withoutPassphrase s ≡ withoutPassphrase t
 like-without {s} {t} l =
     ap (λ (x : State). withSettings x (withSetting (s .settings) Limits.passphrase-key unset)) (l .rest) ∙ ap (withSettings t) (l .settings)
 
 calls-follow : (ms : List Made) (w : List ℕ) (s t : State) → Pair (setsToCome w ms) s t → Follow w ms s t
-unfolding setsToCome toldByFrames leftByFrames
+unfolding setsToCome outputsByFrames leftByFrames
 calls-follow [] w s t p = (refl, like-without (p .like))
 calls-follow (m ∷ ms) w s t p = by (startsAnew m) refl (calls-follow ms (joined w m))
   where
@@ -115,12 +115,12 @@ run-since r =
 -- ---- The claim
 
 -- Two runs, each from an accepted start by any calls, that leave states which differ only in the passphrase's setting: value, length, presence and edition. In
--- both its edition is below the last by more than the sets to come: at the last edition a set answers 4 and not 0, which tells that edition. Then the same calls,
--- with equal arguments and loans, are told the same: each answer, and all that is written outside the state. The states that they leave differ only in that setting.
+-- both its edition is below the last by more than the sets to come: at the last edition a set answers 4 and not 0, which shows that edition. Then the same calls,
+-- with equal arguments and loans, give the same: each answer, and all that is written outside the state. The states that they leave differ only in that setting.
 pub two-states : (r s : Run) → withoutPassphrase (view (leftBy r)) ≡ withoutPassphrase (view (leftBy s)) → (ms : List Made) → AllTyped ms
     → let n = setsToCome (receivedIn r) ms in
     passphraseEdition (leftBy r) + n < Limits.last-edition → passphraseEdition (leftBy s) + n < Limits.last-edition
-    → (told (leftBy r) ms ≡ told (leftBy s) ms) × (withoutPassphrase (view (left (leftBy r) ms)) ≡ withoutPassphrase (view (left (leftBy s) ms)))
+    → (outputs (leftBy r) ms ≡ outputs (leftBy s) ms) × (withoutPassphrase (view (left (leftBy r) ms)) ≡ withoutPassphrase (view (left (leftBy s) ms)))
 two-states r s e ms t h k =
     let w = receivedIn r in
     let p = leftBy r in
@@ -148,5 +148,5 @@ same-states p q s e =
 
 -- The claim over the bytes: two runs whose parts are the same but for the passphrase's record, whatever bytes that has in each.
 pub two-runs : (r s : Run) → SameBut (leftBy r) (leftBy s) → (ms : List Made) → AllTyped ms → let n = setsToCome (receivedIn r) ms in
-    passphraseEdition (leftBy r) + n < Limits.last-edition → passphraseEdition (leftBy s) + n < Limits.last-edition → told (leftBy r) ms ≡ told (leftBy s) ms
+    passphraseEdition (leftBy r) + n < Limits.last-edition → passphraseEdition (leftBy s) + n < Limits.last-edition → outputs (leftBy r) ms ≡ outputs (leftBy s) ms
 two-runs r s e ms t h k = two-states r s (same-states (leftBy r) (leftBy s) (run-sound r) e) ms t h k .0

@@ -16,7 +16,7 @@ use Rattle.supervisor.specs.State.{State, withReceived}
 use Rattle.supervisor.specs.Local
 use Rattle.requests.specs.Requests.{byte, stream}
 use Rattle.supervisor_claims.specs.Histories
-use Rattle.supervisor_claims.specs.Histories.{Call, Made, enough, meant, meantMade, leftMeant, toldMeant}
+use Rattle.supervisor_claims.specs.Histories.{Call, Made, enough, meant, meantMade, leftMeant, outputsMeant}
 use Rattle.supervisor_claims.specs.FrameHistory.{reads, receivedBy, framed, allFramed}
 use Rattle.supervisor_claims.specs.claims.InOrder.{stream-append, tail-within, in-order}
 use Rattle.supervisor_claims.specs.claims.Replies.{movedBytes, takenBytes}
@@ -133,10 +133,10 @@ made-moves x m h = by (enough (m .call) (m .lent))
     by false = refl
 
 -- the bytes that takes move, and then those that are left, are those that were pending
-pub all-moved : (ts : List Made) (x : State) → Each (λ (m : Made). Takes (m .call)) ts → takenBytes (toldMeant x ts) ++ leftMeant x ts .pending ≡ x .pending
-unfolding takenBytes toldMeant leftMeant
+pub all-moved : (ts : List Made) (x : State) → Each (λ (m : Made). Takes (m .call)) ts → takenBytes (outputsMeant x ts) ++ leftMeant x ts .pending ≡ x .pending
+unfolding takenBytes outputsMeant leftMeant
 all-moved [] x h = refl
 all-moved (m ∷ ts) x h =
     let d = meantMade x m in
-    append-assoc (movedBytes (d .answer) (d .out)) (takenBytes (toldMeant (d .state) ts)) (leftMeant (d .state) ts .pending)
+    append-assoc (movedBytes (d .answer) (d .out)) (takenBytes (outputsMeant (d .state) ts)) (leftMeant (d .state) ts .pending)
     ∙ rw (all-moved ts (d .state) (h .1)) (made-moves x m (h .0))

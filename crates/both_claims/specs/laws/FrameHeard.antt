@@ -17,7 +17,7 @@ use Rattle.line.specs.Judge.{good, judge}
 use Rattle.requester.specs.State.{Request, State, state}
 use Rattle.requester.specs.Requester
 use Rattle.requester.specs.Requester.{received, heard, answer, hears, withReceived, replySequence}
-use Rattle.requester.specs.Calls.{toldOf}
+use Rattle.requester.specs.Calls.{reportOf}
 use Rattle.requester.proofs.ValidLaws.{PartsValid}
 use Rattle.requester_claims.specs.View.{view}
 use Rattle.requester_claims.specs.Histories as Main
@@ -73,7 +73,7 @@ answers-kept s q r x t k = rw (t, k)
 
 -- one that is lent enough
 pub record ReadsAs (x : Listener) (piece : List ℕ) (y : Listener) : Type 0 where
-  pub handed : let z = Requester.receive (view (x .parts)) piece .result in y .handed ≡ x .handed ++ events (toldOf (z .handed)) (Main.dataOf (z .handed)) (z .ended)
+  pub handed : let z = Requester.receive (view (x .parts)) piece .result in y .handed ≡ x .handed ++ events (reportOf (z .handed)) (Main.dataOf (z .handed)) (z .ended)
   pub bytes : y .bytes ≡ x .bytes ++ take (Requester.receive (view (x .parts)) piece .used) piece
   pub state : view (y .parts) ≡ Requester.receive (view (x .parts)) piece .result .state
   pub valid : PartsValid (y .parts)

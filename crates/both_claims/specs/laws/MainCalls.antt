@@ -23,7 +23,7 @@ use Rattle.requester.specs.State.{Request, Step, fetch, acknowledge, alert, out
 use Rattle.requester.specs.Requester
 use Rattle.requester.specs.Requester.{Heard, ground, other, answer, heard, settled}
 use Rattle.requester.specs.Limits.{status-length}
-use Rattle.requester.specs.Calls.{toldOf}
+use Rattle.requester.specs.Calls.{reportOf}
 use Rattle.requester_claims.specs.Histories as Main
 use Rattle.requester_claims.specs.Histories.{meant, meantMade, enough}
 use Rattle.requester_claims.specs.Answers.{Matching, heard-matches}
@@ -34,7 +34,7 @@ use Rattle.supervisor_claims.specs.FrameHistory.{tailOf}
 use Rattle.supervisor_claims.specs.laws.Progress.{rest-nonzero}
 use Rattle.both_claims.specs.Ends
 use Rattle.both_claims.specs.Ends.{MainTyped, Wire, FreshAnswer, readBy, restarts, mainLogged}
-use Rattle.both_claims.specs.Ends.{Any, Handled, Log, replyMade, Fresh, FreshTold}
+use Rattle.both_claims.specs.Ends.{Any, Handled, Log, replyMade, Fresh, FreshReport}
 use Rattle.both_claims.specs.laws.Lists.{none-some, any-so, each-right, each-then, each-and, each-any}
 use Rattle.both_claims.specs.laws.GoodFrames.{closed-nonzero, good-range}
 use Rattle.both_claims.specs.laws.MainReads.{HeardFrom, Came, quiet, hearing, Reads, piece-reads}
@@ -95,20 +95,20 @@ module _ (s : MainState.State) (l : Log) (kept : Kept s l) where
 
   -- by what is outstanding
   settled-fresh : (t : Option Step) (k : Option Request) (r : Message) → ((q : Request) → outstandingOf t k ≡ some q → Fresh s l r)
-      → let o = settled t (isSome k) (answer r) in FreshTold s l (toldOf (o .handed)) (Main.dataOf (o .handed))
-  unfolding settled toldOf Main.dataOf Requester.fetched
+      → let o = settled t (isSome k) (answer r) in FreshReport s l (reportOf (o .handed)) (Main.dataOf (o .handed))
+  unfolding settled reportOf Main.dataOf Requester.fetched
   settled-fresh none none r f = tt
   settled-fresh none (some q) r f = f q refl
   settled-fresh (some fetch) k r f =
-      cond-by (λ (o : Requester.Outcome). FreshTold s l (toldOf (o .handed)) (Main.dataOf (o .handed)))
+      cond-by (λ (o : Requester.Outcome). FreshReport s l (reportOf (o .handed)) (Main.dataOf (o .handed)))
       (eqb (r .command) 0x06 && eqb (length (r .payload)) status-length) _ _
       (λ e. let b = and-eq-true-iff _ _ .0 e in (r, f _ refl, refl, refl, eqb-true _ _ (b .0), eqb-true _ _ (b .1))) (λ _. tt)
   settled-fresh (some acknowledge) k r f = tt
   settled-fresh (some alert) k r f = f _ refl
 
   -- nothing is handed out
-  silent : (t : Option Step) (k : Bool) (h : Heard) → HeardFrom 0 [] h → let o = settled t k h in FreshTold s l (toldOf (o .handed)) (Main.dataOf (o .handed))
-  unfolding settled toldOf
+  silent : (t : Option Step) (k : Bool) (h : Heard) → HeardFrom 0 [] h → let o = settled t k h in FreshReport s l (reportOf (o .handed)) (Main.dataOf (o .handed))
+  unfolding settled reportOf
   silent t k (answer m) f = let z : _≡_ {A = ℕ} 0 1 = (let e = f .1 in cc) in absurd (omega arith)
   silent none false ground f = tt
   silent none true ground f = tt
@@ -118,8 +118,8 @@ module _ (s : MainState.State) (l : Log) (kept : Kept s l) where
   silent (some t) k other f = tt
 
   came-fresh : (ms : List Message) (x : Requester.Result) → Came s ms x → Each InRange ms → Each Sent ms
-      → FreshTold s l (toldOf (x .handed)) (Main.dataOf (x .handed))
-  unfolding toldOf
+      → FreshReport s l (reportOf (x .handed)) (Main.dataOf (x .handed))
+  unfolding reportOf
   came-fresh ms x (quiet bs e) g i = rw e tt
   came-fresh ms x (hearing bs ground e f) g i = rw e (silent (s .recovery) (isSome (s .kept)) ground tt)
   came-fresh ms x (hearing bs other e f) g i = rw e (silent (s .recovery) (isSome (s .kept)) other tt)

@@ -30,42 +30,42 @@ abbrev pub Versioned : State → Message → ℕ → Type 0
 Versioned s m version = (version ≡ m .version) ⊎ ((t : Retained) × (s .retained ≡ some t) × (version ≡ t .version))
 
 -- its command is a byte, and not that of a decode failure
-abbrev Telling : State → Message → Option Requests.Answer → Type 0
-Telling s m none = Unit {0}
-Telling s m (some r) = (r .command < 256) × (r .command ≡ 0x02 → ⊥) × Versioned s m (r .version)
+abbrev AnswerRange : State → Message → Option Requests.Answer → Type 0
+AnswerRange s m none = Unit {0}
+AnswerRange s m (some r) = (r .command < 256) × (r .command ≡ 0x02 → ⊥) × Versioned s m (r .version)
 
 module _ (image : List ℕ) (s : State) (m : Message) where
-  alert-telling : (r : Option Retained) → s .retained ≡ r → Telling s m (Requests.alertAsked (m .version) s (m .sequence) r .reply)
+  alert-range : (r : Option Retained) → s .retained ≡ r → AnswerRange s m (Requests.alertAsked (m .version) s (m .sequence) r .reply)
   unfolding Requests.alertAsked Requests.alertTaken
-  alert-telling none f = (omega arith, λ e. omega (arith, e), inl refl)
-  alert-telling (some r) f =
-      cond-by (λ (x : Carried). Telling s m (x .reply)) (eqb (r .sequence) (m .sequence)) _ _
+  alert-range none f = (omega arith, λ e. omega (arith, e), inl refl)
+  alert-range (some r) f =
+      cond-by (λ (x : Carried). AnswerRange s m (x .reply)) (eqb (r .sequence) (m .sequence)) _ _
       (λ _. (omega arith, λ e. omega (arith, e), inr (r, f, refl))) (λ _. (omega arith, λ e. omega (arith, e), inl refl))
 
-  effect-telling : (x : Command) → Telling s m (effect x image s m .reply)
+  effect-range : (x : Command) → AnswerRange s m (effect x image s m .reply)
   unfolding effect Requests.reboot Requests.powerOff Requests.bootFailure Requests.panicked Requests.startAcknowledged Requests.keySet
-  effect-telling Command.reboot = tt
-  effect-telling Command.power-off = tt
-  effect-telling Command.bsu = (omega arith, λ e. omega (arith, e), inl refl)
-  effect-telling Command.identity = (omega arith, λ e. omega (arith, e), inl refl)
-  effect-telling Command.mac = (omega arith, λ e. omega (arith, e), inl refl)
-  effect-telling Command.boot-failure = tt
-  effect-telling Command.panic = (omega arith, λ e. omega (arith, e), inl refl)
-  effect-telling Command.status = (omega arith, λ e. omega (arith, e), inl refl)
-  effect-telling Command.start-acknowledged = (omega arith, λ e. omega (arith, e), inl refl)
-  effect-telling Command.alert = alert-telling (s .retained) refl
-  effect-telling Command.image-block = (omega arith, λ e. omega (arith, e), inl refl)
-  effect-telling Command.key-lookup = (omega arith, λ e. omega (arith, e), inl refl)
-  effect-telling Command.inventory = (omega arith, λ e. omega (arith, e), inl refl)
-  effect-telling Command.key-set = (omega arith, λ e. omega (arith, e), inl refl)
+  effect-range Command.reboot = tt
+  effect-range Command.power-off = tt
+  effect-range Command.bsu = (omega arith, λ e. omega (arith, e), inl refl)
+  effect-range Command.identity = (omega arith, λ e. omega (arith, e), inl refl)
+  effect-range Command.mac = (omega arith, λ e. omega (arith, e), inl refl)
+  effect-range Command.boot-failure = tt
+  effect-range Command.panic = (omega arith, λ e. omega (arith, e), inl refl)
+  effect-range Command.status = (omega arith, λ e. omega (arith, e), inl refl)
+  effect-range Command.start-acknowledged = (omega arith, λ e. omega (arith, e), inl refl)
+  effect-range Command.alert = alert-range (s .retained) refl
+  effect-range Command.image-block = (omega arith, λ e. omega (arith, e), inl refl)
+  effect-range Command.key-lookup = (omega arith, λ e. omega (arith, e), inl refl)
+  effect-range Command.inventory = (omega arith, λ e. omega (arith, e), inl refl)
+  effect-range Command.key-set = (omega arith, λ e. omega (arith, e), inl refl)
 
-  carried-telling : Telling s m (carried image s m .reply)
+  carried-range : AnswerRange s m (carried image s m .reply)
   unfolding carried
-  carried-telling = by (commandOf (m .command))
+  carried-range = by (commandOf (m .command))
     where
-      by : (o : Option Command) → Telling s m (carriedBy o image s m .reply)
+      by : (o : Option Command) → AnswerRange s m (carriedBy o image s m .reply)
       by none = tt
-      by (some x) = effect-telling x
+      by (some x) = effect-range x
 
 carried-sendable : (p : Parts) → Sound p → (image : List ℕ) → Each Byte image → (m : Message) → Requestable m → SendableReply (carried image (view p) m .reply)
 unfolding carried
@@ -85,9 +85,9 @@ pub record ReplyOf (image : List ℕ) (s : State) (m r : Message) : Type 0 where
 
 pub reply-of : (image : List ℕ) (s : State) (m r : Message) → replyTo image s m ≡ some r → ReplyOf image s m r
 unfolding replyOf replyFrame
-reply-of image s m r e = by (carried image s m .reply) refl (carried-telling image s m) e
+reply-of image s m r e = by (carried image s m .reply) refl (carried-range image s m) e
   where
-    by : (o : Option Requests.Answer) → carried image s m .reply ≡ o → Telling s m o → messageOf (replyOf (m .sequence) o) ≡ some r → ReplyOf image s m r
+    by : (o : Option Requests.Answer) → carried image s m .reply ≡ o → AnswerRange s m o → messageOf (replyOf (m .sequence) o) ≡ some r → ReplyOf image s m r
     by none f t g = absurd (none-some g)
     by (some z) f t g =
         let y : record { version = z .version; sequence = topSet (m .sequence); command = z .command; payload = z .payload } ≡ r = cc in

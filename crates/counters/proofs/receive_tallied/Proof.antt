@@ -24,24 +24,24 @@ loop-holds c = counted-none _ _ _ (c .before .before .before .before .before .be
 
 add-at : tie.Need-add-at Inv-loop μ-loop
 add-at c =
-    let told = c .before .before .before .before .before .before .before .before .before .before .before .before .before .before .before in
+    let earlier = c .before .before .before .before .before .before .before .before .before .before .before .before .before .before .before in
     let stepped = c .before .before .before .before .before .before .before .before .before .step .ensures in
-    let u = step-used (told .before .loop .inv) (told .loop-test .taken) stepped in
-    let start = told .before .before .before .before .before .before .before .before .before .before .before .before .before .before .before .before .before .before .before .before .before .before .before in
+    let u = step-used (earlier .before .loop .inv) (earlier .loop-test .taken) stepped in
+    let start = earlier .before .before .before .before .before .before .before .before .before .before .before .before .before .before .before .before .before .before .before .before .before .before .before in
     omega (arith, start .good .1 .1 .0)
 
 loop-less : tie.Need-loop-less Inv-loop μ-loop
 loop-less c =
-    let told = c .before .before .before .before .before .before .before .before .before .before .before .before .before .before .before in
+    let earlier = c .before .before .before .before .before .before .before .before .before .before .before .before .before .before .before in
     let stepped = c .before .before .before .before .before .before .before .before .before .step .ensures in
-    let u = step-used (told .before .loop .inv) (told .loop-test .taken) stepped in
+    let u = step-used (earlier .before .loop .inv) (earlier .loop-test .taken) stepped in
     omega arith
 
 loop-again : tie.Need-loop-again Inv-loop μ-loop
 loop-again c =
-    let told = c .before .before .before .before .before .before .before .before .before .before .before .before .before .before .before in
+    let earlier = c .before .before .before .before .before .before .before .before .before .before .before .before .before .before .before in
     let stepped = c .before .before .before .before .before .before .before .before .before .step .ensures in
-    counted-on (told .before .loop .inv) (told .loop-test .taken) stepped (c .bumped .ensures) (λ i. c .before .before .before .before .before .before .before .slice-known9 .given i .fits)
+    counted-on (earlier .before .loop .inv) (earlier .loop-test .taken) stepped (c .bumped .ensures) (λ i. c .before .before .before .before .before .before .before .slice-known9 .given i .fits)
     (search needs) (search needs) (search needs) (search needs)
 
 returns-2 : tie.Need-returns-2 Inv-loop μ-loop

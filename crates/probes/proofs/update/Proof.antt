@@ -1,5 +1,5 @@
 -- `probes::update` meets its contract, by a walk of its code: the test of all changes, an early return, and a loop. The loop's invariant is the
--- whole context (`At`) over a state of i, the list as it now is, and what is known of the two. A turn reads an index and a result through the `&` slices, lends
+-- whole context (`At`) over a state of i, the list as it now is, and what is known of the two. An iteration reads an index and a result through the `&` slices, lends
 -- the list again to `set_result` for a lifetime of the call, and has it back as `set_result` left it. Of the two callees it cites the contracts alone.
 -- Assumes nothing.
 use mathlib.Core.Path.{_≡_, refl, sym, _∙_, ap, subst}
@@ -193,7 +193,7 @@ module _ {M : Type 1} (𝓤 : URA M) (H : Heap 𝓤) (A : Atoms 𝓤) (W : Given
   Nearer-wf : WellFounded Nearer
   Nearer-wf = InvImage·wf (λ (t : State). length is - t .0) (Nat·lt-wfRel .wf)
 
-  -- what a turn reads, and the list that it leaves
+  -- what an iteration reads, and the list that it leaves
   abbrev index : State → ℕ
   index t = getD is (t .0) 0
 
@@ -238,7 +238,7 @@ module _ {M : Type 1} (𝓤 : URA M) (H : Heap 𝓤) (A : Atoms 𝓤) (W : Given
           ∷ (free 16 l₁₆ (free 15 l₁₅ (free 14 l₁₄ (free 13 l₁₃ (free 12 l₁₂ (free 11 l₁₁ (free 10 l₁₀ (free 9 l₉ (free 8 l₈ (free 7 l₇ (free 6 l₆ (free 5 l₅
           (full 4 l₄ (vint w64 (t .0)) (full 3 l₃ (sliceVal (results .ptr) (length rs)) (full 2 l₂ (sliceVal (indices .ptr) (length is)) (full 1 l₁ (s (t .1)) (free 0 l₀ [])))))))))))))))))
 
-      -- a turn ends in a nearer state, or the loop is left and the rest of the body runs
+      -- an iteration ends in a nearer state, or the loop is left and the rest of the body runs
       abbrev Turned : State → Out → SProp 𝓤
       Turned t = afterTurn 𝓤 H (Below 𝓤 H A Nearer At t) (afterBlock 𝓤 H (afterSeq 𝓤 H (Wp 𝓤 H C Λ En pieces.t-7 (atReturn 𝓤 H En Post)) (atReturn 𝓤 H En Post)))
 

@@ -184,9 +184,9 @@ module _ (f s : List ℕ) (fb : Each Byte f) (sb : Each Byte s) (most : ℕ) whe
       cond-by (BytesAt (Calls.valueAt f s most)) (eqb (Layout.settingHeld s at) 1) _ _
       (λ e. part-each (at + Layout.setting-value-offset) (Layout.settingLength s at) s sb) (λ e. tt)
 
-  place-each : (key : ℕ) → BytesAt (Calls.valueAt f s most) (Calls.locationOf f s key)
+  location-each : (key : ℕ) → BytesAt (Calls.valueAt f s most) (Calls.locationOf f s key)
   unfolding Calls.locationOf Calls.valueAt
-  place-each key =
+  location-each key =
       let P = BytesAt (Calls.valueAt f s most) in
       cond-by P (eqb key 0) _ _ (λ e. part-each Layout.pong-offset 4 f fb) (λ e.
       cond-by P (eqb key 1) _ _ (λ e. part-each Layout.image-id-offset (Layout.imageIdLength f) f fb) (λ e.
@@ -198,7 +198,7 @@ module _ (f s : List ℕ) (fb : Each Byte f) (sb : Each Byte s) (most : ℕ) whe
   unfolding Calls.lookupValue
   value-each key =
       cond-by (Each Byte) (validFactory f && validSettings s) _ []
-      (λ e. cond-by (Each Byte) (ltb Limits.highest-key key) [] _ (λ k. tt) (λ k. place-each key)) (λ e. tt)
+      (λ e. cond-by (Each Byte) (ltb Limits.highest-key key) [] _ (λ k. tt) (λ k. location-each key)) (λ e. tt)
 
 -- ---- a lookup
 

@@ -17,7 +17,7 @@ use Rattle.supervisor.specs.Layout
 use Rattle.supervisor.specs.State.{Setting, State}
 use Rattle.supervisor.specs.Local
 use Rattle.supervisor.specs.Calls
-use Rattle.supervisor.proofs.OffsetLaws.{place-within, settings-key}
+use Rattle.supervisor.proofs.OffsetLaws.{offset-within, settings-key}
 use Rattle.supervisor.proofs.ValidLaws.{FactoryValid, factory-valid, SettingValid, settings-valid}
 use Rattle.supervisor_claims.specs.View.{itemAt, listed, settingOf, factoryOf, view}
 use Rattle.supervisor_claims.specs.Meant.{Valid}
@@ -89,7 +89,7 @@ module _ (p : Calls.Parts) (v : Valid p) where
       cond-both P (eqb key 2) (λ e. part-answers most 0 8 _ _ (inventory-run f u b) (length-run Layout.item-count-offset 8 f (omega arith))) (λ k.
       let s = settings-key key i j k h in
       rw (o, setting-is (p .settings) key s)
-      (setting-answers most (Layout.setting-offset key) (Limits.longest-setting key) (omega (arith, place-within key s)) (w .each key s)))))
+      (setting-answers most (Layout.setting-offset key) (Limits.longest-setting key) (omega (arith, offset-within key s)) (w .each key s)))))
 
   -- the passphrase is not handed out
   location-answers : Each Byte (p .factory) → (key most : ℕ) → key ≤ Limits.highest-key → let q = Calls.locationOf (p .factory) (p .settings) key in

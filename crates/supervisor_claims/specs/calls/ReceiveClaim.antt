@@ -59,8 +59,8 @@ abbrev Carried : List ℕ → Parts → Message → Receive.Inner
 Carried image p m = Receive.carriedInner image (p .factory) (Receive.innerOf p) (m .version) (m .sequence) (m .command) (m .payload)
 
 -- the parts with other stores, registers and outbox
-abbrev within : Parts → Receive.Inner → Parts
-within p i = Receive.partsWith p (p .reader) i
+abbrev withInner : Parts → Receive.Inner → Parts
+withInner p i = Receive.partsWith p (p .reader) i
 
 -- the state of what was carried out, with its reply pending
 abbrev sentBy : ℕ → Requests.Carried → State
@@ -68,7 +68,7 @@ sentBy sequence c = Requests.sent (c .state) (Requests.replyOf sequence (c .repl
 
 module _ (p : Parts) (s : Sound p) (sequence : ℕ) where
   change-leaves : (i : Receive.Inner) (c : Requests.Carried) → Changed p i sequence c → Receive.validInner i ≡ true
-      → Leaves p (within p i) (sentBy sequence c)
+      → Leaves p (withInner p i) (sentBy sequence c)
   change-leaves i c ch v =
       let w = inner-valid i v in
       let bs = frame-sendable sequence (c .reply) (ch .payload) in
@@ -87,12 +87,12 @@ module _ (image : List ℕ) (each : Each Byte image) (p : Parts) (s : Sound p) (
       carried-valid image (p .factory) (Receive.innerOf p) (m .version) (m .sequence) (m .payload) (served-small (m .version) (q .version)) (s .valid .factory) parts-valid (q .fits) (number-small 1 0 (m .payload) (q .payload)) (m .command)
 
   -- its command is listed
-  request-leaves : Leaves p (within p (Carried image p m)) (sentBy (m .sequence) (Requests.carried image (view p) m))
+  request-leaves : Leaves p (withInner p (Carried image p m)) (sentBy (m .sequence) (Requests.carried image (view p) m))
   unfolding Receive.carriedInner Requests.carried Requests.known
   request-leaves = by (commandOf (m .command)) (q .command) carried-inner
     where
       by : (o : Option Command) → isListed o ≡ true → let i = Receive.leftWhere o image (p .factory) (Receive.innerOf p) (m .version) (m .sequence) (m .payload) in
-          Receive.validInner i ≡ true → Leaves p (within p i) (sentBy (m .sequence) (Requests.carriedBy o image (view p) m))
+          Receive.validInner i ≡ true → Leaves p (withInner p i) (sentBy (m .sequence) (Requests.carriedBy o image (view p) m))
       by none e v = let z : _≡_ {A = ℕ} 1 0 = ap (λ t. cond t 0 1) e in absurd (omega arith)
       by (some x) e v = change-leaves p s (m .sequence) _ _ (command-does p s image each m q x) v
 
@@ -103,7 +103,7 @@ Judgeable (failure reason version sequence) = reason < 256
 Judgeable (good m) = Requestable m
 
 judged-leaves : (image : List ℕ) → Each Byte image → (p : Parts) → Sound p → (v : Verdict) → Judgeable v
-    → Leaves p (within p (Receive.innerBy image (p .factory) (Receive.innerOf p) v)) (Requests.judged image (view p) v)
+    → Leaves p (withInner p (Receive.innerBy image (p .factory) (Receive.innerOf p) v)) (Requests.judged image (view p) v)
 unfolding Receive.innerBy Receive.answering Requests.judged Requests.failedOf Requests.replyFrame
 judged-leaves image each p s (failure reason version sequence) small =
     let bs = reply-sendable (Receive.failureHead version sequence) 0x02 (reason ∷ []) (omega arith, (small, tt)) in

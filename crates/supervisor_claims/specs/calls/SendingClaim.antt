@@ -25,7 +25,7 @@ use Rattle.supervisor.specs.Valid.{validOutbox}
 use Rattle.supervisor.proofs.ValidLaws.{outbox-valid}
 use Rattle.requests.specs.Requests.{owed}
 use Rattle.requests.specs.Receive.{sentBox, Head, replyBytes, messageBy}
-use Rattle.requests.proofs.KeptLaws.{begun, first-low, places, filled, sent-from, sent-to, sent-rest, run-short, reply-short}
+use Rattle.requests.proofs.KeptLaws.{begun, first-low, offsets, filled, sent-from, sent-to, sent-rest, run-short, reply-short}
 use Rattle.supervisor_claims.specs.View.{pendingOf}
 
 -- ---- a reply
@@ -73,6 +73,6 @@ module _ (o bs : List ℕ) (valid : validOutbox o ≡ true) (short : length bs �
   pub sent-bytes : Each Byte o → Each Byte bs → Each Byte (sentBox bs o)
   unfolding sentBox
   sent-bytes h k =
-      overlay-each Byte Layout.outbox-from-offset (places _ _) (filled bs o)
+      overlay-each Byte Layout.outbox-from-offset (offsets _ _) (filled bs o)
       (each-append Byte (bytes 2 _) (bytes 2 _) (bytes-each 2 _) (bytes-each 2 _))
       (overlay-each Byte Layout.outbox-bytes-offset (0 ∷ bs) o (omega arith, k) h)

@@ -22,7 +22,7 @@ use Rattle.supervisor.specs.Local
 use Rattle.supervisor.specs.Local.{pong}
 use Rattle.supervisor.specs.Valid.{goodStart}
 use Rattle.supervisor.specs.Calls
-use Rattle.supervisor.proofs.OffsetLaws.{place-within}
+use Rattle.supervisor.proofs.OffsetLaws.{offset-within}
 use Rattle.supervisor.proofs.StartLaws.{LongEnough, long-enough-is}
 use Rattle.supervisor.proofs.ValidLaws.{OutboxValid, FactoryValid, SettingValid, SettingsValid, RecordValid, RegistersValid}
 use Rattle.supervisor.proofs.ValidLaws.{all-none, start-good, valid-outbox, valid-factory, valid-settings, valid-registers}
@@ -47,14 +47,14 @@ module _ (s : List ℕ) (z : Clear 0 Layout.settings-length s) where
   settings-none =
       listed-same _ (λ i. unset) Limits.setting-count (λ i l.
       let at = Layout.setting-offset (Limits.first-setting + i) in
-      let h = place-within (Limits.first-setting + i) (record { least = omega arith; most = omega arith }) in
+      let h = offset-within (Limits.first-setting + i) (record { lower = omega arith; upper = omega arith }) in
       setting-unset s at (z 1 at (omega arith) (omega (arith, h))) (z 4 (at + Layout.setting-edition-offset) (omega arith) (omega (arith, h))))
       ∙ listed-replicate unset Limits.setting-count
 
   settings-clear : Layout.settings-length ≤ length s → SettingsValid s
   settings-clear h = record {
     long = h;
-    each = λ key i. setting-clear (Layout.setting-offset key) _ _ (omega (arith, place-within key i));
+    each = λ key i. setting-clear (Layout.setting-offset key) _ _ (omega (arith, offset-within key i));
   }
     where
       setting-clear : (at least most : ℕ) → at + Layout.setting-value-offset ≤ Layout.settings-length → SettingValid s at least most

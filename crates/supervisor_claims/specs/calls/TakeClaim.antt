@@ -83,16 +83,16 @@ unfolding pendingOf Local.lastNonZero
 leaves-some o b bs v h =
     let k = suc (length bs) in
     let n = Layout.outboxFrom o + k in
-    let place = Layout.outbox-bytes-offset in
+    let offset = Layout.outbox-bytes-offset in
     let last : k - 1 ≡ length bs = omega arith in
     let x = Calls.lastNonZeroFlag (b ∷ bs) in
-    let l : place ≤ length o = omega arith in
+    let l : offset ≤ length o = omega arith in
     let from = noted-from o n x l (omega arith) in
     let to = noted-to o n x l in
     let terminator-owed = noted-owed o n x l in
-    let begin : place + n ≡ place + Layout.outboxFrom o + k = omega arith in
+    let begin : offset + n ≡ offset + Layout.outboxFrom o + k = omega arith in
     let size : Layout.outboxTo o - n ≡ Layout.outboxTo o - Layout.outboxFrom o - k = omega arith in
-    let rest = noted-rest o n x l (place + n) (Layout.outboxTo o - n) (omega arith) in
+    let rest = noted-rest o n x l (offset + n) (Layout.outboxTo o - n) (omega arith) in
     record {
       valid = record {
         long = rw (length-noted o n x l) (v .long);
@@ -100,7 +100,7 @@ leaves-some o b bs v h =
         most = rw to (v .most);
         terminator-owed = rw terminator-owed (flag-le (eqb (getD (b ∷ bs) (k - 1) 0) 0));
       };
-      pending = rw (from, to, rest, begin, size) (drop-run k (place + Layout.outboxFrom o) _ o h);
+      pending = rw (from, to, rest, begin, size) (drop-run k (offset + Layout.outboxFrom o) _ o h);
       terminator-owed = rw (terminator-owed, last) (flag-says (eqb (getD (b ∷ bs) (length bs) 0) 0));
     }
 

@@ -9,7 +9,7 @@ use Rattle.octets.specs.Bytes.{Each, Byte}
 use Rattle.supervisor.specs.Calls.{Parts}
 use Rattle.requests.specs.Receive
 use Rattle.supervisor_claims.specs.Histories
-use Rattle.supervisor_claims.specs.Histories.{Answer, refused, done, Did, did, Lent, lentOf, Made, made, Told, told, left}
+use Rattle.supervisor_claims.specs.Histories.{Answer, refused, done, Did, did, Lent, lentOf, Made, made, Output, outputs, left}
 use Rattle.supervisor_claims.specs.Sound.{Bytes, Lengths, lengths-same}
 use Rattle.supervisor_claims.specs.laws.Locality.{lent-bytes, back-lent, back-leaves, lent-again, back-again}
 use Rattle.supervisor_claims.specs.claims.LentCalls.{parts-valid}
@@ -17,8 +17,8 @@ use Rattle.supervisor_claims.specs.calls.ReceiveClaim.{fed-leaves}
 use Rattle.supervisor_claims.specs.claims.History.{refused-made, cut}
 
 -- every call answers so, and hands nothing out
-abbrev pub AllAnswer : Answer → List Told → Type 0
-AllAnswer a = Each (λ (t : Told). t ≡ record { answer = a; out = [] })
+abbrev pub AllAnswer : Answer → List Output → Type 0
+AllAnswer a = Each (λ (t : Output). t ≡ record { answer = a; out = [] })
 
 module _ (image : List ℕ) (l : Lent) where
   -- a piece of the stream, received with the image and the loan
@@ -32,10 +32,10 @@ module _ (image : List ℕ) (l : Lent) where
 
   -- every call is done; or every call is refused as 12, and no part has changed
   abbrev pub AllDone : Parts → List (List ℕ) → Type 0
-  AllDone p pieces = AllAnswer done (told p (receives pieces))
+  AllDone p pieces = AllAnswer done (outputs p (receives pieces))
 
   abbrev pub AllRefused : Parts → List (List ℕ) → Type 0
-  AllRefused p pieces = AllAnswer (refused 12) (told p (receives pieces)) × (left p (receives pieces) ≡ p)
+  AllRefused p pieces = AllAnswer (refused 12) (outputs p (receives pieces)) × (left p (receives pieces) ≡ p)
 
 -- done, or refused as 12
 abbrev doneWhere : Bool → Answer
@@ -43,8 +43,8 @@ doneWhere true = done
 doneWhere false = refused 12
 
 -- what a call answered and handed out
-abbrev toldBy : Did → Told
-toldBy d = record { answer = d .answer; out = d .out }
+abbrev outputOf : Did → Output
+outputOf d = record { answer = d .answer; out = d .out }
 
 module _ (image : List ℕ) (i : Each Byte image) (l : Lent) where
   -- ---- one piece, on any parts
@@ -84,30 +84,30 @@ module _ (image : List ℕ) (i : Each Byte image) (l : Lent) where
         by false e = rw (e, back-lent l p)
 
     -- whatever its bytes are, it is done where the parts that are lent are as 12 requires
-    told-so : (piece : List ℕ) → toldBy (made p (receiving piece)) ≡ record { answer = doneWhere (Receive.validParts (lentOf l p)); out = [] }
+    output-so : (piece : List ℕ) → outputOf (made p (receiving piece)) ≡ record { answer = doneWhere (Receive.validParts (lentOf l p)); out = [] }
     unfolding made did Receive.receiving
-    told-so piece = by (Receive.validParts (lentOf l p)) refl
+    output-so piece = by (Receive.validParts (lentOf l p)) refl
       where
-        by : (t : Bool) → Receive.validParts (lentOf l p) ≡ t → toldBy (made p (receiving piece)) ≡ record { answer = doneWhere t; out = [] }
+        by : (t : Bool) → Receive.validParts (lentOf l p) ≡ t → outputOf (made p (receiving piece)) ≡ record { answer = doneWhere t; out = [] }
         by true e = rw e
         by false e = rw e
 
     answer-so : (piece : List ℕ) → made p (receiving piece) .answer ≡ doneWhere (Receive.validParts (lentOf l p))
-    answer-so piece = ap (λ (t : Told). t .answer) (told-so piece)
+    answer-so piece = ap (λ (t : Output). t .answer) (output-so piece)
 
   -- ---- pieces are the whole
 
   -- what the calls leave, and what each answers, is what one call with all the bytes leaves and answers
   pub pieces-whole : (p : Parts) → Bytes p → (pieces : List (List ℕ)) → Each (Each Byte) pieces
       → let whole = made p (receiving (flatten pieces)) in
-      (left p (receives image l pieces) ≡ whole .parts) × AllAnswer (whole .answer) (told p (receives image l pieces))
-  unfolding receives left told flatten
+      (left p (receives image l pieces) ≡ whole .parts) × AllAnswer (whole .answer) (outputs p (receives image l pieces))
+  unfolding receives left outputs flatten
   pieces-whole p b [] h = (sym (none-received p b), tt)
   pieces-whole p b (u ∷ pieces) h =
       let c = cut-made p b u (flatten pieces) (h .0) in
       let k = pieces-whole (made p (receiving u) .parts) (received-keeps p b u (h .0) .1) pieces (h .1) in
       let a = answer-so p b (u ++ flatten pieces) in
-      (k .0 ∙ ap (λ (d : Did). d .parts) (sym c), (told-so p b u ∙ rw a, rw c (k .1)))
+      (k .0 ∙ ap (λ (d : Did). d .parts) (sym c), (output-so p b u ∙ rw a, rw c (k .1)))
 
   -- ---- any two cuts
 
@@ -120,10 +120,10 @@ module _ (image : List ℕ) (i : Each Byte image) (l : Lent) where
       whole : Did
       whole = made p (receiving (flatten qs))
 
-      x : (left p (receives image l ps) ≡ whole .parts) × AllAnswer (whole .answer) (told p (receives image l ps))
+      x : (left p (receives image l ps) ≡ whole .parts) × AllAnswer (whole .answer) (outputs p (receives image l ps))
       x = rw e at (pieces-whole p b ps h)
 
-      y : (left p (receives image l qs) ≡ whole .parts) × AllAnswer (whole .answer) (told p (receives image l qs))
+      y : (left p (receives image l qs) ≡ whole .parts) × AllAnswer (whole .answer) (outputs p (receives image l qs))
       y = pieces-whole p b qs k
 
       by : (t : Bool) → whole .answer ≡ doneWhere t → (AllDone image l p ps × AllDone image l p qs) ⊎ (AllRefused image l p ps × AllRefused image l p qs)

@@ -18,12 +18,12 @@ use Rattle.line_claims.specs.Pieces.{split, nonEmpty, split-at, split-none, non
 use Rattle.supervisor.specs.State.{Factory, State, fresh, withReceived}
 use Rattle.requests.specs.Requests.{byte, stream, verdictSince}
 use Rattle.supervisor_claims.specs.Histories
-use Rattle.supervisor_claims.specs.Histories.{Call, upTo, endedMeant, frameEnds, meant, Made, enough, meantMade, toldMeant, leftMeant}
+use Rattle.supervisor_claims.specs.Histories.{Call, upTo, endedMeant, frameEnds, meant, Made, enough, meantMade, outputsMeant, leftMeant}
 use Rattle.supervisor_claims.specs.claims.InOrder.{tail-over, tail-within, verdict-over, more-tail}
 use Rattle.supervisor_claims.specs.claims.InOrder.{stream-append, empty-ignored, closed-framed, in-order-behind}
 use Rattle.supervisor_claims.specs.laws.Progress.{Since, called}
 use Rattle.supervisor_claims.specs.FrameHistory.{reads, receivedBy, startsAnew, joined, joinedAll, framesBy, endedBy, framed, allFramed, tailOf}
-use Rattle.supervisor_claims.specs.FrameHistory.{carriedOut, carriedCall, carriedMade, toldByFrames, leftByFrames, carriedFrames}
+use Rattle.supervisor_claims.specs.FrameHistory.{carriedOut, carriedCall, carriedMade, outputsByFrames, leftByFrames, carriedFrames}
 
 -- ---- a step
 
@@ -94,10 +94,10 @@ made-carried w s h m = by (enough (m .call) (m .lent)) refl
 -- ---- lists of calls
 
 pub frames-follow : (ms : List Made) (w : List ℕ) (s : State) → Since (split w .rest) s
-    → (toldByFrames w s ms ≡ toldMeant s ms)
+    → (outputsByFrames w s ms ≡ outputsMeant s ms)
     × (leftByFrames w s ms ≡ leftMeant s ms)
     × Since (split (joinedAll w ms) .rest) (leftMeant s ms)
-unfolding toldByFrames leftByFrames joinedAll toldMeant leftMeant
+unfolding outputsByFrames leftByFrames joinedAll outputsMeant leftMeant
 frames-follow [] w s h = (refl, refl, h)
 frames-follow (m ∷ ms) w s h =
     let k = made-carried w s h m in
@@ -106,7 +106,7 @@ frames-follow (m ∷ ms) w s h =
 
 -- on a fresh state
 pub by-frames : (f : Factory) (ms : List Made)
-    → (toldByFrames [] (fresh f) ms ≡ toldMeant (fresh f) ms)
+    → (outputsByFrames [] (fresh f) ms ≡ outputsMeant (fresh f) ms)
     × (leftByFrames [] (fresh f) ms ≡ leftMeant (fresh f) ms)
     × Since (split (joinedAll [] ms) .rest) (leftMeant (fresh f) ms)
 unfolding fresh tailOf split

@@ -18,7 +18,7 @@ use Rattle.requests.specs.Receive
 use Rattle.supervisor_claims.specs.View.{factoryOf, view}
 use Rattle.supervisor_claims.specs.Histories
 use Rattle.supervisor_claims.specs.Histories.{Call, Typed, refused, done, Did, did, doneMeans, meant, upTo}
-use Rattle.supervisor_claims.specs.Histories.{Lent, lentOf, takes, enough, Made, untouched, made, meantMade, told, left, toldMeant, leftMeant, AllTyped}
+use Rattle.supervisor_claims.specs.Histories.{Lent, lentOf, takes, enough, Made, untouched, made, meantMade, outputs, left, outputsMeant, leftMeant, AllTyped}
 use Rattle.supervisor_claims.specs.claims.Refusals.{fit, refused-12, refused-holds, WhereRefused, Not12}
 use Rattle.supervisor_claims.specs.laws.Progress.{local-stays}
 use Rattle.supervisor_claims.specs.calls.StartClaim.{start-refused}
@@ -60,7 +60,7 @@ back-meets l p c b k = record { answer = k .answer; out = k .out; leaves = back-
 
 -- calls on q do what document 01 has of the same calls on the state s, and leave sound parts
 abbrev pub Follows : Parts → State → List Made → Type 0
-Follows q s ms = (told q ms ≡ toldMeant s ms) × (view (left q ms) ≡ leftMeant s ms) × Sound (left q ms) × Lengths q (left q ms)
+Follows q s ms = (outputs q ms ≡ outputsMeant s ms) × (view (left q ms) ≡ leftMeant s ms) × Sound (left q ms) × Lengths q (left q ms)
 
 -- on sound parts, lent enough of each part that it takes
 enough-meets : (p : Parts) (m : Made) → Sound p → Typed (m .call) → enough (m .call) (m .lent) ≡ true
@@ -86,7 +86,7 @@ earns-no-12 p m s typed e h = never-12 (view p) m e (sym (one-call p m s typed .
 -- ---- a list of calls, on sound parts
 
 pub follows : (q : Parts) → Sound q → (ms : List Made) → AllTyped ms → Follows q (view q) ms
-unfolding told left toldMeant leftMeant
+unfolding outputs left outputsMeant leftMeant
 follows q s [] h = (refl, refl, s, lengths-same)
 follows q s (m ∷ ms) h =
     let k = one-call q m s (h .0) in
@@ -120,7 +120,7 @@ module _ (p : Parts) (b : Bytes p) (l : Lent) (d : List ℕ) (typed : Typed (His
 pub history : (p : Parts) → Bytes p → (l : Lent) (d : List ℕ) → Typed (Histories.start d)
     → made p (record { lent = l; call = Histories.start d }) .answer ≡ done → (ms : List Made) → AllTyped ms
     → let q = made p (record { lent = l; call = Histories.start d }) .parts in
-    (told q ms ≡ toldMeant (fresh (factoryOf d)) ms)
+    (outputs q ms ≡ outputsMeant (fresh (factoryOf d)) ms)
     × (view (left q ms) ≡ leftMeant (fresh (factoryOf d)) ms)
     × Sound (left q ms)
     × Lengths p (left q ms)
@@ -171,10 +171,10 @@ step-then-receive image p piece b i h =
     rw (step-receives image p piece) (sym c ∙ ap (λ x. did p (Histories.receive image x)) (take-append-drop n piece))
 
 -- a piece that is not empty is read by one byte at least
-upTo-least : (piece : List ℕ) → length piece ≤ length piece - 1 + upTo piece
+upTo-one : (piece : List ℕ) → length piece ≤ length piece - 1 + upTo piece
 unfolding upTo
-upTo-least [] = omega arith
-upTo-least (b ∷ bs) = cond-by (λ n. length (b ∷ bs) ≤ length (b ∷ bs) - 1 + n) (eqb b 0) _ _ (λ e. omega arith) (λ e. omega arith)
+upTo-one [] = omega arith
+upTo-one (b ∷ bs) = cond-by (λ n. length (b ∷ bs) ≤ length (b ∷ bs) - 1 + n) (eqb b 0) _ _ (λ e. omega arith) (λ e. omega arith)
 
 -- calls of step, each on what the one before left of the piece
 unfoldable pub steps : ℕ → List ℕ → Parts → List ℕ → Parts
@@ -189,6 +189,6 @@ steps-receive zero image p [] s i h l = rw (valid-parts p (s .valid))
 steps-receive zero image p (b ∷ bs) s i h l = absurd (omega arith)
 steps-receive (suc n) image p piece s i h l =
     let k = call-meets p s (Histories.step image piece) (i, h) .leaves .1 in
-    let m = upTo-least piece in
+    let m = upTo-one piece in
     steps-receive n image _ (drop (upTo piece) piece) k i (each-drop Byte (upTo piece) piece h) (omega (arith, length-drop (upTo piece) piece))
     ∙ ap (λ (x : Did). x .parts) (step-then-receive image p piece (s .bytes) i h)

@@ -169,7 +169,7 @@ module _ (z : Settings) (v : List ℕ) {k : ℕ} (h : SettingsKey k) (x : Settin
   pub set-successful : eqb (stored z k v .result) 0 ≡ (not (wrongValueLength k (length v)) && not (eqb (x .edition) Limits.last-edition))
   unfolding stored
   set-successful =
-      rw (le-ltb Limits.highest-key k (h .most), le-ltb k Limits.first-setting (h .least), g .held)
+      rw (le-ltb Limits.highest-key k (h .upper), le-ltb k Limits.first-setting (h .lower), g .held)
       (by (wrongValueLength k (length v)) (eqb (x .edition) Limits.last-edition) z _)
     where
       by : (t u : Bool) (a b : Settings)
@@ -184,7 +184,7 @@ module _ (z : Settings) (v : List ℕ) {k : ℕ} (h : SettingsKey k) (x : Settin
   unfolding stored
   same-key =
       let i = k - Limits.first-setting in
-      rw (le-ltb Limits.highest-key k (h .most), le-ltb k Limits.first-setting (h .least), g .held)
+      rw (le-ltb Limits.highest-key k (h .upper), le-ltb k Limits.first-setting (h .lower), g .held)
       (cond-both (λ (y : Requests.Stored) o. Has (y .settings) k (onto x o)) (wrongValueLength k (length v)) (λ e. g) (λ e.
       cond-both (λ (y : Requests.Stored) u. Has (y .settings) k u) (eqb (x .edition) Limits.last-edition) (λ f. g) (λ f.
       record {
@@ -303,7 +303,7 @@ module _ (image : List ℕ) {k : ℕ} (h : SettingsKey k) where
 
 -- ---- received bytes and calls
 
--- owing is as before
+-- whether a terminator is owed is as before
 pub frames-owed : (image : List ℕ) (fs : List (List ℕ)) (s : State) → allFramed image s fs .terminator-owed ≡ s .terminator-owed
 unfolding allFramed framed
 frames-owed image [] s = refl

@@ -22,38 +22,38 @@ use Rattle.supervisor_claims.specs.View.{pendingOf, factoryOf, view}
 use Rattle.supervisor_claims.specs.Sound.{Bytes, Sound}
 use Rattle.supervisor_claims.specs.Histories
 use Rattle.supervisor_claims.specs.Histories.{Typed, Answer, refused, done, stepped, moved, found, foundEdition, written, faulty, asserted, asked, recorded}
-use Rattle.supervisor_claims.specs.Histories.{Lent, Made, enough, made, meant, meantMade, Told, told}
+use Rattle.supervisor_claims.specs.Histories.{Lent, Made, enough, made, meant, meantMade, Output, outputs}
 use Rattle.supervisor_claims.specs.calls.CallClaims.{Meets}
-use Rattle.supervisor_claims.specs.laws.TakenAll.{larger-room, allTaken, afterAll, turn, session, replies, replies-taken}
+use Rattle.supervisor_claims.specs.laws.TakenAll.{larger-room, allTaken, afterAll, cycle, session, replies, replies-taken}
 use Rattle.supervisor_claims.specs.claims.History.{started, one-call}
 
--- a turn: a byte is received, and then what is pending is taken in a room; each of the two calls is lent its own bytes of the parts
-pub record Turn : Type 0 where
+-- a cycle: a byte is received, and then what is pending is taken in a room; each of the two calls is lent its own bytes of the parts
+pub record Cycle : Type 0 where
   pub byte : ℕ
   pub receiving : Lent
   pub taking : Lent
   pub room : List ℕ
 
 -- each call is lent enough, and the room, which holds any bytes, has place for all that may be pending
-pub record Ample (t : Turn) : Type 0 where
+pub record Ample (t : Cycle) : Type 0 where
   pub byte : t .byte < 256
   pub receiving : (image : List ℕ) → enough (Histories.receive image (t .byte ∷ [])) (t .receiving) ≡ true
   pub taking : enough (Histories.local (Histories.take (t .room))) (t .taking) ≡ true
   pub room : Each Byte (t .room)
   pub long : most-pending ≤ length (t .room)
 
-abbrev received : List ℕ → Turn → Made
+abbrev received : List ℕ → Cycle → Made
 received image t = record { lent = t .receiving; call = Histories.receive image (t .byte ∷ []) }
 
-abbrev takenIn : Turn → Made
+abbrev takenIn : Cycle → Made
 takenIn t = record { lent = t .taking; call = Histories.local (Histories.take (t .room)) }
 
-unfoldable pub byteByByte : List ℕ → List Turn → List Made
+unfoldable pub byteByByte : List ℕ → List Cycle → List Made
 byteByByte image [] = []
 byteByByte image (t ∷ ts) = received image t ∷ (takenIn t ∷ byteByByte image ts)
 
 -- the stream that is received
-unfoldable pub streamOf : List Turn → List ℕ
+unfoldable pub streamOf : List Cycle → List ℕ
 streamOf [] = []
 streamOf (t ∷ ts) = t .byte ∷ streamOf ts
 
@@ -72,7 +72,7 @@ movedBytes (written n) out = []
 movedBytes (faulty n at) out = []
 
 -- and those of a list of calls, in order
-unfoldable pub takenBytes : List Told → List ℕ
+unfoldable pub takenBytes : List Output → List ℕ
 takenBytes [] = []
 takenBytes (t ∷ ts) = movedBytes (t .answer) (t .out) ++ takenBytes ts
 
@@ -87,7 +87,7 @@ unfolding view
 view-pending-short p s = pending-short (p .outbox) (s .valid .outbox)
 
 module _ (image : List ℕ) (each : Each Byte image) where
-  module _ (p : Parts) (s : Sound p) (t : Turn) (a : Ample t) where
+  module _ (p : Parts) (s : Sound p) (t : Cycle) (a : Ample t) where
     -- a byte is received
     received-meant : Meets p (made p (received image t)) (Histories.means done [] (Requests.byte image (view p) (t .byte)))
     unfolding meantMade meant Requests.stream
@@ -105,8 +105,8 @@ module _ (image : List ℕ) (each : Each Byte image) where
           c .leaves .1,
         )
 
-  session-taken : (p : Parts) → Sound p → (ts : List Turn) → Each Ample ts → takenBytes (told p (byteByByte image ts)) ≡ session image (view p) (streamOf ts) .taken
-  unfolding byteByByte streamOf told takenBytes session turn
+  session-taken : (p : Parts) → Sound p → (ts : List Cycle) → Each Ample ts → takenBytes (outputs p (byteByByte image ts)) ≡ session image (view p) (streamOf ts) .taken
+  unfolding byteByByte streamOf outputs takenBytes session cycle
   session-taken p s [] h = refl
   session-taken p s (t ∷ ts) h =
       let r = received-meant p s t (h .0) in
@@ -117,9 +117,9 @@ module _ (image : List ℕ) (each : Each Byte image) where
 
   -- from a start on any bytes
   pub replies-in-order : (p : Parts) → Bytes p → (l : Lent) (d : List ℕ) → Typed (Histories.start d)
-      → made p (record { lent = l; call = Histories.start d }) .answer ≡ done → (ts : List Turn) → Each Ample ts
+      → made p (record { lent = l; call = Histories.start d }) .answer ≡ done → (ts : List Cycle) → Each Ample ts
       → let q = made p (record { lent = l; call = Histories.start d }) .parts in
-      takenBytes (told q (byteByByte image ts)) ≡ replies image (fresh (factoryOf d)) (nonEmpty (split (streamOf ts) .closed))
+      takenBytes (outputs q (byteByByte image ts)) ≡ replies image (fresh (factoryOf d)) (nonEmpty (split (streamOf ts) .closed))
   unfolding fresh
   replies-in-order p b l d typed h ts e =
       let f = started p b l d typed h in

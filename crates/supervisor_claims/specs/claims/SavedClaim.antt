@@ -126,7 +126,7 @@ module _ (p : Parts) (b : Bytes p) (l : Lent) (d : List ℕ) (typed : Typed (His
       let n = length-take saved-count settingsThen in
       let low : i < saved-count = omega arith in
       let e : Limits.first-setting + i - Limits.first-setting ≡ i = omega arith in
-      rw (getD-take saved-count settingsThen i unset low) (rw e at (key-savable {k = Limits.first-setting + i} (record { least = omega arith; most = omega arith }))))
+      rw (getD-take saved-count settingsThen i unset low) (rw e at (key-savable {k = Limits.first-setting + i} (record { lower = omega arith; upper = omega arith }))))
 
   -- the image that is saved then, and its records
   abbrev pub imageThen : List ℕ

@@ -24,7 +24,7 @@ use Rattle.supervisor.specs.Limits.{SettingsKey}
 use Rattle.supervisor.specs.State.{Setting, unset, Settings, Recorded, Retained, State, setting, withSetting, withSettings, withReceived, fresh}
 use Rattle.supervisor.specs.Local
 use Rattle.supervisor.specs.declared.registers.Kind.the-variants as kind
-use Rattle.supervisor.proofs.OffsetLaws.{place-within, Lies, setting-lies, settings-key}
+use Rattle.supervisor.proofs.OffsetLaws.{offset-within, Lies, setting-lies, settings-key}
 use Rattle.supervisor.proofs.ValidLaws.{SettingsValid}
 use Rattle.saving.specs.Saving
 use Rattle.requests.specs.Commands.{Command, numberOf, commandOf}
@@ -60,7 +60,7 @@ pub record Pair (n : ℕ) (s t : State) : Type 0 where
   pub right : Room n (t .settings)
 
 passphrase : SettingsKey Limits.passphrase-key
-passphrase = record { least = omega arith; most = omega arith }
+passphrase = record { lower = omega arith; upper = omega arith }
 
 room-less : {m n : ℕ} {z : Settings} → m ≤ n → Room n z → Room m z
 room-less h r = record { long = r .long; low = omega arith }
@@ -84,7 +84,7 @@ module _ (t : State) (z : Settings) (e : Alike z (t .settings)) where
   entry-same key h n =
       cond-both _≡_ (eqb key 0) (λ _. refl) (λ i.
       cond-both _≡_ (eqb key 1) (λ _. refl) (λ j.
-      cond-both _≡_ (eqb key 2) (λ _. refl) (λ k. other-setting z (t .settings) e key (settings-key key i j k h .least) n)))
+      cond-both _≡_ (eqb key 2) (λ _. refl) (λ k. other-setting z (t .settings) e key (settings-key key i j k h .lower) n)))
 
   pub lookup-same : (key most : ℕ) → Local.lookup (withSettings t z) key most ≡ Local.lookup t key most
   unfolding Local.lookup
@@ -415,7 +415,7 @@ module _ (s t : List ℕ) (v : SettingsValid s) (ahead : take (Layout.setting-of
   other-same key h (inl l) n = setting-same (same-first (Layout.setting-offset Limits.passphrase-key) s t (sym ahead)) (Layout.setting-offset key) _ (v .each key h) (omega arith)
   other-same key h (inr (inl e)) n = absurd (n e)
   other-same key h (inr (inr l)) n =
-      setting-same (same-last end Layout.settings-length s t (sym behind)) (Layout.setting-offset key) _ (v .each key h) (omega (arith, place-within key h))
+      setting-same (same-last end Layout.settings-length s t (sym behind)) (Layout.setting-offset key) _ (v .each key h) (omega (arith, offset-within key h))
 
   pub store-alike : Alike (settingsOf s) (settingsOf t)
   unfolding settingsOf
@@ -426,7 +426,7 @@ module _ (s t : List ℕ) (v : SettingsValid s) (ahead : take (Layout.setting-of
       sym (listed-set (f s) g unset Limits.setting-count i (omega arith) refl (λ j l n. rw (ne-eqb j i n)))
       ∙ listed-set (f t) g unset Limits.setting-count i (omega arith) refl (λ j l n.
       let key = Limits.first-setting + j in
-      let h : SettingsKey key = record { least = omega arith; most = omega arith } in
+      let h : SettingsKey key = record { lower = omega arith; upper = omega arith } in
       rw (ne-eqb j i n) (sym (other-same key h (setting-lies key Limits.passphrase-key h passphrase) (λ e. n (omega (arith, e))))))
 
 pub store-room : (n : ℕ) (s : List ℕ) → Layout.settingEdition s (Layout.setting-offset Limits.passphrase-key) + n ≤ Limits.last-edition → Room n (settingsOf s)

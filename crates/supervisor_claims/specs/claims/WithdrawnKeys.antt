@@ -53,14 +53,14 @@ pub record ReadBack (k : ℕ) : Type 0 where
 
 pub found-value : (s : State) (most : ℕ) {k : ℕ} → ReadBack k → Local.lookup s k most ≡ fittedOf most (Local.entryOf s k)
 unfolding Local.lookup
-found-value s most {k} h = rw (le-ltb Limits.highest-key k (h .key .most), ne-eqb k Limits.passphrase-key (h .other))
+found-value s most {k} h = rw (le-ltb Limits.highest-key k (h .key .upper), ne-eqb k Limits.passphrase-key (h .other))
 
 -- the reply's frame
 reply-found : (image : List ℕ) (s : State) (version n most : ℕ) {k : ℕ} → ReadBack k → most < 65536
     → replyFrame (replyOf n (carried image s (lookupOf version n k most) .reply)) ≡ lookupReply version n most (Local.entryOf s k)
 unfolding carried commandOf withNumber numberOf effect replyOf replyFrame lookupReply
 reply-found image s version n most {k} h i =
-    let m = h .key .most in
+    let m = h .key .upper in
     let e = lookup-data k most (omega arith) i in
     rw (e .0, e .1, found-value s most h)
 
@@ -207,7 +207,7 @@ module _ (p : Parts) (b : Bytes p) (l : Lent) (d : List ℕ) (typed : Typed (His
       → let q = reached p l d ms in let r = made q (record { lent = j; call = call }) in
       (r .answer ≡ done)
       × (view (r .parts) .pending ≡ owed (view q .terminator-owed) ++ lookupReply version n most (setSince 5 (sinceMore (origin 5) (requestsIn (framesBy w bs)))))
-  withdrawn-list-answered version n most = last-set {k = 5} (record { key = record { least = omega arith; most = omega arith }; other = λ e. omega arith }) version n most
+  withdrawn-list-answered version n most = last-set {k = 5} (record { key = record { lower = omega arith; upper = omega arith }; other = λ e. omega arith }) version n most
 
   -- In version 2, where v is the value of the last of the successful sets since the last accepted start or a later restore, and the others are vs: the edition
   -- that is handed out is the number of these sets, on top of the restored edition, and the value is v
@@ -229,7 +229,7 @@ module _ (p : Parts) (b : Bytes p) (l : Lent) (d : List ℕ) (typed : Typed (His
       (r .answer ≡ found (f .result) (length (f .value))) × (r .out ≡ f .value)
   unfolding meantMade meant
   lookup-last-set {k} h most i j e =
-      let m = h .key .most in
+      let m = h .key .upper in
       let q = reached p l d ms in
       let meets = rw e at (one-call q (record { lent = j; call = Histories.local (Histories.lookup k most) }) (history p b l d typed accepted ms t .2) (omega arith, i)) in
       rw (meets .answer, meets .out, found-value (view q) most h, value-last-set (h .key)) (refl, refl)

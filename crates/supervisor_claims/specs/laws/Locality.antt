@@ -27,7 +27,7 @@ use Rattle.supervisor.proofs.ValidLaws.{OutboxValid, FactoryValid, SettingsVali
 use Rattle.supervisor.proofs.ValidLaws.{outbox-valid, valid-outbox, factory-valid, valid-factory, settings-valid, valid-settings, registers-valid}
 use Rattle.supervisor.proofs.ValidLaws.{start-good, good-start}
 use Rattle.supervisor.proofs.KeptRegisters.{groups-valid, numbers-kept, flags-kept, failure-kept, panic-kept, waiting-kept, retained-kept}
-use Rattle.supervisor.proofs.OffsetLaws.{place-within}
+use Rattle.supervisor.proofs.OffsetLaws.{offset-within}
 use Rattle.requests.proofs.KeptLaws.{setting-kept}
 use Rattle.supervisor_claims.specs.ByPart.{Part, published, part, Every, every, of, part-by, every-by, parts-same, published-some}
 use Rattle.supervisor_claims.specs.View.{factoryOf, settingsOf, receivedOf, pendingOf, view}
@@ -103,15 +103,15 @@ module _ {s t : List ℕ} (same : Same 0 Layout.settings-length s t) (v : Settin
   values-alike =
       listed-same _ _ Limits.setting-count (λ i l.
       let key = Limits.first-setting + i in
-      let h : Limits.SettingsKey key = record { least = omega arith; most = omega arith } in
-      setting-same same (Layout.setting-offset key) (Limits.longest-setting key) (v .each key h) (omega (arith, place-within key h)))
+      let h : Limits.SettingsKey key = record { lower = omega arith; upper = omega arith } in
+      setting-same same (Layout.setting-offset key) (Limits.longest-setting key) (v .each key h) (omega (arith, offset-within key h)))
 
   settings-alike : Layout.settings-length ≤ length t → validSettings t ≡ true
   settings-alike h =
       valid-settings t
       (record {
         long = h;
-        each = λ key i. setting-kept (same-within same (omega (arith, place-within key i))) (v .each key i);
+        each = λ key i. setting-kept (same-within same (omega (arith, offset-within key i))) (v .each key i);
       })
 
 -- ---- the registers

@@ -55,7 +55,7 @@ module _ (at action : ℕ) (text r : List ℕ) (room : at ≤ length r) (byte : 
 
 pub record Posting (r : List ℕ) (action : ℕ) (text : List ℕ) : Type 0 where
   pub valid : RegistersValid r
-  pub least : 1 ≤ action
+  pub nonzero : 1 ≤ action
   pub byte : action < 256
   pub short : length text ≤ Limits.longest-alert
   pub few : Layout.alertCount r < Limits.most-alerts
@@ -65,7 +65,7 @@ pub allowed : (r : List ℕ) (action : ℕ) (text : List ℕ) → validRegisters
     → ltb Limits.longest-alert (length text) ≡ false → ltb (Layout.alertCount r) Limits.most-alerts ≡ true → Posting r action text
 allowed r action text v h e f g = record {
   valid = registers-valid r v;
-  least = omega (arith, eqb-false action 0 e);
+  nonzero = omega (arith, eqb-false action 0 e);
   byte = h;
   short = ltb-false _ _ f;
   few = ltb-true _ _ g;

@@ -153,17 +153,17 @@ module _ (p : Calls.Parts) (w : RegistersValid (p .registers)) where
   -- ---- a record
 
   module _ (at code : ℕ) (rest : List ℕ) (h : (Layout.boot-failure-offset ≤ at) × (at ≤ Layout.panic-offset)) where
-    abbrev telling : List ℕ
-    telling = Receive.withRecord (p .registers) at code rest
+    abbrev recording : List ℕ
+    recording = Receive.withRecord (p .registers) at code rest
 
-    record-before : Same Layout.status-offset at (p .registers) telling
+    record-before : Same Layout.status-offset at (p .registers) recording
     record-before = recorded-before (p .registers) at code rest (omega arith) (omega arith)
 
-    record-after : Same (at + Layout.record-length) Layout.registers-length (p .registers) telling
+    record-after : Same (at + Layout.record-length) Layout.registers-length (p .registers) recording
     record-after = recorded-after (p .registers) at code rest (omega arith) (omega arith)
 
-    record-view : view (withRegisters p telling)
-        ≡ noted (view p) (view p .reboot-asked) (view p .power-off-asked) (recordedOf telling Layout.boot-failure-offset) (recordedOf telling Layout.panic-offset)
+    record-view : view (withRegisters p recording)
+        ≡ noted (view p) (view p .reboot-asked) (view p .power-off-asked) (recordedOf recording Layout.boot-failure-offset) (recordedOf recording Layout.panic-offset)
     unfolding view Receive.withRecord
     record-view =
         put-view p w at (entry code rest) (omega (arith, length-entry code rest))
@@ -172,7 +172,7 @@ module _ (p : Calls.Parts) (w : RegistersValid (p .registers)) where
           number-same record-before 1 Layout.power-off-offset (omega arith),
         )
 
-    pub record-like : Each Byte rest → Like (p .registers) telling
+    pub record-like : Each Byte rest → Like (p .registers) recording
     unfolding Receive.withRecord
     record-like e =
         like-put at (entry code rest) (p .registers) (omega (arith, length-entry code rest))

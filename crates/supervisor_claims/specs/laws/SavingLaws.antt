@@ -23,14 +23,14 @@ use Rattle.supervisor.specs.Limits
 use Rattle.supervisor.specs.Limits.{SettingsKey}
 use Rattle.supervisor.specs.Layout
 use Rattle.supervisor.specs.State.{Setting, unset}
-use Rattle.supervisor.proofs.OffsetLaws.{place-within, longest-short, Lies, setting-lies}
+use Rattle.supervisor.proofs.OffsetLaws.{offset-within, longest-short, Lies, setting-lies}
 use Rattle.supervisor.proofs.ValidLaws.{SettingsValid}
 use Rattle.saving.specs.Saving
 use Rattle.saving.specs.Saving.{Entry, Read, fault, good, Step, bad, ended, to, step, recordStep, complete, read}
 use Rattle.saving.specs.Calls as SavingCalls
 use Rattle.saving.proofs.ReadLaws.{reading-by, entries-each}
 use Rattle.saving.proofs.StoreLaws.{length-setting}
-use Rattle.saving.proofs.PlaceLaws.{saved-key}
+use Rattle.saving.proofs.RestoreLaws.{saved-key}
 use Rattle.saving.proofs.KeptLaws.{Allowed, entries-allowed, cleared-valid, all-valid}
 use Rattle.saving_claims.specs.EntryLaws.{Rising}
 use Rattle.saving_claims.specs.Item11.{read-exact}
@@ -154,7 +154,7 @@ module _ (s xs : List ℕ) (key : ℕ) (w : SettingsValid s) (k : SettingsKey ke
   other-setting j i n = by (setting-lies j key i k)
     where
       room : here + length xs ≤ length s
-      room = omega (arith, place-within key k, w .long)
+      room = omega (arith, offset-within key k, w .long)
 
       by : Lies j key → settingOf (overlay here xs s) (Layout.setting-offset j) ≡ settingOf s (Layout.setting-offset j)
       by (inl l) =
@@ -175,7 +175,7 @@ module _ (s : List ℕ) (key : ℕ) (w : SettingsValid s) (k : SettingsKey key) 
   unfolding settingOf number
   unset-here =
       let at = Layout.setting-offset key in
-      let room : at ≤ length s = omega (arith, place-within key k, w .long) in
+      let room : at ≤ length s = omega (arith, offset-within key k, w .long) in
       let held = ap number (rw add-zero at (overlay-part at 0 1 zeros s room (omega arith))) in
       let edition = ap number (overlay-part at Layout.setting-edition-offset 4 zeros s room (omega arith)) in
       rw (held, edition)
@@ -213,7 +213,7 @@ module _ (s t : List ℕ) (n : ℕ) (v : SettingsValid t) (h : n < Saving.saved-
 cleared-setting : (s : List ℕ) → SettingsValid s → (n : ℕ) → n ≤ Saving.saved-count → (j : ℕ) → SettingsKey j
     → settingOf (SavingCalls.cleared n s) (Layout.setting-offset j) ≡ cond (ltb j (Limits.first-setting + n)) unset (settingOf s (Layout.setting-offset j))
 unfolding SavingCalls.cleared
-cleared-setting s w zero h j i = rw (le-ltb j (Limits.first-setting + 0) (omega (arith, i .least)))
+cleared-setting s w zero h j i = rw (le-ltb j (Limits.first-setting + 0) (omega (arith, i .lower)))
 cleared-setting s w (suc n) h j i =
     let e : Limits.first-setting + suc n ≡ suc (Limits.first-setting + n) = omega arith in
     rw e
@@ -229,7 +229,7 @@ module _ (e : Entry) (a : Allowed e) (low : e .edition < 256 ^ 4) (s : List ℕ)
       let v = e .value in
       let xs = Layout.settingBytes (e .edition) v in
       let size = length-setting (e .edition) v in
-      let room : at ≤ length s = omega (arith, place-within (e .key) (a .its-key), w .long) in
+      let room : at ≤ length s = omega (arith, offset-within (e .key) (a .its-key), w .long) in
       let short = longest-short (e .key) in
       let held = ap number (rw add-zero at (overlay-part at 0 1 xs s room (omega (arith, size)))) ∙ number-bytes 1 1 (omega arith) in
       let edition = ap number (overlay-part at Layout.setting-edition-offset 4 xs s room (omega (arith, size))) ∙ number-bytes 4 (e .edition) low in
@@ -309,7 +309,7 @@ module _ (s : List ℕ) (w : SettingsValid s) (es : List Entry) (from : ℕ) (r 
       settingOf (SavingCalls.putAll es (SavingCalls.cleared Saving.saved-count s)) at ≡ mixed Saving.saved-count es (λ i. settingOf s (Layout.setting-offset (Limits.first-setting + i))) i
   left-setting i l =
       let j = Limits.first-setting + i in
-      let k : SettingsKey j = record { least = omega arith; most = omega arith } in
+      let k : SettingsKey j = record { lower = omega arith; upper = omega arith } in
       put-all-setting from es r a low (SavingCalls.cleared Saving.saved-count s) (cleared-valid s w Saving.saved-count (omega arith) .0) j k
       ∙ rw (cleared-setting s w Saving.saved-count (omega arith) j k) (by (ltb i Saving.saved-count) refl)
     where

@@ -17,7 +17,7 @@ use Rattle.octets.proofs.SameBytes.{Same, number-same}
 use Rattle.supervisor.specs.Limits
 use Rattle.supervisor.specs.Layout
 use Rattle.supervisor.specs.State.{Setting, unset, Settings, setting, withSetting}
-use Rattle.supervisor.proofs.OffsetLaws.{place-within, Lies, setting-lies}
+use Rattle.supervisor.proofs.OffsetLaws.{offset-within, Lies, setting-lies}
 use Rattle.supervisor.proofs.ValidLaws.{SettingValid, SettingsValid}
 use Rattle.requests.specs.Requests
 use Rattle.requests.specs.Receive
@@ -48,10 +48,10 @@ setting-is s key h =
 
 -- ---- the other settings
 
-pub setting-same : {from to least : ℕ} {s t : List ℕ} → Same from to s t → (at most : ℕ) → SettingValid s at least most
-    → (from ≤ at) × (at + Layout.setting-value-offset + most ≤ to) → settingOf t at ≡ settingOf s at
+pub setting-same : {from to shortest : ℕ} {s t : List ℕ} → Same from to s t → (at longest : ℕ) → SettingValid s at shortest longest
+    → (from ≤ at) × (at + Layout.setting-value-offset + longest ≤ to) → settingOf t at ≡ settingOf s at
 unfolding settingOf
-setting-same {s} same at most v h =
+setting-same {s} same at longest v h =
     rw (
       number-same same 1 at (omega arith),
       number-same same 4 (at + Layout.setting-edition-offset) (omega arith),
@@ -59,12 +59,12 @@ setting-same {s} same at most v h =
       same .runs (at + Layout.setting-value-offset) (Layout.settingLength s at) (omega arith),
     )
 
-module _ (s v : List ℕ) (at : ℕ) (room : at + (Layout.setting-value-offset + length v) ≤ length s) {bt least most : ℕ} (valid : SettingValid s bt least most) where
-  before-value : bt + Layout.setting-value-offset + most ≤ at → settingOf (Receive.withValue s at v) bt ≡ settingOf s bt
-  before-value h = setting-same (setting-before s v at room {from = bt} h) bt most valid (omega arith)
+module _ (s v : List ℕ) (at : ℕ) (room : at + (Layout.setting-value-offset + length v) ≤ length s) {bt shortest longest : ℕ} (valid : SettingValid s bt shortest longest) where
+  before-value : bt + Layout.setting-value-offset + longest ≤ at → settingOf (Receive.withValue s at v) bt ≡ settingOf s bt
+  before-value h = setting-same (setting-before s v at room {from = bt} h) bt longest valid (omega arith)
 
   after-value : at + (Layout.setting-value-offset + length v) ≤ bt → settingOf (Receive.withValue s at v) bt ≡ settingOf s bt
-  after-value h = setting-same (setting-after s v at room {to = bt + Layout.setting-value-offset + most} h) bt most valid (omega arith)
+  after-value h = setting-same (setting-after s v at room {to = bt + Layout.setting-value-offset + longest} h) bt longest valid (omega arith)
 
 -- ---- what a store does and answers is what the meaning has
 
@@ -75,23 +75,23 @@ pub record Stores (s : List ℕ) (k : Receive.KeyStored) (t : Requests.Stored) :
   pub like : Like s (k .settings)
 
 module _ (s v : List ℕ) (w : SettingsValid s) (held : Each Byte s) (each : Each Byte v) where
-  abbrev told : ℕ → Settings → Requests.Stored
-  told n x = record { result = n; settings = x }
+  abbrev storedWith : ℕ → Settings → Requests.Stored
+  storedWith n x = record { result = n; settings = x }
 
   -- nothing is stored
-  unstored : (n : ℕ) → n < 256 → Stores s (Receive.keyStored n s) (told n (settingsOf s))
+  unstored : (n : ℕ) → n < 256 → Stores s (Receive.keyStored n s) (storedWith n (settingsOf s))
   unstored n h = record { settings = refl; result = refl; small = h; like = like-itself s }
 
   -- at the offset of a key
-  stored-at : (at least most : ℕ) (x : Settings) → at + (Layout.setting-value-offset + most) ≤ Layout.settings-length
-      → (length v ≤ most → Layout.settingEdition s at < Limits.last-edition → settingsOf (Receive.withValue s at v) ≡ x)
-      → Stores s (Receive.storingAt s at least most v)
-      (cond (ltb (length v) least || ltb most (length v)) (told 3 (settingsOf s)) (cond (eqb (Layout.settingEdition s at) Limits.last-edition) (told 4 (settingsOf s)) (told 0 x)))
+  stored-at : (at shortest longest : ℕ) (x : Settings) → at + (Layout.setting-value-offset + longest) ≤ Layout.settings-length
+      → (length v ≤ longest → Layout.settingEdition s at < Limits.last-edition → settingsOf (Receive.withValue s at v) ≡ x)
+      → Stores s (Receive.storingAt s at shortest longest v)
+      (cond (ltb (length v) shortest || ltb longest (length v)) (storedWith 3 (settingsOf s)) (cond (eqb (Layout.settingEdition s at) Limits.last-edition) (storedWith 4 (settingsOf s)) (storedWith 0 x)))
   unfolding Receive.storingAt Receive.withValue
-  stored-at at least most x h e =
-      cond-both (Stores s) (ltb (length v) least || ltb most (length v)) (λ f. unstored 3 (omega arith)) (λ f.
+  stored-at at shortest longest x h e =
+      cond-both (Stores s) (ltb (length v) shortest || ltb longest (length v)) (λ f. unstored 3 (omega arith)) (λ f.
       cond-both (Stores s) (eqb (Layout.settingEdition s at) Limits.last-edition) (λ g. unstored 4 (omega arith)) (λ g.
-      let l = length-right least most (length v) f .1 in
+      let l = length-right shortest longest (length v) f .1 in
       let low = number-small 4 (at + Layout.setting-edition-offset) s held in
       let n = suc (Layout.settingEdition s at) in
       record {
@@ -121,7 +121,7 @@ module _ (s v : List ℕ) (w : SettingsValid s) (held : Each Byte s) (each : Eac
         listed-set _ _ (next (Layout.settingEdition s (Layout.setting-offset key)) v) Limits.setting-count (key - Limits.first-setting) (omega (arith, h))
         (rw e (put-setting s v (Layout.setting-offset key) (value-room s v w key h short) (value-small s v w key h short) low))
         (λ j l n.
-        let i : Limits.SettingsKey (Limits.first-setting + j) = record { least = omega arith; most = omega arith } in
+        let i : Limits.SettingsKey (Limits.first-setting + j) = record { lower = omega arith; upper = omega arith } in
         other-value (Limits.first-setting + j) i (setting-lies (Limits.first-setting + j) key i h) (λ o. n (omega (arith, o))))
 
   pub storing-stored : (key : ℕ) → Stores s (Receive.storing s key v) (Requests.stored (settingsOf s) key v)
@@ -129,5 +129,5 @@ module _ (s v : List ℕ) (w : SettingsValid s) (held : Each Byte s) (each : Eac
   storing-stored key =
       cond-both (Stores s) (ltb Limits.highest-key key) (λ e. unstored 1 (omega arith)) (λ e.
       cond-both (Stores s) (ltb key Limits.first-setting) (λ f. unstored 2 (omega arith)) (λ f.
-      let h : Limits.SettingsKey key = record { least = ltb-false key Limits.first-setting f; most = ltb-false Limits.highest-key key e } in
-      rw (setting-is s key h) (stored-at _ _ _ _ (place-within key h) (settings-put key h))))
+      let h : Limits.SettingsKey key = record { lower = ltb-false key Limits.first-setting f; upper = ltb-false Limits.highest-key key e } in
+      rw (setting-is s key h) (stored-at _ _ _ _ (offset-within key h) (settings-put key h))))

@@ -59,13 +59,13 @@ abbrev pub tookAll : State → Session
 tookAll s = record { taken = allTaken s; state = afterAll s }
 
 -- one byte is received, and then all is taken
-unfoldable pub turn : List ℕ → State → ℕ → Session
-turn image s b = tookAll (byte image s b)
+unfoldable pub cycle : List ℕ → State → ℕ → Session
+cycle image s b = tookAll (byte image s b)
 
 unfoldable pub session : List ℕ → State → List ℕ → Session
 session image s [] = record { taken = []; state = s }
 session image s (b ∷ bs) =
-    let t = turn image s b in
+    let t = cycle image s b in
     let u = session image (t .state) bs in
     record { taken = t .taken ++ u .taken; state = u .state }
 
@@ -152,16 +152,16 @@ module _ (image : List ℕ) (s : State) (q : Quiet s) where
       ∙ reply-taken (afterFrame image s f) r (s .terminator-owed) (replyTo image s f) (frame-quiet image s f q) (q .terminator-owed)
 
   -- a 00 behind bytes
-  turn-close : (bs : List ℕ) → turn image (withReceived s (tailOf bs)) 0
+  cycle-close : (bs : List ℕ) → cycle image (withReceived s (tailOf bs)) 0
       ≡ record { taken = replies image s (nonEmpty (bs ∷ [])); state = withReceived (afterFrames image s (nonEmpty (bs ∷ []))) (some []) }
-  unfolding turn byte framed replies afterFrames nonEmpty
-  turn-close [] = ap tookAll (closed-framed image s []) ∙ quiet-taken s (some []) q
-  turn-close (b ∷ bs) = ap tookAll (closed-framed image s (b ∷ bs)) ∙ rw append-nil (judged-taken (some []) (b ∷ bs))
+  unfolding cycle byte framed replies afterFrames nonEmpty
+  cycle-close [] = ap tookAll (closed-framed image s []) ∙ quiet-taken s (some []) q
+  cycle-close (b ∷ bs) = ap tookAll (closed-framed image s (b ∷ bs)) ∙ rw append-nil (judged-taken (some []) (b ∷ bs))
 
   -- any other byte
-  turn-more : (bs : List ℕ) (b : ℕ) → turn image (withReceived s (tailOf bs)) (suc b) ≡ record { taken = []; state = withReceived s (tailOf (bs ++ (suc b ∷ []))) }
-  unfolding turn byte
-  turn-more bs b = rw (eqb·suc-zero, more-tail bs (suc b)) (quiet-taken s (tailOf (bs ++ (suc b ∷ []))) q)
+  cycle-more : (bs : List ℕ) (b : ℕ) → cycle image (withReceived s (tailOf bs)) (suc b) ≡ record { taken = []; state = withReceived s (tailOf (bs ++ (suc b ∷ []))) }
+  unfolding cycle byte
+  cycle-more bs b = rw (eqb·suc-zero, more-tail bs (suc b)) (quiet-taken s (tailOf (bs ++ (suc b ∷ []))) q)
 
 -- ---- the claim
 
@@ -176,26 +176,26 @@ module _ (image : List ℕ) (s : State) (q : Quiet s) where
   abbrev joined : Session → Session → Session
   joined x y = record { taken = x .taken ++ y .taken; state = y .state }
 
-  turn-replied : (bs : List ℕ) (b : ℕ) → joined (repliedTo bs) (turn image (repliedTo bs .state) b) ≡ repliedTo (bs ++ (b ∷ []))
+  cycle-replied : (bs : List ℕ) (b : ℕ) → joined (repliedTo bs) (cycle image (repliedTo bs .state) b) ≡ repliedTo (bs ++ (b ∷ []))
   unfolding tailOf
-  turn-replied bs zero =
+  cycle-replied bs zero =
       let fs = nonEmpty (split bs .closed) in
       let t = split bs .rest in
       let g = nonEmpty (t ∷ []) in
-      ap (joined (repliedTo bs)) (turn-close image (afterFrames image s fs) (frames-quiet image s fs q) t)
+      ap (joined (repliedTo bs)) (cycle-close image (afterFrames image s fs) (frames-quiet image s fs q) t)
       ∙ rw (split-close bs, nonEmpty-append (split bs .closed) (t ∷ []), replies-append image s fs g, after-append image s fs g)
-  turn-replied bs (suc b) =
+  cycle-replied bs (suc b) =
       let fs = nonEmpty (split bs .closed) in
-      ap (joined (repliedTo bs)) (turn-more image (afterFrames image s fs) (frames-quiet image s fs q) (split bs .rest) b)
+      ap (joined (repliedTo bs)) (cycle-more image (afterFrames image s fs) (frames-quiet image s fs q) (split bs .rest) b)
       ∙ rw (split-more bs b) (simp append-nil)
 
   session-replied : (cs bs : List ℕ) → joined (repliedTo bs) (session image (repliedTo bs .state) cs) ≡ repliedTo (bs ++ cs)
   unfolding session
   session-replied [] bs = simp append-nil
   session-replied (c ∷ cs) bs =
-      let t = turn image (repliedTo bs .state) c in
+      let t = cycle image (repliedTo bs .state) c in
       rw (← append-assoc (repliedTo bs .taken) (t .taken) (session image (t .state) cs .taken))
-      (ap (λ (x : Session). joined x (session image (x .state) cs)) (turn-replied bs c) ∙ session-replied cs (bs ++ (c ∷ [])) ∙ rw append-snoc)
+      (ap (λ (x : Session). joined x (session image (x .state) cs)) (cycle-replied bs c) ∙ session-replied cs (bs ++ (c ∷ [])) ∙ rw append-snoc)
 
 -- what is taken is the replies to the frames that are not empty, in order, and the state is as those frames leave it, with nothing pending
 module _ (image : List ℕ) (s : State) (bs : List ℕ) (idle : s .received ≡ some []) (pending : s .pending ≡ []) (terminator-owed : s .terminator-owed ≡ false) where

@@ -29,7 +29,7 @@ impl Random {
 
 /// A message as it was put on the wire.
 #[derive(Clone, PartialEq, Eq)]
-struct Said {
+struct Sent {
     sequence: u64,
     command: u8,
     data: Vec<u8>,
@@ -49,7 +49,7 @@ impl<'s> Line<'s> {
     }
 
     /// Puts a byte on the wire; gives the message whose frame it ends.
-    fn put(&mut self, tick: u64, byte: u8, random: &mut Random) -> Option<Said> {
+    fn put(&mut self, tick: u64, byte: u8, random: &mut Random) -> Option<Sent> {
         let (mut sent, mut due) = (byte, tick + 3);
         match random.below(900) {
             0 => {
@@ -71,11 +71,11 @@ impl<'s> Line<'s> {
         self.heard(tick, byte)
     }
 
-    fn heard(&mut self, tick: u64, byte: u8) -> Option<Said> {
+    fn heard(&mut self, tick: u64, byte: u8) -> Option<Sent> {
         let ReadEnd::Message(message) = self.clean.read(&[byte]).end else { return None };
-        let said = Said { sequence: message.sequence, command: message.command, data: message.data.to_vec() };
-        println!("{tick:7} {}: {:016x} command {:02x}, {} bytes of data", self.name, said.sequence, said.command, said.data.len());
-        Some(said)
+        let sent = Sent { sequence: message.sequence, command: message.command, data: message.data.to_vec() };
+        println!("{tick:7} {}: {:016x} command {:02x}, {} bytes of data", self.name, sent.sequence, sent.command, sent.data.len());
+        Some(sent)
     }
 
     fn get(&mut self, tick: u64) -> Option<u8> {
@@ -118,8 +118,8 @@ struct World<'s> {
     supervisor: Supervisor<'s>,
     there: Line<'s>,
     back: Line<'s>,
-    asked: HashMap<u64, Said>,
-    given: HashMap<u64, Vec<Said>>,
+    asked: HashMap<u64, Sent>,
+    given: HashMap<u64, Vec<Sent>>,
 }
 
 impl<'s> World<'s> {
@@ -159,8 +159,8 @@ impl<'s> World<'s> {
             self.supervisor.receive(&[], &[byte]);
         }
         if let &[byte] = self.supervisor.take(&mut [0]) {
-            if let Some(said) = self.back.put(tick, byte, &mut self.random) {
-                self.given.entry(said.sequence).or_default().push(said);
+            if let Some(sent) = self.back.put(tick, byte, &mut self.random) {
+                self.given.entry(sent.sequence).or_default().push(sent);
             }
         }
     }
@@ -174,8 +174,8 @@ impl<'s> World<'s> {
         }
         if let Some(byte) = self.main.out.pop_front() {
             self.main.quiet = 0;
-            if let Some(said) = self.there.put(tick, byte, &mut self.random) {
-                self.asked.insert(said.sequence, said);
+            if let Some(sent) = self.there.put(tick, byte, &mut self.random) {
+                self.asked.insert(sent.sequence, sent);
             }
         }
         Ok(right)
@@ -194,8 +194,8 @@ impl<'s> World<'s> {
                 self.main.recovering = status.status & 3 != 0;
             }
             Handed::Answer(reply) | Handed::Alert(reply) => {
-                let said = Said { sequence: reply.sequence, command: reply.command, data: reply.data.to_vec() };
-                right = self.settle(tick, &said);
+                let sent = Sent { sequence: reply.sequence, command: reply.command, data: reply.data.to_vec() };
+                right = self.settle(tick, &sent);
             }
         }
         self.main.recovering &= !ended;
@@ -206,11 +206,11 @@ impl<'s> World<'s> {
     }
 
     /// An answer handed out: the supervisor gave it under this number, and under this number the request was asked.
-    fn settle(&mut self, tick: u64, said: &Said) -> bool {
-        let text = String::from_utf8_lossy(&said.data);
-        println!("{tick:7} main: answer {:016x} command {:02x} \"{}\"", said.sequence, said.command, text.escape_debug());
-        let given = self.given.get(&said.sequence).is_some_and(|all| all.contains(said));
-        let Some(asked) = self.asked.get(&(said.sequence & !TOP_BIT)) else { return false };
+    fn settle(&mut self, tick: u64, sent: &Sent) -> bool {
+        let text = String::from_utf8_lossy(&sent.data);
+        println!("{tick:7} main: answer {:016x} command {:02x} \"{}\"", sent.sequence, sent.command, text.escape_debug());
+        let given = self.given.get(&sent.sequence).is_some_and(|all| all.contains(sent));
+        let Some(asked) = self.asked.get(&(sent.sequence & !TOP_BIT)) else { return false };
         if self.main.recovering {
             self.main.alerts += 1;
             return given && asked.command == 0x0a;

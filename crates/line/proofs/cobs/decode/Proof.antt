@@ -52,8 +52,8 @@ loop-again-2 c =
 -- a group
 loop-again-3 : tie.Need-loop-again-3 Inv-loop μ-loop
 loop-again-3 c =
-    let at-least = c .before .before .before .before in
-    let at-held = at-least .before .before in
+    let at-min = c .before .before .before .before in
+    let at-held = at-min .before .before in
     let at-put = at-held .before .before .before in
     let at-wide = at-put .before .before in
     let in-loop = at-wide .before .before .before .before .before .before .before .before in
@@ -64,9 +64,9 @@ loop-again-3 c =
       search needs,
       rw (c .before .before .move-down .ensures, at-put .put-held .ensures, at-held .held .ensures .0)
           (middle-next (now (start .args .s)) (start .args .n) (iteration .s) (iteration .zero) (iteration .o) (iteration .i)
-          (at-wide .wide .result) (at-least .min .result)
+          (at-wide .wide .result) (at-min .min .result)
           (iteration .inv .2) (in-loop .loop-test .taken) (start .pre) (at-wide .wide .ensures .0)
-          (at-least .min .ensures ∙ ap (λ (m : ℕ). min m (start .args .n - (iteration .i + 1))) (at-least .before .less-one .ensures))),
+          (at-min .min .ensures ∙ ap (λ (m : ℕ). min m (start .args .n - (iteration .i + 1))) (at-min .before .less-one .ensures))),
     )
 
 returns : tie.Need-returns Inv-loop μ-loop

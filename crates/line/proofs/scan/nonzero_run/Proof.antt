@@ -26,11 +26,11 @@ returns c =
 -- no byte is passed, and then blocks of both widths
 loop-holds : tie.Need-loop-holds Inv-loop μ-loop
 loop-holds c =
-    let at-least = c .before .before in
-    let a = at-least .before .before .before .args in
+    let at-min = c .before .before in
+    let a = at-min .before .before .before .args in
     let n = length-drop (a .from) (now (a .s)) in (
       c .pass-blocks2 .ensures .0,
-      reached-start (a .most) (at-least .min .result) (drop (a .from) (now (a .s))) (rw n (at-least .min .ensures))
+      reached-start (a .most) (at-min .min .result) (drop (a .from) (now (a .s))) (rw n (at-min .min .ensures))
           ∙ c .before .pass-blocks .ensures .1 ∙ c .pass-blocks2 .ensures .1,
     )
 
@@ -38,30 +38,30 @@ returns-2 : tie.Need-returns-2 Inv-loop μ-loop
 returns-2 c =
     let at-loop = c .before .before .before in
     let l = at-loop .loop in
-    let at-least = at-loop .before .before .before in
-    let a = at-least .before .before .before .args in
+    let at-min = at-loop .before .before .before in
+    let a = at-min .before .before .before .args in
     let n = length-drop (a .from) (now (a .s)) in
     let b = getD-drop (a .from) (now (a .s)) (l .k) 0 in
-    sym (l .inv .1 ∙ reached-zero (at-least .min .result) (l .k) (drop (a .from) (now (a .s))) (omega arith) (omega arith))
+    sym (l .inv .1 ∙ reached-zero (at-min .min .result) (l .k) (drop (a .from) (now (a .s))) (omega arith) (omega arith))
 
 loop-again : tie.Need-loop-again Inv-loop μ-loop
 loop-again c =
     let at-loop = c .before .before .before in
     let l = at-loop .loop in
-    let at-least = at-loop .before .before .before in
-    let a = at-least .before .before .before .args in
+    let at-min = at-loop .before .before .before in
+    let a = at-min .before .before .before .args in
     let n = length-drop (a .from) (now (a .s)) in
     let b = getD-drop (a .from) (now (a .s)) (l .k) 0 in
-    (search needs, l .inv .1 ∙ reached-more (at-least .min .result) (l .k) (drop (a .from) (now (a .s))) (omega arith) (omega arith) (omega arith))
+    (search needs, l .inv .1 ∙ reached-more (at-min .min .result) (l .k) (drop (a .from) (now (a .s))) (omega arith) (omega arith) (omega arith))
 
 returns-3 : tie.Need-returns-3 Inv-loop μ-loop
 returns-3 c =
     let at-loop = c .before in
     let l = at-loop .loop in
-    let at-least = at-loop .before .before .before in
-    let a = at-least .before .before .before .args in
+    let at-min = at-loop .before .before .before in
+    let a = at-min .before .before .before .args in
     let n = length-drop (a .from) (now (a .s)) in
-    sym (l .inv .1 ∙ reached-end (at-least .min .result) (l .k) (drop (a .from) (now (a .s))) (omega arith))
+    sym (l .inv .1 ∙ reached-end (at-min .min .result) (l .k) (drop (a .from) (now (a .s))) (omega arith))
 
 pub nonzero-run-spec : {M : Type 1} → statement M
 nonzero-run-spec =

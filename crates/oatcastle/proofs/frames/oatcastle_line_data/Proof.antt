@@ -18,11 +18,11 @@ returns-2 c = rw (← c .before .before .message-data-given .ensures, c .enum-to
 returns-3 : tie.Need-returns-3
 unfolding lineDataCall dataGiven dataReport
 returns-3 c =
-    let told = c .before .before in
-    let bytes = told .before .before in
+    let earlier = c .before .before in
+    let bytes = earlier .before .before in
     let arm = bytes .before in
     let asked = arm .before .before in
-    rw (← asked .message-data-given .ensures, arm .enum-told3 .given .1, ← bytes .message-data .ensures) (told .write-bytes .ensures)
+    rw (← asked .message-data-given .ensures, arm .enum-told3 .given .1, ← bytes .message-data .ensures) (earlier .write-bytes .ensures)
 
 pub oatcastle-line-data-spec : {M : Type 1} → statement M
 oatcastle-line-data-spec =

@@ -15,11 +15,11 @@ returns-2 c = read-short _ _ _ (passed _ _ (c .before .before .is-valid .ensures
 
 returns-3 : tie.Need-returns-3
 returns-3 c =
-    let told = c .before .before in
-    let read = told .before .before .before .before in
+    let earlier = c .before .before in
+    let read = earlier .before .before .before .before in
     let first = read .before .before .before in
     let tested = first .before in
-    read-given _ _ _ (passed _ _ (tested .is-valid .ensures) (first .if1 .left)) _ (search needs) (read .read .ensures) (told .answer-reading .ensures)
+    read-given _ _ _ (passed _ _ (tested .is-valid .ensures) (first .if1 .left)) _ (search needs) (read .read .ensures) (earlier .answer-reading .ensures)
 
 pub oatcastle-line-read-spec : {M : Type 1} → statement M
 oatcastle-line-read-spec =

@@ -61,10 +61,10 @@ abbrev stayed : Stays (f.ended .signature .params) (f.ended .kept)
 stayed = (gave-slice (0 ∷ []) tt (plain (λ _. P.the-row)), (stay-dropped (shrSliceOf (1 ∷ []) tt (plain (λ _. usize))) yes, (stay-dropped (shrSliceOf (2 ∷ []) tt (plain (λ _. u8))) yes, tt)))
 
 -- what the two callees ensure comes to what is promised
-told : (ys : List Probe) (is rs : List ℕ) (r : Updated) (zs : List Probe) (m : ℕ) → outcomeOf r zs ≡ updating ys is rs → m ≡ numbered (updatedReport r)
+outcome-given : (ys : List Probe) (is rs : List ℕ) (r : Updated) (zs : List Probe) (m : ℕ) → outcomeOf r zs ≡ updating ys is rs → m ≡ numbered (updatedReport r)
     → outcome m zs ≡ probeUpdateCall ys is rs
 unfolding probeUpdateCall
-told ys is rs r zs m e e′ = ap (λ (k : ℕ). outcome k zs) e′ ∙ ap probeGiven e
+outcome-given ys is rs r zs m e e′ = ap (λ (k : ℕ). outcome k zs) e′ ∙ ap probeGiven e
 
 -- the contracts that the proof cites
 module _ {M : Type 1} (𝓤 : URA M) (H : Heap 𝓤) (A : Atoms 𝓤) (mem : Memory → SProp 𝓤) (run : Routine → Fun 𝓤) where
@@ -154,7 +154,7 @@ module _ {M : Type 1} (𝓤 : URA M) (H : Heap 𝓤) (A : Atoms 𝓤) (W : Given
         peeks ! u32 (Is u32) (shows 𝓤 H A u32) m (u ∷ []) (λ is-number. land ! (from ! (stop !)) (init ! 17 refl (uint-lawful 𝓤 H A W w32 .typed m _ is-number .0)) $
         returns ! (look ! 17 refl) $ forget ! 5 refl $ forget ! 7 refl $ forget ! 9 refl $ forget ! 11 refl $ forget ! 13 refl $ forget ! 15 refl $ forget ! 17 refl $
         move ! (17 ∷ 18 ∷ []) $ free1 ! $ move ! (15 ∷ 16 ∷ []) $ free1 ! $ move ! (13 ∷ 14 ∷ []) $ free1 ! $ move ! (11 ∷ 12 ∷ []) $ free1 ! $ move ! (9 ∷ 10 ∷ []) $ free1 ! $ move ! (7 ∷ 8 ∷ []) $ free1 ! $ move ! (5 ∷ 6 ∷ []) $ free1 ! $ free0 ! $
-        keep ! (2 ∷ 3 ∷ 0 ∷ []) $ by ! (exits m u (zs .0) same (told ys is rs r (zs .0) m e e′)))))))))))))))))))
+        keep ! (2 ∷ 3 ∷ 0 ∷ []) $ by ! (exits m u (zs .0) same (outcome-given ys is rs r (zs .0) m e e′)))))))))))))))))))
 
 module _ {M : Type 1} (𝓤 : URA M) (H : Heap 𝓤) (A : Atoms 𝓤) (W : Given 𝓤 H A) (mem : Memory → SProp 𝓤) (run : Routine → Fun 𝓤) (𝓣 : Tables 𝓤 H)
     (known-update : Triple 𝓤 (𝓣 .C update-symbol.name) (Update 𝓤 H A mem run)) (known-number : Triple 𝓤 (𝓣 .C number-symbol.name) (Number 𝓤 H A mem run)) where

@@ -14,18 +14,18 @@ returns c = rw (← c .before .before .signal .ensures, c .enum-told .given .1)
 returns-2 : tie.Need-returns-2
 unfolding signalCall signalGiven signalReport
 returns-2 c =
-    let told = c .before .before in
-    let arm = told .before .before in
+    let earlier = c .before .before in
+    let arm = earlier .before .before in
     let asked = arm .before .before in
-    rw (← asked .signal .ensures, arm .enum-told2 .given .1) (told .write-answer .ensures)
+    rw (← asked .signal .ensures, arm .enum-told2 .given .1) (earlier .write-answer .ensures)
 
 returns-3 : tie.Need-returns-3
 unfolding signalCall signalGiven signalReport
 returns-3 c =
-    let told = c .before .before in
-    let arm = told .before .before in
+    let earlier = c .before .before in
+    let arm = earlier .before .before in
     let asked = arm .before .before in
-    rw (← asked .signal .ensures, arm .enum-told3 .given .1) (told .write-answer2 .ensures)
+    rw (← asked .signal .ensures, arm .enum-told3 .given .1) (earlier .write-answer2 .ensures)
 
 pub oatcastle-signal-spec : {M : Type 1} → statement M
 oatcastle-signal-spec =

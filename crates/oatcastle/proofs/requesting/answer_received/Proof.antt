@@ -1,39 +1,39 @@
 -- `oatcastle::requesting::answer_received` meets its contract.
 -- Assumes nothing.
 use borrow.Author.Needs.{needs}
-use Rattle.requester.specs.Calls.{told}
+use Rattle.requester.specs.Calls.{receiveReport}
 use Rattle.oatcastle.specs.Answers.{writingAnswer}
 use Rattle.oatcastle.specs.RequesterCalls.{receiptGiven}
 use Rattle.oatcastle.proofs.requesting.answer_received.Statement.{statement}
 use Rattle.oatcastle.proofs.requesting.answer_received.Tie as tie
 
 returns : tie.Need-returns
-unfolding told receiptGiven writingAnswer
+unfolding receiveReport receiptGiven writingAnswer
 returns c = rw (c .enum-told .given .1)
 
 returns-2 : tie.Need-returns-2
-unfolding told receiptGiven
+unfolding receiveReport receiptGiven
 returns-2 c =
     let handed = c .before .before .before .before in
     let flags = handed .before .before in
     rw (handed .enum-told2 .given .1, ← flags .flag-number2 .ensures, ← flags .before .flag-number .ensures) (c .before .before .write-answer .ensures)
 
 returns-3 : tie.Need-returns-3
-unfolding told receiptGiven
+unfolding receiveReport receiptGiven
 returns-3 c =
     let handed = c .before .before .before .before .before .before in
     let flags = handed .before .before in
     rw (handed .handed .given .1, ← flags .flag-number2 .ensures, ← flags .before .flag-number .ensures) (c .before .before .write-answer2 .ensures)
 
 returns-4 : tie.Need-returns-4
-unfolding told receiptGiven
+unfolding receiveReport receiptGiven
 returns-4 c =
     let handed = c .before .before .before .before .before .before in
     let flags = handed .before .before in
     rw (handed .handed2 .given .1, ← flags .flag-number2 .ensures, ← flags .before .flag-number .ensures) (c .before .before .write-answer3 .ensures)
 
 returns-5 : tie.Need-returns-5
-unfolding told receiptGiven
+unfolding receiveReport receiptGiven
 returns-5 c =
     let handed = c .before .before .before .before .before .before in
     let flags = handed .before .before in

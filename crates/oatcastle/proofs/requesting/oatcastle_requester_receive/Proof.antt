@@ -12,9 +12,9 @@ returns c =
 
 returns-2 : tie.Need-returns-2
 returns-2 c =
-    let told = c .before .before in
-    let received = told .before .before .before .before .before .before in
-    listen-given _ _ _ _ (received .before .before .before .if1 .left) (received .receive2 .ensures) (told .answer-received .ensures)
+    let earlier = c .before .before in
+    let received = earlier .before .before .before .before .before .before in
+    listen-given _ _ _ _ (received .before .before .before .if1 .left) (received .receive2 .ensures) (earlier .answer-received .ensures)
 
 pub oatcastle-requester-receive-spec : {M : Type 1} → statement M
 oatcastle-requester-receive-spec =

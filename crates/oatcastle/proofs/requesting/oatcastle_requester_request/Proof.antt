@@ -14,9 +14,9 @@ returns c =
 
 returns-2 : tie.Need-returns-2
 returns-2 c =
-    let told = c .before .before in
-    let put = told .before .before .before .before .before .before in
-    request-given _ _ _ _ _ (put .before .before .before .if1 .left) (put .request2 .ensures) (told .answer-requested .ensures)
+    let earlier = c .before .before in
+    let put = earlier .before .before .before .before .before .before in
+    request-given _ _ _ _ _ (put .before .before .before .if1 .left) (put .request2 .ensures) (earlier .answer-requested .ensures)
 
 pub oatcastle-requester-request-spec : {M : Type 1} → statement M
 oatcastle-requester-request-spec =

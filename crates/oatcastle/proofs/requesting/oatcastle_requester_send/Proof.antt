@@ -14,9 +14,9 @@ returns c =
 
 returns-2 : tie.Need-returns-2
 returns-2 c =
-    let told = c .before .before in
-    let put = told .before .before .before .before .before .before in
-    send-given _ _ _ (put .before .before .before .if1 .left) (put .send2 .ensures) (told .answer-put .ensures)
+    let earlier = c .before .before in
+    let put = earlier .before .before .before .before .before .before in
+    send-given _ _ _ (put .before .before .before .if1 .left) (put .send2 .ensures) (earlier .answer-put .ensures)
 
 pub oatcastle-requester-send-spec : {M : Type 1} → statement M
 oatcastle-requester-send-spec =

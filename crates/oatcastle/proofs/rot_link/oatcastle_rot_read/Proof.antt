@@ -14,9 +14,9 @@ returns c =
 
 returns-2 : tie.Need-returns-2
 returns-2 c =
-    let told = c .before .before in
-    let read = told .before .before .before .before in
-    read-given _ _ _ _ (read .before .before .if1 .left) (read .read2 .ensures) (told .answer-read .ensures)
+    let earlier = c .before .before in
+    let read = earlier .before .before .before .before in
+    read-given _ _ _ _ (read .before .before .if1 .left) (read .read2 .ensures) (earlier .answer-read .ensures)
 
 pub oatcastle-rot-read-spec : {M : Type 1} → statement M
 oatcastle-rot-read-spec =

@@ -14,9 +14,9 @@ returns c =
 
 returns-2 : tie.Need-returns-2
 returns-2 c =
-    let told = c .before .before in
-    let written = told .before .before .before .before in
-    write-given _ _ _ _ (written .before .before .if1 .left) (written .write2 .ensures) (told .answer-sent .ensures)
+    let earlier = c .before .before in
+    let written = earlier .before .before .before .before in
+    write-given _ _ _ _ (written .before .before .if1 .left) (written .write2 .ensures) (earlier .answer-sent .ensures)
 
 pub oatcastle-rot-write-spec : {M : Type 1} → statement M
 oatcastle-rot-write-spec =

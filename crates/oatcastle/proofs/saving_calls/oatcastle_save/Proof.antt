@@ -15,10 +15,10 @@ returns-2 c = save-short _ _ _ (passed _ _ (c .before .before .settings-are-vali
 
 returns-3 : tie.Need-returns-3
 returns-3 c =
-    let told = c .before .before in
-    let saved = told .before .before .before .before in
+    let earlier = c .before .before in
+    let saved = earlier .before .before .before .before in
     let first = saved .before .before .before in
-    save-given _ _ _ (passed _ _ (first .before .settings-are-valid .ensures) (first .if1 .left)) _ (search needs) (saved .save .ensures) (told .answer-saved .ensures)
+    save-given _ _ _ (passed _ _ (first .before .settings-are-valid .ensures) (first .if1 .left)) _ (search needs) (saved .save .ensures) (earlier .answer-saved .ensures)
 
 pub oatcastle-save-spec : {M : Type 1} → statement M
 oatcastle-save-spec =

@@ -15,11 +15,11 @@ returns-2 c = take-short _ _ _ (passed _ _ (c .before .before .outbox-is-valid .
 
 returns-3 : tie.Need-returns-3
 returns-3 c =
-    let told = c .before .before in
-    let taken = told .before .before .before .before .before .before in
+    let earlier = c .before .before in
+    let taken = earlier .before .before .before .before .before .before in
     let first = taken .before .before .before .before in
     let tested = first .before in
-    take-given _ _ _ (passed _ _ (tested .outbox-is-valid .ensures) (first .if1 .left)) _ (search needs) (taken .take .ensures) (told .answer-taken .ensures)
+    take-given _ _ _ (passed _ _ (tested .outbox-is-valid .ensures) (first .if1 .left)) _ (search needs) (taken .take .ensures) (earlier .answer-taken .ensures)
 
 pub oatcastle-take-spec : {M : Type 1} → statement M
 oatcastle-take-spec =

@@ -4,7 +4,7 @@ use borrow.Author.Needs.{needs}
 use native.Mathlib.Omega.{arith}
 use denote.Ref.{now}
 use Rattle.line.specs.Reader.{dataOf}
-use Rattle.requester.specs.Calls.{told, toldOf, outcomeOf}
+use Rattle.requester.specs.Calls.{receiveReport, reportOf, outcomeOf}
 use Rattle.requester.specs.Hearing.{heardReport, nextOf}
 use Rattle.requester.proofs.Cases.{refused, passed}
 use Rattle.requester.proofs.ValidLaws.{requester-valid}
@@ -13,7 +13,7 @@ use Rattle.requester.proofs.hearing.settle_message.Statement.{statement
 use Rattle.requester.proofs.hearing.settle_message.Tie as tie
 
 returns : tie.Need-returns
-unfolding outcomeOf told toldOf nextOf
+unfolding outcomeOf receiveReport reportOf nextOf
 returns c = rw (settles-none _ _ (refused _ _ (c .before .is-outstanding .ensures) (c .if1 .taken)))
 
 hear-requires : tie.Need-hear-requires
@@ -27,7 +27,7 @@ settle-answer-requires c κs =
     (start .pre .0, start .pre .1 .1)
 
 returns-2 : tie.Need-returns-2
-unfolding outcomeOf told toldOf nextOf heardReport
+unfolding outcomeOf receiveReport reportOf nextOf heardReport
 returns-2 c =
     let hear = c .before .before in
     let read-u64 = hear .before in
@@ -38,7 +38,7 @@ returns-2 c =
     rw (settles-out _ _ (passed _ _ (is-outstanding .is-outstanding .ensures) (if1 .if1 .left)), ← read-u64 .read-u64 .ensures, ← h)
 
 returns-3 : tie.Need-returns-3
-unfolding outcomeOf told toldOf nextOf heardReport
+unfolding outcomeOf receiveReport reportOf nextOf heardReport
 returns-3 c =
     let hear = c .before .before in
     let read-u64 = hear .before in

@@ -12,9 +12,9 @@ use Rattle.requester.proofs.receive.listen.Tie as tie
 
 slice-aggregate-read : tie.Need-slice-aggregate-read
 slice-aggregate-read c =
-    let least = c .before .before in
-    let start = least .before .before .before .before in
-    omega (arith, least .min .ensures, length-take (least .min .result) (now (start .args .piece)))
+    let at-min = c .before .before in
+    let start = at-min .before .before .before .before in
+    omega (arith, at-min .min .ensures, length-take (at-min .min .result) (now (start .args .piece)))
 
 settle-requires : tie.Need-settle-requires
 settle-requires c κs =
@@ -34,9 +34,9 @@ returns c =
     let go-on = c .before .before .before .before in
     let settle = go-on .before .before in
     let read = settle .before .before .before .before .before in
-    let least = read .before .before .before in
-    let start = least .before .before .before .before in
-    heard-received _ _ (start .pre .0) (start .pre .1 .0) (start .pre .1 .1) (least .min .ensures) (read .read .ensures) (settle .settle .ensures) (go-on .go-on .ensures) (c .is-unsent .ensures)
+    let at-min = read .before .before .before in
+    let start = at-min .before .before .before .before in
+    heard-received _ _ (start .pre .0) (start .pre .1 .0) (start .pre .1 .1) (at-min .min .ensures) (read .read .ensures) (settle .settle .ensures) (go-on .go-on .ensures) (c .is-unsent .ensures)
 
 pub listen-spec : {M : Type 1} → statement M
 listen-spec =

@@ -11,7 +11,7 @@ use Rattle.requester.proofs.valid.requester_is_valid.Tie as tie
 
 returns-7 : tie.Need-returns-7
 returns-7 c =
-    let told = c .stays-out .ensures ∙ ap staysOut (c .before .read-u8 .ensures) in
+    let stays = c .stays-out .ensures ∙ ap staysOut (c .before .read-u8 .ensures) in
     alike _ _
     (λ t. valid-requester _ (record {
       long = search needs;
@@ -20,9 +20,9 @@ returns-7 c =
       unsent = search needs;
       kept = search needs;
       size = search needs;
-      command = sym told ∙ t;
+      command = sym stays ∙ t;
     }))
-    (λ e. told ∙ requester-valid _ e .command)
+    (λ e. stays ∙ requester-valid _ e .command)
 
 pub requester-is-valid-spec : {M : Type 1} → statement M
 requester-is-valid-spec =

@@ -1,4 +1,4 @@
--- `requests::receive::receive` meets its contract: a turn for each frame, and the rest of the piece after it.
+-- `requests::receive::receive` meets its contract: an iteration for each frame, and the rest of the piece after it.
 -- Assumes nothing.
 use Prim.Native.Nat.{_-_}
 use native.Mathlib.Omega.{arith}
@@ -32,23 +32,23 @@ valid-step-requires c κs = c .before .before .before .before .before .before .l
 add-at : tie.Need-add-at Inv-loop μ-loop
 add-at c =
     let called = c .before .before .before .before .before .before .before .before in
-    let told = called .before .before .before .before .before .before in
-    let u = valid-step-used (told .before .loop .inv) (told .loop-test .taken) (called .valid-step .ensures .0) in
-    let start = told .before .before .before .before .before .before .before .before .before .before .before .before .before .before .before in
+    let earlier = called .before .before .before .before .before .before in
+    let u = valid-step-used (earlier .before .loop .inv) (earlier .loop-test .taken) (called .valid-step .ensures .0) in
+    let start = earlier .before .before .before .before .before .before .before .before .before .before .before .before .before .before .before in
     omega (arith, start .good .1 .0)
 
 loop-less : tie.Need-loop-less Inv-loop μ-loop
 loop-less c =
     let called = c .before .before .before .before .before .before .before .before in
-    let told = called .before .before .before .before .before .before in
-    let u = valid-step-used (told .before .loop .inv) (told .loop-test .taken) (called .valid-step .ensures .0) in
+    let earlier = called .before .before .before .before .before .before in
+    let u = valid-step-used (earlier .before .loop .inv) (earlier .loop-test .taken) (called .valid-step .ensures .0) in
     omega arith
 
 loop-again : tie.Need-loop-again Inv-loop μ-loop
 loop-again c =
     let called = c .before .before .before .before .before .before .before .before in
-    let told = called .before .before .before .before .before .before in
-    went (told .before .loop .inv) (told .loop-test .taken) (called .valid-step .ensures .0) (called .valid-step .ensures .1) (search needs) (search needs) (search needs) (search needs)
+    let earlier = called .before .before .before .before .before .before in
+    went (earlier .before .loop .inv) (earlier .loop-test .taken) (called .valid-step .ensures .0) (called .valid-step .ensures .1) (search needs) (search needs) (search needs) (search needs)
 
 returns-2 : tie.Need-returns-2 Inv-loop μ-loop
 returns-2 c = over (c .before .loop .inv) (c .loop-test .left)

@@ -38,47 +38,47 @@ returns-3 c = rw (c .enum-told3 .given .1) (refl, (refl, c .before .before .befo
 
 request-requires : tie.Need-request-requires
 request-requires c κs =
-    let told = c .before .before .before in
-    let p = told .before .before .before .before .before .before .before .before .before .before .pre in
-    (p .0, (p .1 .0, (p .1 .1, rw (told .message-data .ensures) (data-short _ _))))
+    let earlier = c .before .before .before in
+    let p = earlier .before .before .before .before .before .before .before .before .before .before .pre in
+    (p .0, (p .1 .0, (p .1 .1, rw (earlier .message-data .ensures) (data-short _ _))))
 
 returns-4 : tie.Need-returns-4
 unfolding report
 returns-4 c =
     let called = c .before .before .before .before .before .before in
     let given = called .before .before .before .before in
-    let told = given .before .before in
-    let a = told .before .before .before .before .before .before .before .before .args in
+    let earlier = given .before .before in
+    let a = earlier .before .before .before .before .before .before .before .before .args in
     settled-message (now (a .image)) (now (a .factory)) (inner (now (a .outbox)) (now (a .settings)) (now (a .registers))) (now (a .reader)) _ _ _ _
-    (ap report (told .answer .given .1)) (given .message-data .ensures) (called .request .ensures)
+    (ap report (earlier .answer .given .1)) (given .message-data .ensures) (called .request .ensures)
 
 returns-5 : tie.Need-returns-5
 unfolding report
 returns-5 c =
     let called = c .before .before in
-    let told = called .before .before .before in
-    by-fail (told .before .before .before .before .before .before .before .before) 1 none (ap report (told .enum-told4 .given .1)) (called .before .unnumbered .ensures) (called .fail .ensures)
+    let earlier = called .before .before .before in
+    by-fail (earlier .before .before .before .before .before .before .before .before) 1 none (ap report (earlier .enum-told4 .given .1)) (called .before .unnumbered .ensures) (called .fail .ensures)
 
 returns-6 : tie.Need-returns-6
 unfolding report
 returns-6 c =
     let called = c .before .before in
-    let told = called .before .before .before in
-    by-fail (told .before .before .before .before .before .before .before .before) 3 none (ap report (told .enum-told5 .given .1)) (called .before .unnumbered2 .ensures) (called .fail2 .ensures)
+    let earlier = called .before .before .before in
+    by-fail (earlier .before .before .before .before .before .before .before .before) 3 none (ap report (earlier .enum-told5 .given .1)) (called .before .unnumbered2 .ensures) (called .fail2 .ensures)
 
 returns-7 : tie.Need-returns-7
 unfolding report
 returns-7 c =
     let called = c .before .before in
-    let told = called .before .before .before .before in
-    by-fail (told .before .before .before .before .before .before .before .before) 2 (some _) (ap report (told .answer2 .given .1)) (called .before .head-to .ensures) (called .fail3 .ensures)
+    let earlier = called .before .before .before .before in
+    by-fail (earlier .before .before .before .before .before .before .before .before) 2 (some _) (ap report (earlier .answer2 .given .1)) (called .before .head-to .ensures) (called .fail3 .ensures)
 
 returns-8 : tie.Need-returns-8
 unfolding report
 returns-8 c =
     let called = c .before .before in
-    let told = called .before .before .before .before in
-    by-fail (told .before .before .before .before .before .before .before .before) 4 (some _) (ap report (told .answer3 .given .1)) (called .before .head-to2 .ensures) (called .fail4 .ensures)
+    let earlier = called .before .before .before .before in
+    by-fail (earlier .before .before .before .before .before .before .before .before) 4 (some _) (ap report (earlier .answer3 .given .1)) (called .before .head-to2 .ensures) (called .fail4 .ensures)
 
 pub settle-spec : {M : Type 1} → statement M
 settle-spec =

@@ -12,14 +12,14 @@ unfolding stepping endedReport
 returns c = rw (refused _ _ (c .before .are-valid .ensures) (c .if1 .taken))
 
 valid-step-requires : tie.Need-valid-step-requires
-valid-step-requires c κs = let told = c .before .before .before .before in passed _ _ (told .before .are-valid .ensures) (told .if1 .left)
+valid-step-requires c κs = let earlier = c .before .before .before .before in passed _ _ (earlier .before .are-valid .ensures) (earlier .if1 .left)
 
 returns-2 : tie.Need-returns-2
 unfolding stepping
 returns-2 c =
     let called = c .before .before .before .before .before .before .before .before in
-    let told = called .before .before .before .before .before in
-    rw (passed _ _ (told .before .are-valid .ensures) (told .if1 .left)) (called .valid-step .ensures .0)
+    let earlier = called .before .before .before .before .before in
+    rw (passed _ _ (earlier .before .are-valid .ensures) (earlier .if1 .left)) (called .valid-step .ensures .0)
 
 pub step-spec : {M : Type 1} → statement M
 step-spec =

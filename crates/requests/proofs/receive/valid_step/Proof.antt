@@ -23,9 +23,9 @@ returns : tie.Need-returns
 unfolding lent
 returns c =
     let settled = c .before .before .before .before .before .before in
-    let told = settled .before .before .before .before .before .before .before in
-    let start = told .before .before .before .before .before .before .before .before .before in
-    valid-step-by (now (start .args .image)) (now (start .args .piece)) (lent start) (start .pre) (told .read .ensures) (settled .settle .ensures)
+    let earlier = settled .before .before .before .before .before .before .before in
+    let start = earlier .before .before .before .before .before .before .before .before .before in
+    valid-step-by (now (start .args .image)) (now (start .args .piece)) (lent start) (start .pre) (earlier .read .ensures) (settled .settle .ensures)
 
 pub valid-step-spec : {M : Type 1} → statement M
 valid-step-spec =

@@ -14,11 +14,11 @@ same-length c =
 
 returns : tie.Need-returns
 returns c =
-    let least = c .before .before .before .before in
-    let whole = least .before .before .before in
+    let at-min = c .before .before .before .before in
+    let whole = at-min .before .before .before in
     let code = whole .before .before .before .before in
     let p = code .before .before .before .before .pre in
-    record-put _ _ _ _ _ (p .0) (p .1 .0) (p .1 .1 .0) refl (least .min .ensures) (code .write-u16 .ensures) (whole .write-u162 .ensures)
+    record-put _ _ _ _ _ (p .0) (p .1 .0) (p .1 .1 .0) refl (at-min .min .ensures) (code .write-u16 .ensures) (whole .write-u162 .ensures)
     (c .before .before .copy .ensures)
 
 pub set-record-spec : {M : Type 1} → statement M

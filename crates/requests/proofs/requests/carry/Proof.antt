@@ -54,122 +54,122 @@ does h x e = both h (some x) (rw e (of-number x))
 
 boot-failure-requires : tie.Need-boot-failure-requires
 boot-failure-requires c κs =
-    let told = c .before .before in
-    let h = told .before in
+    let earlier = c .before .before in
+    let h = earlier .before in
     let p = start h .pre in
-    (p .0, (registers-long h, (boot-failure-long _ _ (p .1 .1 .1 .1 .0) (told .match .keys6), p .1 .1 .1 .0)))
+    (p .0, (registers-long h, (boot-failure-long _ _ (p .1 .1 .1 .1 .0) (earlier .match .keys6), p .1 .1 .1 .0)))
 
 panic-requires : tie.Need-panic-requires
 panic-requires c κs =
-    let told = c .before .before in
-    let h = told .before in
+    let earlier = c .before .before in
+    let h = earlier .before in
     let p = start h .pre in
-    (p .0, (registers-long h, (panic-long _ _ (p .1 .1 .1 .1 .0) (told .match .keys7), p .1 .1 .1 .0)))
+    (p .0, (registers-long h, (panic-long _ _ (p .1 .1 .1 .1 .0) (earlier .match .keys7), p .1 .1 .1 .0)))
 
 set-key-requires : tie.Need-set-key-requires
 set-key-requires c κs =
-    let told = c .before .before in
-    let h = told .before in
-    (start h .pre .0, (settings-valid _ (valid h .settings) .long, key-set-long _ _ (start h .pre .1 .1 .1 .1 .0) (told .match .keys14)))
+    let earlier = c .before .before in
+    let h = earlier .before in
+    (start h .pre .0, (settings-valid _ (valid h .settings) .long, key-set-long _ _ (start h .pre .1 .1 .1 .1 .0) (earlier .match .keys14)))
 
 returns : tie.Need-returns
 unfolding numberOf leftBy
 returns c =
-    let told = c .before .before .before .before .before .before .before in
-    let h = told .before in
-    does h Command.reboot (told .match .keys1) (unanswered-by (lent h) _ (c .before .before .before .before .ask-for .ensures))
+    let earlier = c .before .before .before .before .before .before .before in
+    let h = earlier .before in
+    does h Command.reboot (earlier .match .keys1) (unanswered-by (lent h) _ (c .before .before .before .before .ask-for .ensures))
 
 returns-2 : tie.Need-returns-2
 unfolding numberOf leftBy
 returns-2 c =
-    let told = c .before .before .before .before .before .before .before in
-    let h = told .before in
-    does h Command.power-off (told .match .keys2) (unanswered-by (lent h) _ (c .before .before .before .before .ask-for2 .ensures))
+    let earlier = c .before .before .before .before .before .before .before in
+    let h = earlier .before in
+    does h Command.power-off (earlier .match .keys2) (unanswered-by (lent h) _ (c .before .before .before .before .ask-for2 .ensures))
 
 returns-3 : tie.Need-returns-3
 unfolding numberOf leftBy
 returns-3 c =
-    let told = c .before .before .before .before in
-    let h = told .before in
-    does h Command.bsu (told .match .keys3) (answered-by (lent h) _ _ _ _ (h .head-to .ensures) (c .before .before .send-part .ensures))
+    let earlier = c .before .before .before .before in
+    let h = earlier .before in
+    does h Command.bsu (earlier .match .keys3) (answered-by (lent h) _ _ _ _ (h .head-to .ensures) (c .before .before .send-part .ensures))
 
 returns-4 : tie.Need-returns-4
 unfolding numberOf leftBy
 returns-4 c =
-    let told = c .before .before .before .before in
-    let h = told .before in
-    does h Command.identity (told .match .keys4) (answered-by (lent h) _ _ _ _ (h .head-to .ensures) (c .before .before .send-part2 .ensures))
+    let earlier = c .before .before .before .before in
+    let h = earlier .before in
+    does h Command.identity (earlier .match .keys4) (answered-by (lent h) _ _ _ _ (h .head-to .ensures) (c .before .before .send-part2 .ensures))
 
 returns-5 : tie.Need-returns-5
 unfolding numberOf leftBy
 returns-5 c =
-    let told = c .before .before .before .before in
-    let h = told .before in
-    does h Command.mac (told .match .keys5) (answered-by (lent h) _ _ _ _ (h .head-to .ensures) (c .before .before .send-part3 .ensures))
+    let earlier = c .before .before .before .before in
+    let h = earlier .before in
+    does h Command.mac (earlier .match .keys5) (answered-by (lent h) _ _ _ _ (h .head-to .ensures) (c .before .before .send-part3 .ensures))
 
 returns-6 : tie.Need-returns-6
 unfolding numberOf leftBy
 returns-6 c =
-    let told = c .before .before .before .before .before .before .before in
-    let h = told .before in
-    does h Command.boot-failure (told .match .keys6) (rw (← h .before .byte-at .ensures .0) (unanswered-by (lent h) _ (c .before .before .before .before .boot-failure .ensures)))
+    let earlier = c .before .before .before .before .before .before .before in
+    let h = earlier .before in
+    does h Command.boot-failure (earlier .match .keys6) (rw (← h .before .byte-at .ensures .0) (unanswered-by (lent h) _ (c .before .before .before .before .boot-failure .ensures)))
 
 returns-7 : tie.Need-returns-7
 unfolding numberOf leftBy
 returns-7 c =
-    let told = c .before .before .before .before .before .before .before in
-    let h = told .before in
-    does h Command.panic (told .match .keys7) (acknowledged-by (lent h) _ _ _ (h .head-to .ensures) (c .before .before .before .before .panic .ensures))
+    let earlier = c .before .before .before .before .before .before .before in
+    let h = earlier .before in
+    does h Command.panic (earlier .match .keys7) (acknowledged-by (lent h) _ _ _ (h .head-to .ensures) (c .before .before .before .before .panic .ensures))
 
 returns-8 : tie.Need-returns-8
 unfolding numberOf leftBy
 returns-8 c =
-    let told = c .before .before .before .before .before in
-    let h = told .before in
-    does h Command.status (told .match .keys8) (answered-by (lent h) _ _ _ _ (h .head-to .ensures) (c .before .before .send-part4 .ensures))
+    let earlier = c .before .before .before .before .before in
+    let h = earlier .before in
+    does h Command.status (earlier .match .keys8) (answered-by (lent h) _ _ _ _ (h .head-to .ensures) (c .before .before .send-part4 .ensures))
 
 returns-9 : tie.Need-returns-9
 unfolding numberOf leftBy
 returns-9 c =
-    let told = c .before .before .before .before .before .before .before in
-    let h = told .before in
-    does h Command.start-acknowledged (told .match .keys9) (acknowledged-by (lent h) _ _ _ (h .head-to .ensures) (c .before .before .before .before .start-acknowledged .ensures))
+    let earlier = c .before .before .before .before .before .before .before in
+    let h = earlier .before in
+    does h Command.start-acknowledged (earlier .match .keys9) (acknowledged-by (lent h) _ _ _ (h .head-to .ensures) (c .before .before .before .before .start-acknowledged .ensures))
 
 returns-10 : tie.Need-returns-10
 unfolding numberOf leftBy
 returns-10 c =
-    let told = c .before .before .before .before .before .before .before in
-    let h = told .before in
-    does h Command.alert (told .match .keys10)
+    let earlier = c .before .before .before .before .before .before .before in
+    let h = earlier .before in
+    does h Command.alert (earlier .match .keys10)
     (ap (λ (a : AlertParts). inner (a .outbox) (now (start h .args .settings)) (a .registers)) (c .before .before .before .before .alert .ensures))
 
 returns-11 : tie.Need-returns-11
 unfolding numberOf leftBy
 returns-11 c =
-    let told = c .before .before .before .before in
-    let h = told .before in
-    does h Command.image-block (told .match .keys11) (answered-by (lent h) _ _ _ _ (h .head-to .ensures) (c .before .before .send-block .ensures))
+    let earlier = c .before .before .before .before in
+    let h = earlier .before in
+    does h Command.image-block (earlier .match .keys11) (answered-by (lent h) _ _ _ _ (h .head-to .ensures) (c .before .before .send-block .ensures))
 
 returns-12 : tie.Need-returns-12
 unfolding numberOf leftBy
 returns-12 c =
-    let told = c .before .before .before .before .before in
-    let h = told .before in
-    does h Command.key-lookup (told .match .keys12) (looked-by (lent h) _ _ _ _ (h .head-to .ensures) (c .before .before .send-value .ensures))
+    let earlier = c .before .before .before .before .before in
+    let h = earlier .before in
+    does h Command.key-lookup (earlier .match .keys12) (looked-by (lent h) _ _ _ _ (h .head-to .ensures) (c .before .before .send-value .ensures))
 
 returns-13 : tie.Need-returns-13
 unfolding numberOf leftBy
 returns-13 c =
-    let told = c .before .before .before .before .before in
-    let h = told .before in
-    does h Command.inventory (told .match .keys13) (rw (← c .before .before .before .read-u32 .ensures) (answered-by (lent h) _ _ _ _ (h .head-to .ensures) (c .before .before .send-item .ensures)))
+    let earlier = c .before .before .before .before .before in
+    let h = earlier .before in
+    does h Command.inventory (earlier .match .keys13) (rw (← c .before .before .before .read-u32 .ensures) (answered-by (lent h) _ _ _ _ (h .head-to .ensures) (c .before .before .send-item .ensures)))
 
 returns-14 : tie.Need-returns-14
 unfolding numberOf leftBy
 returns-14 c =
-    let told = c .before .before .before .before .before .before .before in
-    let h = told .before in
-    does h Command.key-set (told .match .keys14) (rw (← h .head-to .ensures)
+    let earlier = c .before .before .before .before .before .before .before in
+    let h = earlier .before in
+    does h Command.key-set (earlier .match .keys14) (rw (← h .head-to .ensures)
     (ap (λ (k : KeySet). inner (k .outbox) (k .settings) (now (start h .args .registers))) (c .before .before .before .before .set-key .ensures)))
 
 returns-15 : tie.Need-returns-15

@@ -29,44 +29,44 @@ start c = c .before .before .before .before .before .before .before
 
 returns : tie.Need-returns
 returns c =
-    let told = c .before .before .before .before in
-    let numbered = told .before .before in
-    by-fail (start numbered) 5 first-version (some _) (other-version _ _ _ _ (refused _ _ (told .before .is-served .ensures) (told .if1 .taken)))
+    let earlier = c .before .before .before .before in
+    let numbered = earlier .before .before in
+    by-fail (start numbered) 5 first-version (some _) (other-version _ _ _ _ (refused _ _ (earlier .before .is-served .ensures) (earlier .if1 .taken)))
     (numbered .head-to .ensures) (c .before .before .fail .ensures)
 
 returns-2 : tie.Need-returns-2
 returns-2 c =
-    let told = c .before .before .before .before in
-    let reply = told .before .before in
+    let earlier = c .before .before .before .before in
+    let reply = earlier .before .before in
     let first = reply .before in
     by-fail (start (first .before .before)) 6 _ (some _)
-    (top-bit-set _ _ _ _ (passed _ _ (first .before .is-served .ensures) (first .if1 .left)) (told .if2 .taken)) (reply .head-to2 .ensures) (c .before .before .fail2 .ensures)
+    (top-bit-set _ _ _ _ (passed _ _ (first .before .is-served .ensures) (first .if1 .left)) (earlier .if2 .taken)) (reply .head-to2 .ensures) (c .before .before .fail2 .ensures)
 
 returns-3 : tie.Need-returns-3
 returns-3 c =
-    let told = c .before .before .before .before .before in
-    let second = told .before .before in
+    let earlier = c .before .before .before .before .before in
+    let second = earlier .before .before in
     let first = second .before .before .before in
     by-fail (start (first .before .before)) 3 first-version none
-    (command-unknown _ _ _ _ (passed _ _ (first .before .is-served .ensures) (first .if1 .left)) (second .if2 .left) (refused _ _ (told .before .is-known .ensures) (told .if3 .taken)))
+    (command-unknown _ _ _ _ (passed _ _ (first .before .is-served .ensures) (first .if1 .left)) (second .if2 .left) (refused _ _ (earlier .before .is-known .ensures) (earlier .if3 .taken)))
     (c .before .before .before .before .unnumbered .ensures) (c .before .before .fail3 .ensures)
 
 returns-4 : tie.Need-returns-4
 returns-4 c =
-    let told = c .before .before .before .before in
-    let third = told .before .before in
+    let earlier = c .before .before .before .before in
+    let third = earlier .before .before in
     let second = third .before .before in
     let reply = second .before .before in
     let first = reply .before in
     by-fail (start (first .before .before)) 7 _ (some _)
     (length-wrong _ _ _ _ (passed _ _ (first .before .is-served .ensures) (first .if1 .left)) (second .if2 .left)
-    (passed _ _ (third .before .is-known .ensures) (third .if3 .left)) (refused _ _ (told .before .length-is-allowed .ensures) (told .if4 .taken)))
+    (passed _ _ (third .before .is-known .ensures) (third .if3 .left)) (refused _ _ (earlier .before .length-is-allowed .ensures) (earlier .if4 .taken)))
     (reply .head-to2 .ensures) (c .before .before .fail4 .ensures)
 
 carry-requires : tie.Need-carry-requires
 carry-requires c κs =
-    let told = c .before .before .before in
-    let first = told .before .before .before .before .before .before .before in
+    let earlier = c .before .before .before in
+    let first = earlier .before .before .before .before .before .before .before in
     let p = start (first .before .before) .pre in (
       p .0,
       (
@@ -75,7 +75,7 @@ carry-requires c κs =
           p .1 .1 .0,
           (
             p .1 .1 .1,
-            (passed _ _ (told .before .length-is-allowed .ensures) (told .if4 .left), passed _ _ (first .before .is-served .ensures) (first .if1 .left)),
+            (passed _ _ (earlier .before .length-is-allowed .ensures) (earlier .if4 .left), passed _ _ (first .before .is-served .ensures) (first .if1 .left)),
           ),
         ),
       ),
@@ -85,14 +85,14 @@ returns-5 : tie.Need-returns-5
 unfolding endedReport
 returns-5 c =
     let called = c .before .before .before .before .before .before in
-    let told = called .before .before .before .before in
-    let third = told .before .before in
+    let earlier = called .before .before .before .before in
+    let third = earlier .before .before in
     let second = third .before .before in
     let first = second .before .before .before in
     let a = start (first .before .before) .args in
     judged-good (now (a .image)) (now (a .factory)) (inner (now (a .outbox)) (now (a .settings)) (now (a .registers))) (a .version) (a .number .0) (a .command) (now (a .«data»))
     (passed-all _ _ _ _ (passed _ _ (first .before .is-served .ensures) (first .if1 .left)) (second .if2 .left)
-    (passed _ _ (third .before .is-known .ensures) (third .if3 .left)) (passed _ _ (told .before .length-is-allowed .ensures) (told .if4 .left)))
+    (passed _ _ (third .before .is-known .ensures) (third .if3 .left)) (passed _ _ (earlier .before .length-is-allowed .ensures) (earlier .if4 .left)))
     (called .carry .ensures)
 
 pub request-spec : {M : Type 1} → statement M

@@ -6,7 +6,7 @@ use Rattle.supervisor.specs.Limits.{first-setting, highest-key, longest-setting
 use Rattle.supervisor.specs.Layout.{setting-offset, setting-value-offset, settings-length}
 use Rattle.requests.specs.Receive.{storing}
 use Rattle.supervisor.proofs.Cases.{cases}
-use Rattle.supervisor.proofs.OffsetLaws.{place-within}
+use Rattle.supervisor.proofs.OffsetLaws.{offset-within}
 use Rattle.requests.proofs.settings.store.Statement.{statement}
 use Rattle.requests.proofs.settings.store.Tie as tie
 
@@ -22,18 +22,18 @@ returns-3 : tie.Need-returns-3
 unfolding storing
 returns-3 c =
     let stored = c .before .before in
-    let least = stored .before .before .before in
+    let shortest = stored .before .before .before in
     search (
       cases,
       stored .store-at .ensures,
       stored .before .longest-setting .ensures .0,
-      least .shortest-setting .ensures,
-      least .before .setting-offset .ensures .0,
+      shortest .shortest-setting .ensures,
+      shortest .before .setting-offset .ensures .0,
     )
 
 -- the setting of a settings key lies in the store
 within : (key : ℕ) → first-setting ≤ key → key ≤ highest-key → setting-offset key + (setting-value-offset + longest-setting key) ≤ settings-length
-within key h k = place-within key (record { least = h; most = k })
+within key h k = offset-within key (record { lower = h; upper = k })
 
 store-at-requires : tie.Need-store-at-requires
 store-at-requires c κs =

@@ -7,7 +7,7 @@ use borrow.Author.Needs.{needs}
 use lib.ListN.{length}
 use Rattle.saving.specs.Saving.{saved-count}
 use Rattle.saving.specs.Calls.{cleared}
-use Rattle.saving.proofs.PlaceLaws.{head-room, cleared-more}
+use Rattle.saving.proofs.RestoreLaws.{head-room, cleared-more}
 use Rattle.saving.proofs.restore.clear.Statement.{statement}
 use Rattle.saving.proofs.restore.clear.Tie as tie
 
@@ -26,8 +26,8 @@ set-head-requires c κs = omega (arith, c .before .setting-offset .ensures .0, h
 
 loop-again : tie.Need-loop-again Inv-loop μ-loop
 loop-again c =
-    let place = c .before .before .before .before in
-    (search needs, search needs, cleared-more _ _ (place .before .before .loop .inv .2) (place .setting-offset .ensures .0) (c .before .before .set-head .ensures))
+    let offset = c .before .before .before .before in
+    (search needs, search needs, cleared-more _ _ (offset .before .before .loop .inv .2) (offset .setting-offset .ensures .0) (c .before .before .set-head .ensures))
 
 returns : tie.Need-returns Inv-loop μ-loop
 returns c = let e : c .before .loop .i ≡ saved-count = omega arith in rw e at (c .before .loop .inv .2)

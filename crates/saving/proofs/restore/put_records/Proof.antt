@@ -9,7 +9,7 @@ use Rattle.supervisor.proofs.Cases.{refused}
 use Rattle.supervisor.proofs.ValidLaws.{passed}
 use Rattle.saving.specs.Saving.{read}
 use Rattle.saving.specs.Calls.{entriesIn, putAll}
-use Rattle.saving.proofs.PlaceLaws.{Left, all-left, whole-here, on-left, none-left}
+use Rattle.saving.proofs.RestoreLaws.{Left, all-left, whole-here, on-left, none-left}
 use Rattle.saving.proofs.restore.put_records.Statement.{statement}
 use Rattle.saving.proofs.restore.put_records.Tie as tie
 

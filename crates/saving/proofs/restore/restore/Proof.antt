@@ -5,7 +5,7 @@ use borrow.Author.Needs.{needs}
 use Rattle.supervisor.proofs.Cases.{refused}
 use Rattle.supervisor.proofs.ValidLaws.{passed, settings-valid}
 use Rattle.saving.specs.Calls.{restoreReport, restoring, foundOf}
-use Rattle.saving.proofs.PlaceLaws.{restored-good, restored-not}
+use Rattle.saving.proofs.RestoreLaws.{restored-good, restored-not}
 use Rattle.saving.proofs.restore.restore.Statement.{statement}
 use Rattle.saving.proofs.restore.restore.Tie as tie
 

@@ -10,7 +10,7 @@ use Rattle.octets.specs.Bytes.{overlay}
 use Rattle.supervisor.specs.Limits.{first-setting}
 use Rattle.saving.specs.Saving.{saved-count}
 use Rattle.saving.specs.Calls.{recordsFrom, imageBytes}
-use Rattle.saving.proofs.PlaceLaws.{saved-key}
+use Rattle.saving.proofs.RestoreLaws.{saved-key}
 use Rattle.saving.proofs.ImageLaws.{length-on, records-put, end-put}
 use Rattle.saving.proofs.save.write_image.Statement.{statement}
 use Rattle.saving.proofs.save.write_image.Tie as tie

@@ -19,8 +19,8 @@ write-body-requires : tie.Need-write-body-requires
 write-body-requires c κs =
     let held = c .before .before .before in
     let p = held .before .before .before .before .pre in
-    let place = held .before .setting-offset .ensures .0 in
-    let h = held-record _ _ _ place (held .read-u8 .ensures) (c .before .word-at .ensures .0) (c .before .before .if1 .left) (p .0) (p .1 .0) in
+    let offset = held .before .setting-offset .ensures .0 in
+    let h = held-record _ _ _ offset (held .read-u8 .ensures) (c .before .word-at .ensures .0) (c .before .before .if1 .left) (p .0) (p .1 .0) in
     (omega (arith, h .within), (search needs, omega (arith, h .size)))
 
 returns-2 : tie.Need-returns-2
@@ -30,8 +30,8 @@ returns-2 c =
     let size = body .before .before in
     let held = size .before .before in
     let start = held .before .before .before .before in
-    let place = held .before .setting-offset .ensures .0 in
-    let h = held-record _ _ _ place (held .read-u8 .ensures) (size .word-at .ensures .0) (size .before .if1 .left) (start .pre .0) (start .pre .1 .0) in
+    let offset = held .before .setting-offset .ensures .0 in
+    let h = held-record _ _ _ offset (held .read-u8 .ensures) (size .word-at .ensures .0) (size .before .if1 .left) (start .pre .0) (start .pre .1 .0) in
     let room = h .size in (
       rw (h .size),
       rw (h .its-bytes)

@@ -19,19 +19,19 @@ abbrev μ-loop : tie.MeasureT-loop
 returns : tie.Need-returns Inv-loop μ-loop
 returns c =
     let longest = c .before .before in
-    let least = longest .before in
+    let shortest = longest .before in
     untrue _ (λ e.
     failed _ _ (c .before .setting-is-valid .ensures) (c .if1 .taken)
-    (rw (least .before .setting-offset .ensures .0, least .shortest-setting .ensures, longest .longest-setting .ensures .0)
-    (all-each _ _ e _ (least .before .before .loop-test .taken))))
+    (rw (shortest .before .setting-offset .ensures .0, shortest .shortest-setting .ensures, longest .longest-setting .ensures .0)
+    (all-each _ _ e _ (shortest .before .before .loop-test .taken))))
 
 loop-again : tie.Need-loop-again Inv-loop μ-loop
 loop-again c =
     let longest = c .before .before in
-    let least = longest .before in (
+    let shortest = longest .before in (
       search needs,
-      all-more _ _ (least .before .before .before .loop .inv .1)
-          (rw (← least .before .setting-offset .ensures .0, ← least .shortest-setting .ensures, ← longest .longest-setting .ensures .0)
+      all-more _ _ (shortest .before .before .before .loop .inv .1)
+          (rw (← shortest .before .setting-offset .ensures .0, ← shortest .shortest-setting .ensures, ← longest .longest-setting .ensures .0)
           (passed _ _ (c .before .setting-is-valid .ensures) (c .if1 .left))),
     )
 

@@ -1,4 +1,4 @@
--- Restoring the bytes of the settings: clearing, and the records in their places.
+-- Restoring the bytes of the settings: clearing, and the records at their offsets.
 -- Assumes nothing.
 use mathlib.Core.Path.{_≡_, refl, sym, ap, _∙_}
 use mathlib.Core.Bool.{true, false}
@@ -11,7 +11,7 @@ use lib.ListN.{length}
 use Rattle.octets.specs.Bytes.{bytes, overlay, sameRun}
 use Rattle.supervisor.specs.Limits.{first-setting, SettingsKey}
 use Rattle.supervisor.specs.Layout.{setting-offset, setting-value-offset, settings-length}
-use Rattle.supervisor.proofs.OffsetLaws.{place-within}
+use Rattle.supervisor.proofs.OffsetLaws.{offset-within}
 use Rattle.saving.specs.Saving.{saved-count, end-mark, Read, fault, good, to, step, lengthAt, entryAt, readFrom, read}
 use Rattle.saving.specs.Calls.{settingHead, Restore, done, faulty, cleared, put, putAll, restoringBy, faultIn, entriesIn, Whole}
 use Rattle.saving.proofs.StepLaws.{passed}
@@ -20,17 +20,17 @@ use Rattle.saving.proofs.ReadLaws.{read-at, entries-ahead, further, fau
 -- ---- clearing
 
 pub saved-key : (i : ℕ) → i < saved-count → SettingsKey (first-setting + i)
-saved-key i h = record { least = omega arith; most = omega arith }
+saved-key i h = record { lower = omega arith; upper = omega arith }
 
 pub head-room : (i : ℕ) → i < saved-count → setting-offset (first-setting + i) + setting-value-offset ≤ settings-length
-head-room i h = omega (arith, place-within (first-setting + i) (saved-key i h))
+head-room i h = omega (arith, offset-within (first-setting + i) (saved-key i h))
 
 pub cleared-more : (i : ℕ) (s : List ℕ) {t u : List ℕ} {at : ℕ} → t ≡ cleared i s → at ≡ setting-offset (first-setting + i)
     → u ≡ overlay at (settingHead 0 0 0) t → u ≡ cleared (i + 1) s
 unfolding cleared bytes
 cleared-more i s e f g = rw (g, f, e, add-one)
 
--- ---- the records in their places
+-- ---- the records at their offsets
 
 -- what is left to do from an offset on, so that the settings come to be `whole`
 pub record Left (image s : List ℕ) (at : ℕ) (whole : List ℕ) : Type 0 where

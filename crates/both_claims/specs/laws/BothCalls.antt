@@ -1,4 +1,4 @@
--- Both ends by turns: what holds of the parts of both and of what was put out and read, from two starts on, and claims about each call.
+-- Calls of both ends in any order: what holds of the parts of both and of what was put out and read, from two starts on, and claims about each call.
 -- Assumes nothing.
 use mathlib.Core.Path.{_≡_, refl}
 use mathlib.Core.List.{List, [], _∷_}
@@ -19,7 +19,7 @@ use Rattle.supervisor_claims.specs.Histories as Supervisor
 use Rattle.supervisor_claims.specs.claims.History as SupervisorHistory
 use Rattle.supervisor_claims.specs.FrameHistory.{tailOf}
 use Rattle.both_claims.specs.Ends
-use Rattle.both_claims.specs.Ends.{firstLog, Starts, begun, MainTyped, TurnTyped, after, Wire, afterAll, Always, WireAfter, mainLogged}
+use Rattle.both_claims.specs.Ends.{firstLog, Starts, begun, MainTyped, CallTyped, after, Wire, afterAll, Always, WireAfter, mainLogged}
 use Rattle.both_claims.specs.laws.Ranges.{fresh-ranged}
 use Rattle.both_claims.specs.laws.Held.{held-parts}
 use Rattle.both_claims.specs.laws.Lists.{none-some}
@@ -50,9 +50,9 @@ module _ (e : Ends.Ends) (both : Both e) where
       P (x .answer) (x .out) → let d = Main.made (e .main) m in P (d .answer) (d .out)
   main-answer P m h = let k = MainHistory.one-call (e .main) m (both .main) in rw (k .answer, k .out) h
 
-  main-turn : (m : Main.Made) → MainTyped (m .call) → Both (after e (Ends.main m))
+  main-call : (m : Main.Made) → MainTyped (m .call) → Both (after e (Ends.main m))
   unfolding after
-  main-turn m typed =
+  main-call m typed =
       let k = MainHistory.one-call (e .main) m (both .main) in
       record {
         main = k .valid;
@@ -60,36 +60,36 @@ module _ (e : Ends.Ends) (both : Both e) where
         kept = rw (k .state, main-log m) (main-kept (MainView.view (e .main)) (e .log) (both .kept) m typed);
       }
 
-  supervisor-turn : (m : Supervisor.Made) → Supervisor.Typed (m .call) → Wire (after e (Ends.supervisor m) .log) → Both (after e (Ends.supervisor m))
+  supervisor-call : (m : Supervisor.Made) → Supervisor.Typed (m .call) → Wire (after e (Ends.supervisor m) .log) → Both (after e (Ends.supervisor m))
   unfolding after
-  supervisor-turn m typed w = record {
+  supervisor-call m typed w = record {
     main = both .main;
     supervisor = SupervisorHistory.one-call (e .supervisor) m (both .supervisor) typed .leaves .1;
     kept = supervisor-kept (MainView.view (e .main)) (e .log) (both .kept) (view (e .supervisor)) (held-parts (e .supervisor) (both .supervisor)) m typed _ w;
   }
 
-  pub turn-keeps : (t : Ends.Turn) → TurnTyped t → Wire (after e t .log) → Both (after e t)
-  turn-keeps (Ends.main m) typed w = main-turn m typed
-  turn-keeps (Ends.supervisor m) typed w = supervisor-turn m typed w
+  pub keeps-both : (t : Ends.Call) → CallTyped t → Wire (after e t .log) → Both (after e t)
+  keeps-both (Ends.main m) typed w = main-call m typed
+  keeps-both (Ends.supervisor m) typed w = supervisor-call m typed w
 
 -- ---- claims about each call
 
 -- with what else each call keeps
-module _ (Else : Ends.Ends → Type 0) (C : Ends.Ends → Ends.Turn → Type 0)
-    (turn : (e : Ends.Ends) → Both e → Else e → (t : Ends.Turn) → TurnTyped t → Wire (after e t .log) → C e t × Else (after e t)) where
-  pub each-turn : (e : Ends.Ends) → Both e → Else e → (ts : List Ends.Turn) → Each TurnTyped ts → Always WireAfter e ts → Always C e ts
-  each-turn e both other [] typed w = tt
-  each-turn e both other (t ∷ ts) typed w =
-      let k = turn e both other t (typed .0) (w .0) in
-      (k .0, each-turn (after e t) (turn-keeps e both t (typed .0) (w .0)) (k .1) ts (typed .1) (w .1))
+module _ (Else : Ends.Ends → Type 0) (C : Ends.Ends → Ends.Call → Type 0)
+    (of-call : (e : Ends.Ends) → Both e → Else e → (t : Ends.Call) → CallTyped t → Wire (after e t .log) → C e t × Else (after e t)) where
+  pub each-call : (e : Ends.Ends) → Both e → Else e → (ts : List Ends.Call) → Each CallTyped ts → Always WireAfter e ts → Always C e ts
+  each-call e both other [] typed w = tt
+  each-call e both other (t ∷ ts) typed w =
+      let k = of-call e both other t (typed .0) (w .0) in
+      (k .0, each-call (after e t) (keeps-both e both t (typed .0) (w .0)) (k .1) ts (typed .1) (w .1))
 
   -- what holds after calls
-  pub after-turns : (e : Ends.Ends) → Both e → Else e → (ts : List Ends.Turn) → Each TurnTyped ts → Always WireAfter e ts → Both (afterAll e ts) × Else (afterAll e ts)
+  pub after-calls : (e : Ends.Ends) → Both e → Else e → (ts : List Ends.Call) → Each CallTyped ts → Always WireAfter e ts → Both (afterAll e ts) × Else (afterAll e ts)
   unfolding afterAll
-  after-turns e both other [] typed w = (both, other)
-  after-turns e both other (t ∷ ts) typed w =
-      let k = turn e both other t (typed .0) (w .0) in
-      after-turns (after e t) (turn-keeps e both t (typed .0) (w .0)) (k .1) ts (typed .1) (w .1)
+  after-calls e both other [] typed w = (both, other)
+  after-calls e both other (t ∷ ts) typed w =
+      let k = of-call e both other t (typed .0) (w .0) in
+      after-calls (after e t) (keeps-both e both t (typed .0) (w .0)) (k .1) ts (typed .1) (w .1)
 
 -- ---- two starts
 
