@@ -12,7 +12,7 @@ use Rattle.rot.specs.Limits.{start-length, header-length, longest-payloa
 use Rattle.rot.specs.Crc.{crc}
 use Rattle.rot.specs.Message.{null-protocol, version-1, listed}
 use Rattle.rot.specs.Writing.{messageOf}
-use Rattle.rot.specs.Reading.{protocolOf, typeOf, lengthOf, crcField, payloadOf, checked, failure, unsent, good, judgeType, judgeCrc, judgeLength, judgeProtocol, judge}
+use Rattle.rot.specs.Reading.{protocolOf, typeOf, lengthOf, crcField, payloadOf, checked, failure, unsent, good, judgeMessage, judgeLength, judge}
 
 module _ (input : List ℕ) where
   -- ---- down to the header's length
@@ -23,22 +23,22 @@ module _ (input : List ℕ) where
 
   module _ (some : length input ≡ 0 → ⊥) {p : ℕ} (e : p ≡ protocolOf input) where
     pub null-sent : p ≡ null-protocol → unsent ≡ judge input
-    unfolding judgeProtocol judge
+    unfolding judge
     null-sent h = rw (ne-eqb (length input) 0 some, ← e, eq-eqb p null-protocol h)
 
     module _ (sent : p ≡ null-protocol → ⊥) where
       pub bad-protocol : (p ≡ version-1 → ⊥) → failure 21 ≡ judge input
-      unfolding judgeProtocol judge
+      unfolding judge
       bad-protocol h = rw (ne-eqb (length input) 0 some, ← e, ne-eqb p null-protocol sent, ne-eqb p version-1 h)
 
       module _ (ours : p ≡ version-1) where
         pub short-header : length input < header-length → failure 22 ≡ judge input
-        unfolding judgeProtocol judge
+        unfolding judge
         short-header h =
             rw (ne-eqb (length input) 0 some, ← e, ne-eqb p null-protocol sent, eq-eqb p version-1 ours, lt-ltb (length input) header-length h)
 
         pub header-read : header-length ≤ length input → judgeLength input ≡ judge input
-        unfolding judgeProtocol judge
+        unfolding judge
         header-read h =
             rw (ne-eqb (length input) 0 some, ← e, ne-eqb p null-protocol sent, eq-eqb p version-1 ours, le-ltb (length input) header-length h)
 
@@ -54,7 +54,7 @@ module _ (input : List ℕ) where
       unfolding judgeLength
       cut-short h = rw (← e, le-ltb longest-payload n short, lt-ltb (length input) (header-length + n) h)
 
-      pub payload-read : header-length + n ≤ length input → judgeCrc input ≡ judgeLength input
+      pub payload-read : header-length + n ≤ length input → judgeMessage input ≡ judgeLength input
       unfolding judgeLength
       payload-read h = rw (← e, le-ltb longest-payload n short, le-ltb (length input) (header-length + n) h)
 
@@ -67,15 +67,15 @@ module _ (input : List ℕ) where
   crc-tested e s p f c = rw (f, c, s, p, e)
 
   module _ {sum type : Bool} {t : ℕ} (e : sum ≡ eqb (crcField input) (crc (checked input))) (f : t ≡ typeOf input) (g : type ≡ listed t) where
-    pub bad-crc : not sum ≡ true → failure 25 ≡ judgeCrc input
-    unfolding judgeCrc
+    pub bad-crc : not sum ≡ true → failure 25 ≡ judgeMessage input
+    unfolding judgeMessage
     bad-crc h = rw (sym e ∙ not-true sum h)
 
     module _ (right : not sum ≡ false) where
-      pub bad-type : not type ≡ true → failure 26 ≡ judgeCrc input
-      unfolding judgeType judgeCrc
+      pub bad-type : not type ≡ true → failure 26 ≡ judgeMessage input
+      unfolding judgeMessage
       bad-type h = rw (sym e ∙ not-false sum right, ← f, sym g ∙ not-true type h)
 
-      pub accepted : not type ≡ false → good (messageOf t (payloadOf input)) ≡ judgeCrc input
-      unfolding judgeType judgeCrc
+      pub accepted : not type ≡ false → good (messageOf t (payloadOf input)) ≡ judgeMessage input
+      unfolding judgeMessage
       accepted h = rw (sym e ∙ not-false sum right, ← f, sym g ∙ not-false type h)

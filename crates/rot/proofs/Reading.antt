@@ -4,17 +4,16 @@ use mathlib.Core.Path.{_≡_, refl, sym, _∙_}
 use mathlib.Core.Bool.{true}
 use mathlib.Core.List.{List, []}
 use Prim.Native.Nat.{ℕ, _+_, _≤_}
-use borrow.Author.Tests.{ltb-false, eqb-true, eq-eqb, ne-eqb}
-use lib.Dec.{eqb, ltb}
+use borrow.Author.Tests.{ltb-false, eqb-true, eq-eqb, ne-eqb, not-false}
 use lib.ListN.{length}
 use Rattle.octets.proofs.Conditions.{cond-by}
 use Rattle.octets.proofs.Overlay.{length-run}
 use Rattle.rot.specs.Limits.{header-length, longest-payload}
 use Rattle.rot.specs.Crc.{crc}
-use Rattle.rot.specs.Message.{null-protocol, version-1, echo-request, echo-response, listed, Message}
+use Rattle.rot.specs.Message.{version-1, echo-request, echo-response, listed, Message}
 use Rattle.rot.specs.Answers.{handed, outcome}
 use Rattle.rot.specs.Writing.{messageOf, writing}
-use Rattle.rot.specs.Reading.{protocolOf, typeOf, lengthOf, crcField, payloadOf, checked, Judged, failure, unsent, good, judgeType, judgeCrc, judgeLength, judgeProtocol, judge, judgedAs, served, answering, reading, handedPart, payloadPart}
+use Rattle.rot.specs.Reading.{protocolOf, typeOf, lengthOf, crcField, payloadOf, checked, Judged, failure, unsent, good, noInput, nothingSent, wrongProtocol, shortHeader, longPayload, cutShort, wrongCrc, wrongType, judgeMessage, judgeLength, judge, judgedAs, served, answering, reading, handedPart, payloadPart}
 use Rattle.rot.specs.declared.reader.Verdict.{Verdict}
 use Rattle.rot.specs.declared.reader.Verdict.the-variants as verdict
 use Rattle.rot.proofs.Writing.{write-sends}
@@ -34,26 +33,24 @@ Judges input unsent = Unit {0}
 Judges input (good m) = Sound input m
 
 judges : (input : List ℕ) → Judges input (judge input)
-unfolding judgeType judgeCrc judgeLength judgeProtocol judge
+unfolding judgeMessage judgeLength judge
 judges input =
     let P = Judges input in
-    cond-by P (eqb (length input) 0) _ _ (λ _. tt) (λ _.
-    cond-by P (eqb (protocolOf input) null-protocol) _ _ (λ _. tt) (λ _.
-    cond-by P (eqb (protocolOf input) version-1) _ _ (λ p.
-    cond-by P (ltb (length input) header-length) _ _ (λ _. tt) (λ _.
-    cond-by P (ltb longest-payload (lengthOf input)) _ _ (λ _. tt) (λ s.
-    cond-by P (ltb (length input) (header-length + lengthOf input)) _ _ (λ _. tt) (λ l.
-    cond-by P (eqb (crcField input) (crc (checked input))) _ _ (λ c.
-    cond-by P (listed (typeOf input)) _ _ (λ t. record {
+    cond-by P (noInput input) _ _ (λ _. tt) (λ _.
+    cond-by P (nothingSent input) _ _ (λ _. tt) (λ _.
+    cond-by P (wrongProtocol input) _ _ (λ _. tt) (λ p.
+    cond-by P (shortHeader input) _ _ (λ _. tt) (λ _.
+    cond-by P (longPayload input) _ _ (λ _. tt) (λ s.
+    cond-by P (cutShort input) _ _ (λ _. tt) (λ l.
+    cond-by P (wrongCrc input) _ _ (λ _. tt) (λ c.
+    cond-by P (wrongType input) _ _ (λ _. tt) (λ t. record {
       fields = refl;
-      protocol = eqb-true (protocolOf input) version-1 p;
+      protocol = eqb-true (protocolOf input) version-1 (not-false _ p);
       short = ltb-false longest-payload (lengthOf input) s;
       whole = ltb-false (length input) (header-length + lengthOf input) l;
-      sum = eqb-true (crcField input) (crc (checked input)) c;
-      type = t;
-    })
-    (λ _. tt)) (λ _. tt)))))
-    (λ _. tt)))
+      sum = eqb-true (crcField input) (crc (checked input)) (not-false _ c);
+      type = not-false _ t;
+    }))))))))
 
 pub judged-sound : (input : List ℕ) (m : Message) → judge input ≡ good m → Sound input m
 judged-sound input m e = rw e at (judges input)

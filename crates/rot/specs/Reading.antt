@@ -1,6 +1,6 @@
 -- What a call of the reader says and leaves: the first failing test decides (document 02, item 7).
 -- Assumes nothing: these are definitions.
-use mathlib.Core.Bool.{cond}
+use mathlib.Core.Bool.{Bool, cond, not}
 use mathlib.Core.List.{List, [], _++_}
 use Prim.Native.Nat.{ℕ, _+_}
 use lib.Dec.{eqb, ltb}
@@ -42,32 +42,60 @@ pub data Judged : Type 0 where
   unsent : Judged
   good : Message → Judged
 
--- 26: the type is not 01 to 09
-unfoldable pub judgeType : List ℕ → Judged
-judgeType input =
-    cond (listed (typeOf input)) (good (record { type = typeOf input; payload = payloadOf input })) (failure 26)
+-- The tests in the table's order. 20: no input
+abbrev pub noInput : List ℕ → Bool
+noInput input = eqb (length input) 0
+
+-- protocol 0, whatever follows: nothing was sent
+abbrev pub nothingSent : List ℕ → Bool
+nothingSent input = eqb (protocolOf input) null-protocol
+
+-- 21: protocol neither 0 nor 1
+abbrev pub wrongProtocol : List ℕ → Bool
+wrongProtocol input = not (eqb (protocolOf input) version-1)
+
+-- 22: fewer than 8 bytes
+abbrev pub shortHeader : List ℕ → Bool
+shortHeader input = ltb (length input) header-length
+
+-- 23: length over 512
+abbrev pub longPayload : List ℕ → Bool
+longPayload input = ltb longest-payload (lengthOf input)
+
+-- 24: payload cut short
+abbrev pub cutShort : List ℕ → Bool
+cutShort input = ltb (length input) (header-length + lengthOf input)
 
 -- 25: wrong CRC
-unfoldable pub judgeCrc : List ℕ → Judged
-judgeCrc input = cond (eqb (crcField input) (crc (checked input))) (judgeType input) (failure 25)
+abbrev pub wrongCrc : List ℕ → Bool
+wrongCrc input = not (eqb (crcField input) (crc (checked input)))
 
--- 23: length over 512; 24: payload cut short
+-- 26: the type is not 01 to 09
+abbrev pub wrongType : List ℕ → Bool
+wrongType input = not (listed (typeOf input))
+
+-- The first row whose test fails decides, or else it is a message. A whole message:
+unfoldable pub judgeMessage : List ℕ → Judged
+judgeMessage input =
+    cond (wrongCrc input) (failure 25)
+    (cond (wrongType input) (failure 26)
+    (good (record { type = typeOf input; payload = payloadOf input })))
+
+-- a whole header, and what follows
 unfoldable pub judgeLength : List ℕ → Judged
 judgeLength input =
-    cond (ltb longest-payload (lengthOf input)) (failure 23)
-    (cond (ltb (length input) (header-length + lengthOf input)) (failure 24) (judgeCrc input))
+    cond (longPayload input) (failure 23)
+    (cond (cutShort input) (failure 24)
+    (judgeMessage input))
 
--- protocol 0, whatever follows: nothing was sent; 21: protocol neither 0 nor 1; 22: fewer than 8 bytes
-unfoldable pub judgeProtocol : List ℕ → Judged
-judgeProtocol input =
-    cond (eqb (protocolOf input) null-protocol) unsent
-    (cond (eqb (protocolOf input) version-1)
-    (cond (ltb (length input) header-length) (failure 22) (judgeLength input))
-    (failure 21))
-
--- 20: no input
+-- any input
 unfoldable pub judge : List ℕ → Judged
-judge input = cond (eqb (length input) 0) (failure 20) (judgeProtocol input)
+judge input =
+    cond (noInput input) (failure 20)
+    (cond (nothingSent input) unsent
+    (cond (wrongProtocol input) (failure 21)
+    (cond (shortHeader input) (failure 22)
+    (judgeLength input))))
 
 -- what a verdict of the code stands for
 unfoldable pub judgedAs : List ℕ → Verdict → Judged

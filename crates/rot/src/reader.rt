@@ -12,7 +12,7 @@ ghost use Rattle.rot.specs.Message.{echo-response};
 ghost use Rattle.rot.specs.Crc.{crc};
 ghost use Rattle.rot.specs.Answers.{outcome};
 ghost use Rattle.rot.specs.Writing.{messageOf, writing};
-ghost use Rattle.rot.specs.Reading.{lengthOf, crcField, checked, judgeCrc, judgeLength, judge, judgedAs, report, reading, payloadPart};
+ghost use Rattle.rot.specs.Reading.{lengthOf, crcField, checked, judgeMessage, judgeLength, judge, judgedAs, report, reading, payloadPart};
 
 // A message that is handed out: its type, and how long its payload is, which lies in the input.
 pub struct Head {
@@ -119,7 +119,7 @@ fn judge_length(input: &[u8]) -> Verdict
 // The tests of a message with a payload of n bytes.
 fn judge_message(input: &[u8], n: usize) -> Verdict
     requires { ⌜ n ≡ lengthOf (now input) ⌝ }
-    ensures { λ r. ⌜ judgedAs (now (input .entry)) r ≡ judgeCrc (now (input .entry)) ⌝ }
+    ensures { λ r. ⌜ judgedAs (now (input .entry)) r ≡ judgeMessage (now (input .entry)) ⌝ }
 {
     let kind = octets::read_u8(input, limits::TYPE_OFFSET);
     let has_crc = has_its_crc(input, n);

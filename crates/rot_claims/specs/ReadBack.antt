@@ -17,7 +17,7 @@ use Rattle.rot.specs.Limits.{start-length, header-length, longest-payload}
 use Rattle.rot.specs.Crc.{crc}
 use Rattle.rot.specs.Message.{version-1, echo-request, echo-response, listed, Message, start, crcOf, message, echoed}
 use Rattle.rot.specs.Answers.{Report, refused, handed, wrote, Outcome, outcome, sending}
-use Rattle.rot.specs.Reading.{protocolOf, typeOf, lengthOf, crcField, payloadOf, checked, Judged, failure, unsent, good, judgeType, judgeCrc, judgeLength, judgeProtocol, judge, served, answering, reading, handedPart, payloadPart}
+use Rattle.rot.specs.Reading.{protocolOf, typeOf, lengthOf, crcField, payloadOf, checked, Judged, failure, unsent, good, judgeMessage, judgeLength, judge, served, answering, reading, handedPart, payloadPart}
 use Rattle.rot.specs.Writing.{messageOf, writing}
 use Rattle.rot.proofs.Register.{crc-lt}
 use Rattle.rot.proofs.Message.{length-start, length-message}
@@ -33,7 +33,7 @@ between xs ys zs at n e f = rw (drop-at xs (ys ++ zs) at e) (take-at ys zs n f)
 passes : (input : List ℕ) → protocolOf input ≡ version-1 → header-length ≤ length input → lengthOf input ≤ longest-payload
     → header-length + lengthOf input ≤ length input → crcField input ≡ crc (checked input) → listed (typeOf input) ≡ true
     → judge input ≡ good (messageOf (typeOf input) (payloadOf input))
-unfolding judgeType judgeCrc judgeLength judgeProtocol judge
+unfolding judgeMessage judgeLength judge
 passes input p h n l c t =
     rw (
       ne-eqb (length input) 0 (λ e. omega arith),
