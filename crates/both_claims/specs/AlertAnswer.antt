@@ -1,8 +1,8 @@
 -- An answer to an alert request: which alert it holds, where no alert reply from before the main processor's end was started was still retained.
 -- Assumes nothing.
 use mathlib.Core.Path.{_≡_, refl, sym, ap, _∙_}
-use mathlib.Core.Bool.{Bool, true, false, _||_, false≢true}
-use mathlib.Core.List.{List, [], _++_}
+use mathlib.Core.Bool.{Bool, true, false, _||_, or-true, false≢true}
+use mathlib.Core.List.{List, [], _∷_, _++_}
 use mathlib.Core.Logic.{_⊎_, inl, inr}
 use mathlib.Core.Option.{Option, none, some}
 use Prim.Native.Nat.{ℕ}
@@ -13,27 +13,32 @@ use Rattle.line.specs.Message.{Message}
 use Rattle.line_claims.specs.Pieces.{split}
 use Rattle.requester.specs.State as MainState
 use Rattle.requester.specs.State.{Request, outstanding}
-use Rattle.requester.specs.Calls as MainCalls
 use Rattle.requester_claims.specs.View as MainView
 use Rattle.requester_claims.specs.Histories as Main
+use Rattle.requester_claims.specs.Numbers.{Frame}
 use Rattle.supervisor.specs.State.{Alert, Retained, State, fresh}
 use Rattle.requests.specs.Requests.{Answer, replyOf, oldest}
 use Rattle.supervisor_claims.specs.View.{view, factoryOf}
+use Rattle.supervisor_claims.specs.Sound.{Sound}
 use Rattle.supervisor_claims.specs.Histories as Supervisor
 use Rattle.supervisor_claims.specs.FrameHistory as Received
+use Rattle.supervisor_claims.specs.FrameHistory.{framed}
+use Rattle.supervisor_claims.specs.LastSet.{Origin}
 use Rattle.supervisor_claims.specs.laws.Progress.{Since}
 use Rattle.supervisor_claims.specs.claims.AlertClaim.{local-keeps}
 use Rattle.supervisor_claims.specs.claims.FramesClaim.{made-carried, by-frames}
 use Rattle.supervisor_claims.specs.claims.History as SupervisorHistory
 use Rattle.both_claims.specs.Ends
-use Rattle.both_claims.specs.Ends.{Any, Handled, Log, CarriedOut, AlertTaken, FreshAlert, CallOf, AnswerOf, ReportOf, retainedUnder, messageOf, asMessage}
-use Rattle.both_claims.specs.Ends.{CallTyped, after, Starts, begun, Always, WireAfter, firstLog, mainLogged, supervisorLogged, brought, clearedBy, imageOf, restarts}
-use Rattle.both_claims.specs.laws.Lists.{none-some, any-or, each-then, each-any}
-use Rattle.both_claims.specs.laws.Kept.{Known, Kept}
+use Rattle.both_claims.specs.Ends.{Any, Handled, Log, CarriedOut, Fresh, AlertTaken, FreshAlert, CallOf, retainedUnder, messageOf, asMessage}
+use Rattle.both_claims.specs.Ends.{MainGoesOn, AlertSince, afterAll, handledBy, originBy, Wire}
+use Rattle.both_claims.specs.Ends.{CallTyped, after, Starts, begun, Begun, Always, WireAfter, mainLogged, supervisorLogged, brought, clearedBy, imageOf, restarts}
+use Rattle.both_claims.specs.laws.Lists.{Front, none-some, any-or, each-then, each-any}
+use Rattle.both_claims.specs.laws.Kept.{Known, Kept, not-asked-by}
 use Rattle.both_claims.specs.laws.ThatRequest.{answered}
 use Rattle.both_claims.specs.laws.SupervisorFrames.{made-field, made-started}
 use Rattle.both_claims.specs.laws.RetainedSince.{alertAnswer, sends-again, takes-alert, Takes, RetainedBy, retained-later, under-is, frames-kept}
-use Rattle.both_claims.specs.laws.BothCalls.{Both, each-call, begun-both}
+use Rattle.both_claims.specs.FreshAnswer.{answer-fresh}
+use Rattle.both_claims.specs.laws.BothCalls.{Both, each-call, each-given, after-calls, begun-both, begun-else}
 
 -- ---- what holds of the supervisor's state
 
@@ -59,7 +64,7 @@ module _ (x : State) (l : Log) (r : Retains x l) (m : Supervisor.Made) (waiting 
   left-retained : Received.startsAnew m ≡ false → left .retained ≡ Received.allFramed (imageOf (m .call)) x fs .retained
   left-retained e =
       ap (λ (y : State). y .retained) (sym carried-left)
-      ∙ made-field (λ (y : State). y .retained) (λ s p. refl) (λ s c. local-keeps s c .0) w x m e
+      ∙ made-field (λ (y : State). y .retained) (λ s p. refl) w x (λ s c. local-keeps s c .0) m e
 
   started-retained : Received.startsAnew m ≡ true → left .retained ≡ none
   unfolding fresh
@@ -152,42 +157,107 @@ module _ (s : MainState.State) (l : Log) (kept : Kept s l) (x : State) (retains 
 
 -- ---- the claim
 
--- where it holds of every message
-report-of : (P : Message → Type 0) → ((r : Message) → P r) → (t : MainCalls.Report) (d : List ℕ) → ReportOf P t d
-report-of P f (MainCalls.Report.refused n) d = tt
-report-of P f MainCalls.nothing d = tt
-report-of P f (MainCalls.answered v q c n) d = f _
-report-of P f (MainCalls.status x o k) d = tt
-report-of P f (MainCalls.alerted v q c n) d = f _
+abbrev RetainsIn : Ends.Ends → Type 0
+RetainsIn e = Retains (view (e .supervisor)) (e .log)
 
-answer-of : (P : Message → Type 0) → ((r : Message) → P r) → (a : Main.Answer) (d : List ℕ) → AnswerOf P a d
-answer-of P f (Main.refused n) d = tt
-answer-of P f Main.done d = tt
-answer-of P f (Main.put n) d = tt
-answer-of P f (Main.received used t e u) d = report-of P f t d
-
-call-alert : (e : Ends.Ends) → Both e → Retains (view (e .supervisor)) (e .log) → (t : Ends.Call) → CallTyped t
-    → CallOf FreshAlert e t × Retains (view (after e t .supervisor)) (after e t .log)
+call-retains : (e : Ends.Ends) → Sound (e .supervisor) → RetainsIn e → (t : Ends.Call) → CallTyped t → RetainsIn (after e t)
 unfolding after
-call-alert e both r (Ends.main m) typed =
-    let s = MainView.view (e .main) in
-    let d = Main.made (e .main) m in (
-      answer-of (FreshAlert s (e .log)) (λ x q waiting alert. alert-taken s (e .log) (both .kept) (view (e .supervisor)) r x q waiting alert) (d .answer) (d .out),
-      main-retains (view (e .supervisor)) (e .log) r (m .call) _ _ _,
-    )
-call-alert e both r (Ends.supervisor m) typed =
-    let k = SupervisorHistory.one-call (e .supervisor) m (both .supervisor) typed .leaves .0 in
-    (tt, rw k (supervisor-retains (view (e .supervisor)) (e .log) r m _))
+call-retains e s r (Ends.main m) typed = main-retains (view (e .supervisor)) (e .log) r (m .call) _ _ _
+call-retains e s r (Ends.supervisor m) typed =
+    let k = SupervisorHistory.one-call (e .supervisor) m s typed .leaves .0 in
+    rw k (supervisor-retains (view (e .supervisor)) (e .log) r m _)
 
-begun-retains : (s : Starts) → Retains (view (begun s .supervisor)) firstLog
+call-alert : (e : Ends.Ends) → Both e → RetainsIn e → (t : Ends.Call) → CallTyped t → Wire (after e t .log) → CallOf FreshAlert e t × RetainsIn (after e t)
+call-alert e both r t typed w = (by t, call-retains e (both .supervisor) r t typed)
+  where
+    by : (t : Ends.Call) → CallOf FreshAlert e t
+    by (Ends.main m) = λ x o q waiting alert. alert-taken (MainView.view (e .main)) (e .log) (both .kept) (view (e .supervisor)) r x q waiting alert
+    by (Ends.supervisor m) = tt
+
+together-retains : (s : Starts) → RetainsIn (begun s)
 unfolding Received.joinedAll Supervisor.leftMeant fresh
-begun-retains s =
+together-retains s =
     let k = SupervisorHistory.started (s .supervisor-parts) (s .supervisor-bytes) (s .supervisor-lent) (s .start-data) (s .start-typed) (s .supervisor-accepted) .0 in
     rw k (record { since = by-frames (factoryOf (s .start-data)) [] .2; kept = λ e t f. absurd (none-some f); each = tt })
 
--- As in `fresh-answer`: where an answer to an alert request is handed out, and since the main processor's end was last started the supervisor had been started, or
--- had carried out a reboot or power-off, before it carried out that request, the answer is the alert that was the oldest waiting at some moment at which the
--- supervisor carried out that very request, after it was put out.
-pub alert-answer : (s : Starts) (ts : List Ends.Call) → Each CallTyped ts → Always WireAfter (begun s) ts → Always (CallOf FreshAlert) (begun s) ts
-alert-answer s ts t w =
-    each-call (λ e. Retains (view (e .supervisor)) (e .log)) (CallOf FreshAlert) (λ e both r t typed v. call-alert e both r t typed) (begun s) (begun-both s) (begun-retains s) ts t w
+begun-retains : (e : Ends.Ends) → Begun e → RetainsIn e
+begun-retains = begun-else RetainsIn together-retains call-retains
+
+-- As in `fresh-answer`: where an answer to an alert request is handed out, and the supervisor had been started, together with the main processor's last start or since, or
+-- had carried out a reboot or power-off since, before it carried out that request, the answer is the alert that was the oldest waiting, or action 0 and no data where none
+-- waited, at some moment at which the supervisor carried out that very request, after it was put out.
+pub alert-answer : (e : Ends.Ends) → Begun e → (ts : List Ends.Call) → Each CallTyped ts → Always WireAfter e ts → Always (CallOf FreshAlert) e ts
+alert-answer e b ts t w = each-call RetainsIn (CallOf FreshAlert) call-alert e (begun-both e b) (begun-retains e b) ts t w
+
+-- ---- against an earlier moment
+
+-- once it is so it stays so
+cleared-stays : (fs : List (List ℕ)) → clearedBy true fs ≡ true
+unfolding clearedBy
+cleared-stays [] = refl
+cleared-stays (f ∷ fs) = cleared-stays fs
+
+module _ (e₀ : Ends.Ends) where
+  -- what was handled since then was handled so; what was handled before came when no more had been put out
+  abbrev Placed : Handled → Type 0
+  Placed h = (h .cleared ≡ true) ⊎ Front (h .asked) (e₀ .log .asked)
+
+  record Cleared (l : Log) : Type 0 where
+    now : l .cleared ≡ true
+    each : Each Placed (l .handled)
+
+  frames-placed : (asked : List Frame) (image : List ℕ) (fs : List (List ℕ)) (x : State) (o : ℕ → Origin) (earlier : List (List ℕ))
+      → Each Placed (handledBy asked image true x o earlier fs)
+  unfolding handledBy
+  frames-placed asked image [] x o earlier = tt
+  frames-placed asked image (f ∷ fs) x o earlier = (inl refl, frames-placed asked image fs (framed image x f) (originBy o f) (earlier ++ (f ∷ [])))
+
+  supervisor-clears : (x : State) (l : Log) (m : Supervisor.Made) (waiting : List ℕ) → Cleared l → Cleared (supervisorLogged l x m waiting)
+  unfolding supervisorLogged brought
+  supervisor-clears x l m waiting c = record {
+    now = rw (c .now, cleared-stays (Received.framesBy (l .received) (Received.receivedBy m))) (or-true (Received.startsAnew m));
+    each = each-append Placed (l .handled) _ (c .each) (rw (c .now) (frames-placed (l .asked) (imageOf (m .call)) _ x _ _));
+  }
+
+  main-clears : (l : Log) → Cleared l → (c : Main.Call) (a : Main.Answer) (out : List ℕ) (n : ℕ) → restarts c a ≡ false → Cleared (mainLogged l c a out n)
+  unfolding mainLogged
+  main-clears l h c a out n e = rw e (record { now = h .now; each = h .each })
+
+  call-clears : (e : Ends.Ends) (t : Ends.Call) → MainGoesOn e t → Cleared (e .log) → Cleared (after e t .log)
+  unfolding after
+  call-clears e (Ends.main m) g c = main-clears (e .log) c (m .call) _ _ _ g
+  call-clears e (Ends.supervisor m) g c = supervisor-clears _ (e .log) m _ c
+
+  -- a request that had not been put out then was carried out since
+  since : (s : MainState.State) (l : Log) → Cleared l → (r : Message) → Fresh s l r → FreshAlert s l r → AlertSince e₀ s l r
+  since s l c r f a q waiting alert new =
+      let e : f .request ≡ q = (let w = f .waiting in cc) in
+      a q waiting alert (each-any Placed (CarriedOut (s .newest) q r) _ later (l .handled) (c .each) (rw e at (f .made)))
+    where
+      later : (h : Handled) → Placed h → CarriedOut (s .newest) q r h → CarriedOut (s .newest) q r h × (h .cleared ≡ true)
+      later h (inl b) o = (o, b)
+      later h (inr front) o = absurd (not-asked-by e₀ (s .newest) new h front _ (o .put-out))
+
+  abbrev Keeps : Ends.Ends → Type 0
+  Keeps e = RetainsIn e × Cleared (e .log)
+
+  call-since : (e : Ends.Ends) → Both e → Keeps e → (t : Ends.Call) → CallTyped t → Wire (after e t .log) → MainGoesOn e t → CallOf (AlertSince e₀) e t × Keeps (after e t)
+  call-since e both k t typed w g =
+      let a = call-alert e both (k .0) t typed w in
+      (by t typed w (a .0), (a .1, call-clears e t g (k .1)))
+    where
+      by : (t : Ends.Call) → CallTyped t → Wire (after e t .log) → CallOf FreshAlert e t → CallOf (AlertSince e₀) e t
+      by (Ends.main m) typed w a = λ r o. since (MainView.view (e .main)) (e .log) (k .1) r (answer-fresh e both m typed w r o) (a r o)
+      by (Ends.supervisor m) typed w a = tt
+
+-- As in `fresh-answer`, and any moment among the calls by which the supervisor, since the main processor's last accepted start or together with it, had been started or had
+-- carried out a reboot or power-off; after that moment the main processor's end is not started again. Then an answer to an alert request that had not been put out at
+-- that moment is the alert that was the oldest waiting, or action 0 and no data where none waited, at some moment at which the supervisor carried out that very request,
+-- after it was put out.
+pub alert-since : (b : Ends.Ends) → Begun b → (ts us : List Ends.Call) → Each CallTyped ts → Each CallTyped us → Always WireAfter b ts → let e = afterAll b ts in
+    e .log .cleared ≡ true → Always MainGoesOn e us → Always WireAfter e us → Always (CallOf (AlertSince e)) e us
+alert-since b begins ts us t u w c g v =
+    let e = afterAll b ts in
+    let k = after-calls RetainsIn (CallOf FreshAlert) call-alert b (begun-both b begins) (begun-retains b begins) ts t w in
+    let before : Cleared e (e .log) = record { now = c; each = each-then _ _ (λ (h : Handled) f. inr f) (e .log .handled) (k .0 .kept .before) } in
+    each-given (Keeps e) MainGoesOn (CallOf (AlertSince e)) (call-since e) e (k .0) (k .1, before) us u v g

@@ -6,6 +6,7 @@ use mathlib.Core.List.{List, [], _∷_, _++_, map}
 use mathlib.Core.Logic.{_⊎_}
 use mathlib.Core.Option.{Option, none, some}
 use Prim.Native.Nat.{ℕ, _<_}
+use lib.Count.{ones}
 use lib.Dec.{eqb}
 use lib.ListN.{length, take}
 use Rattle.octets.specs.Bytes.{Each, Byte, bytes}
@@ -31,7 +32,7 @@ use Rattle.supervisor_claims.specs.Sound.{Bytes}
 use Rattle.supervisor_claims.specs.Histories as Supervisor
 use Rattle.supervisor_claims.specs.FrameHistory as Received
 use Rattle.supervisor_claims.specs.FrameHistory.{framed}
-use Rattle.supervisor_claims.specs.LastSet.{requestsIn, setAfter, restoredBy, Origin, sinceStart, sinceMore, sinceMade, setSince}
+use Rattle.supervisor_claims.specs.LastSet.{requestsIn, setBy, setAfter, restoredBy, Origin, sinceStart, sinceMore, sinceMade, setSince}
 use Rattle.supervisor_claims.specs.claims.WithdrawnKeys.{fittedOf, ReadBack}
 use Rattle.supervisor_claims.specs.claims.InOrder.{replyBy}
 
@@ -61,7 +62,7 @@ CallTyped (supervisor m) = Supervisor.Typed (m .call)
 
 -- ---- What they have put out and read
 
--- a frame that is not empty, as the supervisor came to it
+-- a frame that is not empty, and the supervisor when it was handled
 pub record Handled : Type 0 where
   -- the bytes before its 00
   pub form : List ℕ
@@ -75,7 +76,7 @@ pub record Handled : Type 0 where
   pub origin : ℕ → Origin
   -- the frames that the main processor's end had put out by then, since its last accepted start
   pub asked : List Frame
-  -- whether, since that start, the supervisor had been started, or had carried out a reboot or power-off, which drop the retained alert reply
+  -- whether, together with that start or since, the supervisor had been started, or since had carried out a reboot or power-off, which drop the retained alert reply
   pub cleared : Bool
 
 -- the message of a reply
@@ -106,14 +107,15 @@ pub record Log : Type 0 where
   pub heard : List Message
   -- the frames that it has carried out or answered
   pub handled : List Handled
-  -- whether it has been started, or has carried out a reboot or power-off
+  -- whether it has been started, together with the main processor's end or since, or has carried out a reboot or power-off
   pub cleared : Bool
-  -- its newest reply, where bytes of it are still to be taken
+  -- its newest reply, where more of it than its 00 is still to be taken
   pub pending : Option Message
-  -- its replies whose bytes were all taken; one that was made before the main processor's end was started is not among them
+  -- its replies that were taken, but for their 00 at most: any 00 behind ends the frame; one that was made before the main processor's end was started is not
+  -- among them
   pub sent : List Message
 
--- nothing yet, with whether the supervisor was just started too, the bytes that it had received, and where its keys' values came from
+-- nothing yet; given are whether the supervisor was just started too, the bytes that it had received, and where its keys' values came from
 abbrev pub emptyLog : Bool → List ℕ → (ℕ → Origin) → Log
 emptyLog started w o = record { read = []; asked = []; received = w; origin = o; heard = []; handled = []; cleared = started; pending = none; sent = [] }
 
@@ -201,15 +203,18 @@ abbrev pub newestReply : Option Message → List Handled → Option Message
 newestReply r [] = r
 newestReply r (h ∷ hs) = newestReply (replyMade h) hs
 
--- the bytes that wait tell whether it was taken whole
+-- by the bytes that wait: the reply, as long as more of it than its 00 is to be taken
 abbrev pub stillPending : List ℕ → Option Message → Option Message
 stillPending [] r = none
-stillPending (b ∷ bs) r = r
+stillPending (b ∷ []) r = none
+stillPending (b ∷ (c ∷ bs)) r = r
 
-abbrev pub takenWhole : List ℕ → Option Message → List Message
-takenWhole [] none = []
-takenWhole [] (some r) = r ∷ []
-takenWhole (b ∷ bs) r = []
+-- the reply, once no more than its 00 is left: put out
+abbrev pub takenBy : List ℕ → Option Message → List Message
+takenBy bs none = []
+takenBy [] (some r) = r ∷ []
+takenBy (b ∷ []) (some r) = r ∷ []
+takenBy (b ∷ (c ∷ bs)) (some r) = []
 
 -- the frames that a call brings, on the state s
 unfoldable pub brought : Log → State → Supervisor.Made → List Handled
@@ -230,7 +235,7 @@ supervisorLogged l s m waiting =
       handled = l .handled ++ hs;
       cleared = Received.startsAnew m || clearedBy (l .cleared) (Received.framesBy (l .received) (Received.receivedBy m));
       pending = stillPending waiting r;
-      sent = l .sent ++ takenWhole waiting r;
+      sent = l .sent ++ takenBy waiting r;
     }
 
 -- ---- Both ends after calls
@@ -281,6 +286,12 @@ unfoldable pub afterAll : Ends → List Call → Ends
 afterAll e [] = e
 afterAll e (t ∷ ts) = afterAll (after e t) ts
 
+-- both ends as the main processor's end was just started: together with the supervisor, or later, after any calls of both over any wire
+pub data Begun : Ends → Type 0 where
+  together : (s : Starts) → Begun (begun s)
+  later : (s : Starts) (ts : List Call) → Each CallTyped ts → (l : Main.Lent) → Main.made (afterAll (begun s) ts .main) (record { lent = l; call = Main.start }) .answer ≡ Main.done
+      → Begun (after (afterAll (begun s) ts) (main (record { lent = l; call = Main.start })))
+
 -- a claim about each call, with both ends as it found them
 abbrev pub Always : (Ends → Call → Type 0) → Ends → List Call → Type 0
 Always C e [] = Unit {0}
@@ -289,8 +300,8 @@ Always C e (t ∷ ts) = C e t × Always C (after e t) ts
 -- ---- The wire
 
 -- each good message that an end has read since the main processor's end was last started is that of a whole frame that the other has put out since: bytes may
--- be lost, delayed, cut and damaged, frames may come late, twice and in another order, but no good message comes of damage, of half a frame, or of a
--- frame that was put out, or a reply that was made, before that start
+-- be lost, delayed, cut and damaged, frames may come late, twice and in another order, but each good message read is, byte for byte, that of a frame put out since that start
+-- and, if a reply, made since
 pub record Wire (l : Log) : Type 0 where
   pub to-supervisor : Each (λ (m : Message). Any (λ (x : Frame). x .bytes ≡ frame m) (l .asked)) (l .heard)
   pub to-main : Each (λ (r : Message). Any (λ (y : Message). frame y ≡ frame r) (l .sent)) (got l)
@@ -333,14 +344,14 @@ pub record Fresh (s : MainState.State) (l : Log) (r : Message) : Type 0 where
   pub waiting : outstanding s ≡ some request
   pub made : Any (CarriedOut (s .newest) request r) (l .handled)
 
--- what is handed out: an answer, an alert's answer, or a status
+-- what is handed out: outside a recovery an answer, in it a status with its number of set bits, to the status request, or an alert's answer, to the alert request
 abbrev pub FreshReport : MainState.State → Log → MainCalls.Report → List ℕ → Type 0
 FreshReport s l (MainCalls.Report.refused n) d = Unit {0}
 FreshReport s l MainCalls.nothing d = Unit {0}
-FreshReport s l (MainCalls.answered v q c n) d = Fresh s l (record { version = v; sequence = q; command = c; payload = d })
+FreshReport s l (MainCalls.answered v q c n) d = (s .recovery ≡ none) × Fresh s l (record { version = v; sequence = q; command = c; payload = d })
 FreshReport s l (MainCalls.status x o k) d =
-    (r : Message) × Fresh s l r × (statusOf r ≡ x) × (optionsOf r ≡ o) × (r .command ≡ 0x06) × (length (r .payload) ≡ status-length)
-FreshReport s l (MainCalls.alerted v q c n) d = Fresh s l (record { version = v; sequence = q; command = c; payload = d })
+    (s .recovery ≡ some MainState.fetch) × (r : Message) × Fresh s l r × (statusOf r ≡ x) × (optionsOf r ≡ o) × (ones x ≡ k) × (r .command ≡ 0x06) × (length (r .payload) ≡ status-length)
+FreshReport s l (MainCalls.alerted v q c n) d = (s .recovery ≡ some MainState.alert) × Fresh s l (record { version = v; sequence = q; command = c; payload = d })
 
 abbrev pub FreshAnswer : MainState.State → Log → Main.Answer → List ℕ → Type 0
 FreshAnswer s l (Main.refused n) d = Unit {0}
@@ -360,35 +371,36 @@ abbrev pub retainedUnder : ℕ → Option Retained → Bool
 retainedUnder n none = false
 retainedUnder n (some t) = eqb (t .sequence) n
 
--- in carrying the request out, the supervisor took the oldest alert that waited then
+-- in carrying the request out, the supervisor took the oldest alert that waited then, or action 0 and no data where none did
 pub record AlertTaken (n : ℕ) (q : Request) (r : Message) (h : Handled) : Type 0 where
   pub carried-out : CarriedOut n q r h
   pub none-retained : retainedUnder n (h .state .retained) ≡ false
   pub oldest-waiting : r .payload ≡ alertData (oldest (h .state .waiting))
 
 -- an answer to an alert request holds an alert that was taken in carrying out that request, after it was put out, if no alert reply from before the main
--- processor's end was started was still retained: if since that start the supervisor was started or carried out a reboot or power-off, and then this request
+-- processor's end was started was still retained: if the supervisor was started together with it or since, or carried out a reboot or power-off since, and then this request
 abbrev pub FreshAlert : MainState.State → Log → Message → Type 0
 FreshAlert s l r =
     (q : Request) → outstanding s ≡ some q → q .command ≡ 0x0a → Any (λ (h : Handled). CarriedOut (s .newest) q r h × (h .cleared ≡ true)) (l .handled)
     → Any (AlertTaken (s .newest) q r) (l .handled)
 
--- of each message that a call hands out
-abbrev pub ReportOf : (Message → Type 0) → MainCalls.Report → List ℕ → Type 0
-ReportOf P (MainCalls.Report.refused n) d = Unit {0}
-ReportOf P MainCalls.nothing d = Unit {0}
-ReportOf P (MainCalls.answered v q c n) d = P (record { version = v; sequence = q; command = c; payload = d })
-ReportOf P (MainCalls.status x o k) d = Unit {0}
-ReportOf P (MainCalls.alerted v q c n) d = P (record { version = v; sequence = q; command = c; payload = d })
+-- the message that is handed out as an answer or an alert's answer
+abbrev pub messageReported : MainCalls.Report → List ℕ → Option Message
+messageReported (MainCalls.Report.refused n) d = none
+messageReported MainCalls.nothing d = none
+messageReported (MainCalls.answered v q c n) d = some (record { version = v; sequence = q; command = c; payload = d })
+messageReported (MainCalls.status x o k) d = none
+messageReported (MainCalls.alerted v q c n) d = some (record { version = v; sequence = q; command = c; payload = d })
 
-abbrev pub AnswerOf : (Message → Type 0) → Main.Answer → List ℕ → Type 0
-AnswerOf P (Main.refused n) d = Unit {0}
-AnswerOf P Main.done d = Unit {0}
-AnswerOf P (Main.put n) d = Unit {0}
-AnswerOf P (Main.received used t e u) d = ReportOf P t d
+abbrev pub messageBy : Main.Answer → List ℕ → Option Message
+messageBy (Main.refused n) d = none
+messageBy Main.done d = none
+messageBy (Main.put n) d = none
+messageBy (Main.received used t e u) d = messageReported t d
 
+-- of each message that a call hands out so, with both ends as it found them
 abbrev pub CallOf : (MainState.State → Log → Message → Type 0) → Ends → Call → Type 0
-CallOf P e (main m) = let d = Main.made (e .main) m in AnswerOf (P (MainView.view (e .main)) (e .log)) (d .answer) (d .out)
+CallOf P e (main m) = let d = Main.made (e .main) m in (r : Message) → messageBy (d .answer) (d .out) ≡ some r → P (MainView.view (e .main)) (e .log) r
 CallOf P e (supervisor m) = Unit {0}
 
 -- ---- What a lookup's answer comes from
@@ -436,7 +448,11 @@ abbrev pub CallStays : Call → Type 0
 CallStays (main m) = Unit {0}
 CallStays (supervisor m) = Stays m
 
--- the same against an earlier moment
+-- no frame under this number had been put out by an earlier moment, since the main processor's last accepted start before it
+abbrev pub NotAsked : Ends → ℕ → Type 0
+NotAsked e n = Each (λ (x : Frame). x .number ≡ n → ⊥) (e .log .asked)
+
+-- `ValueThen`, and how the value follows from an earlier moment e
 pub record ValueSince (e : Ends) (n k most : ℕ) (r : Message) (h : Handled) : Type 0 where
   pub value-then : ValueThen n k most r h
   -- the frames since that moment
@@ -445,8 +461,85 @@ pub record ValueSince (e : Ends) (n k most : ℕ) (r : Message) (h : Handled) : 
   -- the value is that of the last successful set since then, or else the one that key k had then
   pub last-since : entryOf (h .state) k ≡ setAfter k (entryOf (view (e .supervisor)) k) (requestsIn later)
 
--- of a lookup whose number was not taken yet at that moment
+-- of a lookup that is outstanding under a number under which nothing had been put out by the moment e: P holds of a moment at which it was carried out
+abbrev pub ValueAgainst : Ends → (ℕ → ℕ → ℕ → Message → Handled → Type 0) → MainState.State → Log → Message → Type 0
+ValueAgainst e P s l r =
+    (k most : ℕ) → ReadBack k → most < 65536 → outstanding s ≡ some (lookupRequest k most) → NotAsked e (s .newest) → Any (P (s .newest) k most r) (l .handled)
+
 abbrev pub NotReplaced : Ends → MainState.State → Log → Message → Type 0
-NotReplaced e s l r =
-    (k most : ℕ) → ReadBack k → most < 65536 → outstanding s ≡ some (lookupRequest k most) → MainView.view (e .main) .newest < s .newest
-    → Any (ValueSince e (s .newest) k most r) (l .handled)
+NotReplaced e = ValueAgainst e (ValueSince e)
+
+-- ---- What an alert's answer comes from, against an earlier moment
+
+-- a call that is no accepted start of the main processor's end
+abbrev pub MainGoesOn : Ends → Call → Type 0
+MainGoesOn e (main m) = restarts (m .call) (Main.made (e .main) m .answer) ≡ false
+MainGoesOn e (supervisor m) = Unit {0}
+
+-- an answer to an alert request that had not been put out at that moment holds an alert that was taken in carrying out that request, after it was put out
+abbrev pub AlertSince : Ends → MainState.State → Log → Message → Type 0
+AlertSince e s l r = (q : Request) → outstanding s ≡ some q → q .command ≡ 0x0a → NotAsked e (s .newest) → Any (AlertTaken (s .newest) q r) (l .handled)
+
+-- ---- On a wire that keeps the order
+
+-- a call that is no accepted start of either end, nor an accepted restore
+abbrev pub GoesOn : Ends → Call → Type 0
+GoesOn e (main m) = MainGoesOn e (main m)
+GoesOn e (supervisor m) = Stays m
+
+abbrev pub InOrderAfter : Ends → Call → Type 0
+InOrderAfter e t = InOrder (after e t .log)
+
+-- a request with a higher number than all that the supervisor had read by an earlier moment, since the main processor's last accepted start; or the newest of those once
+-- more
+abbrev pub NotOlder : Ends → Message → Type 0
+NotOlder e m = Each (λ (y : Message). (y .sequence < m .sequence) ⊎ (y ≡ m)) (e .log .heard)
+
+-- against that moment: no request carried out since is older
+pub record ValueNotOlder (e : Ends) (n k most : ℕ) (r : Message) (h : Handled) : Type 0 where
+  pub value-since : ValueSince e n k most r h
+  pub not-older : Each (NotOlder e) (requestsIn (value-since .later))
+  -- so the value is the one that key k had then, or was set since by such a request
+  pub from : let v = entryOf (h .state) k .value in
+      (v ≡ entryOf (view (e .supervisor)) k .value) ⊎ Any (λ (m : Message). (setBy k m ≡ v) × NotOlder e m) (requestsIn (value-since .later))
+
+abbrev pub ListNotOlder : Ends → MainState.State → Log → Message → Type 0
+ListNotOlder e = ValueAgainst e (ValueNotOlder e)
+
+-- the same with higher numbers only
+pub record ValueNewer (e : Ends) (n k most : ℕ) (r : Message) (h : Handled) : Type 0 where
+  pub value-since : ValueSince e n k most r h
+  -- the value is the one that key k had then, or was set since by a request with a higher number than all that the supervisor had read by then
+  pub from : let v = entryOf (h .state) k .value in
+      (v ≡ entryOf (view (e .supervisor)) k .value)
+      ⊎ Any (λ (m : Message). (setBy k m ≡ v) × Each (λ (y : Message). y .sequence < m .sequence) (e .log .heard)) (requestsIn (value-since .later))
+
+abbrev pub NeverReplaced : Ends → MainState.State → Log → Message → Type 0
+NeverReplaced e = ValueAgainst e (ValueNewer e)
+
+-- ---- What a lookup's answer is where nothing more is put out
+
+-- the request that a call is to put out
+abbrev pub requestOf : Main.Call → Option Request
+requestOf Main.start = none
+requestOf (Main.request command d room) = some (record { command = command; payload = d })
+requestOf Main.interrupt = none
+requestOf (Main.send room) = none
+requestOf (Main.receive piece) = none
+
+-- whether it is one that was put out: a refused one changes nothing
+abbrev pub requests : Main.Call → Main.Answer → Bool
+requests c (Main.refused n) = false
+requests c Main.done = false
+requests c (Main.put n) = isSome (requestOf c)
+requests c (Main.received used t e u) = false
+
+-- a call that puts no new request of the caller's out
+abbrev pub NoRequest : Ends → Call → Type 0
+NoRequest e (main m) = requests (m .call) (Main.made (e .main) m .answer) ≡ false
+NoRequest e (supervisor m) = Unit {0}
+
+-- the answer to this lookup is the value that key k had at an earlier moment: result 2 where it had none, 3 where the value is longer than maxresponse, else 0 and the value
+abbrev pub ValueAsked : Ends → ℕ → ℕ → MainState.State → Log → Message → Type 0
+ValueAsked e k most s l r =
+    outstanding s ≡ some (lookupRequest k most) → let f = fittedOf most (entryOf (view (e .supervisor)) k) in r .payload ≡ f .result ∷ f .value

@@ -3,16 +3,20 @@
 use mathlib.Core.Path.{_≡_, refl}
 use mathlib.Core.List.{List, [], _∷_, map}
 use mathlib.Core.Logic.{inl, inr}
+use mathlib.Core.Option.{some}
 use Prim.Native.Nat.{ℕ}
 use Rattle.octets.specs.Bytes.{Each}
 use Rattle.line.specs.Message.{Message}
 use Rattle.line.specs.Frame.{frame}
+use Rattle.requester.specs.State as MainState
+use Rattle.requester.specs.Calls as MainCalls
 use Rattle.requester_claims.specs.View as MainView
+use Rattle.requester_claims.specs.Histories as Main
 use Rattle.requester_claims.specs.Numbers.{Frame}
 use Rattle.both_claims.specs.Ends
-use Rattle.both_claims.specs.Ends.{CallTyped, after, Starts, begun, Always, Wire, WireAfter, FreshAnswer, CallFresh}
+use Rattle.both_claims.specs.Ends.{MainTyped, CallTyped, after, Begun, Always, Wire, WireAfter, Fresh, FreshReport, FreshAnswer, CallFresh, messageReported, messageBy, CallOf}
 use Rattle.both_claims.specs.Ends.{Any, Log, got, Among, over, lost, came, InOrder}
-use Rattle.both_claims.specs.laws.Lists.{each-then}
+use Rattle.both_claims.specs.laws.Lists.{none-some, each-then}
 use Rattle.both_claims.specs.laws.MainCalls.{main-fresh}
 use Rattle.both_claims.specs.laws.BothCalls.{Both, main-log, main-answer, each-call, begun-both}
 
@@ -22,11 +26,28 @@ fresh-call e both (Ends.main m) typed w =
     main-answer e both (FreshAnswer s (e .log)) m (main-fresh s (e .log) (both .kept) m typed (rw (main-log e both m) at w))
 fresh-call e both (Ends.supervisor m) typed w = tt
 
--- A start of each end that is accepted, on any bytes; then any calls of both in any order, further starts among them, each lent any run of each part; at every
--- moment the wire is as `Wire` says. Then what each receive of the main processor's end hands out was made by the supervisor in carrying out exactly the request
+-- an answer, or an alert's
+report-fresh : (s : MainState.State) (l : Log) (t : MainCalls.Report) (d : List ℕ) → FreshReport s l t d → (r : Message) → messageReported t d ≡ some r → Fresh s l r
+report-fresh s l (MainCalls.Report.refused n) d h r e = absurd (none-some e)
+report-fresh s l MainCalls.nothing d h r e = absurd (none-some e)
+report-fresh s l (MainCalls.answered v q c n) d h r e = let z : record { version = v; sequence = q; command = c; payload = d } ≡ r = cc in rw (← z) (h .1)
+report-fresh s l (MainCalls.status x o k) d h r e = absurd (none-some e)
+report-fresh s l (MainCalls.alerted v q c n) d h r e = let z : record { version = v; sequence = q; command = c; payload = d } ≡ r = cc in rw (← z) (h .1)
+
+by-fresh : (s : MainState.State) (l : Log) (a : Main.Answer) (d : List ℕ) → FreshAnswer s l a d → (r : Message) → messageBy a d ≡ some r → Fresh s l r
+by-fresh s l (Main.refused n) d h r e = absurd (none-some e)
+by-fresh s l Main.done d h r e = absurd (none-some e)
+by-fresh s l (Main.put n) d h r e = absurd (none-some e)
+by-fresh s l (Main.received used t x u) d h r e = report-fresh s l t d h r e
+
+pub answer-fresh : (e : Ends.Ends) → Both e → (m : Main.Made) → MainTyped (m .call) → Wire (after e (Ends.main m) .log) → CallOf Fresh e (Ends.main m)
+answer-fresh e both m typed w r o = let d = Main.made (e .main) m in by-fresh (MainView.view (e .main)) (e .log) (d .answer) (d .out) (fresh-call e both (Ends.main m) typed w) r o
+
+-- The main processor's end just started, together with the supervisor or after any calls of both over any wire; then any calls of both in any order, further starts
+-- among them, each lent any run of each part; at every moment of these the wire is as `Wire` says. Then what each receive of the main processor's end hands out was made by the supervisor in carrying out exactly the request
 -- outstanding, after it was put out under its number.
-pub fresh-answer : (s : Starts) (ts : List Ends.Call) → Each CallTyped ts → Always WireAfter (begun s) ts → Always CallFresh (begun s) ts
-fresh-answer s ts t w = each-call (λ e. Unit {0}) CallFresh (λ e both x t typed v. (fresh-call e both t typed v, tt)) (begun s) (begun-both s) tt ts t w
+pub fresh-answer : (e : Ends.Ends) → Begun e → (ts : List Ends.Call) → Each CallTyped ts → Always WireAfter e ts → Always CallFresh e ts
+fresh-answer e b ts t w = each-call (λ e. Unit {0}) CallFresh (λ e both x t typed v. (fresh-call e both t typed v, tt)) e (begun-both e b) tt ts t w
 
 -- ---- a wire that keeps the order
 

@@ -7,6 +7,7 @@ use mathlib.Core.Logic.{_⊎_, inl, inr}
 use mathlib.Core.Option.{Option, none, some}
 use Prim.Native.Nat.{ℕ, _≤_, _<_}
 use native.Mathlib.Omega.{arith}
+use lib.Seq.{append-snoc}
 use Rattle.octets.specs.Bytes.{Each}
 use Rattle.octets.proofs.Conditions.{cond-by}
 use Rattle.octets.proofs.Each.{each-append}
@@ -15,7 +16,6 @@ use Rattle.line_claims.specs.Pieces.{split, nonEmpty, nonEmpty-append, closedBy
 use Rattle.requester.specs.State as MainState
 use Rattle.requester.specs.State.{isSome}
 use Rattle.requester.specs.Requester.{replySequence}
-use Rattle.requester.specs.Calls as MainCalls
 use Rattle.requester_claims.specs.View as MainView
 use Rattle.requester_claims.specs.Histories as Main
 use Rattle.requester_claims.specs.Numbers.{Frame}
@@ -27,6 +27,7 @@ use Rattle.requests.specs.Requests.{Answer, carried, effect, replyOf}
 use Rattle.requests.specs.Commands.{numberOf, withNumber, commandOf}
 use Rattle.supervisor.specs.Number.{topSet}
 use Rattle.supervisor_claims.specs.View.{view, factoryOf}
+use Rattle.supervisor_claims.specs.Sound.{Sound}
 use Rattle.supervisor_claims.specs.Histories as Supervisor
 use Rattle.supervisor_claims.specs.FrameHistory as Received
 use Rattle.supervisor_claims.specs.FrameHistory.{framed, allFramed}
@@ -37,21 +38,21 @@ use Rattle.supervisor_claims.specs.claims.FramesClaim.{made-carried, by-frames}
 use Rattle.supervisor_claims.specs.claims.LastSetLaws.{afterSets, after-append, after-sets, onto, onto-low, entry-held, requests-append, frames-have, Holds, fresh-holds, made-holds, since-keeps, in-low, read-low}
 use Rattle.supervisor_claims.specs.claims.History as SupervisorHistory
 use Rattle.both_claims.specs.Ends
-use Rattle.both_claims.specs.Ends.{Any, Handled, Log, CarriedOut, Fresh, FreshReport, FreshAnswer, ReportOf, AnswerOf, messageOf, asMessage, drops, originBy, handledBy, imageOf, brought, supervisorLogged, mainLogged, restarts, firstLog}
-use Rattle.both_claims.specs.Ends.{afterAll, framesOf, isRestore, restores, Stays, CallStays, ValueSince, NotReplaced}
-use Rattle.both_claims.specs.Ends.{CallTyped, after, Starts, begun, Always, Wire, WireAfter, CallOf, lookupRequest, ValueThen, FreshValue}
-use Rattle.both_claims.specs.laws.Lists.{any-so, each-then, each-and, each-any}
+use Rattle.both_claims.specs.Ends.{Any, Handled, Log, CarriedOut, Fresh, messageOf, asMessage, drops, originBy, handledBy, imageOf, brought, supervisorLogged, mainLogged, restarts}
+use Rattle.both_claims.specs.Ends.{afterAll, framesOf, isRestore, restores, Stays, CallStays, NotAsked, ValueSince, ValueAgainst, NotReplaced}
+use Rattle.both_claims.specs.Ends.{CallTyped, after, Starts, begun, Begun, Always, Wire, WireAfter, CallOf, lookupRequest, ValueThen, FreshValue}
+use Rattle.both_claims.specs.laws.Lists.{Front, any-so, any-then, each-then, each-and, each-any}
 use Rattle.both_claims.specs.laws.Table.{top-set}
 use Rattle.both_claims.specs.laws.SupervisorFrames.{frames-none}
-use Rattle.both_claims.specs.laws.Kept.{PutOut, Known, Kept}
-use Rattle.both_claims.specs.FreshAnswer.{fresh-call}
-use Rattle.both_claims.specs.laws.BothCalls.{Both, keeps-both, each-call, after-calls, begun-both}
+use Rattle.both_claims.specs.laws.Kept.{Kept, not-asked-by}
+use Rattle.both_claims.specs.FreshAnswer.{answer-fresh}
+use Rattle.both_claims.specs.laws.BothCalls.{Both, keeps-both, each-call, after-calls, begun-both, begun-else, always-so}
 
 -- ---- what holds of the supervisor's settings
 
 -- a settings key has what its sets come to since the last accepted restore, or else start
-record SetKey (k : ℕ) (o : Origin) (x : State) : Type 0 where
-  holds : Holds k o x
+pub record SetKey (k : ℕ) (o : Origin) (x : State) : Type 0 where
+  pub holds : Holds k o x
   low : o .setting .edition ≤ last-edition
 
 abbrev Set : (ℕ → Origin) → State → Type 0
@@ -74,9 +75,9 @@ module _ (asked : List Frame) (image : List ℕ) where
   frames-set ((b ∷ bs) ∷ ps) cleared x o earlier h =
       (h, frames-set ps (cleared || drops (b ∷ bs)) (framed image x (b ∷ bs)) (originBy o (b ∷ bs)) (earlier ++ ((b ∷ bs) ∷ [])) (set-frame image x o b bs h))
 
-record Aged (x : State) (l : Log) : Type 0 where
+pub record Aged (x : State) (l : Log) : Type 0 where
   since : Since (split (l .received) .rest) x
-  set : Set (l .origin) x
+  pub set : Set (l .origin) x
   each : Each (λ (h : Handled). Set (h .origin) (h .state)) (l .handled)
 
 -- a call of the supervisor
@@ -161,45 +162,38 @@ value-fresh s l kept x aged r f k most key i e =
 
 -- ---- the claim
 
--- what holds of what is fresh
-report-then : (s : MainState.State) (l : Log) (P : Message → Type 0) → ((r : Message) → Fresh s l r → P r) → (t : MainCalls.Report) (d : List ℕ) → FreshReport s l t d → ReportOf P t d
-report-then s l P f (MainCalls.Report.refused n) d h = tt
-report-then s l P f MainCalls.nothing d h = tt
-report-then s l P f (MainCalls.answered v q c n) d h = f _ h
-report-then s l P f (MainCalls.status x o k) d h = tt
-report-then s l P f (MainCalls.alerted v q c n) d h = f _ h
+abbrev pub AgedIn : Ends.Ends → Type 0
+AgedIn e = Aged (view (e .supervisor)) (e .log)
 
-answer-then : (s : MainState.State) (l : Log) (P : Message → Type 0) → ((r : Message) → Fresh s l r → P r) → (a : Main.Answer) (d : List ℕ) → FreshAnswer s l a d → AnswerOf P a d
-answer-then s l P f (Main.refused n) d h = tt
-answer-then s l P f Main.done d h = tt
-answer-then s l P f (Main.put n) d h = tt
-answer-then s l P f (Main.received used t e u) d h = report-then s l P f t d h
-
-call-aged : (e : Ends.Ends) → Both e → Aged (view (e .supervisor)) (e .log) → (t : Ends.Call) → CallTyped t → Wire (after e t .log)
-    → CallOf FreshValue e t × Aged (view (after e t .supervisor)) (after e t .log)
+call-ages : (e : Ends.Ends) → Sound (e .supervisor) → AgedIn e → (t : Ends.Call) → CallTyped t → AgedIn (after e t)
 unfolding after
-call-aged e both a (Ends.main m) typed w =
-    let s = MainView.view (e .main) in
-    let d = Main.made (e .main) m in (
-      answer-then s (e .log) (FreshValue s (e .log)) (value-fresh s (e .log) (both .kept) (view (e .supervisor)) a) (d .answer) (d .out) (fresh-call e both (Ends.main m) typed w),
-      main-ages (view (e .supervisor)) (e .log) a (m .call) _ _ _,
-    )
-call-aged e both a (Ends.supervisor m) typed w =
-    let k = SupervisorHistory.one-call (e .supervisor) m (both .supervisor) typed .leaves .0 in
-    (tt, rw k (supervisor-ages (view (e .supervisor)) (e .log) a m typed _))
+call-ages e s a (Ends.main m) typed = main-ages (view (e .supervisor)) (e .log) a (m .call) _ _ _
+call-ages e s a (Ends.supervisor m) typed =
+    let k = SupervisorHistory.one-call (e .supervisor) m s typed .leaves .0 in
+    rw k (supervisor-ages (view (e .supervisor)) (e .log) a m typed _)
 
-begun-aged : (s : Starts) → Aged (view (begun s .supervisor)) firstLog
+pub call-aged : (e : Ends.Ends) → Both e → AgedIn e → (t : Ends.Call) → CallTyped t → Wire (after e t .log) → CallOf FreshValue e t × AgedIn (after e t)
+call-aged e both a t typed w = (by t typed w, call-ages e (both .supervisor) a t typed)
+  where
+    by : (t : Ends.Call) → CallTyped t → Wire (after e t .log) → CallOf FreshValue e t
+    by (Ends.main m) typed w = λ r o. value-fresh (MainView.view (e .main)) (e .log) (both .kept) (view (e .supervisor)) a r (answer-fresh e both m typed w r o)
+    by (Ends.supervisor m) typed w = tt
+
+together-aged : (s : Starts) → AgedIn (begun s)
 unfolding Received.joinedAll Supervisor.leftMeant
-begun-aged s =
+together-aged s =
     let f = factoryOf (s .start-data) in
     let k = SupervisorHistory.started (s .supervisor-parts) (s .supervisor-bytes) (s .supervisor-lent) (s .start-data) (s .start-typed) (s .supervisor-accepted) .0 in
     rw k (record { since = by-frames f [] .2; set = λ k key. record { holds = fresh-holds key f; low = omega arith }; each = tt })
 
--- As in `fresh-answer`: an answer that is handed out while a lookup of a settings key is outstanding, one that is read back, is the value of the last successful set
+pub begun-aged : (e : Ends.Ends) → Begun e → AgedIn e
+begun-aged = begun-else AgedIn together-aged call-ages
+
+-- As in `fresh-answer`: an answer that is handed out while a lookup is outstanding, of a settings key that can be read back, is the value of the last successful set
 -- of that key, or what the last accepted restore left of it if that is later, since the supervisor's last start, at a moment at which it carried out that lookup,
 -- after it was put out. A restored image may itself be old.
-pub list-age : (s : Starts) (ts : List Ends.Call) → Each CallTyped ts → Always WireAfter (begun s) ts → Always (CallOf FreshValue) (begun s) ts
-list-age s ts t w = each-call (λ e. Aged (view (e .supervisor)) (e .log)) (CallOf FreshValue) call-aged (begun s) (begun-both s) (begun-aged s) ts t w
+pub list-age : (e : Ends.Ends) → Begun e → (ts : List Ends.Call) → Each CallTyped ts → Always WireAfter e ts → Always (CallOf FreshValue) e ts
+list-age e b ts t w = each-call AgedIn (CallOf FreshValue) call-aged e (begun-both e b) (begun-aged e b) ts t w
 
 -- ---- against an earlier moment
 
@@ -209,7 +203,7 @@ sets-low k x [] h = h
 sets-low k x (m ∷ ms) h = sets-low k (onto x (setBy k m)) ms (onto-low x (setBy k m) h)
 
 -- no request more
-more-none : (x : Origin) → sinceMore x [] ≡ x
+pub more-none : (x : Origin) → sinceMore x [] ≡ x
 more-none x = rw append-nil
 
 -- a call that is neither an accepted start nor an accepted restore: the requests that it brings, and nothing else
@@ -232,7 +226,7 @@ module _ (k : ℕ) (w : List ℕ) (x : Origin) where
       by none f = adds-none
       by (some es) f = absurd (false≢true (sym f))
 
-  stays-since : (m : Supervisor.Made) → Stays m → Adds (sinceMade k w x m) (Received.receivedBy m)
+  pub stays-since : (m : Supervisor.Made) → Stays m → Adds (sinceMade k w x m) (Received.receivedBy m)
   unfolding sinceMade Received.receivedBy Received.startsAnew restores
   stays-since m n = by (Supervisor.enough (m .call) (m .lent)) refl
     where
@@ -240,50 +234,56 @@ module _ (k : ℕ) (w : List ℕ) (x : Origin) where
       by true f = rw f (call-stays (m .call) (rw f at (n .no-start)) (rw f at (n .no-restore)))
       by false f = rw f adds-none
 
-module _ (e₀ : Ends.Ends) where
+-- with what is known of the frames since then, and so of the first of them
+module _ (e₀ : Ends.Ends) (Is : List (List ℕ) → Type 0) (fewer : (fs gs : List (List ℕ)) → Is (fs ++ gs) → Is fs) where
   -- frames since then, and where the keys' values come from behind them
   record Behind (fs : List (List ℕ)) (o : ℕ → Origin) : Type 0 where
     later : List (List ℕ)
     frames : fs ≡ framesOf e₀ ++ later
     origin : (k : ℕ) → o k ≡ sinceMore (e₀ .log .origin k) (requestsIn later)
+    known : Is later
 
-  behind-more : (fs gs : List (List ℕ)) (o p : ℕ → Origin) → ((k : ℕ) → p k ≡ sinceMore (o k) (requestsIn gs)) → Behind fs o → Behind (fs ++ gs) p
-  behind-more fs gs o p e b = record {
+  behind-more : (fs gs : List (List ℕ)) (o p : ℕ → Origin) → ((k : ℕ) → p k ≡ sinceMore (o k) (requestsIn gs)) → (b : Behind fs o) → Is (b .later ++ gs) → Behind (fs ++ gs) p
+  behind-more fs gs o p e b i = record {
     later = b .later ++ gs;
     frames = rw (b .frames) (append-assoc (framesOf e₀) (b .later) gs);
     origin = λ k. e k ∙ rw (b .origin k, requests-append (b .later) gs, append-assoc);
+    known = i;
   }
 
-  abbrev Early : Frame → Type 0
-  Early x = x .number ≤ MainView.view (e₀ .main) .newest
-
-  -- what was handled since then came behind those frames; what was handled before had only earlier numbers
+  -- what was handled since then came behind those frames; what was handled before came when no more had been put out
   abbrev Placed : Handled → Type 0
-  Placed h = Behind (h .earlier) (h .origin) ⊎ Each Early (h .asked)
+  Placed h = Behind (h .earlier) (h .origin) ⊎ Front (h .asked) (e₀ .log .asked)
 
   record Later (l : Log) : Type 0 where
     received : Behind (nonEmpty (split (l .received) .closed)) (l .origin)
     each : Each Placed (l .handled)
 
-  frames-placed : (asked : List Frame) (image : List ℕ) (fs : List (List ℕ)) (cleared : Bool) (x : State) (o : ℕ → Origin) (earlier : List (List ℕ)) → Behind earlier o
-      → Each Placed (handledBy asked image cleared x o earlier fs)
-  unfolding handledBy
-  frames-placed asked image [] cleared x o earlier b = tt
-  frames-placed asked image (f ∷ fs) cleared x o earlier b = (
-    inl b,
-    frames-placed asked image fs (cleared || drops f) (framed image x f) (originBy o f) (earlier ++ (f ∷ [])) (behind-more earlier (f ∷ []) o (originBy o f) (λ k. refl) b),
-  )
+  frames-placed : (asked : List Frame) (image : List ℕ) (fs : List (List ℕ)) (cleared : Bool) (x : State) (o : ℕ → Origin) (earlier : List (List ℕ)) (b : Behind earlier o)
+      → Is (b .later ++ fs) → Each Placed (handledBy asked image cleared x o earlier fs)
+  unfolding handledBy behind-more
+  frames-placed asked image [] cleared x o earlier b i = tt
+  frames-placed asked image (f ∷ fs) cleared x o earlier b i =
+      let j : Is ((b .later ++ (f ∷ [])) ++ fs) = rw (append-snoc (b .later) f fs) i in
+      let c = behind-more earlier (f ∷ []) o (originBy o f) (λ k. refl) b (fewer (b .later ++ (f ∷ [])) fs j) in
+      (inl b, frames-placed asked image fs (cleared || drops f) (framed image x f) (originBy o f) (earlier ++ (f ∷ [])) c j)
 
-  supervisor-later : (x : State) (l : Log) (m : Supervisor.Made) (waiting : List ℕ) → Stays m → Later l → Later (supervisorLogged l x m waiting)
+  -- what is known after a call
+  abbrev pub KnownOf : Log → Type 0
+  KnownOf l = (fs : List (List ℕ)) → nonEmpty (split (l .received) .closed) ≡ framesOf e₀ ++ fs → Is fs
+
+  supervisor-later : (x : State) (l : Log) (m : Supervisor.Made) (waiting : List ℕ) → Stays m → Later l → KnownOf (supervisorLogged l x m waiting) → Later (supervisorLogged l x m waiting)
   unfolding supervisorLogged brought Received.joined Received.framesBy
-  supervisor-later x l m waiting n h =
+  supervisor-later x l m waiting n h known =
       let w = l .received in
       let bs = Received.receivedBy m in
-      let e : nonEmpty (split (w ++ bs) .closed) ≡ nonEmpty (split w .closed) ++ nonEmpty (closedBy w bs) =
-      rw (closed-join w bs, nonEmpty-append (split w .closed) (closedBy w bs)) in
+      let new = nonEmpty (closedBy w bs) in
+      let b = h .received in
+      let e : nonEmpty (split (w ++ bs) .closed) ≡ nonEmpty (split w .closed) ++ new = rw (closed-join w bs, nonEmpty-append (split w .closed) (closedBy w bs)) in
+      let i : Is (b .later ++ new) = (rw (n .no-start) at known) (b .later ++ new) (e ∙ rw (b .frames) (append-assoc (framesOf e₀) (b .later) new)) in
       record {
-        received = rw (n .no-start, e) (behind-more _ (nonEmpty (closedBy w bs)) (l .origin) _ (λ k. stays-since k w (l .origin k) m n) (h .received));
-        each = each-append Placed (l .handled) _ (h .each) (frames-placed (l .asked) (imageOf (m .call)) _ (l .cleared) x _ _ (h .received));
+        received = rw (n .no-start, e) (behind-more _ new (l .origin) _ (λ k. stays-since k w (l .origin k) m n) b i);
+        each = each-append Placed (l .handled) _ (h .each) (frames-placed (l .asked) (imageOf (m .call)) new (l .cleared) x _ _ b i);
       }
 
   main-later : (l : Log) → Later l → (c : Main.Call) (a : Main.Answer) (out : List ℕ) (n : ℕ) → Later (mainLogged l c a out n)
@@ -291,21 +291,25 @@ module _ (e₀ : Ends.Ends) where
   main-later l h c a out n =
       cond-by Later (restarts c a) _ _ (λ _. record { received = h .received; each = tt }) (λ _. record { received = h .received; each = h .each })
 
-  call-later : (e : Ends.Ends) (t : Ends.Call) → CallStays t → Later (e .log) → Later (after e t .log)
+  call-later : (e : Ends.Ends) (t : Ends.Call) → CallStays t → Later (e .log) → KnownOf (after e t .log) → Later (after e t .log)
   unfolding after
-  call-later e (Ends.main m) n h = main-later (e .log) h (m .call) _ _ _
-  call-later e (Ends.supervisor m) n h = supervisor-later _ (e .log) m _ n h
+  call-later e (Ends.main m) n h known = main-later (e .log) h (m .call) _ _ _
+  call-later e (Ends.supervisor m) n h known = supervisor-later _ (e .log) m _ n h known
 
   -- at the moment itself
-  moment-later : Both e₀ → Later (e₀ .log)
+  moment-later : Both e₀ → Is [] → Later (e₀ .log)
   unfolding requestsIn
-  moment-later both = record {
-    received = record { later = []; frames = sym (append-nil (framesOf e₀)); origin = λ k. sym (more-none (e₀ .log .origin k)) };
-    each = each-then (Known (MainView.view (e₀ .main))) _ (λ h k. inr (each-then (PutOut (MainView.view (e₀ .main))) _ (λ x w. w .agrees .most) (h .asked) (k .asked))) (e₀ .log .handled) (both .kept .handled);
+  moment-later both i = record {
+    received = record { later = []; frames = sym (append-nil (framesOf e₀)); origin = λ k. sym (more-none (e₀ .log .origin k)); known = i };
+    each = each-then _ _ (λ (h : Handled) f. inr f) (e₀ .log .handled) (both .kept .before);
   }
 
-  module _ (aged₀ : Aged (view (e₀ .supervisor)) (e₀ .log)) (s : MainState.State) (l : Log) (kept : Kept s l) (x : State) (aged : Aged x l) (later : Later l) (r : Message)
-      (k most : ℕ) (key : ReadBack k) (i : most < 65536) (new : MainView.view (e₀ .main) .newest < s .newest) where
+  -- the value, and what is known
+  abbrev pub ValueKnown : ℕ → ℕ → ℕ → Message → Handled → Type 0
+  ValueKnown n k most r h = (v : ValueSince e₀ n k most r h) × Is (v .later)
+
+  module _ (aged₀ : AgedIn e₀) (s : MainState.State) (l : Log) (kept : Kept s l) (x : State) (aged : Aged x l) (later : Later l) (r : Message)
+      (k most : ℕ) (key : ReadBack k) (i : most < 65536) (new : NotAsked e₀ (s .newest)) where
     abbrev Carried : Handled → Type 0
     Carried = CarriedOut (s .newest) (lookupRequest k most) r
 
@@ -320,52 +324,62 @@ module _ (e₀ : Ends.Ends) where
         entry-held x (key .key) ∙ h .holds .held
         ∙ rw (e, after-append k z (o₀ .requests) ms, v) (after-sets k (afterSets k z (o₀ .requests)) ms (sets-low k z (o₀ .requests) (y .low)))
 
-    since-at : (h : Handled) → Set (h .origin) (h .state) × Placed h → Carried h → ValueSince e₀ (s .newest) k most r h
+    since-at : (h : Handled) → Set (h .origin) (h .state) × Placed h → Carried h → ValueKnown (s .newest) k most r h
     since-at h z c = by (z .1)
       where
-        by : Placed h → ValueSince e₀ (s .newest) k most r h
+        by : Placed h → ValueKnown (s .newest) k most r h
         by (inl b) =
             let v = value-then s l kept x aged r k most key i h (z .0) c in
-            let z = last-since (h .state) (h .origin k) (z .0 k (key .key)) (requestsIn (b .later)) (b .origin k) in
-            record { value-then = v; later = b .later; behind = b .frames; last-since = z }
-        by (inr early) =
-            absurd (any-so (λ (y : Frame). ⊥) (λ y f. f) (h .asked)
-            (each-any Early _ (λ (y : Frame). ⊥) (λ y a b. omega (arith, a, b .0, new)) (h .asked) early (c .put-out)))
+            let y = last-since (h .state) (h .origin k) (z .0 k (key .key)) (requestsIn (b .later)) (b .origin k) in
+            (record { value-then = v; later = b .later; behind = b .frames; last-since = y }, b .known)
+        by (inr front) = absurd (not-asked-by e₀ (s .newest) new h front _ (c .put-out))
 
-    value-since : Any Carried (l .handled) → Any (ValueSince e₀ (s .newest) k most r) (l .handled)
+    value-since : Any Carried (l .handled) → Any (ValueKnown (s .newest) k most r) (l .handled)
     value-since a =
         each-any _ Carried _ since-at (l .handled) (each-and (λ (h : Handled). Set (h .origin) (h .state)) Placed _ (λ h y z. (y, z)) (l .handled) (aged .each) (later .each)) a
 
-  not-replaced-fresh : Aged (view (e₀ .supervisor)) (e₀ .log) → (s : MainState.State) (l : Log) → Kept s l → (x : State) → Aged x l → Later l → (r : Message) → Fresh s l r → NotReplaced e₀ s l r
-  not-replaced-fresh a₀ s l kept x aged later r f k most key i e new =
+  abbrev pub Against : MainState.State → Log → Message → Type 0
+  Against = ValueAgainst e₀ ValueKnown
+
+  against-fresh : AgedIn e₀ → (s : MainState.State) (l : Log) → Kept s l → (x : State) → Aged x l → Later l → (r : Message) → Fresh s l r → Against s l r
+  against-fresh a₀ s l kept x aged later r f k most key i e new =
       let q : f .request ≡ lookupRequest k most = (let w = f .waiting in cc) in
       value-since a₀ s l kept x aged later r k most key i new (rw q at (f .made))
 
-  call-since : Aged (view (e₀ .supervisor)) (e₀ .log) → (e : Ends.Ends) → Both e → Aged (view (e .supervisor)) (e .log) → Later (e .log) → (t : Ends.Call) → CallTyped t → Wire (after e t .log)
-      → CallOf (NotReplaced e₀) e t
+  call-since : AgedIn e₀ → (e : Ends.Ends) → Both e → AgedIn e → Later (e .log) → (t : Ends.Call) → CallTyped t → Wire (after e t .log)
+      → CallOf Against e t
   call-since a₀ e both a h (Ends.main m) typed w =
-      let s = MainView.view (e .main) in
-      let d = Main.made (e .main) m in
-      answer-then s (e .log) (NotReplaced e₀ s (e .log)) (not-replaced-fresh a₀ s (e .log) (both .kept) (view (e .supervisor)) a h) (d .answer) (d .out)
-      (fresh-call e both (Ends.main m) typed w)
+      λ r o. against-fresh a₀ (MainView.view (e .main)) (e .log) (both .kept) (view (e .supervisor)) a h r (answer-fresh e both m typed w r o)
   call-since a₀ e both a h (Ends.supervisor m) typed w = tt
 
   -- calls after that moment
-  since-calls : Aged (view (e₀ .supervisor)) (e₀ .log) → (e : Ends.Ends) → Both e → Aged (view (e .supervisor)) (e .log) → Later (e .log) → (ts : List Ends.Call) → Each CallTyped ts
-      → Each CallStays ts → Always WireAfter e ts → Always (CallOf (NotReplaced e₀)) e ts
-  since-calls a₀ e both a h [] typed n w = tt
-  since-calls a₀ e both a h (t ∷ ts) typed n w =
+  since-calls : AgedIn e₀ → (e : Ends.Ends) → Both e → AgedIn e → Later (e .log) → (ts : List Ends.Call) → Each CallTyped ts
+      → Each CallStays ts → Always WireAfter e ts → Always (λ x t. KnownOf (after x t .log)) e ts → Always (CallOf Against) e ts
+  since-calls a₀ e both a h [] typed n w known = tt
+  since-calls a₀ e both a h (t ∷ ts) typed n w known =
       let k = call-aged e both a t (typed .0) (w .0) in (
         call-since a₀ e both a h t (typed .0) (w .0),
-        since-calls a₀ (after e t) (keeps-both e both t (typed .0) (w .0)) (k .1) (call-later e t (n .0) h) ts (typed .1) (n .1) (w .1),
+        since-calls a₀ (after e t) (keeps-both e both t (typed .0) (w .0)) (k .1) (call-later e t (n .0) h (known .0)) ts (typed .1) (n .1) (w .1) (known .1),
       )
 
+  -- from a start of the main processor's end on
+  pub against : (b : Ends.Ends) → Begun b → (ts : List Ends.Call) → e₀ ≡ afterAll b ts → Is [] → Each CallTyped ts → Always WireAfter b ts
+      → (us : List Ends.Call) → Each CallTyped us → Each CallStays us → Always WireAfter e₀ us → Always (λ x t. KnownOf (after x t .log)) e₀ us → Always (CallOf Against) e₀ us
+  against b begins ts e i t w us u n v known =
+      let k = rw (← e) at (after-calls AgedIn (CallOf FreshValue) call-aged b (begun-both b begins) (begun-aged b begins) ts t w) in
+      since-calls (k .1) e₀ (k .0) (k .1) (moment-later (k .0) i) us u n v known
+
+-- nothing is asked of the frames
+nothing-known : (e₀ e : Ends.Ends) (ts : List Ends.Call) → Always (λ x t. KnownOf e₀ (λ fs. Unit {0}) (λ fs gs i. tt) (after x t .log)) e ts
+nothing-known e₀ e [] = tt
+nothing-known e₀ e (t ∷ ts) = (λ fs f. tt, nothing-known e₀ (after e t) ts)
+
 -- As in `fresh-answer`, and any moment among the calls, behind which the supervisor is neither started again nor accepts a restore, which can bring an older list
--- back: an answer to a lookup whose number was not taken yet at that moment is the value of the last successful set since that moment, or else the value that the
--- key had at that moment. So a value that had been replaced before the lookup was put out is its answer only if a set since brings it back.
-pub not-replaced : (s : Starts) (ts us : List Ends.Call) → Each CallTyped ts → Each CallTyped us → Each CallStays us → Always WireAfter (begun s) ts
-    → let e = afterAll (begun s) ts in Always WireAfter e us → Always (CallOf (NotReplaced e)) e us
-not-replaced s ts us t u n w v =
-    let k = after-calls (λ e. Aged (view (e .supervisor)) (e .log)) (CallOf FreshValue) call-aged (begun s) (begun-both s) (begun-aged s) ts t w in
-    let e = afterAll (begun s) ts in
-    since-calls e (k .1) e (k .0) (k .1) (moment-later e (k .0)) us u n v
+-- back: an answer to a lookup under a number under which nothing had been put out by that moment is the value of the last successful set since that moment, or else the
+-- value that the key had at that moment. So a value that had been replaced before the lookup was put out is its answer only if a set since brings it back.
+pub not-replaced : (b : Ends.Ends) → Begun b → (ts us : List Ends.Call) → Each CallTyped ts → Each CallTyped us → Each CallStays us → Always WireAfter b ts
+    → let e = afterAll b ts in Always WireAfter e us → Always (CallOf (NotReplaced e)) e us
+not-replaced b begins ts us t u n w v =
+    let e = afterAll b ts in
+    always-so _ (NotReplaced e) (λ x l r a k most key i o new. any-then _ _ (λ h v. v .0) (l .handled) (a k most key i o new)) e us
+    (against e (λ fs. Unit {0}) (λ fs gs i. tt) b begins ts refl tt t w us u n v (nothing-known e e us))

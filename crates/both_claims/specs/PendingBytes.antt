@@ -1,13 +1,14 @@
--- The newest reply and the pending bytes: as long as it counts as not taken whole, the bytes pending are what is left of its frame, behind a 00 where one was owed.
+-- The newest reply: as long as it counts as not put out, the bytes pending are what is left of its frame, behind a 00 where one was owed; only a take puts it out.
 -- Assumes nothing.
 use mathlib.Core.Path.{_≡_, refl, sym, ap, _∙_}
-use mathlib.Core.Bool.{Bool, true, false, cond, not, _||_, false≢true}
-use mathlib.Core.List.{List, [], _∷_, _++_, append-assoc}
+use mathlib.Core.Bool.{Bool, true, false, cond, _||_}
+use mathlib.Core.List.{List, [], _∷_, _++_, append-assoc, append-nil}
+use mathlib.Core.Logic.{_⊎_, inl, inr}
 use mathlib.Core.Option.{Option, none, some}
 use Prim.Native.Nat.{ℕ, _≤_}
 use native.Mathlib.Omega.{arith}
 use lib.Dec.{ltb, eqb}
-use lib.ListN.{length, take, drop, take-append-drop}
+use lib.ListN.{length}
 use Rattle.octets.specs.Bytes.{Each}
 use Rattle.octets.proofs.Conditions.{cond-by}
 use Rattle.line.specs.Message.{Message}
@@ -16,7 +17,7 @@ use Rattle.line_claims.specs.Pieces.{split, nonEmpty, closedBy}
 use Rattle.requester_claims.specs.Histories as Main
 use Rattle.requester_claims.specs.Numbers.{Frame}
 use Rattle.supervisor.specs.Limits
-use Rattle.supervisor.specs.State.{Recorded, State, fresh}
+use Rattle.supervisor.specs.State.{Recorded, State}
 use Rattle.supervisor.specs.Local
 use Rattle.saving.specs.Saving
 use Rattle.requests.specs.Requests.{Reply, verdict, owed, replyFrame}
@@ -28,21 +29,23 @@ use Rattle.supervisor_claims.specs.LastSet.{Origin}
 use Rattle.supervisor_claims.specs.claims.InOrder.{replyBy, judged-is}
 use Rattle.supervisor_claims.specs.laws.Progress.{Since}
 use Rattle.supervisor_claims.specs.claims.FramesClaim.{made-carried, by-frames}
+use Rattle.supervisor_claims.specs.claims.Replies.{takenBytes}
 use Rattle.supervisor_claims.specs.claims.History as SupervisorHistory
 use Rattle.both_claims.specs.Ends
-use Rattle.both_claims.specs.Ends.{CallTyped, after, Starts, begun, Always, firstLog, restarts, mainLogged, imageOf, stillPending, brought, supervisorLogged}
+use Rattle.both_claims.specs.Ends.{CallTyped, after, Starts, begun, Always, restarts, mainLogged, imageOf, stillPending, takenBy, brought, supervisorLogged}
 use Rattle.both_claims.specs.Ends.{Log, messageOf, replyMade, originBy, handledBy, newestReply, drops}
 use Rattle.both_claims.specs.laws.Table.{frame-some}
-use Rattle.both_claims.specs.laws.SupervisorFrames.{frames-none}
+use Rattle.both_claims.specs.laws.SupervisorFrames.{frames-none, LocallyKept, made-kept}
+use Rattle.both_claims.specs.laws.Delivered.{Takes, all-moved}
 use Rattle.supervisor_claims.specs.Sound.{Sound}
 use Rattle.both_claims.specs.laws.Lists.{none-some}
 
--- what is left of a reply: not nothing
+-- what is left of a reply: more than its 00
 pub record LeftOf (r : Message) (bs : List ℕ) : Type 0 where
   pub behind-zero : Bool
   pub front : List ℕ
   pub whole : front ++ bs ≡ owed behind-zero ++ frame r
-  pub some-left : 1 ≤ length bs
+  pub some-left : 2 ≤ length bs
 
 -- of the newest reply
 abbrev pub Waits : Option Message → List ℕ → Type 0
@@ -50,8 +53,8 @@ Waits o bs = (r : Message) → o ≡ some r → LeftOf r bs
 
 -- ---- a frame
 
-some-bytes : (b : Bool) (r : Message) → 1 ≤ length (owed b ++ frame r)
-some-bytes true r = omega arith
+some-bytes : (b : Bool) (r : Message) → 2 ≤ length (owed b ++ frame r)
+some-bytes true r = let k = frame-some r in omega (arith, k)
 some-bytes false r = frame-some r
 
 -- a reply as it is made
@@ -76,142 +79,262 @@ module _ (asked : List Frame) (image : List ℕ) where
   frames-wait ((b ∷ bs) ∷ ps) cleared x o earlier r h =
       frames-wait ps (cleared || drops (b ∷ bs)) (framed image x (b ∷ bs)) (originBy o (b ∷ bs)) (earlier ++ ((b ∷ bs) ∷ [])) _ (frame-waits image x b bs)
 
--- ---- a local call takes some of the pending bytes, or none
-
-abbrev Drops : State → Supervisor.Means → Type 0
-Drops s m = (n : ℕ) × (m .state .pending ≡ drop n (s .pending))
+-- ---- a call takes some of the pending bytes, or is no local call, or leaves them
 
 module _ (s : State) where
-  record-drops : (x : Option Recorded) → Drops s (Supervisor.recordMeans s x)
-  record-drops none = (0, refl)
-  record-drops (some x) = (0, refl)
+  abbrev Same : Supervisor.Means → Type 0
+  Same m = m .state .pending ≡ s .pending
 
-  restore-drops : (r : Saving.Read) → Drops s (Supervisor.restoreMeans s (Saving.restoredBy s r))
-  restore-drops (Saving.fault n at) = (0, refl)
-  restore-drops (Saving.good es) = (0, refl)
+  record-leaves : (x : Option Recorded) → Same (Supervisor.recordMeans s x)
+  record-leaves none = refl
+  record-leaves (some x) = refl
 
-  local-drops : (c : Supervisor.LocalCall) → Drops s (Supervisor.meant s (Supervisor.local c))
-  unfolding Supervisor.meant Local.afterTake Local.post Local.posted Local.setOptions Saving.restore
-  local-drops (Supervisor.take room) = (length room, refl)
-  local-drops (Supervisor.post action text) =
-      cond-by P (eqb action 0) _ _ (λ _. (0, refl)) (λ _.
-      cond-by P (ltb Limits.longest-alert (length text)) _ _ (λ _. (0, refl)) (λ _.
-      cond-by P (ltb (length (s .waiting)) Limits.most-alerts) _ _ (λ _. (0, refl)) (λ _. (0, refl))))
+  restore-leaves : (r : Saving.Read) → Same (Supervisor.restoreMeans s (Saving.restoredBy s r))
+  restore-leaves (Saving.fault n at) = refl
+  restore-leaves (Saving.good es) = refl
+
+  takes-or : (c : Supervisor.Call) → Takes c ⊎ LocallyKept (λ (y : State). y .pending) s c
+  unfolding Supervisor.meant Local.post Local.posted Local.setOptions Saving.restore
+  takes-or (Supervisor.start d) = inr tt
+  takes-or (Supervisor.receive image piece) = inr tt
+  takes-or (Supervisor.step image piece) = inr tt
+  takes-or (Supervisor.local (Supervisor.take room)) = inl (room, refl)
+  takes-or (Supervisor.local (Supervisor.post action text)) =
+      inr (cond-by P (eqb action 0) _ _ (λ _. refl) (λ _.
+      cond-by P (ltb Limits.longest-alert (length text)) _ _ (λ _. refl) (λ _.
+      cond-by P (ltb (length (s .waiting)) Limits.most-alerts) _ _ (λ _. refl) (λ _. refl))))
     where
       P : Local.Done → Type 0
-      P x = Drops s (Supervisor.doneMeans s x)
-  local-drops (Supervisor.setOptions options) =
-      cond-by (λ (x : Local.Done). Drops s (Supervisor.doneMeans s x)) (Local.optionsAllowed options) _ _ (λ _. (0, refl)) (λ _. (0, refl))
-  local-drops (Supervisor.lookup key most) = (0, refl)
-  local-drops (Supervisor.edition key) = (0, refl)
-  local-drops Supervisor.signal = (0, refl)
-  local-drops Supervisor.flags = (0, refl)
-  local-drops (Supervisor.readRecord k) = record-drops (Supervisor.recordKept s k)
-  local-drops (Supervisor.save room) = cond-by (Drops s) (ltb (length room) (length (Saving.saved (s .settings)))) _ _ (λ _. (0, refl)) (λ _. (0, refl))
-  local-drops (Supervisor.restore image) = restore-drops (Saving.read image)
+      P x = Same (Supervisor.doneMeans s x)
+  takes-or (Supervisor.local (Supervisor.setOptions options)) =
+      inr (cond-by (λ (x : Local.Done). Same (Supervisor.doneMeans s x)) (Local.optionsAllowed options) _ _ (λ _. refl) (λ _. refl))
+  takes-or (Supervisor.local (Supervisor.lookup key most)) = inr refl
+  takes-or (Supervisor.local (Supervisor.edition key)) = inr refl
+  takes-or (Supervisor.local Supervisor.signal) = inr refl
+  takes-or (Supervisor.local Supervisor.flags) = inr refl
+  takes-or (Supervisor.local (Supervisor.readRecord k)) = inr (record-leaves (Supervisor.recordKept s k))
+  takes-or (Supervisor.local (Supervisor.save room)) = inr (cond-by Same (ltb (length room) (length (Saving.saved (s .settings)))) _ _ (λ _. refl) (λ _. refl))
+  takes-or (Supervisor.local (Supervisor.restore image)) = inr (restore-leaves (Saving.read image))
+
+-- a take receives nothing
+takes-nothing : (m : Supervisor.Made) → Takes (m .call) → Received.receivedBy m ≡ []
+unfolding Received.receivedBy Received.reads
+takes-nothing m t = rw (t .1) (cond-by (λ (bs : List ℕ). bs ≡ []) (Supervisor.enough (Supervisor.local (Supervisor.take (t .0))) (m .lent)) _ _ (λ _. refl) (λ _. refl))
+
+-- ---- the newest reply, by what is left
+
+-- behind bytes that were taken
+still-waits : (o : Option Message) (taken bs : List ℕ) → Waits o (taken ++ bs) → Waits (stillPending bs o) bs
+still-waits o taken [] h r f = absurd (none-some f)
+still-waits o taken (c ∷ []) h r f = absurd (none-some f)
+still-waits o taken (c ∷ (d ∷ cs)) h r f =
+    let k = h r f in
+    record {
+      behind-zero = k .behind-zero;
+      front = k .front ++ taken;
+      whole = append-assoc (k .front) taken (c ∷ (d ∷ cs)) ∙ k .whole;
+      some-left = omega arith;
+    }
+
+-- where there is none, none is put out
+none-taken : (bs : List ℕ) → takenBy bs none ≡ []
+none-taken [] = refl
+none-taken (b ∷ []) = refl
+none-taken (b ∷ (c ∷ bs)) = refl
+
+-- nor one of which more than its 00 is left
+waits-untaken : (o : Option Message) (bs : List ℕ) → Waits o bs → takenBy bs o ≡ []
+waits-untaken none bs h = none-taken bs
+waits-untaken (some r) [] h = absurd (omega (arith, h r refl .some-left))
+waits-untaken (some r) (b ∷ []) h = absurd (omega (arith, h r refl .some-left))
+waits-untaken (some r) (b ∷ (c ∷ bs)) h = refl
+
+-- it is put out, with these bytes left
+abbrev PutsOut : List ℕ → Option Message → List Message → Type 0
+PutsOut bs o new = (r : Message) × (o ≡ some r) × (new ≡ r ∷ []) × (length bs ≤ 1)
+
+taken-or : (o : Option Message) (bs : List ℕ) → (takenBy bs o ≡ []) ⊎ PutsOut bs o (takenBy bs o)
+taken-or none bs = inl (none-taken bs)
+taken-or (some r) [] = inr (r, refl, refl, omega arith)
+taken-or (some r) (b ∷ []) = inr (r, refl, refl, omega arith)
+taken-or (some r) (b ∷ (c ∷ bs)) = inl refl
 
 -- ---- a call of the supervisor
-
-module _ (w : List ℕ) (x : State) where
-  abbrev DropsFrom : Supervisor.Call → List ℕ → State → Type 0
-  DropsFrom c bs y = (n : ℕ) × (y .pending ≡ drop n (allFramed (imageOf c) x (Received.framesBy w bs) .pending))
-
-  nothing-brought : (c : Supervisor.Call) (y : State) (n : ℕ) → y .pending ≡ drop n (x .pending) → DropsFrom c [] y
-  unfolding allFramed
-  nothing-brought c y n e = (n, rw (frames-none w) e)
-
-  call-drops : (c : Supervisor.Call) → Received.starts c ≡ false → DropsFrom c (Received.reads c) (Received.carriedCall w x c .state)
-  unfolding Received.carriedCall Received.carriedOut Received.reads Received.starts Supervisor.meant Local.start
-  call-drops (Supervisor.start d) e = by (Local.badStart (factoryOf d)) e
-    where
-      by : (bad : Bool) → not bad ≡ false → DropsFrom (Supervisor.start d) [] (Supervisor.doneMeans x (cond bad (Local.refused 11) (Local.left (fresh (factoryOf d)))) .state)
-      by true e = nothing-brought (Supervisor.start d) x 0 refl
-      by false e = absurd (false≢true (sym e))
-  call-drops (Supervisor.receive image piece) e = (0, refl)
-  call-drops (Supervisor.step image piece) e = (0, refl)
-  call-drops (Supervisor.local c) e = let k = local-drops x c in nothing-brought (Supervisor.local c) (Supervisor.meant x (Supervisor.local c) .state) (k .0) (k .1)
-
-  made-drops : (m : Supervisor.Made) → Received.startsAnew m ≡ false → DropsFrom (m .call) (Received.receivedBy m) (Received.carriedMade w x m .state)
-  unfolding Received.carriedMade Received.startsAnew Received.receivedBy
-  made-drops m e = by (Supervisor.enough (m .call) (m .lent)) refl
-    where
-      by : (t : Bool) → Supervisor.enough (m .call) (m .lent) ≡ t → DropsFrom (m .call) (Received.receivedBy m) (Received.carriedMade w x m .state)
-      by true f = rw f (call-drops (m .call) (rw f at e))
-      by false f = rw f (nothing-brought (m .call) x 0 refl)
-
--- what is still left
-still-waits : (o : Option Message) (bs : List ℕ) (n : ℕ) → Waits o bs → Waits (stillPending (drop n bs) o) (drop n bs)
-still-waits o bs n h = by (drop n bs) refl
-  where
-    by : (cs : List ℕ) → drop n bs ≡ cs → Waits (stillPending cs o) cs
-    by [] e r f = absurd (none-some f)
-    by (c ∷ cs) e r f =
-        let k = h r f in
-        record {
-          behind-zero = k .behind-zero;
-          front = k .front ++ take n bs;
-          whole = append-assoc (k .front) (take n bs) (c ∷ cs) ∙ ap (λ (z : List ℕ). k .front ++ (take n bs ++ z)) (sym e) ∙ rw take-append-drop (k .whole);
-          some-left = omega arith;
-        }
 
 record Pends (x : State) (l : Log) : Type 0 where
   since : Since (split (l .received) .rest) x
   waits : Waits (l .pending) (x .pending)
 
-supervisor-pends : (x : State) (l : Log) → Pends x l → (m : Supervisor.Made) → let y = Supervisor.meantMade x m .state in Pends y (supervisorLogged l x m (y .pending))
-unfolding supervisorLogged brought Received.framesBy
-supervisor-pends x l p m = record { since = made-carried (l .received) x (p .since) m .1; waits = by (Received.startsAnew m) refl }
-  where
-    y : State
-    y = Supervisor.meantMade x m .state
+module _ (x : State) (l : Log) (m : Supervisor.Made) where
+  abbrev y : State
+  y = Supervisor.meantMade x m .state
 
-    o : Option Message
-    o = newestReply (l .pending) (brought l x m)
+  abbrev o : Option Message
+  o = newestReply (l .pending) (brought l x m)
 
-    by : (t : Bool) → Received.startsAnew m ≡ t → Waits (stillPending (y .pending) (cond t none o)) (y .pending)
-    by true e = started (y .pending)
+  abbrev newest : Option Message
+  newest = cond (Received.startsAnew m) none o
+
+  -- by the frames that it brings
+  abbrev framedPending : List ℕ
+  framedPending = allFramed (imageOf (m .call)) x (Received.framesBy (l .received) (Received.receivedBy m)) .pending
+
+  takes-newest : Takes (m .call) → o ≡ l .pending
+  unfolding brought handledBy
+  takes-newest t = rw (takes-nothing m t, frames-none (l .received))
+
+  -- it puts none out or, by taking, the pending reply
+  abbrev Sends : List Message → Type 0
+  Sends new = (new ≡ []) ⊎ (Takes (m .call) × PutsOut (y .pending) (l .pending) new)
+
+  takes-sends : Takes (m .call) → {new : List Message} → (new ≡ []) ⊎ PutsOut (y .pending) (l .pending) new → Sends new
+  takes-sends t (inl k) = inl k
+  takes-sends t (inr k) = inr (t, k)
+
+  module _ (p : Pends x l) where
+    frames-pend : Waits o framedPending
+    unfolding brought Received.framesBy
+    frames-pend =
+        frames-wait (l .asked) (imageOf (m .call)) (closedBy (l .received) (Received.receivedBy m)) (l .cleared) x (l .origin) (nonEmpty (split (l .received) .closed)) (l .pending) (p .waits)
+
+    left-or : Received.startsAnew m ≡ false → Takes (m .call) ⊎ (y .pending ≡ framedPending)
+    left-or e = by (takes-or x (m .call))
       where
-        started : (bs : List ℕ) → Waits (stillPending bs none) bs
-        started [] r f = absurd (none-some f)
-        started (b ∷ bs) r f = absurd (none-some f)
-    by false e =
-        let k = made-drops (l .received) x m e in
-        let z : y .pending ≡ drop (k .0) (allFramed (imageOf (m .call)) x (Received.framesBy (l .received) (Received.receivedBy m)) .pending) =
-        ap (λ (s : Supervisor.Means). s .state .pending) (sym (made-carried (l .received) x (p .since) m .0)) ∙ k .1 in
-        rw z (still-waits o _ (k .0)
-        (frames-wait (l .asked) (imageOf (m .call)) (closedBy (l .received) (Received.receivedBy m)) (l .cleared) x (l .origin) (nonEmpty (split (l .received) .closed)) (l .pending) (p .waits)))
+        by : Takes (m .call) ⊎ LocallyKept (λ (s : State). s .pending) x (m .call) → Takes (m .call) ⊎ (y .pending ≡ framedPending)
+        by (inl t) = inl t
+        by (inr k) =
+            inr (ap (λ (s : Supervisor.Means). s .state .pending) (sym (made-carried (l .received) x (p .since) m .0))
+            ∙ made-kept (λ (s : State). s .pending) (λ s r. refl) (l .received) x m e k)
+
+    still-pends : Waits (stillPending (y .pending) newest) (y .pending)
+    unfolding Supervisor.leftMeant
+    still-pends = by (Received.startsAnew m) refl
+      where
+        left : Takes (m .call) ⊎ (y .pending ≡ framedPending) → Waits (stillPending (y .pending) o) (y .pending)
+        left (inl t) = still-waits o (takenBytes (Supervisor.outputsMeant x (m ∷ []))) (y .pending) (rw (all-moved (m ∷ []) x (t, tt), takes-newest t) (p .waits))
+        left (inr k) = still-waits o [] (y .pending) (rw k frames-pend)
+
+        by : (t : Bool) → Received.startsAnew m ≡ t → Waits (stillPending (y .pending) (cond t none o)) (y .pending)
+        by true e = still-waits none [] (y .pending) (λ r f. absurd (none-some f))
+        by false e = left (left-or e)
+
+    supervisor-pends : Pends y (supervisorLogged l x m (y .pending))
+    unfolding supervisorLogged
+    supervisor-pends = record { since = made-carried (l .received) x (p .since) m .1; waits = still-pends }
+
+    supervisor-sends : Sends (takenBy (y .pending) newest)
+    supervisor-sends = by (Received.startsAnew m) refl
+      where
+        left : Takes (m .call) ⊎ (y .pending ≡ framedPending) → Sends (takenBy (y .pending) o)
+        left (inl t) = rw (takes-newest t) (takes-sends t (taken-or (l .pending) (y .pending)))
+        left (inr k) = inl (waits-untaken o (y .pending) (rw k frames-pend))
+
+        by : (t : Bool) → Received.startsAnew m ≡ t → Sends (takenBy (y .pending) (cond t none o))
+        by true e = inl (none-taken (y .pending))
+        by false e = left (left-or e)
 
 main-pends : (x : State) (l : Log) → Pends x l → (c : Main.Call) (a : Main.Answer) (out : List ℕ) (n : ℕ) → Pends x (mainLogged l c a out n)
 unfolding mainLogged
 main-pends x l p c a out n =
     cond-by (Pends x) (restarts c a) _ _ (λ _. record { since = p .since; waits = λ r e. absurd (none-some e) }) (λ _. record { since = p .since; waits = p .waits })
 
--- ---- the claim
+-- ---- each call
 
--- as each call begins, where the newest reply counts as not taken whole: the bytes pending are what is left of its frame
-abbrev pub CallPends : Ends.Ends → Ends.Call → Type 0
-CallPends e t = Waits (e .log .pending) (view (e .supervisor) .pending)
+abbrev PendsIn : Ends.Ends → Type 0
+PendsIn e = Pends (view (e .supervisor)) (e .log)
 
-call-pends : (e : Ends.Ends) → Sound (e .supervisor) → Pends (view (e .supervisor)) (e .log) → (t : Ends.Call) → CallTyped t
-    → Sound (after e t .supervisor) × Pends (view (after e t .supervisor)) (after e t .log)
+call-pends : (e : Ends.Ends) → Sound (e .supervisor) → PendsIn e → (t : Ends.Call) → CallTyped t → Sound (after e t .supervisor) × PendsIn (after e t)
 unfolding after
 call-pends e s p (Ends.main m) typed = (s, main-pends (view (e .supervisor)) (e .log) p (m .call) _ _ _)
 call-pends e s p (Ends.supervisor m) typed =
     let k = SupervisorHistory.one-call (e .supervisor) m s typed .leaves in
-    (k .1, rw (k .0) (supervisor-pends (view (e .supervisor)) (e .log) p m))
+    (k .1, rw (k .0) (supervisor-pends (view (e .supervisor)) (e .log) m p))
 
-calls-pend : (e : Ends.Ends) → Sound (e .supervisor) → Pends (view (e .supervisor)) (e .log) → (ts : List Ends.Call) → Each CallTyped ts → Always CallPends e ts
-calls-pend e s p [] typed = tt
-calls-pend e s p (t ∷ ts) typed = let k = call-pends e s p t (typed .0) in (p .waits, calls-pend (after e t) (k .0) (k .1) ts (typed .1))
-
-begun-pends : (s : Starts) → Pends (view (begun s .supervisor)) firstLog
+begun-pends : (s : Starts) → Sound (begun s .supervisor) × PendsIn (begun s)
 unfolding Received.joinedAll Supervisor.leftMeant
 begun-pends s =
-    let k = SupervisorHistory.started (s .supervisor-parts) (s .supervisor-bytes) (s .supervisor-lent) (s .start-data) (s .start-typed) (s .supervisor-accepted) .0 in
-    rw k (record { since = by-frames (factoryOf (s .start-data)) [] .2; waits = λ r e. absurd (none-some e) })
+    let k = SupervisorHistory.started (s .supervisor-parts) (s .supervisor-bytes) (s .supervisor-lent) (s .start-data) (s .start-typed) (s .supervisor-accepted) in
+    (k .1, rw (k .0) (record { since = by-frames (factoryOf (s .start-data)) [] .2; waits = λ r e. absurd (none-some e) }))
+
+module _ (C : Ends.Ends → Ends.Call → Type 0) (of-call : (e : Ends.Ends) → Sound (e .supervisor) → PendsIn e → (t : Ends.Call) → CallTyped t → C e t) where
+  calls-pend : (e : Ends.Ends) → Sound (e .supervisor) → PendsIn e → (ts : List Ends.Call) → Each CallTyped ts → Always C e ts
+  calls-pend e s p [] typed = tt
+  calls-pend e s p (t ∷ ts) typed = let k = call-pends e s p t (typed .0) in (of-call e s p t (typed .0), calls-pend (after e t) (k .0) (k .1) ts (typed .1))
+
+  from-starts : (s : Starts) (ts : List Ends.Call) → Each CallTyped ts → Always C (begun s) ts
+  from-starts s ts t = let k = begun-pends s in calls-pend (begun s) (k .0) (k .1) ts t
+
+-- ---- the claims
+
+-- as each call begins, where the newest reply counts as not put out: the bytes pending are what is left of its frame
+abbrev pub CallPends : Ends.Ends → Ends.Call → Type 0
+CallPends e t = Waits (e .log .pending) (view (e .supervisor) .pending)
 
 -- over any wire
 pub pending-bytes : (s : Starts) (ts : List Ends.Call) → Each CallTyped ts → Always CallPends (begun s) ts
-pending-bytes s ts t =
-    let k = SupervisorHistory.started (s .supervisor-parts) (s .supervisor-bytes) (s .supervisor-lent) (s .start-data) (s .start-typed) (s .supervisor-accepted) in
-    calls-pend (begun s) (k .1) (begun-pends s) ts t
+pending-bytes = from-starts CallPends (λ e s p t typed. p .waits)
+
+-- a call of the supervisor puts a reply out: it takes, the reply was pending, and of the bytes that were left of its frame it moves all but the 00 at most
+pub record SentBy (e : Ends.Ends) (m : Supervisor.Made) (r : Message) : Type 0 where
+  pub takes : Takes (m .call)
+  pub pending : e .log .pending ≡ some r
+  pub left : LeftOf r (view (e .supervisor) .pending)
+  pub moved : takenBytes (Supervisor.outputs (e .supervisor) (m ∷ [])) ++ view (after e (Ends.supervisor m) .supervisor) .pending ≡ view (e .supervisor) .pending
+  pub rest : length (view (after e (Ends.supervisor m) .supervisor) .pending) ≤ 1
+
+-- each call puts no reply out or, by taking, the one that is pending; only an accepted start of the main processor's end drops those that were put out
+abbrev pub CallSends : Ends.Ends → Ends.Call → Type 0
+CallSends e (Ends.main m) = after e (Ends.main m) .log .sent ≡ cond (restarts (m .call) (Main.made (e .main) m .answer)) [] (e .log .sent)
+CallSends e (Ends.supervisor m) =
+    let sent = after e (Ends.supervisor m) .log .sent in (sent ≡ e .log .sent) ⊎ ((r : Message) × (sent ≡ e .log .sent ++ (r ∷ [])) × SentBy e m r)
+
+main-sends : (l : Log) (c : Main.Call) (a : Main.Answer) (out : List ℕ) (n : ℕ) → mainLogged l c a out n .sent ≡ cond (restarts c a) [] (l .sent)
+unfolding mainLogged
+main-sends l c a out n = by (restarts c a) refl
+  where
+    by : (t : Bool) → restarts c a ≡ t → mainLogged l c a out n .sent ≡ cond (restarts c a) [] (l .sent)
+    by true e = rw e
+    by false e = rw e
+
+module _ (e : Ends.Ends) (s : Sound (e .supervisor)) (p : PendsIn e) (m : Supervisor.Made) (typed : Supervisor.Typed (m .call)) where
+  abbrev x : State
+  x = view (e .supervisor)
+
+  abbrev e' : Ends.Ends
+  e' = after e (Ends.supervisor m)
+
+  left-is : view (e' .supervisor) .pending ≡ y x (e .log) m .pending
+  unfolding after
+  left-is = ap (λ (z : State). z .pending) (SupervisorHistory.one-call (e .supervisor) m s typed .leaves .0)
+
+  sent-is : e' .log .sent ≡ e .log .sent ++ takenBy (y x (e .log) m .pending) (newest x (e .log) m)
+  unfolding after supervisorLogged
+  sent-is = rw (SupervisorHistory.one-call (e .supervisor) m s typed .leaves .0)
+
+  takes-sent : (r : Message) → Takes (m .call) → e .log .pending ≡ some r → length (y x (e .log) m .pending) ≤ 1 → SentBy e m r
+  unfolding after Supervisor.left
+  takes-sent r t q i =
+      let f = SupervisorHistory.follows (e .supervisor) s (m ∷ []) (typed, tt) in
+      record {
+        takes = t;
+        pending = q;
+        left = p .waits r q;
+        moved = rw (f .0, f .1) (all-moved (m ∷ []) x (t, tt));
+        rest = rw left-is i;
+      }
+
+  supervisor-call : CallSends e (Ends.supervisor m)
+  supervisor-call = by (supervisor-sends x (e .log) m p) sent-is
+    where
+      by : {new : List Message} → Sends x (e .log) m new → e' .log .sent ≡ e .log .sent ++ new → CallSends e (Ends.supervisor m)
+      by (inl k) f = inl (f ∙ rw (k, append-nil))
+      by (inr (t, (r, q, k, i))) f = inr (r, f ∙ rw k, takes-sent r t q i)
+
+call-sends : (e : Ends.Ends) → Sound (e .supervisor) → PendsIn e → (t : Ends.Call) → CallTyped t → CallSends e t
+unfolding after
+call-sends e s p (Ends.main m) typed = main-sends (e .log) (m .call) _ _ _
+call-sends e s p (Ends.supervisor m) typed = supervisor-call e s p m typed
+
+-- over any wire
+pub sent-by-take : (s : Starts) (ts : List Ends.Call) → Each CallTyped ts → Always CallSends (begun s) ts
+sent-by-take = from-starts CallSends call-sends

@@ -6,10 +6,10 @@ use mathlib.Core.List.{List, [], _∷_, _++_, append-assoc, append-nil}
 use mathlib.Core.Option.{Option, none, some}
 use Prim.Native.Nat.{ℕ, suc, _≤_, _<_}
 use native.Mathlib.Omega.{arith}
-use lib.Dec.{leb, ltb}
+use lib.Dec.{leb, ltb, eqb}
 use lib.ListN.{length, take}
 use lib.Seq.{take-length}
-use borrow.Author.Tests.{leb-false, ltb-false}
+use borrow.Author.Tests.{leb-false, ltb-false, ne-eqb}
 use Rattle.octets.specs.Bytes.{Each, Byte}
 use Rattle.octets.proofs.Conditions.{cond-by}
 use Rattle.octets.proofs.Overlay.{overlay-inside}
@@ -29,7 +29,8 @@ use Rattle.line_claims.specs.MessageLaws.{message-each}
 use Rattle.line_claims.specs.WireClaim.{form}
 use Rattle.supervisor.specs.State.{State, withReceived}
 use Rattle.supervisor.specs.Calls.{Parts}
-use Rattle.requests.specs.Requests.{good, verdict, owed}
+use Rattle.requests.specs.Commands.{commandOf, withNumber, numberOf}
+use Rattle.requests.specs.Requests.{good, verdict, owed, replyOf, carried, carriedBy, effect, reboot, powerOff, bootFailure}
 use Rattle.supervisor_claims.specs.View.{view}
 use Rattle.supervisor_claims.specs.Sound.{Sound}
 use Rattle.supervisor_claims.specs.Histories as Supervisor
@@ -49,12 +50,13 @@ use Rattle.requester_claims.specs.View as MainView
 use Rattle.requester_claims.specs.Cuts.{Event, events, Read, Listener, listening, afterRead, afterReads, cut}
 use Rattle.requester_claims.specs.History as MainHistory
 use Rattle.requester_claims.specs.Numbers.{newest-after}
-use Rattle.both_claims.specs.Ends.{Starts, begun, replyTo, asMessage}
+use Rattle.both_claims.specs.Ends.{Starts, begun, replyTo, messageOf, asMessage}
+use Rattle.line_claims.specs.SpellingClaim.{good-form}
 use Rattle.both_claims.specs.laws.Table.{passes, top-set}
 use Rattle.both_claims.specs.laws.ReplyRange.{reply-of}
 use Rattle.both_claims.specs.laws.Held.{held-parts, reply-in-range}
 use Rattle.both_claims.specs.laws.FrameHeard.{frame-heard, heard-answer, answers-kept, one-read}
-use Rattle.both_claims.specs.laws.Lists.{snoc-same}
+use Rattle.both_claims.specs.laws.Lists.{none-some, snoc-same}
 use Rattle.both_claims.specs.laws.Delivered.{Receives, ReceivesWith, Takes, allReceived, delivered, all-moved}
 use Rattle.both_claims.specs.laws.Ranges.{ranged-message}
 
@@ -100,8 +102,7 @@ pub record Waiting (p : MainCalls.Parts) (q : Request) (frame : List ℕ) : Type
   pub put : frame ≡ requestFrame (Layout.numberOf (p .requester)) q
   pub in-range : InRange (asMessage (Layout.numberOf (p .requester)) q)
 
-module _ (p : MainCalls.Parts) (v : PartsValid p) (between : MainView.view p .received ≡ some []) (j : Main.Lent) (command : ℕ) (d room : List ℕ)
-    (byte : command < 256) (bytes : Each Byte d) (stays : staysOut command ≡ true) (count : ℕ) where
+module _ (p : MainCalls.Parts) (v : PartsValid p) (j : Main.Lent) (command : ℕ) (d room : List ℕ) (count : ℕ) where
   abbrev q : Request
   q = record { command = command; payload = d }
 
@@ -114,21 +115,88 @@ module _ (p : MainCalls.Parts) (v : PartsValid p) (between : MainView.view p .re
       cond-by (λ (x : Main.Means). x .answer ≡ Main.put count → PutOut (MainView.view p) q count x) (Main.enough (Main.request command d room) j) _ _
       (λ _. request-puts (MainView.view p) q room count) (λ _ e. absurd (never-put _ _ e))
 
-  pub waiting : Main.made p asking .answer ≡ Main.put count → Waiting (Main.made p asking .parts) q (take count (Main.made p asking .out))
-  waiting put =
-      let k = MainHistory.one-call p asking v in
-      let x = meant-puts (sym (k .answer) ∙ put) in
+  made-puts : Main.made p asking .answer ≡ Main.put count → PutOut (MainView.view p) q count (Main.meantMade (MainView.view p) asking)
+  made-puts put = meant-puts (sym (MainHistory.one-call p asking v .answer) ∙ put)
+
+  -- it takes the next number
+  pub next-number : Main.made p asking .answer ≡ Main.put count → Layout.numberOf (Main.made p asking .parts .requester) ≡ suc (MainView.view p .newest)
+  next-number put = newest-after p v asking ∙ ap (λ (y : MainState.State). y .newest) (made-puts put .state)
+
+  module _ (between : MainView.view p .received ≡ some []) (byte : command < 256) (bytes : Each Byte d) (stays : staysOut command ≡ true) where
+    pub waiting : Main.made p asking .answer ≡ Main.put count → Waiting (Main.made p asking .parts) q (take count (Main.made p asking .out))
+    waiting put =
+        let k = MainHistory.one-call p asking v in
+        let x = made-puts put in
+        let e = k .state ∙ x .state in
+        let n = next-number put in
+        record {
+          valid = k .valid;
+          kept = ap (λ (y : MainState.State). y .kept) e ∙ rw stays;
+          calm = ap (λ (y : MainState.State). y .recovery) e;
+          between = ap (λ (y : MainState.State). y .received) e ∙ between;
+          newest = n ∙ sym (ap (λ (y : MainState.State). y .newest) e);
+          put = ap (take count) (k .out) ∙ x .frame ∙ rw n;
+          in-range = rw n (ranged-message _ q (x .number) (record { command = byte; bytes = bytes; fits = x .fits }));
+        }
+
+-- ---- the same frame again
+
+-- what a send leaves that puts something out
+record PutAgain (s : MainState.State) (q : Request) (count : ℕ) (x : Main.Means) : Type 0 where
+  state : x .state ≡ MainState.state (s .newest) (s .kept) (s .recovery) false (s .received)
+  frame : take count (x .out) ≡ requestFrame (s .newest) q
+
+module _ (s : MainState.State) (q : Request) (room : List ℕ) (count : ℕ) where
+  abbrev PutsAgain : Requester.Done → Type 0
+  PutsAgain t = let x = Main.putMeans (t .refusal) room (t .out) (t .state) in x .answer ≡ Main.put (suc count) → PutAgain s q (suc count) x
+
+  send-puts : (o : Option Request) → o ≡ some q → PutsAgain (Requester.sentOf (length room) o s)
+  send-puts o f =
+      rw f
+      (cond-by PutsAgain (s .unsent) _ _
+      (λ _. cond-by PutsAgain (ltb (length room) (length (requestFrame (s .newest) q))) _ _ (λ _ e. absurd (never-put _ _ e)) (λ _ e.
+      let c : length (requestFrame (s .newest) q) ≡ suc count = cc in
+      record { state = refl; frame = rw (← c) (overlay-inside 0 (requestFrame (s .newest) q) room (omega arith)) }))
+      (λ _ e. let z : _≡_ {A = ℕ} 0 (suc count) = cc in absurd (omega arith)))
+
+module _ (p : MainCalls.Parts) (v : PartsValid p) (j : Main.Lent) (q : Request) (room : List ℕ) (count : ℕ) (between : MainView.view p .received ≡ some [])
+    (calm : MainView.view p .recovery ≡ none) (kept : MainView.view p .kept ≡ some q) (bytes : Each Byte (q .payload)) where
+  abbrev sending : Main.Made
+  sending = record { lent = j; call = Main.send room }
+
+  meant-puts-again : Main.meantMade (MainView.view p) sending .answer ≡ Main.put (suc count) → PutAgain (MainView.view p) q (suc count) (Main.meantMade (MainView.view p) sending)
+  unfolding Main.meantMade Main.meant Requester.send
+  meant-puts-again =
+      cond-by (λ (x : Main.Means). x .answer ≡ Main.put (suc count) → PutAgain (MainView.view p) q (suc count) x) (Main.enough (Main.send room) j) _ _
+      (λ _. send-puts (MainView.view p) q room count (outstanding (MainView.view p)) (rw (calm, kept))) (λ _ e. absurd (never-put _ _ e))
+
+  waiting-again : Main.made p sending .answer ≡ Main.put (suc count) → let x = Main.made p sending in let m = asMessage (Layout.numberOf (x .parts .requester)) q in
+      verdict (form m) ≡ good m → Waiting (x .parts) q (take (suc count) (x .out))
+  waiting-again put passed =
+      let k = MainHistory.one-call p sending v in
+      let x = meant-puts-again (sym (k .answer) ∙ put) in
       let e = k .state ∙ x .state in
-      let n : Layout.numberOf (Main.made p asking .parts .requester) ≡ suc (MainView.view p .newest) = newest-after p v asking ∙ ap (λ (y : MainState.State). y .newest) (x .state) in
+      let n = newest-after p v sending ∙ ap (λ (y : MainState.State). y .newest) (x .state) in
+      let m = asMessage (Layout.numberOf (Main.made p sending .parts .requester)) q in
       record {
         valid = k .valid;
-        kept = ap (λ (y : MainState.State). y .kept) e ∙ rw stays;
-        calm = ap (λ (y : MainState.State). y .recovery) e;
+        kept = ap (λ (y : MainState.State). y .kept) e ∙ kept;
+        calm = ap (λ (y : MainState.State). y .recovery) e ∙ calm;
         between = ap (λ (y : MainState.State). y .received) e ∙ between;
         newest = n ∙ sym (ap (λ (y : MainState.State). y .newest) e);
-        put = ap (take count) (k .out) ∙ x .frame ∙ rw n;
-        in-range = rw n (ranged-message _ q (x .number) (record { command = byte; bytes = bytes; fits = x .fits }));
+        put = ap (take (suc count)) (k .out) ∙ x .frame ∙ rw n;
+        in-range = good-form (form m) m (no-zero (message m) (message-each m bytes)) (passes (form m) m passed .judged) .1;
       }
+
+-- a request that earns a reply stays outstanding
+module _ (image : List ℕ) (s : State) (m r : Message) (earns : replyTo image s m ≡ some r) where
+  not-command : (c : ℕ) → messageOf (replyOf (m .sequence) (carriedBy (commandOf c) image s m .reply)) ≡ none → eqb (m .command) c ≡ false
+  unfolding carried
+  not-command c e = ne-eqb (m .command) c (λ (k : m .command ≡ c). none-some {x = r} (sym e ∙ rw (← k) earns))
+
+  pub replied-stays : staysOut (m .command) ≡ true
+  unfolding staysOut commandOf withNumber numberOf effect reboot powerOff bootFailure replyOf
+  replied-stays = rw (not-command 0x01 refl, not-command 0x02 refl, not-command 0x06 refl)
 
 -- ---- the delivery of its frame, and of its reply
 
@@ -189,7 +257,7 @@ module _ (q : Parts) (s : Sound q) (idle : view q .received ≡ some []) (image 
         ∙ framed-pending image (view q) (form m) m passed
         ∙ rw (reply-of image (view q) m r earns .framed)
 
-    reply-taken : (t : Taking q') → takenOf t ≡ waits
+    pub reply-taken : (t : Taking q') → takenOf t ≡ waits
     reply-taken t =
         let f = follows q' (delivered-parts .0) (t .takes) (t .typed) in
         let a = all-moved (t .takes) (view q') (t .take) in
@@ -203,10 +271,10 @@ abbrev pub handedOut : Message → Event
 handedOut r = record { report = MainCalls.answered (r .version) (r .sequence) (r .command) (length (r .payload)); payload = r .payload; ended = false }
 
 -- all that a call takes is lent
-abbrev allLent : Main.Lent
+abbrev pub allLent : Main.Lent
 allLent = record { reader = first LineReader.state-length; requester = first Layout.requester-length }
 
-lent-enough : (piece : List ℕ) → Main.enough (Main.receive piece) allLent ≡ true
+pub lent-enough : (piece : List ℕ) → Main.enough (Main.receive piece) allLent ≡ true
 unfolding Main.enough enoughPart
 lent-enough piece = refl
 
@@ -273,6 +341,19 @@ module _ (p : MainCalls.Parts) (v : PartsValid p) (q : Request) (kept : MainView
 
 -- ---- the claim
 
+-- A frame fr of the request a was just put out, which left the parts p, and is delivered to the supervisor's parts q in any cuts, where the whole table passes it and it
+-- earns a reply of version 1; the reply is taken whole, behind a 00 where one is owed, and delivered in any cuts. Then exactly the reply that carrying out that request
+-- gives in the supervisor's state is handed out, once, and none is outstanding.
+abbrev pub Trip : Parts → MainCalls.Parts → Request → List ℕ → Type 0
+Trip q p a fr =
+    let n = Layout.numberOf (p .requester) in
+    let m = asMessage n a in
+    (image : List ℕ) → Each Byte image → verdict (form m) ≡ good m → (r : Message) → replyTo image (view q) m ≡ some r → r .version ≡ 1
+    → (b : Delivery image fr) (t : Taking (deliveredTo q b)) (cs : List Read) → let x = afterReads (listening p) cs in
+    x .bytes ≡ takenOf t
+    → (x .handed ≡ handedOut r ∷ [])
+    × (MainView.view (x .parts) ≡ MainState.state n none none false (some []))
+
 -- a request that waits
 module _ (q : Parts) (s : Sound q) (idle : view q .received ≡ some []) (p : MainCalls.Parts) (a : Request) (fr : List ℕ) (w : Waiting p a fr) where
   abbrev n : ℕ
@@ -292,11 +373,7 @@ module _ (q : Parts) (s : Sound q) (idle : view q .received ≡ some []) (p : Ma
         t .no-failure,
       )
 
-  answered : (image : List ℕ) → Each Byte image → verdict (form m) ≡ good m → (r : Message) → replyTo image (view q) m ≡ some r → r .version ≡ 1
-      → (b : Delivery image fr) (t : Taking (deliveredTo q b)) (cs : List Read) → let x = afterReads (listening p) cs in
-      x .bytes ≡ takenOf t
-      → (x .handed ≡ handedOut r ∷ [])
-      × (MainView.view (x .parts) ≡ MainState.state n none none false (some []))
+  answered : Trip q p a fr
   unfolding requestFrame
   answered image each passed r earns version b t cs read =
       let f : Delivery image (frame m) = record {
@@ -330,20 +407,23 @@ module _ (starts : Starts) (mains : List Main.Made) (sups : List Supervisor.Made
   supervisor-sound =
       history (starts .supervisor-parts) (starts .supervisor-bytes) (starts .supervisor-lent) (starts .start-data) (starts .start-typed) (starts .supervisor-accepted) sups sups-typed .2
 
-  -- Both readers stand between two frames. The main processor's end puts out a request that stays outstanding (any number, any command and data that the whole
-  -- table passes and that earn a reply of version 1: all do but an alert request for which a reply is retained that was first written in version 2). Its frame is delivered in any cuts, the reply is taken whole, behind a 00 where one is owed, and delivered in any cuts. Then
-  -- exactly the reply that carrying out that request gives in the supervisor's state is handed out, once, and none is outstanding.
+  -- Both readers stand between two frames, and the main processor's end puts out a request: any number, any command and data. (Reboot, power off and boot failure earn
+  -- no reply, and an alert request earns one of version 2 where the reply retained for it was first written in that version.)
   pub round-trip : MainView.view mainEnd .received ≡ some [] → view supervisorEnd .received ≡ some []
-      → (j : Main.Lent) (command : ℕ) (d room : List ℕ) → command < 256 → Each Byte d → staysOut command ≡ true
+      → (j : Main.Lent) (command : ℕ) (d room : List ℕ) → command < 256 → Each Byte d
       → let asks = Main.made mainEnd (record { lent = j; call = Main.request command d room }) in
-      (count : ℕ) → asks .answer ≡ Main.put count
-      → (image : List ℕ) → Each Byte image
-      → let n = Layout.numberOf (asks .parts .requester) in let m = asMessage n (record { command = command; payload = d }) in verdict (form m) ≡ good m
-      → (r : Message) → replyTo image (view supervisorEnd) m ≡ some r → r .version ≡ 1
-      → (b : Delivery image (take count (asks .out))) (t : Taking (deliveredTo supervisorEnd b)) (cs : List Read) → let x = afterReads (listening (asks .parts)) cs in
-      x .bytes ≡ takenOf t
-      → (x .handed ≡ handedOut r ∷ [])
-      × (MainView.view (x .parts) ≡ MainState.state n none none false (some []))
-  round-trip between idle j command d room byte bytes stays count put image each passed r earns version b t cs read =
-      let w = waiting mainEnd main-valid between j command d room byte bytes stays count put in
-      answered supervisorEnd supervisor-sound idle (Main.made mainEnd (record { lent = j; call = Main.request command d room }) .parts) (record { command = command; payload = d }) _ w image each passed r earns version b t cs read
+      (count : ℕ) → asks .answer ≡ Main.put count → Trip supervisorEnd (asks .parts) (record { command = command; payload = d }) (take count (asks .out))
+  round-trip between idle j command d room byte bytes count put image each passed r earns version =
+      let w = waiting mainEnd main-valid j command d room count between byte bytes (replied-stays image (view supervisorEnd) _ r earns) put in
+      let asked = Main.made mainEnd (record { lent = j; call = Main.request command d room }) .parts in
+      answered supervisorEnd supervisor-sound idle asked (record { command = command; payload = d }) _ w image each passed r earns version
+
+  -- The same where the request was put out before, no recovery is under way, and its frame goes out again.
+  pub round-trip-again : MainView.view mainEnd .received ≡ some [] → view supervisorEnd .received ≡ some []
+      → (j : Main.Lent) (q : Request) (room : List ℕ) → MainView.view mainEnd .recovery ≡ none → MainView.view mainEnd .kept ≡ some q → Each Byte (q .payload)
+      → let sends = Main.made mainEnd (record { lent = j; call = Main.send room }) in
+      (count : ℕ) → sends .answer ≡ Main.put (suc count) → Trip supervisorEnd (sends .parts) q (take (suc count) (sends .out))
+  round-trip-again between idle j q room calm kept bytes count put image each passed =
+      let w = waiting-again mainEnd main-valid j q room count between calm kept bytes put passed in
+      let sent = Main.made mainEnd (record { lent = j; call = Main.send room }) .parts in
+      answered supervisorEnd supervisor-sound idle sent q _ w image each passed

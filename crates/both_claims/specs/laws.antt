@@ -8,11 +8,15 @@ pub mod MainReads
 pub mod Ranges
 pub mod Kept
 pub mod ThatRequest
+pub mod KeptRequest
 pub mod MainCalls
 pub mod SupervisorCalls
 pub mod BothCalls
+pub mod SetsRead
 pub mod Held
 pub mod Delivered
 pub mod FrameHeard
 pub mod SupervisorFrames
 pub mod RetainedSince
+pub mod Logged
+pub mod OneExchange

@@ -32,7 +32,7 @@ restoreAnswered (Calls.faulty n at) settings answer = outcome n (settings, overl
 abbrev pub restoreDone : Calls.Restore → List ℕ → Outcome (List ℕ × List ℕ)
 restoreDone o answer = restoreAnswered (o .report) (o .settings) answer
 
--- tests 12, then 8 for an answer without a place, then the image
+-- tests 12, then 8 for an empty answer, then the image
 unfoldable pub restoreCall : List ℕ → List ℕ → List ℕ → Outcome (List ℕ × List ℕ)
 restoreCall settings image answer =
     cond (validSettings settings)

@@ -292,7 +292,7 @@ later-behind x s a (m ∷ ms) h =
     let t = meantMade s m in
     each-append (Behind x) (framesOf t) (framesMeant (t .state) ms) (g .1) (later-behind x (t .state) (g .0) ms (h .1))
 
-joined : (fs gs : List Frame) → Each (λ (x : Frame). Each (Behind x) gs) fs → OnePerNumber fs → OnePerNumber gs → OnePerNumber (fs ++ gs)
+pub joined : (fs gs : List Frame) → Each (λ (x : Frame). Each (Behind x) gs) fs → OnePerNumber fs → OnePerNumber gs → OnePerNumber (fs ++ gs)
 joined [] gs h a b = b
 joined (x ∷ fs) gs h a b = (each-append (Behind x) fs gs (a .0) (h .0), joined fs gs (h .1) (a .1) b)
 

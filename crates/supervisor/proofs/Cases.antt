@@ -6,6 +6,6 @@ use borrow.Author.Tests.{not-true, le-ltb, lt-ltb, eq-eqb, ne-eqb}
 
 pub ruleset cases = (le-ltb, lt-ltb, eq-eqb, ne-eqb)
 
--- a call's answer that was no, told by the test of its negation
+-- a call's answer that was no, by the test of its negation
 pub refused : (r t : Bool) → r ≡ t → not r ≡ true → t ≡ false
 refused r t e h = sym e ∙ not-true r h

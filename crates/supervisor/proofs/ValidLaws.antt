@@ -30,7 +30,7 @@ pub alike : (a b : Bool) → (a ≡ true → b ≡ true) → (b ≡ true → a �
 alike true b f g = sym (f refl)
 alike false b f g = untrue b (λ e. false≢true (g e))
 
--- a call's answer, told by the test of its negation
+-- a call's answer, by the test of its negation
 pub passed : (r t : Bool) → r ≡ t → not r ≡ false → t ≡ true
 passed r t e h = sym e ∙ not-false r h
 

@@ -3,6 +3,7 @@
 use mathlib.Core.Path.{_≡_}
 use mathlib.Core.List.{List}
 use mathlib.Core.Option.{some}
+use Prim.Native.Nat.{ℕ}
 use Rattle.octets.specs.Bytes.{Each, Byte}
 use Rattle.line.specs.Message.{Message, InRange}
 use Rattle.line.specs.Frame.{frame}
@@ -11,10 +12,12 @@ use Rattle.line.specs.Judge.{judge}
 use Rattle.line_claims.specs.Pieces.{split}
 use Rattle.line_claims.specs.CobsClaims.{NonZero}
 use Rattle.requester.specs.State as MainState
-use Rattle.requester_claims.specs.Numbers.{Frame, Agrees}
+use Rattle.requester_claims.specs.Numbers.{Frame, Agrees, OnePerNumber}
 use Rattle.requests.specs.Requests.{good, verdict}
 use Rattle.supervisor_claims.specs.FrameHistory.{tailOf}
-use Rattle.both_claims.specs.Ends.{replyTo, Any, Handled, Log, replyMade}
+use Rattle.both_claims.specs.Ends
+use Rattle.both_claims.specs.Ends.{replyTo, Any, Handled, Log, replyMade, NotAsked}
+use Rattle.both_claims.specs.laws.Lists.{Front, any-so, each-any, each-front}
 use Rattle.both_claims.specs.laws.Ranges.{Ranged, RangedFrame}
 
 -- a frame that was put out, in this state
@@ -41,6 +44,17 @@ pub record Kept (s : MainState.State) (l : Log) : Type 0 where
   pub read : Each Byte (l .read)
   pub bytes : Each Byte (l .received)
   pub asked : Each (PutOut s) (l .asked)
+  pub ordered : OnePerNumber (l .asked)
+  pub heard : Each InRange (l .heard)
   pub handled : Each (Known s) (l .handled)
+  -- what had been put out as each of these was handled
+  pub before : Each (λ (h : Handled). Front (h .asked) (l .asked)) (l .handled)
   pub pending : (r : Message) → l .pending ≡ some r → MadeTo (l .handled) r
   pub sent : Each (MadeTo (l .handled)) (l .sent)
+
+-- what was handled when no more had been put out than at an earlier moment
+pub not-asked-by : (e : Ends.Ends) (n : ℕ) → NotAsked e n → (h : Handled) → Front (h .asked) (e .log .asked) → (P : Frame → Type 0)
+    → Any (λ (x : Frame). (x .number ≡ n) × P x) (h .asked) → ⊥
+not-asked-by e n new h front P a =
+    any-so (λ (x : Frame). ⊥) (λ x f. f) (h .asked)
+    (each-any (λ (x : Frame). x .number ≡ n → ⊥) _ (λ (x : Frame). ⊥) (λ x f b. f (b .0)) (h .asked) (each-front _ front new) a)

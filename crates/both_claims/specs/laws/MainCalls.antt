@@ -28,14 +28,14 @@ use Rattle.requester_claims.specs.Histories as Main
 use Rattle.requester_claims.specs.Histories.{meant, meantMade, enough}
 use Rattle.requester_claims.specs.Answers.{Matching, heard-matches}
 use Rattle.requester_claims.specs.AnswerFrame.{request-keeps, interrupt-keeps, send-keeps, put-keeps}
-use Rattle.requester_claims.specs.Numbers.{Frame, framesOf, Goes, Agrees, agrees-goes, put-goes, call-goes, isStart}
+use Rattle.requester_claims.specs.Numbers.{Frame, framesOf, Goes, Agrees, agrees-goes, put-goes, joined, call-goes, isStart}
 use Rattle.supervisor.specs.State.{State}
 use Rattle.supervisor_claims.specs.FrameHistory.{tailOf}
 use Rattle.supervisor_claims.specs.laws.Progress.{rest-nonzero}
 use Rattle.both_claims.specs.Ends
 use Rattle.both_claims.specs.Ends.{MainTyped, Wire, FreshAnswer, readBy, restarts, mainLogged}
 use Rattle.both_claims.specs.Ends.{Any, Handled, Log, replyMade, Fresh, FreshReport}
-use Rattle.both_claims.specs.laws.Lists.{none-some, any-so, each-right, each-then, each-and, each-any}
+use Rattle.both_claims.specs.laws.Lists.{front-more, none-some, any-so, each-right, each-then, each-and, each-any}
 use Rattle.both_claims.specs.laws.GoodFrames.{closed-nonzero, good-range}
 use Rattle.both_claims.specs.laws.MainReads.{HeardFrom, Came, quiet, hearing, Reads, piece-reads}
 use Rattle.both_claims.specs.laws.Ranges.{Ranged, RangedFrame, fresh-ranged, made-ranged, reads-ranged}
@@ -94,17 +94,17 @@ module _ (s : MainState.State) (l : Log) (kept : Kept s l) where
       }
 
   -- by what is outstanding
-  settled-fresh : (t : Option Step) (k : Option Request) (r : Message) → ((q : Request) → outstandingOf t k ≡ some q → Fresh s l r)
+  settled-fresh : (t : Option Step) (k : Option Request) (r : Message) → s .recovery ≡ t → ((q : Request) → outstandingOf t k ≡ some q → Fresh s l r)
       → let o = settled t (isSome k) (answer r) in FreshReport s l (reportOf (o .handed)) (Main.dataOf (o .handed))
   unfolding settled reportOf Main.dataOf Requester.fetched
-  settled-fresh none none r f = tt
-  settled-fresh none (some q) r f = f q refl
-  settled-fresh (some fetch) k r f =
+  settled-fresh none none r i f = tt
+  settled-fresh none (some q) r i f = (i, f q refl)
+  settled-fresh (some fetch) k r i f =
       cond-by (λ (o : Requester.Outcome). FreshReport s l (reportOf (o .handed)) (Main.dataOf (o .handed)))
       (eqb (r .command) 0x06 && eqb (length (r .payload)) status-length) _ _
-      (λ e. let b = and-eq-true-iff _ _ .0 e in (r, f _ refl, refl, refl, eqb-true _ _ (b .0), eqb-true _ _ (b .1))) (λ _. tt)
-  settled-fresh (some acknowledge) k r f = tt
-  settled-fresh (some alert) k r f = f _ refl
+      (λ e. let b = and-eq-true-iff _ _ .0 e in (i, r, f _ refl, refl, refl, refl, eqb-true _ _ (b .0), eqb-true _ _ (b .1))) (λ _. tt)
+  settled-fresh (some acknowledge) k r i f = tt
+  settled-fresh (some alert) k r i f = (i, f _ refl)
 
   -- nothing is handed out
   silent : (t : Option Step) (k : Bool) (h : Heard) → HeardFrom 0 [] h → let o = settled t k h in FreshReport s l (reportOf (o .handed)) (Main.dataOf (o .handed))
@@ -124,14 +124,14 @@ module _ (s : MainState.State) (l : Log) (kept : Kept s l) where
   came-fresh ms x (hearing bs ground e f) g i = rw e (silent (s .recovery) (isSome (s .kept)) ground tt)
   came-fresh ms x (hearing bs other e f) g i = rw e (silent (s .recovery) (isSome (s .kept)) other tt)
   came-fresh ms x (hearing bs (answer r) e f) g i =
-      rw e (settled-fresh (s .recovery) (s .kept) r (fresh-sent r ((rw (f .1) at g) .0) (f .0) ((rw (f .1) at i) .0)))
+      rw e (settled-fresh (s .recovery) (s .kept) r refl (fresh-sent r ((rw (f .1) at g) .0) (f .0) ((rw (f .1) at i) .0)))
 
   -- ---- a call of the main processor's end
 
   abbrev tail : List ℕ
   tail = split (l .read) .rest
 
-  reads-of : (piece : List ℕ) → let r = Requester.receive s piece in Reads s tail (take (r .used) piece) (r .result)
+  pub reads-of : (piece : List ℕ) → let r = Requester.receive s piece in Reads s tail (take (r .used) piece) (r .result)
   reads-of piece = piece-reads piece s tail (rest-nonzero (l .read)) (kept .progress)
 
   -- the bytes since the last 00
@@ -173,6 +173,10 @@ module _ (s : MainState.State) (l : Log) (kept : Kept s l) where
           bytes = kept .bytes;
           asked = each-append (PutOut (does .state)) (l .asked) (framesOf does) (each-then (PutOut s) _ still (l .asked) (kept .asked))
               (each-and (λ (x : Frame). Agrees x (does .state)) RangedFrame _ (λ x a r. record { agrees = a; ranged = r }) (framesOf does) (put-goes g .0) (left-ranged .1));
+          ordered =
+              joined (l .asked) (framesOf does) (each-then (PutOut s) _ (λ x w. agrees-goes x (w .agrees) g .1) (l .asked) (kept .asked)) (kept .ordered) (put-goes g .1);
+          heard = kept .heard;
+          before = each-then _ _ (λ (h : Handled) f. front-more (framesOf does) f) (l .handled) (kept .before);
           handled = each-then (Known s) _ (λ h k. record { nonzero = k .nonzero; asked = each-then (PutOut s) _ still (h .asked) (k .asked); put-out = k .put-out; reply = k .reply }) (l .handled) (kept .handled);
           pending = kept .pending;
           sent = kept .sent;
@@ -184,7 +188,7 @@ module _ (s : MainState.State) (l : Log) (kept : Kept s l) where
     -- an accepted start
     fresh-kept : Kept MainState.fresh (Ends.emptyLog false (l .received) (l .origin))
     unfolding MainState.fresh tailOf split
-    fresh-kept = record { progress = refl; ranged = fresh-ranged; read = tt; bytes = kept .bytes; asked = tt; handled = tt; pending = λ r e. absurd (none-some e); sent = tt }
+    fresh-kept = record { progress = refl; ranged = fresh-ranged; read = tt; bytes = kept .bytes; asked = tt; ordered = tt; heard = tt; handled = tt; before = tt; pending = λ r e. absurd (none-some e); sent = tt }
 
     -- lent too little
     little : enough (m .call) (m .lent) ≡ false → does ≡ Main.means (Main.refused 12) (Main.untouched (m .call)) s

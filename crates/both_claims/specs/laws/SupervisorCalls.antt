@@ -10,7 +10,7 @@ use lib.Seq.{append-snoc}
 use Rattle.octets.specs.Bytes.{Each, Byte}
 use Rattle.octets.proofs.Conditions.{cond-by}
 use Rattle.octets.proofs.Each.{each-append, each-take}
-use Rattle.line.specs.Message.{Message}
+use Rattle.line.specs.Message.{Message, InRange}
 use Rattle.line.specs.Frame.{frame}
 use Rattle.line.specs.Judge.{Verdict, failure, good, judge}
 use Rattle.line_claims.specs.Calls.{gathered, goodOf, goodMessages}
@@ -26,10 +26,10 @@ use Rattle.supervisor_claims.specs.FrameHistory as Received
 use Rattle.supervisor_claims.specs.FrameHistory.{framed}
 use Rattle.supervisor_claims.specs.LastSet.{Origin}
 use Rattle.both_claims.specs.Ends.{Wire}
-use Rattle.both_claims.specs.Ends.{imageOf, originBy, handledBy, newestReply, stillPending, takenWhole, drops, brought, supervisorLogged}
+use Rattle.both_claims.specs.Ends.{imageOf, originBy, handledBy, newestReply, stillPending, takenBy, drops, brought, supervisorLogged}
 use Rattle.both_claims.specs.Ends.{Any, Handled, Log, replyMade}
-use Rattle.both_claims.specs.laws.Lists.{none-some, any-left, any-right, each-right, each-then}
-use Rattle.both_claims.specs.laws.GoodFrames.{frames-nonzero}
+use Rattle.both_claims.specs.laws.Lists.{Front, none-some, any-left, any-right, each-right, each-then}
+use Rattle.both_claims.specs.laws.GoodFrames.{frames-nonzero, good-range}
 use Rattle.both_claims.specs.laws.Held.{Held, held-frame, reply-in-range}
 use Rattle.both_claims.specs.laws.Kept.{PutOut, Known, MadeTo, Kept}
 
@@ -53,12 +53,12 @@ made-bytes : (m : Supervisor.Made) → Supervisor.Typed (m .call) → Each Byte 
 unfolding Received.receivedBy
 made-bytes m t = cond-by (Each Byte) (Supervisor.enough (m .call) (m .lent)) _ _ (λ _. call-bytes (m .call) t) (λ _. tt)
 
-joined-bytes : (w : List ℕ) (m : Supervisor.Made) → Each Byte w → Supervisor.Typed (m .call) → Each Byte (Received.joined w m)
+pub joined-bytes : (w : List ℕ) (m : Supervisor.Made) → Each Byte w → Supervisor.Typed (m .call) → Each Byte (Received.joined w m)
 unfolding Received.joined
 joined-bytes w m h t = cond-by (Each Byte) (Received.startsAnew m) _ _ (λ _. tt) (λ _. each-append Byte w (Received.receivedBy m) h (made-bytes m t))
 
 -- the first of frames, and the others
-good-first : (P : Message → Type 0) (f : List ℕ) (ms : List Message) → Each P (goodOf (judge f) ++ ms) → ((m : Message) → judge f ≡ good m → P m) × Each P ms
+pub good-first : (P : Message → Type 0) (f : List ℕ) (ms : List Message) → Each P (goodOf (judge f) ++ ms) → ((m : Message) → judge f ≡ good m → P m) × Each P ms
 good-first P f ms h = by (judge f) h
   where
     by : (v : Verdict) → Each P (goodOf v ++ ms) → ((m : Message) → v ≡ good m → P m) × Each P ms
@@ -75,6 +75,13 @@ module _ (s : MainState.State) (asked : List Frame) (put-out : Each (PutOut s) a
         record { nonzero = n .0; asked = put-out; put-out = g .0; reply = reply-in-range image each x f (n .0) held },
         handled-known fs (cleared || drops f) (framed image x f) (originBy o f) (earlier ++ (f ∷ [])) (held-frame image each x f (n .0) held) (n .1) (g .1),
       )
+
+handled-front : (asked : List Frame) (image : List ℕ) (fs : List (List ℕ)) (cleared : Bool) (x : State) (o : ℕ → Origin) (earlier : List (List ℕ))
+    → Each (λ (h : Handled). Front (h .asked) asked) (handledBy asked image cleared x o earlier fs)
+unfolding handledBy
+handled-front asked image [] cleared x o earlier = tt
+handled-front asked image (f ∷ fs) cleared x o earlier =
+    (record { more = []; whole = append-nil asked }, handled-front asked image fs (cleared || drops f) (framed image x f) (originBy o f) (earlier ++ (f ∷ [])))
 
 -- the newest reply was made to one of the frames
 newest-made : (hs before : List Handled) (o : Option Message) → ((r : Message) → o ≡ some r → MadeTo before r)
@@ -97,24 +104,31 @@ module _ (s : MainState.State) (l : Log) (kept : Kept s l) (x : State) (held : H
       (λ _ e. absurd (none-some e)) (λ _ e. newest-made hs (l .handled) (l .pending) (kept .pending) r e)
 
   pending-made : (bs : List ℕ) (o : Option Message) → ((r : Message) → o ≡ some r → MadeTo (l .handled ++ hs) r)
-      → ((r : Message) → stillPending bs o ≡ some r → MadeTo (l .handled ++ hs) r) × Each (MadeTo (l .handled ++ hs)) (takenWhole bs o)
+      → ((r : Message) → stillPending bs o ≡ some r → MadeTo (l .handled ++ hs) r) × Each (MadeTo (l .handled ++ hs)) (takenBy bs o)
   pending-made [] none h = (λ r e. absurd (none-some e), tt)
   pending-made [] (some r) h = (λ r e. absurd (none-some e), (h r refl, tt))
-  pending-made (b ∷ bs) o h = (h, tt)
+  pending-made (b ∷ []) none h = (λ r e. absurd (none-some e), tt)
+  pending-made (b ∷ []) (some r) h = (λ r e. absurd (none-some e), (h r refl, tt))
+  pending-made (b ∷ (c ∷ bs)) none h = (h, tt)
+  pending-made (b ∷ (c ∷ bs)) (some r) h = (h, tt)
 
   pub supervisor-kept : Wire (supervisorLogged l x m waiting) → Kept s (supervisorLogged l x m waiting)
   unfolding supervisorLogged brought
   supervisor-kept w =
       let p = pending-made waiting newest reply-made in
       let fs = Received.framesBy (l .received) (Received.receivedBy m) in
+      let nonzero = frames-nonzero (l .received) (Received.receivedBy m) (kept .bytes) (made-bytes m typed) in
       record {
         progress = kept .progress;
         read = kept .read;
         ranged = kept .ranged;
         bytes = joined-bytes (l .received) m (kept .bytes) typed;
         asked = kept .asked;
+        ordered = kept .ordered;
+        heard = each-append InRange (l .heard) (goodMessages fs) (kept .heard) (good-range fs nonzero);
+        before = each-append _ (l .handled) _ (kept .before) (handled-front (l .asked) (imageOf (m .call)) fs (l .cleared) x _ _);
         handled = each-append (Known s) (l .handled) _ (kept .handled)
-            (handled-known s (l .asked) (kept .asked) (imageOf (m .call)) (image-bytes (m .call) typed) fs (l .cleared) x _ _ held (frames-nonzero (l .received) (Received.receivedBy m) (kept .bytes) (made-bytes m typed))
+            (handled-known s (l .asked) (kept .asked) (imageOf (m .call)) (image-bytes (m .call) typed) fs (l .cleared) x _ _ held nonzero
             (each-right _ (l .heard) (goodMessages fs) (w .to-supervisor)));
         pending = p .0;
         sent = each-append (MadeTo (l .handled ++ hs)) (l .sent) _

@@ -24,9 +24,15 @@ frames-none w = rw (append-nil, drop-all (split w .closed))
     drop-all [] = refl
     drop-all (p ∷ ps) = drop-all ps
 
--- a field that the receive progress and local calls leave
-module _ {A : Type 0} (g : State → A) (progress : (s : State) (r : Option (List ℕ)) → g (withReceived s r) ≡ g s)
-    (locally : (s : State) (c : LocalCall) → g (meant s (Histories.local c) .state) ≡ g s) (w : List ℕ) (x : State) where
+-- a local call leaves this field
+abbrev pub LocallyKept : {A : Type 0} → (State → A) → State → Call → Type 0
+LocallyKept g x (Histories.start d) = Unit {0}
+LocallyKept g x (Histories.receive image piece) = Unit {0}
+LocallyKept g x (Histories.step image piece) = Unit {0}
+LocallyKept g x (Histories.local c) = g (meant x (Histories.local c) .state) ≡ g x
+
+-- a field that the receive progress leaves
+module _ {A : Type 0} (g : State → A) (progress : (s : State) (r : Option (List ℕ)) → g (withReceived s r) ≡ g s) (w : List ℕ) (x : State) where
   abbrev framed-so : Call → List ℕ → State
   framed-so c bs = allFramed (imageOf c) x (framesBy w bs)
 
@@ -34,24 +40,35 @@ module _ {A : Type 0} (g : State → A) (progress : (s : State) (r : Option (Lis
   unfolding allFramed
   nothing-brought c = rw (frames-none w)
 
-  call-field : (c : Call) → starts c ≡ false → g (carriedCall w x c .state) ≡ g (framed-so c (reads c))
+  call-field : (c : Call) → starts c ≡ false → LocallyKept g x c → g (carriedCall w x c .state) ≡ g (framed-so c (reads c))
   unfolding carriedCall carriedOut reads starts meant Local.start
-  call-field (Histories.start d) e = by (Local.badStart (factoryOf d)) e
+  call-field (Histories.start d) e l = by (Local.badStart (factoryOf d)) e
     where
       by : (bad : Bool) → not bad ≡ false → g (doneMeans x (cond bad (Local.refused 11) (Local.left (fresh (factoryOf d)))) .state) ≡ g (framed-so (Histories.start d) [])
       by true e = nothing-brought (Histories.start d)
       by false e = absurd (false≢true (sym e))
-  call-field (Histories.receive image piece) e = progress _ _
-  call-field (Histories.step image piece) e = progress _ _
-  call-field (Histories.local c) e = locally x c ∙ nothing-brought (Histories.local c)
+  call-field (Histories.receive image piece) e l = progress _ _
+  call-field (Histories.step image piece) e l = progress _ _
+  call-field (Histories.local c) e l = l ∙ nothing-brought (Histories.local c)
 
-  pub made-field : (m : Made) → startsAnew m ≡ false → g (carriedMade w x m .state) ≡ g (allFramed (imageOf (m .call)) x (framesBy w (receivedBy m)))
+  pub made-kept : (m : Made) → startsAnew m ≡ false → LocallyKept g x (m .call) → g (carriedMade w x m .state) ≡ g (allFramed (imageOf (m .call)) x (framesBy w (receivedBy m)))
   unfolding carriedMade startsAnew receivedBy
-  made-field m e = by (enough (m .call) (m .lent)) refl
+  made-kept m e l = by (enough (m .call) (m .lent)) refl
     where
       by : (t : Bool) → enough (m .call) (m .lent) ≡ t → g (carriedMade w x m .state) ≡ g (allFramed (imageOf (m .call)) x (framesBy w (receivedBy m)))
-      by true f = rw f (call-field (m .call) (rw f at e))
+      by true f = rw f (call-field (m .call) (rw f at e) l)
       by false f = rw f (nothing-brought (m .call))
+
+  -- and every local call
+  pub made-field : ((s : State) (c : LocalCall) → g (meant s (Histories.local c) .state) ≡ g s) → (m : Made) → startsAnew m ≡ false
+      → g (carriedMade w x m .state) ≡ g (allFramed (imageOf (m .call)) x (framesBy w (receivedBy m)))
+  made-field locally m e = made-kept m e (by (m .call))
+    where
+      by : (c : Call) → LocallyKept g x c
+      by (Histories.start d) = tt
+      by (Histories.receive image piece) = tt
+      by (Histories.step image piece) = tt
+      by (Histories.local c) = locally x c
 
 -- an accepted start
 module _ (w : List ℕ) (x : State) where

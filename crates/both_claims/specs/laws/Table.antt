@@ -1,14 +1,14 @@
 -- What a frame and its verdict tell: one frame for each message, what passes the whole table, and which replies are no decode failures.
 -- Assumes nothing.
 use mathlib.Core.Path.{_≡_, refl, sym, ap, _∙_}
-use mathlib.Core.Bool.{not}
+use mathlib.Core.Bool.{true, not}
 use mathlib.Core.List.{List, [], _∷_, _++_}
 use mathlib.Core.Option.{Option, some}
 use Prim.Native.Nat.{ℕ, _+_, _^_, _≤_, _<_}
 use native.Mathlib.Omega.{arith}
 use lib.Dec.{leb}
 use lib.ListN.{length, length-append}
-use borrow.Author.Tests.{leb-false, lt-ltb}
+use borrow.Author.Tests.{leb-false, lt-leb, lt-ltb}
 use Rattle.octets.proofs.Conditions.{cond-by}
 use Rattle.octets.specs.Bytes.{number, bytes}
 use Rattle.line.specs.Message.{Message, InRange, body, message}
@@ -17,7 +17,8 @@ use Rattle.line.specs.Frame.{frame, Wire, over, sent}
 use Rattle.line.specs.Judge as Line
 use Rattle.line.specs.Judge.{judge, commandOf}
 use Rattle.line_claims.specs.CobsClaims.{round-trip}
-use Rattle.line_claims.specs.WireClaim.{one-meaning}
+use Rattle.line_claims.specs.JudgeClaim.{judge-of-message}
+use Rattle.line_claims.specs.WireClaim.{form, one-meaning}
 use Rattle.supervisor.specs.Number.{topSet}
 use Rattle.supervisor.specs.State.{State}
 use Rattle.requests.specs.Requests.{Verdict, failure, good, served, known, lengthAllowed, tested, testedWhere, verdict, failedOf}
@@ -30,8 +31,9 @@ command-read : (m : Message) → m .command < 256 → commandOf (message m) ≡ 
 unfolding message body number bytes
 command-read m h = omega arith
 
-pub frame-some : (m : Message) → 1 ≤ length (frame m)
-unfolding frame
+-- more than its 00
+pub frame-some : (m : Message) → 2 ≤ length (frame m)
+unfolding frame cobs
 frame-some m = rw length-append (omega arith)
 
 -- two messages in range with one frame
@@ -77,6 +79,12 @@ passes form m e = by (judge form) refl e
     by : (v : Line.Verdict) → judge form ≡ v → testedWhere v ≡ good m → Passed form m
     by (Line.failure reason sequence) j f = never f
     by (Line.good k) j f = let s = tested-same k m f in record { judged = rw (j, s .0); low = rw (s .0) at (s .1) }
+
+-- and the other way: a message of version 1 in range, without the top bit, with a listed command and data of a right length
+pub table-passes : (m : Message) → InRange m → m .version ≡ 1 → m .sequence < 2 ^ 63 → known (m .command) ≡ true → lengthAllowed (m .command) (length (m .payload)) ≡ true
+    → verdict (form m) ≡ good m
+unfolding verdict tested
+table-passes m r v low k l = rw (judge-of-message m r, v, lt-leb (2 ^ 63) (m .sequence) low, k, l)
 
 -- a reply that is no decode failure was made to a request that the whole table passed
 pub record Replied (image : List ℕ) (s : State) (v : Verdict) (r : Message) : Type 0 where

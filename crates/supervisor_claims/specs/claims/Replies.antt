@@ -34,7 +34,7 @@ pub record Cycle : Type 0 where
   pub taking : Lent
   pub room : List ℕ
 
--- each call is lent enough, and the room, which holds any bytes, has place for all that may be pending
+-- each call is lent enough, and the room, which holds any bytes, is long enough for all that may be pending
 pub record Ample (t : Cycle) : Type 0 where
   pub byte : t .byte < 256
   pub receiving : (image : List ℕ) → enough (Histories.receive image (t .byte ∷ [])) (t .receiving) ≡ true

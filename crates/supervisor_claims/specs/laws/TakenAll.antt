@@ -123,7 +123,7 @@ last-zero (b ∷ bs) =
     let l : length (b ∷ bs) ≡ length (bs ++ (0 ∷ [])) = simp length-append (omega arith) in
     rw (getD-at (b ∷ bs) 0 [] 0 (length (bs ++ (0 ∷ []))) l)
 
-frame-last : (m : Message) → lastNonZero false (frame m) ≡ false
+pub frame-last : (m : Message) → lastNonZero false (frame m) ≡ false
 unfolding frame
 frame-last m = last-zero (cobs (message m))
 
