@@ -3,8 +3,8 @@
 
 use crate::library;
 use crate::limits::{
-    ALERT, ANSWER, FACTORY_LENGTH, LONGEST_FRAME, NOTHING, OUTBOX_LENGTH, READER_LENGTH, REGISTERS_LENGTH, REQUESTER_LENGTH, REQUESTER_RECEIVE_NUMBERS,
-    SETTINGS_LENGTH, START_LENGTH, STATUS, STEP_NUMBERS,
+    ALERT, ANSWER, FACTORY_LENGTH, LONGEST_FRAME, LONGEST_IMAGE, NOTHING, OUTBOX_LENGTH, READER_LENGTH, REGISTERS_LENGTH, REQUESTER_LENGTH,
+    REQUESTER_RECEIVE_NUMBERS, RESTORE_NUMBERS, SAVE_NUMBERS, SETTINGS_LENGTH, START_LENGTH, STATUS, STEP_NUMBERS,
 };
 
 fn done(call: &str, number: u32) {
@@ -79,6 +79,28 @@ impl Supervisor {
         unsafe { library::oatcastle_post(self.registers.as_mut_ptr(), REGISTERS_LENGTH, action, text.as_ptr(), text.len()) }
     }
 
+    /// The image of the settings.
+    pub fn save(&self) -> Vec<u8> {
+        let mut room = vec![0; LONGEST_IMAGE];
+        let mut answer = [0; SAVE_NUMBERS];
+        done("save", unsafe {
+            library::oatcastle_save(self.settings.as_ptr(), SETTINGS_LENGTH, room.as_mut_ptr(), room.len(), answer.as_mut_ptr(), answer.len())
+        });
+        room.truncate(answer[0] as usize);
+        room
+    }
+
+    /// A refusal's number, and where the image has its first fault.
+    pub fn restore(&mut self, image: &[u8]) -> Result<(), (u32, usize)> {
+        let mut answer = [0; RESTORE_NUMBERS];
+        match unsafe {
+            library::oatcastle_restore(self.settings.as_mut_ptr(), SETTINGS_LENGTH, image.as_ptr(), image.len(), answer.as_mut_ptr(), answer.len())
+        } {
+            0 => Ok(()),
+            number => Err((number, answer[0] as usize)),
+        }
+    }
+
     pub fn set_options(&mut self, options: u64) -> u32 {
         unsafe { library::oatcastle_set_options(self.registers.as_mut_ptr(), REGISTERS_LENGTH, options) }
     }
@@ -107,6 +129,8 @@ pub struct Reply {
 pub struct Received {
     pub used: usize,
     pub handed: Handed,
+    /// A recovery ended for want of a number.
+    pub ended: bool,
     /// A frame is to go out.
     pub unsent: bool,
 }
@@ -129,21 +153,26 @@ impl Main {
         });
     }
 
-    /// The frame that goes out.
-    pub fn request(&mut self, command: u8, data: &[u8]) -> Vec<u8> {
+    /// As after requests up to this number, each answered: docs/STATE.md has the newest number in the first 8 bytes. No run counts that far.
+    pub fn count_on(&mut self, number: u64) {
+        self.requester[..8].copy_from_slice(&number.to_le_bytes());
+    }
+
+    /// The frame that goes out, or the refusal's number.
+    pub fn request(&mut self, command: u8, data: &[u8]) -> Result<Vec<u8>, u32> {
         let mut room = vec![0; LONGEST_FRAME];
         let mut answer = [0];
-        done("requester_request", unsafe {
+        let number = unsafe {
             library::oatcastle_requester_request(
                 self.requester.as_mut_ptr(), REQUESTER_LENGTH, command, data.as_ptr(), data.len(), room.as_mut_ptr(), room.len(), answer.as_mut_ptr(), 1,
             )
-        });
+        };
         room.truncate(answer[0] as usize);
-        room
+        if number == 0 { Ok(room) } else { Err(number) }
     }
 
-    pub fn interrupt(&mut self) {
-        done("requester_interrupt", unsafe { library::oatcastle_requester_interrupt(self.requester.as_mut_ptr(), REQUESTER_LENGTH) });
+    pub fn interrupt(&mut self) -> u32 {
+        unsafe { library::oatcastle_requester_interrupt(self.requester.as_mut_ptr(), REQUESTER_LENGTH) }
     }
 
     /// The frame that goes out; empty where none does.
@@ -166,7 +195,6 @@ impl Main {
             )
         });
         let [used, kind, ended, unsent, first, second, third] = answer;
-        assert_eq!(ended, 0, "numbers ran out");
         let handed = match kind {
             NOTHING => Handed::Nothing,
             STATUS => Handed::Status { status: first, options: second, set_bits: third },
@@ -174,7 +202,7 @@ impl Main {
             ALERT => Handed::Alert(self.reply(first, second, third)),
             _ => panic!("requester_receive hands out kind {kind}"),
         };
-        Received { used: used as usize, handed, unsent: unsent == 1 }
+        Received { used: used as usize, handed, ended: ended == 1, unsent: unsent == 1 }
     }
 
     fn reply(&self, sequence: u64, command: u64, length: u64) -> Reply {

@@ -1,7 +1,10 @@
 // Defines what each end put out, read and carried out, kept beside the library, and what each thing handed out must come from.
 // Assumes documents 01 and 02 and the model's line layer. A planted fault falsifies the evidence of one answer, so that the comparison itself can be tested.
 
+use crate::faults::Fault;
+use crate::lists::{fitted, Answer, By, Lists, Value};
 use crate::model::{Message, TOP_BIT};
+use crate::tally::tally;
 use crate::wire::judged;
 use std::collections::{HashMap, VecDeque};
 
@@ -9,37 +12,6 @@ const ALERT: u8 = 0x0a;
 const LOOKUP: u8 = 0x0e;
 const SET: u8 = 0x10;
 const LIST_KEY: u8 = 5;
-
-macro_rules! faults {
-    ($($name:ident: $words:literal,)*) => {
-        #[derive(Clone, Copy, Debug, PartialEq, Eq)]
-        pub enum Fault { $($name),* }
-        pub const FAULTS: &[(Fault, &str)] = &[$((Fault::$name, $words)),*];
-    };
-}
-
-faults! {
-    OtherNumber: "an answer under the number before",
-    OtherData: "an answer with a byte changed",
-    OtherCommand: "an answer of another command",
-    OtherMessage: "the supervisor carried out another message under that number",
-    NotCarriedOut: "the supervisor carried nothing out",
-    CarriedOutBefore: "the message was carried out before it was put out",
-    OtherRequest: "an answer to what the caller did not ask for",
-    Twice: "an answer handed out twice",
-    OldList: "the supervisor answers a list that was replaced before the lookup was put out",
-    OldAlert: "after a reboot the supervisor answers the alert reply that it had retained",
-    OtherStatus: "the status of another fetch",
-    OtherBits: "another number of set bits",
-    OtherStep: "an alert or a status in answer to another command",
-    OtherBytes: "other bytes go out under the same number",
-    OldNumber: "a number goes out again for another request",
-    BytesKept: "a start of the main processor's end, and bytes that were on their way still come",
-    ResendTakes: "a resent alert request takes the next alert",
-    RebootKeeps: "a reboot keeps the retained alert reply",
-    NoSeparator: "no 00 ahead of a reply that follows half of one",
-    SignalBit0: "the line signal follows bit 0 alone",
-}
 
 /// A frame that the main processor's end put out.
 #[derive(Clone)]
@@ -61,10 +33,11 @@ struct Carried {
     taken: Option<Vec<u8>>,
 }
 
-/// A reply's frame without its 00, and whether all its bytes were taken.
+/// A reply's frame without its 00, whether these bytes were all taken, which puts it out, and whether its 00 was too.
 struct Made {
     form: Vec<u8>,
-    taken: bool,
+    put_out: bool,
+    whole: bool,
 }
 
 /// What an answer is compared by.
@@ -74,17 +47,13 @@ struct Evidence {
     carried: Vec<Carried>,
 }
 
-#[derive(Default)]
-pub struct Tally {
-    pub lists: u64,
-    /// Answers with a list that had been replaced when it was handed out, and those while another list became current.
-    pub lists_replaced: u64,
-    pub lists_several: u64,
-    pub alerts_taken: u64,
-    pub alerts_cleared: u64,
-    pub alerts_from_before: u64,
-    pub carried_again: u64,
-    pub replies_closed: u64,
+tally! {
+    carried_again: "requests carried out again",
+    last_edition: "sets of the list refused at its last edition",
+    replies_closed: "replies taken whole but for the 00, which the next one's 00 closed",
+    alerts_taken: "alerts taken for the request that they answer",
+    alerts_cleared: "alerts after a reboot, power-off or start",
+    alerts_from_before: "alerts retained from before a start of the main processor's end",
 }
 
 #[derive(Default)]
@@ -107,21 +76,16 @@ pub struct Ledger {
     /// By document 01's and 02's alert rules: the retained reply's number, and the alerts that wait.
     retained: Option<u64>,
     waiting: VecDeque<Vec<u8>>,
-    /// The values of key 5, each with the moment at which it became current; those replaced before the newest number was put out are left out, but for one.
-    lists: Vec<(u64, Option<Vec<u8>>)>,
-}
-
-/// A lookup's reply by document 01.
-fn fitted(most: usize, value: Option<&Vec<u8>>) -> Vec<u8> {
-    match value {
-        None => vec![2],
-        Some(value) if value.len() > most => vec![3],
-        Some(value) => [&[0], &value[..]].concat(),
-    }
+    pub lists: Lists,
 }
 
 fn looks_up_list(request: &Message) -> bool {
     request.command == LOOKUP && request.data.first() == Some(&LIST_KEY)
+}
+
+/// A lookup's maxresponse.
+fn most(lookup: &Message) -> usize {
+    usize::from(u16::from_le_bytes([lookup.data[1], lookup.data[2]]))
 }
 
 fn short(message: &Message) -> String {
@@ -146,7 +110,26 @@ impl Ledger {
         self.retained = None;
         self.pending = None;
         self.cleared = true;
-        self.lists.push((self.moment, None));
+        self.lists.brought(self.moment, By::Start, None);
+    }
+
+    /// A restore that was accepted, and the list that it left.
+    pub fn restored(&mut self, list: &Value) {
+        self.moment += 1;
+        if self.fault != Some(Fault::RestoreUntold) {
+            self.lists.brought(self.moment, By::Restore, list.clone());
+        }
+    }
+
+    /// The model's list, behind anything that can change it and where a frame goes out.
+    pub fn holds(&mut self, list: &Value) {
+        let other = list.as_ref().filter(|_| self.fault == Some(Fault::NotBrought)).map(|list| [list, &b"?"[..]].concat());
+        self.lists.holds(self.moment, if other.is_some() { &other } else { list });
+    }
+
+    /// The main processor's end counts on from this number, as if all up to it had been answered.
+    pub fn counted_on(&mut self, number: u64) {
+        (self.newest, self.settled) = (number, number);
     }
 
     pub fn posted(&mut self, action: u8, text: &[u8]) {
@@ -167,7 +150,7 @@ impl Ledger {
         }
         self.newest = number;
         self.carried.clear();
-        self.lists.drain(..self.lists.len().saturating_sub(2));
+        self.lists.asked();
         self.asked.insert(number, Asked { frame: frame.to_vec(), message, first: self.moment });
         Ok(false)
     }
@@ -191,7 +174,7 @@ impl Ledger {
         let made = self.made.entry(message.sequence).or_default();
         match made.iter().position(|made| made.form == form) {
             Some(place) => made[place..].rotate_left(1),
-            None => made.push(Made { form: form.to_vec(), taken: false }),
+            None => made.push(Made { form: form.to_vec(), put_out: false, whole: false }),
         }
         Some(message)
     }
@@ -203,9 +186,10 @@ impl Ledger {
                 self.retained = None;
                 self.cleared = true;
             }
-            SET if request.data[0] == LIST_KEY && reply.is_some_and(|reply| reply.data == [0]) => {
-                self.lists.push((self.moment, Some(request.data[1..].to_vec())));
-            }
+            SET if request.data[0] == LIST_KEY => match reply.map(|reply| &reply.data[..]) {
+                Some([0]) => self.lists.brought(self.moment, By::Set, Some(request.data[1..].to_vec())),
+                other => self.tally.last_edition += u64::from(other == Some(&[4])),
+            },
             ALERT if self.retained != Some(request.sequence) => {
                 self.retained = Some(request.sequence);
                 return Some(self.waiting.pop_front().unwrap_or(vec![0]));
@@ -215,14 +199,16 @@ impl Ledger {
         None
     }
 
-    /// The last byte of what is pending was taken: the newest reply, if any, is out whole. Gives the bytes before its 00.
-    pub fn taken(&mut self) -> Option<&[u8]> {
-        let made = self.made.get_mut(&self.pending.take()?)?.last_mut()?;
-        made.taken = true;
-        Some(&made.form)
+    /// Bytes were taken, and so many are still pending: none but its 00, and the newest reply is put out; none, and it is out whole. Gives the bytes before its 00 then.
+    pub fn taken(&mut self, pending: usize) -> Option<&[u8]> {
+        let made = self.made.get_mut(&self.pending?)?.last_mut()?;
+        made.put_out |= pending <= 1;
+        made.whole |= pending == 0;
+        self.pending = self.pending.filter(|_| pending > 0);
+        Some(&made.form[..]).filter(|_| pending == 0)
     }
 
-    // ---- The wire's rule: a good message that an end reads is one that the other put out or made since the main processor's end was started
+    // ---- The wire's rule: a good message that an end reads is one that the other has put out since the main processor's end was started
 
     pub fn asked_for(&self, form: &[u8]) -> Result<(), String> {
         let Ok(message) = judged(form) else { return Ok(()) };
@@ -232,22 +218,33 @@ impl Ledger {
 
     pub fn replied(&self, form: &[u8]) -> Result<(), String> {
         let Ok(message) = judged(form) else { return Ok(()) };
-        if self.reply(&message, form).is_some() { Ok(()) } else { Err(format!("the main processor's end reads a good message that the supervisor did not make: {}", short(&message))) }
+        let put_out = self.reply(&message, form).is_some_and(|made| made.put_out);
+        if put_out { Ok(()) } else { Err(format!("the main processor's end reads a good message that the supervisor did not put out: {}", short(&message))) }
     }
 
     fn reply(&self, message: &Message, form: &[u8]) -> Option<&Made> {
         self.made.get(&message.sequence)?.iter().find(|made| made.form == form)
     }
 
-    /// The main processor's end has read a frame: counts a reply whose bytes were taken but for its 00, which the 00 ahead of the next reply closed.
+    /// Whether these bytes are a reply that was made and not put out.
+    pub fn made_only(&self, form: &[u8]) -> bool {
+        judged(form).is_ok_and(|message| self.reply(&message, form).is_some_and(|made| !made.put_out))
+    }
+
+    /// The main processor's end has read a frame: counts a reply whose 00 was not taken.
     pub fn read(&mut self, form: &[u8]) {
-        let closed = judged(form).is_ok_and(|message| self.reply(&message, form).is_some_and(|made| !made.taken));
+        let closed = judged(form).is_ok_and(|message| self.reply(&message, form).is_some_and(|made| !made.whole));
         self.tally.replies_closed += u64::from(closed);
     }
 
     // ---- What is handed out
 
-    /// The number under which something is outstanding, if it has been put out.
+    /// The newest number that was put out.
+    pub fn newest(&self) -> u64 {
+        self.newest
+    }
+
+    /// The message under it.
     pub fn outstanding(&self) -> Option<&Message> {
         self.asked.get(&self.newest).map(|asked| &asked.message)
     }
@@ -301,30 +298,22 @@ impl Ledger {
         Ok(evidence.asked.message)
     }
 
-    /// The list of a lookup of key 5 was current at some moment after the lookup was put out.
     fn current_list(&mut self, evidence: &Evidence) -> Result<(), &'static str> {
         let Evidence { reply, asked, .. } = evidence;
         if !looks_up_list(&asked.message) {
             return Ok(());
         }
-        let most = usize::from(u16::from_le_bytes([asked.message.data[1], asked.message.data[2]]));
-        let ends = self.lists.iter().skip(1).map(|&(moment, _)| moment).chain([u64::MAX]);
-        let since: Vec<Vec<u8>> = self.lists.iter().zip(ends).filter(|&(_, end)| end > asked.first).map(|((_, list), _)| fitted(most, list.as_ref())).collect();
-        self.tally.lists += 1;
-        self.tally.lists_several += u64::from(since.len() > 1);
-        self.tally.lists_replaced += u64::from(since.last() != Some(&reply.data));
-        if since.contains(&reply.data) { Ok(()) } else { Err("a list that was current at no moment after the lookup was put out") }
+        let made = evidence.made_by().map(|carried| carried.moment).collect();
+        self.lists.compare(&Answer { first: asked.first, made, most: most(&asked.message), data: &reply.data })
     }
 
     /// An alert was taken in carrying out that request, unless one can be retained from before the main processor's end was started.
     fn fresh_alert(&mut self, evidence: &Evidence) -> Result<(), &'static str> {
-        let Evidence { reply, asked, carried } = evidence;
-        if asked.message.command != ALERT {
+        if evidence.asked.message.command != ALERT {
             return Ok(());
         }
-        let answers: Vec<&Carried> = carried.iter().filter(|carried| carried.reply.as_ref() == Some(reply)).collect();
-        let taken = answers.iter().any(|carried| carried.taken.as_ref() == Some(&reply.data));
-        let cleared = answers.iter().any(|carried| carried.cleared);
+        let taken = evidence.made_by().any(|carried| carried.taken.as_ref() == Some(&evidence.reply.data));
+        let cleared = evidence.made_by().any(|carried| carried.cleared);
         self.tally.alerts_taken += u64::from(taken);
         self.tally.alerts_cleared += u64::from(cleared);
         self.tally.alerts_from_before += u64::from(!taken && !cleared);
@@ -344,12 +333,11 @@ impl Ledger {
             Fault::NotCarriedOut => carried.clear(),
             Fault::CarriedOutBefore => carried.iter_mut().for_each(|carried| carried.moment = asked.first - 1),
             Fault::OldAlert => carried.iter_mut().for_each(|carried| carried.taken = None),
-            Fault::OldList if looks_up_list(&asked.message) => {
-                if let [(_, old), (replaced, _), ..] = &self.lists[..] {
-                    if *replaced < asked.first {
-                        reply.data = fitted(usize::MAX, old.as_ref());
-                        carried.iter_mut().for_each(|carried| carried.reply = Some(reply.clone()));
-                    }
+            Fault::OldList | Fault::EarlierList if looks_up_list(&asked.message) => {
+                let other = if fault == Fault::OldList { self.lists.replaced_before(asked.first) } else { Some(self.lists.at(asked.first)) };
+                if let Some(list) = other {
+                    reply.data = fitted(most(&asked.message), list);
+                    carried.iter_mut().for_each(|carried| carried.reply = Some(reply.clone()));
                 }
             }
             _ => (),
@@ -358,13 +346,17 @@ impl Ledger {
 }
 
 impl Evidence {
-    /// The supervisor made the reply in carrying out exactly the message that was put out under this number, after it was put out.
-    fn carried_out(&self) -> Result<(), &'static str> {
+    /// Where the supervisor made the reply in carrying out exactly the message that was put out under this number, after it was put out.
+    fn made_by(&self) -> impl Iterator<Item = &Carried> {
         let Evidence { reply, asked, carried } = self;
-        if reply.sequence != asked.message.sequence | TOP_BIT {
+        carried.iter().filter(|carried| carried.moment > asked.first && carried.request == asked.message && carried.reply.as_ref() == Some(reply))
+    }
+
+    fn carried_out(&self) -> Result<(), &'static str> {
+        if self.reply.sequence != self.asked.message.sequence | TOP_BIT {
             return Err("an answer under a number that is not outstanding");
         }
-        let made = carried.iter().any(|carried| carried.moment > asked.first && carried.request == asked.message && carried.reply.as_ref() == Some(reply));
+        let made = self.made_by().next().is_some();
         if made { Ok(()) } else { Err("an answer that the supervisor did not make in carrying out that message after it was put out") }
     }
 }

@@ -2,28 +2,51 @@
 // Assumes the C functions of include/oatcastle.h, documents 01 and 02, and the model of tests/differential.
 
 mod ends;
+mod faults;
 mod ledger;
+mod lists;
+mod missed;
+mod numbers;
+mod recovery;
+mod requests;
+mod saving;
+mod simulation;
+mod tally;
+mod wire;
+
 #[path = "../../bindings/rust/src/raw.rs"]
 #[allow(dead_code)]
 mod library;
 #[path = "../../bindings/rust/src/limits.rs"]
 #[allow(dead_code)]
 mod limits;
-mod missed;
+
+// the model, and what its image of the settings stands beside
+#[path = "../differential/calls.rs"]
+#[allow(dead_code)]
+mod calls;
+#[path = "../differential/counters.rs"]
+#[allow(dead_code)]
+mod counters;
+#[path = "../differential/images.rs"]
+#[allow(dead_code)]
+mod images;
 #[path = "../differential/model.rs"]
 #[allow(dead_code)]
 mod model;
+#[path = "../differential/plans.rs"]
+#[allow(dead_code)]
+mod plans;
 #[path = "../differential/random.rs"]
 #[allow(dead_code)]
 mod random;
-mod recovery;
-mod simulation;
 #[path = "../differential/state.rs"]
 #[allow(dead_code)]
 mod state;
-mod wire;
+#[path = "../differential/world.rs"]
+#[allow(dead_code)]
+mod world;
 
-use ledger::Fault;
 use simulation::Simulation;
 use std::process::ExitCode;
 use std::time::Instant;
@@ -38,7 +61,7 @@ const WRONG_ANSWERS: u64 = 20;
 fn run(simulation: &mut Simulation, requests: u64) -> Result<(), String> {
     while simulation.tally.requests < requests {
         simulation.turn()?;
-        if simulation.tally.turns > TURNS * requests + 10_000 {
+        if simulation.turns > TURNS * requests + 10_000 {
             return Err("no request goes out".to_string());
         }
     }
@@ -46,35 +69,10 @@ fn run(simulation: &mut Simulation, requests: u64) -> Result<(), String> {
 }
 
 /// What came up, by name.
-fn counts(simulation: &Simulation) -> Vec<(String, u64)> {
+fn counts(simulation: &Simulation) -> Vec<(&'static str, u64)> {
     let Simulation { tally, ledger, there, back, .. } = simulation;
-    let seen = &ledger.tally;
-    let mut counts: Vec<(String, u64)> = [
-        ("requests", tally.requests),
-        ("answers", tally.answers),
-        ("statuses of recoveries", tally.statuses),
-        ("alerts of recoveries", tally.alerts),
-        ("frames sent again", tally.resends),
-        ("recoveries", tally.recoveries),
-        ("starts of the main processor's end", tally.main_starts),
-        ("starts of the supervisor", tally.supervisor_starts),
-        ("requests carried out again", seen.carried_again),
-        ("replies cut off by the next frame", tally.half_replies),
-        ("of these, whole but for the 00, which the next one closed", seen.replies_closed),
-        ("requests cut off by a start of the main processor's end", tally.half_requests),
-        ("frames that failed at the supervisor", tally.failed[0]),
-        ("frames that failed at the main processor's end", tally.failed[1]),
-        ("answers with a list or its absence", seen.lists),
-        ("of these, the list changed while the lookup was outstanding", seen.lists_several),
-        ("of these, the list had been replaced when it was handed out", seen.lists_replaced),
-        ("alerts taken for the request that they answer", seen.alerts_taken),
-        ("alerts after a reboot, power-off or start", seen.alerts_cleared),
-        ("alerts retained from before a start of the main processor's end", seen.alerts_from_before),
-    ]
-    .map(|(name, count)| (name.to_string(), count))
-    .to_vec();
-    counts.extend(wire::FAULTS.iter().enumerate().map(|(place, name)| (name.to_string(), there.faults[place] + back.faults[place])));
-    counts
+    let faults = wire::FAULTS.iter().zip(there.faults.iter().zip(back.faults)).map(|(&name, (there, back))| (name, there + back));
+    [tally.counts(), ledger.tally.counts(), ledger.lists.tally.counts(), faults.collect()].concat()
 }
 
 /// The run in which the wire's rule holds: nothing may differ.
@@ -86,10 +84,11 @@ fn plain(seed: u64, requests: u64) -> ExitCode {
     for (name, count) in &counts {
         println!("{count:>12} {name}");
     }
-    println!("{:>12} frames that damage made good, damaged further", simulation.tally.further);
-    let missing: Vec<&str> = counts.iter().filter(|(_, count)| *count == 0).map(|(name, _)| &name[..]).collect();
+    println!("{:>12} frames that damage made good, damaged further", simulation.further);
+    println!("{:>12} of these, replies that were made and not taken whole but for the 00", simulation.made_only);
+    let missing: Vec<&str> = counts.iter().filter(|(_, count)| *count == 0).map(|&(name, _)| name).collect();
     if let Err(difference) = &result {
-        println!("seed {seed}, turn {}: {difference}", simulation.tally.turns);
+        println!("seed {seed}, turn {}: {difference}", simulation.turns);
     }
     let enough = requests < DEMANDED || missing.is_empty();
     if !enough {
@@ -135,23 +134,11 @@ fn missed(seed: u64, requests: u64) -> ExitCode {
     if unseen == 0 { ExitCode::SUCCESS } else { ExitCode::FAILURE }
 }
 
-/// The rule of the model that a fault breaks.
-fn rule(fault: Fault) -> usize {
-    let broken = match fault {
-        Fault::ResendTakes => model::Fault::ResendTakes,
-        Fault::RebootKeeps => model::Fault::RebootKeepsCopy,
-        Fault::NoSeparator => model::Fault::NoSeparator,
-        Fault::SignalBit0 => model::Fault::SignalBit0,
-        _ => return 0,
-    };
-    1 + model::FAULTS.iter().position(|&(fault, _)| fault == broken).expect("a fault of the model")
-}
-
 /// Each planted fault must show as a difference.
 fn faults(seed: u64, requests: u64) -> ExitCode {
     let mut found = 0;
-    for &(fault, words) in ledger::FAULTS {
-        model::break_rule(rule(fault));
+    for &(fault, words) in faults::FAULTS {
+        model::break_rule(faults::rule(fault));
         let mut simulation = Simulation::new(seed);
         simulation.ledger.fault = Some(fault);
         match run(&mut simulation, requests) {
@@ -162,8 +149,8 @@ fn faults(seed: u64, requests: u64) -> ExitCode {
             }
         }
     }
-    println!("{found} of {} faults found", ledger::FAULTS.len());
-    if found == ledger::FAULTS.len() { ExitCode::SUCCESS } else { ExitCode::FAILURE }
+    println!("{found} of {} faults found", faults::FAULTS.len());
+    if found == faults::FAULTS.len() { ExitCode::SUCCESS } else { ExitCode::FAILURE }
 }
 
 /// The lines of one recovery, to be drawn.

@@ -24,7 +24,7 @@ fn fits(journal: &[(u64, String)]) -> bool {
         && first(journal, "main reads failed").is_some()
         && all(journal, "status ") == ["2", "0"]
         && all(journal, "signal ") == ["on", "off"]
-        && all(journal, "start ").is_empty()
+        && ["start ", "restore"].into_iter().all(|words| all(journal, words).is_empty())
         && ["interrupt", "alert ", "post "].into_iter().all(one)
         && puts.len() == 6
         && replies.len() == 6

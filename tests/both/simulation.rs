@@ -2,48 +2,67 @@
 // Assumes the model of document 01 for what the supervisor puts out; each byte that it puts out is compared with the model's.
 
 use crate::ends::{Handed, Main, Reply, Supervisor};
-use crate::ledger::{Fault, Ledger};
+use crate::faults::Fault;
+use crate::ledger::Ledger;
 use crate::limits;
 use crate::missed::{forged, Missed};
 use crate::model::{self, Message, Touched};
 use crate::random::Random;
 use crate::state;
+use crate::tally::tally;
 use crate::wire::{cut, judged, Frames, Wire};
 use std::collections::VecDeque;
 
 /// Turns without a sign of the supervisor until the main processor's caller does something about it, and turns until it gives a request up.
 const PATIENCE: u64 = 80;
 const GIVES_UP: u64 = 3_000;
-const IMAGE_LENGTH: usize = 9_000;
+pub const IMAGE_LENGTH: usize = 9_000;
 
-#[derive(Default)]
-pub struct Tally {
-    pub turns: u64,
-    pub requests: u64,
-    pub answers: u64,
-    pub statuses: u64,
-    pub alerts: u64,
-    pub resends: u64,
-    pub recoveries: u64,
-    pub main_starts: u64,
-    pub supervisor_starts: u64,
-    pub half_replies: u64,
-    pub half_requests: u64,
-    /// Frames that failed a test, at the supervisor and at the main processor's end.
-    pub failed: [u64; 2],
-    /// Frames that damage made good and that were damaged further.
-    pub further: u64,
+tally! {
+    requests: "requests",
+    answers: "answers",
+    statuses: "statuses of recoveries",
+    alerts: "alerts of recoveries",
+    resends: "frames sent again",
+    recoveries: "recoveries",
+    main_starts: "starts of the main processor's end",
+    near_starts: "of these, close to the last number",
+    outstanding: "requests refused as 17",
+    requests_refused: "requests refused as 14",
+    interrupts_refused: "interrupts refused as 14",
+    answered_anyway: "answers to a request behind an interrupt refused as 14",
+    recoveries_ended: "recoveries that ended with 14",
+    originals_forgotten: "of these, a request was forgotten",
+    supervisor_starts: "starts of the supervisor",
+    saves: "images saved",
+    restores: "images restored",
+    restored_behind_start: "of these, right behind a start of the supervisor",
+    bad_mark: "images refused as 30",
+    bad_key: "images refused as 31",
+    too_long: "images refused as 32",
+    bad_checksum: "images refused as 33",
+    cut_short: "images refused as 34",
+    bytes_after: "images refused as 35",
+    half_replies: "replies cut off by the next frame",
+    half_requests: "requests cut off by a start of the main processor's end",
+    failed_requests: "frames that failed at the supervisor",
+    failed_replies: "frames that failed at the main processor's end",
 }
 
 /// The caller of the main processor's end.
 #[derive(Default)]
-struct Caller {
+pub struct Caller {
     /// Bytes on their way to the wire.
     out: VecDeque<u8>,
-    asked_for: Option<(u8, Vec<u8>)>,
+    pub asked_for: Option<(u8, Vec<u8>)>,
     asked_at: u64,
-    recovering: bool,
-    unsent: bool,
+    pub recovering: bool,
+    pub unsent: bool,
+    /// The request that a recovery cut off has a new number, under which it has not gone out yet.
+    pub anew: bool,
+    /// A request or an interrupt was refused as 14, and an interrupt with a request outstanding.
+    pub refused: bool,
+    pub refused_waiting: bool,
     heard_at: u64,
     /// The turn in which it is started once more, where it is soon.
     starts_again: Option<u64>,
@@ -53,6 +72,10 @@ pub struct Simulation {
     pub random: Random,
     pub ledger: Ledger,
     pub tally: Tally,
+    pub turns: u64,
+    /// Frames that damage made good and that were damaged further, and how many of these were replies that were made and not put out.
+    pub further: u64,
+    pub made_only: u64,
     /// Damage that no test notices, made on purpose; without it, what chance makes of that kind is damaged further.
     pub missed: Option<Missed>,
     /// Why the wire's rule does not hold since the main processor's end was started, if so.
@@ -61,12 +84,14 @@ pub struct Simulation {
     pub journal: Option<Vec<(u64, String)>>,
     pub there: Wire,
     pub back: Wire,
-    main: Box<Main>,
-    caller: Caller,
-    supervisor: Box<Supervisor>,
-    model: model::Supervisor,
-    start_data: Box<[u8; limits::START_LENGTH]>,
+    pub main: Box<Main>,
+    pub caller: Caller,
+    pub supervisor: Box<Supervisor>,
+    pub model: model::Supervisor,
+    pub start_data: Box<[u8; limits::START_LENGTH]>,
     image: Vec<u8>,
+    /// Saved images of the settings, the newest last.
+    pub saved: Vec<Vec<u8>>,
     /// What each end has read since the last 00, and the last byte that the supervisor put out.
     main_read: Frames,
     supervisor_read: Frames,
@@ -75,7 +100,7 @@ pub struct Simulation {
     last_found: Vec<u8>,
     /// The line signal as the journal has it.
     signal: bool,
-    serial: u64,
+    pub serial: u64,
 }
 
 fn start_data(random: &mut Random) -> Box<[u8; limits::START_LENGTH]> {
@@ -106,15 +131,15 @@ impl Simulation {
         ledger.supervisor_started();
         ledger.main_started();
         Simulation {
-            random, ledger, tally: Tally::default(), missed: None, ruled_out: None, journal: None, there: Wire::new(), back: Wire::new(), main,
-            caller: Caller::default(), supervisor, model, start_data, image, main_read: Frames::default(), supervisor_read: Frames::default(),
-            last_put: 0, last_found: Vec::new(), signal: false, serial: 0,
+            random, ledger, tally: Tally::default(), turns: 0, further: 0, made_only: 0, missed: None, ruled_out: None, journal: None, there: Wire::new(),
+            back: Wire::new(), main, caller: Caller::default(), supervisor, model, start_data, image, saved: Vec::new(), main_read: Frames::default(),
+            supervisor_read: Frames::default(), last_put: 0, last_found: Vec::new(), signal: false, serial: 0,
         }
     }
 
-    fn note(&mut self, words: impl FnOnce() -> String) {
+    pub fn note(&mut self, words: impl FnOnce() -> String) {
         if let Some(journal) = &mut self.journal {
-            journal.push((self.tally.turns, words()));
+            journal.push((self.turns, words()));
         }
     }
 
@@ -129,7 +154,7 @@ impl Simulation {
 
     /// One turn: some of what either end can do.
     pub fn turn(&mut self) -> Result<(), String> {
-        self.tally.turns += 1;
+        self.turns += 1;
         let dice = self.random.next();
         if dice & 3 != 0 {
             self.decide()?;
@@ -148,9 +173,11 @@ impl Simulation {
         }
         match dice >> 6 & 0x3fff {
             0 | 1 => self.start_main()?,
-            2 | 3 => self.start_supervisor(),
-            4..=100 => self.post(),
-            101..=120 => self.set_options(),
+            2..=7 => self.start_supervisor()?,
+            8..=104 => self.post(),
+            105..=124 => self.set_options(),
+            125..=144 => self.save()?,
+            145..=164 => self.restore()?,
             _ => (),
         }
         if self.journal.is_some() && self.signal != self.supervisor.signal() {
@@ -181,25 +208,27 @@ impl Simulation {
         assert_eq!(self.model.registers.set_options(options), Ok(()));
     }
 
-    /// The supervisor's start, at any moment: half a reply may be out. Its caller ends that with a 00, or not.
-    fn start_supervisor(&mut self) {
+    /// The supervisor's start, at any moment: half a reply may be out. Its caller ends that with a 00, or not, and restores an image, or not.
+    fn start_supervisor(&mut self) -> Result<(), String> {
         self.tally.supervisor_starts += 1;
         self.supervisor.start(&self.start_data);
         self.model = model::Supervisor::start(self.model.factory.clone(), &self.model.outbox);
         self.ledger.supervisor_started();
+        self.list_held();
         self.supervisor_read = Frames::default();
         self.note(|| "start supervisor".to_string());
         if self.last_put != 0 && self.random.percent(50) {
             self.last_put = 0;
-            self.back.put(&[0], self.tally.turns, &mut self.random);
+            self.back.put(&[0], self.turns, &mut self.random);
         }
+        if self.random.percent(60) { self.restore_behind_start() } else { Ok(()) }
     }
 
     fn supervisor_reads(&mut self) -> Result<(), String> {
         if let Some(kind) = self.missed.filter(|kind| kind.hits_requests() && self.supervisor_read.between()) {
             kind.hit(&mut self.there, &mut self.random);
         }
-        let piece = self.there.get(self.tally.turns, &mut self.random);
+        let piece = self.there.get(self.turns, &mut self.random);
         self.supervise(piece)
     }
 
@@ -216,13 +245,14 @@ impl Simulation {
         for part in cut(&piece) {
             let (_, kind, reason) = self.model.step(&self.image, part, &mut Touched::none());
             let Some(form) = self.supervisor_read.feed(part) else { continue };
-            self.tally.failed[0] += u64::from(kind == 3);
+            self.tally.failed_requests += u64::from(kind == 3);
             let rule = self.ledger.asked_for(&form);
             self.ruled(rule)?;
             let pending = &self.model.outbox.pending;
             let reply = &pending[usize::from(pending.first() == Some(&0))..];
             self.tally.half_replies += u64::from(reply.len() < pending.len());
             self.ledger.handled(&form, kind == 2, Some(reply).filter(|reply| !reply.is_empty()));
+            self.list_held();
             self.note(|| if kind == 2 { format!("supervisor reads {}", words(&form)) } else { format!("supervisor reads failed {reason}") });
         }
         Ok(())
@@ -238,11 +268,13 @@ impl Simulation {
             return Err(format!("the supervisor puts out {bytes:02x?}, and not {expected:02x?}"));
         }
         self.last_put = bytes.last().copied().unwrap_or(self.last_put);
-        self.back.put(&bytes, self.tally.turns, &mut self.random);
-        if self.model.outbox.pending.is_empty() {
-            if let Some(put) = self.ledger.taken().map(words) {
-                self.note(|| format!("supervisor puts {put}"));
-            }
+        self.back.put(&bytes, self.turns, &mut self.random);
+        let pending = &self.model.outbox.pending;
+        if self.ledger.fault == Some(Fault::HalfReply) && !bytes.is_empty() {
+            self.back.put(pending, self.turns, &mut self.random);
+        }
+        if let Some(put) = self.ledger.taken(pending.len()).map(words) {
+            self.note(|| format!("supervisor puts {put}"));
         }
         Ok(())
     }
@@ -251,12 +283,16 @@ impl Simulation {
 
     /// The piece, with each frame that damage made good damaged further until a test notices it.
     fn noticed(&mut self, piece: Vec<u8>, before: &Frames, rule: fn(&Ledger, &[u8]) -> Result<(), String>) -> Vec<u8> {
+        if matches!(self.ledger.fault, Some(Fault::BytesKept | Fault::HalfReply)) {
+            return piece;
+        }
         let mut frames = before.clone();
         let mut out = Vec::with_capacity(piece.len());
         for part in cut(&piece) {
             let mut part = part.to_vec();
-            while frames.clone().feed(&part).is_some_and(|form| rule(&self.ledger, &form).is_err()) && self.ledger.fault != Some(Fault::BytesKept) {
-                self.tally.further += 1;
+            while let Some(form) = frames.clone().feed(&part).filter(|form| rule(&self.ledger, form).is_err()) {
+                self.further += 1;
+                self.made_only += u64::from(self.ledger.made_only(&form));
                 part.insert(part.len() - 1, 1 + self.random.below(255) as u8);
             }
             frames.feed(&part);
@@ -272,38 +308,49 @@ impl Simulation {
         let few = self.random.below(20);
         let count = self.random.pick(&[most, most, few]).min(most);
         let bytes: Vec<u8> = self.caller.out.drain(..count).collect();
-        self.there.put(&bytes, self.tally.turns, &mut self.random);
+        self.there.put(&bytes, self.turns, &mut self.random);
     }
 
     /// A frame that goes out, behind those that are on their way.
     fn put_out(&mut self, frame: &[u8]) -> Result<(), String> {
         let again = self.ledger.put_out(frame)?;
+        self.list_held();
         self.tally.resends += u64::from(again);
+        self.caller.anew = false;
         self.caller.out.extend(frame);
-        self.caller.heard_at = self.tally.turns;
+        self.caller.heard_at = self.turns;
         self.note(|| format!("main puts {}", words(&frame[..frame.len() - 1])));
         Ok(())
     }
 
     fn main_reads(&mut self) -> Result<(), String> {
         self.meddle()?;
-        let piece = self.back.get(self.tally.turns, &mut self.random);
+        let piece = self.back.get(self.turns, &mut self.random);
         let piece = if self.missed.is_some() { piece } else { self.noticed(piece, &self.main_read.clone(), Ledger::replied) };
         let mut read = 0;
         while read < piece.len() {
             let received = self.main.receive(&piece[read..]);
-            if let Some(form) = self.main_read.feed(&piece[read..read + received.used]) {
-                self.caller.heard_at = self.tally.turns;
-                self.tally.failed[1] += u64::from(judged(&form).is_err());
-                let rule = self.ledger.replied(&form);
-                self.ruled(rule)?;
-                self.ledger.read(&form);
-                self.note(|| format!("main reads {}", words(&form)));
+            let form = self.main_read.feed(&piece[read..read + received.used]);
+            if let Some(form) = &form {
+                self.frame_read(form)?;
             }
             read += received.used;
             self.caller.unsent = received.unsent;
+            let ends = self.ends_recovery(form.as_deref(), &received.handed);
             self.handed(received.handed)?;
+            self.recovery_ended(ends, received.ended)?;
         }
+        Ok(())
+    }
+
+    /// The main processor's end has read a frame that is not empty.
+    fn frame_read(&mut self, form: &[u8]) -> Result<(), String> {
+        self.caller.heard_at = self.turns;
+        self.tally.failed_replies += u64::from(judged(form).is_err());
+        let rule = self.ledger.replied(form);
+        self.ruled(rule)?;
+        self.ledger.read(form);
+        self.note(|| format!("main reads {}", words(form)));
         Ok(())
     }
 
@@ -320,7 +367,7 @@ impl Simulation {
         } else if kind == Missed::Late && self.back.next_frame().is_some() && self.random.percent(10) {
             self.start_main()?;
             let turns = self.random.below(60) as u64;
-            self.back.hold(self.tally.turns + turns);
+            self.back.hold(self.turns + turns);
         }
         Ok(())
     }
@@ -332,6 +379,7 @@ impl Simulation {
             Handed::Status { status, options, set_bits } => {
                 self.tally.statuses += 1;
                 self.caller.recovering = status & 3 != 0;
+                self.caller.anew = !self.caller.recovering && self.caller.asked_for.is_some();
                 self.note(|| format!("status {status:x}"));
                 self.ledger.status_read(status, options, set_bits)
             }
@@ -344,6 +392,7 @@ impl Simulation {
                 self.tally.answers += 1;
                 self.note(|| format!("answer {}", String::from_utf8_lossy(reply.data.get(1..).unwrap_or(&[])).escape_debug()));
                 let asked_for = self.caller.asked_for.take();
+                self.tally.answered_anyway += u64::from(std::mem::take(&mut self.caller.refused_waiting));
                 if reply.command == 0x0a {
                     self.last_found.clone_from(&reply.data);
                 }
@@ -352,13 +401,16 @@ impl Simulation {
         }
     }
 
-    fn interrupt(&mut self) {
-        self.main.interrupt();
+    fn interrupt(&mut self) -> Result<(), String> {
+        if self.interrupt_refused()? {
+            return Ok(());
+        }
         self.tally.recoveries += u64::from(!self.caller.recovering);
         self.caller.recovering = true;
         self.caller.unsent = true;
-        self.caller.heard_at = self.tally.turns;
+        self.caller.heard_at = self.turns;
         self.note(|| "interrupt".to_string());
+        Ok(())
     }
 
     /// The main processor's start. All that is on its way is thrown away first; a 00 ends, at times, what the supervisor has read of a frame, and its reply, which
@@ -380,9 +432,10 @@ impl Simulation {
         }
         self.main.start();
         self.ledger.main_started();
+        self.count_on();
         self.main_read = Frames::default();
         self.ruled_out = None;
-        let turns = self.tally.turns;
+        let turns = self.turns;
         let starts_again = self.random.percent(25).then(|| turns + self.random.below(200) as u64);
         self.caller = Caller { heard_at: turns, starts_again, ..Caller::default() };
         self.note(|| "start main".to_string());
@@ -391,10 +444,13 @@ impl Simulation {
 
     /// What the main processor's caller does of its own.
     fn decide(&mut self) -> Result<(), String> {
-        let turns = self.tally.turns;
+        let turns = self.turns;
         let caller = &self.caller;
         let (waiting, late) = (caller.asked_for.is_some(), turns > caller.heard_at + PATIENCE);
-        let given_up = late && caller.recovering || waiting && turns > caller.asked_at + GIVES_UP || caller.starts_again.is_some_and(|turn| turn <= turns);
+        let given_up = late && caller.recovering
+            || waiting && turns > caller.asked_at + GIVES_UP
+            || caller.refused && self.random.percent(5)
+            || caller.starts_again.is_some_and(|turn| turn <= turns);
         if caller.unsent && self.random.percent(60) {
             let frame = self.main.send();
             self.caller.unsent = false;
@@ -404,67 +460,29 @@ impl Simulation {
         if signal != self.model.registers.signal() {
             return Err(format!("the line signal is {signal}"));
         }
-        let missing = late && (waiting || caller.recovering);
-        let interrupts = self.random.percent(if missing { 50 } else if signal { 5 } else { 0 }) || self.random.below(2_000) == 0;
+        let (busy, last) = (waiting || caller.recovering, !self.number_left());
+        let interrupts = self.random.percent(if late && busy { 50 } else if signal || last { 5 } else { 0 }) || self.random.below(2_000) == 0;
         if given_up {
-            self.start_main()?;
+            self.start_main()
         } else if interrupts {
-            self.interrupt();
-        } else if !waiting && !caller.recovering && self.random.percent(60) {
-            return self.ask();
+            self.interrupt()
+        } else if self.random.percent(if !busy { 60 } else if last { 10 } else { 1 }) {
+            self.ask()
+        } else {
+            Ok(())
         }
-        Ok(())
     }
 
     fn ask(&mut self) -> Result<(), String> {
         let (command, data) = self.request();
-        self.note(|| format!("request {command:02x}"));
         let frame = self.main.request(command, &data);
+        let Some(frame) = self.unless_refused(frame)? else { return Ok(()) };
+        self.note(|| format!("request {command:02x}"));
         self.put_out(&frame)?;
         self.tally.requests += 1;
-        self.caller.asked_at = self.tally.turns;
+        self.caller.asked_at = self.turns;
         self.caller.asked_for = (!matches!(command, 0x01 | 0x02 | 0x06)).then_some((command, data));
         Ok(())
-    }
-
-    /// A value that no other setting has.
-    fn value(&mut self) -> Vec<u8> {
-        self.serial += 1;
-        let more = match self.random.below(50) {
-            0 => self.random.below(4_000),
-            1..=5 => 100 + self.random.below(400),
-            6..=25 => 0,
-            _ => self.random.below(20),
-        };
-        [format!("list {}", self.serial).as_bytes(), &self.random.bytes(more)].concat()
-    }
-
-    fn request(&mut self) -> (u8, Vec<u8>) {
-        let few = self.random.below(20) as u8;
-        let most = self.random.pick(&[65_535u16, 65_535, 65_535, 12, 0]).to_le_bytes();
-        match self.random.below(1_000) {
-            0..=399 => (0x0e, vec![5, most[0], most[1]]),
-            400..=599 => (0x10, [&[5], &self.value()[..]].concat()),
-            600..=649 => (0x0e, vec![few % 7, most[0], most[1]]),
-            650..=699 => (0x10, [&[few % 7], &self.value()[..]].concat()),
-            700..=769 => (0x0a, Vec::new()),
-            770..=819 => (0x08, Vec::new()),
-            820..=849 => (0x09, Vec::new()),
-            850..=909 => (self.random.pick(&[0x03, 0x04, 0x05]), Vec::new()),
-            910..=929 => (0x0f, u32::from(few / 6).to_le_bytes().to_vec()),
-            930..=944 => {
-                let offset = self.random.pick(&[0, 1_000, IMAGE_LENGTH as u64 - 300, IMAGE_LENGTH as u64]);
-                let hash = &self.start_data[limits::START_IMAGE_HASH..][..32];
-                (0x0d, [hash, &offset.to_le_bytes()].concat())
-            }
-            945..=964 => (0x07, self.random.bytes(2 + usize::from(few))),
-            965..=974 => (0x06, self.random.bytes(1 + usize::from(few))),
-            975..=989 => (0x01, Vec::new()),
-            990..=998 => (0x02, Vec::new()),
-            // one that the supervisor cannot decode, at times
-            _ if self.random.percent(90) => (0x03, Vec::new()),
-            _ => (self.random.pick(&[0x0b, 0x0c, 0x05]), vec![few]),
-        }
     }
 }
 
