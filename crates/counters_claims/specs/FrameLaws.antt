@@ -4,7 +4,8 @@ use mathlib.Core.Path.{_≡_, refl}
 use mathlib.Core.Bool.{Bool, true, false, false≢true, cond, _&&_}
 use mathlib.Core.List.{List, [], _∷_, _++_, append-nil, append-assoc}
 use Prim.Native.Nat.{ℕ}
-use lib.ListN.{length, drop}
+use native.Mathlib.Omega.{arith}
+use lib.ListN.{length, drop-of-length-le}
 use lib.Seq.{drop-append-seam}
 use Rattle.line_claims.specs.Pieces.{split, closedBy, closed-join}
 use Rattle.supervisor_claims.specs.Histories
@@ -20,11 +21,7 @@ ended-append (f ∷ fs) gs = rw (ended-append fs gs)
 -- no byte, no frame
 pub closed-none : (w : List ℕ) → closedBy w [] ≡ []
 unfolding closedBy
-closed-none w = rw append-nil (drop-all (split w .closed))
-  where
-    drop-all : (fs : List (List ℕ)) → drop (length fs) fs ≡ []
-    drop-all [] = refl
-    drop-all (f ∷ fs) = drop-all fs
+closed-none w = rw append-nil (drop-of-length-le (split w .closed) {i = length (split w .closed)} (omega arith))
 
 -- a start reads nothing
 start-reads : (m : Made) → startsAnew m ≡ true → receivedBy m ≡ []

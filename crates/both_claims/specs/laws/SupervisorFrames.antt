@@ -2,10 +2,11 @@
 -- Assumes nothing.
 use mathlib.Core.Path.{_≡_, refl, sym, _∙_}
 use mathlib.Core.Bool.{Bool, true, false, cond, not, false≢true, and-eq-true-iff}
-use mathlib.Core.List.{List, [], _∷_, append-nil}
+use mathlib.Core.List.{List, [], append-nil}
 use mathlib.Core.Option.{Option}
 use Prim.Native.Nat.{ℕ}
-use lib.ListN.{length, drop}
+use native.Mathlib.Omega.{arith}
+use lib.ListN.{length, drop-of-length-le}
 use Rattle.line_claims.specs.Pieces.{split, nonEmpty, closedBy}
 use Rattle.supervisor.specs.State.{Factory, State, fresh, withReceived}
 use Rattle.supervisor.specs.Local
@@ -18,11 +19,7 @@ use Rattle.both_claims.specs.Ends.{imageOf}
 -- no bytes bring no frames
 pub frames-none : (w : List ℕ) → framesBy w [] ≡ []
 unfolding framesBy closedBy nonEmpty
-frames-none w = rw (append-nil, drop-all (split w .closed))
-  where
-    drop-all : (ps : List (List ℕ)) → drop (length ps) ps ≡ []
-    drop-all [] = refl
-    drop-all (p ∷ ps) = drop-all ps
+frames-none w = rw (append-nil, drop-of-length-le (split w .closed) {i = length (split w .closed)} (omega arith))
 
 -- a local call leaves this field
 abbrev pub LocallyKept : {A : Type 0} → (State → A) → State → Call → Type 0
