@@ -305,7 +305,8 @@ uint32_t oatcastle_line_start(uint8_t *state, oatcastle_length state_length);
  * @return 0; 12; 8: the answer is too short. */
 uint32_t oatcastle_line_read(uint8_t *state, oatcastle_length state_length, const uint8_t *piece, oatcastle_length piece_length, uint64_t *answer, oatcastle_length answer_count);
 
-/** Copies to the room the data of the message that the last call of oatcastle_line_read handed out; `length` is its answer[6].
+/** Copies to the room the data of the message that the last call of oatcastle_line_read handed out; `length` is its answer[6]. With another length, or where that
+ * call handed out none, it copies the bytes that stand there, of older frames too: docs/STATE.md says which stay.
  * @return 0; 12; 9: length above 4,104; 8: the room is shorter than length. */
 uint32_t oatcastle_line_data(const uint8_t *state, oatcastle_length state_length, uint64_t length, uint8_t *room, oatcastle_length room_length);
 
@@ -449,7 +450,7 @@ static inline uint32_t oatcastle_panic_record(const uint8_t *registers, oatcastl
  * It numbers requests of version 1 from 1 on, keeps the one outstanding, tells by each received frame whether it is the answer, and serves a
  * recovery. These calls put bytes to `out`; to carry them to the wire, and to tell the time, is the caller's. A caller must know:
  *   - A request is sent again, the same bytes under the same number, at each ground: a frame that fails, a version that is not 1, a sequence without the
- *     top bit, a reply 0x02 under the newest number or all ones, and a frame's 4,141st byte without a 00. Nothing is sent again for lack of an
+ *     top bit, a reply 0x02 under the newest number or all ones, a frame's 4,141st byte without a 00, and in a recovery any answer to its 0x08 but 0x06 with 16 bytes. Nothing is sent again for lack of an
  *     answer: a frame that is wholly lost is asked for by oatcastle_requester_interrupt.
  *   - In a recovery an interrupt adds nothing and a request gets 17. A frame that is wholly lost in a recovery leaves it waiting, and a request that
  *     the supervisor cannot decode is sent again for ever: only a start gives up.

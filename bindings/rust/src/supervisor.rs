@@ -257,14 +257,15 @@ impl fmt::Debug for Supervisor<'_> {
 }
 
 impl<'s> Supervisor<'s> {
-    /// Begins a supervisor in the storage, of whose contents before nothing stays. What is returned is one pointer; nothing is laid out on the stack.
+    /// Begins a supervisor in the storage; what the storage held before means nothing to it, though bytes of frames received before still stand there
+    /// (`docs/STATE.md`). What is returned is one pointer; no part is laid out on the stack.
     pub fn start_in(storage: &'s mut SupervisorStorage, data: &StartData) -> Supervisor<'s> {
         let mut supervisor = Supervisor { storage };
         supervisor.restart(data);
         supervisor
     }
 
-    /// Starts again; nothing of the state before stays, also not that the last byte taken was non-zero. Send one 00 first where it may have been.
+    /// Starts again, as `start_in` does, and forgets also that the last byte taken was non-zero. Send one 00 first where it may have been.
     pub fn restart(&mut self, data: &StartData) {
         let storage = &mut *self.storage;
         let factory = lent_mut(&mut storage.factory);
