@@ -6,6 +6,34 @@
  * A struct is plain memory: static or on a stack, of any contents, until its start. It may be copied or moved between two calls.
  * Where a length is 0, its pointer is not looked at and may be NULL. An answer has the number of places that its parameter says, and
  * overlaps neither the struct nor anything else that is lent.
+ *
+ * The main processor's end, for any bytes: hands in all that the wire brought, gives `handed` each answer, alert and status, and `send` the bytes that are to go out.
+ * @code
+ * static uint32_t hear(oatcastle_main_end *end, const uint8_t *piece, size_t length,
+ *                      void (*handed)(const uint64_t *numbers, const uint8_t *data), void (*send)(const uint8_t *bytes, size_t count))
+ * {
+ *     static uint8_t data[OATCASTLE_LONGEST_DATA], out[OATCASTLE_LONGEST_FRAME];
+ *     uint64_t got[OATCASTLE_REQUESTER_RECEIVE_NUMBERS], put[OATCASTLE_REQUESTER_SEND_NUMBERS];
+ *
+ *     while (length > 0) {
+ *         uint32_t refusal = oatcastle_main_end_receive(end, piece, length, got);
+ *         if (refusal == OATCASTLE_DONE && (got[1] == OATCASTLE_ANSWER || got[1] == OATCASTLE_ALERT))
+ *             refusal = oatcastle_line_data(end->reader, sizeof end->reader, got[6], data, sizeof data);
+ *         if (refusal == OATCASTLE_DONE && got[1] != OATCASTLE_NOTHING)
+ *             handed(got, data);
+ *         if (refusal == OATCASTLE_DONE && got[2] == 1)
+ *             refusal = OATCASTLE_NO_NUMBER;                              // a recovery's: the request is forgotten
+ *         if (refusal == OATCASTLE_DONE)
+ *             refusal = oatcastle_main_end_send(end, out, sizeof out, put);
+ *         if (refusal != OATCASTLE_DONE)
+ *             return refusal;
+ *         send(out, put[0]);                                              // 0 bytes where nothing is to go out
+ *         piece += got[0];
+ *         length -= got[0];
+ *     }
+ *     return OATCASTLE_DONE;
+ * }
+ * @endcode
  */
 #ifndef OATCASTLE_PARTS_H
 #define OATCASTLE_PARTS_H

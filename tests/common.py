@@ -1,7 +1,18 @@
-"""What the programs of this folder share: the texts of cases, the command line, and the comparison with a crate's files.
+"""What the programs of this folder share: the texts of cases, the command line, the comparison with a crate's files, and files that must be made first.
 Assumes that each stands in this folder, and the crates beside it."""
 import os
+import pathlib
+import subprocess
 import sys
+
+ROOT = pathlib.Path(__file__).resolve().parent.parent
+LIBRARY = 'target/staticlib/liboatcastle.a'
+
+
+def made(*files):
+    """Ends the run with 2 where a file is missing, and says which command makes it."""
+    if subprocess.run([ROOT / 'tests/made', *files]).returncode:
+        sys.exit(2)
 
 
 def texts(cases):
@@ -12,8 +23,8 @@ def texts(cases):
 
 def files(crate, given, wanted):
     """The crate's files and what a model works out for each."""
-    folder = os.path.join(os.path.dirname(os.path.abspath(__file__)), '..', 'crates', crate)
-    return (os.path.join(folder, 'stdin'), given), (os.path.join(folder, 'stdout'), wanted)
+    folder = ROOT / 'crates' / crate
+    return (folder / 'stdin', given), (folder / 'stdout', wanted)
 
 
 def written(crate, given, wanted):

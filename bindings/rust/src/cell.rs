@@ -33,12 +33,14 @@ unsafe impl<T: Send> Sync for StaticCell<T> {}
 
 impl<T> StaticCell<T> {
     /// A cell that has not been taken.
+    #[must_use]
     pub const fn new(value: T) -> StaticCell<T> {
         StaticCell { taken: AtomicBool::new(false), value: UnsafeCell::new(value) }
     }
 
     /// The value, at the first call; `None` at every other. Not there on a target without atomic exchange (thumbv6m, riscv32imc): use a mutex of the board's.
     #[cfg(target_has_atomic = "8")]
+    #[must_use]
     #[allow(clippy::mut_from_ref)] // at most one such reference is given out
     pub fn take(&'static self) -> Option<&'static mut T> {
         if self.taken.swap(true, Ordering::AcqRel) {

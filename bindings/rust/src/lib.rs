@@ -21,7 +21,7 @@
 //! that a promise rules out, as from a library of another version, the call panics.
 #![no_std]
 #![deny(unsafe_op_in_unsafe_fn, missing_docs, missing_debug_implementations)]
-#![warn(clippy::undocumented_unsafe_blocks, clippy::missing_errors_doc, clippy::missing_panics_doc)]
+#![warn(clippy::undocumented_unsafe_blocks, clippy::missing_errors_doc, clippy::missing_panics_doc, clippy::must_use_candidate, clippy::return_self_not_must_use)]
 
 mod cell;
 mod limits;

@@ -15,6 +15,7 @@ pub struct ReaderStorage {
 
 impl ReaderStorage {
     /// Storage in which nothing has started.
+    #[must_use]
     pub const fn new() -> ReaderStorage {
         ReaderStorage { state: [0; READER_LENGTH] }
     }
@@ -79,6 +80,7 @@ impl fmt::Debug for LineReader<'_> {
 
 /// How far a read came.
 #[derive(Clone, Copy, Debug, PartialEq, Eq)]
+#[must_use = "bytes past `used` go in with the next call"]
 pub struct Read<'r> {
     /// How many bytes of the piece were read; the rest goes in with the next read.
     pub used: usize,
@@ -88,6 +90,7 @@ pub struct Read<'r> {
 
 /// What ended a read.
 #[derive(Clone, Copy, Debug, PartialEq, Eq)]
+#[must_use]
 pub enum ReadEnd<'r> {
     /// The frame is not finished.
     More,
@@ -101,6 +104,7 @@ pub enum ReadEnd<'r> {
 
 /// A frame that failed.
 #[derive(Clone, Copy, Debug, PartialEq, Eq)]
+#[must_use]
 pub struct Failure {
     /// Why, by the line layer's tests: 1 to 4.
     pub reason: Reason,
@@ -110,6 +114,7 @@ pub struct Failure {
 
 /// A message; its data are a part of the reader's storage.
 #[derive(Clone, Copy, Debug, PartialEq, Eq)]
+#[must_use]
 pub struct Message<'r> {
     /// Any version.
     pub version: u32,
@@ -123,6 +128,7 @@ pub struct Message<'r> {
 
 /// The bytes of an unfinished frame.
 #[derive(Clone, Copy, Debug, PartialEq, Eq)]
+#[must_use]
 pub enum Tail {
     /// So many have come.
     Bytes(usize),
@@ -132,6 +138,7 @@ pub enum Tail {
 
 impl<'s> LineReader<'s> {
     /// Begins a fresh reader; what the storage held before means nothing to it.
+    #[must_use]
     pub fn start_in(storage: &'s mut ReaderStorage) -> LineReader<'s> {
         let mut reader = LineReader { storage };
         reader.restart();
@@ -218,6 +225,7 @@ pub fn write_frame<'o>(
 /// ```
 /// assert_eq!(oatcastle::checksum(b"abcde"), 0xc8f0);
 /// ```
+#[must_use]
 pub fn checksum(body: &[u8]) -> u16 {
     let mut answer = [0; LINE_CHECKSUM_NUMBERS];
     let (body, answers) = (lent(body), lent_mut(&mut answer));

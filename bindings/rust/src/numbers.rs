@@ -13,6 +13,7 @@ macro_rules! numbered {
 
         impl $name {
             /// The papers' number.
+            #[must_use]
             pub const fn number(self) -> $width {
                 self as $width
             }

@@ -23,6 +23,7 @@ pub struct AddressPlan {
 
 impl AddressPlan {
     /// The first eight addresses; rows past the count are zero, and all are where `fits` refuses.
+    #[must_use]
     pub fn addresses(&self) -> [[u8; ADDRESS_LENGTH]; ADDRESS_ROWS] {
         let mut rows = [[0; ADDRESS_LENGTH]; ADDRESS_ROWS];
         let room = lent_mut(rows.as_flattened_mut());

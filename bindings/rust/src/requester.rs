@@ -15,6 +15,7 @@ pub struct RequesterStorage {
 
 impl RequesterStorage {
     /// Storage in which nothing has started.
+    #[must_use]
     pub const fn new() -> RequesterStorage {
         RequesterStorage { reader: ReaderStorage::new(), requester: [0; REQUESTER_LENGTH] }
     }
@@ -45,9 +46,23 @@ impl fmt::Debug for RequesterStorage {
 /// let mut room = [0; LONGEST_FRAME];
 /// supervisor.receive(&[], main.request(0x0e, &[0, 4, 0], &mut room)?);    // a lookup of key 0
 /// let mut room = [0; MOST_PENDING];
-/// let Handed::Answer(reply) = main.receive(supervisor.take(&mut room)).handed else { panic!("no answer") };
-/// assert_eq!((reply.command, reply.data), (0x0a, &b"\0pong"[..]));
+/// let (mut piece, mut answer) = (supervisor.take(&mut room), None);
+/// while !piece.is_empty() {
+///     let received = main.receive(piece);                                 // up to a frame's end
+///     piece = &piece[received.used..];
+///     if let Handed::Answer(reply) = received.handed {
+///         answer = Some((reply.command, reply.data.to_vec()));
+///     }
+/// }
+/// assert_eq!(answer, Some((0x0a, b"\0pong".to_vec())));
 /// # Ok::<(), oatcastle::Refusal>(())
+/// ```
+/// What a piece brought is not to be dropped; where warnings are errors, this does not compile:
+/// ```compile_fail
+/// #![deny(unused_must_use)]
+/// # fn dropped(main: &mut oatcastle::requester::Requester<'_>) {
+/// main.receive(&[1, 0]);
+/// # }
 /// ```
 /// A reply is a part of the storage and is gone with the next call of `receive`; to hold both does not compile:
 /// ```compile_fail,E0499
@@ -69,6 +84,7 @@ impl fmt::Debug for Requester<'_> {
 
 /// What came of a piece.
 #[derive(Clone, Copy, Debug, PartialEq, Eq)]
+#[must_use = "bytes past `used` go in with the next call, and what is handed out is gone with it"]
 pub struct Received<'r> {
     /// How many bytes of the piece were read; the rest goes in with the next call.
     pub used: usize,
@@ -82,6 +98,7 @@ pub struct Received<'r> {
 
 /// What is handed out.
 #[derive(Clone, Copy, Debug, PartialEq, Eq)]
+#[must_use]
 pub enum Handed<'r> {
     /// Nothing.
     Nothing,
@@ -95,6 +112,7 @@ pub enum Handed<'r> {
 
 /// What a recovery's fetch read.
 #[derive(Clone, Copy, Debug, PartialEq, Eq)]
+#[must_use]
 pub struct Status {
     /// The supervisor's status.
     pub status: u64,
@@ -106,6 +124,7 @@ pub struct Status {
 
 /// A reply; its data are a part of the storage.
 #[derive(Clone, Copy, Debug, PartialEq, Eq)]
+#[must_use]
 pub struct Reply<'r> {
     /// The request's number with the top bit set.
     pub sequence: u64,
@@ -117,6 +136,7 @@ pub struct Reply<'r> {
 
 impl<'s> Requester<'s> {
     /// Begins: no number used, nothing outstanding. Bytes still on their way from before must be thrown away first.
+    #[must_use]
     pub fn start_in(storage: &'s mut RequesterStorage) -> Requester<'s> {
         let mut requester = Requester { storage };
         requester.restart();

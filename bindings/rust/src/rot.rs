@@ -22,6 +22,7 @@ numbered! {
 
 /// What came over the link.
 #[derive(Clone, Copy, Debug, PartialEq, Eq)]
+#[must_use]
 pub enum Received<'i, 'o> {
     /// Protocol 0.
     Nothing,
@@ -95,6 +96,7 @@ pub fn write<'o>(kind: Type, payload: &[u8], out: &'o mut [u8]) -> Result<&'o [u
 /// ```
 /// assert_eq!(oatcastle::rot::crc(&[1, 2, 1, 0, 9]), 0x29f9ec23);
 /// ```
+#[must_use]
 pub fn crc(bytes: &[u8]) -> u32 {
     let mut answer = [0; ROT_CRC_NUMBERS];
     let (bytes, answers) = (lent(bytes), lent_mut(&mut answer));

@@ -104,6 +104,7 @@ impl fmt::Debug for StartData {
 
 impl StartData {
     /// Every number zero, no items, an empty image ID.
+    #[must_use]
     pub const fn new(bsu: Bsu) -> StartData {
         let mut bytes = [0; START_LENGTH];
         bytes[START_BSU] = bsu as u8;
@@ -178,18 +179,21 @@ impl StartData {
     }
 
     /// With this identity.
+    #[must_use]
     pub const fn with_identity(mut self, model: [u8; 11], revision: u32, serial: [u8; 11]) -> StartData {
         self.set_identity(model, revision, serial);
         self
     }
 
     /// With this base, count and stride.
+    #[must_use]
     pub const fn with_mac(mut self, plan: AddressPlan) -> StartData {
         self.set_mac(plan);
         self
     }
 
     /// With this hash.
+    #[must_use]
     pub const fn with_hash(mut self, hash: [u8; 32]) -> StartData {
         self.set_hash(hash);
         self
@@ -200,6 +204,7 @@ impl StartData {
     /// # Panics
     ///
     /// Where `set_image_id` refuses; in a constant the compilation ends there.
+    #[must_use]
     pub const fn with_image_id(mut self, id: &[u8]) -> StartData {
         assert!(self.set_image_id(id).is_ok(), "an image ID that is too long");
         self
@@ -210,12 +215,14 @@ impl StartData {
     /// # Panics
     ///
     /// Where `add_item` refuses; in a constant the compilation ends there.
+    #[must_use]
     pub const fn with_item(mut self, item: Item<'_>) -> StartData {
         assert!(self.add_item(item).is_ok(), "too many items, or an item's data that are too long");
         self
     }
 
     /// The start data as `oatcastle_start` takes them.
+    #[must_use]
     pub const fn bytes(&self) -> &[u8; START_LENGTH] {
         &self.bytes
     }

@@ -49,6 +49,7 @@ struct Parts {
 
 impl SupervisorStorage {
     /// Storage in which nothing has started.
+    #[must_use]
     pub const fn new() -> SupervisorStorage {
         SupervisorStorage {
             reader: [0; READER_LENGTH],
@@ -102,12 +103,14 @@ impl Options {
     pub const NONE: Options = Options(0);
 
     /// With this bit set.
+    #[must_use]
     pub const fn with<const BIT: u32>(self) -> Options {
         const { assert!(1 << BIT & ALL_OPTIONS != 0, "the highest option bit is 8") }
         Options(self.0 | 1 << BIT)
     }
 
     /// The options as a number.
+    #[must_use]
     pub const fn bits(self) -> u64 {
         self.0
     }
@@ -124,6 +127,7 @@ impl Options {
 
 /// How far a step came.
 #[derive(Clone, Copy, Debug, PartialEq, Eq)]
+#[must_use = "bytes past `used` go in with the next call"]
 pub struct Step {
     /// How many bytes of the piece were read; the rest goes in with the next step.
     pub used: usize,
@@ -133,6 +137,7 @@ pub struct Step {
 
 /// What ended a step.
 #[derive(Clone, Copy, Debug, PartialEq, Eq)]
+#[must_use]
 pub enum StepEnd {
     /// The frame is not finished.
     More,
@@ -147,6 +152,7 @@ pub enum StepEnd {
 /// What a lookup found.
 #[derive(Clone, Copy, Debug, PartialEq, Eq)]
 #[non_exhaustive]
+#[must_use]
 pub struct Found<'s> {
     /// How often the key was set since the start, or the edition that was restored and the sets since then; 0 for keys 0 to 2.
     pub edition: u32,
@@ -174,6 +180,7 @@ impl core::error::Error for ImageFault {}
 
 /// What the other processor has asked for since the start.
 #[derive(Clone, Copy, Debug, Default, PartialEq, Eq)]
+#[must_use]
 pub struct Flags {
     /// A reboot.
     pub reboot: bool,
@@ -183,6 +190,7 @@ pub struct Flags {
 
 /// A recorded boot failure or panic.
 #[derive(Clone, Copy, Debug, PartialEq, Eq)]
+#[must_use]
 pub struct Record<'s> {
     /// The reason or the cause.
     pub code: u16,
@@ -194,6 +202,7 @@ pub struct Record<'s> {
 
 impl Counters {
     /// A block with every counter 0.
+    #[must_use]
     pub const fn new() -> Counters {
         Counters { good: 0, empty: 0, reason1: 0, reason2: 0, reason3: 0, reason4: 0, reason5: 0, reason6: 0, reason7: 0 }
     }
@@ -259,6 +268,7 @@ impl fmt::Debug for Supervisor<'_> {
 impl<'s> Supervisor<'s> {
     /// Begins a supervisor in the storage; what the storage held before means nothing to it, though bytes of frames received before still stand there
     /// (`docs/STATE.md`). What is returned is one pointer; no part is laid out on the stack.
+    #[must_use]
     pub fn start_in(storage: &'s mut SupervisorStorage, data: &StartData) -> Supervisor<'s> {
         let mut supervisor = Supervisor { storage };
         supervisor.restart(data);
@@ -330,6 +340,7 @@ impl<'s> Supervisor<'s> {
     }
 
     /// Takes as many pending bytes as the room has; gives those taken, at the room's start. A room of `MOST_PENDING` takes all at once.
+    #[must_use = "bytes that were taken are no longer pending"]
     pub fn take<'r>(&mut self, room: &'r mut [u8]) -> &'r [u8] {
         let mut answer = [0; TAKE_NUMBERS];
         let (outbox, to, answers) = (lent_mut(&mut self.storage.outbox), lent_mut(room), lent_mut(&mut answer));
@@ -471,6 +482,7 @@ impl<'s> Supervisor<'s> {
     }
 
     /// Whether the line signal is asserted.
+    #[must_use]
     pub fn signal(&self) -> bool {
         let mut answer = [0; SIGNAL_NUMBERS];
         let (registers, answers) = (lent(&self.storage.registers), lent_mut(&mut answer));
@@ -489,11 +501,13 @@ impl<'s> Supervisor<'s> {
     }
 
     /// The last boot failure.
+    #[must_use]
     pub fn boot_failure_record(&self) -> Option<Record<'_>> {
         self.record(BOOT_FAILURE_OFFSET)
     }
 
     /// The last panic.
+    #[must_use]
     pub fn panic_record(&self) -> Option<Record<'_>> {
         self.record(PANIC_OFFSET)
     }

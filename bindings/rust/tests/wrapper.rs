@@ -580,7 +580,7 @@ fn main_processor() {
     assert_eq!(main.send(&mut out), Ok(&request(3, 0x09, &[])[..]));
     assert_eq!(main.receive(&reply(3, 1, &[])).handed, Handed::Nothing);
     assert_eq!(main.send(&mut out), Ok(&request(4, 0x08, &[])[..]));
-    main.receive(&status(4, 2));
+    assert_eq!(main.receive(&status(4, 2)).handed, Handed::Status(Status { status: 2, options: 5, set_bits: 1 }));
     assert_eq!(main.send(&mut out), Ok(&request(5, 0x0a, &[])[..]));
     let answered = reply(5, 7, &[1, 9]);
     assert_eq!(main.receive(&answered).handed, Handed::Alert(Reply { sequence: 5 | 1 << 63, command: 7, data: &[1, 9] }));

@@ -81,10 +81,17 @@ fn ask(main: &mut Requester, supervisor: &mut Supervisor, command: u8, data: &[u
     let mut room = [0; LONGEST_FRAME];
     supervisor.receive(&[], main.request(command, data, &mut room)?);
     let mut room = [0; MOST_PENDING];
-    let Handed::Answer(reply) = main.receive(supervisor.take(&mut room)).handed else { panic!("no answer") };
-    let mut value = [0; 8];
-    value[..reply.data.len() - 1].copy_from_slice(&reply.data[1..]);
-    Ok((reply.data[0], value))
+    let mut piece = supervisor.take(&mut room);
+    while !piece.is_empty() {
+        let received = main.receive(piece);
+        piece = &piece[received.used..];
+        if let Handed::Answer(reply) = received.handed {
+            let mut value = [0; 8];
+            value[..reply.data.len() - 1].copy_from_slice(&reply.data[1..]);
+            return Ok((reply.data[0], value));
+        }
+    }
+    panic!("no answer")
 }
 
 /// The calls whose lengths, lists or numbers have 64 bits where this processor has 32.
