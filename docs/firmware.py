@@ -12,6 +12,8 @@ import subprocess
 import sys
 
 ROOT = pathlib.Path(__file__).resolve().parent.parent
+sys.path.insert(0, str(ROOT / 'tests'))
+from common import made
 FILE = ROOT / 'docs/FIRMWARE.md'
 LOGS = ROOT / 'target/cross/tests'
 WORDS = {'x86-64-O3': 'x86-64, -O3', 'thumbv7em-Os': 'Cortex-M4, -Os', 'thumbv7em-O2': 'Cortex-M4, -O2', 'thumbv6m-Os': 'Cortex-M0, -Os', 'riscv32imc-Os': 'RV32IMC, -Os'}
@@ -161,6 +163,7 @@ def main(command):
         subprocess.run([ROOT / 'tests/cross/run', *TRACE], check=True)
         FILE.write_text(''.join(text for text, _ in document()))
         return
+    made('target/cross/tests/firmware.log')
     text = FILE.read_text()
     stale = [block.strip().split('\n')[0] for block, by_trace in document() if not by_trace and block not in text]
     for head in stale:

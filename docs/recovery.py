@@ -15,6 +15,8 @@ import sys
 HERE = pathlib.Path(__file__).resolve().parent
 FILE = HERE / 'recovery.svg'
 ROOT = HERE.parent
+sys.path.insert(0, str(ROOT / 'tests'))
+from common import made
 REQUESTS = 2500
 MAIN, SUPERVISOR, WIDTH, TOP = 370, 720, 980, 96
 INK, GREY, RED, WAITING, RECOVERY, SIGNAL = '#223', '#667', '#b3261e', '#9cc3ee', '#f3cf7a', '#e08a3c'
@@ -156,6 +158,7 @@ def main():
         seed = next(seed for seed in range(1, 1000) if lines(seed))
         FILE.write_text(drawn(seed, lines(seed)))
     elif sys.argv[1:] == ['check']:
+        made('target/both/run')
         seed = re.search(r'with seed (\d+)', FILE.read_text())[1]
         events = lines(seed)
         if not events or FILE.read_text() != drawn(seed, events):

@@ -5,14 +5,14 @@ Assumes target/bin/audit, target/staticlib/liboatcastle.a and a C compiler. Ends
 
 usage: tests/audit.py [SEED [COUNT]]      (1 and 3,000: the gate's run)"""
 import os
-import pathlib
 import random
 import struct
 import subprocess
 import sys
 import time
 
-ROOT = pathlib.Path(__file__).resolve().parent.parent
+from common import LIBRARY, ROOT, made
+
 AUDIT = ROOT / 'target' / 'bin' / 'audit'
 READER = ROOT / 'target' / 'audit' / 'reader'
 MOST = 65536
@@ -211,7 +211,7 @@ def of_program_slowly(capture, step):
 def of_reader(r, captures):
     READER.parent.mkdir(parents=True, exist_ok=True)
     subprocess.run([os.environ.get('CC', 'cc'), '-std=c99', '-O2', '-Wall', '-Wextra', '-Werror', f'-I{ROOT / "include"}', '-o', READER,
-                    ROOT / 'tests' / 'audit' / 'reader.c', ROOT / 'target' / 'staticlib' / 'liboatcastle.a'], check=True)
+                    ROOT / 'tests' / 'audit' / 'reader.c', ROOT / LIBRARY], check=True)
     asked = bytearray()
     for capture in captures:
         calls = cuts(r, len(capture))
@@ -226,6 +226,7 @@ def same(what, capture, wanted, got):
 
 
 def main(seed, count):
+    made(LIBRARY, AUDIT.relative_to(ROOT))
     r = random.Random(seed)
     captures = list(edges()) + [random_capture(r, i % 16 == 0) for i in range(count)]
     listed = [listing(capture) for capture in captures]
