@@ -121,8 +121,11 @@ fn served<Y: Yardstick>(random: &mut Random) {
         let (mut room, mut other_room) = (vec![0; size], vec![0; size]);
         let taken = other.take(&mut other_room);
         assert_eq!(supervisor.take(&mut room), &other_room[..taken], "{}: reply", Y::NAME);
-        let held = supervisor.lookup(4, 4096).map(|found| (found.edition, found.value));
-        assert_eq!(held, other.key_4().ok_or(NotFound::NoValue), "{}: key 4", Y::NAME);
+        for key in [3, 4, 5] {
+            let held = supervisor.lookup(key, 4096).map(|found| (found.edition, found.value));
+            assert_eq!(held, other.setting(key).ok_or(NotFound::NoValue), "{}: key {key}", Y::NAME);
+        }
+        assert_eq!(supervisor.lookup(6, 4096), Err(NotFound::SetOnly), "the library hands key 6 out");
     }
 }
 
@@ -136,8 +139,9 @@ fn any_request(random: &mut Random, image: usize) -> Vec<u8> {
             [&hash[..], &(random.below(image + 3) as u64).to_le_bytes()].concat()
         }
         0x10 => {
-            let key = random.pick(&[0, 1, 2, 4, 4, 4, 6, 0xff]);
-            let length = random.below(4104);
+            let key = random.pick(&[0, 1, 2, 3, 4, 4, 4, 5, 6, 6, 7, 0xff]);
+            let most = random.pick(&[4104, 4104, 300, 80, 10]);
+            let length = random.below(most);
             [&[key][..], &random.bytes(length)].concat()
         }
         _ => Vec::new(),

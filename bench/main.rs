@@ -1,9 +1,10 @@
 // Defines the benchmark: the static library through the crate `oatcastle` against two yardsticks in Rust, in one process, as ratios of time.
-// Assumes a quiet machine; the yardsticks' outputs are compared with the library's before anything is timed. Writes CSV to standard output.
+// Assumes a quiet machine; the yardsticks' outputs are compared with the library's before anything is timed. Writes CSV to standard output; with --compare, times nothing.
 
 mod compare;
 mod link;
 mod ordinary;
+mod planted;
 #[path = "../tests/differential/random.rs"]
 #[allow(dead_code)]
 mod random;
@@ -193,6 +194,11 @@ fn main() {
         link::reading("root-of-trust message of 512 bytes", oatcastle::rot::Type::SinkRequest, &random[..512]),
         link::reading("root-of-trust echo of 512 bytes", oatcastle::rot::Type::EchoRequest, &random[..512]),
     ];
+    if std::env::args().nth(1).as_deref() == Some("--compare") {
+        cases.iter_mut().flat_map(|case| &mut case.sides).for_each(|side| side());
+        println!("bench: two yardsticks agree with the library, and {} cases run; {} planted faults seen", cases.len(), planted::count());
+        return;
+    }
     println!("case,bytes,library ns,ordinary ns,strong ns");
     for case in &mut cases {
         measure(case);

@@ -1,17 +1,24 @@
 // Defines what the two yardsticks in Rust share: the message, the reader's tests, and the measured requests of the supervisor.
-// Assumes document 01; of the supervisor's requests only those that the benchmark sends are here.
+// Assumes documents 01 and 02; of the supervisor's requests only those that the benchmark sends are here.
 
 use std::marker::PhantomData;
+use std::ops::RangeInclusive;
 
 const MAGIC: u32 = 0x01DE_19CC;
 const LONGEST_FORM: usize = 4140;
 const LONGEST_MESSAGE: usize = 4123;
 const LONGEST_DATA: usize = 4104;
 const TOP_BIT: u64 = 1 << 63;
+const FIRST_SETTING: u8 = 3;
+/// The lengths of each setting's value, from key 3 on.
+const LENGTHS: [RangeInclusive<usize>; 4] = [0..=256, 0..=4096, 0..=4096, 8..=63];
 
 /// Where the yardsticks differ: the work for each byte.
 pub trait Yardstick {
     const NAME: &'static str;
+
+    /// There are no keys from this one on.
+    const KEYS: u8 = FIRST_SETTING + LENGTHS.len() as u8;
 
     fn checksum(body: &[u8]) -> u16;
 
@@ -106,6 +113,29 @@ impl<Y: Yardstick> Reader<Y> {
     }
 }
 
+/// A stored setting: how often it was set, and its value, if it has one.
+struct Setting {
+    edition: u32,
+    length: Option<usize>,
+    value: [u8; 4096],
+}
+
+impl Setting {
+    const NONE: Setting = Setting { edition: 0, length: None, value: [0; 4096] };
+
+    /// Stores a value; gives the result of the key set.
+    fn set(&mut self, lengths: &RangeInclusive<usize>, value: &[u8]) -> u8 {
+        if !lengths.contains(&value.len()) {
+            return 3;
+        }
+        let Some(edition) = self.edition.checked_add(1) else { return 4 };
+        self.edition = edition;
+        self.value[..value.len()].copy_from_slice(value);
+        self.length = Some(value.len());
+        0
+    }
+}
+
 pub struct Supervisor<Y> {
     reader: Reader<Y>,
     outbox: [u8; 4142],
@@ -115,9 +145,7 @@ pub struct Supervisor<Y> {
     hash: [u8; 32],
     status: u64,
     options: u64,
-    key_4: [u8; 4096],
-    key_4_edition: u32,
-    key_4_length: Option<usize>,
+    settings: [Setting; LENGTHS.len()],
 }
 
 impl<Y: Yardstick> Supervisor<Y> {
@@ -131,9 +159,7 @@ impl<Y: Yardstick> Supervisor<Y> {
             hash,
             status: 1,
             options: 0,
-            key_4: [0; 4096],
-            key_4_edition: 0,
-            key_4_length: None,
+            settings: [Setting::NONE; LENGTHS.len()],
         }
     }
 
@@ -179,18 +205,11 @@ impl<Y: Yardstick> Supervisor<Y> {
             }
             (0x10, 1..) => {
                 let data = self.reader.data(length);
-                let value = &data[1..];
-                let result = match data[0] {
-                    0..=2 => 2,
-                    4 if value.len() > 4096 => 3,
-                    4 if self.key_4_edition == u32::MAX => 4,
-                    4 => {
-                        self.key_4_edition += 1;
-                        self.key_4[..value.len()].copy_from_slice(value);
-                        self.key_4_length = Some(value.len());
-                        0
-                    }
-                    _ => 1,
+                let (key, value) = (data[0], &data[1..]);
+                let result = match key.checked_sub(FIRST_SETTING).map(usize::from) {
+                    None => 2,
+                    Some(place) if key < Y::KEYS => self.settings[place].set(&LENGTHS[place], value),
+                    Some(_) => 1,
                 };
                 self.reply(version, number, 0x0c, &[result], &[]);
             }
@@ -209,8 +228,9 @@ impl<Y: Yardstick> Supervisor<Y> {
         moved
     }
 
-    /// The edition and the value of key 4.
-    pub fn key_4(&self) -> Option<(u32, &[u8])> {
-        self.key_4_length.map(|length| (self.key_4_edition, &self.key_4[..length]))
+    /// The edition and the value of a setting.
+    pub fn setting(&self, key: u8) -> Option<(u32, &[u8])> {
+        let setting = &self.settings[usize::from(key - FIRST_SETTING)];
+        setting.length.map(|length| (setting.edition, &setting.value[..length]))
     }
 }
