@@ -118,7 +118,7 @@ bare Cortex-M4. `docs/firmware.py write` makes this page, figures and all.
 ## What is proved, and what is only tested
 
 - **Proved**: the module that `rt staticlib` compiles, on x86-64, with a `usize` of 64 bits. The verdict is for that: every function of the crates ends, stays in its memory and meets its contract.
-- **Not proved**: anything on another processor. There the same module is compiled by the same clang. Between the verdict and the code stand clang's back end for that processor, the three
+- **Not proved**: anything on another processor. There the same module, as its object on x86-64 shows byte for byte, is compiled by the same clang. Between the verdict and the code stand clang's back end for that processor, the three
   changes of the module's text (`cross/README.md`), addresses of 32 bits under lengths of 64, the calling convention of the C compiler, the firmware's memcpy, memmove and memset, and for ARMv6-M two
   functions of `cross/thumbv6m.c`. No proof covers these.
 - **Tested on a target**: what the table below lists. The differential test compares each of these calls with an independent model on x86-64; the target must then return the same number and leave the same

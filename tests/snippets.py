@@ -117,14 +117,23 @@ def given():
 # ---- snippets
 
 
+def blocks(file, mark, pattern):
+    """The blocks of a file; ends the run where a mark of it begins none of them."""
+    text = (ROOT / file).read_text()
+    found = re.findall(pattern, text, re.M | re.S)
+    if len(re.findall(mark, text, re.M)) != len(found):
+        sys.exit(f'snippets: {file} has a block that this cannot read')
+    return found
+
+
 def snippets():
     """Of each snippet its file, language and text."""
     for file in ('README.md', 'bindings/rust/README.md'):
-        for language, text in re.findall(r'^```(c|rust)\n(.*?)^```$', (ROOT / file).read_text(), re.M | re.S):
+        for language, text in blocks(file, r'^\s*```\w+', r'^```(c|rust)\n(.*?)^```$'):
             yield file, {'c': 'c', 'rust': 'rs'}[language], text
-    for header in sorted((ROOT / 'include').glob('*.h')):
-        for text in re.findall(r'^ \* @code\n(.*?)^ \* @endcode$', header.read_text(), re.M | re.S):
-            yield f'include/{header.name}', 'c', f'#include "{header.name}"\n' + re.sub(r'^ \* ?', '', text, flags=re.M)
+    for file in sorted(str(header.relative_to(ROOT)) for header in (ROOT / 'include').glob('*.h')):
+        for text in blocks(file, '@code', r'^ \* @code\n(.*?)^ \* @endcode$'):
+            yield file, 'c', f'#include "{os.path.basename(file)}"\n' + re.sub(r'^ \* ?', '', text, flags=re.M)
 
 
 def run(*words):
