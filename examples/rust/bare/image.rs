@@ -65,6 +65,7 @@ impl Write for Console {
 
 #[panic_handler]
 fn panicked(panic: &PanicInfo<'_>) -> ! {
+    // where even this cannot be printed, the end with 1 still tells
     let _ = writeln!(Console, "{panic}");
     end(false)
 }
