@@ -42,7 +42,7 @@ def sizes():
 def firmware_size():
     text, data, bss = re.search(r'^ +(\d+)\s+(\d+)\s+(\d+)\s+\d+\s+\w+\s+\S+firmware\.elf$', log('firmware'), re.M).groups()
     stack = int(re.search(r'stack_size : (\d+)K', (ROOT / 'examples/firmware/board.ld').read_text()).group(1)) * 1024
-    return (f'The whole of `examples/firmware`, with its driver, startup code, start data and text, has {number(text)} bytes of code and constants, {number(data)} of data and '
+    return (f'The whole of `examples/firmware`, with its driver, startup code, start data, fake UART, far ends and text, has {number(text)} bytes of code and constants, {number(data)} of data and '
             f'{number(int(bss) - stack)} of zeroed memory, beside the {number(stack)} bytes that its linker script gives to the stack.\n')
 
 
@@ -123,6 +123,7 @@ bare Cortex-M4. `docs/firmware.py write` makes this page, figures and all.
   functions of `cross/thumbv6m.c`. No proof covers these.
 - **Tested on a target**: what the table below lists. The differential test compares each of these calls with an independent model on x86-64; the target must then return the same number and leave the same
   bytes, in everything lent and for 16 bytes behind. Runs of bytes are lent at odd addresses.
+- **The example's driver** is tested too, not proved: under qemu, with far ends that babble, stall and send overlong frames, and with planted mistakes that they must see (`tests/cross/README.md`).
 - **Not tested**: a real chip. qemu has the instructions, not the timing, caches or buses.
 - **Nowhere proved**: how much stack or time a call takes. The figures below are clang's frames, measurements, and qemu's counts.
 

@@ -1,32 +1,26 @@
 /* A firmware of the supervisor for a bare Cortex-M4: bytes come in and go out one by one at interrupts, the library is called outside of them.
- * The UART is a fake: at each tick it takes the next byte of the far end, raises its interrupt, and hands a byte sent to the far end.
- * The far end sends the samples L10 and L12 of document 01, waits for each reply, and compares both with the document.
- * Assumes board.ld and startup.c, qemu's board mps2-an386 or another Cortex-M with semihosting, and the archive of cross/. */
+ * Any bytes may come, at any time. Assumes one processor, board.h, board.ld, startup.c, memory.c, and the archive of cross/. */
+#include "board.h"
 #include "oatcastle_parts.h"
 #include "semihosting.h"
 
-#define TICK 2170u      /* cycles for a byte: 115,200 baud at 25 MHz */
-
-/* ---- The processor's registers */
-
-#define SYSTICK_CONTROL (*(volatile uint32_t *)0xe000e010)
-#define SYSTICK_RELOAD (*(volatile uint32_t *)0xe000e014)
-#define NVIC_ENABLE (*(volatile uint32_t *)0xe000e100)
-#define NVIC_PEND (*(volatile uint32_t *)0xe000e200)
-#define UART_INTERRUPT 1u   /* interrupt 0 */
-
-/* ---- A queue between an interrupt and the main loop: one side puts, the other gets */
-
-#define PLACES 64u
+/* ---- A queue between an interrupt and the main loop: one side puts and alone writes `put`, the other gets and alone writes `got`.
+ * Volatile keeps the compiler from moving a byte past its index; between an interrupt and the loop of one processor nothing more is needed. */
 
 struct queue {
     volatile uint32_t put, got;
     volatile uint8_t bytes[PLACES];
 };
+typedef char places_are_a_power_of_two[(PLACES & (PLACES - 1)) == 0 ? 1 : -1];
 
 static uint32_t filled(const struct queue *q)
 {
     return q->put - q->got;
+}
+
+static uint32_t room(const struct queue *q)
+{
+    return PLACES - filled(q);
 }
 
 static void put(struct queue *q, uint8_t byte)
@@ -42,131 +36,90 @@ static uint8_t get(struct queue *q)
     return byte;
 }
 
-/* ---- The far end: what it sends, and what it must get; a reply ends with its 00 */
-
-static const uint8_t sends[] = {
-    0x02, 0x00, /* L10 */
-    0x06, 0xcc, 0x19, 0xde, 0x01, 0x01, 0x01, 0x01, 0x02, 0x01, 0x01, 0x01, 0x01, 0x01, 0x01, 0x01, 0x04, 0x08, 0xcf, 0x66, 0x00, /* L12 */
-};
-static const uint8_t gets[] = {
-    0x06, 0xcc, 0x19, 0xde, 0x01, 0x01, 0x01, 0x01, 0x0d, 0xff, 0xff, 0xff, 0xff, 0xff, 0xff, 0xff, 0xff, 0x02, 0x01, 0xc9, 0x21, 0x00,
-    0x06, 0xcc, 0x19, 0xde, 0x01, 0x01, 0x01, 0x01, 0x02, 0x01, 0x01, 0x01, 0x01, 0x01, 0x01, 0x04, 0x80, 0x06, 0x01, 0x01, 0x01,
-    0x01, 0x01, 0x01, 0x01, 0x01, 0x01, 0x01, 0x01, 0x01, 0x01, 0x01, 0x01, 0x03, 0x4f, 0x5a, 0x00,
-};
-static volatile uint32_t sent, replies, got;
-static volatile uint8_t seen[sizeof gets];
-
-/* ---- The fake UART: a byte each way, and the interrupt */
-
-static volatile uint8_t received, sending;
-static volatile int received_full, sending_full;
-static uint32_t interrupts;
-
-/* One byte's time. The far end sends a frame and waits for its reply. */
-void systick(void)
-{
-    uint32_t frames = 0;
-    for (uint32_t i = 0; i < sent; i++)
-        frames += sends[i] == 0;
-    if (!received_full && sent < sizeof sends && frames == replies) {
-        received = sends[sent];
-        sent = sent + 1;
-        received_full = 1;
-    }
-    if (sending_full && got < sizeof seen) {
-        seen[got] = sending;
-        got = got + 1;
-        replies = replies + (sending == 0);
-        sending_full = 0;
-    }
-    NVIC_PEND = UART_INTERRUPT;
-}
-
 /* ---- The driver: the UART's interrupt moves a byte to one queue and a byte from the other */
 
 static struct queue from_wire, to_wire;
+volatile uint32_t uart_lost;
 
-void uart(void)
+/* Reads a byte that has come even if the queue is full: not read, it would raise the interrupt again and again, and the main loop would not run. The byte is lost
+ * then, and its frame comes in damaged, as by a fault of the wire. */
+void uart_interrupt(void)
 {
-    interrupts++;
-    if (received_full && filled(&from_wire) < PLACES) {
-        put(&from_wire, received);
-        received_full = 0;
+    if (uart_has_received()) {
+        uint8_t byte = uart_read();
+        if (room(&from_wire) > 0)
+            put(&from_wire, byte);
+        else
+            uart_lost = uart_lost + 1;
     }
-    if (!sending_full && filled(&to_wire) > 0) {
-        sending = get(&to_wire);
-        sending_full = 1;
-    }
+    if (uart_can_send() && filled(&to_wire) > 0)
+        uart_write(get(&to_wire));
+    if (filled(&to_wire) == 0)
+        uart_want_bytes(0);
 }
 
 /* ---- The supervisor */
 
 static oatcastle_supervisor supervisor;
 static const uint8_t start_data[OATCASTLE_START_LENGTH] = {OATCASTLE_BSU_A};
+static struct guarded piece;
+static int pending;     /* whether the library may have more to send than to_wire had room for */
 
-/* Hands the library what has come, and the queue what the library has to send. */
-static uint32_t serve(void)
+/* Hands the library what has come, a piece at most. */
+static uint32_t receive(void)
 {
-    uint8_t piece[PLACES];
-    uint64_t answer[OATCASTLE_TAKE_NUMBERS];
-    uint32_t n = 0, no;
+    uint32_t n = 0;
 
-    while (filled(&from_wire) > 0)
-        piece[n++] = get(&from_wire);
-    no = oatcastle_supervisor_receive(&supervisor, 0, 0, piece, n);
+    while (n < sizeof piece.bytes && filled(&from_wire) > 0)
+        piece.bytes[n++] = get(&from_wire);
+    return oatcastle_supervisor_receive(&supervisor, 0, 0, piece.bytes, n);
+}
+
+/* Hands to_wire what the library has to send, as much as there is room for. */
+static uint32_t send(void)
+{
+    uint64_t answer[OATCASTLE_TAKE_NUMBERS];
+    uint32_t most = room(&to_wire), no = oatcastle_supervisor_take(&supervisor, piece.bytes, most, answer);
+
     if (no != OATCASTLE_DONE)
         return no;
-    no = oatcastle_supervisor_take(&supervisor, piece, PLACES - filled(&to_wire), answer);
-    for (uint32_t i = 0; no == OATCASTLE_DONE && i < answer[0]; i++)
-        put(&to_wire, piece[i]);
+    for (uint32_t i = 0; i < answer[0]; i++)
+        put(&to_wire, piece.bytes[i]);
+    if (answer[0] > 0)
+        uart_want_bytes(1);
+    pending = answer[0] == most;
     return no;
 }
 
-/* ---- How deep the stack was used: it is painted once, at first */
-
-extern uint32_t stack_low[], stack_top[];
-#define PAINT 0xa5a5a5a5u
-
-static void paint(void)
+static int work(void)
 {
-    uint32_t *sp;
-    __asm__ volatile("mov %0, sp" : "=r"(sp));
-    for (volatile uint32_t *p = stack_low; p < sp; p++)
-        *p = PAINT;
+    return filled(&from_wire) > 0 || (pending && room(&to_wire) > 0);
 }
 
-static uint32_t deepest(void)
+/* Sleeps until an interrupt, unless there is work. An interrupt that comes behind the test is held back by the mask and ends wfi at once; without the mask it would
+ * be served before wfi, which would then wait for another. What else wakes the main loop is tested here too. */
+static void wait_for_work(void)
 {
-    const uint32_t *p = stack_low;
-    while (p < stack_top && *p == PAINT)
-        p++;
-    return (uint32_t)((const uint8_t *)stack_top - (const uint8_t *)p);
+    __asm__ volatile("cpsid i" ::: "memory");
+    if (!work())
+        __asm__ volatile("dsb\n\twfi" ::: "memory");
+    __asm__ volatile("cpsie i" ::: "memory");
 }
 
+/* Where the far end does not wait for a reply, its next request discards what is unsent of it. The loop ends only if the library refuses a call, which it does not
+ * while nobody else writes its parts. */
 int main(void)
 {
-    uint32_t no;
-    int same = 1;
+    uint32_t no = oatcastle_supervisor_start(&supervisor, start_data);
 
-    paint();
-    no = oatcastle_supervisor_start(&supervisor, start_data);
-    NVIC_ENABLE = UART_INTERRUPT;
-    SYSTICK_RELOAD = TICK - 1;
-    SYSTICK_CONTROL = 7;
-    while (no == OATCASTLE_DONE && got < sizeof seen) {
-        no = serve();
-        __asm__ volatile("wfi");
+    board_start(&piece);
+    while (no == OATCASTLE_DONE) {
+        no = receive();
+        if (no == OATCASTLE_DONE)
+            no = send();
+        other_duties();
+        wait_for_work();
     }
-    SYSTICK_CONTROL = 0;
-    for (uint32_t i = 0; i < sizeof seen; i++)
-        same &= seen[i] == gets[i];
-    host_hex((const uint8_t *)seen, 22);
-    host_hex((const uint8_t *)seen + 22, sizeof seen - 22);
-    host_number("", sent, " bytes in and ");
-    host_number("", got, same ? " bytes out, as document 01 has them\n" : " bytes out, which are not those of document 01\n");
-    host_number("stack: ", deepest(), " bytes, interrupts and semihosting included\n");
-    if (no != OATCASTLE_DONE)
-        host_number("refused: ", no, "\n");
-    host_end(no == OATCASTLE_DONE && same && interrupts >= sizeof seen);
-    return 0;
+    host_number("refused: ", no, "\n");
+    return 1;
 }

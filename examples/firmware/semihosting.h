@@ -4,7 +4,7 @@
 
 #include <stdint.h>
 
-enum { HOST_OPEN = 0x01, HOST_WRITE0 = 0x04, HOST_READ = 0x06, HOST_EXIT = 0x18 };
+enum { HOST_OPEN = 0x01, HOST_WRITE0 = 0x04, HOST_READ = 0x06, HOST_COMMAND_LINE = 0x15, HOST_EXIT = 0x18 };
 
 static inline uint32_t host(uint32_t operation, const void *argument)
 {

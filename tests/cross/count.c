@@ -1,5 +1,5 @@
 /* Counts the instructions of calls on a bare Cortex-M4 under qemu with -icount shift=6: an instruction takes 64 ns of the board's time there, and a
- * tick of SysTick 40 ns. Prints what each takes; memory.c, byte by byte, is counted in. Assumes the startup code and the linker script of examples/firmware, and a processor clock of 25 MHz. */
+ * tick of SysTick 40 ns. Prints what each takes; memory.c, byte by byte, is counted in. Assumes the startup code, the linker script and memory.c of examples/firmware, and a processor clock of 25 MHz. */
 #include "oatcastle_parts.h"
 #include "semihosting.h"
 

@@ -1,5 +1,5 @@
 /* The port to a bare Cortex-M: text and the trace, the file `trace` of qemu's folder, by semihosting; the program is L12 of document 01, then the replay.
- * With TRAP_UNALIGNED an access that is not aligned ends it with a fault. Assumes the startup code and the linker script of examples/firmware. */
+ * With TRAP_UNALIGNED an access that is not aligned ends it with a fault. Assumes the startup code, the linker script and memory.c of examples/firmware. */
 #include "oatcastle_parts.h"
 #include "port.h"
 #include "semihosting.h"
