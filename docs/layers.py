@@ -32,6 +32,7 @@ WORDS = {
     'requester': "main processor's end",
     'requester_claims': 'numbers, answers',
     'both_claims': 'both ends, fresh answers',
+    'claims': 'demands, requests, both ends',
     'replay': 'the replay program',
     'plain': 'the second, plain reader',
     'plain_claims': 'agrees with the reader',
@@ -53,7 +54,7 @@ def depends():
 def kind(name):
     if name == '*' + TOGETHER or (HERE.parent / 'crates' / name / 'src' / 'main.rt').exists():
         return PROGRAM
-    return CLAIMS if name.endswith('_claims') else CODE
+    return CLAIMS if name.endswith('claims') else CODE
 
 
 def reach(name, graph):

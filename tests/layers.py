@@ -1,7 +1,7 @@
 #!/usr/bin/env python3
 """Checks that the crates above the line layer, `line_claims` too, name of it only what its public contracts rest on: its public types; the modules of
 its specs that the `ensures` of a public function cites, and those that these import; the files of laws in its proofs that import nothing of `line` but
-such modules and files. Anything else of `line` that a file names is printed with its place, and the check fails.
+such modules and files; and its records of statements with their proofs (specs/Item.., proofs/Proved). Anything else of `line` that a file names is printed with its place, and the check fails.
 Assumes the layout of crates.txt, and uses and contracts as `rt fmt` lays them out.
 
 usage: tests/layers.py"""
@@ -72,6 +72,11 @@ def public_proofs(specs):
         found -= less
 
 
+def stated():
+    """The modules of line's records of statements, and of their elements."""
+    return {f'specs.{path.stem}' for path in LINE.glob('specs/Item*.antt')} | {'proofs.Proved'}
+
+
 def crates_above():
     """The crates that depend on line, over others too."""
     depends = dict(re.findall(r'^(\w+):(.*)$', (ROOT / 'crates.txt').read_text(), re.M))
@@ -85,7 +90,7 @@ def crates_above():
 
 def main():
     specs = public_specs()
-    public = specs | public_proofs(specs)
+    public = specs | public_proofs(specs) | stated()
     count, wrong = 0, []
     for path in sorted(path for crate in crates_above() for path in (ROOT / 'crates' / crate).rglob('*') if path.suffix in ('.antt', '.rt')):
         for number, line in enumerate(path.read_text().splitlines(), 1):

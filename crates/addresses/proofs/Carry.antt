@@ -9,9 +9,9 @@ use lib.ListN.{length, take, drop, getD, set}
 use lib.Seq.{lt-length-set, take-suc, take-length, take-set-le, drop-cons, drop-length, drop-set-lt, getD-set-same, append-snoc}
 use Rattle.octets.specs.Bytes.{bytes}
 use Rattle.addresses.specs.Addresses.{addressBytes, carried, nextRow}
+use Rattle.addresses.specs.Item9.{CarriedSum, NextSum}
 
--- k bytes of a number, with another added
-pub carried-sum : (k v c : ℕ) → carried (bytes k v) c ≡ bytes k (v + c)
+pub carried-sum : CarriedSum
 unfolding carried bytes
 carried-sum zero v c = refl
 carried-sum (suc k) v c =
@@ -19,8 +19,7 @@ carried-sum (suc k) v c =
     let high : v / 256 + (v % 256 + c) / 256 ≡ (v + c) / 256 = omega arith in
     rw (carried-sum k (v / 256) ((v % 256 + c) / 256), low, high)
 
--- the row after an address is the address plus the stride
-pub next-sum : (v stride : ℕ) → nextRow (addressBytes v) stride ≡ addressBytes (v + stride)
+pub next-sum : NextSum
 unfolding nextRow addressBytes
 next-sum v stride = rw (reverse-reverse, carried-sum)
 

@@ -3,3 +3,4 @@
 pub mod Carry
 pub mod Number
 pub mod Plans
+pub mod Proved

@@ -9,9 +9,10 @@ use native.Mathlib.Omega.{arith}
 use borrow.Author.Tests.{ltb-true, ltb-false, lt-ltb, le-ltb, eq-eqb, ne-eqb}
 use lib.Dec.{ltb}
 use lib.ListN.{length, getD, replicate, set}
-use Rattle.addresses.specs.Addresses.{addressNumber, addressBytes, highest-address, address, passes, zero-row, row, row-numbers, rows, nextRow}
+use Rattle.addresses.specs.Addresses.{addressNumber, addressBytes, highest-address, address, passes, zero-row, row, row-numbers, rows}
 use Rattle.addresses.proofs.Carry.{next-sum}
 use Rattle.addresses.proofs.Number.{bytes-address, address-bytes}
+use Rattle.addresses.specs.Item9.{RowNumber, RowNext}
 
 module _ (base : List ℕ) (count stride : ℕ) where
   pub none-passes : count ≡ 0 → false ≡ passes base count stride
@@ -104,10 +105,8 @@ module _ (base : List ℕ) (stride : ℕ) where
   unfolding rows
   rows-fitting count e = rw e (rows-min count)
 
-  -- in a plan that fits, a counted row is exactly base plus i times stride
-  pub row-number : (count i : ℕ) → passes base count stride ≡ false → i < count → addressNumber (row base count stride i) ≡ address base stride i
+  pub row-number : RowNumber base stride
   row-number count i e h = rw (counted count i h) (address-bytes (address base stride i) (counted-below count i e h))
 
-  -- the next row is the row plus the stride, byte by byte with its carry
-  pub row-next : (count i : ℕ) → i + 1 < count → row base count stride (i + 1) ≡ nextRow (row base count stride i) stride
+  pub row-next : RowNext base stride
   row-next count i h = rw (counted count (i + 1) h, counted count i (omega arith), next-sum, address-next)

@@ -1,3 +1,4 @@
--- The definitions of the address plan.
+-- The definitions of the address plan, and what is claimed of it.
 -- Assumes nothing.
 pub mod Addresses
+pub mod Item9

@@ -32,9 +32,8 @@ use Rattle.supervisor_claims.specs.Sound.{Bytes}
 use Rattle.supervisor_claims.specs.Histories as Supervisor
 use Rattle.supervisor_claims.specs.FrameHistory as Received
 use Rattle.supervisor_claims.specs.FrameHistory.{framed}
-use Rattle.supervisor_claims.specs.LastSet.{requestsIn, setBy, setAfter, restoredBy, Origin, sinceStart, sinceMore, sinceMade, setSince}
-use Rattle.supervisor_claims.specs.claims.WithdrawnKeys.{fittedOf, ReadBack}
-use Rattle.supervisor_claims.specs.claims.InOrder.{replyBy}
+use Rattle.supervisor_claims.specs.LastSet.{requestsIn, setBy, setAfter, restoredBy, Origin, sinceStart, sinceMore, sinceMade, setSince, fittedOf, ReadBack}
+use Rattle.supervisor_claims.specs.Replies.{replyBy}
 
 -- an element of a list has the property
 abbrev pub Any : {A : Type 0} → (A → Type 0) → List A → Type 0
@@ -76,7 +75,8 @@ pub record Handled : Type 0 where
   pub origin : ℕ → Origin
   -- the frames that the main processor's end had put out by then, since its last accepted start
   pub asked : List Frame
-  -- whether, together with that start or since, the supervisor had been started, or since had carried out a reboot or power-off, which drop the retained alert reply
+  -- whether the supervisor had been started, together with that start or since, or had carried out a reboot or power-off since: each drops the retained
+  -- alert reply
   pub cleared : Bool
 
 -- the message of a reply
@@ -219,7 +219,8 @@ takenBy (b ∷ (c ∷ bs)) (some r) = []
 -- the frames that a call brings, on the state s
 unfoldable pub brought : Log → State → Supervisor.Made → List Handled
 brought l s m =
-    handledBy (l .asked) (imageOf (m .call)) (l .cleared) s (l .origin) (nonEmpty (split (l .received) .closed)) (Received.framesBy (l .received) (Received.receivedBy m))
+    handledBy (l .asked) (imageOf (m .call)) (l .cleared) s (l .origin) (nonEmpty (split (l .received) .closed))
+    (Received.framesBy (l .received) (Received.receivedBy m))
 
 -- by the state before it, and the bytes that are pending after it
 unfoldable pub supervisorLogged : Log → State → Supervisor.Made → List ℕ → Log
@@ -289,7 +290,8 @@ afterAll e (t ∷ ts) = afterAll (after e t) ts
 -- both ends as the main processor's end was just started: together with the supervisor, or later, after any calls of both over any wire
 pub data Begun : Ends → Type 0 where
   together : (s : Starts) → Begun (begun s)
-  later : (s : Starts) (ts : List Call) → Each CallTyped ts → (l : Main.Lent) → Main.made (afterAll (begun s) ts .main) (record { lent = l; call = Main.start }) .answer ≡ Main.done
+  later : (s : Starts) (ts : List Call) → Each CallTyped ts → (l : Main.Lent)
+      → Main.made (afterAll (begun s) ts .main) (record { lent = l; call = Main.start }) .answer ≡ Main.done
       → Begun (after (afterAll (begun s) ts) (main (record { lent = l; call = Main.start })))
 
 -- a claim about each call, with both ends as it found them
@@ -299,9 +301,9 @@ Always C e (t ∷ ts) = C e t × Always C (after e t) ts
 
 -- ---- The wire
 
--- each good message that an end has read since the main processor's end was last started is that of a whole frame that the other has put out since: bytes may
--- be lost, delayed, cut and damaged, frames may come late, twice and in another order, but each good message read is, byte for byte, that of a frame put out since that start
--- and, if a reply, made since
+-- each good message that an end has read since the main processor's end was last started is that of a whole frame that the other has put out since. Bytes may
+-- be lost, delayed, cut and damaged; frames may come late, twice and in another order. But each good message read is, byte for byte, that of a frame put out
+-- since that start and, if a reply, made since
 pub record Wire (l : Log) : Type 0 where
   pub to-supervisor : Each (λ (m : Message). Any (λ (x : Frame). x .bytes ≡ frame m) (l .asked)) (l .heard)
   pub to-main : Each (λ (r : Message). Any (λ (y : Message). frame y ≡ frame r) (l .sent)) (got l)
@@ -344,24 +346,27 @@ pub record Fresh (s : MainState.State) (l : Log) (r : Message) : Type 0 where
   pub waiting : outstanding s ≡ some request
   pub made : Any (CarriedOut (s .newest) request r) (l .handled)
 
--- what is handed out: outside a recovery an answer, in it a status with its number of set bits, to the status request, or an alert's answer, to the alert request
+-- what is handed out: outside a recovery an answer; in it a status with its number of set bits, to the status request, or an alert's answer, to the alert
+-- request
 abbrev pub FreshReport : MainState.State → Log → MainCalls.Report → List ℕ → Type 0
 FreshReport s l (MainCalls.Report.refused n) d = Unit {0}
 FreshReport s l MainCalls.nothing d = Unit {0}
 FreshReport s l (MainCalls.answered v q c n) d = (s .recovery ≡ none) × Fresh s l (record { version = v; sequence = q; command = c; payload = d })
 FreshReport s l (MainCalls.status x o k) d =
-    (s .recovery ≡ some MainState.fetch) × (r : Message) × Fresh s l r × (statusOf r ≡ x) × (optionsOf r ≡ o) × (ones x ≡ k) × (r .command ≡ 0x06) × (length (r .payload) ≡ status-length)
-FreshReport s l (MainCalls.alerted v q c n) d = (s .recovery ≡ some MainState.alert) × Fresh s l (record { version = v; sequence = q; command = c; payload = d })
+    (s .recovery ≡ some MainState.fetch) × (r : Message) × Fresh s l r × (statusOf r ≡ x) × (optionsOf r ≡ o) × (ones x ≡ k) × (r .command ≡ 0x06)
+    × (length (r .payload) ≡ status-length)
+FreshReport s l (MainCalls.alerted v q c n) d =
+    (s .recovery ≡ some MainState.alert) × Fresh s l (record { version = v; sequence = q; command = c; payload = d })
 
-abbrev pub FreshAnswer : MainState.State → Log → Main.Answer → List ℕ → Type 0
-FreshAnswer s l (Main.refused n) d = Unit {0}
-FreshAnswer s l Main.done d = Unit {0}
-FreshAnswer s l (Main.put n) d = Unit {0}
-FreshAnswer s l (Main.received used t e u) d = FreshReport s l t d
+abbrev pub FreshBy : MainState.State → Log → Main.Answer → List ℕ → Type 0
+FreshBy s l (Main.refused n) d = Unit {0}
+FreshBy s l Main.done d = Unit {0}
+FreshBy s l (Main.put n) d = Unit {0}
+FreshBy s l (Main.received used t e u) d = FreshReport s l t d
 
 -- of each call, with what was put out and read before it
 abbrev pub CallFresh : Ends → Call → Type 0
-CallFresh e (main m) = let d = Main.made (e .main) m in FreshAnswer (MainView.view (e .main)) (e .log) (d .answer) (d .out)
+CallFresh e (main m) = let d = Main.made (e .main) m in FreshBy (MainView.view (e .main)) (e .log) (d .answer) (d .out)
 CallFresh e (supervisor m) = Unit {0}
 
 -- ---- What an alert's answer comes from
@@ -378,7 +383,8 @@ pub record AlertTaken (n : ℕ) (q : Request) (r : Message) (h : Handled) : Type
   pub oldest-waiting : r .payload ≡ alertData (oldest (h .state .waiting))
 
 -- an answer to an alert request holds an alert that was taken in carrying out that request, after it was put out, if no alert reply from before the main
--- processor's end was started was still retained: if the supervisor was started together with it or since, or carried out a reboot or power-off since, and then this request
+-- processor's end was started was still retained: if the supervisor was started together with it or since, or carried out a reboot or power-off since, and
+-- then this request
 abbrev pub FreshAlert : MainState.State → Log → Message → Type 0
 FreshAlert s l r =
     (q : Request) → outstanding s ≡ some q → q .command ≡ 0x0a → Any (λ (h : Handled). CarriedOut (s .newest) q r h × (h .cleared ≡ true)) (l .handled)
@@ -466,9 +472,6 @@ abbrev pub ValueAgainst : Ends → (ℕ → ℕ → ℕ → Message → Handled 
 ValueAgainst e P s l r =
     (k most : ℕ) → ReadBack k → most < 65536 → outstanding s ≡ some (lookupRequest k most) → NotAsked e (s .newest) → Any (P (s .newest) k most r) (l .handled)
 
-abbrev pub NotReplaced : Ends → MainState.State → Log → Message → Type 0
-NotReplaced e = ValueAgainst e (ValueSince e)
-
 -- ---- What an alert's answer comes from, against an earlier moment
 
 -- a call that is no accepted start of the main processor's end
@@ -477,8 +480,8 @@ MainGoesOn e (main m) = restarts (m .call) (Main.made (e .main) m .answer) ≡ f
 MainGoesOn e (supervisor m) = Unit {0}
 
 -- an answer to an alert request that had not been put out at that moment holds an alert that was taken in carrying out that request, after it was put out
-abbrev pub AlertSince : Ends → MainState.State → Log → Message → Type 0
-AlertSince e s l r = (q : Request) → outstanding s ≡ some q → q .command ≡ 0x0a → NotAsked e (s .newest) → Any (AlertTaken (s .newest) q r) (l .handled)
+abbrev pub AlertAgainst : Ends → MainState.State → Log → Message → Type 0
+AlertAgainst e s l r = (q : Request) → outstanding s ≡ some q → q .command ≡ 0x0a → NotAsked e (s .newest) → Any (AlertTaken (s .newest) q r) (l .handled)
 
 -- ---- On a wire that keeps the order
 
@@ -490,8 +493,8 @@ GoesOn e (supervisor m) = Stays m
 abbrev pub InOrderAfter : Ends → Call → Type 0
 InOrderAfter e t = InOrder (after e t .log)
 
--- a request with a higher number than all that the supervisor had read by an earlier moment, since the main processor's last accepted start; or the newest of those once
--- more
+-- a request with a higher number than all that the supervisor had read by an earlier moment, since the main processor's last accepted start; or the newest
+-- of those once more
 abbrev pub NotOlder : Ends → Message → Type 0
 NotOlder e m = Each (λ (y : Message). (y .sequence < m .sequence) ⊎ (y ≡ m)) (e .log .heard)
 
@@ -503,9 +506,6 @@ pub record ValueNotOlder (e : Ends) (n k most : ℕ) (r : Message) (h : Handled)
   pub from : let v = entryOf (h .state) k .value in
       (v ≡ entryOf (view (e .supervisor)) k .value) ⊎ Any (λ (m : Message). (setBy k m ≡ v) × NotOlder e m) (requestsIn (value-since .later))
 
-abbrev pub ListNotOlder : Ends → MainState.State → Log → Message → Type 0
-ListNotOlder e = ValueAgainst e (ValueNotOlder e)
-
 -- the same with higher numbers only
 pub record ValueNewer (e : Ends) (n k most : ℕ) (r : Message) (h : Handled) : Type 0 where
   pub value-since : ValueSince e n k most r h
@@ -513,9 +513,6 @@ pub record ValueNewer (e : Ends) (n k most : ℕ) (r : Message) (h : Handled) : 
   pub from : let v = entryOf (h .state) k .value in
       (v ≡ entryOf (view (e .supervisor)) k .value)
       ⊎ Any (λ (m : Message). (setBy k m ≡ v) × Each (λ (y : Message). y .sequence < m .sequence) (e .log .heard)) (requestsIn (value-since .later))
-
-abbrev pub NeverReplaced : Ends → MainState.State → Log → Message → Type 0
-NeverReplaced e = ValueAgainst e (ValueNewer e)
 
 -- ---- What a lookup's answer is where nothing more is put out
 
@@ -539,7 +536,8 @@ abbrev pub NoRequest : Ends → Call → Type 0
 NoRequest e (main m) = requests (m .call) (Main.made (e .main) m .answer) ≡ false
 NoRequest e (supervisor m) = Unit {0}
 
--- the answer to this lookup is the value that key k had at an earlier moment: result 2 where it had none, 3 where the value is longer than maxresponse, else 0 and the value
-abbrev pub ValueAsked : Ends → ℕ → ℕ → MainState.State → Log → Message → Type 0
-ValueAsked e k most s l r =
+-- the answer to this lookup is the value that key k had at an earlier moment: result 2 where it had none, 3 where the value is longer than maxresponse, else
+-- 0 and the value
+abbrev pub HadValue : Ends → ℕ → ℕ → MainState.State → Log → Message → Type 0
+HadValue e k most s l r =
     outstanding s ≡ some (lookupRequest k most) → let f = fittedOf most (entryOf (view (e .supervisor)) k) in r .payload ≡ f .result ∷ f .value

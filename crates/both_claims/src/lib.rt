@@ -1,2 +1,2 @@
-// No code: the claims over both ends of the wire, in specs/.
-// Assumes nothing.
+// The claims over both ends of the wire: specs/ states them, proofs/ proves them.
+// No code.

@@ -1,140 +1,54 @@
--- Document 02's item 8 over whole lists of calls: each counter is the number of such frames since the block was cleared, and nothing else depends on a block.
--- Assumes nothing.
-use mathlib.Core.Path.{_≡_, refl, sym, ap, _∙_}
+-- Document 02's item 8: each counter is the number of such frames since the block was cleared, and nothing else depends on a block.
+-- Assumes nothing: these are definitions and statements.
+use mathlib.Core.Path.{_≡_}
+use mathlib.Core.Bool.{Bool}
 use mathlib.Core.List.{List, [], _∷_, _++_}
-use mathlib.Core.Option.{Option, none, some}
 use Prim.Native.Nat.{ℕ, _+_, _<_}
-use native.Mathlib.Omega.{arith}
 use lib.ListN.{length}
 use Rattle.line.specs.Limits.{longest-form}
-use Rattle.line_claims.specs.Pieces.{split}
 use Rattle.supervisor.specs.Calls.{Parts}
 use Rattle.requests.specs.Receive.{Ended}
 use Rattle.counters.specs.declared.Counters.{Counters}
-use Rattle.counters.specs.Count.{frameEnded, isGood, isEmpty, isReason, zeros, bumpedForAll, howMany, tallyOf}
-use Rattle.supervisor_claims.specs.View.{factoryOf, view}
-use Rattle.supervisor_claims.specs.Histories
-use Rattle.supervisor_claims.specs.Histories.{Call, Typed, done, Did, Lent, Made, made, outputs, left, AllTyped}
-use Rattle.supervisor_claims.specs.FrameHistory.{joined, joinedAll}
-use Rattle.supervisor_claims.specs.Sound.{Bytes, Sound}
-use Rattle.supervisor_claims.specs.laws.Progress.{Since}
-use Rattle.supervisor_claims.specs.claims.History.{one-call, history}
-use Rattle.supervisor_claims.specs.claims.InOrder.{verdict-over}
-use Rattle.supervisor_claims.specs.claims.FramesClaim.{made-carried, by-frames}
-use Rattle.counters_claims.specs.CountHistory.{didCounted, madeCounted, Lending, doneBy, outputsLending, leftLending, unlent}
-use Rattle.counters_claims.specs.CountHistory.{Event, plain, counted, clear, Held, after, afterAll, callsOf, allCounted, framesSince, endedAll}
-use Rattle.counters_claims.specs.FrameLaws.{ended-append, closedSince, frames-since}
-use Rattle.counters_claims.specs.TallyLaws.{bumped-tally, bumped-append, every-once}
-use Rattle.counters_claims.specs.CallCounts.{call-counts}
+use Rattle.counters.specs.Count.{frameEnded, isGood, isEmpty, isReason, howMany, tallyOf}
+use Rattle.supervisor_claims.specs.Histories.{Lent, Made, made, AllTyped, startWith, OfStart}
+use Rattle.supervisor_claims.specs.FrameHistory.{joinedAll}
+use Rattle.counters_claims.specs.CountHistory.{Lending, outputsLending, leftLending, unlent}
+use Rattle.counters_claims.specs.CountHistory.{Event, plain, clear, afterAll, callsOf, allCounted, framesSince, endedAll}
 
--- ---- replies and state do not depend on a block
+-- a number for each of the nine kinds of frames that a block counts, all together
+abbrev pub nine : ((Ended → Bool) → ℕ) → ℕ
+nine n = n isGood + (n isEmpty + (n (isReason 1) + (n (isReason 2) + (n (isReason 3) + (n (isReason 4) + (n (isReason 5) + (n (isReason 6) + n (isReason 7))))))))
 
-same-did : (c : Counters) (p : Parts) (k : Call) → didCounted c p k .did ≡ Histories.did p k
-unfolding didCounted Histories.did
-same-did c p (Histories.start d) = refl
-same-did c p (Histories.receive image piece) = refl
-same-did c p (Histories.step image piece) = refl
-same-did c p (Histories.local k) = refl
-
--- what a call answers, writes and leaves, whatever block it is lent
-pub same-made : (c : Counters) (p : Parts) (m : Made) → madeCounted c p m .did ≡ made p m
-unfolding madeCounted made
-same-made c p m = rw (same-did c (Histories.lentOf (m .lent) p) (m .call))
-
-pub same-by : (p : Parts) (m : Made) (block : Option Counters) → doneBy p m block ≡ made p m
-same-by p m none = refl
-same-by p m (some c) = same-made c p m
-
-pub same-as-unlent : (p : Parts) (xs : List Lending) → (outputsLending p xs ≡ outputs p (unlent xs)) × (leftLending p xs ≡ left p (unlent xs))
-unfolding outputsLending leftLending unlent outputs left
-same-as-unlent p [] = (refl, refl)
-same-as-unlent p (x ∷ xs) =
-    let i = same-as-unlent (made p (x .call) .parts) xs in
-    (rw (same-by p (x .call) (x .block), i .0), rw (same-by p (x .call) (x .block)) (i .1))
-
--- Two lists of calls on the same parts that differ only in the blocks lent, any or none and whatever they hold: the same answers, the same bytes written
--- outside the state or handed out, and the same parts.
-pub blocks-alone : (p : Parts) (xs ys : List Lending) → unlent xs ≡ unlent ys
-    → (outputsLending p xs ≡ outputsLending p ys) × (leftLending p xs ≡ leftLending p ys)
-blocks-alone p xs ys e =
-    let x = same-as-unlent p xs in
-    let y = same-as-unlent p ys in
-    (x .0 ∙ rw e (sym (y .0)), x .1 ∙ rw e (sym (y .1)))
-
--- ---- the calls of a history
-
--- a call that is lent the block leaves the parts that it leaves without
-after-counted : (h : Held) (m : Made) → after h (counted m) ≡ record { parts = made (h .parts) m .parts; block = madeCounted (h .block) (h .parts) m .block }
-unfolding after
-after-counted h m = ap (λ (d : Did). record { parts = d .parts; block = madeCounted (h .block) (h .parts) m .block }) (same-made (h .block) (h .parts) m)
-
-parts-so : (es : List Event) (h : Held) → afterAll h es .parts ≡ left (h .parts) (callsOf es)
-unfolding afterAll after callsOf left
-parts-so [] h = refl
-parts-so (plain m ∷ es) h = parts-so es (after h (plain m))
-parts-so (counted m ∷ es) h = parts-so es (after h (counted m)) ∙ ap (λ (x : Held). left (x .parts) (callsOf es)) (after-counted h m)
-parts-so (clear ∷ es) h = parts-so es (after h clear)
-
-after-append : (es fs : List Event) (h : Held) → afterAll h (es ++ fs) ≡ afterAll (afterAll h es) fs
-unfolding afterAll
-after-append [] fs h = refl
-after-append (e ∷ es) fs h = after-append es fs (after h e)
-
--- ---- each counter
-
--- calls that are lent the block, on sound parts that hold what stands behind the last 00 of the bytes w
-since-counts : (ms : List Made) → AllTyped ms → (w : List ℕ) (p : Parts) → Sound p → Since (split w .rest) (view p) → (c : Counters)
-    → afterAll (record { parts = p; block = c }) (allCounted ms) .block ≡ bumpedForAll c (endedAll (closedSince w ms))
-unfolding afterAll after allCounted closedSince endedAll bumpedForAll
-since-counts [] t w p s h c = refl
-since-counts (m ∷ ms) t w p s h c =
-    let k = one-call p m s (t .0) .leaves in
-    let g : Since (split (joined w m) .rest) (view (made p m .parts)) = rw (k .0) (made-carried w (view p) h m .1) in
-    let i = since-counts ms (t .1) (joined w m) (made p m .parts) (k .1) g (madeCounted c p m .block) in
-    ap (λ (x : Held). afterAll x (allCounted ms) .block) (after-counted (record { parts = p; block = c }) m)
-    ∙ (i ∙ rw (call-counts w p s h c m, ended-append, bumped-append))
-
--- A start that is accepted, on any bytes; then any calls, some of them lent the block and some not, with whatever it holds, and clears of it; a clear; and then any calls
--- of which every receive and every step is lent the block: local calls, refused calls and further starts among them, each lent any run of each part. Each counter is the
--- number of such frames whose 00 was received since that clear, or 4,294,967,295 where that is more (`tallyOf`). The frames are those of the joined bytes between two
--- accepted starts, with what had come of one before the clear (`framesSince`); of a frame that a start drops none is counted.
-pub counters-count : (p : Parts) → Bytes p → (l : Lent) (d : List ℕ) → Typed (Histories.start d)
-    → made p (record { lent = l; call = Histories.start d }) .answer ≡ done
-    → (block : Counters) (before : List Event) → AllTyped (callsOf before) → (ms : List Made) → AllTyped ms
-    → let q = made p (record { lent = l; call = Histories.start d }) .parts in
-    afterAll (record { parts = q; block = block }) (before ++ clear ∷ allCounted ms) .block
+abbrev pub CountersCount : Parts → Lent → List ℕ → Type 0
+CountersCount p l d = (block : Counters) (before : List Event) → AllTyped (callsOf before) → (ms : List Made) → AllTyped ms
+    → afterAll (record { parts = made p (startWith l d) .parts; block = block }) (before ++ clear ∷ allCounted ms) .block
     ≡ tallyOf (endedAll (framesSince (joinedAll [] (callsOf before)) ms))
-unfolding afterAll after
-counters-count p b l d typed e block before t ms u =
-    let q = made p (record { lent = l; call = Histories.start d }) .parts in
-    let w = joinedAll [] (callsOf before) in
-    let k = history p b l d typed e (callsOf before) t in
-    let h = by-frames (factoryOf d) (callsOf before) .2 in
-    let x = after-append before (clear ∷ allCounted ms) (record { parts = q; block = block }) in
-    let y = since-counts ms u w (left q (callsOf before)) (k .2) (rw (k .1) h) zeros in
-    ap (λ (z : Held). z .block) x
-    ∙ (ap (λ (r : Parts). afterAll (record { parts = r; block = zeros }) (allCounted ms) .block) (parts-so before (record { parts = q; block = block }))
-    ∙ (y ∙ rw (frames-since w ms) (bumped-tally (endedAll (closedSince w ms)))))
 
--- The same where the block is cleared ahead of that start.
-pub counters-from-start : (p : Parts) → Bytes p → (l : Lent) (d : List ℕ) → Typed (Histories.start d)
-    → made p (record { lent = l; call = Histories.start d }) .answer ≡ done
-    → (block : Counters) (ms : List Made) → AllTyped ms
-    → afterAll (record { parts = p; block = block }) (clear ∷ plain (record { lent = l; call = Histories.start d }) ∷ allCounted ms) .block
-    ≡ tallyOf (endedAll (framesSince [] ms))
-unfolding afterAll after callsOf joinedAll
-counters-from-start p b l d typed e block ms u = counters-count p b l d typed e block [] tt ms u
+abbrev pub CountersFromStart : Parts → Lent → List ℕ → Type 0
+CountersFromStart p l d = (block : Counters) (ms : List Made) → AllTyped ms
+    → afterAll (record { parts = p; block = block }) (clear ∷ plain (startWith l d) ∷ allCounted ms) .block ≡ tallyOf (endedAll (framesSince [] ms))
 
--- Every frame is counted, in one counter: the numbers of the nine kinds of frames come to the number of all.
-pub each-counted-once : (fs : List (List ℕ)) → let es = endedAll fs in
-    howMany isGood es + (howMany isEmpty es + (howMany (isReason 1) es + (howMany (isReason 2) es + (howMany (isReason 3) es + (howMany (isReason 4) es
-    + (howMany (isReason 5) es + (howMany (isReason 6) es + howMany (isReason 7) es)))))))
-    ≡ length fs
-unfolding endedAll
-each-counted-once fs = every-once fs
+abbrev pub OverlongOnce : Type 0
+OverlongOnce = (f : List ℕ) → longest-form < length f → frameEnded f ≡ Ended.failed 1
 
--- A frame of more bytes than a form has is counted at its 00, as reason 1.
-pub overlong-once : (f : List ℕ) → longest-form < length f → frameEnded f ≡ Ended.failed 1
-unfolding frameEnded
-overlong-once [] h = absurd (omega arith)
-overlong-once (b ∷ bs) h = rw (verdict-over (b ∷ bs) h)
+abbrev pub EachCountedOnce : Type 0
+EachCountedOnce = (fs : List (List ℕ)) → nine (λ counts. howMany counts (endedAll fs)) ≡ length fs
+
+abbrev pub BlocksAlone : Type 0
+BlocksAlone = (p : Parts) (xs ys : List Lending) → unlent xs ≡ unlent ys
+    → (outputsLending p xs ≡ outputsLending p ys) × (leftLending p xs ≡ leftLending p ys)
+
+pub record Item8 : Type 0 where
+  -- After an accepted start: any calls, lent the block or not, and clears of it; a clear; then any calls, lent the block wherever they take one.
+  -- Each counter is the number of such frames whose 00 was received since that clear, or 4,294,967,295 where that is more (`tallyOf`).
+  -- What had come of a frame before the clear counts with it; what a start drops does not (`framesSince`).
+  pub counters-count : OfStart CountersCount
+  -- the same where the block is cleared ahead of that start
+  pub counters-from-start : OfStart CountersFromStart
+  -- a frame of more bytes than a form has is counted at its 00, as reason 1
+  pub overlong-once : OverlongOnce
+  -- every frame is counted, in one counter: the numbers of the nine kinds of frames come to the number of all
+  pub each-counted-once : EachCountedOnce
+  -- Two lists of calls on the same parts that differ only in the blocks lent, any or none and whatever they hold: the same answers,
+  -- the same bytes written outside the state or handed out, and the same parts.
+  pub blocks-alone : BlocksAlone

@@ -1,2 +1,2 @@
-// The claims over the field counters stand in specs/.
+// The claims over the field counters: specs/ states them, proofs/ proves them.
 // No code.

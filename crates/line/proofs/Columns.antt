@@ -12,6 +12,8 @@ use Rattle.octets.specs.Bytes.{run}
 use Rattle.octets.proofs.Overlay.{run-more, run-add, length-run}
 use Rattle.line.specs.Checksum.{sums}
 use Rattle.line.specs.Columns.{columns, rows, block-length, total, weighted, added, AtMost, Addable}
+use Rattle.line.specs.Columns.{most}
+use Rattle.line.specs.Item3.{SumsAppend, AllFit}
 
 -- ---- a block
 
@@ -38,9 +40,7 @@ sums-start first second bs h k = let e : first % 255 ≡ first = omega arith in 
 second-more : (n first second b w : ℕ) → second + (first + b) + (n * (first + b) + w) ≡ second + (suc n * first + (suc n * b + w))
 second-more n first second b w = simp (mul-add, suc-mul) (omega arith)
 
--- a block of any length: its sums without remainders come to the definition's
-sums-append : (bs rest : List ℕ) (first second : ℕ)
-    → sums (first % 255) (second % 255) (bs ++ rest) ≡ sums ((first + total bs) % 255) ((second + (length bs * first + weighted bs)) % 255) rest
+pub sums-append : SumsAppend
 unfolding total weighted
 sums-append [] rest first second =
     let e : first + 0 ≡ first = omega arith in let f : second + (0 * first + 0) ≡ second = omega arith in rw (e, f)
@@ -136,19 +136,13 @@ at-most-added a b (x ∷ xs) (c ∷ cs) h e (suc k) = at-most-added a b xs cs (�
 
 -- ---- the rows of a block
 
--- the most that the second sum of a column comes to in so many rows
-unfoldable pub most : ℕ → ℕ
-most zero = 0
-most (suc n) = 255 * suc n + most n
-
 most-up : (m n : ℕ) → m ≤ n → most m ≤ most n
 unfolding most
 most-up zero n h = omega arith
 most-up (suc m) zero h = omega arith
 most-up (suc m) (suc n) h = omega (arith, most-up m n (omega arith))
 
--- a column's sums fit 16 bits
-all-fit : most rows < 65536
+pub all-fit : AllFit
 unfolding most
 all-fit = omega arith
 

@@ -17,3 +17,4 @@ pub mod Lent
 pub mod Held
 pub mod Assemble
 pub mod Sending
+pub mod Proved

@@ -4,6 +4,8 @@ use mathlib.Core.Path.{_≡_}
 use mathlib.Core.List.{List, [], _∷_}
 use Prim.Native.Nat.{ℕ, suc, _+_, _*_, _≤_, _<_}
 use lib.ListN.{length, getD}
+use Prim.Native.Nat.{zero}
+use Rattle.line.specs.Checksum.{sums}
 
 -- a block is rows of bytes below each other
 abbrev pub columns : ℕ
@@ -37,3 +39,8 @@ AtMost most xs = (k : ℕ) → getD xs k 0 ≤ most
 -- a row can be added to the columns' sums: no sum of 16 bits overflows
 abbrev pub Addable : List ℕ → List ℕ → Type 0
 Addable sums xs = (length sums ≡ columns) × (length xs ≡ columns) × ((k : ℕ) → getD sums k 0 + getD xs k 0 < 65536)
+
+-- the most that the second sum of a column comes to in so many rows
+unfoldable pub most : ℕ → ℕ
+most zero = 0
+most (suc n) = 255 * suc n + most n

@@ -1,4 +1,4 @@
--- The meaning of the line layer in document 01's order, Limits to Judge; what the code's own contracts cite, Columns, Runs and Decoding;
+-- The meaning of the line layer in document 01's order, Limits to Judge; what the code's own contracts cite, Columns, Runs and Decoding; what is claimed of blocks, Item3;
 -- and what each public call answers and leaves, Reader and Writer. Assumes nothing.
 pub mod Limits
 pub mod Checksum
@@ -7,6 +7,7 @@ pub mod Cobs
 pub mod Frame
 pub mod Judge
 pub mod Columns
+pub mod Item3
 pub mod Runs
 pub mod Decoding
 pub mod Reader

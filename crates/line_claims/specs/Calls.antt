@@ -3,7 +3,7 @@
 use mathlib.Core.Bool.{cond}
 use mathlib.Core.List.{List, [], _∷_, _++_, map}
 use mathlib.Core.Option.{Option, none, some}
-use Prim.Native.Nat.{ℕ}
+use Prim.Native.Nat.{ℕ, _≤_}
 use lib.Dec.{ltb}
 use lib.ListN.{length, take}
 use Rattle.line.specs.Message.{Message}
@@ -12,6 +12,7 @@ use Rattle.line.specs.Limits.{longest-form}
 use Rattle.line.specs.Reader.{TailReport, unfinished, longer}
 use Rattle.line.specs.Reader.{Report, refused, more, empty, message, failed, verdictReport, state-length, Outcome, reading, Start, starting, dataOf}
 use Rattle.line_claims.specs.Loans.{Loan, lentPart, backPart}
+use Rattle.line.specs.Frame.{frame}
 
 -- a call that is given a piece to read: what it is lent of the state, and the piece
 pub record Read : Type 0 where
@@ -140,3 +141,27 @@ failureReasons = gathered reasonOf
 -- the report of an unfinished tail
 unfoldable pub tailMeant : List ℕ → TailReport
 tailMeant t = cond (ltb longest-form (length t)) longer (unfinished (length t))
+
+-- a piece with its 00, where the tests find it good
+abbrev pub frameOf : List ℕ → Verdict → List (List ℕ)
+frameOf p (failure reason sequence) = []
+frameOf p (good m) = (p ++ 0 ∷ []) ∷ []
+
+-- those of these pieces, in order
+unfoldable pub goodFrames : List (List ℕ) → List (List ℕ)
+goodFrames [] = []
+goodFrames (p ∷ ps) = frameOf p (judge p) ++ goodFrames ps
+
+-- the bytes that answers to a 00 determine, with the messages that they handed out: a 00 for an empty frame, and a message's frame; a failure gives none
+unfoldable pub reportedBytes : List Report → List Message → List ℕ
+reportedBytes [] ms = []
+reportedBytes (empty ∷ report) ms = 0 ∷ reportedBytes report ms
+reportedBytes (message version sequence command n ∷ report) [] = []
+reportedBytes (message version sequence command n ∷ report) (m ∷ ms) = frame m ++ reportedBytes report ms
+reportedBytes (failed reason sequence ∷ report) ms = []
+reportedBytes (refused number ∷ report) ms = []
+reportedBytes (more ∷ report) ms = []
+
+-- what holds of a fresh line reader after any list of calls: a room of sufficient length, of any contents, a start on it, and calls with any loans
+abbrev pub OfFreshReader : (Reader → Type 0) → Type 0
+OfFreshReader P = (room : List ℕ) → state-length ≤ length room → (cs : List Call) → P (afterAll (begun room) cs)

@@ -1,171 +1,149 @@
--- Demand 3 in the paper's order: what a call reads, when it is refused, and that what the writer put out is what the reader hands out.
--- The claims over wire bytes, the writer, lists of calls and the checksum, and those of document 02's items 6 and 12, are passed on from their files by the
--- lines `pub use` below. Assumes nothing.
-use mathlib.Core.Path.{_≡_, refl, sym, ap, _∙_}
-use mathlib.Core.Bool.{Bool, true, false}
-use mathlib.Core.List.{List, [], _∷_, append-nil}
-use mathlib.Core.Logic.{_⊎_, inl, inr, _↔_}
-use mathlib.Core.Option.{Option, none, some}
-use Prim.Native.Nat.{ℕ, zero, suc, _+_, _≤_, _<_}
-use native.Mathlib.Omega.{arith}
-use lib.Dec.{ltb, eqb, eqb·suc-zero}
-use lib.ListN.{length, getD}
-use borrow.Author.Tests.{le-leb, lt-leb, le-ltb}
-use Rattle.octets.proofs.Conditions.{cond-by}
+-- Demand 3: wire bytes determine the list of messages, any calls of a fresh line reader hand out exactly those read, and what the checksum misses.
+-- Assumes nothing: these are definitions and statements.
+use mathlib.Core.Path.{_≡_}
+use mathlib.Core.Bool.{true, false}
+use mathlib.Core.List.{List, [], _∷_, _++_, map}
+use mathlib.Core.Logic.{_⊎_, _↔_}
+use mathlib.Core.Option.{some}
+use Prim.Native.Nat.{ℕ, _+_, _/_, _%_, _≤_}
+use lib.ListN.{length, take}
+use Rattle.octets.specs.Bytes.{Byte, Each}
 use Rattle.line.specs.Limits.{longest-data, longest-form}
-use Rattle.line.specs.Message.{Message, InRange}
-use Rattle.line.specs.Frame.{frame}
-use Rattle.line.specs.Judge.{Verdict, failure, good}
-use Rattle.line.specs.Reader.{Report, refused, more, empty, message, failed, verdictReport, state-length, count, valid, pushed, Settled, settle, finish}
-use Rattle.line.specs.Reader.{Outcome, next, readPiece, reading, starting, TailReport, unfinished, longer, tailOf, dataRefusal}
-use Rattle.line.specs.Writer
-use Rattle.line.proofs.State.{valid-ready}
-use Rattle.line.proofs.Lent.{valid-append}
-use Rattle.line_claims.specs.CobsClaims.{frame-fits}
-use Rattle.line_claims.specs.Loans.{Loan, enoughPart}
-use Rattle.line_claims.specs.LoanLaws.{back-same, lent-long, lent-short, front}
-use Rattle.line_claims.specs.Calls.{Call, read, start, loanOf, lentState, handed, reasons, answers, Reader, afterRead, afterOutcome}
-use Rattle.line_claims.specs.Calls.{restarted, afterStart, after, afterAll, begun}
-pub use Rattle.line_claims.specs.LoanLaws.{any-run}
-pub use Rattle.line_claims.specs.WireClaim.{one-meaning}
-pub use Rattle.line_claims.specs.WriterClaim.{Sent, sent-wire, written-frame, one-meaning-sent}
-pub use Rattle.line_claims.specs.ReaderClaim.{any-stream, any-messages, any-failures, any-tail, hands-out, stays-valid, cut}
-pub use Rattle.line_claims.specs.SpellingClaim.{read-written, one-spelling, good-frame}
-pub use Rattle.line_claims.specs.FrameClaim.{goodFrames, handed-frames, handed-wire, reportedBytes, answers-determine}
-pub use Rattle.line_claims.specs.Changes.{Multiple, change, changes, summed, placed, checksum-changes}
-pub use Rattle.line_claims.specs.ApartClaim.{DifferApart, changeAt, Missed, checksum-apart, checksum-255-apart, opposite-255-apart, exchanged-255-apart}
-pub use Rattle.line_claims.specs.DistanceClaim.{DividesOne, Factors, checksum-distance}
-pub use Rattle.line_claims.specs.ChecksumClaim.{Near, SameOr00Ff, AllSameOr00Ff, checksum-claim}
+use Rattle.line.specs.Checksum.{checksum}
+use Rattle.line.specs.Message.{Message, Typed, InRange, message}
+use Rattle.line.specs.Cobs.{cobs, uncobs}
+use Rattle.line.specs.Frame.{frame, Wire}
+use Rattle.line.specs.Judge.{failure, sequenceOf, checksumOf, wrongLength, wrongChecksum, judgeForm}
+use Rattle.line.specs.Reader.{valid, tailOf}
+use Rattle.line.specs.Writer.{Report, writing}
+use Rattle.line_claims.specs.Pieces.{NonZero, split, nonEmpty}
+use Rattle.line_claims.specs.Calls.{Read, Reader, fresh, afterReads, OfFreshReader, frameReport, goodMessages, failureReasons, tailMeant}
+use Rattle.line_claims.specs.Changes.{Near, AllSameOr00Ff}
+use Rattle.line_claims.specs.Samples.{meant, samples}
 
--- ---- What a call reads
+-- ---- Wire bytes determine the list of messages
 
--- the whole piece, or up to and with a 00 of that piece
-abbrev pub Stops : List ℕ → ℕ → Type 0
-Stops piece used = (used ≡ length piece) ⊎ ((at : ℕ) × (used ≡ suc at) × (at < length piece) × (getD piece at 0 ≡ 0))
+-- wire bytes made of what the writer put out, each call with arguments of its types and in any room, and any number of 00 before, between and after
+pub data Sent : List Message → List ℕ → Type 0 where
+  over : Sent [] []
+  idle : {ms : List Message} {w : List ℕ} → Sent ms w → Sent ms (0 ∷ w)
+  wrote : {m : Message} {ms : List Message} {w : List ℕ} (room : List ℕ) (n : ℕ) → Typed m → writing m room .answer ≡ Report.wrote n → Sent ms w
+      → Sent (m ∷ ms) (take n (writing m room .out) ++ w)
 
-later : (b : ℕ) (bs : List ℕ) (used : ℕ) → Stops bs used → Stops (b ∷ bs) (suc used)
-later b bs used (inl e) = inl (omega arith)
-later b bs used (inr q) = inr (suc (q .0), omega arith, omega arith, q .3)
+abbrev pub OneMeaning : Type 0
+OneMeaning = (ms ns : List Message) (w : List ℕ) → Wire ms w → Wire ns w → ms ≡ ns
 
-stops : (s piece : List ℕ) → Stops piece (readPiece s piece .used)
-unfolding readPiece next
-stops s [] = inl refl
-stops s (zero ∷ bs) = inr (0, refl, omega arith, refl)
-stops s (suc b ∷ bs) = rw eqb·suc-zero (later (suc b) bs (readPiece (pushed s (suc b)) bs .used) (stops (pushed s (suc b)) bs))
+abbrev pub WrittenFrame : Type 0
+WrittenFrame = (m : Message) (room : List ℕ) (n : ℕ) → writing m room .answer ≡ Report.wrote n
+    → (n ≡ length (frame m)) × (take n (writing m room .out) ≡ frame m) × (length (m .payload) ≤ longest-data)
 
--- a refused call reads nothing and changes nothing
-pub refused-nothing : (s piece : List ℕ) → valid s ≡ false → reading s piece ≡ record { used = 0; answer = refused 12; state = s }
-unfolding reading
-refused-nothing s piece e = rw e
+abbrev pub RoomEnough : Type 0
+RoomEnough = (m : Message) (out : List ℕ) → InRange m → longest-form + 1 ≤ length out → writing m out .answer ≡ Report.wrote (length (frame m))
 
--- any other reads its whole piece, or stops behind a 00 of that piece
-pub accepted-stops : (s piece : List ℕ) → valid s ≡ true → Stops piece (reading s piece .used)
-unfolding reading
-accepted-stops s piece e = rw e (stops s piece)
+abbrev pub OneMeaningSent : Type 0
+OneMeaningSent = (ms ns : List Message) (w : List ℕ) → Sent ms w → Sent ns w → ms ≡ ns
 
--- ---- When a call is refused
+abbrev pub RoundTrip : Type 0
+RoundTrip = (xs : List ℕ) → uncobs (cobs xs) ≡ some xs
 
-abbrev isRefused : Report → Bool
-isRefused (refused number) = true
-isRefused more = false
-isRefused empty = false
-isRefused (message version sequence command n) = false
-isRefused (failed reason sequence) = false
+abbrev pub NoZero : Type 0
+NoZero = (xs : List ℕ) → Each Byte xs → Each NonZero (cobs xs)
 
-verdict-report : (v : Verdict) → isRefused (verdictReport v) ≡ false
-unfolding verdictReport
-verdict-report (failure reason sequence) = refl
-verdict-report (good m) = refl
+abbrev pub FormFits : Type 0
+FormFits = (m : Message) → InRange m → length (cobs (message m)) ≤ longest-form
 
-finish-report : (s : List ℕ) → isRefused (finish s .answer) ≡ false
-unfolding finish settle
-finish-report s =
-    cond-by Says (eqb (count s) 0) _ _ (λ e. refl) (λ e. cond-by Says (ltb longest-form (count s)) _ _ (λ f. refl) (λ f. verdict-report _))
-  where
-    Says : Settled → Type 0
-    Says x = isRefused (x .answer) ≡ false
+abbrev pub FrameFits : Type 0
+FrameFits = (m : Message) → InRange m → length (frame m) ≤ longest-form + 1
 
-piece-report : (s piece : List ℕ) → isRefused (readPiece s piece .answer) ≡ false
-unfolding readPiece next
-piece-report s [] = refl
-piece-report s (zero ∷ bs) = finish-report s
-piece-report s (suc b ∷ bs) = rw eqb·suc-zero (piece-report (pushed s (suc b)) bs)
+pub record WireDetermines : Type 0 where
+  -- bytes that are the wire bytes of two lists of messages are those of one
+  pub one-meaning : OneMeaning
+  -- unless the table refuses the call, the line layer's writer puts out exactly the message's frame
+  pub written-frame : WrittenFrame
+  -- a room of 4,141 bytes is never too short
+  pub room-enough : RoomEnough
+  -- so the bytes that the writer's calls put out determine the messages
+  pub one-meaning-sent : OneMeaningSent
+  -- a COBS form reads back as its bytes
+  pub round-trip : RoundTrip
+  -- holds no 00
+  pub no-zero : NoZero
+  -- and has at most 4,140 bytes, 4,141 with its terminator
+  pub form-fits : FormFits
+  pub frame-fits : FrameFits
 
-not-both : {b : Bool} → b ≡ false → b ≡ true → ⊥
-not-both p q = let z : _≡_ {A = ℕ} 0 1 = cc in omega arith
+-- ---- Any list of calls of a fresh line reader hands out exactly the messages read
 
--- 12 is answered exactly where the state is not valid
-pub refused-exactly : (s piece : List ℕ) → (reading s piece .answer ≡ refused 12) ↔ (valid s ≡ false)
-unfolding reading
-refused-exactly s piece = (
-  cond-by (λ (o : Outcome). o .answer ≡ refused 12 → valid s ≡ false) (valid s) _ _ (λ e a. absurd (not-both (piece-report s piece) (ap isRefused a))) (λ e a. e),
-  λ e. rw e,
-)
+abbrev pub HandsOut : Reader → Type 0
+HandsOut r = (ms : List Message) → Wire ms (r .bytes) → (r .messages ≡ ms) × (r .failures ≡ [])
 
--- no call says 12 of this part of a state
-pub record NotRefused (part : List ℕ) : Type 0 where
-  pub reads : (piece : List ℕ) → reading part piece .answer ≡ refused 12 → ⊥
-  pub tails : tailOf part ≡ TailReport.refused 12 → ⊥
-  pub hands : (n : ℕ) → dataRefusal part n ≡ some 12 → ⊥
-  pub starts : starting part .refusal ≡ none
+abbrev pub SentHanded : Reader → Type 0
+SentHanded r = (ms : List Message) → Sent ms (r .bytes) → (r .messages ≡ ms) × (r .failures ≡ [])
 
-abbrev tailRefused : TailReport → Bool
-tailRefused (TailReport.refused number) = true
-tailRefused (unfinished n) = false
-tailRefused longer = false
+abbrev pub AnyStream : Reader → Type 0
+AnyStream r = r .answered ≡ map frameReport (split (r .bytes) .closed)
 
-abbrev twelve : Option ℕ → Bool
-twelve none = false
-twelve (some n) = eqb n 12
+abbrev pub AnyMessages : Reader → Type 0
+AnyMessages r = r .messages ≡ goodMessages (nonEmpty (split (r .bytes) .closed))
 
-valid-answers : (part : List ℕ) → valid part ≡ true → NotRefused part
-unfolding tailOf dataRefusal starting
-valid-answers part v = record {
-  reads = λ piece a. not-both (refused-exactly part piece .0 a) v;
-  tails = rw v (λ a. not-both (cond-by (λ x. tailRefused x ≡ false) (ltb longest-form (count part)) longer (unfinished (count part)) (λ e. refl) (λ e. refl)) (ap tailRefused a));
-  hands = λ n. rw v (λ a. not-both (cond-by (λ x. twelve x ≡ false) (ltb longest-data n) (some 9) none (λ e. refl) (λ e. refl)) (ap twelve a));
-  starts = rw (le-leb state-length (length part) (valid-ready part v .0));
-}
+abbrev pub AnyFailures : Reader → Type 0
+AnyFailures r = r .failures ≡ failureReasons (nonEmpty (split (r .bytes) .closed))
 
--- every call says 12 of this part of a state, reads nothing, and leaves it
-pub record AllRefused (part : List ℕ) : Type 0 where
-  pub reads : (piece : List ℕ) → reading part piece ≡ record { used = 0; answer = refused 12; state = part }
-  pub tails : tailOf part ≡ TailReport.refused 12
-  pub hands : (n : ℕ) → dataRefusal part n ≡ some 12
-  pub starts : starting part ≡ record { refusal = some 12; state = part }
+abbrev pub AnyTail : Reader → Type 0
+AnyTail r = tailOf (r .state) ≡ tailMeant (split (r .bytes) .rest)
 
--- too little of any state, from any offset on
-pub too-little-12 : (s : List ℕ) (l : Loan) → enoughPart state-length l ≡ false → AllRefused (lentState l s)
-unfolding valid tailOf dataRefusal starting
-too-little-12 s l e =
-    let short = lt-leb state-length (length (lentState l s)) (lent-short state-length s l (omega arith) e) in
-    record { reads = λ piece. refused-nothing (lentState l s) piece (rw short); tails = rw short; hands = λ n. rw short; starts = rw short }
+abbrev pub StaysValid : Reader → Type 0
+StaysValid r = valid (r .state) ≡ true
 
--- and nothing changes
-pub too-little-nothing : (r : Reader) (c : Call) → enoughPart state-length (loanOf c) ≡ false → after r c ≡ r
-unfolding after afterRead afterOutcome afterStart restarted handed reasons answers
-too-little-nothing r (read c) e = rw (too-little-12 (r .state) (c .lent) e .reads (c .piece)) (simp (append-nil, back-same))
-too-little-nothing r (start l) e = rw (too-little-12 (r .state) l e .starts)
+abbrev pub Cut : Type 0
+Cut = (s : List ℕ) (cs ds : List Read) → afterReads (fresh s) cs .bytes ≡ afterReads (fresh s) ds .bytes → afterReads (fresh s) cs ≡ afterReads (fresh s) ds
 
-module _ (room : List ℕ) (enough : state-length ≤ length room) (cs : List Call) where
-  -- a call that is lent enough of what the layer's own calls left is never refused as 12
-  pub never-12 : (l : Loan) → enoughPart state-length l ≡ true → NotRefused (lentState l (afterAll (begun room) cs .state))
-  never-12 l e =
-      let s = afterAll (begun room) cs .state in
-      let v = stays-valid room enough cs in
-      let f = front state-length l s e in
-      let h = lent-long state-length s l e (valid-ready s v .0) in
-      valid-answers (lentState l s) (sym (valid-append (lentState l s) (f .rest) h) ∙ rw (f .whole) v)
+pub record FreshReader : Type 0 where
+  -- where the bytes read are wire bytes, the messages handed out are exactly theirs, in order, and no failure is reported
+  pub hands-out : OfFreshReader HandsOut
+  -- so they are exactly those that the writer's calls put out
+  pub sent-handed : OfFreshReader SentHanded
+  -- for any stream there is one answer to each 00, and it is the tests' verdict on the bytes ahead of it
+  pub any-stream : OfFreshReader AnyStream
+  -- the messages handed out are those that the tests find good, in order
+  pub any-messages : OfFreshReader AnyMessages
+  -- the failures reported are those that the tests find, in order
+  pub any-failures : OfFreshReader AnyFailures
+  -- the unfinished tail is what was read behind the last 00
+  pub any-tail : OfFreshReader AnyTail
+  -- the state stays as 12 requires it
+  pub stays-valid : OfFreshReader StaysValid
+  -- cutting the stream elsewhere changes nothing: calls that read the same bytes leave the same reader
+  pub cut : Cut
 
-  -- ---- What was written is what is handed out
+-- ---- The checksum's blind spots at one or two neighbouring bytes are exactly 00 against ff
 
-  -- whatever the calls and pieces: in order, and without a failure
-  pub sent-handed : {ms : List Message} → Sent ms (afterAll (begun room) cs .bytes)
-      → (afterAll (begun room) cs .messages ≡ ms) × (afterAll (begun room) cs .failures ≡ [])
-  sent-handed s = hands-out room enough cs (sent-wire s)
+abbrev pub ChecksumClaim : Type 0
+ChecksumClaim = (xs ys : List ℕ) → Near xs ys → Each Byte xs → Each Byte ys → (checksum xs ≡ checksum ys) ↔ AllSameOr00Ff xs ys
 
--- a room of 4,141 bytes is never too short
-pub room-enough : (m : Message) (out : List ℕ) → InRange m → longest-form + 1 ≤ length out
-    → Writer.writing m out .answer ≡ Writer.wrote (length (frame m))
-unfolding Writer.writing Writer.sending
-room-enough m out r h = rw (le-ltb longest-data (length (m .payload)) (r .fits), le-ltb (length out) (length (frame m)) (omega (arith, frame-fits m r)))
+-- a byte ff in the checksum received
+abbrev pub ReceivedFf : List ℕ → Type 0
+ReceivedFf xs = (checksumOf xs % 256 ≡ 255) ⊎ (checksumOf xs / 256 ≡ 255)
+
+abbrev pub FfNeverMatches : Type 0
+FfNeverMatches = (xs : List ℕ) → ReceivedFf xs → wrongChecksum xs ≡ true
+
+abbrev pub FfReason2 : Type 0
+FfReason2 = (xs : List ℕ) → wrongLength xs ≡ false → ReceivedFf xs → judgeForm (some xs) ≡ failure 2 (some (sequenceOf xs))
+
+pub record BlindSpots : Type 0 where
+  -- bodies of one length that differ in one byte or in two neighbouring ones: equal checksums exactly where each differing place has 00 against ff
+  pub checksum-claim : ChecksumClaim
+  -- a received checksum that holds a byte ff never matches, whatever the length
+  pub ff-never-matches : FfNeverMatches
+  -- and is reason 2 in a message of allowed length
+  pub ff-reason-2 : FfReason2
+
+-- ---- Document 01's line samples
+
+abbrev pub SamplesHold : Type 0
+SamplesHold = map meant samples ≡ samples
+
+pub record LineSamples : Type 0 where
+  -- L1 to L12 together, as a single table, over the meaning itself
+  pub samples-hold : SamplesHold

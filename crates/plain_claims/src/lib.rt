@@ -1,2 +1,2 @@
-// The claims over the plain reader stand in specs/.
+// The claims over the plain reader: specs/ states them, proofs/ proves them.
 // No code.

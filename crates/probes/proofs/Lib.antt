@@ -6,3 +6,4 @@ mod Relending
 pub mod Samples
 pub mod Tests
 mod Walks
+pub mod Proved

@@ -2,37 +2,29 @@
 -- Assumes nothing.
 use mathlib.Core.Path.{_≡_, refl, sym, _∙_, ap}
 use mathlib.Core.Bool.{Bool, cond}
-use mathlib.Core.List.{List, [], _∷_, _++_, map}
+use mathlib.Core.List.{List, [], _∷_}
 use Prim.Native.Nat.{ℕ, zero, suc, _+_, _<_}
 use native.Mathlib.Nat.{add-zero, add-suc, suc-add, zero-add, le-of-suc-le-suc, not-suc-le-zero}
 use lib.ListN.{length, getD}
 use lib.Seq.{getD-set-other}
 use borrow.Author.Tests.{eq-eqb, ne-eqb}
 use Rattle.probes.specs.declared.Probe.{Probe}
-use Rattle.probes.specs.Probes.{Change, withResult, latest, recordsFrom, no-probe, resultSet}
+use Rattle.probes.specs.Probes.{Change, withResult, latest, recordsFrom, no-probe}
+use Rattle.probes.specs.Item4.{LastNamed, UnnamedStays, RecordAt, AsLong, AddressesStay, OthersStay}
 
--- no change of a list names part k
-abbrev pub Unnamed : ℕ → List Change → Type 0
-Unnamed k [] = Unit {0}
-Unnamed k (c ∷ cs) = (c .index ≡ k → ⊥) × Unnamed k cs
-
--- a part that no change names keeps its result
-pub unnamed-stays : (k : ℕ) (cs : List Change) (own : ℕ) → Unnamed k cs → latest k cs own ≡ own
+pub unnamed-stays : UnnamedStays
 unfolding latest
 unnamed-stays k [] own u = refl
 unnamed-stays k (c ∷ cs) own u =
     ap (λ (b : Bool). latest k cs (cond b (c .result) own)) (ne-eqb (c .index) k (u .0)) ∙ unnamed-stays k cs own (u .1)
 
--- a part has the result of the last change that names it, whatever comes before
-pub last-named : (k : ℕ) (before : List Change) (c : Change) (behind : List Change) (own : ℕ) → c .index ≡ k → Unnamed k behind
-    → latest k (before ++ c ∷ behind) own ≡ c .result
+pub last-named : LastNamed
 unfolding latest
 last-named k [] c behind own e u =
     ap (λ (b : Bool). latest k behind (cond b (c .result) own)) (eq-eqb (c .index) k e) ∙ unnamed-stays k behind (c .result) u
 last-named k (b ∷ before) c behind own e u = last-named k before c behind _ e u
 
--- the list has as many records as before, and record k is its own with the result that it has then
-pub as-long : (k : ℕ) (l : List Probe) (cs : List Change) → length (recordsFrom k l cs) ≡ length l
+pub as-long : AsLong
 unfolding recordsFrom
 as-long k [] cs = refl
 as-long k (p ∷ ps) cs = ap suc (as-long (suc k) ps cs)
@@ -46,17 +38,14 @@ record-from j (suc k) (p ∷ ps) cs h =
     record-from (suc j) k ps cs (le-of-suc-le-suc h)
     ∙ ap (λ (m : ℕ). withResult (getD ps k no-probe) (latest m cs (getD ps k no-probe .result))) (add-suc k j ∙ sym (suc-add k j))
 
-pub record-at : (k : ℕ) (l : List Probe) (cs : List Change) → k < length l
-    → getD (recordsFrom 0 l cs) k no-probe ≡ withResult (getD l k no-probe) (latest k cs (getD l k no-probe .result))
+pub record-at : RecordAt
 record-at k l cs h =
     record-from 0 k l cs h ∙ ap (λ (m : ℕ). withResult (getD l k no-probe) (latest m cs (getD l k no-probe .result))) (add-zero k)
 
--- addresses never change
-pub addresses-stay : (k : ℕ) (l : List Probe) (cs : List Change) → map (λ (p : Probe). p .address) (recordsFrom k l cs) ≡ map (λ (p : Probe). p .address) l
+pub addresses-stay : AddressesStay
 unfolding recordsFrom
 addresses-stay k [] cs = refl
 addresses-stay k (p ∷ ps) cs = ap (λ (us : List ℕ). p .address ∷ us) (addresses-stay (suc k) ps cs)
 
--- one record written leaves every other
-pub others-stay : (l : List Probe) (i r k : ℕ) → (k ≡ i → ⊥) → getD (resultSet l i r) k no-probe ≡ getD l k no-probe
+pub others-stay : OthersStay
 others-stay l i r k f = getD-set-other l i k (withResult (getD l i no-probe) r) no-probe f

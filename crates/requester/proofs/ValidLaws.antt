@@ -18,6 +18,7 @@ use Rattle.requester.specs.Calls.{Parts, longEnough, validParts, startOf
 use Rattle.requester.specs.Calls
 use Rattle.requester.specs.declared.start.Started.the-variants as started
 use Rattle.requester.proofs.Cases.{untrue, le-and, and-le}
+use Rattle.requester.specs.Calls.{PartsValid, LongEnough}
 
 pub record RequesterValid (r : List ℕ) : Type 0 where
   pub long : Layout.requester-length ≤ length r
@@ -50,10 +51,6 @@ valid-requester r v =
 
 -- ---- all parts
 
-pub record PartsValid (p : Parts) : Type 0 where
-  pub reader : LineReader.valid (p .reader) ≡ true
-  pub requester : validRequester (p .requester) ≡ true
-
 pub parts-valid : (p : Parts) → validParts p ≡ true → PartsValid p
 unfolding validParts
 parts-valid p e = let t = and-eq-true-iff (LineReader.valid (p .reader)) _ .0 e in record { reader = t .0; requester = t .1 }
@@ -63,10 +60,6 @@ unfolding validParts
 valid-parts p v = rw (v .reader) (v .requester)
 
 -- ---- room for a start
-
-pub record LongEnough (p : Parts) : Type 0 where
-  pub reader : LineReader.state-length ≤ length (p .reader)
-  pub requester : Layout.requester-length ≤ length (p .requester)
 
 pub is-long-enough : (p : Parts) → longEnough p ≡ true → LongEnough p
 unfolding longEnough

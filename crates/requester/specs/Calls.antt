@@ -27,6 +27,8 @@ use Rattle.requester.specs.declared.recovery.Interrupted.the-variants as
 use Rattle.requester.specs.declared.hearing.Handed.{Handed}
 use Rattle.requester.specs.declared.hearing.Handed.the-variants as handed
 use Rattle.requester.specs.declared.receive.Received.{Received}
+use mathlib.Core.Path.{_≡_}
+use Prim.Native.Nat.{_≤_}
 
 -- ---- Start
 
@@ -252,3 +254,13 @@ unfoldable pub receiving : Parts → List ℕ → Receipt
 receiving p piece =
     cond (validParts p) (received p piece)
     (record { used = 0; report = Report.refused 12; ended = false; unsent = false; parts = p })
+
+-- both parts are as 12 requires
+pub record PartsValid (p : Parts) : Type 0 where
+  pub reader : LineReader.valid (p .reader) ≡ true
+  pub requester : validRequester (p .requester) ≡ true
+
+-- both parts have their published lengths
+pub record LongEnough (p : Parts) : Type 0 where
+  pub reader : LineReader.state-length ≤ length (p .reader)
+  pub requester : Layout.requester-length ≤ length (p .requester)

@@ -1,5 +1,6 @@
 -- Calls of the main processor's end, one after the other: what each answers and leaves by the promises, and what document 02 has of it.
 -- Assumes nothing: these are definitions.
+use mathlib.Core.Path.{_≡_}
 use mathlib.Core.Bool.{Bool, cond, _&&_}
 use mathlib.Core.List.{List, [], _∷_}
 use mathlib.Core.Option.{Option, none, some}
@@ -12,7 +13,7 @@ use Rattle.requester.specs.State.{State, fresh}
 use Rattle.requester.specs.Requester
 use Rattle.requester.specs.Layout
 use Rattle.requester.specs.Calls
-use Rattle.requester.specs.Calls.{Parts, parts, Report, reportOf}
+use Rattle.requester.specs.Calls.{Parts, parts, Report, reportOf, PartsValid}
 
 -- ---- Calls and answers
 
@@ -199,3 +200,34 @@ outputsMeant s (m ∷ ms) = record { answer = meantMade s m .answer; out = meant
 unfoldable pub leftMeant : State → List Made → State
 leftMeant s [] = s
 leftMeant s (m ∷ ms) = leftMeant (meantMade s m .state) ms
+
+-- ---- What holds from a start on
+
+-- each part of q is as long as p's
+pub record Lengths (p q : Parts) : Type 0 where
+  pub reader : length (q .reader) ≡ length (p .reader)
+  pub requester : length (q .requester) ≡ length (p .requester)
+
+-- a start that is lent this
+abbrev pub begin : Lent → Made
+begin l = record { lent = l; call = start }
+
+-- it is accepted, whatever bytes the parts hold
+abbrev pub Accepted : Parts → Lent → Type 0
+Accepted p l = made p (begin l) .answer ≡ done
+
+-- the parts that it leaves
+abbrev pub begun : Parts → Lent → Parts
+begun p l = made p (begin l) .parts
+
+-- what holds of the parts that an accepted start leaves, on any bytes
+abbrev pub OfStarted : (Parts → Type 0) → Type 0
+OfStarted P = (p : Parts) (l : Lent) → Accepted p l → P (begun p l)
+
+-- and of the parts that any calls behind it leave
+abbrev pub OfReached : (Parts → Type 0) → Type 0
+OfReached P = OfStarted (λ q. (ms : List Made) → P (left q ms))
+
+-- what holds of any parts that are as 12 requires
+abbrev pub OfValid : (Parts → Type 0) → Type 0
+OfValid P = (p : Parts) → PartsValid p → P p

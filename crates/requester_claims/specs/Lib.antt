@@ -1,19 +1,10 @@
--- The claims over the main processor's end: the view of its parts, each call as the meaning has it, and lists of calls.
--- Assumes nothing.
+-- What is claimed of the main processor's end, in the order in which to read it. Definitions: the state in the lent parts, lists of calls, receives,
+-- frames put out, answers. Statements: `Item2`, `Item6`; proofs/ has one element of each record of theirs. Assumes nothing.
 pub mod View
 pub mod Histories
-pub mod FieldLaws
-pub mod NextClaim
-pub mod ReceivedClaim
-pub mod OneByte
-pub mod ByteClaim
-pub mod CallClaims
-pub mod Locality
-pub mod LentCalls
-pub mod History
-pub mod MeaningLaws
 pub mod Cuts
 pub mod Numbers
 pub mod Answers
-pub mod AnswerBytes
-pub mod AnswerFrame
+pub mod Item2
+pub mod Demand1
+pub mod Item6

@@ -1,2 +1,2 @@
-// No code: the claims over the main processor's end, in specs/.
-// Assumes nothing.
+// The claims over the main processor's end: specs/ states them, proofs/ proves them.
+// No code.

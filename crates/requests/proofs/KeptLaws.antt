@@ -27,7 +27,8 @@ use Rattle.supervisor.specs.Valid.{validOutbox, validFactory, validSettings, va
 use Rattle.supervisor.specs.Calls.{resultNumber, lookupResult, editionNumber, editionResult}
 use Rattle.supervisor.proofs.KeyLaws.{value-short}
 use Rattle.supervisor.proofs.OffsetLaws.{offset-within, longest-short, Lies, setting-lies}
-use Rattle.supervisor.proofs.ValidLaws.{all-each, each-all, outbox-valid, valid-outbox, SettingValid, SettingsValid, settings-valid, valid-settings}
+use Rattle.supervisor.proofs.ValidLaws.{all-each, each-all, outbox-valid, valid-outbox, settings-valid, valid-settings}
+use Rattle.supervisor.specs.Valid.{SettingValid, SettingsValid}
 use Rattle.supervisor.proofs.ValidLaws.{alert-valid, valid-alert, RecordValid, RegistersValid, registers-valid}
 use Rattle.supervisor.proofs.KeptRegisters.{FlagsValid, FailureValid, PanicValid, groups-valid, numbers-kept, flags-kept, failure-kept, panic-kept, waiting-kept, retained-kept, kept-valid}
 use Rattle.requests.specs.Requests.{clearBit}

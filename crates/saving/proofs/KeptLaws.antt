@@ -18,7 +18,8 @@ use Rattle.supervisor.specs.Limits.{first-setting, SettingsKey, longest-setting
 use Rattle.supervisor.specs.Layout.{setting-offset, setting-length-offset, setting-value-offset, settingBytes}
 use Rattle.supervisor.specs.Valid.{validSettings}
 use Rattle.supervisor.proofs.OffsetLaws.{offset-within, longest-short, Lies, setting-lies}
-use Rattle.supervisor.proofs.ValidLaws.{SettingValid, SettingsValid, settings-valid, valid-settings}
+use Rattle.supervisor.proofs.ValidLaws.{settings-valid, valid-settings}
+use Rattle.supervisor.specs.Valid.{SettingValid, SettingsValid}
 use Rattle.saving.specs.Saving.{highest-saved, saved-count, lengthAt, entryAt, Entry, Read, fault, good, read}
 use Rattle.saving.specs.Calls.{Restore, cleared, put, putAll, restoringBy, restoring, entriesIn}
 use Rattle.saving.proofs.StepLaws.{Passed}

@@ -1,105 +1,74 @@
 -- Document 02's item 11: what was saved restores to the same settings, and an image is exactly what it restores.
--- Assumes nothing.
-use mathlib.Core.Path.{_≡_, refl, sym, ap, _∙_}
-use mathlib.Core.List.{List, [], _∷_, _++_}
+-- Assumes nothing: these are definitions and statements.
+use mathlib.Core.Path.{_≡_}
+use mathlib.Core.List.{List, [], _∷_, _++_, map}
 use mathlib.Core.Option.{Option, none, some}
-use Prim.Native.Nat.{ℕ, suc, _+_, _≤_, _<_}
-use native.Mathlib.Omega.{arith}
-use lib.ListN.{length, take, drop, take-append-drop, length-drop}
-use lib.Seq.{take-at, take-all, length-take-le}
+use Prim.Native.Nat.{ℕ, suc, _^_, _≤_, _<_}
+use lib.ListN.{length, take, drop}
 use Rattle.octets.specs.Bytes.{Byte, Each}
-use Rattle.supervisor.specs.Limits.{first-setting}
+use Rattle.supervisor.specs.Limits.{first-setting, longest-setting}
 use Rattle.supervisor.specs.State.{Settings}
-use Rattle.saving.specs.Saving.{highest-saved, saved-count, recordFor, imageFrom, saved, Entry, Read, fault, good, ahead, ended}
-use Rattle.saving.specs.Saving.{entryAt, readFrom, read, restored}
-use Rattle.saving.proofs.StepLaws.{Passed, passed, Sound, step-sound}
-use Rattle.saving.proofs.ReadLaws.{read-at, reading-by}
-use Rattle.saving_claims.specs.RecordLaws.{end-read, record-read, entry-read, rest-here, record-exact}
-use Rattle.saving_claims.specs.EntryLaws.{SavableBy, Savable, aheadOf, entriesOf, settingsIn, restored-split, settings-kept}
-use Rattle.saving_claims.specs.EntryLaws.{Rising, written, rising-first, length-settings, settings-written}
+use Rattle.saving.specs.Saving.{saved-count, saved, Entry, good, read, restored}
+use Rattle.saving_claims.specs.Samples.{meant, samples}
 
--- ---- what was saved restores
+-- no value and edition 0, or a value that is not too long and an edition of 32 bits
+abbrev pub SavableBy : ℕ → ℕ → Option (List ℕ) → Type 0
+SavableBy key edition none = edition ≡ 0
+SavableBy key edition (some v) = (length v ≤ longest-setting key) × (edition < 256 ^ 4)
 
-module _ (image : List ℕ) where
-  record-first : (xs : Settings) (key before at edition : ℕ) (o : Option (List ℕ)) → before < key → first-setting ≤ key → key ≤ highest-saved → SavableBy key edition o
-      → drop at image ≡ recordFor key (record { edition = edition; value = o }) ++ imageFrom (suc key) xs
-      → ((before at : ℕ) → before < suc key → drop at image ≡ imageFrom (suc key) xs → readFrom image before at ≡ good (entriesOf (suc key) xs))
-      → readFrom image before at ≡ good (aheadOf key edition o (entriesOf (suc key) xs))
-  record-first xs key before at edition none h lower upper s e rest = rest before at (omega arith) e
-  record-first xs key before at edition (some v) h lower upper s e rest =
-      let behind = imageFrom (suc key) xs in
-      read-at image before at (record-read image at key edition v behind e lower upper (s .0) (s .1) before h)
-      ∙ rw (
-        rest key (at + (11 + length v)) (omega arith) (rest-here image at key edition v behind e lower upper (s .0) (s .1)),
-        entry-read image at key edition v behind e lower upper (s .0) (s .1),
-      )
+-- the settings from a key on can be saved
+abbrev pub Savable : ℕ → Settings → Type 0
+Savable key [] = Unit {0}
+Savable key (x ∷ xs) = SavableBy key (x .edition) (x .value) × Savable (suc key) xs
 
-  -- from a key on
-  saved-read-from : (xs : Settings) (key before at : ℕ) → before < key → first-setting ≤ key → key + length xs ≤ suc highest-saved → Savable key xs
-      → drop at image ≡ imageFrom key xs → readFrom image before at ≡ good (entriesOf key xs)
-  unfolding imageFrom entriesOf
-  saved-read-from [] key before at h lower upper s e = read-at image before at (end-read image before at e)
-  saved-read-from (x ∷ xs) key before at h lower upper s e =
-      record-first xs key before at (x .edition) (x .value) h lower (omega arith) (s .0) e
-      (λ before at h e. saved-read-from xs (suc key) before at h (omega arith) (omega arith) (s .1) e)
+-- the record of a key that has a value, ahead of others
+abbrev pub aheadOf : ℕ → ℕ → Option (List ℕ) → List Entry → List Entry
+aheadOf key edition none es = es
+aheadOf key edition (some v) es = record { key = key; edition = edition; value = v } ∷ es
 
-module _ (xs : Settings) (long : saved-count ≤ length xs) (savable : Savable first-setting (take saved-count xs)) where
-  abbrev records : List Entry
-  records = entriesOf first-setting (take saved-count xs)
+-- the records of the settings from a key on
+unfoldable pub entriesOf : ℕ → Settings → List Entry
+entriesOf key [] = []
+entriesOf key (x ∷ xs) = aheadOf key (x .edition) (x .value) (entriesOf (suc key) xs)
 
-  -- the image of settings that can be saved has no fault
-  pub saved-read : read (saved xs) ≡ good records
-  unfolding read saved
-  saved-read =
-      let l = length-take-le saved-count xs long in
-      saved-read-from (saved xs) (take saved-count xs) first-setting 0 0 (omega arith) (omega arith) (omega arith) savable refl
+-- those of keys 3, 4 and 5, where settings begin
+abbrev pub records : Settings → List Entry
+records xs = entriesOf first-setting (take saved-count xs)
 
-  -- and restores them: into any settings, whose others stay
-  pub saved-restores-into : (ys : Settings) → saved-count ≤ length ys → restored records ys ≡ take saved-count xs ++ drop saved-count ys
-  saved-restores-into ys h =
-      let l = length-take-le saved-count xs long in
-      restored-split records ys h
-      ∙ ap (λ (zs : Settings). zs ++ drop saved-count ys) (rw l at (settings-kept (take saved-count xs) first-setting savable))
+-- what holds of all settings of which those of keys 3, 4 and 5 can be saved
+abbrev pub OfSavable : (Settings → Type 0) → Type 0
+OfSavable P = (xs : Settings) → saved-count ≤ length xs → Savable first-setting (take saved-count xs) → P xs
 
-  pub saved-restores : restored records xs ≡ xs
-  saved-restores = saved-restores-into xs long ∙ take-append-drop saved-count xs
+abbrev pub SamplesHold : Type 0
+SamplesHold = map meant samples ≡ samples
 
--- ---- an image is the saved form of what it restores
+abbrev pub SavedRead : Settings → Type 0
+SavedRead xs = read (saved xs) ≡ good (records xs)
 
-module _ (image : List ℕ) (byte : Each Byte image) where
-  -- the bytes from an offset on are those of the records read there, whose keys rise
-  abbrev Exact : ℕ → ℕ → Read → Type 0
-  Exact before at (fault n there) = Unit {0}
-  Exact before at (good es) = (drop at image ≡ written es) × Rising (suc before) es
+abbrev pub SavedRestores : Settings → Type 0
+SavedRestores xs = restored (records xs) xs ≡ xs
 
-  exact-more : (before at key there : ℕ) (r : Read) → Passed image before at key there → Exact key there r → Exact before at (ahead (entryAt image at) r)
-  unfolding written
-  exact-more before at key there (fault n offset) p h = tt
-  exact-more before at key there (good es) p h =
-      (record-exact image byte p ∙ rw (h .0), (p .above, p .whole .lower, p .whole .upper, rw (p .its-key) at (h .1)))
+abbrev pub SavedRestoresInto : Settings → Type 0
+SavedRestoresInto xs = (ys : Settings) → saved-count ≤ length ys → restored (records xs) ys ≡ take saved-count xs ++ drop saved-count ys
 
-  exact-end : (before at : ℕ) → Sound image before at ended → Exact before at (good [])
-  unfolding written
-  exact-end before at s =
-      let l = length-drop at image in
-      (sym (take-all 2 (drop at image) (omega (arith, s .1))) ∙ s .0, tt)
+abbrev pub ImageExact : Type 0
+ImageExact = (image : List ℕ) → Each Byte image → (es : List Entry) → read image ≡ good es → (ys : Settings) → saved-count ≤ length ys
+    → image ≡ saved (restored es ys)
 
-  pub read-exact : Exact 0 0 (read image)
-  unfolding read
-  read-exact =
-      reading-by image Exact (λ before at n there e. tt) (λ before at e. exact-end before at (rw e at (step-sound image before at)))
-      (λ before at key there r e h. exact-more before at key there r (passed image before at e) h) 0 0
-
-  module _ (es : List Entry) (e : read image ≡ good es) (ys : Settings) (long : saved-count ≤ length ys) where
-    pub image-exact : image ≡ saved (restored es ys)
-    unfolding saved
-    image-exact =
-        let x = rw e at read-exact in
-        x .0
-        ∙ sym (rw (restored-split es ys long, take-at (settingsIn saved-count first-setting es) (drop saved-count ys) saved-count (length-settings saved-count first-setting es))
-        (settings-written saved-count first-setting es (rising-first 1 es (x .1)) refl))
-
--- two images that restore the same settings are the same
-pub image-one : (i j : List ℕ) → Each Byte i → Each Byte j → (es fs : List Entry) → read i ≡ good es → read j ≡ good fs
+abbrev pub ImageOne : Type 0
+ImageOne = (i j : List ℕ) → Each Byte i → Each Byte j → (es fs : List Entry) → read i ≡ good es → read j ≡ good fs
     → (ys : Settings) → saved-count ≤ length ys → restored es ys ≡ restored fs ys → i ≡ j
-image-one i j b d es fs e f ys h s = image-exact i b es e ys h ∙ ap saved s ∙ sym (image-exact j d fs f ys h)
+
+pub record Item11 : Type 0 where
+  -- small images, each with what it holds or its first fault and that fault's offset, as a single table, over the meaning itself
+  pub samples-hold : SamplesHold
+  -- the image of settings that can be saved has no fault
+  pub saved-read : OfSavable SavedRead
+  -- and restores them
+  pub saved-restores : OfSavable SavedRestores
+  -- into any settings: the three saved ones are replaced, the others stay
+  pub saved-restores-into : OfSavable SavedRestoresInto
+  -- an image that is accepted is the saved form of what it restores, byte for byte
+  pub image-exact : ImageExact
+  -- two images that restore the same settings are the same
+  pub image-one : ImageOne

@@ -1,19 +1,16 @@
--- Small images and what reading them gives, as one table.
--- Assumes nothing.
-use mathlib.Core.Path.{_≡_, refl}
-use mathlib.Core.List.{List, [], _∷_, _++_, map}
+-- Small images and what reading them gives, as one table, and the same by the meaning.
+-- Assumes nothing: these are definitions.
+use mathlib.Core.List.{List, [], _∷_, _++_}
 use Prim.Native.Nat.{ℕ}
-use Rattle.octets.specs.Bytes.{number, bytes, equal}
-use Rattle.line.specs.Checksum.{sums, checksum}
-use Rattle.supervisor.specs.Limits.{longest-setting}
-use Rattle.saving.specs.Saving.{record-mark, end-mark, recordOf, Read, fault, good, follows, recordStep, step, readIn, readFrom, read}
+use Rattle.octets.specs.Bytes.{bytes}
+use Rattle.saving.specs.Saving.{record-mark, end-mark, recordOf, Read, fault, good, read}
 
 -- an image, and what reading it gives
 pub record Sample : Type 0 where
   pub image : List ℕ
   pub outcome : Read
 
-abbrev sample : List ℕ → Read → Sample
+abbrev pub sample : List ℕ → Read → Sample
 sample image outcome = record { image = image; outcome = outcome }
 
 -- the sample as the meaning has it
@@ -38,7 +35,3 @@ samples =
     ∷ sample (recordOf 3 0 [] ++ recordOf 4 4294967295 (7 ∷ []) ++ end-mark)
     (good (record { key = 3; edition = 0; value = [] } ∷ record { key = 4; edition = 4294967295; value = 7 ∷ [] } ∷ []))
     ∷ []
-
-pub samples-hold : map meant samples ≡ samples
-unfolding meant samples number bytes equal sums checksum longest-setting recordOf follows recordStep step readIn readFrom read
-samples-hold = refl

@@ -1,2 +1,2 @@
-// The claims over saving and restoring stand in specs/.
+// The claims over saving and restoring: specs/ states them, proofs/ proves them.
 // No code.

@@ -17,7 +17,8 @@ use Rattle.supervisor.specs.Valid.{validFactory, validSettings}
 use Rattle.supervisor.specs.Calls.{settingAt, locationOf, resultAt, lookupResult, within, valueAt, lookupValue, editionAt, editionResult}
 use Rattle.supervisor.specs.declared.keys.Location.{Location}
 use Rattle.supervisor.proofs.OffsetLaws.{longest-short, settings-key}
-use Rattle.supervisor.proofs.ValidLaws.{FactoryValid, SettingsValid, factory-valid, settings-valid}
+use Rattle.supervisor.proofs.ValidLaws.{FactoryValid, factory-valid, settings-valid}
+use Rattle.supervisor.specs.Valid.{SettingsValid}
 
 -- ---- the value at a key's location
 

@@ -17,6 +17,7 @@ use Rattle.supervisor.specs.Limits
 use Rattle.supervisor.specs.Local.{pong}
 use Rattle.supervisor.specs.Layout
 use Rattle.supervisor.specs.Valid
+use Rattle.supervisor.specs.Valid.{SettingValid, SettingsValid}
 
 -- ---- tests
 
@@ -174,11 +175,6 @@ valid-factory f v =
 
 -- ---- the settings store
 
-pub record SettingValid (s : List ℕ) (at shortest longest : ℕ) : Type 0 where
-  pub held : Layout.settingHeld s at ≤ 1
-  pub size : Layout.settingLength s at ≤ longest
-  pub short : (shortest ≤ Layout.settingLength s at) ⊎ ((Layout.settingLength s at ≡ 0) × (Layout.settingHeld s at ≡ 0))
-
 pub setting-valid : (s : List ℕ) (at shortest longest : ℕ) → Valid.validSetting s at shortest longest ≡ true → SettingValid s at shortest longest
 unfolding Valid.validSetting
 setting-valid s at shortest longest e =
@@ -196,10 +192,6 @@ valid-setting s at shortest longest v =
 pub none-held : (s : List ℕ) (at shortest longest : ℕ) → Valid.validSetting s at shortest longest ≡ true → Layout.settingLength s at < shortest
     → (Layout.settingLength s at ≡ 0) × (Layout.settingHeld s at ≡ 0)
 none-held s at shortest longest e h = ⊎-elim (λ l. absurd (omega arith)) (λ z. z) (setting-valid s at shortest longest e .short)
-
-pub record SettingsValid (s : List ℕ) : Type 0 where
-  pub long : Layout.settings-length ≤ length s
-  pub each : (key : ℕ) → Limits.SettingsKey key → SettingValid s (Layout.setting-offset key) (Limits.shortest-setting key) (Limits.longest-setting key)
 
 pub settings-valid : (s : List ℕ) → Valid.validSettings s ≡ true → SettingsValid s
 unfolding Valid.validSettings

@@ -9,6 +9,9 @@ use Rattle.octets.specs.Bytes.{numberAt, run, equal}
 use Rattle.supervisor.specs.Limits
 use Rattle.supervisor.specs.Local.{pong}
 use Rattle.supervisor.specs.Layout
+use mathlib.Core.Path.{_≡_}
+use mathlib.Core.Logic.{_⊎_}
+use Prim.Native.Nat.{_≤_}
 
 -- every number below n passes the test
 unfoldable pub all : (ℕ → Bool) → ℕ → Bool
@@ -111,3 +114,14 @@ validRegisters r =
     && (leb (numberAt 1 r Layout.reboot-offset) 1
     && (leb (numberAt 1 r Layout.power-off-offset) 1
     && validRecordsAndAlerts r))))
+
+-- what validSetting tests, as facts
+pub record SettingValid (s : List ℕ) (at shortest longest : ℕ) : Type 0 where
+  pub held : Layout.settingHeld s at ≤ 1
+  pub size : Layout.settingLength s at ≤ longest
+  pub short : (shortest ≤ Layout.settingLength s at) ⊎ ((Layout.settingLength s at ≡ 0) × (Layout.settingHeld s at ≡ 0))
+
+-- what validSettings tests, as facts
+pub record SettingsValid (s : List ℕ) : Type 0 where
+  pub long : Layout.settings-length ≤ length s
+  pub each : (key : ℕ) → Limits.SettingsKey key → SettingValid s (Layout.setting-offset key) (Limits.shortest-setting key) (Limits.longest-setting key)

@@ -1,79 +1,221 @@
--- Demand 2: from a fresh start, state, replies and answers are those of document 01, over any list of calls.
--- Assumes nothing.
+-- Demand 2: from a fresh start, state and replies are those got by carrying out the received stream, with the local calls where they fell.
+-- Assumes nothing: these are definitions and statements.
 use mathlib.Core.Path.{_≡_}
-use mathlib.Core.Bool.{true}
-use mathlib.Core.List.{List, []}
-use Prim.Native.Nat.{ℕ}
-use Rattle.supervisor.specs.State.{fresh}
-use Rattle.supervisor.specs.Calls.{Parts}
-use Rattle.octets.specs.Bytes.{Each}
-use Rattle.line_claims.specs.Calls as LineCalls
+use mathlib.Core.Bool.{true, cond, not, _&&_}
+use mathlib.Core.List.{List, [], _∷_, _++_, flatten}
+use mathlib.Core.Logic.{_⊎_}
+use mathlib.Core.Option.{Option, none, some}
+use Prim.Native.Nat.{ℕ, zero, suc, _≤_, _<_}
+use lib.Dec.{eqb}
+use lib.ListN.{length, take, drop}
+use Rattle.octets.specs.Bytes.{Each, Byte}
+use Rattle.line.specs.Message.{Message}
 use Rattle.line_claims.specs.Pieces.{split, nonEmpty}
+use Rattle.supervisor.specs.Limits.{last-edition, SettingsKey}
+use Rattle.supervisor.specs.Layout
+use Rattle.supervisor.specs.State.{Factory, Setting, Settings, State, fresh, withPending}
+use Rattle.supervisor.specs.Local
+use Rattle.supervisor.specs.Calls
+use Rattle.supervisor.specs.Calls.{Parts}
+use Rattle.requests.specs.Requests.{failure, good, verdict, wrongValueLength, stored, carried, stream, owed, replyFrame, replyOf, failedOf}
 use Rattle.supervisor_claims.specs.View.{factoryOf, view}
-use Rattle.supervisor_claims.specs.Meant.{withReader}
-use Rattle.supervisor_claims.specs.Sound.{Bytes, Sound, Lengths}
+use Rattle.supervisor_claims.specs.Sound.{Valid, Bytes, Sound, Lengths}
 use Rattle.supervisor_claims.specs.Histories
-use Rattle.supervisor_claims.specs.Histories.{Typed, refused, done, Lent, Made, enough, made, outputs, left, AllTyped}
-use Rattle.supervisor_claims.specs.FrameHistory.{joinedAll, outputsByFrames, leftByFrames, carriedFrames}
-use Rattle.supervisor_claims.specs.claims.FramesClaim.{by-frames}
--- any list of calls from a start that is accepted, on any bytes: every answer, all that is written outside the state, and the state that is
--- left are document 01's, whatever is lent; one call among them; a refused call changes nothing; a stream in two calls or in one
-pub use Rattle.supervisor_claims.specs.claims.History.{history, one-call, never-12, earns-no-12, refused-made, cut}
--- and in any two lists of pieces: the same bytes in every part, and all calls done or all refused as 12
-pub use Rattle.supervisor_claims.specs.claims.Cuts.{receives, AllAnswer, AllDone, AllRefused, pieces-whole, cut-any}
--- after any calls, the frames carried out or answered since the last accepted start are those of the joined bytes: each once, in order
-pub use Rattle.supervisor_claims.specs.claims.FramesClaim.{each-once}
--- a settings key holds its last successful set and, as edition, their number on top of a restored one, and a lookup answers that: key 5 is the withdrawn-key list
-pub use Rattle.supervisor_claims.specs.claims.WithdrawnKeys.{reached, value-last-set, last-set, lookup-last-set, withdrawn-list-answered, list-edition-answered}
--- a lookup of key 6, the passphrase, answers 4, whether or not a value is held
-pub use Rattle.supervisor_claims.specs.claims.WithdrawnKeys.{passphrase-unread, passphrase-unread-locally}
-pub use Rattle.supervisor_claims.specs.claims.LastSetLaws.{set-successful, successful-exactly}
--- what is saved in a state that is reached restores, on any sound parts; an accepted image is the saved form of what it leaves (document 02, item 11)
-pub use Rattle.supervisor_claims.specs.claims.SavedClaim.{key-savable, save-writes, saved-restores, accepted-exact}
--- step receives the bytes up to and with the first 00; with the bytes left it is receive
-pub use Rattle.supervisor_claims.specs.claims.History.{step-receives, step-then-receive, steps-receive}
--- 12 exactly where a part that a call takes is not as 12 requires, and so where too little of one is lent; then nothing changes
-pub use Rattle.supervisor_claims.specs.claims.Refusals.{refused-12, refused-exactly, refused-holds}
-pub use Rattle.supervisor_claims.specs.claims.LentCalls.{made-12}
--- a stream is its frames, carried out or answered in order, once each, then the tail: on a fresh state, in the middle of a frame, after any calls
-pub use Rattle.supervisor_claims.specs.claims.InOrder.{in-order, in-order-behind, in-order-frames, request-carried, failure-only-pending}
-pub use Rattle.supervisor_claims.specs.claims.FramesClaim.{received-since, in-order-after}
--- of valid requests, only an alert request replaces the retained alert reply; reboot and power off drop it, and the next alert request takes a fresh alert
-pub use Rattle.supervisor_claims.specs.claims.RetainedClaim.{retained-stays, reboot-forgets, power-off-forgets, fresh-alert}
--- the same over any calls: local calls and failed frames leave it; which requests of the joined bytes leave one retained; the fresh alert's reply is pending
-pub use Rattle.supervisor_claims.specs.claims.AlertClaim.{local-keeps, failed-keeps, request-retains, retained-exactly, fresh-alert-answered, fresh-after-reboot}
--- the line layer's own calls on the reader's part leave sound parts, which earn no 12
-pub use Rattle.supervisor_claims.specs.claims.ReaderCalls.{PieceBytes, reader-calls-sound}
--- a stream received byte by byte, all taken after each byte: the frames of the replies, in order
-pub use Rattle.supervisor_claims.specs.claims.Replies.{replies-in-order}
+use Rattle.supervisor_claims.specs.Histories.{Answer, refused, done, found, did, upTo, Lent, enough, Made, made, Output, outputs, left}
+use Rattle.supervisor_claims.specs.Histories.{outputsMeant, leftMeant, AllTyped, received, locally, FromStart, AfterCalls}
+use Rattle.supervisor_claims.specs.FrameHistory.{joinedAll, framed, tailOf, following, outputsByFrames, leftByFrames, carriedFrames, Replied, OnRequest}
+use Rattle.supervisor_claims.specs.LastSet.{successful, setAfter, origin, originBehind, setSince, Has, fittedOf, lookupOf, lookupReply, ReadBack}
+use Rattle.supervisor_claims.specs.Replies.{Cycle, Ample, byteByByte, streamOf, takenBytes, replies}
 
--- Demand 2 in one statement. A start that is accepted, on any bytes, then any calls, whatever each is lent. The bytes received since the last accepted start
--- are joined (`joinedAll`). At each call, in order: a receive or step takes, in order, those frames of the joined bytes that are not empty and whose 00 it
--- brings, and carries out each valid request, with the image lent to it, and answers every other with its numbered failure; a local call does what document 01
--- has of it; a call that is lent too little is refused as 12 and does nothing. Every answer and all that is written outside the state (`outputsByFrames`), and the
--- state that is left (`leftByFrames`), are those got so. The frames so taken since the last accepted start (`carriedFrames`) are all those of the joined bytes
--- that are not empty, each exactly once and in order.
-pub history-frames : (p : Parts) → Bytes p → (l : Lent) (d : List ℕ) → Typed (Histories.start d)
-    → made p (record { lent = l; call = Histories.start d }) .answer ≡ done → (ms : List Made) → AllTyped ms
-    → let q = made p (record { lent = l; call = Histories.start d }) .parts in
-    (outputs q ms ≡ outputsByFrames [] (fresh (factoryOf d)) ms)
+-- ---- State and replies are those got by carrying out the valid requests, once each and in order, with the local calls where they fell
+
+-- the frames carried out or answered since the last accepted start, call after call, are all those of the joined bytes that are not empty
+abbrev pub CarriedOnce : List Made → Type 0
+CarriedOnce ms = carriedFrames [] [] ms ≡ nonEmpty (split (joinedAll [] ms) .closed)
+
+abbrev pub HistoryFrames : Type 0
+HistoryFrames = FromStart (λ p d q. (ms : List Made) → AllTyped ms
+    → (outputs q ms ≡ outputsByFrames [] (fresh (factoryOf d)) ms)
     × (view (left q ms) ≡ leftByFrames [] (fresh (factoryOf d)) ms)
-    × (carriedFrames [] [] ms ≡ nonEmpty (split (joinedAll [] ms) .closed))
+    × CarriedOnce ms
     × Sound (left q ms)
-    × Lengths p (left q ms)
-history-frames p b l d typed h ms t =
-    let k = history p b l d typed h ms t in
-    let f = by-frames (factoryOf d) ms in
-    (rw (f .0) (k .0), rw (f .1) (k .1), each-once ms, k .2, k .3)
+    × Lengths p (left q ms))
 
--- no state that is reached is refused as 12
-pub no-12 : (p : Parts) → Bytes p → (l : Lent) (d : List ℕ) → Typed (Histories.start d)
-    → made p (record { lent = l; call = Histories.start d }) .answer ≡ done → (ms : List Made) → AllTyped ms
-    → (m : Made) → Typed (m .call) → enough (m .call) (m .lent) ≡ true
-    → let q = made p (record { lent = l; call = Histories.start d }) .parts in made (left q ms) m .answer ≡ refused 12 → ⊥
-no-12 p b l d typed h ms t m c e = earns-no-12 _ m (history p b l d typed h ms t .2) c e
+-- calls on q do what document 01 has of the same calls on the state s, and leave sound parts, as long as p's
+abbrev pub Follows : Parts → Parts → State → List Made → Type 0
+Follows p q s ms = (outputs q ms ≡ outputsMeant s ms) × (view (left q ms) ≡ leftMeant s ms) × Sound (left q ms) × Lengths p (left q ms)
 
--- nor is what the line layer's own calls leave of the reader's part
-pub reader-no-12 : (p : Parts) → Sound p → (cs : List LineCalls.Call) → Each PieceBytes cs → (m : Made) → Typed (m .call) → enough (m .call) (m .lent) ≡ true
-    → made (withReader p (LineCalls.afterAll (LineCalls.fresh (p .reader)) cs .state)) m .answer ≡ refused 12 → ⊥
-reader-no-12 p s cs h m c e = earns-no-12 _ m (reader-calls-sound p s cs h .0) c e
+abbrev pub History : Type 0
+History = FromStart (λ p d q. (ms : List Made) → AllTyped ms → Follows p q (fresh (factoryOf d)) ms)
+
+-- a refusal of a start on p with nothing changed, or valid parts that hold the state
+abbrev pub Starts : Parts → Calls.Start → Local.Done → Type 0
+Starts p t (Local.refused n) = t ≡ record { refusal = some n; parts = p }
+Starts p t (Local.left s) = (t .refusal ≡ none) × (view (t .parts) ≡ s) × Valid (t .parts)
+
+abbrev pub StartMeant : Type 0
+StartMeant = (d : List ℕ) → length d ≡ Layout.start-length → (p : Parts) → Calls.longEnough p ≡ true → Starts p (Calls.starting d p) (Local.start (factoryOf d))
+
+abbrev pub EachOnce : Type 0
+EachOnce = (ms : List Made) → CarriedOnce ms
+
+abbrev pub InOrder : Type 0
+InOrder = (image : List ℕ) (s : State) (bs : List ℕ) → s .received ≡ some [] → stream image s bs ≡ following image s bs
+
+-- no 00 is among them
+abbrev pub NoZeros : List ℕ → Type 0
+NoZeros = Each (λ b. 1 ≤ b)
+
+abbrev pub InOrderBehind : Type 0
+InOrderBehind = (image : List ℕ) (s : State) (p bs : List ℕ) → NoZeros p → s .received ≡ tailOf p → stream image s bs ≡ following image s (p ++ bs)
+
+abbrev pub ReceivedSince : Type 0
+ReceivedSince = (f : Factory) (ms : List Made) → let p = split (joinedAll [] ms) .rest in (leftMeant (fresh f) ms .received ≡ tailOf p) × NoZeros p
+
+abbrev pub InOrderAfter : Type 0
+InOrderAfter = (f : Factory) (ms : List Made) (image bs : List ℕ)
+    → let s = leftMeant (fresh f) ms in stream image s bs ≡ following image s (split (joinedAll [] ms) .rest ++ bs)
+
+abbrev pub RequestCarried : Type 0
+RequestCarried = (image : List ℕ) (s : State) (b : ℕ) (bs : List ℕ) (m : Message) → verdict (b ∷ bs) ≡ good m → let c = carried image s m in
+    framed image s (b ∷ bs) ≡ withPending (c .state) (owed (s .terminator-owed) ++ replyFrame (replyOf (m .sequence) (c .reply)))
+
+abbrev pub RepliesInOrder : Type 0
+RepliesInOrder = (image : List ℕ) → Each Byte image → FromStart (λ p d q. (ts : List Cycle) → Each Ample ts
+    → takenBytes (outputs q (byteByByte image ts)) ≡ replies image (fresh (factoryOf d)) (nonEmpty (split (streamOf ts) .closed)))
+
+abbrev pub ValueLastSet : List Made → Parts → Type 0
+ValueLastSet ms q = (k : ℕ) → SettingsKey k → Local.entryOf (view q) k ≡ setSince k (origin k ms)
+
+-- a lookup of key k over the wire is answered with what the key has by the requests before it
+abbrev pub LookupAnswered : List Made → Parts → ℕ → Type 0
+LookupAnswered ms q k = (version n most : ℕ) → most < 65536
+    → OnRequest ms (lookupOf version n k most) (λ bs c. Replied q (made q c) (lookupReply version n most (setSince k (originBehind k ms bs))))
+
+abbrev pub LastSet : List Made → Parts → Type 0
+LastSet ms q = (k : ℕ) → ReadBack k → LookupAnswered ms q k
+
+abbrev pub WithdrawnListAnswered : List Made → Parts → Type 0
+WithdrawnListAnswered ms q = LookupAnswered ms q 5
+
+abbrev pub LookupLastSet : List Made → Parts → Type 0
+LookupLastSet ms q = (k : ℕ) → ReadBack k → (most : ℕ) → most < 65536 → (j : Lent) → enough (Histories.local (Histories.lookup k most)) j ≡ true
+    → let r = made q (locally j (Histories.lookup k most)) in
+    let f = fittedOf most (setSince k (origin k ms)) in
+    (r .answer ≡ found (f .result) (length (f .value))) × (r .out ≡ f .value)
+
+abbrev pub SetSuccessful : Type 0
+SetSuccessful = (z : Settings) (v : List ℕ) (k : ℕ) → SettingsKey k → (x : Setting) → Has z k x
+    → eqb (stored z k v .result) 0 ≡ (not (wrongValueLength k (length v)) && not (eqb (x .edition) last-edition))
+
+abbrev pub SuccessfulExactly : Type 0
+SuccessfulExactly = (k : ℕ) → SettingsKey k → (x : Setting) → x .edition ≤ last-edition → (ms : List Message) (z : Settings) → Has z k (setAfter k x ms)
+    → (m : Message) (v : List ℕ) → m .command ≡ 0x10 → m .payload ≡ k ∷ v
+    → successful (x .edition) k (ms ++ (m ∷ [])) ≡ successful (x .edition) k ms ++ cond (eqb (stored z k v .result) 0) (v ∷ []) []
+
+pub record CarriedOut : Type 0 where
+  -- Demand 2 in one statement, over any calls, whatever each is lent. The bytes received since the last accepted start are joined (`joinedAll`).
+  -- A receive or step takes, in order, those frames of the joined bytes that are not empty and whose 00 it brings. It carries out each valid request,
+  -- with the image lent to it, and answers every other with its numbered failure. A local call does what document 01 has of it. A call that is lent too
+  -- little is refused as 12 and does nothing. Every answer, all that is written outside the state, and the state that is left are those got so.
+  -- The frames so taken since the last accepted start are all of them, each exactly once and in order.
+  pub history-frames : HistoryFrames
+  -- the same byte by byte: every answer, all that is written outside the state, and the state that is left are document 01's
+  pub history : History
+  -- the fresh start: on any parts of sufficient length, start data are refused as document 01 has it, or leave the fresh state
+  pub start-meant : StartMeant
+  -- once each: over the bytes of all calls since the last accepted start
+  pub each-once : EachOnce
+  -- in order: a stream does what its frames do one after the other, and then the unfinished tail is the receive progress
+  pub in-order : InOrder
+  -- the same in the middle of a frame, of which the bytes p have come
+  pub in-order-behind : InOrderBehind
+  -- after any calls on a fresh state, the receive progress is what stands behind the last 00 of the joined bytes
+  pub received-since : ReceivedSince
+  -- a stream behind them: its first frame began in the calls before
+  pub in-order-after : InOrderAfter
+  -- a valid request is carried out, and its reply, if it earns one, is pending
+  pub request-carried : RequestCarried
+  -- replies: with everything taken after each byte, the bytes taken are the frames of the replies to the non-empty frames, in order
+  pub replies-in-order : RepliesInOrder
+  -- A settings key starts from the last accepted start or, of a saved key, from a later restore. The successful sets since then count its edition on,
+  -- and its value is that of the last of them.
+  pub value-last-set : AfterCalls ValueLastSet
+  -- a lookup of any settings key but the passphrase is answered with that, in either version; all requests before its 00 count
+  pub last-set : AfterCalls LastSet
+  -- so is one of key 5, the withdrawn-key list
+  pub withdrawn-list-answered : AfterCalls WithdrawnListAnswered
+  -- a lookup by the local call has the same results
+  pub lookup-last-set : AfterCalls LookupLastSet
+  -- a set is successful, its result being 0, exactly where its value's length is right and the edition is not the last
+  pub set-successful : SetSuccessful
+  -- a set behind requests counts among the successful ones exactly where its result is 0, whatever the key had ahead of them
+  pub successful-exactly : SuccessfulExactly
+
+-- ---- Every other non-empty frame earns exactly its numbered failure
+
+abbrev pub FailureOnlyPending : Type 0
+FailureOnlyPending = (image : List ℕ) (s : State) (b : ℕ) (bs : List ℕ) (reason version : ℕ) (sequence : Option ℕ)
+    → verdict (b ∷ bs) ≡ failure reason version sequence
+    → framed image s (b ∷ bs) ≡ withPending s (owed (s .terminator-owed) ++ replyFrame (some (failedOf reason version sequence)))
+
+pub record NumberedFailures : Type 0 where
+  -- it changes nothing but the pending bytes: behind a 00 where one is owed, the failure's reply
+  pub failure-only-pending : FailureOnlyPending
+
+-- ---- Cutting the stream elsewhere changes nothing
+
+-- pieces received with one image and one loan, one after the other
+unfoldable pub receives : List ℕ → Lent → List (List ℕ) → List Made
+receives image l [] = []
+receives image l (piece ∷ pieces) = received image l piece ∷ receives image l pieces
+
+-- every call answers so, and hands nothing out
+abbrev pub AllAnswer : Answer → List Output → Type 0
+AllAnswer a = Each (λ (t : Output). t ≡ record { answer = a; out = [] })
+
+-- every call is done; or every call is refused as 12, and no part has changed
+abbrev pub AllDone : List ℕ → Lent → Parts → List (List ℕ) → Type 0
+AllDone image l p pieces = AllAnswer done (outputs p (receives image l pieces))
+
+abbrev pub AllRefused : List ℕ → Lent → Parts → List (List ℕ) → Type 0
+AllRefused image l p pieces = AllAnswer (refused 12) (outputs p (receives image l pieces)) × (left p (receives image l pieces) ≡ p)
+
+abbrev pub CutAny : Type 0
+CutAny = (image : List ℕ) → Each Byte image → (l : Lent) (p : Parts) → Bytes p
+    → (ps qs : List (List ℕ)) → Each (Each Byte) ps → Each (Each Byte) qs → flatten ps ≡ flatten qs
+    → (left p (receives image l ps) ≡ left p (receives image l qs))
+    × ((AllDone image l p ps × AllDone image l p qs) ⊎ (AllRefused image l p ps × AllRefused image l p qs))
+
+abbrev pub Cut : Type 0
+Cut = (image : List ℕ) (p : Parts) (a b : List ℕ) → Bytes p → Each Byte image → Each Byte a
+    → did p (Histories.receive image (a ++ b)) ≡ did (did p (Histories.receive image a) .parts) (Histories.receive image b)
+
+abbrev pub StepReceives : Type 0
+StepReceives = (image : List ℕ) (p : Parts) (piece : List ℕ)
+    → did p (Histories.step image piece) .parts ≡ did p (Histories.receive image (take (upTo piece) piece)) .parts
+
+abbrev pub StepThenReceive : Type 0
+StepThenReceive = (image : List ℕ) (p : Parts) (piece : List ℕ) → Bytes p → Each Byte image → Each Byte piece
+    → did (did p (Histories.step image piece) .parts) (Histories.receive image (drop (upTo piece) piece)) ≡ did p (Histories.receive image piece)
+
+-- calls of step, each on what the one before left of the piece
+unfoldable pub steps : ℕ → List ℕ → Parts → List ℕ → Parts
+steps zero image p piece = p
+steps (suc n) image p piece = steps n image (did p (Histories.step image piece) .parts) (drop (upTo piece) piece)
+
+abbrev pub StepsReceive : Type 0
+StepsReceive = (n : ℕ) (image : List ℕ) (p : Parts) (piece : List ℕ) → Sound p → Each Byte image → Each Byte piece → length piece ≤ n
+    → steps n image p piece ≡ did p (Histories.receive image piece) .parts
+
+pub record Cuts : Type 0 where
+  -- the same bytes in any two lists of pieces, received with one image and one loan and nothing in between, on any parts: the same bytes in every part
+  pub cut-any : CutAny
+  -- a piece in two calls of receive, on any parts: the same answer, and the same bytes in every part
+  pub cut : Cut
+  -- a step leaves what a receive of the bytes up to and with the first 00 leaves, on any parts
+  pub step-receives : StepReceives
+  -- and the bytes left, received then, do what the whole piece does
+  pub step-then-receive : StepThenReceive
+  -- steps, one for each byte at most, do what a receive of the whole piece does
+  pub steps-receive : StepsReceive

@@ -1,6 +1,7 @@
--- Calls of a supervisor by the frames of the bytes that it received: each frame is carried out or answered at the call that brings its 00.
+-- Calls of a supervisor by the frames of the received bytes: each is carried out or answered at the call that brings its 00; a request and its reply.
 -- Assumes nothing: these are definitions.
-use mathlib.Core.Bool.{Bool, false, cond, not, _&&_}
+use mathlib.Core.Path.{_≡_}
+use mathlib.Core.Bool.{Bool, true, false, cond, not, _&&_}
 use mathlib.Core.List.{List, [], _∷_, _++_}
 use mathlib.Core.Option.{Option, none, some}
 use Prim.Native.Nat.{ℕ}
@@ -8,15 +9,18 @@ use lib.Dec.{ltb}
 use lib.ListN as ListN
 use lib.ListN.{length}
 use Rattle.line.specs.Limits.{longest-form}
+use Rattle.line.specs.Message.{Message}
 use Rattle.line_claims.specs.Pieces.{split, nonEmpty, closedBy}
 use Rattle.supervisor.specs.State.{State, withReceived}
 use Rattle.supervisor.specs.Local
-use Rattle.requests.specs.Requests.{verdict, judged}
+use Rattle.supervisor.specs.Calls.{Parts}
+use Rattle.requests.specs.Requests.{good, verdict, judged, owed}
 use Rattle.requests.specs.Receive
 use Rattle.requests.specs.Receive.{Ended}
-use Rattle.supervisor_claims.specs.View.{factoryOf}
+use Rattle.supervisor_claims.specs.View.{factoryOf, view}
 use Rattle.supervisor_claims.specs.Histories
-use Rattle.supervisor_claims.specs.Histories.{Call, refused, done, stepped, Means, means, upTo, meant, Made, enough, untouched, Output}
+use Rattle.supervisor_claims.specs.Histories.{Call, Typed, refused, done, stepped, Did, Means, means, upTo, meant}
+use Rattle.supervisor_claims.specs.Histories.{Lent, Made, enough, untouched, Output, received}
 
 -- ---- The received bytes
 
@@ -74,6 +78,10 @@ tailOf bs = cond (ltb longest-form (length bs)) none (some bs)
 unfoldable pub carriedOut : List ℕ → List ℕ → State → List ℕ → State
 carriedOut image w s bs = withReceived (allFramed image s (framesBy w bs)) (tailOf (split (w ++ bs) .rest))
 
+-- the state after bytes that follow a 00: all their frames, in order, and then the receive progress
+abbrev pub following : List ℕ → State → List ℕ → State
+following image s bs = withReceived (allFramed image s (split bs .closed)) (tailOf (split bs .rest))
+
 -- how the frame ended whose 00 a step read: there is one at most
 unfoldable pub endedBy : List (List ℕ) → Ended
 endedBy [] = Ended.more
@@ -111,3 +119,15 @@ leftByFrames w s (m ∷ ms) = leftByFrames (joined w m) (carriedMade w s m .stat
 unfoldable pub carriedFrames : List ℕ → List (List ℕ) → List Made → List (List ℕ)
 carriedFrames w fs [] = fs
 carriedFrames w fs (m ∷ ms) = carriedFrames (joined w m) (cond (startsAnew m) [] (fs ++ framesBy w (receivedBy m))) ms
+
+-- ---- A request and its reply
+
+-- a call on q is done, and this reply is pending then, behind a 00 where one is owed
+abbrev pub Replied : Parts → Did → List ℕ → Type 0
+Replied q r reply = (r .answer ≡ done) × (view (r .parts) .pending ≡ owed (view q .terminator-owed) ++ reply)
+
+-- What holds where the request m comes behind calls: the bytes bs and a 00 are received, and the frame that this 00 closes is m. A receive whose piece ends
+-- with that 00 stands for any. Cutting the stream elsewhere changes nothing (`cut-any`); a step is a receive up to the first 00 (`step-receives`).
+abbrev pub OnRequest : List Made → Message → (List ℕ → Made → Type 0) → Type 0
+OnRequest ms m P = (j : Lent) (image bs : List ℕ) → let c = received image j (bs ++ (0 ∷ [])) in Typed (c .call) → enough (c .call) j ≡ true
+    → verdict (split (joinedAll [] ms ++ bs) .rest) ≡ good m → P bs c

@@ -1,4 +1,4 @@
--- Calls of a supervisor, one after the other: what each answers and leaves by the promises, and what document 01 has of it.
+-- Calls of a supervisor, one after the other: what each answers and leaves by the promises, and what document 01 has of it; calls from a fresh start.
 -- Assumes nothing: these are definitions.
 use mathlib.Core.Path.{_≡_}
 use mathlib.Core.Bool.{Bool, true, cond, not, _||_}
@@ -25,7 +25,7 @@ use Rattle.requests.specs.Receive
 use Rattle.requests.specs.Receive.{Ended}
 use Rattle.supervisor_claims.specs.ByPart.{Part, is, published, part, partsBy, everyPart}
 use Rattle.supervisor_claims.specs.View.{factoryOf}
-use Rattle.supervisor_claims.specs.Meant.{withOutbox, withSettingsPart, withRegisters}
+use Rattle.supervisor_claims.specs.Sound.{Bytes, withOutbox, withSettingsPart, withRegisters}
 
 -- ---- Calls and answers
 
@@ -323,3 +323,31 @@ leftMeant s (m ∷ ms) = leftMeant (meantMade s m .state) ms
 
 abbrev pub AllTyped : List Made → Type 0
 AllTyped = Each (λ (m : Made). Typed (m .call))
+
+-- a receive with an image and a piece, a local call, and a start with start data
+abbrev pub received : List ℕ → Lent → List ℕ → Made
+received image l piece = record { lent = l; call = receive image piece }
+
+abbrev pub locally : Lent → LocalCall → Made
+locally l c = record { lent = l; call = local c }
+
+abbrev pub startWith : Lent → List ℕ → Made
+startWith l d = record { lent = l; call = start d }
+
+-- ---- From a fresh start
+
+-- the parts that a start leaves, and calls after it
+abbrev pub reached : Parts → Lent → List ℕ → List Made → Parts
+reached p l d ms = left (made p (startWith l d) .parts) ms
+
+-- what holds of a start that is accepted, on any parts that hold bytes, whatever it is lent and whatever its start data
+abbrev pub OfStart : (Parts → Lent → List ℕ → Type 0) → Type 0
+OfStart P = (p : Parts) → Bytes p → (l : Lent) (d : List ℕ) → Typed (start d) → made p (startWith l d) .answer ≡ done → P p l d
+
+-- of the parts before it, its start data, and the parts that it leaves
+abbrev pub FromStart : (Parts → List ℕ → Parts → Type 0) → Type 0
+FromStart P = OfStart (λ p l d. P p d (made p (startWith l d) .parts))
+
+-- what holds of any calls after it, and of the parts that they leave
+abbrev pub AfterCalls : (List Made → Parts → Type 0) → Type 0
+AfterCalls P = FromStart (λ p d q. (ms : List Made) → AllTyped ms → P ms (left q ms))

@@ -1,5 +1,6 @@
 -- The successful sets of a settings key among the requests of received bytes: how many, and the last; and a lookup of that key with its reply.
 -- Assumes nothing: these are definitions.
+use mathlib.Core.Path.{_≡_}
 use mathlib.Core.Bool.{cond}
 use mathlib.Core.List.{List, [], _∷_, _++_}
 use mathlib.Core.Option.{Option, none, some}
@@ -11,15 +12,16 @@ use Rattle.line.specs.Message.{Message}
 use Rattle.line.specs.Frame.{frame}
 use Rattle.line_claims.specs.Pieces.{split, nonEmpty}
 use Rattle.supervisor.specs.Number.{topSet}
-use Rattle.supervisor.specs.Local.{fitted}
-use Rattle.supervisor.specs.Limits.{last-edition}
-use Rattle.supervisor.specs.State.{Setting, unset, Settings}
+use Rattle.supervisor.specs.Limits
+use Rattle.supervisor.specs.Limits.{last-edition, SettingsKey}
+use Rattle.supervisor.specs.State.{Setting, unset, Settings, setting}
+use Rattle.supervisor.specs.Local
 use Rattle.saving.specs.Saving
 use Rattle.saving.specs.Saving.{Entry}
 use Rattle.requests.specs.Requests.{Verdict, failure, good, verdict, wrongValueLength, editionBytes}
 use Rattle.supervisor_claims.specs.Histories
 use Rattle.supervisor_claims.specs.Histories.{LocalCall, Call, Made, enough}
-use Rattle.supervisor_claims.specs.FrameHistory.{reads, starts, joined, framesBy}
+use Rattle.supervisor_claims.specs.FrameHistory.{reads, starts, joined, joinedAll, framesBy}
 
 -- ---- Requests
 
@@ -72,6 +74,11 @@ setAfter k x ms =
     let vs = successful (x .edition) k ms in
     record { edition = x .edition + length vs; value = lastOr (x .value) vs }
 
+-- the store has every settings key, and key k has the setting x
+pub record Has (z : Settings) (k : ℕ) (x : Setting) : Type 0 where
+  pub long : length z ≡ Limits.setting-count
+  pub held : setting z k ≡ x
+
 -- ---- Restores
 
 abbrev pub recordsOf : Saving.Read → Option (List Entry)
@@ -90,10 +97,6 @@ restoredBy Histories.flags = none
 restoredBy (Histories.readRecord k) = none
 restoredBy (Histories.save room) = none
 restoredBy (Histories.restore image) = recordsOf (Saving.read image)
-
-abbrev pub settingsBy : Option (List Entry) → Settings → Settings
-settingsBy none z = z
-settingsBy (some es) z = Saving.restored es z
 
 -- Where a settings key's value and edition come from: what it had after the last accepted start or, of a saved key,
 -- after the last accepted restore behind it, and the valid requests since
@@ -127,11 +130,22 @@ unfoldable pub sinceAll : ℕ → List ℕ → Origin → List Made → Origin
 sinceAll k w x [] = x
 sinceAll k w x (m ∷ ms) = sinceAll k (joined w m) (sinceMade k w x m) ms
 
+-- after calls from a start, and after the bytes bs behind them
+abbrev pub origin : ℕ → List Made → Origin
+origin k ms = sinceAll k [] sinceStart ms
+
+abbrev pub originBehind : ℕ → List Made → List ℕ → Origin
+originBehind k ms bs = sinceMore (origin k ms) (requestsIn (framesBy (joinedAll [] ms) bs))
+
 -- what the key has then
 abbrev pub setSince : ℕ → Origin → Setting
 setSince k x = setAfter k (x .setting) (x .requests)
 
 -- ---- Lookups
+
+-- a lookup's answer, of what a key has
+abbrev pub fittedOf : ℕ → Setting → Local.Found
+fittedOf most x = Local.fitted most (x .edition) (x .value)
 
 -- a lookup of key k with maxresponse `most`, under number n
 abbrev pub lookupOf : ℕ → ℕ → ℕ → ℕ → Message
@@ -141,5 +155,10 @@ lookupOf version n k most = record { version = version; sequence = n; command = 
 -- else 0 and the value, in version 2 behind its edition
 unfoldable pub lookupReply : ℕ → ℕ → ℕ → Setting → List ℕ
 lookupReply version n most x =
-    let f = fitted most (x .edition) (x .value) in
+    let f = fittedOf most x in
     frame (record { version = version; sequence = topSet n; command = 0x0a; payload = f .result ∷ (editionBytes version f ++ f .value) })
+
+-- a settings key that is read back
+pub record ReadBack (k : ℕ) : Type 0 where
+  pub key : SettingsKey k
+  pub other : k ≡ Limits.passphrase-key → ⊥

@@ -1,18 +1,19 @@
--- Valid parts that hold bytes, their lengths, and parts that hold a state.
--- Assumes nothing.
-use mathlib.Core.Path.{_≡_, refl, _∙_}
+-- Valid parts, sound parts, which hold bytes too, their lengths, and parts that hold a state.
+-- Assumes nothing: these are definitions.
+use mathlib.Core.Path.{_≡_}
 use mathlib.Core.Bool.{true}
 use mathlib.Core.List.{List}
-use Prim.Native.Nat.{ℕ, _≤_}
+use Prim.Native.Nat.{ℕ}
 use lib.ListN.{length}
-use borrow.Author.Tests.{le-leb}
 use Rattle.octets.specs.Bytes.{Each, Byte}
 use Rattle.supervisor.specs.State.{State}
-use Rattle.supervisor.specs.Calls
 use Rattle.supervisor.specs.Calls.{Parts}
-use Rattle.supervisor_claims.specs.ByPart.{Part, published, part, validPart, withPart, Every, every, of, every-true, every-with, part-long}
+use Rattle.supervisor_claims.specs.ByPart.{Part, part, validPart, withPart, Every}
 use Rattle.supervisor_claims.specs.View.{view}
-use Rattle.supervisor_claims.specs.Meant.{Valid, valid-with}
+
+-- every part is as 12 requires
+abbrev pub Valid : Parts → Type 0
+Valid p = Every (λ i. validPart i (part p i) ≡ true)
 
 -- every part holds bytes
 abbrev pub Bytes : Parts → Type 0
@@ -26,32 +27,19 @@ pub record Sound (p : Parts) : Type 0 where
 abbrev pub Lengths : Parts → Parts → Type 0
 Lengths p q = Every (λ i. length (part q i) ≡ length (part p i))
 
-pub lengths-same : {p : Parts} → Lengths p p
-lengths-same = every (λ i. refl)
-
-pub lengths-then : {p q r : Parts} → Lengths p q → Lengths q r → Lengths p r
-lengths-then l m = every (λ i. of m i ∙ of l i)
-
--- another part that is as 12 requires, holds bytes and is as long
-pub sound-with : (p : Parts) (i : Part) (t : List ℕ) → Sound p → validPart i t ≡ true → Each Byte t → length t ≡ length (part p i)
-    → Sound (withPart p i t) × Lengths p (withPart p i t)
-sound-with p i t s v b n = (
-  record { valid = valid-with p i t (s .valid) v; bytes = every-with (λ j u. Each Byte u) p i t (s .bytes) b },
-  every-with (λ j u. length u ≡ length (part p j)) p i t lengths-same n,
-)
-
--- each part has its published length
-abbrev pub Long : Parts → Type 0
-Long p = Every (λ i. published i ≤ length (part p i))
-
--- valid parts have it, and so room for a start
-pub valid-long : {p : Parts} → Valid p → Long p
-valid-long {p} v = every (λ i. part-long i (part p i) (of v i))
-
-pub valid-room : {p : Parts} → Valid p → Calls.longEnough p ≡ true
-unfolding Calls.longEnough
-valid-room {p} v = every-true _ (every (λ i. le-leb _ _ (of (valid-long {p = p} v) i)))
-
 -- q holds the state s, is sound, and its parts are as long as p's
 abbrev pub Leaves : Parts → Parts → State → Type 0
 Leaves p q s = (view q ≡ s) × Sound q × Lengths p q
+
+-- the parts with another reader, another outbox, other settings, or with other registers
+abbrev pub withReader : Parts → List ℕ → Parts
+withReader p r = withPart p Part.reader r
+
+abbrev pub withOutbox : Parts → List ℕ → Parts
+withOutbox p o = withPart p Part.outbox o
+
+abbrev pub withSettingsPart : Parts → List ℕ → Parts
+withSettingsPart p s = withPart p Part.settings s
+
+abbrev pub withRegisters : Parts → List ℕ → Parts
+withRegisters p r = withPart p Part.registers r

@@ -1,2 +1,2 @@
-// The claims over the supervisor stand in specs/.
+// The claims over the supervisor: specs/ states them, proofs/ proves them.
 // No code.

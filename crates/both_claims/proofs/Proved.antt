@@ -1,0 +1,40 @@
+-- The claims over both ends, proved: one element of each record of statements in specs/.
+-- Assumes nothing.
+use Rattle.both_claims.specs.BothEnds.{RepliesPutOut, Answers, ListAges, NothingLost, BothEnds}
+use Rattle.both_claims.proofs.PendingBytes.{pending-bytes, sent-by-take}
+use Rattle.both_claims.proofs.FreshAnswer.{in-order-wire, fresh-answer}
+use Rattle.both_claims.proofs.AlertAnswer.{alert-answer, alert-since}
+use Rattle.both_claims.proofs.ListAge.{list-age, not-replaced}
+use Rattle.both_claims.proofs.InOrderAge.{list-not-older}
+use Rattle.both_claims.proofs.NeverReplaced.{never-replaced}
+use Rattle.both_claims.proofs.ValueAsked.{value-asked}
+use Rattle.both_claims.proofs.RoundTrip.{round-trip, round-trip-again}
+use Rattle.both_claims.proofs.CleanExchange.{clean-exchange, served-exchanges, lookup-served, set-served}
+
+pub replies-put-out : RepliesPutOut
+replies-put-out = record { pending-bytes = pending-bytes; sent-by-take = sent-by-take }
+
+pub answers : Answers
+answers = record { in-order-wire = in-order-wire; fresh-answer = fresh-answer; alert-answer = alert-answer; alert-since = alert-since }
+
+pub list-ages : ListAges
+list-ages = record {
+  list-age = list-age;
+  not-replaced = not-replaced;
+  list-not-older = list-not-older;
+  never-replaced = never-replaced;
+  value-asked = value-asked;
+}
+
+pub nothing-lost : NothingLost
+nothing-lost = record {
+  round-trip = round-trip;
+  round-trip-again = round-trip-again;
+  clean-exchange = clean-exchange;
+  served-exchanges = served-exchanges;
+  lookup-served = lookup-served;
+  set-served = set-served;
+}
+
+pub both-ends : BothEnds
+both-ends = record { replies-put-out = replies-put-out; answers = answers; list-ages = list-ages; nothing-lost = nothing-lost }

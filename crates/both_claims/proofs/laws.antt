@@ -1,0 +1,22 @@
+-- The laws behind the claims over both ends: lists, frames, each end's calls, both ends after calls, and one exchange.
+-- Assumes nothing.
+pub mod BothCalls
+pub mod Delivered
+pub mod FrameHeard
+pub mod GoodFrames
+pub mod Held
+pub mod Kept
+pub mod KeptRequest
+pub mod Lists
+pub mod Logged
+pub mod MainCalls
+pub mod MainReads
+pub mod OneExchange
+pub mod Ranges
+pub mod ReplyRange
+pub mod RetainedSince
+pub mod SetsRead
+pub mod SupervisorCalls
+pub mod SupervisorFrames
+pub mod Table
+pub mod ThatRequest

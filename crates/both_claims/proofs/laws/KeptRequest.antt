@@ -1,0 +1,192 @@
+-- What a call of the main processor's end does with the caller's request that is outstanding, or held through a recovery.
+-- Assumes nothing.
+use mathlib.Core.Path.{_≡_, refl, sym}
+use mathlib.Core.Bool.{true, false, cond, _&&_, false≢true}
+use mathlib.Core.List.{List, []}
+use mathlib.Core.Logic.{_⊎_, inl, inr}
+use mathlib.Core.Option.{Option, none, some}
+use Prim.Native.Nat.{ℕ, suc, _≤_, _<_}
+use native.Mathlib.Omega.{arith}
+use lib.Dec.{leb, ltb, eqb}
+use lib.ListN.{length}
+use borrow.Author.Tests.{leb-true, leb-false}
+use Rattle.octets.proofs.Conditions.{cond-by}
+use Rattle.line.specs.Limits.{longest-data}
+use Rattle.line.specs.Message.{Message}
+use Rattle.requester.specs.Limits.{last-number, status-length}
+use Rattle.requester.specs.State.{Request, Step, fetch, acknowledge, alert, State, isSome, outstanding, requestFrame}
+use Rattle.requester.specs.Requester
+use Rattle.requester.specs.Requester.{Handed, Heard, ground, other, answer, settled, Result, withReceived}
+use Rattle.requester.specs.Calls.{reportOf}
+use Rattle.requester_claims.specs.Histories as Main
+use Rattle.requester_claims.specs.Histories.{Means, means, putMeans, doneMeans, meant, meantMade, enough}
+use Rattle.requester_claims.specs.Numbers.{framesBy}
+use Rattle.requester_claims.proofs.Numbers.{framesOf, framed, frames-put, some-bytes}
+use Rattle.both_claims.specs.Ends.{messageBy, restarts, requestOf, requests}
+use Rattle.both_claims.proofs.laws.MainReads.{Came, quiet, hearing}
+
+-- ---- what is heard
+
+-- it stays, or ends with the answer that is handed out, or with 14
+pub data KeptAfter (s : State) (h : Handed) (t : State) : Type 0 where
+  same : t .kept ≡ s .kept → s .newest ≤ t .newest → KeptAfter s h t
+  answered : (r : Message) → h ≡ Requester.answered r → t .kept ≡ none → t .newest ≡ s .newest → KeptAfter s h t
+  ended : last-number ≤ s .newest → t .kept ≡ none → t .newest ≡ s .newest → KeptAfter s h t
+
+module _ (s : State) (h : Handed) where
+  abbrev Next : Requester.Next → Type 0
+  Next x = KeptAfter s h (Requester.movedTo x s .state)
+
+  anew-after : (t : Option Step) → Next (Requester.anew t)
+  unfolding Requester.movedTo
+  anew-after t =
+      cond-by (λ (m : Requester.Moved). KeptAfter s h (m .state)) (leb last-number (s .newest)) _ _
+      (λ e. ended (leb-true last-number (s .newest) e) refl refl) (λ _. same refl (omega arith))
+
+  same-after : Next Requester.same
+  unfolding Requester.movedTo
+  same-after = same refl (omega arith)
+
+  again-after : Next Requester.again
+  unfolding Requester.movedTo
+  again-after = same refl (omega arith)
+
+  -- the original goes out, or there is none
+  last-after : (k : Option Request) → s .kept ≡ k → Next (cond (isSome k) (Requester.anew none) Requester.idle)
+  unfolding Requester.movedTo
+  last-after none e = same (sym e) (omega arith)
+  last-after (some q) e = anew-after none
+
+  served-after : (k : Option Request) → s .kept ≡ k → (n : ℕ) → Next (Requester.served (isSome k) n)
+  unfolding Requester.served
+  served-after k e n =
+      cond-by Next (eqb (Requester.bit n 0) 1) _ _ (λ _. anew-after (some acknowledge)) (λ _.
+      cond-by Next (eqb (Requester.bit n 1) 1) _ _ (λ _. anew-after (some alert)) (λ _. last-after k e))
+
+module _ (s : State) where
+  abbrev Outcome : Requester.Outcome → Type 0
+  Outcome o = KeptAfter s (o .handed) (Requester.movedTo (o .next) s .state)
+
+  fetched-after : (k : Option Request) → s .kept ≡ k → (m : Message) → Outcome (Requester.fetched (isSome k) m)
+  unfolding Requester.fetched
+  fetched-after k e m =
+      cond-by Outcome (eqb (m .command) 0x06 && eqb (length (m .payload)) status-length) _ _
+      (λ _. served-after s _ k e (Requester.statusOf m)) (λ _. again-after s _)
+
+  settled-after : (t : Option Step) (k : Option Request) → s .kept ≡ k → (h : Heard) → Outcome (settled t (isSome k) h)
+  unfolding settled Requester.movedTo
+  settled-after none none e h = same refl (omega arith)
+  settled-after none (some q) e ground = same refl (omega arith)
+  settled-after none (some q) e other = same refl (omega arith)
+  settled-after none (some q) e (answer m) = answered m refl refl refl
+  settled-after (some t) k e ground = same refl (omega arith)
+  settled-after (some t) k e other = same refl (omega arith)
+  settled-after (some fetch) k e (answer m) = fetched-after k e m
+  settled-after (some acknowledge) k e (answer m) = anew-after s _ (some fetch)
+  settled-after (some alert) k e (answer m) = anew-after s _ (some fetch)
+
+-- the receive progress does not matter
+progress-after : (s : State) (bs : Option (List ℕ)) {h : Handed} {t : State} → KeptAfter (withReceived s bs) h t → KeptAfter s h t
+progress-after s bs (same e n) = same e n
+progress-after s bs (answered r e k n) = answered r e k n
+progress-after s bs (ended l k n) = ended l k n
+
+pub came-after : {ms : List Message} (s : State) (x : Result) → Came s ms x → KeptAfter s (x .handed) (x .state)
+came-after s x (quiet bs e) = rw e (same refl (omega arith))
+came-after s x (hearing bs h e f) = rw e (progress-after s bs (settled-after (withReceived s bs) (s .recovery) (s .kept) refl h))
+
+-- ---- calls
+
+-- no new one: it stays, and the frame of the one outstanding goes out or none, or it ends
+pub data NoNew (s : State) (x : Means) : Type 0 where
+  keeps : x .state .kept ≡ s .kept → s .newest ≤ x .state .newest
+      → (framesOf x ≡ []) ⊎ ((q : Request) × (outstanding s ≡ some q) × (framesOf x ≡ framed (s .newest) q)) → NoNew s x
+  answers : (r : Message) → messageBy (x .answer) (x .out) ≡ some r → x .state .kept ≡ none → x .state .newest ≡ s .newest → framesOf x ≡ [] → NoNew s x
+  ends : last-number ≤ s .newest → x .state .kept ≡ none → x .state .newest ≡ s .newest → framesOf x ≡ [] → NoNew s x
+
+-- a new one, under the next number
+pub record PutsNew (s : State) (c : Main.Call) (x : Means) : Type 0 where
+  pub request : Request
+  pub called : requestOf c ≡ some request
+  pub none-out : outstanding s ≡ none
+  pub not-last : s .newest < last-number
+  pub kept : x .state .kept ≡ Requester.keep request
+  pub next : x .state .newest ≡ suc (s .newest)
+  pub frame : framesOf x ≡ framed (x .state .newest) request
+
+abbrev pub RequestBy : State → Main.Call → Means → Type 0
+RequestBy s c x = ((requests c (x .answer) ≡ true) × PutsNew s c x) ⊎ ((requests c (x .answer) ≡ false) × NoNew s x)
+
+not-some : {A : Type 0} (o : Option A) → isSome o ≡ false → o ≡ none
+not-some none e = refl
+not-some (some x) e = absurd (false≢true (sym e))
+
+after-receive : (s : State) (used : ℕ) (x : Result) → KeptAfter s (x .handed) (x .state) → NoNew s (Main.receivedMeans (Requester.received used x))
+unfolding framesBy reportOf Main.dataOf
+after-receive s used x (same e n) = keeps e n (inl refl)
+after-receive s used x (answered r e k n) = answers r (rw e refl) k n refl
+after-receive s used x (ended l k n) = ends l k n refl
+
+module _ (s : State) where
+  refused-by : (c : Main.Call) (k : ℕ) (room : List ℕ) → RequestBy s c (means (Main.refused k) room s)
+  unfolding framesBy
+  refused-by c k room = inr (refl, keeps refl (omega arith) (inl refl))
+
+  abbrev PutBy : Main.Call → List ℕ → Requester.Done → Type 0
+  PutBy c room x = RequestBy s c (putMeans (x .refusal) room (x .out) (x .state))
+
+  request-by : (command : ℕ) (d room : List ℕ) → PutBy (Main.request command d room) room (Requester.request (length room) (record { command = command; payload = d }) s)
+  unfolding Requester.request
+  request-by command d room =
+      let q : Request = record { command = command; payload = d } in
+      let n = suc (s .newest) in
+      let c = Main.request command d room in
+      cond-by (PutBy c room) (ltb longest-data (length d)) _ _ (λ _. refused-by c 9 room) (λ _.
+      cond-by (PutBy c room) (isSome (outstanding s)) _ _ (λ _. refused-by c 17 room) (λ o.
+      cond-by (PutBy c room) (leb last-number (s .newest)) _ _ (λ _. refused-by c 14 room) (λ l.
+      cond-by (PutBy c room) (ltb (length room) (length (requestFrame n q))) _ _ (λ _. refused-by c 8 room) (λ _.
+      inl (
+        refl,
+        record {
+          request = q;
+          called = refl;
+          none-out = not-some (outstanding s) o;
+          not-last = leb-false last-number (s .newest) l;
+          kept = refl;
+          next = refl;
+          frame = frames-put n (requestFrame n q) room (some-bytes n q);
+        },
+      )))))
+
+  interrupt-by : (t : Option Step) → RequestBy s Main.interrupt (doneMeans (Requester.interruptedIn t s .refusal) (Requester.interruptedIn t s .state))
+  unfolding framesBy
+  interrupt-by (some t) = inr (refl, keeps refl (omega arith) (inl refl))
+  interrupt-by none =
+      cond-by (λ (x : Requester.Done). RequestBy s Main.interrupt (doneMeans (x .refusal) (x .state))) (leb last-number (s .newest)) _ _
+      (λ _. inr (refl, keeps refl (omega arith) (inl refl))) (λ _. inr (refl, keeps refl (omega arith) (inl refl)))
+
+  send-by : (room : List ℕ) (q : Option Request) → outstanding s ≡ q → PutBy (Main.send room) room (Requester.sentOf (length room) q s)
+  unfolding framesBy
+  send-by room none e = inr (refl, keeps refl (omega arith) (inl refl))
+  send-by room (some q) e =
+      let c = Main.send room in
+      cond-by (PutBy c room) (s .unsent) _ _
+      (λ _. cond-by (PutBy c room) (ltb (length room) (length (requestFrame (s .newest) q))) _ _ (λ _. refused-by c 8 room) (λ _.
+      inr (refl, keeps refl (omega arith) (inr (q, e, frames-put (s .newest) (requestFrame (s .newest) q) room (some-bytes (s .newest) q))))))
+      (λ _. inr (refl, keeps refl (omega arith) (inl refl)))
+
+  -- a receive by what came of it
+  module _ (came : (piece : List ℕ) → let x = Requester.receive s piece .result in KeptAfter s (x .handed) (x .state)) where
+    meant-by : (c : Main.Call) → restarts c (meant s c .answer) ≡ false → RequestBy s c (meant s c)
+    unfolding meant Requester.interrupt Requester.send
+    meant-by Main.start n = absurd (false≢true (sym n))
+    meant-by (Main.request command d room) n = request-by command d room
+    meant-by Main.interrupt n = interrupt-by (s .recovery)
+    meant-by (Main.send room) n = send-by room (outstanding s) refl
+    meant-by (Main.receive piece) n = let x = Requester.receive s piece in inr (refl, after-receive s (x .used) (x .result) (came piece))
+
+    pub made-by : (m : Main.Made) → restarts (m .call) (meantMade s m .answer) ≡ false → RequestBy s (m .call) (meantMade s m)
+    unfolding meantMade
+    made-by m =
+        cond-by (λ (x : Means). restarts (m .call) (x .answer) ≡ false → RequestBy s (m .call) x) (enough (m .call) (m .lent)) _ _
+        (λ _ n. meant-by (m .call) n) (λ _ n. refused-by (m .call) 12 _)

@@ -1,0 +1,104 @@
+-- The reply to a request that passes the whole table is in range, and is no decode failure.
+-- Assumes nothing.
+use mathlib.Core.Path.{_≡_, refl}
+use mathlib.Core.List.{List}
+use mathlib.Core.Logic.{_⊎_, inl, inr}
+use mathlib.Core.Option.{Option, none, some}
+use Prim.Native.Nat.{ℕ, _<_}
+use native.Mathlib.Omega.{arith}
+use lib.Dec.{eqb}
+use Rattle.octets.specs.Bytes.{Each, Byte}
+use Rattle.octets.proofs.Conditions.{cond-by}
+use Rattle.line.specs.Message.{Message}
+use Rattle.line.specs.Frame.{frame}
+use Rattle.supervisor.specs.Number.{topSet}
+use Rattle.supervisor.specs.State.{Retained, State}
+use Rattle.supervisor.specs.Calls.{Parts}
+use Rattle.requests.specs.Commands.{Command, commandOf}
+use Rattle.requests.specs.Requests
+use Rattle.requests.specs.Requests.{Carried, carried, carriedBy, effect, replyOf, replyFrame}
+use Rattle.supervisor_claims.specs.View.{view}
+use Rattle.supervisor_claims.specs.Sound.{Sound}
+use Rattle.supervisor_claims.proofs.calls.ReceivedClaim.{Requestable}
+use Rattle.supervisor_claims.proofs.calls.SendingClaim.{Sendable}
+use Rattle.supervisor_claims.proofs.calls.CommandClaims.{SendableReply, command-does}
+use Rattle.both_claims.specs.Ends.{messageOf, replyTo}
+use Rattle.both_claims.proofs.laws.Lists.{none-some}
+
+-- a reply has the request's version, or that of the retained reply
+abbrev pub Versioned : State → Message → ℕ → Type 0
+Versioned s m version = (version ≡ m .version) ⊎ ((t : Retained) × (s .retained ≡ some t) × (version ≡ t .version))
+
+-- its command is a byte, and not that of a decode failure
+abbrev AnswerRange : State → Message → Option Requests.Answer → Type 0
+AnswerRange s m none = Unit {0}
+AnswerRange s m (some r) = (r .command < 256) × (r .command ≡ 0x02 → ⊥) × Versioned s m (r .version)
+
+module _ (image : List ℕ) (s : State) (m : Message) where
+  alert-range : (r : Option Retained) → s .retained ≡ r → AnswerRange s m (Requests.alertAsked (m .version) s (m .sequence) r .reply)
+  unfolding Requests.alertAsked Requests.alertTaken
+  alert-range none f = (omega arith, λ e. omega (arith, e), inl refl)
+  alert-range (some r) f =
+      cond-by (λ (x : Carried). AnswerRange s m (x .reply)) (eqb (r .sequence) (m .sequence)) _ _
+      (λ _. (omega arith, λ e. omega (arith, e), inr (r, f, refl))) (λ _. (omega arith, λ e. omega (arith, e), inl refl))
+
+  effect-range : (x : Command) → AnswerRange s m (effect x image s m .reply)
+  unfolding effect Requests.reboot Requests.powerOff Requests.bootFailure Requests.panicked Requests.startAcknowledged Requests.keySet
+  effect-range Command.reboot = tt
+  effect-range Command.power-off = tt
+  effect-range Command.bsu = (omega arith, λ e. omega (arith, e), inl refl)
+  effect-range Command.identity = (omega arith, λ e. omega (arith, e), inl refl)
+  effect-range Command.mac = (omega arith, λ e. omega (arith, e), inl refl)
+  effect-range Command.boot-failure = tt
+  effect-range Command.panic = (omega arith, λ e. omega (arith, e), inl refl)
+  effect-range Command.status = (omega arith, λ e. omega (arith, e), inl refl)
+  effect-range Command.start-acknowledged = (omega arith, λ e. omega (arith, e), inl refl)
+  effect-range Command.alert = alert-range (s .retained) refl
+  effect-range Command.image-block = (omega arith, λ e. omega (arith, e), inl refl)
+  effect-range Command.key-lookup = (omega arith, λ e. omega (arith, e), inl refl)
+  effect-range Command.inventory = (omega arith, λ e. omega (arith, e), inl refl)
+  effect-range Command.key-set = (omega arith, λ e. omega (arith, e), inl refl)
+
+  carried-range : AnswerRange s m (carried image s m .reply)
+  unfolding carried
+  carried-range = by (commandOf (m .command))
+    where
+      by : (o : Option Command) → AnswerRange s m (carriedBy o image s m .reply)
+      by none = tt
+      by (some x) = effect-range x
+
+carried-sendable : (p : Parts) → Sound p → (image : List ℕ) → Each Byte image → (m : Message) → Requestable m → SendableReply (carried image (view p) m .reply)
+unfolding carried
+carried-sendable p s image i m q = by (commandOf (m .command))
+  where
+    by : (o : Option Command) → SendableReply (carriedBy o image (view p) m .reply)
+    by none = tt
+    by (some x) = command-does p s image i m q x .payload
+
+-- what is known of a reply
+pub record ReplyOf (image : List ℕ) (s : State) (m r : Message) : Type 0 where
+  pub version : Versioned s m (r .version)
+  pub sequence : r .sequence ≡ topSet (m .sequence)
+  pub command : r .command < 256
+  pub no-failure : r .command ≡ 0x02 → ⊥
+  pub framed : replyFrame (replyOf (m .sequence) (carried image s m .reply)) ≡ frame r
+
+pub reply-of : (image : List ℕ) (s : State) (m r : Message) → replyTo image s m ≡ some r → ReplyOf image s m r
+unfolding replyOf replyFrame
+reply-of image s m r e = by (carried image s m .reply) refl (carried-range image s m) e
+  where
+    by : (o : Option Requests.Answer) → carried image s m .reply ≡ o → AnswerRange s m o → messageOf (replyOf (m .sequence) o) ≡ some r → ReplyOf image s m r
+    by none f t g = absurd (none-some g)
+    by (some z) f t g =
+        let y : record { version = z .version; sequence = topSet (m .sequence); command = z .command; payload = z .payload } ≡ r = cc in
+        rw (← y) (record { version = t .2; sequence = refl; command = t .0; no-failure = t .1; framed = rw f })
+
+-- its data can be sent
+pub reply-sendable : (p : Parts) → Sound p → (image : List ℕ) → Each Byte image → (m : Message) → Requestable m → (r : Message) → replyTo image (view p) m ≡ some r
+    → Sendable (r .payload)
+unfolding replyOf
+reply-sendable p s image i m q r e = by (carried image (view p) m .reply) (carried-sendable p s image i m q) e
+  where
+    by : (o : Option Requests.Answer) → SendableReply o → messageOf (replyOf (m .sequence) o) ≡ some r → Sendable (r .payload)
+    by none k g = absurd (none-some g)
+    by (some z) k g = let y : z .payload ≡ r .payload = cc in rw (← y) k

@@ -1,0 +1,3 @@
+-- What a customer may hold this repository to.
+-- Assumes nothing.
+pub mod Claims

@@ -1,0 +1,2 @@
+// The customer's demands and requests: specs/ states them, proofs/ proves them.
+// No code.

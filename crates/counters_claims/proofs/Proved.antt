@@ -1,0 +1,19 @@
+-- The field counters' claims, proved: one element of each record of statements in specs/.
+-- Assumes nothing.
+use Rattle.counters_claims.specs.Item8.{Item8}
+use Rattle.counters_claims.specs.Item14.{Item14}
+use Rattle.counters_claims.proofs.TallyLaws.{each-counted-once}
+use Rattle.counters_claims.proofs.Item8.{counters-count, counters-from-start, overlong-once, blocks-alone}
+use Rattle.counters_claims.proofs.Item14.{two-counted-runs}
+
+pub item-8 : Item8
+item-8 = record {
+  counters-count = counters-count;
+  counters-from-start = counters-from-start;
+  overlong-once = overlong-once;
+  each-counted-once = each-counted-once;
+  blocks-alone = blocks-alone;
+}
+
+pub item-14 : Item14
+item-14 = record { two-counted-runs = two-counted-runs }

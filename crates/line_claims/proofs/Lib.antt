@@ -1,0 +1,20 @@
+-- Laws behind the line layer's claims, in the order in which they build on each other; `Proved` has the claims themselves.
+-- Assumes nothing.
+pub mod Samples
+pub mod MessageLaws
+pub mod Pieces
+pub mod CobsClaims
+pub mod JudgeClaim
+pub mod SpellingClaim
+pub mod WireClaim
+pub mod Changes
+pub mod ApartClaim
+pub mod DistanceClaim
+pub mod ChecksumClaim
+pub mod WriterClaim
+pub mod LoanLaws
+pub mod Streams
+pub mod ReaderClaim
+pub mod FrameClaim
+pub mod Refusals
+pub mod Proved

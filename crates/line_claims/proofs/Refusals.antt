@@ -1,0 +1,134 @@
+-- What a call of the line reader reads, and when it is refused; that what the writer put out is what the reader hands out.
+-- Assumes nothing.
+use mathlib.Core.Path.{_≡_, refl, sym, ap, _∙_}
+use mathlib.Core.Bool.{Bool, true, false}
+use mathlib.Core.List.{List, [], _∷_, append-nil}
+use mathlib.Core.Logic.{inl, inr}
+use mathlib.Core.Option.{Option, none, some}
+use Prim.Native.Nat.{ℕ, zero, suc, _≤_}
+use native.Mathlib.Omega.{arith}
+use lib.Dec.{ltb, eqb, eqb·suc-zero}
+use lib.ListN.{length}
+use borrow.Author.Tests.{le-leb, lt-leb, le-ltb}
+use Rattle.octets.proofs.Conditions.{cond-by}
+use Rattle.line.specs.Limits.{longest-data, longest-form}
+use Rattle.line.specs.Frame.{frame}
+use Rattle.line.specs.Judge.{Verdict, failure, good}
+use Rattle.line.specs.Reader.{Report, refused, more, empty, message, failed, verdictReport, state-length, count, valid, pushed, Settled, settle, finish}
+use Rattle.line.specs.Reader.{Outcome, next, readPiece, reading, starting, TailReport, unfinished, longer, tailOf, dataRefusal}
+use Rattle.line.specs.Writer
+use Rattle.line.proofs.State.{valid-ready}
+use Rattle.line.proofs.Lent.{valid-append}
+use Rattle.line_claims.proofs.CobsClaims.{frame-fits}
+use Rattle.line_claims.proofs.LoanLaws.{back-same, lent-long, lent-short, front}
+use Rattle.line_claims.specs.Calls.{Call, read, start, lentState, handed, reasons, answers, afterRead, afterOutcome}
+use Rattle.line_claims.specs.Calls.{restarted, afterStart, after, afterAll, begun}
+use Rattle.line_claims.proofs.WriterClaim.{sent-wire}
+use Rattle.line_claims.proofs.ReaderClaim.{hands-out, stays-valid}
+use Rattle.line_claims.specs.Demand1.{Stops, NotRefused, RefusedExactly, RefusedNothing, AcceptedStops, TooLittle12, TooLittleNothing, Never12}
+use Rattle.line_claims.specs.Demand3.{SentHanded, RoomEnough}
+
+-- ---- What a call reads
+
+later : (b : ℕ) (bs : List ℕ) (used : ℕ) → Stops bs used → Stops (b ∷ bs) (suc used)
+later b bs used (inl e) = inl (omega arith)
+later b bs used (inr q) = inr (suc (q .0), omega arith, omega arith, q .3)
+
+stops : (s piece : List ℕ) → Stops piece (readPiece s piece .used)
+unfolding readPiece next
+stops s [] = inl refl
+stops s (zero ∷ bs) = inr (0, refl, omega arith, refl)
+stops s (suc b ∷ bs) = rw eqb·suc-zero (later (suc b) bs (readPiece (pushed s (suc b)) bs .used) (stops (pushed s (suc b)) bs))
+
+pub refused-nothing : RefusedNothing
+unfolding reading
+refused-nothing s piece e = rw e
+
+pub accepted-stops : AcceptedStops
+unfolding reading
+accepted-stops s piece e = rw e (stops s piece)
+
+-- ---- When a call is refused
+
+abbrev isRefused : Report → Bool
+isRefused (refused number) = true
+isRefused more = false
+isRefused empty = false
+isRefused (message version sequence command n) = false
+isRefused (failed reason sequence) = false
+
+verdict-report : (v : Verdict) → isRefused (verdictReport v) ≡ false
+unfolding verdictReport
+verdict-report (failure reason sequence) = refl
+verdict-report (good m) = refl
+
+finish-report : (s : List ℕ) → isRefused (finish s .answer) ≡ false
+unfolding finish settle
+finish-report s =
+    cond-by Says (eqb (count s) 0) _ _ (λ e. refl) (λ e. cond-by Says (ltb longest-form (count s)) _ _ (λ f. refl) (λ f. verdict-report _))
+  where
+    Says : Settled → Type 0
+    Says x = isRefused (x .answer) ≡ false
+
+piece-report : (s piece : List ℕ) → isRefused (readPiece s piece .answer) ≡ false
+unfolding readPiece next
+piece-report s [] = refl
+piece-report s (zero ∷ bs) = finish-report s
+piece-report s (suc b ∷ bs) = rw eqb·suc-zero (piece-report (pushed s (suc b)) bs)
+
+not-both : {b : Bool} → b ≡ false → b ≡ true → ⊥
+not-both p q = let z : _≡_ {A = ℕ} 0 1 = cc in omega arith
+
+pub refused-exactly : RefusedExactly
+unfolding reading
+refused-exactly s piece = (
+  cond-by (λ (o : Outcome). o .answer ≡ refused 12 → valid s ≡ false) (valid s) _ _ (λ e a. absurd (not-both (piece-report s piece) (ap isRefused a))) (λ e a. e),
+  λ e. rw e,
+)
+
+abbrev tailRefused : TailReport → Bool
+tailRefused (TailReport.refused number) = true
+tailRefused (unfinished n) = false
+tailRefused longer = false
+
+abbrev twelve : Option ℕ → Bool
+twelve none = false
+twelve (some n) = eqb n 12
+
+valid-answers : (part : List ℕ) → valid part ≡ true → NotRefused part
+unfolding tailOf dataRefusal starting
+valid-answers part v = record {
+  reads = λ piece a. not-both (refused-exactly part piece .0 a) v;
+  tails = rw v (λ a. not-both (cond-by (λ x. tailRefused x ≡ false) (ltb longest-form (count part)) longer (unfinished (count part)) (λ e. refl) (λ e. refl)) (ap tailRefused a));
+  hands = λ n. rw v (λ a. not-both (cond-by (λ x. twelve x ≡ false) (ltb longest-data n) (some 9) none (λ e. refl) (λ e. refl)) (ap twelve a));
+  starts = rw (le-leb state-length (length part) (valid-ready part v .0));
+}
+
+pub too-little-12 : TooLittle12
+unfolding valid tailOf dataRefusal starting
+too-little-12 s l e =
+    let short = lt-leb state-length (length (lentState l s)) (lent-short state-length s l (omega arith) e) in
+    record { reads = λ piece. refused-nothing (lentState l s) piece (rw short); tails = rw short; hands = λ n. rw short; starts = rw short }
+
+pub too-little-nothing : TooLittleNothing
+unfolding after afterRead afterOutcome afterStart restarted handed reasons answers
+too-little-nothing r (read c) e = rw (too-little-12 (r .state) (c .lent) e .reads (c .piece)) (simp (append-nil, back-same))
+too-little-nothing r (start l) e = rw (too-little-12 (r .state) l e .starts)
+
+module _ (room : List ℕ) (enough : state-length ≤ length room) (cs : List Call) where
+  pub never-12 : Never12 (afterAll (begun room) cs)
+  never-12 l e =
+      let s = afterAll (begun room) cs .state in
+      let v = stays-valid room enough cs in
+      let f = front state-length l s e in
+      let h = lent-long state-length s l e (valid-ready s v .0) in
+      valid-answers (lentState l s) (sym (valid-append (lentState l s) (f .rest) h) ∙ rw (f .whole) v)
+
+  -- ---- What was written is what is handed out
+
+  pub sent-handed : SentHanded (afterAll (begun room) cs)
+  sent-handed ms s = hands-out room enough cs ms (sent-wire s)
+
+pub room-enough : RoomEnough
+unfolding Writer.writing Writer.sending
+room-enough m out r h = rw (le-ltb longest-data (length (m .payload)) (r .fits), le-ltb (length out) (length (frame m)) (omega (arith, frame-fits m r)))

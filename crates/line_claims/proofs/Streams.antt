@@ -1,0 +1,100 @@
+-- A reader that is given its bytes one by one, and the law that a call gives what the bytes that it reads give one by one.
+-- Assumes nothing.
+use mathlib.Core.Path.{_≡_, refl, sym, ap, _∙_}
+use mathlib.Core.List.{List, [], _∷_, _++_, append-nil}
+use Prim.Native.Nat.{ℕ, zero, suc, _≤_}
+use native.Mathlib.Omega.{arith}
+use lib.Dec.{eqb·suc-zero}
+use lib.ListN.{length, take}
+use lib.Seq.{append-snoc}
+use Rattle.line.specs.Reader.{Report, refused, more, empty, message, failed, state-length, valid, pushed, finish, Outcome, next, readPiece, reading}
+use Rattle.octets.proofs.Conditions.{cond-by}
+use Rattle.line.proofs.State.{Ready, valid-ready, ready-pushed}
+use Rattle.line.proofs.Lent.{dataOf-append, pushed-append, finish-append}
+use Rattle.line.proofs.Held.{finish-leaves}
+use Rattle.line_claims.proofs.LoanLaws.{back-same, lent-enough, front}
+use Rattle.line_claims.specs.Calls.{Read, lentState, handed, reasons, answers, Reader, extended, afterOutcome, afterRead, after, afterAll, afterReads}
+
+-- a reader after one byte
+unfoldable pub afterByte : Reader → ℕ → Reader
+afterByte r zero = extended r (finish (r .state) .answer) (finish (r .state) .state) (0 ∷ []) (finish (r .state) .state)
+afterByte r (suc b) = record {
+  messages = r .messages;
+  failures = r .failures;
+  answered = r .answered;
+  bytes = r .bytes ++ suc b ∷ [];
+  state = pushed (r .state) (suc b);
+}
+
+-- and after many, one by one
+unfoldable pub stream : Reader → List ℕ → Reader
+stream r [] = r
+stream r (b ∷ bs) = stream (afterByte r b) bs
+
+stream-append : (r : Reader) (bs cs : List ℕ) → stream r (bs ++ cs) ≡ stream (stream r bs) cs
+unfolding stream
+stream-append r [] cs = refl
+stream-append r (b ∷ bs) cs = stream-append (afterByte r b) bs cs
+
+byte-read : (r : Reader) (b : ℕ) → afterByte r b .bytes ≡ r .bytes ++ b ∷ []
+unfolding afterByte
+byte-read r zero = refl
+byte-read r (suc b) = refl
+
+pub stream-read : (r : Reader) (bs : List ℕ) → stream r bs .bytes ≡ r .bytes ++ bs
+unfolding stream
+stream-read r [] = sym (append-nil (r .bytes))
+stream-read r (b ∷ bs) = stream-read (afterByte r b) bs ∙ rw (byte-read r b) (append-snoc (r .bytes) b bs)
+
+-- ---- one call
+
+-- what is handed out stands in the bytes lent
+handed-append : (a : Report) (t u : List ℕ) → state-length ≤ length t → handed a (t ++ u) ≡ handed a t
+unfolding handed
+handed-append (refused number) t u h = refl
+handed-append more t u h = refl
+handed-append empty t u h = refl
+handed-append (message version sequence command n) t u h = rw (dataOf-append t u h n)
+handed-append (failed reason sequence) t u h = refl
+
+-- the reader after a piece, where u stands behind the bytes lent
+abbrev joined : Reader → List ℕ → List ℕ → Outcome → Reader
+joined r piece u o = extended r (o .answer) (o .state) (take (o .used) piece) (o .state ++ u)
+
+piece-stream : (piece : List ℕ) (r : Reader) (t u : List ℕ) → Ready t → r .state ≡ t ++ u
+    → joined r piece u (readPiece t piece) ≡ stream r (take (readPiece t piece .used) piece)
+unfolding readPiece stream next afterByte handed reasons answers
+piece-stream [] r t u h e = simp (append-nil, ← e)
+piece-stream (zero ∷ bs) r t u h e =
+    let l = finish-leaves t (h .0) in
+    rw (e, finish-append t u (h .0), handed-append (finish t .answer) (finish t .state) u (omega arith))
+piece-stream (suc b ∷ bs) r t u h e =
+    let p = ready-pushed t (suc b) h in
+    let i = piece-stream bs (afterByte r (suc b)) (pushed t (suc b)) u (omega arith, p .1) (rw e (pushed-append t u (h .0) (suc b))) in
+    rw eqb·suc-zero (rw append-snoc at i)
+
+-- the bytes that a call reads
+abbrev pub bytesRead : Reader → Read → List ℕ
+bytesRead r c = take (reading (lentState (c .lent) (r .state)) (c .piece) .used) (c .piece)
+
+-- a call, whatever it is lent of the state, refused or not
+pub call-stream : (r : Reader) (c : Read) → afterRead r c ≡ stream r (bytesRead r c)
+unfolding afterRead afterOutcome reading stream handed reasons answers
+call-stream r c =
+    let t = lentState (c .lent) (r .state) in
+    cond-by (λ o. afterOutcome r c o ≡ stream r (take (o .used) (c .piece))) (valid t) _ _
+    (λ e.
+    let h = valid-ready t e in
+    let f = front state-length (c .lent) (r .state) (lent-enough state-length (r .state) (c .lent) (omega arith) (h .0)) in
+    rw (f .back) (piece-stream (c .piece) r t (f .rest) h (sym (f .whole))))
+    (λ e. simp (append-nil, back-same))
+
+-- ---- calls
+
+-- calls that are given pieces give what some bytes give, one by one: those that they read
+pub reads-stream : (r : Reader) (cs : List Read) → (bs : List ℕ) × (afterReads r cs ≡ stream r bs)
+unfolding afterAll after stream
+reads-stream r [] = ([], refl)
+reads-stream r (c ∷ cs) =
+    let q = reads-stream (afterRead r c) cs in
+    (bytesRead r c ++ q .0, q .1 ∙ ap (λ x. stream x (q .0)) (call-stream r c) ∙ sym (stream-append r (bytesRead r c) (q .0)))

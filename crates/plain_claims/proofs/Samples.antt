@@ -1,0 +1,16 @@
+-- The samples of the plain reader's listing hold, by one computation.
+-- Assumes nothing.
+use mathlib.Core.Path.{refl}
+use Rattle.octets.specs.Bytes.{number, equal}
+use Rattle.line.specs.Checksum.{sums, checksum}
+use Rattle.line.specs.Cobs.{groupBytes, uncobs}
+use Rattle.line.specs.Judge.{fields, judgeForm, judge}
+use Rattle.line_claims.specs.Pieces.{split}
+use Rattle.line_claims.specs.Samples.{status-request}
+use Rattle.plain.specs.Listing.{entryOf, entriesFrom, listing}
+use Rattle.plain_claims.specs.Samples.{samples}
+use Rattle.plain_claims.specs.Item13.{SamplesHold}
+
+pub samples-hold : SamplesHold
+unfolding samples status-request listing split entriesFrom entryOf number equal sums checksum groupBytes uncobs fields judgeForm judge
+samples-hold = refl

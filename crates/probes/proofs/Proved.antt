@@ -1,0 +1,17 @@
+-- What is claimed of the probe list, proved: one element of each record of statements in specs/.
+-- Assumes nothing.
+use Rattle.probes.specs.Item4.{Item4}
+use Rattle.probes.proofs.Records.{last-named, unnamed-stays, record-at, as-long, addresses-stay, others-stay}
+use Rattle.probes.proofs.Samples.{samples-hold, empty-list}
+
+pub item-4 : Item4
+item-4 = record {
+  last-named = last-named;
+  unnamed-stays = unnamed-stays;
+  record-at = record-at;
+  as-long = as-long;
+  addresses-stay = addresses-stay;
+  others-stay = others-stay;
+  samples-hold = samples-hold;
+  empty-list = empty-list;
+}

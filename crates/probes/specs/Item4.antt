@@ -1,0 +1,59 @@
+-- Document 02's item 4, of the probe list: what a call that is done leaves of each record.
+-- Assumes nothing: these are definitions and statements.
+use mathlib.Core.Path.{_≡_}
+use mathlib.Core.List.{List, [], _∷_, _++_, map}
+use Prim.Native.Nat.{ℕ, _<_}
+use lib.ListN.{length, getD}
+use Rattle.probes.specs.declared.Probe.{Probe}
+use Rattle.probes.specs.declared.Updated.the-variants.{Done, Refused}
+use Rattle.probes.specs.Probes.{Change, withResult, latest, recordsFrom, outcomeOf, updating, no-probe, resultSet}
+use Rattle.probes.specs.Samples.{three, Sample, samples}
+
+-- no change of a list names part k
+abbrev pub Unnamed : ℕ → List Change → Type 0
+Unnamed k [] = Unit {0}
+Unnamed k (c ∷ cs) = (c .index ≡ k → ⊥) × Unnamed k cs
+
+abbrev pub LastNamed : Type 0
+LastNamed = (k : ℕ) (before : List Change) (c : Change) (behind : List Change) (own : ℕ) → c .index ≡ k → Unnamed k behind
+    → latest k (before ++ c ∷ behind) own ≡ c .result
+
+abbrev pub UnnamedStays : Type 0
+UnnamedStays = (k : ℕ) (cs : List Change) (own : ℕ) → Unnamed k cs → latest k cs own ≡ own
+
+abbrev pub RecordAt : Type 0
+RecordAt = (k : ℕ) (l : List Probe) (cs : List Change) → k < length l
+    → getD (recordsFrom 0 l cs) k no-probe ≡ withResult (getD l k no-probe) (latest k cs (getD l k no-probe .result))
+
+abbrev pub AsLong : Type 0
+AsLong = (k : ℕ) (l : List Probe) (cs : List Change) → length (recordsFrom k l cs) ≡ length l
+
+abbrev pub AddressesStay : Type 0
+AddressesStay = (k : ℕ) (l : List Probe) (cs : List Change) → map (λ (p : Probe). p .address) (recordsFrom k l cs) ≡ map (λ (p : Probe). p .address) l
+
+abbrev pub OthersStay : Type 0
+OthersStay = (l : List Probe) (i r k : ℕ) → (k ≡ i → ⊥) → getD (resultSet l i r) k no-probe ≡ getD l k no-probe
+
+abbrev pub SamplesHold : Type 0
+SamplesHold = map (λ (s : Sample). updating three (s .indices) (s .results)) samples ≡ map (λ (s : Sample). s .outcome) samples
+
+abbrev pub EmptyList : Type 0
+EmptyList = (updating [] [] [] ≡ outcomeOf Done []) × (updating [] (0 ∷ []) (0 ∷ []) ≡ outcomeOf Refused [])
+
+pub record Item4 : Type 0 where
+  -- a part has the result of the last change that names it, whatever comes before: a part named twice keeps the later result
+  pub last-named : LastNamed
+  -- a part that no change names keeps its result
+  pub unnamed-stays : UnnamedStays
+  -- record k is its own with the result that it has then
+  pub record-at : RecordAt
+  -- the list has as many records as before
+  pub as-long : AsLong
+  -- addresses never change
+  pub addresses-stay : AddressesStay
+  -- one record written leaves every other
+  pub others-stay : OthersStay
+  -- a call that is done, and one that is refused as 15, on a list of three
+  pub samples-hold : SamplesHold
+  -- on a list of no records no changes are done, and any are refused
+  pub empty-list : EmptyList

@@ -1,0 +1,163 @@
+-- From a start on, the bytes up to and with an answer's 00 are exactly the frame of the message handed out (document 02, item 6).
+-- Assumes nothing.
+use mathlib.Core.Path.{_≡_, refl}
+use mathlib.Core.List.{List, [], _∷_, _++_}
+use mathlib.Core.Option.{Option, none, some}
+use Prim.Native.Nat.{ℕ, suc, _≤_}
+use native.Mathlib.Omega.{arith}
+use lib.Dec.{leb, ltb, eqb}
+use lib.ListN.{length, take}
+use borrow.Author.Tests.{eqb-false}
+use Rattle.octets.specs.Bytes.{Byte, Each}
+use Rattle.octets.proofs.Conditions.{cond-by}
+use Rattle.octets.proofs.Each.{each-append, each-take}
+use Rattle.line.specs.Limits.{longest-data, longest-form}
+use Rattle.line.specs.Message.{Message}
+use Rattle.line.specs.Judge.{judge}
+use Rattle.line_claims.specs.Pieces.{NonZero}
+use Rattle.line_claims.proofs.SpellingClaim.{good-frame}
+use Rattle.requester.specs.Limits.{last-number}
+use Rattle.requester.specs.State.{Request, Step, State, fresh, isSome, outstanding, requestFrame}
+use Rattle.requester.specs.Requester
+use Rattle.requester.specs.Requester.{Heard, ground, heard, settled}
+use Rattle.requester.specs.Calls
+use Rattle.requester.specs.Calls.{Report}
+use Rattle.requester_claims.specs.View.{view}
+use Rattle.requester_claims.specs.Histories
+use Rattle.requester_claims.specs.Histories.{Call, Answer, refused, done, put, received, Means, meant, Made, made, meantMade, enough, left, leftMeant}
+use Rattle.requester_claims.proofs.MeaningLaws.{positive}
+use Rattle.requester_claims.proofs.History.{history}
+use Rattle.requester_claims.specs.Histories.{begun, OfStarted}
+use Rattle.requester_claims.specs.Answers.{OfReport, OfAnswer}
+use Rattle.requester_claims.proofs.AnswerBytes.{answer-bytes}
+use Rattle.requester_claims.specs.Item6.{Comes, Framed, Typed, AllTyped, AnswerFrame}
+
+-- ---- the bytes since the last 00 are not 00
+
+abbrev Since : Option (List ℕ) → Type 0
+Since none = Unit {0}
+Since (some xs) = Each NonZero xs
+
+pub moved-received : (x : Requester.Next) (s : State) → Requester.movedTo x s .state .received ≡ s .received
+unfolding Requester.movedTo
+moved-received Requester.same s = refl
+moved-received Requester.again s = refl
+moved-received (Requester.anew t) s =
+    cond-by (λ (m : Requester.Moved). m .state .received ≡ s .received) (leb last-number (s .newest)) _ _ (λ _. refl) (λ _. refl)
+moved-received Requester.idle s = refl
+
+hears-since : (h : Heard) (s : State) → Since (s .received) → Since (Requester.hears h s .state .received)
+hears-since h s w = rw (moved-received (settled (s .recovery) (isSome (s .kept)) h .next) s) w
+
+closes-since : (bs : Option (List ℕ)) (s : State) → Since (Requester.closes bs (Requester.withReceived s (some [])) .state .received)
+closes-since none s = tt
+closes-since (some []) s = tt
+closes-since (some (b ∷ bs)) s = hears-since (heard (s .newest) (judge (b ∷ bs))) (Requester.withReceived s (some [])) tt
+
+more-since : (bs : Option (List ℕ)) (b : ℕ) (s : State) → NonZero b → Since bs → Since (s .received) → Since (Requester.more bs b s .state .received)
+more-since none b s z w h = h
+more-since (some bs) b s z w h =
+    cond-by (λ (x : Requester.Result). Since (x .state .received)) (ltb (length bs) longest-form) _ _
+    (λ _. each-append NonZero bs (b ∷ []) w (z, tt)) (λ _. hears-since ground (Requester.withReceived s none) tt)
+
+byte-since : (s : State) (b : ℕ) → Byte b → Since (s .received) → Since (Requester.byte s b .state .received)
+unfolding Requester.byte
+byte-since s b h w =
+    cond-by (λ (x : Requester.Result). Since (x .state .received)) (eqb b 0) _ _
+    (λ _. closes-since (s .received) s) (λ e. more-since (s .received) b s (positive b (eqb-false b 0 e), omega arith) w w)
+
+receive-since : (piece : List ℕ) (s : State) → Each Byte piece → Since (s .received) → Since (Requester.receive s piece .result .state .received)
+unfolding Requester.receive
+receive-since [] s h w = w
+receive-since (b ∷ bs) s h w =
+    let v = byte-since s b (h .0) w in
+    cond-by (λ (x : Requester.Received). Since (x .result .state .received)) (Requester.stops s b) _ _ (λ _. v) (λ _. receive-since bs (Requester.byte s b .state) (h .1) v)
+
+-- the calls that receive nothing keep them
+module _ (s : State) where
+  abbrev pub DoneKeeps : Requester.Done → Type 0
+  DoneKeeps x = x .state .received ≡ s .received
+
+  pub request-keeps : (room : ℕ) (q : Request) → DoneKeeps (Requester.request room q s)
+  unfolding Requester.request
+  request-keeps room q =
+      cond-by DoneKeeps (ltb longest-data (length (q .payload))) _ _ (λ _. refl) (λ _.
+      cond-by DoneKeeps (isSome (outstanding s)) _ _ (λ _. refl) (λ _.
+      cond-by DoneKeeps (leb last-number (s .newest)) _ _ (λ _. refl) (λ _.
+      cond-by DoneKeeps (ltb room (length (requestFrame (suc (s .newest)) q))) _ _ (λ _. refl) (λ _. refl))))
+
+  pub interrupt-keeps : (t : Option Step) → DoneKeeps (Requester.interruptedIn t s)
+  interrupt-keeps (some t) = refl
+  interrupt-keeps none = cond-by DoneKeeps (leb last-number (s .newest)) _ _ (λ _. refl) (λ _. refl)
+
+  pub send-keeps : (room : ℕ) (q : Option Request) → DoneKeeps (Requester.sentOf room q s)
+  send-keeps room none = refl
+  send-keeps room (some q) =
+      cond-by DoneKeeps (s .unsent) _ _ (λ _. cond-by DoneKeeps (ltb room (length (requestFrame (s .newest) q))) _ _ (λ _. refl) (λ _. refl)) (λ _. refl)
+
+  pub put-keeps : (x : Requester.Done) (room : List ℕ) → Histories.putMeans (x .refusal) room (x .out) (x .state) .state ≡ x .state
+  put-keeps x room = by (x .refusal)
+    where
+      by : (k : Option ℕ) → Histories.putMeans k room (x .out) (x .state) .state ≡ x .state
+      by none = refl
+      by (some k) = refl
+
+  meant-since : (c : Call) → Typed c → Since (s .received) → Since (meant s c .state .received)
+  unfolding meant fresh Requester.interrupt Requester.send
+  meant-since Histories.start h w = tt
+  meant-since (Histories.request command d room) h w =
+      let x = Requester.request (length room) (record { command = command; payload = d }) s in
+      rw (put-keeps x room, request-keeps (length room) (record { command = command; payload = d })) w
+  meant-since Histories.interrupt h w = rw (interrupt-keeps (s .recovery)) w
+  meant-since (Histories.send room) h w = rw (put-keeps (Requester.sentOf (length room) (outstanding s) s) room, send-keeps (length room) (outstanding s)) w
+  meant-since (Histories.receive piece) h w = receive-since piece s h w
+
+  made-since : (m : Made) → Typed (m .call) → Since (s .received) → Since (meantMade s m .state .received)
+  unfolding meantMade
+  made-since m h w = cond-by (λ (x : Means). Since (x .state .received)) (enough (m .call) (m .lent)) _ _ (λ _. meant-since (m .call) h w) (λ _. w)
+
+left-since : (s : State) (ms : List Made) → AllTyped ms → Since (s .received) → Since (leftMeant s ms .received)
+unfolding leftMeant
+left-since s [] h w = w
+left-since s (m ∷ ms) h w = left-since (meantMade s m .state) ms (h .1) (made-since s m (h .0) w)
+
+fresh-since : Since (fresh .received)
+unfolding fresh
+fresh-since = tt
+
+-- ---- the claim
+
+both : (bs : List ℕ) → Each Byte bs → Each (λ b. 1 ≤ b) bs → Each NonZero bs
+both [] h k = tt
+both (b ∷ bs) h k = ((k .0, omega (arith, h .0)), both bs (h .1) (k .1))
+
+module _ (piece : List ℕ) (h : Each Byte piece) (bs : Option (List ℕ)) (w : Since bs) where
+  comes-framed : (used : ℕ) (m : Message) → Comes piece bs used m → Framed piece bs used m
+  comes-framed used m c =
+      let x = c .ended in
+      let f : Each NonZero (x .since) = rw (x .begun) at w in
+      let g = both (take (x .ahead) piece) (each-take Byte (x .ahead) piece h) (c .whole) in
+      record { ended = x; framed = good-frame (x .since ++ take (x .ahead) piece) m (each-append NonZero (x .since) (take (x .ahead) piece) f g) (c .judged) }
+
+-- a property that follows from another
+module _ (P Q : ℕ → Message → Type 0) (f : (used : ℕ) (m : Message) → P used m → Q used m) where
+  report-then : (used : ℕ) (t : Report) (d : List ℕ) → OfReport (P used) t d → OfReport (Q used) t d
+  report-then used (Report.refused n) d c = tt
+  report-then used Calls.nothing d c = tt
+  report-then used (Calls.answered v q k n) d c = f used _ c
+  report-then used (Calls.status s o n) d c = tt
+  report-then used (Calls.alerted v q k n) d c = f used _ c
+
+  answer-then : (a : Answer) (d : List ℕ) → OfAnswer P a d → OfAnswer Q a d
+  answer-then (refused n) d c = tt
+  answer-then done d c = tt
+  answer-then (put n) d c = tt
+  answer-then (received used t e u) d c = report-then used t d c
+
+pub answer-frame : OfStarted AnswerFrame
+answer-frame p l h ms t k piece b =
+    let i = history p l h ms in
+    let q = left (begun p l) ms in
+    let w : Since (view q .received) = rw (i .1) (left-since fresh ms t fresh-since) in
+    let m : Made = record { lent = k; call = Histories.receive piece } in
+    answer-then _ _ (comes-framed piece b (view q .received) w) (made q m .answer) (made q m .out) (answer-bytes q (i .2) k piece)

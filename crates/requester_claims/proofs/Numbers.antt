@@ -1,0 +1,280 @@
+-- Numbers and frames between two starts: one frame for each number, numbers one above the last, and never falling.
+-- Assumes nothing.
+use mathlib.Core.Path.{_≡_, refl, sym, ap, _∙_}
+use mathlib.Core.Bool.{Bool, true, false, false≢true, cond}
+use mathlib.Core.List.{List, [], _∷_, _++_}
+use mathlib.Core.Logic.{_⊎_, inl, inr}
+use mathlib.Core.Option.{Option, none, some}
+use Prim.Native.Nat.{ℕ, suc, _≤_, _<_}
+use native.Mathlib.Omega.{arith}
+use lib.Dec.{leb, ltb, eqb}
+use lib.ListN.{length, length-append}
+use Rattle.octets.specs.Bytes.{Each, overlay}
+use Rattle.octets.proofs.Conditions.{cond-by}
+use Rattle.octets.proofs.Each.{each-append}
+use Rattle.octets.proofs.Overlay.{overlay-inside}
+use Rattle.line.specs.Limits.{longest-data, longest-form}
+use Rattle.line.specs.Judge.{judge}
+use Rattle.line.specs.Frame.{frame}
+use Rattle.requester.specs.Limits.{last-number}
+use Rattle.requester.specs.State.{Request, Step, State, isSome, outstanding, requestFrame}
+use Rattle.requester.specs.Requester
+use Rattle.requester.specs.Requester.{Heard, ground, heard, settled, staysOut}
+use Rattle.requester.specs.Layout
+use Rattle.requester.specs.Calls.{Parts, PartsValid}
+use Rattle.requester_claims.specs.View.{view}
+use Rattle.requester_claims.specs.Histories
+use Rattle.requester_claims.specs.Histories.{Call, refused, put, received, Means, means, putMeans, doneMeans, meant, Made, made, meantMade, enough}
+use Rattle.requester_claims.proofs.MeaningLaws.{grown, quiet-byte}
+use Rattle.requester_claims.proofs.History.{one-call, history}
+use Rattle.requester_claims.specs.Histories.{OfReached, OfValid}
+use Rattle.requester_claims.specs.Item2.{OneNumber}
+use Rattle.requester_claims.specs.Numbers.{Frame, framesBy, frames, isStart, NoStart, Between, OnePerNumber, OneAbove, RequestFrame}
+
+-- ---- one call
+
+abbrev pub framed : ℕ → Request → List Frame
+framed n q = record { number = n; bytes = requestFrame n q } ∷ []
+
+-- the number stays, and so does the one outstanding, unless none is left; or the next number is taken
+pub data Goes (s t : State) (fs : List Frame) : Type 0 where
+  stays : t .newest ≡ s .newest → (outstanding t ≡ outstanding s) ⊎ (outstanding t ≡ none)
+      → (fs ≡ []) ⊎ ((q : Request) × (outstanding s ≡ some q) × (fs ≡ framed (s .newest) q)) → Goes s t fs
+  takes : t .newest ≡ suc (s .newest) → (fs ≡ []) ⊎ ((q : Request) × ((outstanding t ≡ some q) ⊎ (outstanding t ≡ none)) × (fs ≡ framed (t .newest) q)) → Goes s t fs
+
+nothing-goes : (s : State) → Goes s s []
+nothing-goes s = stays refl (inl refl) (inl refl)
+
+moved-goes : (x : Requester.Next) (s : State) → Goes s (Requester.movedTo x s .state) []
+unfolding Requester.movedTo
+moved-goes Requester.same s = nothing-goes s
+moved-goes Requester.again s = stays refl (inl refl) (inl refl)
+moved-goes (Requester.anew t) s =
+    cond-by (λ (m : Requester.Moved). Goes s (m .state) []) (leb last-number (s .newest)) _ _ (λ _. stays refl (inr refl) (inl refl)) (λ _. takes refl (inl refl))
+moved-goes Requester.idle s = stays refl (inr refl) (inl refl)
+
+-- the receive progress does not matter
+progress-goes : {s t : State} {fs : List Frame} (bs : Option (List ℕ)) → Goes (Requester.withReceived s bs) t fs → Goes s t fs
+progress-goes bs (stays a b c) = stays a b c
+progress-goes bs (takes a b) = takes a b
+
+-- a byte
+module _ (s : State) where
+  hears-goes : (bs : Option (List ℕ)) (h : Heard) → Goes s (Requester.hears h (Requester.withReceived s bs) .state) []
+  hears-goes bs h = progress-goes bs (moved-goes (settled (s .recovery) (isSome (s .kept)) h .next) (Requester.withReceived s bs))
+
+  closes-goes : (bs : Option (List ℕ)) → Goes s (Requester.closes bs (Requester.withReceived s (some [])) .state) []
+  closes-goes none = stays refl (inl refl) (inl refl)
+  closes-goes (some []) = stays refl (inl refl) (inl refl)
+  closes-goes (some (b ∷ bs)) = hears-goes (some []) (heard (s .newest) (judge (b ∷ bs)))
+
+  more-goes : (bs : Option (List ℕ)) (b : ℕ) → Goes s (Requester.more bs b s .state) []
+  more-goes none b = nothing-goes s
+  more-goes (some bs) b =
+      cond-by (λ (x : Requester.Result). Goes s (x .state) []) (ltb (length bs) longest-form) _ _
+      (λ _. stays refl (inl refl) (inl refl)) (λ _. hears-goes none ground)
+
+  byte-goes : (b : ℕ) → Goes s (Requester.byte s b .state) []
+  unfolding Requester.byte
+  byte-goes b = cond-by (λ (x : Requester.Result). Goes s (x .state) []) (eqb b 0) _ _ (λ _. closes-goes (s .received)) (λ _. more-goes (s .received) b)
+
+receive-goes : (piece : List ℕ) (s : State) → Goes s (Requester.receive s piece .result .state) []
+unfolding Requester.receive
+receive-goes [] s = nothing-goes s
+receive-goes (b ∷ bs) s =
+    by (Requester.stops s b) refl (λ x. receive-goes bs (Requester.withReceived s x))
+  where
+    P : Requester.Received → Type 0
+    P x = Goes s (x .result .state) []
+
+    by : (t : Bool) → Requester.stops s b ≡ t → ((x : Option (List ℕ)) → Goes (Requester.withReceived s x) (Requester.receive (Requester.withReceived s x) bs .result .state) [])
+        → let r = Requester.receive (Requester.byte s b .state) bs in P (cond t (Requester.received 1 (Requester.byte s b)) (Requester.received (suc (r .used)) (r .result)))
+    by true e i = byte-goes s b
+    by false e i = rw (quiet-byte s b e) (progress-goes (grown (s .received) b) (i (grown (s .received) b)))
+
+-- ---- what is put out
+
+-- a frame at the start of the room
+pub frames-put : (n : ℕ) (bs room : List ℕ) → 0 < length bs → framesBy (put (length bs)) (overlay 0 bs room) n ≡ record { number = n; bytes = bs } ∷ []
+unfolding framesBy
+frames-put n [] room h = absurd (omega arith)
+frames-put n (b ∷ bs) room h = rw (overlay-inside 0 (b ∷ bs) room (omega arith))
+
+pub some-bytes : (n : ℕ) (q : Request) → 0 < length (requestFrame n q)
+unfolding requestFrame frame
+some-bytes n q = rw length-append (omega arith)
+
+-- by what a call means
+abbrev pub framesOf : Means → List Frame
+framesOf x = framesBy (x .answer) (x .out) (x .state .newest)
+
+module _ (s : State) where
+  abbrev pub MeansGoes : Means → Type 0
+  MeansGoes x = Goes s (x .state) (framesOf x)
+
+  abbrev PutGoes : List ℕ → Requester.Done → Type 0
+  PutGoes room x = MeansGoes (putMeans (x .refusal) room (x .out) (x .state))
+
+  refused-goes : (k : ℕ) (room : List ℕ) → MeansGoes (means (refused k) room s)
+  unfolding framesBy
+  refused-goes k room = nothing-goes s
+
+  request-goes : (command : ℕ) (d room : List ℕ) → PutGoes room (Requester.request (length room) (record { command = command; payload = d }) s)
+  unfolding Requester.request
+  request-goes command d room =
+      let q : Request = record { command = command; payload = d } in
+      let n = suc (s .newest) in
+      cond-by (PutGoes room) (ltb longest-data (length d)) _ _ (λ _. refused-goes 9 room) (λ _.
+      cond-by (PutGoes room) (isSome (outstanding s)) _ _ (λ _. refused-goes 17 room) (λ _.
+      cond-by (PutGoes room) (leb last-number (s .newest)) _ _ (λ _. refused-goes 14 room) (λ _.
+      cond-by (PutGoes room) (ltb (length room) (length (requestFrame n q))) _ _ (λ _. refused-goes 8 room) (λ _.
+      rw (frames-put n (requestFrame n q) room (some-bytes n q)) (takes refl (inr (q, kept q, refl)))))))
+    where
+      kept : (q : Request) → (Requester.keep q ≡ some q) ⊎ (Requester.keep q ≡ none)
+      kept q = cond-by (λ k. (k ≡ some q) ⊎ (k ≡ none)) (staysOut (q .command)) (some q) none (λ _. inl refl) (λ _. inr refl)
+
+  interrupt-goes : (t : Option Step) → MeansGoes (doneMeans (Requester.interruptedIn t s .refusal) (Requester.interruptedIn t s .state))
+  unfolding framesBy
+  interrupt-goes (some t) = nothing-goes s
+  interrupt-goes none =
+      cond-by (λ (x : Requester.Done). MeansGoes (doneMeans (x .refusal) (x .state))) (leb last-number (s .newest)) _ _ (λ _. nothing-goes s) (λ _. takes refl (inl refl))
+
+  send-goes : (room : List ℕ) (q : Option Request) → outstanding s ≡ q → PutGoes room (Requester.sentOf (length room) q s)
+  unfolding framesBy
+  send-goes room none e = nothing-goes s
+  send-goes room (some q) e =
+      cond-by (PutGoes room) (s .unsent) _ _
+      (λ _. cond-by (PutGoes room) (ltb (length room) (length (requestFrame (s .newest) q))) _ _ (λ _. nothing-goes s) (λ _.
+      rw (frames-put (s .newest) (requestFrame (s .newest) q) room (some-bytes (s .newest) q)) (stays refl (inl refl) (inr (q, e, refl)))))
+      (λ _. nothing-goes s)
+
+  meant-goes : (c : Call) → isStart c ≡ false → MeansGoes (meant s c)
+  unfolding meant Requester.interrupt Requester.send framesBy
+  meant-goes Histories.start h = absurd (false≢true (sym h))
+  meant-goes (Histories.request command d room) h = request-goes command d room
+  meant-goes Histories.interrupt h = interrupt-goes (s .recovery)
+  meant-goes (Histories.send room) h = send-goes room (outstanding s) refl
+  meant-goes (Histories.receive piece) h = receive-goes piece s
+
+  not-start : (m : Made) → NoStart m → enough (m .call) (m .lent) ≡ true → isStart (m .call) ≡ false
+  not-start m h e = by (isStart (m .call)) refl
+    where
+      by : (t : Bool) → isStart (m .call) ≡ t → t ≡ false
+      by false f = refl
+      by true f = absurd (false≢true (sym (h f) ∙ e))
+
+  pub call-goes : (m : Made) → NoStart m → MeansGoes (meantMade s m)
+  unfolding meantMade
+  call-goes m h =
+      cond-by MeansGoes (enough (m .call) (m .lent)) _ _ (λ e. meant-goes (m .call) (not-start m h e)) (λ _. refused-goes 12 _)
+
+-- ---- lists of calls, in document 02's words
+
+unfoldable framesMeant : State → List Made → List Frame
+framesMeant s [] = []
+framesMeant s (m ∷ ms) = let x = meantMade s m in framesOf x ++ framesMeant (x .state) ms
+
+newest-is : (p : Parts) → Layout.numberOf (p .requester) ≡ view p .newest
+unfolding view
+newest-is p = refl
+
+pub newest-after : (p : Parts) → PartsValid p → (m : Made) → Layout.numberOf (made p m .parts .requester) ≡ meantMade (view p) m .state .newest
+newest-after p v m = newest-is (made p m .parts) ∙ ap (λ (s : State). s .newest) (one-call p m v .state)
+
+frames-meant : (p : Parts) → PartsValid p → (ms : List Made) → frames p ms ≡ framesMeant (view p) ms
+unfolding frames framesMeant
+frames-meant p v [] = refl
+frames-meant p v (m ∷ ms) =
+    let k = one-call p m v in
+    let i = frames-meant (made p m .parts) (k .valid) ms in
+    rw (k .answer, k .out, newest-after p v m, i, k .state)
+
+-- a frame that was put out: later ones under its number are the same
+pub record Agrees (x : Frame) (s : State) : Type 0 where
+  pub most : x .number ≤ s .newest
+  pub same : s .newest ≡ x .number → (q : Request) → outstanding s ≡ some q → requestFrame (x .number) q ≡ x .bytes
+
+abbrev pub Behind : Frame → Frame → Type 0
+Behind x y = (x .number ≤ y .number) × (y .number ≡ x .number → y .bytes ≡ x .bytes)
+
+never-some : {q : Request} {k : Option Request} → k ≡ none → k ≡ some q → ⊥
+never-some e f = let z : _≡_ {A = ℕ} 0 1 = cc in omega arith
+
+pub agrees-goes : (x : Frame) {s t : State} {fs : List Frame} → Agrees x s → Goes s t fs → Agrees x t × Each (Behind x) fs
+agrees-goes x {s} {t} a (stays e k f) = (record { most = omega (arith, a .most); same = λ n q o. same k n q o }, behind f)
+  where
+    same : (outstanding t ≡ outstanding s) ⊎ (outstanding t ≡ none) → t .newest ≡ x .number → (q : Request) → outstanding t ≡ some q
+        → requestFrame (x .number) q ≡ x .bytes
+    same (inl h) n q o = a .same (sym e ∙ n) q (sym h ∙ o)
+    same (inr h) n q o = absurd (never-some h o)
+
+    behind : {fs : List Frame} → (fs ≡ []) ⊎ ((q : Request) × (outstanding s ≡ some q) × (fs ≡ framed (s .newest) q)) → Each (Behind x) fs
+    behind (inl h) = rw h tt
+    behind (inr (q, o, h)) = rw h ((a .most, λ n. rw n (a .same n q o)), tt)
+agrees-goes x {s} {t} a (takes e f) = (record { most = omega (arith, a .most); same = λ n q o. absurd (omega (arith, a .most)) }, behind f)
+  where
+    behind : {fs : List Frame} → (fs ≡ []) ⊎ ((q : Request) × ((outstanding t ≡ some q) ⊎ (outstanding t ≡ none)) × (fs ≡ framed (t .newest) q)) → Each (Behind x) fs
+    behind (inl h) = rw h tt
+    behind (inr (q, o, h)) = rw h ((omega (arith, a .most), λ n. absurd (omega (arith, a .most))), tt)
+
+-- what a call puts out is one frame at most, a request's, and agrees with the state that is left
+pub put-goes : {s t : State} {fs : List Frame} → Goes s t fs → Each (λ (x : Frame). Agrees x t) fs × OnePerNumber fs × Each RequestFrame fs
+put-goes {s} {t} (stays e k (inl h)) = rw h (tt, tt, tt)
+put-goes {s} {t} (stays e k (inr (q, o, h))) = rw h ((record { most = omega arith; same = λ n r w. same k r w }, tt), (tt, tt), ((q, refl), tt))
+  where
+    same : (outstanding t ≡ outstanding s) ⊎ (outstanding t ≡ none) → (r : Request) → outstanding t ≡ some r → requestFrame (s .newest) r ≡ requestFrame (s .newest) q
+    same (inl g) r w = let z : r ≡ q = cc in rw z
+    same (inr g) r w = absurd (never-some g w)
+put-goes {s} {t} (takes e (inl h)) = rw h (tt, tt, tt)
+put-goes {s} {t} (takes e (inr (q, k, h))) = rw h ((record { most = omega arith; same = λ n r w. same k r w }, tt), (tt, tt), ((q, refl), tt))
+  where
+    same : (outstanding t ≡ some q) ⊎ (outstanding t ≡ none) → (r : Request) → outstanding t ≡ some r → requestFrame (t .newest) r ≡ requestFrame (t .newest) q
+    same (inl g) r w = let z : r ≡ q = cc in rw z
+    same (inr g) r w = absurd (never-some g w)
+
+-- all later frames
+later-behind : (x : Frame) (s : State) → Agrees x s → (ms : List Made) → Between ms → Each (Behind x) (framesMeant s ms)
+unfolding framesMeant
+later-behind x s a [] h = tt
+later-behind x s a (m ∷ ms) h =
+    let g = agrees-goes x a (call-goes s m (h .0)) in
+    let t = meantMade s m in
+    each-append (Behind x) (framesOf t) (framesMeant (t .state) ms) (g .1) (later-behind x (t .state) (g .0) ms (h .1))
+
+pub joined : (fs gs : List Frame) → Each (λ (x : Frame). Each (Behind x) gs) fs → OnePerNumber fs → OnePerNumber gs → OnePerNumber (fs ++ gs)
+joined [] gs h a b = b
+joined (x ∷ fs) gs h a b = (each-append (Behind x) fs gs (a .0) (h .0), joined fs gs (h .1) (a .1) b)
+
+-- frames that agree with a state, and those of the calls on it
+agreed-behind : (fs : List Frame) (s : State) → Each (λ (x : Frame). Agrees x s) fs → (ms : List Made) → Between ms
+    → Each (λ (x : Frame). Each (Behind x) (framesMeant s ms)) fs
+agreed-behind [] s h ms b = tt
+agreed-behind (x ∷ fs) s h ms b = (later-behind x s (h .0) ms b, agreed-behind fs s (h .1) ms b)
+
+one-meant : (s : State) (ms : List Made) → Between ms → OnePerNumber (framesMeant s ms) × Each RequestFrame (framesMeant s ms)
+unfolding framesMeant
+one-meant s [] h = (tt, tt)
+one-meant s (m ∷ ms) h =
+    let g = put-goes (call-goes s m (h .0)) in
+    let t = meantMade s m in
+    let i = one-meant (t .state) ms (h .1) in
+    let rest = framesMeant (t .state) ms in (
+      joined (framesOf t) rest (agreed-behind (framesOf t) (t .state) (g .0) ms (h .1)) (g .1) (i .0),
+      each-append RequestFrame (framesOf t) rest (g .2) (i .1),
+    )
+
+one-above : (p : Parts) → PartsValid p → (ms : List Made) → Between ms → OneAbove p ms
+one-above p v [] h = tt
+one-above p v (m ∷ ms) h = (rw (newest-after p v m, newest-is p) (by (call-goes (view p) m (h .0))), one-above (made p m .parts) (one-call p m v .valid) ms (h .1))
+  where
+    by : {s t : State} {fs : List Frame} → Goes s t fs → (t .newest ≡ s .newest) ⊎ (t .newest ≡ suc (s .newest))
+    by (stays e k f) = inl e
+    by (takes e f) = inr e
+
+-- ---- the claim
+
+pub one-number : OfValid OneNumber
+one-number p v ms h = let i = one-meant (view p) ms h in (rw (frames-meant p v ms) (i .0), rw (frames-meant p v ms) (i .1), one-above p v ms h)
+
+pub one-number-started : OfReached OneNumber
+one-number-started p l h before = one-number _ (history p l h before .2)

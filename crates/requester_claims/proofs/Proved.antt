@@ -1,0 +1,40 @@
+-- The claims of the main processor's end, proved: one element of each record of statements in specs/.
+-- Assumes nothing.
+use Rattle.requester_claims.specs.Demand1.{NumberDue, AsItWas}
+use Rattle.requester_claims.specs.Item2.{Item2}
+use Rattle.requester_claims.specs.Item6.{Item6}
+use Rattle.requester_claims.proofs.LentCalls.{too-little, whole}
+use Rattle.requester_claims.proofs.History.{history, no-12, refused-holds, refused-made}
+use Rattle.requester_claims.proofs.Cuts.{cut, cut-between, cut-between-started}
+use Rattle.requester_claims.proofs.Numbers.{one-number, one-number-started}
+use Rattle.requester_claims.proofs.Answers.{answer-matches, answer-matches-started, answers-counted, one-answer-each}
+use Rattle.requester_claims.proofs.AnswerBytes.{answer-bytes}
+use Rattle.requester_claims.proofs.AnswerFrame.{answer-frame}
+
+pub number-due : NumberDue
+number-due = record { history = history; no-12 = no-12; too-little = too-little; whole = whole }
+
+pub as-it-was : AsItWas
+as-it-was = record { refused-holds = refused-holds; refused-made = refused-made }
+
+pub item-2 : Item2
+item-2 = record {
+  history = history;
+  no-12 = no-12;
+  refused-holds = refused-holds;
+  refused-made = refused-made;
+  too-little = too-little;
+  whole = whole;
+  cut = cut;
+  cut-between = cut-between;
+  cut-between-started = cut-between-started;
+  one-number = one-number;
+  one-number-started = one-number-started;
+  answer-matches = answer-matches;
+  answer-matches-started = answer-matches-started;
+  answers-counted = answers-counted;
+  one-answer-each = one-answer-each;
+}
+
+pub item-6 : Item6
+item-6 = record { answer-bytes = answer-bytes; answer-frame = answer-frame }

@@ -1,0 +1,17 @@
+-- The root-of-trust link's claims, proved: one element of the record of statements in specs/.
+-- Assumes nothing.
+use Rattle.rot_claims.specs.Item7.{Item7}
+use Rattle.rot_claims.proofs.Samples.{samples-hold}
+use Rattle.rot_claims.proofs.ReadBack.{reads-back, echo-reads, echo-back, one-message, judged, read-bytes, behind-ignored}
+
+pub item-7 : Item7
+item-7 = record {
+  samples-hold = samples-hold;
+  reads-back = reads-back;
+  echo-reads = echo-reads;
+  echo-back = echo-back;
+  one-message = one-message;
+  judged = judged;
+  read-bytes = read-bytes;
+  behind-ignored = behind-ignored;
+}

@@ -1,0 +1,15 @@
+-- The claims of saving and restoring, proved: one element of the record of statements in specs/.
+-- Assumes nothing.
+use Rattle.saving_claims.specs.Item11.{Item11}
+use Rattle.saving_claims.proofs.Samples.{samples-hold}
+use Rattle.saving_claims.proofs.Item11.{saved-read, saved-restores, saved-restores-into, image-exact, image-one}
+
+pub item-11 : Item11
+item-11 = record {
+  samples-hold = samples-hold;
+  saved-read = saved-read;
+  saved-restores = saved-restores;
+  saved-restores-into = saved-restores-into;
+  image-exact = image-exact;
+  image-one = image-one;
+}

@@ -1,0 +1,114 @@
+-- The supervisor's claims, proved: one element of each record of statements in specs/.
+-- Assumes nothing.
+use Rattle.supervisor_claims.specs.Demand1.{NumberDue, AsItWas}
+use Rattle.supervisor_claims.specs.Demand2.{CarriedOut, NumberedFailures, Cuts}
+use Rattle.supervisor_claims.specs.Item1.{Item1}
+use Rattle.supervisor_claims.specs.Item5.{Item5}
+use Rattle.supervisor_claims.specs.Item11.{Item11}
+use Rattle.supervisor_claims.specs.Item14.{Item14}
+use Rattle.supervisor_claims.proofs.laws.SavingLaws.{image-meant, good-meant}
+use Rattle.supervisor_claims.proofs.calls.StartClaim.{start-meant}
+use Rattle.supervisor_claims.proofs.calls.LookupClaim.{edition-meant}
+use Rattle.supervisor_claims.proofs.claims.Refusals.{refused-exactly, refused-holds, parts-fit}
+use Rattle.supervisor_claims.proofs.claims.LentCalls.{made-12}
+use Rattle.supervisor_claims.proofs.claims.History.{one-call, refused-made, no-12, history, cut, step-receives, step-then-receive, steps-receive}
+use Rattle.supervisor_claims.proofs.claims.ReaderCalls.{reader-calls-sound, reader-no-12}
+use Rattle.supervisor_claims.proofs.claims.InOrder.{in-order, in-order-behind, request-carried, failure-only-pending}
+use Rattle.supervisor_claims.proofs.claims.FramesClaim.{history-frames, each-once, received-since, in-order-after}
+use Rattle.supervisor_claims.proofs.claims.Cuts.{cut-any}
+use Rattle.supervisor_claims.proofs.claims.Replies.{replies-in-order}
+use Rattle.supervisor_claims.proofs.claims.LastSetLaws.{set-successful, successful-exactly, replaced-other}
+use Rattle.supervisor_claims.proofs.claims.WithdrawnKeys.{value-last-set, last-set, withdrawn-list-answered, lookup-last-set}
+use Rattle.supervisor_claims.proofs.claims.WithdrawnKeys.{list-edition-answered, passphrase-unread, passphrase-unread-locally}
+use Rattle.supervisor_claims.proofs.claims.RetainedClaim.{retained-stays, reboot-forgets, power-off-forgets, fresh-alert}
+use Rattle.supervisor_claims.proofs.claims.AlertClaim.{local-keeps, failed-keeps, request-retains, retained-exactly, fresh-alert-answered, fresh-after-reboot}
+use Rattle.supervisor_claims.proofs.claims.SavedClaim.{key-savable, save-writes, saved-restores, accepted-exact}
+use Rattle.supervisor_claims.proofs.TwoRuns.{two-runs}
+
+pub number-due : NumberDue
+number-due = record {
+  one-call = one-call;
+  refused-exactly = refused-exactly;
+  made-12 = made-12;
+  no-12 = no-12;
+  reader-calls-sound = reader-calls-sound;
+  reader-no-12 = reader-no-12;
+  parts-fit = parts-fit;
+}
+
+pub as-it-was : AsItWas
+as-it-was = record { refused-holds = refused-holds; refused-made = refused-made }
+
+pub carried-out : CarriedOut
+carried-out = record {
+  history-frames = history-frames;
+  history = history;
+  start-meant = start-meant;
+  each-once = each-once;
+  in-order = in-order;
+  in-order-behind = in-order-behind;
+  received-since = received-since;
+  in-order-after = in-order-after;
+  request-carried = request-carried;
+  replies-in-order = replies-in-order;
+  value-last-set = value-last-set;
+  last-set = last-set;
+  withdrawn-list-answered = withdrawn-list-answered;
+  lookup-last-set = lookup-last-set;
+  set-successful = set-successful;
+  successful-exactly = successful-exactly;
+}
+
+pub numbered-failures : NumberedFailures
+numbered-failures = record { failure-only-pending = failure-only-pending }
+
+pub cuts : Cuts
+cuts = record {
+  cut-any = cut-any;
+  cut = cut;
+  step-receives = step-receives;
+  step-then-receive = step-then-receive;
+  steps-receive = steps-receive;
+}
+
+pub item-1 : Item1
+item-1 = record {
+  retained-stays = retained-stays;
+  reboot-forgets = reboot-forgets;
+  power-off-forgets = power-off-forgets;
+  fresh-alert = fresh-alert;
+  local-keeps = local-keeps;
+  failed-keeps = failed-keeps;
+  request-retains = request-retains;
+  retained-exactly = retained-exactly;
+  fresh-alert-answered = fresh-alert-answered;
+  fresh-after-reboot = fresh-after-reboot;
+}
+
+pub item-5 : Item5
+item-5 = record {
+  value-last-set = value-last-set;
+  successful-exactly = successful-exactly;
+  list-edition-answered = list-edition-answered;
+  edition-meant = edition-meant;
+}
+
+pub item-11 : Item11
+item-11 = record {
+  image-meant = image-meant;
+  good-meant = good-meant;
+  replaced-other = replaced-other;
+  key-savable = key-savable;
+  save-writes = save-writes;
+  saved-restores = saved-restores;
+  accepted-exact = accepted-exact;
+  value-last-set = value-last-set;
+}
+
+pub item-14 : Item14
+item-14 = record {
+  passphrase-unread = passphrase-unread;
+  passphrase-unread-locally = passphrase-unread-locally;
+  two-runs = two-runs;
+  replaced-other = replaced-other;
+}

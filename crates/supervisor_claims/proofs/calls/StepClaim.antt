@@ -1,0 +1,135 @@
+-- A call of step: how many bytes it reads, how the frame ends, and that the parts are left as those bytes leave them, one by one.
+-- Assumes nothing.
+use mathlib.Core.Path.{_≡_, refl, sym, ap, _∙_}
+use mathlib.Core.Bool.{true}
+use mathlib.Core.List.{List, [], _∷_}
+use Prim.Native.Nat.{ℕ, zero, suc}
+use native.Mathlib.Omega.{arith}
+use lib.Dec.{ltb, eqb, eqb·suc-zero}
+use lib.ListN as ListN
+use Rattle.octets.proofs.Conditions.{cond-by}
+use Rattle.line.specs.Limits as LineLimits
+use Rattle.line.specs.Judge as Line
+use Rattle.line.specs.Judge.{judge}
+use Rattle.line.specs.Reader as LineReader
+use Rattle.line.proofs.State.{valid-ready, ready-valid, ready-pushed}
+use Rattle.supervisor.specs.Calls.{Parts}
+use Rattle.requests.specs.Requests
+use Rattle.requests.specs.Receive
+use Rattle.supervisor_claims.specs.View.{receivedOf}
+use Rattle.supervisor_claims.specs.Histories.{upTo, endedMeant, frameEnds, stepped, stepAnswer}
+use Rattle.supervisor_claims.proofs.calls.ReceivedClaim.{pushed-received, finished-verdict}
+
+-- ---- the bytes read
+
+pub step-used : (piece s : List ℕ) → LineReader.readPiece s piece .used ≡ upTo piece
+unfolding LineReader.readPiece LineReader.next upTo
+step-used [] s = refl
+step-used (zero ∷ bs) s = refl
+step-used (suc b ∷ bs) s = rw eqb·suc-zero (ap suc (step-used bs (LineReader.pushed s (suc b))))
+
+feed-close : (image : List ℕ) (p : Parts) → let o = LineReader.finish (p .reader) in
+    Receive.answered image p (o .state) (o .answer) ≡ Receive.feed image p 0
+unfolding Receive.feed
+feed-close image p = refl
+
+feed-push : (image : List ℕ) (p : Parts) (b : ℕ)
+    → Receive.feed image p (suc b) ≡ Receive.partsWith p (LineReader.pushed (p .reader) (suc b)) (Receive.innerOf p)
+unfolding Receive.feed
+feed-push image p b = rw eqb·suc-zero
+
+pub step-fed : (image piece : List ℕ) (p : Parts) → let o = LineReader.readPiece (p .reader) piece in
+    Receive.answered image p (o .state) (o .answer) ≡ Receive.fed image p (ListN.take (upTo piece) piece)
+unfolding LineReader.readPiece LineReader.next upTo Receive.fed Receive.answered Receive.innerAfter Receive.verdictOf
+step-fed image [] p = refl
+step-fed image (zero ∷ bs) p = feed-close image p
+step-fed image (suc b ∷ bs) p =
+    let q = Receive.partsWith p (LineReader.pushed (p .reader) (suc b)) (Receive.innerOf p) in
+    rw eqb·suc-zero (step-fed image bs q ∙ ap (λ x. Receive.fed image x (ListN.take (upTo bs) bs)) (sym (feed-push image p b)))
+
+-- ---- the frame's end
+
+-- an answer to a 00
+abbrev Ends : LineReader.Report → Type 0
+Ends (LineReader.refused n) = ⊥
+Ends LineReader.more = ⊥
+Ends LineReader.empty = Unit {0}
+Ends (LineReader.message version sequence command n) = Unit {0}
+Ends (LineReader.failed reason sequence) = Unit {0}
+
+verdict-ends : (v : Line.Verdict) → Ends (LineReader.verdictReport v)
+unfolding LineReader.verdictReport
+verdict-ends (Line.failure reason sequence) = tt
+verdict-ends (Line.good m) = tt
+
+finish-ends : (s : List ℕ) → Ends (LineReader.finish s .answer)
+unfolding LineReader.finish LineReader.settle
+finish-ends s =
+    cond-by P (eqb (LineReader.count s) 0) _ _ (λ e. tt) (λ e.
+    cond-by P (ltb LineLimits.longest-form (LineReader.count s)) _ _ (λ f. tt) (λ f. verdict-ends (judge (LineReader.kept s))))
+  where
+    P : LineReader.Settled → Type 0
+    P x = Ends (x .answer)
+
+ended-verdict : (reader : List ℕ) (a : LineReader.Report) → Ends a → Receive.ended reader a ≡ endedMeant (Receive.verdictOf reader a)
+unfolding Receive.ended Receive.verdictOf
+ended-verdict reader (LineReader.refused n) h = absurd h
+ended-verdict reader LineReader.more h = absurd h
+ended-verdict reader LineReader.empty h = refl
+ended-verdict reader (LineReader.message version sequence command n) h = refl
+ended-verdict reader (LineReader.failed reason sequence) h = refl
+
+pub step-ends : (piece s : List ℕ) → LineReader.valid s ≡ true → let o = LineReader.readPiece s piece in
+    Receive.ended (o .state) (o .answer) ≡ frameEnds (receivedOf s) piece
+unfolding LineReader.readPiece LineReader.next frameEnds Receive.ended
+step-ends [] s v = refl
+step-ends (zero ∷ bs) s v = ended-verdict _ _ (finish-ends s) ∙ ap endedMeant (finished-verdict s v)
+step-ends (suc b ∷ bs) s v =
+    let r = valid-ready s v in
+    let k = ready-pushed s (suc b) r in
+    let w = ready-valid (LineReader.pushed s (suc b)) (omega arith, k .1) in
+    rw (eqb·suc-zero, ← pushed-received s (suc b) v) (step-ends bs (LineReader.pushed s (suc b)) w)
+
+-- ---- no refusal
+
+abbrev Accepts : LineReader.Report → Type 0
+Accepts (LineReader.refused n) = ⊥
+Accepts LineReader.more = Unit {0}
+Accepts LineReader.empty = Unit {0}
+Accepts (LineReader.message version sequence command n) = Unit {0}
+Accepts (LineReader.failed reason sequence) = Unit {0}
+
+ends-accepts : (a : LineReader.Report) → Ends a → Accepts a
+ends-accepts (LineReader.refused n) h = h
+ends-accepts LineReader.more h = tt
+ends-accepts LineReader.empty h = tt
+ends-accepts (LineReader.message version sequence command n) h = tt
+ends-accepts (LineReader.failed reason sequence) h = tt
+
+accepts : (piece s : List ℕ) → Accepts (LineReader.readPiece s piece .answer)
+unfolding LineReader.readPiece LineReader.next
+accepts [] s = tt
+accepts (zero ∷ bs) s = ends-accepts (LineReader.finish s .answer) (finish-ends s)
+accepts (suc b ∷ bs) s = rw eqb·suc-zero (accepts bs (LineReader.pushed s (suc b)))
+
+verdict-stepped : (used : ℕ) (v : Requests.Verdict) → stepAnswer used (Receive.endedBy v) ≡ stepped used (Receive.endedBy v)
+verdict-stepped used (Requests.failure reason version sequence) = refl
+verdict-stepped used (Requests.good m) = refl
+
+report-stepped : (used : ℕ) (reader : List ℕ) (a : LineReader.Report) → Accepts a
+    → stepAnswer used (Receive.ended reader a) ≡ stepped used (Receive.ended reader a)
+unfolding Receive.ended
+report-stepped used reader (LineReader.refused n) h = absurd h
+report-stepped used reader LineReader.more h = refl
+report-stepped used reader LineReader.empty h = refl
+report-stepped used reader (LineReader.message version sequence command n) h =
+    verdict-stepped used (Requests.tested (Receive.messageBy version sequence command (LineReader.dataOf reader n)))
+report-stepped used reader (LineReader.failed reason sequence) h = refl
+
+-- on parts of any kind
+pub valid-step-stepped : (image : List ℕ) (p : Parts) (piece : List ℕ) → let t = Receive.validStep image p piece in
+    stepAnswer (t .used) (t .ended) ≡ stepped (t .used) (t .ended)
+unfolding Receive.validStep
+valid-step-stepped image p piece =
+    let o = LineReader.readPiece (p .reader) piece in
+    report-stepped (o .used) (o .state) (o .answer) (accepts piece (p .reader))

@@ -1,0 +1,202 @@
+-- A received stream is its frames, carried out or answered in order, once each, and then the unfinished tail.
+-- Assumes nothing.
+use mathlib.Core.Path.{_≡_, refl, ap, _∙_}
+use mathlib.Core.Bool.{Bool, true, false}
+use mathlib.Core.List.{List, [], _∷_, _++_, append-nil}
+use mathlib.Core.Option.{Option, none, some}
+use Prim.Native.Nat.{ℕ, zero, suc, _+_, _≤_, _<_}
+use native.Mathlib.Omega.{arith}
+use lib.Dec.{ltb, eqb, eqb·suc-zero}
+use lib.ListN.{length, length-append}
+use lib.Seq.{append-snoc}
+use borrow.Author.Tests.{ltb-true, ltb-false, lt-ltb, le-ltb}
+use Rattle.octets.proofs.Conditions.{cond-both}
+use Rattle.line.specs.Limits.{longest-form}
+use Rattle.line.specs.Message.{Message}
+use Rattle.line.specs.Judge.{judgeForm, judge}
+use Rattle.line_claims.specs.Pieces.{split, nonEmpty}
+use Rattle.line_claims.proofs.Pieces.{split-none, split-close, split-more}
+use Rattle.supervisor.specs.State.{Retained, State, withReceived, withPending, withTerminatorOwed}
+use Rattle.supervisor.specs.Local.{lookup, entryOf}
+use Rattle.requests.specs.Commands.{Command, commandOf}
+use Rattle.requests.specs.Requests
+use Rattle.requests.specs.Requests.{Verdict, failure, good, first-version, Carried, verdict, effect, carriedBy, carried, judged, closed, more, byte, stream, owed, replyFrame, sent, replyOf}
+use Rattle.supervisor_claims.specs.FrameHistory.{framed, allFramed, tailOf, following}
+use Rattle.supervisor_claims.specs.Replies.{doneBy, replyBy}
+use Rattle.supervisor_claims.specs.Demand2.{InOrder, InOrderBehind, RequestCarried, FailureOnlyPending}
+
+-- the stream in cuts
+pub stream-append : (image : List ℕ) (s : State) (bs cs : List ℕ) → stream image s (bs ++ cs) ≡ stream image (stream image s bs) cs
+unfolding stream
+stream-append image s [] cs = refl
+stream-append image s (b ∷ bs) cs = stream-append image (byte image s b) bs cs
+
+-- ---- a request neither looks at the receive progress, the pending bytes and the last taken byte nor changes them
+
+-- a state with these as given
+abbrev pub lined : State → Option (List ℕ) → List ℕ → Bool → State
+lined s received pending terminator-owed = withTerminatorOwed (withPending (withReceived s received) pending) terminator-owed
+
+-- c is what d is, with these as given
+pub record Lined (received : Option (List ℕ)) (pending : List ℕ) (terminator-owed : Bool) (c d : Carried) : Type 0 where
+  pub state : c .state ≡ lined (d .state) received pending terminator-owed
+  pub reply : c .reply ≡ d .reply
+
+module _ (received : Option (List ℕ)) (pending : List ℕ) (terminator-owed : Bool) (s : State) where
+  abbrev Alike : Carried → Carried → Type 0
+  Alike = Lined received pending terminator-owed
+
+  abbrev other : State
+  other = lined s received pending terminator-owed
+
+  alert-lined : (version sequence : ℕ) (r : Option Retained) → Alike (Requests.alertAsked version other sequence r) (Requests.alertAsked version s sequence r)
+  unfolding Requests.alertAsked Requests.alertTaken
+  alert-lined version sequence none = record { state = refl; reply = refl }
+  alert-lined version sequence (some r) =
+      cond-both Alike (eqb (r .sequence) sequence) (λ e. record { state = refl; reply = refl }) (λ e. record { state = refl; reply = refl })
+
+  effect-lined : (image : List ℕ) (m : Message) (x : Command) → Alike (effect x image other m) (effect x image s m)
+  unfolding effect Requests.reboot Requests.powerOff Requests.bootFailure Requests.panicked Requests.startAcknowledged Requests.keySet lookup entryOf
+  effect-lined image m Command.reboot = record { state = refl; reply = refl }
+  effect-lined image m Command.power-off = record { state = refl; reply = refl }
+  effect-lined image m Command.bsu = record { state = refl; reply = refl }
+  effect-lined image m Command.identity = record { state = refl; reply = refl }
+  effect-lined image m Command.mac = record { state = refl; reply = refl }
+  effect-lined image m Command.boot-failure = record { state = refl; reply = refl }
+  effect-lined image m Command.panic = record { state = refl; reply = refl }
+  effect-lined image m Command.status = record { state = refl; reply = refl }
+  effect-lined image m Command.start-acknowledged = record { state = refl; reply = refl }
+  effect-lined image m Command.alert = alert-lined (m .version) (m .sequence) (s .retained)
+  effect-lined image m Command.image-block = record { state = refl; reply = refl }
+  effect-lined image m Command.key-lookup = record { state = refl; reply = refl }
+  effect-lined image m Command.inventory = record { state = refl; reply = refl }
+  effect-lined image m Command.key-set = record { state = refl; reply = refl }
+
+  pub carried-lined : (image : List ℕ) (m : Message) → Lined received pending terminator-owed (carried image other m) (carried image s m)
+  unfolding carried
+  carried-lined image m = by (commandOf (m .command))
+    where
+      by : (o : Option Command) → Alike (carriedBy o image other m) (carriedBy o image s m)
+      by none = record { state = refl; reply = refl }
+      by (some x) = effect-lined image m x
+
+-- ---- a frame, by the verdict on it
+
+module _ (image : List ℕ) (s : State) where
+  pub done-lined : (received : Option (List ℕ)) (pending : List ℕ) (terminator-owed : Bool) (v : Verdict)
+      → doneBy image (lined s received pending terminator-owed) v ≡ lined (doneBy image s v) received pending terminator-owed
+  unfolding doneBy
+  done-lined received pending terminator-owed (failure reason version sequence) = refl
+  done-lined received pending terminator-owed (good m) = carried-lined received pending terminator-owed s image m .state
+
+  pub reply-lined : (received : Option (List ℕ)) (pending : List ℕ) (terminator-owed : Bool) (v : Verdict)
+      → replyBy image (lined s received pending terminator-owed) v ≡ replyBy image s v
+  unfolding replyBy
+  reply-lined received pending terminator-owed (failure reason version sequence) = refl
+  reply-lined received pending terminator-owed (good m) = ap (replyOf (m .sequence)) (carried-lined received pending terminator-owed s image m .reply)
+
+  -- pending is then a 00 where one is owed, and the reply; the receive progress and the last taken byte are as before
+  pub judged-is : (v : Verdict)
+      → judged image s v ≡ lined (doneBy image s v) (s .received) (owed (s .terminator-owed) ++ replyFrame (replyBy image s v)) (s .terminator-owed)
+  unfolding judged sent doneBy replyBy
+  judged-is (failure reason version sequence) = refl
+  judged-is (good m) =
+      let c = carried-lined (s .received) (s .pending) (s .terminator-owed) s image m .state in
+      let r : carried image s m .state .received ≡ s .received = ap (λ (x : State). x .received) c in
+      let o : carried image s m .state .terminator-owed ≡ s .terminator-owed = ap (λ (x : State). x .terminator-owed) c in
+      rw (r, o)
+
+pub judged-receiving : (image : List ℕ) (s : State) (r : Option (List ℕ)) (v : Verdict)
+    → judged image (withReceived s r) v ≡ withReceived (judged image s v) r
+judged-receiving image s r v =
+    rw (judged-is image (withReceived s r) v, judged-is image s v)
+    (rw (done-lined image s r (s .pending) (s .terminator-owed) v, reply-lined image s r (s .pending) (s .terminator-owed) v))
+
+-- ---- frames
+
+pub request-carried : RequestCarried
+unfolding framed judged sent
+request-carried image s b bs m e =
+    let c = carried-lined (s .received) (s .pending) (s .terminator-owed) s image m .state in
+    let o : carried image s m .state .terminator-owed ≡ s .terminator-owed = ap (λ (x : State). x .terminator-owed) c in
+    rw (e, o)
+
+pub failure-only-pending : FailureOnlyPending
+unfolding framed judged sent
+failure-only-pending image s b bs reason version sequence e = rw e
+
+pub allFramed-append : (image : List ℕ) (s : State) (fs gs : List (List ℕ)) → allFramed image s (fs ++ gs) ≡ allFramed image (allFramed image s fs) gs
+unfolding allFramed
+allFramed-append image s [] gs = refl
+allFramed-append image s (f ∷ fs) gs = allFramed-append image (framed image s f) fs gs
+
+pub empty-ignored : (image : List ℕ) (s : State) (fs : List (List ℕ)) → allFramed image s fs ≡ allFramed image s (nonEmpty fs)
+unfolding allFramed framed nonEmpty
+empty-ignored image s [] = refl
+empty-ignored image s ([] ∷ fs) = empty-ignored image s fs
+empty-ignored image s ((b ∷ bs) ∷ fs) = empty-ignored image (judged image s (verdict (b ∷ bs))) fs
+
+-- ---- one byte more
+
+pub tail-over : (bs : List ℕ) → longest-form < length bs → tailOf bs ≡ none
+unfolding tailOf
+tail-over bs h = rw (lt-ltb longest-form (length bs) h)
+
+pub tail-within : (bs : List ℕ) → length bs ≤ longest-form → tailOf bs ≡ some bs
+unfolding tailOf
+tail-within bs h = rw (le-ltb longest-form (length bs) h)
+
+pub more-tail : (bs : List ℕ) (b : ℕ) → more (tailOf bs) b ≡ tailOf (bs ++ (b ∷ []))
+unfolding more
+more-tail bs b = by (ltb longest-form (length bs)) (ltb (length bs) longest-form) refl refl
+  where
+    long : length (bs ++ (b ∷ [])) ≡ length bs + 1
+    long = simp length-append
+
+    by : (over room : Bool) → ltb longest-form (length bs) ≡ over → ltb (length bs) longest-form ≡ room → more (tailOf bs) b ≡ tailOf (bs ++ (b ∷ []))
+    by true room e f =
+        let h = ltb-true longest-form (length bs) e in
+        rw (tail-over bs h, tail-over (bs ++ (b ∷ [])) (omega (arith, long)))
+    by false true e f = rw (tail-within bs (ltb-false _ _ e), f, tail-within (bs ++ (b ∷ [])) (omega (arith, long, ltb-true (length bs) longest-form f)))
+    by false false e f = rw (tail-within bs (ltb-false _ _ e), f, tail-over (bs ++ (b ∷ [])) (omega (arith, long, ltb-false (length bs) longest-form f)))
+
+-- more bytes than a form has
+pub verdict-over : (bs : List ℕ) → longest-form < length bs → verdict bs ≡ failure 1 first-version none
+unfolding verdict judge judgeForm
+verdict-over bs h = rw (lt-ltb longest-form (length bs) h)
+
+module _ (image : List ℕ) (s : State) where
+  -- the 00 behind bytes
+  pub closed-framed : (bs : List ℕ) → closed image (withReceived s (tailOf bs)) (tailOf bs) ≡ withReceived (framed image s bs) (some [])
+  unfolding closed framed
+  closed-framed [] = rw (tail-within [] (omega arith))
+  closed-framed (b ∷ bs) = by (ltb longest-form (length (b ∷ bs))) refl
+    where
+      by : (over : Bool) → ltb longest-form (length (b ∷ bs)) ≡ over
+          → closed image (withReceived s (tailOf (b ∷ bs))) (tailOf (b ∷ bs)) ≡ withReceived (judged image s (verdict (b ∷ bs))) (some [])
+      by true e =
+          let h = ltb-true longest-form (length (b ∷ bs)) e in
+          rw (tail-over (b ∷ bs) h, verdict-over (b ∷ bs) h) (judged-receiving image s (some []) (failure 1 first-version none))
+      by false e = rw (tail-within (b ∷ bs) (ltb-false _ _ e)) (judged-receiving image s (some []) (verdict (b ∷ bs)))
+
+module _ (image : List ℕ) (s : State) where
+  byte-following : (bs : List ℕ) (b : ℕ) → byte image (following image s bs) b ≡ following image s (bs ++ (b ∷ []))
+  unfolding byte allFramed
+  byte-following bs zero =
+      let a = allFramed image s (split bs .closed) in
+      rw (split-close bs, allFramed-append image s (split bs .closed) (split bs .rest ∷ []), tail-within [] (omega arith)) (closed-framed image a (split bs .rest))
+  byte-following bs (suc b) = rw (eqb·suc-zero, split-more bs b, more-tail (split bs .rest) (suc b))
+
+  stream-following : (cs bs : List ℕ) → stream image (following image s bs) cs ≡ following image s (bs ++ cs)
+  unfolding stream
+  stream-following [] bs = rw append-nil
+  stream-following (c ∷ cs) bs = rw (byte-following bs c, stream-following cs (bs ++ (c ∷ [])), append-snoc)
+
+pub in-order-behind : InOrderBehind
+unfolding allFramed
+in-order-behind image s p bs h e =
+    let z : s ≡ following image s p = rw (split-none p h, ← e) in
+    ap (λ (x : State). stream image x bs) z ∙ stream-following image s bs p
+
+pub in-order : InOrder
+in-order image s bs e = in-order-behind image s [] bs tt (rw (tail-within [] (omega arith)) e)

@@ -1,0 +1,434 @@
+-- Two states that differ only in the passphrase's setting: what a request, received bytes and a call make of them is the same but for that setting.
+-- Assumes nothing.
+use mathlib.Core.Path.{_≡_, refl, sym, ap, subst, _∙_}
+use mathlib.Core.Logic.{inl, inr}
+use mathlib.Core.Bool.{Bool, true, false, cond, not, false≢true}
+use mathlib.Core.List.{List, [], _∷_}
+use mathlib.Core.Option.{Option, none, some}
+use Prim.Native.Nat.{ℕ, zero, suc, _+_, _-_, _≤_}
+use native.Mathlib.Nat.{add-zero}
+use native.Mathlib.Omega.{arith}
+use lib.Dec.{ltb, eqb}
+use lib.ListN.{length, take, drop, getD, set, length-append}
+use lib.Seq.{take-set-le, drop-drop, getD-set-other, set-set, set-comm}
+use borrow.Author.Tests.{ltb-false, eqb-true, eqb-false, ne-eqb, not-false}
+use Rattle.octets.specs.Bytes.{number, numberAt}
+use Rattle.octets.proofs.Conditions.{cond-by, cond-both}
+use Rattle.octets.proofs.SameBytes
+use Rattle.octets.proofs.SameBytes.{same-first}
+use Rattle.line.specs.Message.{Message}
+use Rattle.line_claims.specs.Pieces.{nonEmpty, closedBy}
+use Rattle.supervisor.specs.Layout
+use Rattle.supervisor.specs.Limits
+use Rattle.supervisor.specs.Limits.{SettingsKey}
+use Rattle.supervisor.specs.State.{Setting, unset, Settings, Recorded, Retained, State, setting, withSetting, withSettings, withReceived, fresh}
+use Rattle.supervisor.specs.Local
+use Rattle.supervisor.specs.declared.registers.Kind.the-variants as kind
+use Rattle.supervisor.proofs.OffsetLaws.{offset-within, Lies, setting-lies, settings-key}
+use Rattle.supervisor.specs.Valid.{SettingsValid}
+use Rattle.saving.specs.Saving
+use Rattle.requests.specs.Commands.{Command, numberOf, commandOf}
+use Rattle.requests.specs.Requests
+use Rattle.requests.specs.Requests.{Verdict, failure, good, verdict, Carried, effect, carriedBy, carried, wrongValueLength, Stored, stored, judged, sent}
+use Rattle.requests.proofs.CommandLaws.{number-is}
+use Rattle.supervisor_claims.specs.View.{factoryOf, settingOf, settingsOf}
+use Rattle.supervisor_claims.specs.Histories
+use Rattle.supervisor_claims.specs.Histories.{LocalCall, Call, Means, doneMeans, recordMeans, restoreMeans, meant, Made, enough}
+use Rattle.supervisor_claims.specs.FrameHistory.{reads, starts, receivedBy, startsAnew, framesBy, framed, allFramed, carriedOut, carriedCall, carriedMade}
+use Rattle.supervisor_claims.specs.LastSet.{request, requestsIn, valueFor, setBy, listedIf, setsOf}
+use Rattle.supervisor_claims.proofs.laws.ViewLaws.{length-listed, listed-set}
+use Rattle.supervisor_claims.proofs.laws.SettingLaws.{setting-is, setting-same}
+use Rattle.supervisor_claims.proofs.claims.LastSetLaws.{replaced-long, replaced-other, onto, afterSets, request-append, sets-append, judged-has}
+
+-- ---- settings and states that differ only in the passphrase's setting
+
+abbrev pub Alike : Settings → Settings → Type 0
+Alike z y = withSetting z Limits.passphrase-key unset ≡ withSetting y Limits.passphrase-key unset
+
+pub record Like (s t : State) : Type 0 where
+  pub rest : s ≡ withSettings t (s .settings)
+  pub settings : Alike (s .settings) (t .settings)
+
+-- the passphrase's edition can grow by n
+pub record Room (n : ℕ) (z : Settings) : Type 0 where
+  pub long : length z ≡ Limits.setting-count
+  pub low : setting z Limits.passphrase-key .edition + n ≤ Limits.last-edition
+
+pub record Pair (n : ℕ) (s t : State) : Type 0 where
+  pub like : Like s t
+  pub left : Room n (s .settings)
+  pub right : Room n (t .settings)
+
+passphrase : SettingsKey Limits.passphrase-key
+passphrase = record { lower = omega arith; upper = omega arith }
+
+room-less : {m n : ℕ} {z : Settings} → m ≤ n → Room n z → Room m z
+room-less h r = record { long = r .long; low = omega arith }
+
+pair-less : {m n : ℕ} {s t : State} → m ≤ n → Pair n s t → Pair m s t
+pair-less h p = record { like = p .like; left = room-less h (p .left); right = room-less h (p .right) }
+
+-- ---- keys that are looked up
+
+module _ (z y : Settings) (e : Alike z y) where
+  other-setting : (key : ℕ) → Limits.first-setting ≤ key → (key ≡ Limits.passphrase-key → ⊥) → setting z key ≡ setting y key
+  other-setting key h n =
+      let i = Limits.passphrase-key - Limits.first-setting in
+      let j = key - Limits.first-setting in
+      let o : j ≡ i → ⊥ = λ m. n (omega (arith, m)) in
+      sym (getD-set-other z i j unset unset o) ∙ ap (λ (l : Settings). getD l j unset) e ∙ getD-set-other y i j unset unset o
+
+module _ (t : State) (z : Settings) (e : Alike z (t .settings)) where
+  entry-same : (key : ℕ) → key ≤ Limits.highest-key → (key ≡ Limits.passphrase-key → ⊥) → Local.entryOf (withSettings t z) key ≡ Local.entryOf t key
+  unfolding Local.entryOf
+  entry-same key h n =
+      cond-both _≡_ (eqb key 0) (λ _. refl) (λ i.
+      cond-both _≡_ (eqb key 1) (λ _. refl) (λ j.
+      cond-both _≡_ (eqb key 2) (λ _. refl) (λ k. other-setting z (t .settings) e key (settings-key key i j k h .lower) n)))
+
+  pub lookup-same : (key most : ℕ) → Local.lookup (withSettings t z) key most ≡ Local.lookup t key most
+  unfolding Local.lookup
+  lookup-same key most =
+      cond-both _≡_ (ltb Limits.highest-key key) (λ _. refl) (λ h.
+      cond-both _≡_ (eqb key Limits.passphrase-key) (λ _. refl) (λ n.
+      ap (λ (x : Setting). Local.fitted most (x .edition) (x .value)) (entry-same key (ltb-false _ _ h) (eqb-false _ _ n))))
+
+  pub edition-same : (key : ℕ) → Local.edition (withSettings t z) key ≡ Local.edition t key
+  unfolding Local.edition
+  edition-same key =
+      cond-both _≡_ (ltb Limits.highest-key key) (λ _. refl) (λ h.
+      cond-both _≡_ (eqb key Limits.passphrase-key) (λ _. refl) (λ n.
+      ap Local.editionOf (entry-same key (ltb-false _ _ h) (eqb-false _ _ n))))
+
+-- ---- keys that are set
+
+abbrev StoredAlike : Stored → Stored → Type 0
+StoredAlike t u = (t .result ≡ u .result) × Alike (t .settings) (u .settings)
+
+-- the edition is not the last
+abbrev Before : Settings → Type 0
+Before z = setting z Limits.passphrase-key .edition ≡ Limits.last-edition → ⊥
+
+module _ (z y : Settings) (e : Alike z y) (v : List ℕ) where
+  -- the passphrase, if a value of a right length finds the edition below the last in both
+  stored-passphrase : (wrongValueLength Limits.passphrase-key (length v) ≡ false → Before z × Before y)
+      → StoredAlike (stored z Limits.passphrase-key v) (stored y Limits.passphrase-key v)
+  unfolding stored
+  stored-passphrase low =
+      let i = Limits.passphrase-key - Limits.first-setting in
+      cond-both StoredAlike (wrongValueLength Limits.passphrase-key (length v)) (λ f. (refl, e)) (λ f.
+      rw (ne-eqb (setting z Limits.passphrase-key .edition) Limits.last-edition (low f .0), ne-eqb (setting y Limits.passphrase-key .edition) Limits.last-edition (low f .1))
+      (refl, set-set z i _ unset ∙ e ∙ sym (set-set y i _ unset)))
+
+  stored-other : (key : ℕ) → (key ≡ Limits.passphrase-key → ⊥) → StoredAlike (stored z key v) (stored y key v)
+  unfolding stored
+  stored-other key n =
+      cond-both StoredAlike (ltb Limits.highest-key key) (λ f. (refl, e)) (λ f.
+      cond-both StoredAlike (ltb key Limits.first-setting) (λ g. (refl, e)) (λ g.
+      let h = ltb-false key Limits.first-setting g in
+      let i = Limits.passphrase-key - Limits.first-setting in
+      let j = key - Limits.first-setting in
+      let o : j ≡ i → ⊥ = λ m. n (omega (arith, m)) in
+      let u : Setting = record { edition = suc (setting y key .edition); value = some v } in
+      rw (other-setting z y e key h n)
+      (cond-both StoredAlike (wrongValueLength key (length v)) (λ k. (refl, e)) (λ k.
+      cond-both StoredAlike (eqb (setting y key .edition) Limits.last-edition) (λ l. (refl, e)) (λ l.
+      (refl, set-comm z j i u unset o ∙ ap (λ (x : Settings). set x j u) e ∙ sym (set-comm y j i u unset o)))))))
+
+-- by a key set's data
+data-alike : (z y : Settings) → Alike z y → (bs : List ℕ) → let n = length (listedIf (valueFor Limits.passphrase-key bs)) in Room n z → Room n y
+    → StoredAlike (stored z (numberAt 1 bs 0) (drop 1 bs)) (stored y (numberAt 1 bs 0) (drop 1 bs))
+unfolding number stored valueFor
+data-alike z y e [] r q = (refl, e)
+data-alike z y e (key ∷ v) r q = rw add-zero (by (eqb key Limits.passphrase-key) refl)
+  where
+    before : eqb key Limits.passphrase-key ≡ true → wrongValueLength Limits.passphrase-key (length v) ≡ false → (x : Settings)
+        → Room (length (listedIf (valueFor Limits.passphrase-key (key ∷ v)))) x → Before x
+    before f g x r h = let l = rw (f, g) at (r .low) in omega arith
+
+    by : (t : Bool) → eqb key Limits.passphrase-key ≡ t → StoredAlike (stored z key v) (stored y key v)
+    by true f = rw (eqb-true key Limits.passphrase-key f) (stored-passphrase z y e v (λ g. (before f g z r, before f g y q)))
+    by false f = stored-other z y e v key (eqb-false key Limits.passphrase-key f)
+
+-- ---- a request
+
+record SameCarried (c d : Carried) : Type 0 where
+  reply : c .reply ≡ d .reply
+  state : Like (c .state) (d .state)
+
+module _ (image : List ℕ) (m : Message) (t : State) (z : Settings) (e : Alike z (t .settings))
+    (left : Room (length (listedIf (setBy Limits.passphrase-key m))) z) (right : Room (length (listedIf (setBy Limits.passphrase-key m))) (t .settings)) where
+  abbrev s : State
+  s = withSettings t z
+
+  -- the settings are as before
+  still : {r : Option Requests.Answer} {u : State} → Alike z (u .settings) → SameCarried (record { state = withSettings u z; reply = r }) (record { state = u; reply = r })
+  still f = record { reply = refl; state = record { rest = refl; settings = f } }
+
+  alert-same : (r : Option Retained) → SameCarried (Requests.alertAsked (m .version) s (m .sequence) r) (Requests.alertAsked (m .version) t (m .sequence) r)
+  unfolding Requests.alertAsked Requests.alertTaken
+  alert-same none = still e
+  alert-same (some r) = cond-both SameCarried (eqb (r .sequence) (m .sequence)) (λ f. still e) (λ f. still e)
+
+  set-same : m .command ≡ numberOf Command.key-set → SameCarried (Requests.keySet (m .version) s (m .payload)) (Requests.keySet (m .version) t (m .payload))
+  unfolding numberOf setBy Requests.keySet
+  set-same n =
+      let k = data-alike z (t .settings) e (m .payload) (rw n at left) (rw n at right) in
+      record { reply = rw (k .0); state = record { rest = refl; settings = k .1 } }
+
+  effect-same : (x : Command) → m .command ≡ numberOf x → SameCarried (effect x image s m) (effect x image t m)
+  unfolding effect Requests.reboot Requests.powerOff Requests.bootFailure Requests.panicked Requests.startAcknowledged
+  effect-same Command.reboot n = still e
+  effect-same Command.power-off n = still e
+  effect-same Command.bsu n = still e
+  effect-same Command.identity n = still e
+  effect-same Command.mac n = still e
+  effect-same Command.boot-failure n = still e
+  effect-same Command.panic n = still e
+  effect-same Command.status n = still e
+  effect-same Command.start-acknowledged n = still e
+  effect-same Command.alert n = alert-same (t .retained)
+  effect-same Command.image-block n = still e
+  effect-same Command.key-lookup n = rw (lookup-same t z e (numberAt 1 (m .payload) 0) (numberAt 2 (m .payload) 1)) (still e)
+  effect-same Command.inventory n = still e
+  effect-same Command.key-set n = set-same n
+
+  carried-same : SameCarried (carried image s m) (carried image t m)
+  unfolding carried
+  carried-same = by (commandOf (m .command)) refl
+    where
+      by : (o : Option Command) → commandOf (m .command) ≡ o → SameCarried (carriedBy o image s m) (carriedBy o image t m)
+      by none f = still e
+      by (some x) f = effect-same x (number-is (m .command) f)
+
+-- ---- a frame
+
+-- by the first state's settings
+from-like : (P : State → State → Type 0) → ((u : State) (z : Settings) → Alike z (u .settings) → P (withSettings u z) u) → {s t : State} → Like s t → P s t
+from-like P f {s} {t} l = subst (λ (x : State). P x t) (sym (l .rest)) (f t (s .settings) (l .settings))
+
+sent-like : (r : Option Requests.Reply) {s t : State} → Like s t → Like (sent s r) (sent t r)
+unfolding sent
+sent-like r = from-like (λ s t. Like (sent s r) (sent t r)) (λ u z e. record { rest = refl; settings = e })
+
+received-like : (r : Option (List ℕ)) {s t : State} → Like s t → Like (withReceived s r) (withReceived t r)
+received-like r = from-like (λ s t. Like (withReceived s r) (withReceived t r)) (λ u z e. record { rest = refl; settings = e })
+
+-- how many sets of the passphrase with a value of a right length there are among requests
+abbrev setCount : List Message → ℕ
+setCount ms = length (setsOf Limits.passphrase-key ms)
+
+onto-raise : (x : Setting) (o : Option (List ℕ)) → onto x o .edition ≤ x .edition + length (listedIf o)
+onto-raise x none = omega arith
+onto-raise x (some v) = cond-by (λ (y : Setting). y .edition ≤ x .edition + 1) (eqb (x .edition) Limits.last-edition) _ _ (λ e. omega arith) (λ e. omega arith)
+
+-- they raise the edition by no more
+sets-raise : (k : ℕ) (x : Setting) (ms : List Message) → afterSets k x ms .edition ≤ x .edition + length (setsOf k ms)
+unfolding afterSets setsOf
+sets-raise k x [] = omega arith
+sets-raise k x (m ∷ ms) =
+    omega (arith, sets-raise k (onto x (setBy k m)) ms, onto-raise x (setBy k m), length-append (listedIf (setBy k m)) (setsOf k ms))
+
+module _ (image : List ℕ) where
+  judged-room : (v : Verdict) (n : ℕ) (s : State) → Room (setCount (request v []) + n) (s .settings) → Room n (judged image s v .settings)
+  judged-room v n s r =
+      let x = setting (s .settings) Limits.passphrase-key in
+      let h = judged-has image passphrase s v x (record { long = r .long; held = refl }) in
+      record { long = h .long; low = rw (h .held) (omega (arith, sets-raise Limits.passphrase-key x (request v []))) }
+
+  judged-like : (v : Verdict) {s t : State} → Pair (setCount (request v [])) s t → Like (judged image s v) (judged image t v)
+  unfolding judged setsOf
+  judged-like (failure reason version sequence) p = sent-like _ (p .like)
+  judged-like (good m) {s} {t} p =
+      let n = length-append (listedIf (setBy Limits.passphrase-key m)) [] in
+      let c = subst (λ (x : State). SameCarried (carried image x m) (carried image t m)) (sym (p .like .rest))
+      (carried-same image m t (s .settings) (p .like .settings) (room-less (omega arith) (p .left)) (room-less (omega arith) (p .right))) in
+      rw (c .reply) (sent-like _ (c .state))
+
+  judged-pair : (v : Verdict) (n : ℕ) (s t : State) → Pair (setCount (request v []) + n) s t → Pair n (judged image s v) (judged image t v)
+  judged-pair v n s t p =
+      record { like = judged-like v (pair-less (omega arith) p); left = judged-room v n s (p .left); right = judged-room v n t (p .right) }
+
+  frames-pair : (fs : List (List ℕ)) (n : ℕ) (s t : State) → let gs = nonEmpty fs in Pair (setCount (requestsIn gs) + n) s t
+      → Pair n (allFramed image s gs) (allFramed image t gs)
+  unfolding nonEmpty allFramed framed requestsIn setsOf
+  frames-pair [] n s t p = pair-less (omega arith) p
+  frames-pair ([] ∷ fs) n s t p = frames-pair fs n s t p
+  frames-pair ((b ∷ bs) ∷ fs) n s t p =
+      let v = verdict (b ∷ bs) in
+      let r = requestsIn (nonEmpty fs) in
+      let k = Limits.passphrase-key in
+      let e : setCount (request v r) ≡ setCount (request v []) + setCount r =
+      rw (request-append v [] r, sets-append k (request v []) r) (length-append (setsOf k (request v [])) (setsOf k r)) in
+      frames-pair fs n (judged image s v) (judged image t v) (judged-pair v (setCount r + n) s t (pair-less (omega arith) p))
+
+  -- bytes that came behind w
+  bytes-pair : (w bs : List ℕ) (n : ℕ) (s t : State) → Pair (setCount (requestsIn (framesBy w bs)) + n) s t → Pair n (carriedOut image w s bs) (carriedOut image w t bs)
+  unfolding carriedOut framesBy
+  bytes-pair w bs n s t p =
+      let q = frames-pair (closedBy w bs) n s t p in
+      record { like = received-like _ (q .like); left = q .left; right = q .right }
+
+-- ---- saving and restoring: the passphrase is not among the saved settings
+
+saved-same : (z y : Settings) → Alike z y → Saving.saved z ≡ Saving.saved y
+unfolding Saving.saved
+saved-same z y e =
+    let i = Limits.passphrase-key - Limits.first-setting in
+    ap (Saving.imageFrom Limits.first-setting)
+    (sym (take-set-le Saving.saved-count z i unset (omega arith)) ∙ ap (take Saving.saved-count) e ∙ take-set-le Saving.saved-count y i unset (omega arith))
+
+module _ (es : List Saving.Entry) where
+  -- what is replaced lies before it
+  replaced-set : (n : ℕ) → n ≤ Saving.saved-count → (z : Settings) → withSetting (Saving.replaced n es z) Limits.passphrase-key unset ≡ Saving.replaced n es (withSetting z Limits.passphrase-key unset)
+  unfolding Saving.replaced
+  replaced-set zero h z = refl
+  replaced-set (suc n) h z =
+      let x = Saving.settingIn (Limits.first-setting + n) es in
+      set-comm (Saving.replaced n es z) (Limits.first-setting + n - Limits.first-setting) (Limits.passphrase-key - Limits.first-setting) x unset (λ e. omega (arith, e))
+      ∙ ap (λ (y : Settings). withSetting y (Limits.first-setting + n) x) (replaced-set n (omega arith) z)
+
+  restored-alike : (z y : Settings) → Alike z y → Alike (Saving.restored es z) (Saving.restored es y)
+  restored-alike z y e =
+      replaced-set Saving.saved-count (omega arith) z ∙ ap (Saving.replaced Saving.saved-count es) e ∙ sym (replaced-set Saving.saved-count (omega arith) y)
+
+  restored-room : (n : ℕ) (z : Settings) → Room n z → Room n (Saving.restored es z)
+  restored-room n z r = record {
+    long = replaced-long es Saving.saved-count z ∙ r .long;
+    low = rw (replaced-other es Saving.saved-count z Limits.passphrase-key passphrase (omega arith)) (r .low);
+  }
+
+-- ---- a call
+
+-- what two runs answer, write outside the state and leave
+pub record Same (n : ℕ) (a b : Means) : Type 0 where
+  pub answer : a .answer ≡ b .answer
+  pub out : a .out ≡ b .out
+  pub pair : Pair n (a .state) (b .state)
+
+-- a local call
+module _ (n : ℕ) (t : State) (z : Settings) (e : Alike z (t .settings)) (left : Room n z) (right : Room n (t .settings)) where
+  -- the settings are as before
+  unset-same : {a : Histories.Answer} {bs : List ℕ} {u : State} → Alike z (u .settings) → Room n (u .settings)
+      → Same n (Histories.means a bs (withSettings u z)) (Histories.means a bs u)
+  unset-same f r = record { answer = refl; out = refl; pair = record { like = record { rest = refl; settings = f }; left = left; right = r } }
+
+  abbrev DoneSame : Local.Done → Local.Done → Type 0
+  DoneSame x y = Same n (doneMeans (withSettings t z) x) (doneMeans t y)
+
+  record-same : (x : Option Recorded) → Same n (recordMeans (withSettings t z) x) (recordMeans t x)
+  record-same none = unset-same e right
+  record-same (some x) = unset-same e right
+
+  restore-same : (r : Saving.Read) → Same n (restoreMeans (withSettings t z) (Saving.restoredBy (withSettings t z) r)) (restoreMeans t (Saving.restoredBy t r))
+  restore-same (Saving.fault k at) = unset-same e right
+  restore-same (Saving.good es) = record {
+    answer = refl;
+    out = refl;
+    pair = record {
+      like = record { rest = refl; settings = restored-alike es z (t .settings) e };
+      left = restored-room es n z left;
+      right = restored-room es n (t .settings) right;
+    };
+  }
+
+  local-by : (c : LocalCall) → Same n (meant (withSettings t z) (Histories.local c)) (meant t (Histories.local c))
+  unfolding meant Local.taken Local.afterTake Local.post Local.posted Local.setOptions Local.asserted Saving.restore
+  local-by (Histories.take room) = unset-same e right
+  local-by (Histories.post action text) =
+      cond-both DoneSame (eqb action 0) (λ f. unset-same e right) (λ f.
+      cond-both DoneSame (ltb Limits.longest-alert (length text)) (λ g. unset-same e right) (λ g.
+      cond-both DoneSame (ltb (length (t .waiting)) Limits.most-alerts) (λ h. unset-same e right) (λ h. unset-same e right)))
+  local-by (Histories.setOptions options) = cond-both DoneSame (Local.optionsAllowed options) (λ f. unset-same e right) (λ f. unset-same e right)
+  local-by (Histories.lookup key most) = rw (lookup-same t z e key most) (unset-same e right)
+  local-by (Histories.edition key) = rw (edition-same t z e key) (unset-same e right)
+  local-by Histories.signal = unset-same e right
+  local-by Histories.flags = unset-same e right
+  local-by (Histories.readRecord kind.BootFailure) = record-same (t .boot-failure)
+  local-by (Histories.readRecord kind.Panic) = record-same (t .panic)
+  local-by (Histories.save room) =
+      rw (saved-same z (t .settings) e)
+      (cond-both (Same n) (ltb (length room) (length (Saving.saved (t .settings)))) (λ f. unset-same e right) (λ f. unset-same e right))
+  local-by (Histories.restore image) = restore-same (Saving.read image)
+
+local-same : (c : LocalCall) (n : ℕ) (s t : State) → Pair n s t → Same n (meant s (Histories.local c)) (meant t (Histories.local c))
+local-same c n s t p =
+    subst (λ (x : State). Same n (meant x (Histories.local c)) (meant t (Histories.local c))) (sym (p .like .rest))
+    (local-by n t (s .settings) (p .like .settings) (p .left) (p .right) c)
+
+-- a start that is accepted: the same fresh state
+start-same : (w : List ℕ) (s t : State) (c : Call) → starts c ≡ true → carriedCall w s c ≡ carriedCall w t c
+unfolding starts carriedCall meant Local.start
+start-same w s t (Histories.start d) e = by (Local.badStart (factoryOf d)) e
+  where
+    by : (bad : Bool) → not bad ≡ true → let done = cond bad (Local.refused 11) (Local.left (fresh (factoryOf d))) in doneMeans s done ≡ doneMeans t done
+    by true f = absurd (false≢true f)
+    by false f = refl
+start-same w s t (Histories.receive image piece) e = absurd (false≢true e)
+start-same w s t (Histories.step image piece) e = absurd (false≢true e)
+start-same w s t (Histories.local c) e = absurd (false≢true e)
+
+-- any other call, by the bytes that it reads behind w
+call-same : (w : List ℕ) (n : ℕ) (s t : State) (c : Call) → starts c ≡ false → Pair (setCount (requestsIn (framesBy w (reads c))) + n) s t
+    → Same n (carriedCall w s c) (carriedCall w t c)
+unfolding starts reads carriedCall meant Local.start
+call-same w n s t (Histories.start d) e p = rw (not-false (Local.badStart (factoryOf d)) e) (record { answer = refl; out = refl; pair = pair-less (omega arith) p })
+call-same w n s t (Histories.receive image piece) e p = record { answer = refl; out = refl; pair = bytes-pair image w piece n s t p }
+call-same w n s t (Histories.step image piece) e p = record { answer = refl; out = refl; pair = bytes-pair image w _ n s t p }
+call-same w n s t (Histories.local c) e p = local-same c n s t (pair-less (omega arith) p)
+
+-- whatever is lent
+module _ (w : List ℕ) (s t : State) (m : Made) where
+  pub anew-same : startsAnew m ≡ true → carriedMade w s m ≡ carriedMade w t m
+  unfolding startsAnew carriedMade
+  anew-same e = by (enough (m .call) (m .lent)) refl
+    where
+      by : (b : Bool) → enough (m .call) (m .lent) ≡ b → carriedMade w s m ≡ carriedMade w t m
+      by true f = rw (f, start-same w s t (m .call) (rw f at e))
+      by false f = absurd (false≢true (rw f at e))
+
+  pub made-same : (n : ℕ) → startsAnew m ≡ false → Pair (setCount (requestsIn (framesBy w (receivedBy m))) + n) s t → Same n (carriedMade w s m) (carriedMade w t m)
+  unfolding startsAnew receivedBy carriedMade
+  made-same n e p = by (enough (m .call) (m .lent)) refl
+    where
+      by : (b : Bool) → enough (m .call) (m .lent) ≡ b → Same n (carriedMade w s m) (carriedMade w t m)
+      by true f = rw f (call-same w n s t (m .call) (rw f at e) (rw f at p))
+      by false f = rw f (record { answer = refl; out = refl; pair = pair-less (omega arith) p })
+
+-- ---- the settings store
+
+-- lists with the same bytes from an offset on
+same-last : (from to : ℕ) (r s : List ℕ) → drop from s ≡ drop from r → SameBytes.Same from to r s
+same-last from to r s e = record {
+  runs = λ j n h.
+      let d : j ≡ from + (j - from) = omega arith in
+      rw (d, ← drop-drop (j - from) from s, ← drop-drop (j - from) from r, e);
+}
+
+-- the passphrase's record lies between two offsets
+module _ (s t : List ℕ) (v : SettingsValid s) (ahead : take (Layout.setting-offset Limits.passphrase-key) s ≡ take (Layout.setting-offset Limits.passphrase-key) t)
+    (end : ℕ) (long : end ≡ Layout.setting-offset Limits.passphrase-key + (Layout.setting-value-offset + Limits.longest-setting Limits.passphrase-key))
+    (behind : drop end s ≡ drop end t) where
+  -- another key's setting lies ahead of it or behind it
+  other-same : (key : ℕ) → SettingsKey key → Lies key Limits.passphrase-key → (key ≡ Limits.passphrase-key → ⊥)
+      → settingOf t (Layout.setting-offset key) ≡ settingOf s (Layout.setting-offset key)
+  other-same key h (inl l) n = setting-same (same-first (Layout.setting-offset Limits.passphrase-key) s t (sym ahead)) (Layout.setting-offset key) _ (v .each key h) (omega arith)
+  other-same key h (inr (inl e)) n = absurd (n e)
+  other-same key h (inr (inr l)) n =
+      setting-same (same-last end Layout.settings-length s t (sym behind)) (Layout.setting-offset key) _ (v .each key h) (omega (arith, offset-within key h))
+
+  pub store-alike : Alike (settingsOf s) (settingsOf t)
+  unfolding settingsOf
+  store-alike =
+      let i = Limits.passphrase-key - Limits.first-setting in
+      let f : List ℕ → ℕ → Setting = λ l j. settingOf l (Layout.setting-offset (Limits.first-setting + j)) in
+      let g : ℕ → Setting = λ j. cond (eqb j i) unset (f s j) in
+      sym (listed-set (f s) g unset Limits.setting-count i (omega arith) refl (λ j l n. rw (ne-eqb j i n)))
+      ∙ listed-set (f t) g unset Limits.setting-count i (omega arith) refl (λ j l n.
+      let key = Limits.first-setting + j in
+      let h : SettingsKey key = record { lower = omega arith; upper = omega arith } in
+      rw (ne-eqb j i n) (sym (other-same key h (setting-lies key Limits.passphrase-key h passphrase) (λ e. n (omega (arith, e))))))
+
+pub store-room : (n : ℕ) (s : List ℕ) → Layout.settingEdition s (Layout.setting-offset Limits.passphrase-key) + n ≤ Limits.last-edition → Room n (settingsOf s)
+unfolding settingOf settingsOf
+store-room n s h = record { long = length-listed _ Limits.setting-count; low = rw (setting-is s Limits.passphrase-key passphrase) h }

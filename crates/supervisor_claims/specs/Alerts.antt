@@ -1,0 +1,91 @@
+-- Alerts: when a reply is retained, by the requests received; what a reboot, a failed frame and a local call leave of alerts; an alert request and its reply.
+-- Assumes nothing: these are definitions.
+use mathlib.Core.Path.{_≡_}
+use mathlib.Core.Bool.{Bool, true, false, cond}
+use mathlib.Core.Logic.{_⊎_}
+use mathlib.Core.List.{List, [], _∷_, _++_}
+use mathlib.Core.Option.{Option, none, some}
+use Prim.Native.Nat.{ℕ}
+use lib.Dec.{eqb}
+use Rattle.octets.specs.Bytes.{Each}
+use Rattle.line.specs.Message.{Message}
+use Rattle.line.specs.Frame.{frame}
+use Rattle.supervisor.specs.Number.{topSet}
+use Rattle.supervisor.specs.State.{Alert, Retained, State}
+use Rattle.requests.specs.Requests.{alertData}
+use Rattle.supervisor_claims.specs.Histories
+use Rattle.supervisor_claims.specs.Histories.{LocalCall, Answer, done, Means, Made}
+use Rattle.supervisor_claims.specs.FrameHistory.{startsAnew}
+
+-- the retained reply and the alerts that wait are as they were
+abbrev pub Keeps : State → State → Type 0
+Keeps s t = (t .retained ≡ s .retained) × (t .waiting ≡ s .waiting)
+
+-- what a reboot and a power-off leave of alerts: none retained, those that wait and the status as they were
+pub record Forgets (s t : State) : Type 0 where
+  pub retained : t .retained ≡ none
+  pub waiting : t .waiting ≡ s .waiting
+  pub status : t .status ≡ s .status
+
+-- whether a reply is retained
+abbrev pub retains : Option Retained → Bool
+retains none = false
+retains (some r) = true
+
+-- after a valid request: none after a reboot or power-off, one after an alert request, else as before
+unfoldable pub retainsAfter : Bool → Message → Bool
+retainsAfter before m = cond (eqb (m .command) 0x01) false (cond (eqb (m .command) 0x02) false (cond (eqb (m .command) 0x0a) true before))
+
+-- after valid requests, in order
+unfoldable pub retainsAll : Bool → List Message → Bool
+retainsAll before [] = before
+retainsAll before (m ∷ ms) = retainsAll (retainsAfter before m) ms
+
+-- a request that drops it, and one that is no alert request
+abbrev pub Drops : Message → Type 0
+Drops m = (m .command ≡ 0x01) ⊎ (m .command ≡ 0x02)
+
+abbrev pub NoAlert : Message → Type 0
+NoAlert m = eqb (m .command) 0x0a ≡ false
+
+-- an alert request of a version under number n, and the frame of a reply to it, under n with the top bit set
+abbrev pub alertOf : ℕ → ℕ → Message
+alertOf version n = record { version = version; sequence = n; command = 0x0a; payload = [] }
+
+unfoldable pub alertReply : ℕ → ℕ → Alert → List ℕ
+alertReply version n a = frame (record { version = version; sequence = topSet n; command = 0x07; payload = alertData a })
+
+-- the alert that a post adds where it is done
+abbrev pub whereDone : Answer → Alert → List Alert
+whereDone (Histories.refused n) a = []
+whereDone done a = a ∷ []
+whereDone (Histories.stepped used ended) a = []
+whereDone (Histories.moved n) a = []
+whereDone (Histories.found n k) a = []
+whereDone (Histories.foundEdition n k) a = []
+whereDone (Histories.asserted t) a = []
+whereDone (Histories.asked t u) a = []
+whereDone (Histories.recorded r) a = []
+whereDone (Histories.written n) a = []
+whereDone (Histories.faulty n at) a = []
+
+-- the alerts that a local call with this answer adds
+abbrev pub added : LocalCall → Answer → List Alert
+added (Histories.take room) x = []
+added (Histories.post action text) x = whereDone x (record { action = action; text = text })
+added (Histories.setOptions options) x = []
+added (Histories.lookup key most) x = []
+added (Histories.edition key) x = []
+added Histories.signal x = []
+added Histories.flags x = []
+added (Histories.readRecord k) x = []
+added (Histories.save room) x = []
+added (Histories.restore image) x = []
+
+-- a local call leaves the retained reply and the alerts that wait; a post that is done adds its alert behind them
+abbrev pub CallKeeps : State → LocalCall → Means → Type 0
+CallKeeps s c m = (m .state .retained ≡ s .retained) × (m .state .waiting ≡ s .waiting ++ added c (m .answer))
+
+-- calls among which no start is accepted
+abbrev pub NoStart : List Made → Type 0
+NoStart = Each (λ (m : Made). startsAnew m ≡ false)

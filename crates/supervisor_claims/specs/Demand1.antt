@@ -1,0 +1,103 @@
+-- Demand 1 of the supervisor's calls: any bytes, any arguments, any loans; each number of the table exactly where it is due, and everything lent as it was.
+-- Assumes nothing: these are definitions and statements.
+use mathlib.Core.Path.{_≡_}
+use mathlib.Core.Bool.{Bool, true, false}
+use mathlib.Core.List.{List}
+use mathlib.Core.Logic.{_↔_}
+use Prim.Native.Nat.{ℕ, _+_, _≤_}
+use lib.Dec.{leb}
+use lib.ListN.{length}
+use Rattle.octets.specs.Bytes.{Each, Byte}
+use Rattle.line.specs.Reader as LineReader
+use Rattle.line_claims.specs.Calls as LineCalls
+use Rattle.supervisor.specs.Layout
+use Rattle.supervisor.specs.Calls.{Parts}
+use Rattle.supervisor_claims.specs.ByPart.{Part, published, part, validPart}
+use Rattle.supervisor_claims.specs.View.{view}
+use Rattle.supervisor_claims.specs.Sound.{Sound, Lengths, Leaves, withReader}
+use Rattle.supervisor_claims.specs.Histories
+use Rattle.supervisor_claims.specs.Histories.{Call, Typed, refused, Did, didBy, did, Means, ofTaken, enough, Made, untouched, made, meantMade, AfterCalls}
+
+-- ---- The table's number exactly where it is due
+
+-- a call on p did what document 01 has of it
+pub record Meets (p : Parts) (d : Did) (m : Means) : Type 0 where
+  pub answer : d .answer ≡ m .answer
+  pub out : d .out ≡ m .out
+  pub leaves : Leaves p (d .parts) (m .state)
+
+abbrev pub OneCall : Type 0
+OneCall = (p : Parts) (m : Made) → Sound p → Typed (m .call) → Meets p (made p m) (meantMade (view p) m)
+
+-- what a call asks of a part that it takes: a start its length alone
+abbrev pub asks : Call → Part → List ℕ → Bool
+asks (Histories.start d) i s = leb (published i) (length s)
+asks (Histories.receive image piece) i s = validPart i s
+asks (Histories.step image piece) i s = validPart i s
+asks (Histories.local c) i s = validPart i s
+
+-- whether the parts that a call takes are as 12 requires
+unfoldable pub fit : Parts → Call → Bool
+fit p c = ofTaken c (λ i. asks c i (part p i))
+
+abbrev pub RefusedExactly : Type 0
+RefusedExactly = (p : Parts) (c : Call) → (did p c .answer ≡ refused 12) ↔ (fit p c ≡ false)
+
+abbrev pub Made12 : Type 0
+Made12 = (p : Parts) (m : Made) → enough (m .call) (m .lent) ≡ false → made p m ≡ didBy (refused 12) (untouched (m .call)) p
+
+-- no call that is lent enough of these parts is refused as 12
+abbrev pub Never12 : Parts → Type 0
+Never12 q = (m : Made) → Typed (m .call) → enough (m .call) (m .lent) ≡ true → made q m .answer ≡ refused 12 → ⊥
+
+abbrev pub No12 : Type 0
+No12 = AfterCalls (λ ms q. Never12 q)
+
+-- the piece of a call holds bytes
+abbrev pub PieceBytes : LineCalls.Call → Type 0
+PieceBytes (LineCalls.read c) = Each Byte (c .piece)
+PieceBytes (LineCalls.start n) = Unit {0}
+
+-- what holds of sound parts, and of what any calls of the line layer's reader leave of them, whatever each is lent of the reader's part
+abbrev pub AfterReaderCalls : (Parts → Parts → Type 0) → Type 0
+AfterReaderCalls P = (p : Parts) → Sound p → (cs : List LineCalls.Call) → Each PieceBytes cs
+    → P p (withReader p (LineCalls.afterAll (LineCalls.fresh (p .reader)) cs .state))
+
+abbrev pub ReaderCallsSound : Type 0
+ReaderCallsSound = AfterReaderCalls (λ p q. Sound q × Lengths p q)
+
+abbrev pub ReaderNo12 : Type 0
+ReaderNo12 = AfterReaderCalls (λ p q. Never12 q)
+
+abbrev pub PartsFit : Type 0
+PartsFit = LineReader.state-length + Layout.outbox-length + Layout.factory-length + Layout.settings-length + Layout.registers-length ≤ 65536
+
+pub record NumberDue : Type 0 where
+  -- on sound parts each call answers, writes and leaves what document 01 has of it: 8, 9, 10, 11 and 13 exactly where due, whatever is lent
+  pub one-call : OneCall
+  -- 12 exactly where a part that the call takes is not as 12 requires, on any parts
+  pub refused-exactly : RefusedExactly
+  -- too little of a part that it takes is 12, and nothing changes
+  pub made-12 : Made12
+  -- contents that these calls left never earn 12
+  pub no-12 : No12
+  -- the line layer's own calls on the reader's part leave sound parts
+  pub reader-calls-sound : ReaderCallsSound
+  -- contents that they left never earn 12 either
+  pub reader-no-12 : ReaderNo12
+  -- all parts together have at most 65,536 bytes
+  pub parts-fit : PartsFit
+
+-- ---- Everything lent as it was
+
+abbrev pub RefusedHolds : Type 0
+RefusedHolds = (p : Parts) (c : Call) (n : ℕ) → did p c .answer ≡ refused n → (did p c .parts ≡ p) × (did p c .out ≡ untouched c)
+
+abbrev pub RefusedMade : Type 0
+RefusedMade = (p : Parts) (m : Made) (n : ℕ) → made p m .answer ≡ refused n → (made p m .parts ≡ p) × (made p m .out ≡ untouched (m .call))
+
+pub record AsItWas : Type 0 where
+  -- a refused call, whatever its number, leaves state and output buffers as they were
+  pub refused-holds : RefusedHolds
+  -- the same whatever it is lent
+  pub refused-made : RefusedMade

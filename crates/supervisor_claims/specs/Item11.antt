@@ -1,0 +1,76 @@
+-- Document 02's item 11, saving the settings: over the supervisor's parts, what was saved restores, and an accepted image is the saved form of what it leaves.
+-- Assumes nothing: these are definitions and statements.
+use mathlib.Core.Path.{_≡_}
+use mathlib.Core.Bool.{true}
+use mathlib.Core.List.{List, _++_}
+use Prim.Native.Nat.{ℕ, _+_, _≤_}
+use lib.ListN.{length, take, drop}
+use Rattle.octets.specs.Bytes.{Each, Byte, overlay}
+use Rattle.supervisor.specs.Limits
+use Rattle.supervisor.specs.Limits.{SettingsKey}
+use Rattle.supervisor.specs.State.{Setting, Settings, setting, withSettings}
+use Rattle.supervisor.specs.Calls.{Parts}
+use Rattle.supervisor.specs.Valid.{SettingsValid}
+use Rattle.saving.specs.Saving
+use Rattle.saving.specs.Saving.{Entry, saved-count, saved}
+use Rattle.saving.specs.Calls as SavingCalls
+use Rattle.saving_claims.specs.Item11.{SavableBy}
+use Rattle.supervisor_claims.specs.View.{settingsOf, view}
+use Rattle.supervisor_claims.specs.Sound.{Sound}
+use Rattle.supervisor_claims.specs.Histories
+use Rattle.supervisor_claims.specs.Histories.{done, written, Lent, enough, Made, made, locally, AfterCalls}
+use Rattle.supervisor_claims.specs.Demand2.{ValueLastSet}
+
+abbrev pub ImageMeant : Type 0
+ImageMeant = (s : List ℕ) → SavingCalls.imageBytes s ≡ saved (settingsOf s)
+
+abbrev pub GoodMeant : Type 0
+GoodMeant = (s : List ℕ) → SettingsValid s → (image : List ℕ) → Each Byte image → (es : List Entry) → Saving.read image ≡ Saving.good es
+    → settingsOf (SavingCalls.putAll es (SavingCalls.cleared saved-count s)) ≡ Saving.restored es (settingsOf s)
+
+-- a setting without a value has edition 0; one with a value has one that is not too long, and an edition of 32 bits
+abbrev pub SavableKey : ℕ → Setting → Type 0
+SavableKey k x = SavableBy k (x .edition) (x .value)
+
+abbrev pub KeySavable : List Made → Parts → Type 0
+KeySavable ms q = (k : ℕ) → SettingsKey k → SavableKey k (setting (view q .settings) k)
+
+-- the saved form of the settings that parts hold
+abbrev pub imageOf : Parts → List ℕ
+imageOf q = saved (view q .settings)
+
+abbrev pub SaveWrites : List Made → Parts → Type 0
+SaveWrites ms q = (j : Lent) (room : List ℕ) → Each Byte room → enough (Histories.local (Histories.save room)) j ≡ true → length (imageOf q) ≤ length room
+    → let r = made q (locally j (Histories.save room)) in (r .answer ≡ written (length (imageOf q))) × (r .out ≡ overlay 0 (imageOf q) room)
+
+abbrev pub SavedRestores : List Made → Parts → Type 0
+SavedRestores ms p = (q : Parts) → Sound q → (j : Lent) → enough (Histories.local (Histories.restore (imageOf p))) j ≡ true
+    → let r = made q (locally j (Histories.restore (imageOf p))) in
+    (r .answer ≡ done) × (view (r .parts) ≡ withSettings (view q) (take saved-count (view p .settings) ++ drop saved-count (view q .settings)))
+
+abbrev pub AcceptedExact : Type 0
+AcceptedExact = (q : Parts) → Sound q → (j : Lent) (image : List ℕ) → Each Byte image
+    → let r = made q (locally j (Histories.restore image)) in r .answer ≡ done → image ≡ imageOf (r .parts)
+
+abbrev pub ReplacedOther : Type 0
+ReplacedOther = (es : List Entry) (n : ℕ) (z : Settings) (k : ℕ) → SettingsKey k → Limits.first-setting + n ≤ k
+    → setting (Saving.replaced n es z) k ≡ setting z k
+
+pub record Item11 : Type 0 where
+  -- the bytes that a save writes are the saved form of the settings that the store holds
+  pub image-meant : ImageMeant
+  -- the bytes that a good image leaves in the store hold the settings that it restores
+  pub good-meant : GoodMeant
+  -- it replaces the first settings, as many as are saved; the others stay
+  pub replaced-other : ReplacedOther
+  -- over any calls every setting can be saved, so that one without a value has edition 0
+  pub key-savable : AfterCalls KeySavable
+  -- a save with room for the image writes it, and bytes past it stay
+  pub save-writes : AfterCalls SaveWrites
+  -- What was saved restores: on any sound parts, of this supervisor at any time or of another, a restore of that image is done.
+  -- Then the saved settings are those of the time of saving, values, presence and editions. All else of the state is as it was.
+  pub saved-restores : AfterCalls SavedRestores
+  -- an accepted image is the saved form of what it leaves, byte for byte, on any sound parts
+  pub accepted-exact : AcceptedExact
+  -- demand 2 starts each setting from what was restored, and editions count on from the image
+  pub value-last-set : AfterCalls ValueLastSet

@@ -1,0 +1,46 @@
+-- Document 02's item 14: key 6, the wireless passphrase, is set only, and two runs that differ only in it answer and write the same.
+-- Assumes nothing: these are definitions and statements.
+use mathlib.Core.Path.{_≡_}
+use mathlib.Core.Bool.{true}
+use mathlib.Core.List.{List, [], _∷_}
+use Prim.Native.Nat.{ℕ, _+_, _<_}
+use Rattle.line.specs.Frame.{frame}
+use Rattle.supervisor.specs.Limits
+use Rattle.supervisor.specs.Number.{topSet}
+use Rattle.supervisor.specs.Calls.{Parts}
+use Rattle.supervisor_claims.specs.Histories
+use Rattle.supervisor_claims.specs.Histories.{found, foundEdition, Lent, enough, Made, made, outputs, AllTyped, locally, AfterCalls}
+use Rattle.supervisor_claims.specs.FrameHistory.{Replied, OnRequest}
+use Rattle.supervisor_claims.specs.LastSet.{lookupOf}
+use Rattle.supervisor_claims.specs.TwoRuns.{Run, leftBy, receivedIn, SameBut, passphraseEdition, setsToCome}
+use Rattle.supervisor_claims.specs.Item11.{ReplacedOther}
+
+-- the reply to a lookup of the passphrase: result 4 and nothing else
+abbrev pub passphraseReply : ℕ → ℕ → List ℕ
+passphraseReply version n = frame (record { version = version; sequence = topSet n; command = 0x0a; payload = 4 ∷ [] })
+
+abbrev pub PassphraseUnread : List Made → Parts → Type 0
+PassphraseUnread ms q = (version n most : ℕ) → most < 65536
+    → OnRequest ms (lookupOf version n Limits.passphrase-key most) (λ bs c. Replied q (made q c) (passphraseReply version n))
+
+abbrev pub PassphraseUnreadLocally : List Made → Parts → Type 0
+PassphraseUnreadLocally ms q = (most : ℕ) → most < 65536 → (j : Lent) → enough (Histories.local (Histories.lookup Limits.passphrase-key most)) j ≡ true
+    → let r = made q (locally j (Histories.lookup Limits.passphrase-key most)) in
+    let f = made q (locally j (Histories.edition Limits.passphrase-key)) in
+    (r .answer ≡ found 4 0) × (r .out ≡ []) × (f .answer ≡ foundEdition 4 0)
+
+abbrev pub TwoRuns : Type 0
+TwoRuns = (r s : Run) → SameBut (leftBy r) (leftBy s) → (ms : List Made) → AllTyped ms → let n = setsToCome (receivedIn r) ms in
+    passphraseEdition (leftBy r) + n < Limits.last-edition → passphraseEdition (leftBy s) + n < Limits.last-edition
+    → outputs (leftBy r) ms ≡ outputs (leftBy s) ms
+
+pub record Item14 : Type 0 where
+  -- a lookup over the wire answers result 4 and nothing else, whatever was set before, for any maxresponse and in both versions
+  pub passphrase-unread : AfterCalls PassphraseUnread
+  -- by the local calls no byte and no edition goes out either
+  pub passphrase-unread-locally : AfterCalls PassphraseUnreadLocally
+  -- Two states, each reached from a start, differ only in the passphrase's record. In both its edition is below its end by more than the sets to come.
+  -- Then the same calls in the same order, with equal arguments and loans, return and write outside the state the same.
+  pub two-runs : TwoRuns
+  -- restore leaves it, as it leaves every setting that is not saved
+  pub replaced-other : ReplacedOther

@@ -1,0 +1,95 @@
+-- The replies that frames earn, in order; and a stream received byte by byte, everything taken after each byte, in any rooms, with the bytes taken.
+-- Assumes nothing: these are definitions.
+use mathlib.Core.Path.{_≡_}
+use mathlib.Core.Bool.{true, false}
+use mathlib.Core.List.{List, [], _∷_, _++_}
+use mathlib.Core.Option.{Option, some}
+use Prim.Native.Nat.{ℕ, _≤_, _<_}
+use lib.ListN as ListN
+use lib.ListN.{length}
+use Rattle.octets.specs.Bytes.{Each, Byte}
+use Rattle.supervisor.specs.Limits.{most-pending}
+use Rattle.supervisor.specs.State.{State}
+use Rattle.requests.specs.Requests.{Verdict, failure, good, Reply, verdict, carried, replyFrame, replyOf, failedOf}
+use Rattle.supervisor_claims.specs.Histories
+use Rattle.supervisor_claims.specs.Histories.{Answer, refused, done, stepped, moved, found, foundEdition, written, faulty, asserted, asked, recorded}
+use Rattle.supervisor_claims.specs.Histories.{Lent, Made, enough, Output, received, locally}
+
+-- ---- Replies
+
+-- what a frame with this verdict does to the state but for the pending bytes, and the reply that it earns
+unfoldable pub doneBy : List ℕ → State → Verdict → State
+doneBy image s (failure reason version sequence) = s
+doneBy image s (good m) = carried image s m .state
+
+unfoldable pub replyBy : List ℕ → State → Verdict → Option Reply
+replyBy image s (failure reason version sequence) = some (failedOf reason version sequence)
+replyBy image s (good m) = replyOf (m .sequence) (carried image s m .reply)
+
+-- the reply that a frame that is not empty earns, and the state after it, where the reply is taken
+unfoldable pub replyTo : List ℕ → State → List ℕ → Option Reply
+replyTo image s f = replyBy image s (verdict f)
+
+unfoldable pub afterFrame : List ℕ → State → List ℕ → State
+afterFrame image s f = doneBy image s (verdict f)
+
+-- the frames of the replies to such frames, in order
+unfoldable pub replies : List ℕ → State → List (List ℕ) → List ℕ
+replies image s [] = []
+replies image s (f ∷ fs) = replyFrame (replyTo image s f) ++ replies image (afterFrame image s f) fs
+
+-- nothing is pending, and no 00 is owed
+pub record Quiet (s : State) : Type 0 where
+  pub pending : s .pending ≡ []
+  pub terminator-owed : s .terminator-owed ≡ false
+
+-- ---- A stream byte by byte
+
+-- a cycle: a byte is received, and then what is pending is taken in a room; each of the two calls is lent its own bytes of the parts
+pub record Cycle : Type 0 where
+  pub byte : ℕ
+  pub receiving : Lent
+  pub taking : Lent
+  pub room : List ℕ
+
+-- each call is lent enough, and the room, which holds any bytes, is long enough for all that may be pending
+pub record Ample (t : Cycle) : Type 0 where
+  pub byte : t .byte < 256
+  pub receiving : (image : List ℕ) → enough (Histories.receive image (t .byte ∷ [])) (t .receiving) ≡ true
+  pub taking : enough (Histories.local (Histories.take (t .room))) (t .taking) ≡ true
+  pub room : Each Byte (t .room)
+  pub long : most-pending ≤ length (t .room)
+
+abbrev pub byteReceived : List ℕ → Cycle → Made
+byteReceived image t = received image (t .receiving) (t .byte ∷ [])
+
+abbrev pub takenIn : Cycle → Made
+takenIn t = locally (t .taking) (Histories.take (t .room))
+
+unfoldable pub byteByByte : List ℕ → List Cycle → List Made
+byteByByte image [] = []
+byteByByte image (t ∷ ts) = byteReceived image t ∷ (takenIn t ∷ byteByByte image ts)
+
+-- the stream that is received
+unfoldable pub streamOf : List Cycle → List ℕ
+streamOf [] = []
+streamOf (t ∷ ts) = t .byte ∷ streamOf ts
+
+-- the bytes that a call moved
+abbrev pub movedBytes : Answer → List ℕ → List ℕ
+movedBytes (refused n) out = []
+movedBytes done out = []
+movedBytes (stepped n e) out = []
+movedBytes (moved n) out = ListN.take n out
+movedBytes (found n k) out = []
+movedBytes (foundEdition n k) out = []
+movedBytes (asserted b) out = []
+movedBytes (asked a b) out = []
+movedBytes (recorded r) out = []
+movedBytes (written n) out = []
+movedBytes (faulty n at) out = []
+
+-- and those of a list of calls, in order
+unfoldable pub takenBytes : List Output → List ℕ
+takenBytes [] = []
+takenBytes (t ∷ ts) = movedBytes (t .answer) (t .out) ++ takenBytes ts
