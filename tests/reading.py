@@ -1,0 +1,57 @@
+#!/usr/bin/env python3
+"""Tries docs/reading.py on two claims and a promise whose lists are written out here by hand, from the sources; that each list has a definition behind every one
+that names it; and that a word which stands for nothing is reported.
+Assumes docs/sources.py.
+
+usage: tests/reading.py"""
+import pathlib
+import sys
+
+ROOT = pathlib.Path(__file__).resolve().parent.parent
+sys.path.insert(0, str(ROOT / 'docs'))
+import reading  # noqa: E402
+import sources  # noqa: E402
+
+LISTS = {
+    # each run of a part that is shorter than its published length is a loan
+    'any-run': 'AnyRun lentPart Loan fewer run',
+    # the blind spots at one or two neighbouring bytes
+    'checksum-claim': 'ChecksumClaim Near SameBut AllSameOr00Ff SameOr00Ff Each Byte checksum sums',
+    # the promise of the call that reads an unfinished tail's length: its own report, the tail, 12's test, and where the number of bytes stands
+    'line::reader::tail': 'tailReport Unfinished TailReport tailOf valid count numberAt number run overlong longest-form longest-message '
+                          'longest-group state-length frame-offset',
+}
+
+
+def listed(found, name):
+    order, unknown = reading.rest(found, reading.named(found, name)[0])
+    if unknown:
+        sys.exit(f'reading: {name}: not resolved: {unknown}')
+    return order
+
+
+def callers_first(found, order):
+    """Whether every definition stands behind all that name it."""
+    place = {item.key: at for at, item in enumerate(order)}
+    return all(place[other.key] > at for at, item in enumerate(order) for other in found.rests(item)[0])
+
+
+def main():
+    found = sources.Sources()
+    wrong = []
+    for name, wanted in LISTS.items():
+        order = listed(found, name)
+        got = {item.name for item in order}
+        if got != set(wanted.split()) or len(got) != len(order):
+            wrong.append(f'reading: {name}: missing {sorted(set(wanted.split()) - got)}, beyond {sorted(got - set(wanted.split()))}')
+        if not callers_first(found, order):
+            wrong.append(f'reading: {name}: a definition stands ahead of one that names it')
+    path = found.files['line_claims.specs.Loans'].path
+    planted = sources.Sources({path: path.read_text().replace('min n (published - 1)', 'least n (published - 1)')})
+    if not reading.rest(planted, reading.named(planted, 'any-run')[0])[1]:
+        wrong.append('reading: a word that stands for nothing was not reported')
+    print('\n'.join(wrong) or f'reading: {len(LISTS)} lists as written out by hand; a word that stands for nothing is reported')
+    sys.exit(1 if wrong else 0)
+
+
+main()
