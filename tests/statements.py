@@ -1,0 +1,210 @@
+#!/usr/bin/env python3
+"""Holds what is claimed to its form:
+- specs/ of a crate has definitions and statements alone: no law, no proof text, no import of proofs/;
+- a file of statements (Demand.., Item.., BothEnds) has records of statements, and proofs/ exactly one element of each, with a proof for each field;
+- every name that docs/CLAIMS.md gives exists;
+- each row of `did` (supervisor_claims and requester_claims, specs/Histories) cites the definition, with the arguments, of the `ensures` of the call that it stands for.
+Assumes the sources as `rt fmt` lays them out (docs/sources.py).
+
+usage: tests/statements.py            prints what is wrong, or how much was compared
+       tests/statements.py planted    plants a mistake of each kind, which must be seen"""
+import pathlib
+import re
+import sys
+
+ROOT = pathlib.Path(__file__).resolve().parent.parent
+sys.path.insert(0, str(ROOT / 'docs'))
+import reading  # noqa: E402
+import sources  # noqa: E402
+
+CLAIMS = ROOT / 'docs' / 'CLAIMS.md'
+STATEMENTS = re.compile(r'^(Demand\d+|Item\d+|BothEnds|Claims)$')
+# words of a proof, which no definition has
+PROOF = re.compile(r'(?<![\w.-])(rw|simp|omega|cc|refl|absurd|search|unfolding)(?![\w-])')
+# each call of `did`: the public functions that it stands for, and the names that their parameters have in the row
+ROWS = {
+    'supervisor_claims': {
+        'start': (['supervisor::start::start'], {'«data»': 'd'}),
+        'receive': (['requests::receive::receive'], {}),
+        'step': (['requests::receive::step'], {}),
+        'take': (['supervisor::outbox::take'], {}),
+        'post': (['supervisor::alerts::post'], {}),
+        'setOptions': (['supervisor::options::set_options'], {}),
+        'lookup': (['supervisor::keys::lookup_result', 'supervisor::keys::lookup'], {}),
+        'edition': (['supervisor::keys::edition'], {}),
+        'signal': (['supervisor::registers::signal'], {}),
+        'flags': (['supervisor::registers::flags'], {}),
+        'readRecord': (['supervisor::registers::record', 'supervisor::registers::record_bytes'], {'kind': 'k'}),
+        'save': (['saving::save::save'], {'out': 'room'}),
+        'restore': (['saving::restore::restore'], {}),
+    },
+    'requester_claims': {
+        'start': (['requester::start::start'], {}),
+        'request': (['requester::sending::request'], {'«data»': 'd', 'out': 'room'}),
+        'interrupt': (['requester::recovery::interrupt'], {}),
+        'send': (['requester::sending::send'], {'out': 'room'}),
+        'receive': (['requester::receive::receive'], {}),
+    },
+}
+
+
+def specs_files(found):
+    return [file for module, file in found.files.items() if module.split('.')[1] == 'specs']
+
+
+# ---- Definitions and statements alone
+
+def laws_in_specs(found):
+    for file in specs_files(found):
+        for item in file.items:
+            if not item.defines:
+                yield f'{item.place}: {item.name} is a law in specs/'
+        for number, line in enumerate(file.bare, 1):
+            if PROOF.search(line) and not sources.USE.match(line.rstrip()):
+                yield f'{file.path.relative_to(ROOT)}:{number}: proof text in specs/: {line.strip()}'
+            if re.match(r'^(pub )?use Rattle·\w+(·proofs)?\.proofs\b', line):
+                yield f'{file.path.relative_to(ROOT)}:{number}: specs/ names proofs/'
+
+
+# ---- Records and their elements
+
+def records(found):
+    """The records of statements: those of the files of statements that take no parameter."""
+    return [item for file in specs_files(found) if STATEMENTS.match(file.path.stem) for item in file.items
+            if item.kind == 'record' and re.match(r'^pub record \S+ : Type \d where', item.told)]
+
+
+def elements(found, record):
+    """The items of the crate's proofs/ whose type is the record, with the fields that each gives."""
+    for module, file in found.files.items():
+        if module.split('.')[:2] == [record.module.split('.')[0], 'proofs']:
+            for item in file.items:
+                if item.told.split(' : ', 1)[-1].strip() == record.name and found.resolved(file, record.name) is record:
+                    body = '\n'.join(file.bare[item.first:file.end(item.first - 1, 0)])
+                    yield item, set(re.findall(r'(?:[{;]|^)\s*([^\s(){}=;]+) = ', body.partition('record {')[2], re.M))
+
+
+def record_faults(found):
+    for record in records(found):
+        fields = {field.name for field in reading.fields_of(record)}
+        given = list(elements(found, record))
+        if len(given) != 1:
+            yield f'{record.place}: {record.name} has {len(given)} elements in proofs/'
+        for item, proved in given:
+            yield from (f'{record.place}: {record.name} has no proof of {name} in {item.place}' for name in sorted(fields - proved))
+
+
+# ---- Names of CLAIMS.md
+
+def known_names(found):
+    """Names that a document may give: of antt, of functions and types in Rattle, of C functions, crates, modules and edits."""
+    names = {name for item in found.items() for name in [item.name, *item.inner]}
+    names |= {name for item in found.items() if item.kind == 'record' for name in re.findall(r'^ +(?:pub )?([^\s:]+) :', item.told, re.M)}
+    for module, file in found.files.items():
+        names |= set(module.split('.'))
+        if file.path.suffix == '.rt':
+            names |= set(re.findall(r'\b(?:fn|struct|enum|const|mod) (\w+)', '\n'.join(file.bare)))
+    names |= {path.stem for path in [*ROOT.glob('crates/*/must-fail/*.edit'), *ROOT.glob('tests/mutants/*/*.edit')]}
+    names |= set(re.findall(r'\boatcastle_\w+', (ROOT / 'include' / 'oatcastle.h').read_text()))
+    return names | {'ensures', 'requires', 'rt'}
+
+
+def unknown_names(found, text):
+    known = known_names(found)
+    for number, line in enumerate(text.split('\n'), 1):
+        for name in re.findall(r'`([^`]+)`', line):
+            words = [word for word in re.split(r'::|[\s./]', name.removesuffix('.antt')) if word]
+            if not all(word in known for word in words) and not (ROOT / name.split(' ')[0]).exists():
+                yield f'docs/CLAIMS.md:{number}: nothing is named {name}'
+
+
+# ---- Rows of `did`
+
+def plain(words):
+    """A call's text with the lent bytes by their names: (now (room .entry)) and (p .room) as room, the parts of one end as p."""
+    text = re.sub(r'\(now \((\S+) \.entry\)\)', r'\1', words)
+    text = re.sub(r'\(p \.(\w+)\)', r'\1', text)
+    return re.sub(r'\(parts [^()]*\)', 'p', text).split()
+
+
+def promised(found, path, names):
+    """The right side of a function's `ensures`: the definition that it cites, and its arguments."""
+    item = dict(reading.promises(found))[path]
+    words = plain(item.told.split(' ≡ ')[1].split('⌝')[0])
+    return found.resolved(found.files[item.module], words[0]), [names.get(word, word) for word in words[1:]]
+
+
+def row_calls(found, file, row):
+    """The calls of definitions of the promises in a row: every name behind a module of Calls or Receive that takes arguments."""
+    for match in re.finditer(r'(?<![\w.])([A-Z]\w*\.[a-z]\w*)((?: (?:[^\s()]+|\(p \.\w+\)))*)', row):
+        yield found.resolved(file, match.group(1)), plain(match.group(2).split(' in ')[0])
+
+
+def row_faults(found, count):
+    for crate, rows in ROWS.items():
+        file = found.files[f'{crate}.specs.Histories']
+        did = file.own['did'].told
+        for call, (functions, names) in rows.items():
+            match = re.search(rf'^did p \(?(?:local \(?)?{call}\b[^=]*= ?(.*(?:\n {{4}}.*)*)$', did, re.M)
+            if not match:
+                yield f'{file.own["did"].place}: did has no row {call}'
+                continue
+            row = list(row_calls(found, file, match.group(1)))
+            wanted = [promised(found, path, names) for path in functions]
+            count[0] += len(wanted)
+            if row != wanted:
+                yield f'{file.own["did"].place}: the row {call} of did is not what {" and ".join(functions)} promise'
+
+
+def faults(found, text, count):
+    return [*laws_in_specs(found), *record_faults(found), *unknown_names(found, text), *row_faults(found, count)]
+
+
+# ---- Planted mistakes
+
+def changed(found, module, old, new):
+    """Sources with one text replaced in one file."""
+    file = found.files[module]
+    text = '\n'.join(file.lines)
+    if text.count(old) < 1:
+        sys.exit(f'statements: {module} has no {old!r}')
+    return sources.Sources({file.path: text.replace(old, new, 1)})
+
+
+def planted():
+    found, text = sources.Sources(), CLAIMS.read_text()
+    if faults(found, text, [0]):
+        sys.exit('statements: there are faults that nobody planted')
+    histories = 'supervisor_claims.specs.Histories'
+    mistakes = {
+        'a field with no proof': (changed(found, 'line_claims.specs.Demand3', '  pub cut : Cut\n', '  pub cut : Cut\n  pub cut-twice : Cut\n'), text),
+        'a record with no element': (changed(found, 'line_claims.proofs.Proved', 'pub item-12 : Item12', 'pub item-12 : Item6'), text),
+        'a law in specs': (changed(found, 'line_claims.specs.Loans', '-- at most one', 'pub same : (n : ℕ) → ℕ\nsame n = n\n\n-- at most one'), text),
+        'proof text in specs': (changed(found, 'line_claims.specs.Loans', 'fewer published n = min', 'fewer published n = rw min'), text),
+        'specs that name proofs': (changed(found, 'line_claims.specs.Loans', 'use lib.Dec.{leb}', 'use lib.Dec.{leb}\nuse Rattle.octets.proofs.Each.{each-take}'), text),
+        'a name misspelt': (found, text.replace('`hands-out`', '`hand-out`', 1)),
+        'rows of did exchanged': (changed(found, histories, 'Calls.posting (p .registers) action text', 'Calls.settingOptions (p .registers) action'), text),
+        'arguments of a row exchanged': (changed(found, histories, 'Calls.lookupResult (p .factory) (p .settings)', 'Calls.lookupResult (p .settings) (p .factory)'), text),
+    }
+    missed = [name for name, (sources_then, text_then) in mistakes.items() if not faults(sources_then, text_then, [0])]
+    for name in missed:
+        print(f'statements: not seen: {name}')
+    print(f'statements: {len(mistakes) - len(missed)} of {len(mistakes)} planted mistakes seen')
+    return 1 if missed else 0
+
+
+def main():
+    if sys.argv[1:] == ['planted']:
+        sys.exit(planted())
+    if sys.argv[1:]:
+        sys.exit(__doc__)
+    found, count = sources.Sources(), [0]
+    wrong = faults(found, CLAIMS.read_text(), count)
+    held = records(found)
+    print('\n'.join(wrong + [f'statements: {len(held)} records of {sum(len(list(reading.fields_of(record))) for record in held)} statements, {count[0]} promises held to rows of did, '
+                             f'{len(wrong)} faults']))
+    sys.exit(1 if wrong or not held else 0)
+
+
+if __name__ == '__main__':
+    main()
