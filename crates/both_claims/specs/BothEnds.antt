@@ -51,11 +51,11 @@ abbrev pub SentByTake : Type 0
 SentByTake = FromStarts CallSends
 
 pub record RepliesPutOut : Type 0 where
-  -- as long as the newest reply since the main processor's end was started counts as not put out, the bytes pending are what is left of its frame
-  -- they are more than its 00, and a 00 may be owed ahead of it
+  -- As long as the newest reply since the main processor's end was started counts as not put out, the bytes pending are what is left of its frame.
+  -- They are more than its 00, and a 00 may be owed ahead of it.
   pub pending-bytes : PendingBytes
-  -- only a take puts a reply out, and only the one that was pending: it moves all that is left of its frame but the 00 at most
-  -- only an accepted start of the main processor's end drops replies from those put out
+  -- Only a take puts a reply out, and only the one that was pending: it moves all that is left of its frame but the 00 at most.
+  -- Only an accepted start of the main processor's end drops replies from those put out.
   pub sent-by-take : SentByTake
 
 -- ---- What an answer comes from
@@ -78,11 +78,11 @@ pub record Answers : Type 0 where
   pub in-order-wire : InOrderWire
   -- what is handed out was made by the supervisor in carrying out exactly the request outstanding, after it was put out under its number
   pub fresh-answer : FreshAnswer
-  -- an alert's answer is the oldest alert that waited as that very request was carried out, or action 0 and no data
-  -- so where no alert reply can be retained from before the main processor's end was started (document 02, item 1; `FreshAlert`)
+  -- An alert's answer is the oldest alert that waited as that very request was carried out, or action 0 and no data.
+  -- This holds where no alert reply can be retained from before the main processor's end was started (document 02, item 1; `FreshAlert`).
   pub alert-answer : AlertAnswer
-  -- the same of an alert request that had not been put out at a moment by which none could be (`cleared`)
-  -- until the main processor's end is started again
+  -- The same of an alert request that had not been put out at a moment by which none could be (`cleared`).
+  -- It holds until the main processor's end is started again.
   pub alert-since : AlertSince
 
 -- ---- How old a list can be: the withdrawn-key list (key 5), and every other settings key but the passphrase
@@ -108,17 +108,17 @@ ValueAsked = AtMoment GoesOnInOrder (λ e us.
     → let a = after e (main c) in GoesOnInOrder a us → Always NoRequest a us → Always (CallOf (HadValue e k most)) a us)
 
 pub record ListAges : Type 0 where
-  -- a lookup's answer is the value of the key's last successful set since the supervisor's start, or what a later restore left
-  -- it is so at a moment after the lookup was put out
+  -- A lookup's answer is the value of the key's last successful set since the supervisor's start, or what a later restore left.
+  -- It is so at a moment after the lookup was put out.
   pub list-age : ListAge
-  -- against any moment by which the lookup had not been put out: the answer is the value set last since, or else the one then
-  -- behind that moment the supervisor is neither started nor accepts a restore, which can bring an older list back
+  -- Against any moment by which the lookup had not been put out: the answer is the value set last since, or else the one then.
+  -- Behind that moment the supervisor is neither started nor accepts a restore, which can bring an older list back.
   pub not-replaced : NotReplaced
-  -- where the wire has kept the order, too: it is the value then, or one set since by a request newer than all read by then
-  -- or by the newest of those once more, which undoes a restore or a start of the supervisor ahead of that moment
+  -- Where the wire has kept the order, too: it is the value then, or one set since by a request newer than all read by then.
+  -- Or it was set by the newest of those once more, which undoes a restore or a start of the supervisor ahead of that moment.
   pub list-not-older : ListNotOlder
-  -- with no restore and no start of the supervisor since the main processor's end was started: the value then, or one that a newer request set
-  -- so no list that was replaced before the lookup was put out is its answer, unless a newer request sets it
+  -- With no restore and no start of the supervisor since the main processor's end was started: the value then, or one that a newer request set.
+  -- So no list that was replaced before the lookup was put out is its answer, unless a newer request sets it.
   pub never-replaced : NeverReplaced
   -- and where the caller puts no further request out, it is exactly the value that the key had as the lookup was put out
   pub value-asked : ValueAsked
@@ -163,8 +163,8 @@ pub record NothingLost : Type 0 where
   pub round-trip : RoundTrip
   -- the same where its frame goes out again
   pub round-trip-again : RoundTripAgain
-  -- in any number of exchanges from two starts the wire is as `InOrder` says at every moment: the hypotheses can be met
-  -- exactly the replies are handed out as answers, in order
+  -- In any number of exchanges from two starts the wire is as `InOrder` says at every moment: the hypotheses can be met.
+  -- Exactly the replies are handed out as answers, in order.
   pub clean-exchange : CleanExchange
   -- served requests, as many as there are numbers, make such exchanges
   pub served-exchanges : ServedExchanges

@@ -1,4 +1,4 @@
--- Demand 1 of the line layer's calls: 12 exactly where it is due, and everything lent as it was.
+-- Demand 1 of the line reader's calls: 12 exactly where it is due, and of a refused call everything lent as it was.
 -- Assumes nothing: these are definitions and statements.
 use mathlib.Core.Path.{_≡_}
 use mathlib.Core.Bool.{true, false}

@@ -1,4 +1,4 @@
--- Demand 1 of the main processor's end: 12 exactly where it is due, and everything lent as it was.
+-- Demand 1 of the main processor's end: what its calls answer from an accepted start on, too little lent, and of a refused call everything lent as it was.
 -- Assumes nothing: these are statements. `Item2` has the types of the claims.
 use Rattle.requester_claims.specs.Histories.{OfReached}
 use Rattle.requester_claims.specs.Item2.{History, No12, TooLittle, Whole, RefusedHolds, RefusedMade}

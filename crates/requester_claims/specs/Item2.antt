@@ -86,8 +86,7 @@ pub record Item2 : Type 0 where
   pub answer-matches : OfValid AnswerMatches
   -- so from a start on
   pub answer-matches-started : OfStarted AnswerMatches
-  -- One is outstanding, and answered once: no more answers than requests that stay outstanding, one more where one was kept.
-  -- What is kept at the end is not answered yet.
+  -- One is outstanding, and answered once: answers handed out and requests still kept are at most requests that stay outstanding and those kept at first.
   pub answers-counted : OfValid AnswersCounted
   -- from a start on, at most one answer for each request
   pub one-answer-each : OfStarted OneAnswerEach

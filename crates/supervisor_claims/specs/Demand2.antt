@@ -217,5 +217,5 @@ pub record Cuts : Type 0 where
   pub step-receives : StepReceives
   -- and the bytes left, received then, do what the whole piece does
   pub step-then-receive : StepThenReceive
-  -- steps, one for each byte at most, do what a receive of the whole piece does
+  -- on sound parts, steps, one for each byte at most, do what a receive of the whole piece does
   pub steps-receive : StepsReceive

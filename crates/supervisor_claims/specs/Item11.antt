@@ -61,7 +61,7 @@ pub record Item11 : Type 0 where
   pub image-meant : ImageMeant
   -- the bytes that a good image leaves in the store hold the settings that it restores
   pub good-meant : GoodMeant
-  -- it replaces the first settings, as many as are saved; the others stay
+  -- a restore leaves every setting that is not saved
   pub replaced-other : ReplacedOther
   -- over any calls every setting can be saved, so that one without a value has edition 0
   pub key-savable : AfterCalls KeySavable

@@ -42,5 +42,5 @@ pub record Item14 : Type 0 where
   -- Two states, each reached from a start, differ only in the passphrase's record. In both its edition is below its end by more than the sets to come.
   -- Then the same calls in the same order, with equal arguments and loans, return and write outside the state the same.
   pub two-runs : TwoRuns
-  -- restore leaves it, as it leaves every setting that is not saved
+  -- restore leaves key 6, as it leaves every setting that is not saved
   pub replaced-other : ReplacedOther

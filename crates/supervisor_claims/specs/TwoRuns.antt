@@ -53,6 +53,7 @@ passphraseEdition p = Layout.settingEdition (p .settings) record-begin
 
 -- The sets to come: among the valid requests in the frames whose 00 these calls bring behind the received bytes w, the sets of the passphrase with a value of
 -- 8 to 63 bytes. No other request can raise its edition. An accepted start puts it back to 0, in both runs, so that no set behind one counts.
+-- The first run's received bytes serve for both: the two readers' parts are equal.
 unfoldable pub setsToCome : List ℕ → List Made → ℕ
 setsToCome w [] = 0
 setsToCome w (m ∷ ms) = cond (startsAnew m) 0 (length (setsOf Limits.passphrase-key (requestsIn (framesBy w (receivedBy m)))) + setsToCome (joined w m) ms)
