@@ -8,7 +8,9 @@ use Rattle.line_claims.proofs.Samples.{samples-hold}
 use Rattle.line_claims.proofs.LoanLaws.{any-run}
 use Rattle.line_claims.proofs.Refusals.{refused-exactly, refused-nothing, accepted-stops, too-little-12, too-little-nothing, never-12, sent-handed, room-enough}
 use Rattle.line_claims.proofs.WireClaim.{one-meaning}
-use Rattle.line_claims.proofs.WriterClaim.{written-frame, one-meaning-sent}
+use Rattle.line_claims.proofs.Refusals.{tail-refused-exactly, data-refused-exactly, start-refused-exactly}
+use Rattle.line_claims.proofs.Refusals.{start-untouched, data-not-handed}
+use Rattle.line_claims.proofs.WriterClaim.{writer-refused-exactly, writer-untouched, writer-writes, written-frame, one-meaning-sent}
 use Rattle.line_claims.proofs.CobsClaims.{round-trip, no-zero, form-fits, frame-fits}
 use Rattle.line_claims.proofs.ReaderClaim.{hands-out, any-stream, any-messages, any-failures, any-tail, stays-valid, cut}
 use Rattle.line_claims.proofs.ChecksumClaim.{checksum-claim}
@@ -23,14 +25,32 @@ pub line-samples : LineSamples
 line-samples = record { samples-hold = samples-hold }
 
 pub number-due : NumberDue
-number-due = record { refused-exactly = refused-exactly; never-12 = never-12; too-little-12 = too-little-12; any-run = any-run }
+number-due = record {
+  refused-exactly = refused-exactly;
+  tail-refused-exactly = tail-refused-exactly;
+  data-refused-exactly = data-refused-exactly;
+  start-refused-exactly = start-refused-exactly;
+  writer-refused-exactly = writer-refused-exactly;
+  never-12 = never-12;
+  too-little-12 = too-little-12;
+  any-run = any-run;
+}
 
 pub as-it-was : AsItWas
-as-it-was = record { refused-nothing = refused-nothing; too-little-nothing = too-little-nothing; accepted-stops = accepted-stops }
+as-it-was = record {
+  refused-nothing = refused-nothing;
+  too-little-nothing = too-little-nothing;
+  start-untouched = start-untouched;
+  data-not-handed = data-not-handed;
+  writer-untouched = writer-untouched;
+  writer-writes = writer-writes;
+  accepted-stops = accepted-stops;
+}
 
 pub wire-determines : WireDetermines
 wire-determines = record {
   one-meaning = one-meaning;
+  writer-writes = writer-writes;
   written-frame = written-frame;
   room-enough = room-enough;
   one-meaning-sent = one-meaning-sent;

@@ -1,21 +1,22 @@
 -- What a call of the line reader reads, and when it is refused; that what the writer put out is what the reader hands out.
 -- Assumes nothing.
 use mathlib.Core.Path.{_≡_, refl, sym, ap, _∙_}
-use mathlib.Core.Bool.{Bool, true, false}
+use mathlib.Core.Bool.{Bool, true, false, cond, not}
 use mathlib.Core.List.{List, [], _∷_, append-nil}
-use mathlib.Core.Logic.{inl, inr}
+use mathlib.Core.Logic.{_↔_, inl, inr}
 use mathlib.Core.Option.{Option, none, some}
 use Prim.Native.Nat.{ℕ, zero, suc, _≤_}
 use native.Mathlib.Omega.{arith}
-use lib.Dec.{ltb, eqb, eqb·suc-zero}
+use lib.Dec.{leb, ltb, eqb, eqb·suc-zero}
 use lib.ListN.{length}
-use borrow.Author.Tests.{le-leb, lt-leb, le-ltb}
+use borrow.Author.Tests.{le-leb, lt-leb, le-ltb, lt-ltb, leb-true, leb-false}
 use Rattle.octets.proofs.Conditions.{cond-by}
 use Rattle.line.specs.Limits.{longest-data, longest-form}
 use Rattle.line.specs.Frame.{frame}
 use Rattle.line.specs.Judge.{Verdict, failure, good}
 use Rattle.line.specs.Reader.{Report, refused, more, empty, message, failed, verdictReport, state-length, count, valid, pushed, Settled, settle, finish}
-use Rattle.line.specs.Reader.{Outcome, next, readPiece, reading, starting, TailReport, unfinished, longer, tailOf, dataRefusal}
+use Rattle.line.specs.Reader.{Outcome, next, readPiece, reading, Start, starting, TailReport, unfinished, longer, tailOf}
+use Rattle.line.specs.Reader.{dataRefusal, partOf, dataOf}
 use Rattle.line.specs.Writer
 use Rattle.line.proofs.State.{valid-ready}
 use Rattle.line.proofs.Lent.{valid-append}
@@ -26,7 +27,9 @@ use Rattle.line_claims.specs.Calls.{restarted, afterStart, after, afterA
 use Rattle.line_claims.proofs.WriterClaim.{sent-wire}
 use Rattle.line_claims.proofs.ReaderClaim.{hands-out, stays-valid}
 use Rattle.line_claims.specs.Demand1.{Stops, NotRefused, RefusedExactly, RefusedNothing, AcceptedStops, TooLittle12, TooLittleNothing, Never12}
+use Rattle.line_claims.specs.Demand1.{TailRefusedExactly, DataRefusedExactly, DataNotHanded, StartRefusedExactly, StartUntouched}
 use Rattle.line_claims.specs.Demand3.{SentHanded, RoomEnough}
+use Rattle.line_claims.specs.TableTests.{firstFailing}
 
 -- ---- What a call reads
 
@@ -90,6 +93,54 @@ abbrev tailRefused : TailReport → Bool
 tailRefused (TailReport.refused number) = true
 tailRefused (unfinished n) = false
 tailRefused longer = false
+
+-- a tail has no number, and a refused one its own
+pub tail-refused-exactly : TailRefusedExactly
+unfolding tailOf firstFailing
+tail-refused-exactly s n = by (valid s)
+  where
+    Refused : TailReport → Option ℕ → Type 0
+    Refused t k = (t ≡ TailReport.refused n) ↔ (k ≡ some n)
+
+    reported : (t : TailReport) → tailRefused t ≡ false → Refused t none
+    reported t f = (λ e. absurd (not-both f (ap tailRefused e)), λ e. absurd (let z : _≡_ {A = ℕ} 0 1 = cc in omega arith))
+
+    Tail : TailReport
+    Tail = cond (ltb longest-form (count s)) longer (unfinished (count s))
+
+    by : (b : Bool) → Refused (cond b Tail (TailReport.refused 12)) (cond (not b) (some 12) none)
+    by true =
+        cond-by (λ t. Refused t none) (ltb longest-form (count s)) _ _ (λ _. reported longer refl)
+        (λ _. reported (unfinished (count s)) refl)
+    by false = (λ e. cc, λ e. cc)
+
+pub data-refused-exactly : DataRefusedExactly
+unfolding dataRefusal firstFailing
+data-refused-exactly s k = by (valid s)
+  where
+    Nine : Option ℕ
+    Nine = cond (ltb longest-data k) (some 9) none
+
+    by : (b : Bool) → cond b Nine (some 12) ≡ cond (not b) (some 12) Nine
+    by true = refl
+    by false = refl
+
+pub data-not-handed : DataNotHanded
+unfolding dataOf partOf
+data-not-handed s k n e = rw e
+
+pub start-refused-exactly : StartRefusedExactly
+unfolding starting firstFailing
+start-refused-exactly room =
+    cond-by (λ (x : Start). x .refusal ≡ cond (ltb (length room) state-length) (some 12) none) (leb state-length (length room)) _ _
+    (λ e. rw (le-ltb (length room) state-length (leb-true _ _ e)))
+    (λ e. rw (lt-ltb (length room) state-length (leb-false _ _ e)))
+
+pub start-untouched : StartUntouched
+unfolding starting
+start-untouched room n =
+    cond-by (λ (x : Start). x .refusal ≡ some n → x .state ≡ room) (leb state-length (length room)) _ _
+    (λ _ e. absurd (let z : _≡_ {A = ℕ} 0 1 = cc in omega arith)) (λ _ _. refl)
 
 abbrev twelve : Option ℕ → Bool
 twelve none = false

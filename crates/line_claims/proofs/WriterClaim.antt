@@ -1,19 +1,26 @@
--- What the writer's calls put out is their messages' frames, and two lists of messages with the same bytes so written are equal.
+-- When the writer is refused; what it puts out is the message's frame; two lists of messages with the same bytes so written are equal.
 -- Assumes nothing.
-use mathlib.Core.Path.{_≡_}
-use mathlib.Core.List.{List}
+use mathlib.Core.Path.{_≡_, refl}
+use mathlib.Core.Bool.{cond}
+use mathlib.Core.List.{List, _++_}
+use mathlib.Core.Logic.{_↔_}
+use mathlib.Core.Option.{Option, none, some}
 use Prim.Native.Nat.{ℕ, _≤_}
+use native.Mathlib.Nat.{zero-add}
 use native.Mathlib.Omega.{arith}
 use lib.Dec.{ltb}
-use lib.ListN.{length, take}
+use lib.ListN.{length, take, drop}
 use borrow.Author.Tests.{ltb-false}
+use Rattle.octets.specs.Bytes.{overlay}
 use Rattle.octets.proofs.Overlay.{overlay-inside}
 use Rattle.line.specs.Limits.{longest-data}
 use Rattle.line.specs.Message.{Message}
 use Rattle.line.specs.Frame.{frame, Wire}
 use Rattle.line.specs.Writer.{Report, Outcome, sending, writing}
-use Rattle.octets.proofs.Conditions.{cond-by}
+use Rattle.octets.proofs.Conditions.{cond-by, cond-both}
 use Rattle.line_claims.proofs.WireClaim.{one-meaning}
+use Rattle.line_claims.specs.TableTests.{firstFailing}
+use Rattle.line_claims.specs.Demand1.{WriterRefusedExactly, WriterUntouched, WriterWrites}
 use Rattle.line_claims.specs.Demand3.{Sent, over, idle, wrote, WrittenFrame, OneMeaningSent}
 
 -- an answer other than a refusal is given only where the bytes fit the room
@@ -23,6 +30,56 @@ sent-bytes bs room n =
     cond-by (λ (o : Outcome). o .answer ≡ Report.wrote n → (n ≡ length bs) × (take n (o .out) ≡ bs)) (ltb (length room) (length bs)) _ _
     (λ e p. (cc, cc))
     (λ e p. let q : n ≡ length bs = cc in (q, rw q (overlay-inside 0 bs room (omega arith))))
+
+-- ---- When it is refused
+
+module _ (n : ℕ) where
+  abbrev Refused : Outcome → Option ℕ → Type 0
+  Refused o k = (o .answer ≡ Report.refused n) ↔ (k ≡ some n)
+
+  same-number : (k : ℕ) (out : List ℕ) → Refused (record { answer = Report.refused k; out = out }) (some k)
+  same-number k out = (λ e. cc, λ e. cc)
+
+  no-number : (k : ℕ) (out : List ℕ) → Refused (record { answer = Report.wrote k; out = out }) none
+  no-number k out = (λ e. absurd (let z : _≡_ {A = ℕ} 0 1 = cc in omega arith), λ e. absurd (let z : _≡_ {A = ℕ} 0 1 = cc in omega arith))
+
+pub writer-refused-exactly : WriterRefusedExactly
+unfolding writing sending firstFailing
+writer-refused-exactly m room n =
+    cond-both (Refused n) (ltb longest-data (length (m .payload))) (λ _. same-number n 9 room) (λ _.
+    cond-both (Refused n) (ltb (length room) (length (frame m))) (λ _. same-number n 8 room)
+    (λ _. no-number n (length (frame m)) (overlay 0 (frame m) room)))
+
+pub writer-untouched : WriterUntouched
+unfolding writing sending
+writer-untouched m room n =
+    cond-by Leaves (ltb longest-data (length (m .payload))) _ _ (λ _ _. refl) (λ _.
+    cond-by Leaves (ltb (length room) (length (frame m))) _ _ (λ _ _. refl) (λ _ e. absurd (let z : _≡_ {A = ℕ} 0 1 = cc in omega arith)))
+  where
+    Leaves : Outcome → Type 0
+    Leaves o = o .answer ≡ Report.refused n → o .out ≡ room
+
+-- ---- What it puts out
+
+at-start : (bs room : List ℕ) → overlay 0 bs room ≡ bs ++ drop (length bs) room
+unfolding overlay
+at-start bs room = rw zero-add
+
+module _ (m : Message) (room : List ℕ) where
+  abbrev Writes : Outcome → Option ℕ → Type 0
+  Writes o k = k ≡ none → o ≡ record { answer = Report.wrote (length (frame m)); out = frame m ++ drop (length (frame m)) room }
+
+  sends : Writes (sending (frame m) room) (cond (ltb (length room) (length (frame m))) (some 8) none)
+  unfolding sending
+  sends =
+      cond-both Writes (ltb (length room) (length (frame m))) (λ _ e. absurd (let z : _≡_ {A = ℕ} 0 1 = cc in omega arith))
+      (λ _ _. rw (at-start (frame m) room))
+
+pub writer-writes : WriterWrites
+unfolding writing firstFailing
+writer-writes m room =
+    cond-both (Writes m room) (ltb longest-data (length (m .payload))) (λ _ e. absurd (let z : _≡_ {A = ℕ} 0 1 = cc in omega arith))
+    (λ _. sends m room)
 
 pub written-frame : WrittenFrame
 unfolding writing

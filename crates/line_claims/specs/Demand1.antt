@@ -1,15 +1,21 @@
--- Demand 1 of the line reader's calls: 12 exactly where it is due, and of a refused call everything lent as it was.
+-- Demand 1 of the line layer's calls: each number of the table exactly where it is due, and of a refused call everything lent as it was.
 -- Assumes nothing: these are definitions and statements.
 use mathlib.Core.Path.{_≡_}
-use mathlib.Core.Bool.{true, false}
-use mathlib.Core.List.{List}
+use mathlib.Core.Bool.{true, false, not}
+use mathlib.Core.List.{List, [], _∷_, _++_}
 use mathlib.Core.Logic.{_⊎_, _↔_}
 use mathlib.Core.Option.{none, some}
 use Prim.Native.Nat.{ℕ, suc, _<_}
-use lib.ListN.{length, getD}
+use lib.Dec.{ltb}
+use lib.ListN.{length, drop, getD}
 use Rattle.octets.specs.Bytes.{run}
-use Rattle.line.specs.Reader.{refused, state-length, valid, reading, starting, TailReport, tailOf, dataRefusal}
+use Rattle.line.specs.Limits.{longest-data}
+use Rattle.line.specs.Message.{Message}
+use Rattle.line.specs.Frame.{frame}
+use Rattle.line.specs.Reader.{refused, state-length, valid, reading, starting, TailReport, tailOf, dataRefusal, dataOf}
+use Rattle.line.specs.Writer as LineWriter
 use Rattle.line_claims.specs.Loans.{Loan, within, lentPart, enoughPart}
+use Rattle.line_claims.specs.TableTests.{TableTest, test, firstFailing}
 use Rattle.line_claims.specs.Calls.{Call, loanOf, lentState, Reader, after, OfFreshReader}
 
 -- the whole piece, or up to and with a 00 of that piece
@@ -35,6 +41,27 @@ pub record AllRefused (part : List ℕ) : Type 0 where
 abbrev pub RefusedExactly : Type 0
 RefusedExactly = (s piece : List ℕ) → (reading s piece .answer ≡ refused 12) ↔ (valid s ≡ false)
 
+-- 12 of a call that is lent a state
+abbrev pub stateTest : List ℕ → TableTest
+stateTest s = test 12 (not (valid s))
+
+abbrev pub TailRefusedExactly : Type 0
+TailRefusedExactly = (s : List ℕ) (n : ℕ) → (tailOf s ≡ TailReport.refused n) ↔ (firstFailing (stateTest s ∷ []) ≡ some n)
+
+abbrev pub DataRefusedExactly : Type 0
+DataRefusedExactly = (s : List ℕ) (k : ℕ) → dataRefusal s k ≡ firstFailing (stateTest s ∷ test 9 (ltb longest-data k) ∷ [])
+
+abbrev pub StartRefusedExactly : Type 0
+StartRefusedExactly = (room : List ℕ) → starting room .refusal ≡ firstFailing (test 12 (ltb (length room) state-length) ∷ [])
+
+-- the writer's tests: 9, then 8
+abbrev pub writerTests : Message → List ℕ → List TableTest
+writerTests m room = test 9 (ltb longest-data (length (m .payload))) ∷ test 8 (ltb (length room) (length (frame m))) ∷ []
+
+abbrev pub WriterRefusedExactly : Type 0
+WriterRefusedExactly = (m : Message) (room : List ℕ) (n : ℕ)
+    → (LineWriter.writing m room .answer ≡ LineWriter.refused n) ↔ (firstFailing (writerTests m room) ≡ some n)
+
 abbrev pub Never12 : Reader → Type 0
 Never12 r = (l : Loan) → enoughPart state-length l ≡ true → NotRefused (lentState l (r .state))
 
@@ -47,6 +74,14 @@ AnyRun = (published at n : ℕ) (s : List ℕ) → n < published → lentPart pu
 pub record NumberDue : Type 0 where
   -- a read answers 12 exactly where the state is not as 12 requires
   pub refused-exactly : RefusedExactly
+  -- so does the call that reports a tail, and no other number
+  pub tail-refused-exactly : TailRefusedExactly
+  -- the call that hands out data tests 12, then 9: above 4,104 bytes
+  pub data-refused-exactly : DataRefusedExactly
+  -- a start tests the room alone and not what the state holds
+  pub start-refused-exactly : StartRefusedExactly
+  -- the writer says 9 exactly where the data have more than 4,104 bytes, else 8 exactly where the room is shorter than the frame
+  pub writer-refused-exactly : WriterRefusedExactly
   -- what the layer's own calls left never earns 12, of any call that is lent enough of it
   pub never-12 : OfFreshReader Never12
   -- too little of a state, from any offset on, is 12 of every call
@@ -62,6 +97,20 @@ RefusedNothing = (s piece : List ℕ) → valid s ≡ false → reading s piece 
 abbrev pub TooLittleNothing : Type 0
 TooLittleNothing = (r : Reader) (c : Call) → enoughPart state-length (loanOf c) ≡ false → after r c ≡ r
 
+abbrev pub StartUntouched : Type 0
+StartUntouched = (room : List ℕ) (n : ℕ) → starting room .refusal ≡ some n → starting room .state ≡ room
+
+abbrev pub DataNotHanded : Type 0
+DataNotHanded = (s : List ℕ) (k n : ℕ) → dataRefusal s k ≡ some n → dataOf s k ≡ []
+
+abbrev pub WriterUntouched : Type 0
+WriterUntouched = (m : Message) (room : List ℕ) (n : ℕ)
+    → LineWriter.writing m room .answer ≡ LineWriter.refused n → LineWriter.writing m room .out ≡ room
+
+abbrev pub WriterWrites : Type 0
+WriterWrites = (m : Message) (room : List ℕ) → firstFailing (writerTests m room) ≡ none
+    → LineWriter.writing m room ≡ record { answer = LineWriter.wrote (length (frame m)); out = frame m ++ drop (length (frame m)) room }
+
 abbrev pub AcceptedStops : Type 0
 AcceptedStops = (s piece : List ℕ) → valid s ≡ true → Stops piece (reading s piece .used)
 
@@ -70,5 +119,13 @@ pub record AsItWas : Type 0 where
   pub refused-nothing : RefusedNothing
   -- so does a call that is lent too little
   pub too-little-nothing : TooLittleNothing
+  -- a refused start leaves the room
+  pub start-untouched : StartUntouched
+  -- of a refused call nothing is handed out
+  pub data-not-handed : DataNotHanded
+  -- a refused writer leaves the room
+  pub writer-untouched : WriterUntouched
+  -- any other puts exactly the frame at the room's start and answers its length; every byte behind it stays
+  pub writer-writes : WriterWrites
   -- any other reads its whole piece, or stops behind a 00 of that piece
   pub accepted-stops : AcceptedStops

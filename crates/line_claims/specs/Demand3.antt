@@ -20,6 +20,7 @@ use Rattle.line_claims.specs.Pieces.{NonZero, split, nonEmpty}
 use Rattle.line_claims.specs.Calls.{Read, Reader, fresh, afterReads, OfFreshReader, frameReport, goodMessages, failureReasons, tailMeant}
 use Rattle.line_claims.specs.Changes.{Near, AllSameOr00Ff}
 use Rattle.line_claims.specs.Samples.{meant, samples}
+use Rattle.line_claims.specs.Demand1.{WriterWrites}
 
 -- ---- Wire bytes determine the list of messages
 
@@ -59,6 +60,8 @@ pub record WireDetermines : Type 0 where
   -- bytes that are the wire bytes of two lists of messages are those of one
   pub one-meaning : OneMeaning
   -- unless the table refuses the call, the line layer's writer puts out exactly the message's frame
+  pub writer-writes : WriterWrites
+  -- so an answer other than a refusal is the frame's length, and the frame stands there
   pub written-frame : WrittenFrame
   -- a room of 4,141 bytes is never too short
   pub room-enough : RoomEnough

@@ -26,21 +26,14 @@ use Rattle.requester.specs.Calls.{Parts, parts, reportOf, PartsValid, LongEnoug
 use Rattle.requester.proofs.ValidLaws.{RequesterValid, requester-valid, valid-requester, valid-parts, long-enough-is}
 use Rattle.requester_claims.specs.View.{receivedOf, keptOf, held, view}
 use Rattle.requester_claims.specs.Histories
-use Rattle.requester_claims.specs.Histories.{Call, Answer, Did, didBy, did, refusal, withRequester, putDid, Means, means, putMeans, meant, receiptDid, receiveAnswer}
+use Rattle.requester_claims.specs.Histories.{Call, Answer, didBy, did, refusal, withRequester, putDid, means, putMeans, meant}
+use Rattle.requester_claims.specs.Histories.{receiptDid, receiveAnswer}
 use Rattle.requester_claims.proofs.FieldLaws.{progressed-held, progressed-valid, progressed-long, progressed-number, progressed-recovery, progressed-unsent, progressed-kept}
 use Rattle.requester_claims.proofs.FieldLaws.{flagged-held, flagged-valid, flagged-long, asked-held, asked-valid, asked-long}
 use Rattle.requester_claims.proofs.ReceivedClaim.{received-some}
-use Rattle.requester_claims.specs.Histories.{Lengths}
+use Rattle.requester_claims.specs.Demand1.{Meets}
 use Rattle.requester_claims.proofs.ByteClaim.{lengths-same, walk-follows, received-walk}
 use Rattle.requester_claims.proofs.OneByte.{walk}
-
--- what a call did is what document 02 has of it, and it leaves valid parts
-pub record Meets (p : Parts) (d : Did) (x : Means) : Type 0 where
-  pub answer : d .answer ≡ x .answer
-  pub out : d .out ≡ x .out
-  pub state : view (d .parts) ≡ x .state
-  pub valid : PartsValid (d .parts)
-  pub lengths : Lengths p (d .parts)
 
 -- a call that changes nothing
 module _ (p : Parts) (v : PartsValid p) where

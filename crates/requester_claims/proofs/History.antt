@@ -28,7 +28,8 @@ use Rattle.requester_claims.specs.Histories.{means, putMeans, doneMeans,
 use Rattle.requester_claims.specs.Histories.{outputs, left, outputsMeant, leftMeant, begin, Accepted, OfReached, OfValid}
 use Rattle.requester_claims.specs.Item2.{Follow, History, No12, RefusedHolds, RefusedMade}
 use Rattle.requester_claims.proofs.ByteClaim.{lengths-same, lengths-then}
-use Rattle.requester_claims.proofs.CallClaims.{Meets, report-received, start-meets, call-meets}
+use Rattle.requester_claims.specs.Demand1.{Meets, CallAsMeant}
+use Rattle.requester_claims.proofs.CallClaims.{report-received, start-meets, call-meets}
 use Rattle.requester_claims.proofs.LentCalls.{whole, room-enough, too-little}
 
 -- ---- refusals change nothing
@@ -136,6 +137,9 @@ one-call p m v =
     cond-by (Meets p (made p m)) (enough (m .call) (m .lent)) _ _
     (λ e. rw (whole (m .lent) p (valid-long-enough p v) (m .call) e) (call-meets p v (m .call)))
     (λ e. rw (too-little (m .lent) p (m .call) e) (record { answer = refl; out = refl; state = refl; valid = v; lengths = lengths-same }))
+
+pub call-as-meant : OfValid CallAsMeant
+call-as-meant p v m = one-call p m v
 
 -- valid parts never earn 12
 pub earns-no-12 : OfValid No12

@@ -10,6 +10,7 @@ pub mod NextClaim
 pub mod ByteClaim
 pub mod CallClaims
 pub mod History
+pub mod TableNumber
 pub mod Cuts
 pub mod Numbers
 pub mod Answers

@@ -4,7 +4,8 @@ use Rattle.requester_claims.specs.Demand1.{NumberDue, AsItWas}
 use Rattle.requester_claims.specs.Item2.{Item2}
 use Rattle.requester_claims.specs.Item6.{Item6}
 use Rattle.requester_claims.proofs.LentCalls.{too-little, whole}
-use Rattle.requester_claims.proofs.History.{history, no-12, refused-holds, refused-made}
+use Rattle.requester_claims.proofs.History.{call-as-meant, history, no-12, refused-holds, refused-made}
+use Rattle.requester_claims.proofs.TableNumber.{main-refused-exactly, main-start-accepted}
 use Rattle.requester_claims.proofs.Cuts.{cut, cut-between, cut-between-started}
 use Rattle.requester_claims.proofs.Numbers.{one-number, one-number-started}
 use Rattle.requester_claims.proofs.Answers.{answer-matches, answer-matches-started, answers-counted, one-answer-each}
@@ -12,7 +13,15 @@ use Rattle.requester_claims.proofs.AnswerBytes.{answer-bytes}
 use Rattle.requester_claims.proofs.AnswerFrame.{answer-frame}
 
 pub number-due : NumberDue
-number-due = record { history = history; no-12 = no-12; too-little = too-little; whole = whole }
+number-due = record {
+  main-refused-exactly = main-refused-exactly;
+  main-start-accepted = main-start-accepted;
+  call-as-meant = call-as-meant;
+  history = history;
+  no-12 = no-12;
+  too-little = too-little;
+  whole = whole;
+}
 
 pub as-it-was : AsItWas
 as-it-was = record { refused-holds = refused-holds; refused-made = refused-made }
@@ -20,6 +29,8 @@ as-it-was = record { refused-holds = refused-holds; refused-made = refused-made 
 pub item-2 : Item2
 item-2 = record {
   history = history;
+  main-refused-exactly = main-refused-exactly;
+  main-start-accepted = main-start-accepted;
   no-12 = no-12;
   refused-holds = refused-holds;
   refused-made = refused-made;

@@ -1,14 +1,25 @@
 -- Document 02's item 2, the main processor's end. What one call means is in crates/requester/specs (Requester, State).
 -- Assumes nothing: these are definitions and statements.
 use mathlib.Core.Path.{_≡_}
-use mathlib.Core.Bool.{true, false}
-use mathlib.Core.List.{List}
-use Prim.Native.Nat.{ℕ, _+_, _≤_}
+use mathlib.Core.Bool.{true, false, cond, not, _&&_}
+use mathlib.Core.List.{List, [], _∷_}
+use mathlib.Core.Logic.{_↔_}
+use mathlib.Core.Option.{Option, none, some}
+use Prim.Native.Nat.{ℕ, suc, _+_, _≤_}
+use lib.Dec.{leb, ltb}
+use lib.ListN.{length}
 use Rattle.octets.specs.Bytes.{Each}
-use Rattle.requester.specs.State.{State, fresh}
+use Rattle.line.specs.Limits.{longest-data}
+use Rattle.line_claims.specs.TableTests.{TableTest, test, firstFailing}
+use Rattle.requester.specs.Limits.{last-number}
+use Rattle.requester.specs.State.{Request, State, fresh, isSome, outstanding, requestFrame}
+use Rattle.requester.specs.Valid.{validRequester}
+use Rattle.requester.specs.Calls
 use Rattle.requester.specs.Calls.{Parts, PartsValid, LongEnough}
 use Rattle.requester_claims.specs.View.{keptOf, view}
-use Rattle.requester_claims.specs.Histories.{Call, refused, didBy, did, Lent, enough, Made, untouched, made, outputs, left, outputsMeant, leftMeant}
+use Rattle.requester_claims.specs.Histories
+use Rattle.requester_claims.specs.Histories.{Call, refused, done, didBy, did, Lent, enough, Made, untouched, made}
+use Rattle.requester_claims.specs.Histories.{outputs, left, outputsMeant, leftMeant}
 use Rattle.requester_claims.specs.Histories.{Lengths, Accepted, begun, OfStarted, OfReached, OfValid}
 use Rattle.requester_claims.specs.Cuts.{Read, listening, afterReads, Stretch, heard, leftBy, SameBytes}
 use Rattle.requester_claims.specs.Numbers.{frames, Between, OnePerNumber, OneAbove, RequestFrame}
@@ -23,6 +34,38 @@ History = (p : Parts) (l : Lent) → Accepted p l → (ms : List Made) → Follo
 
 abbrev pub No12 : Parts → Type 0
 No12 p = (m : Made) → enough (m .call) (m .lent) ≡ true → made p m .answer ≡ refused 12 → ⊥
+
+-- 12 of a call that takes the main processor's part alone
+abbrev pub partTest : Parts → TableTest
+partTest p = test 12 (not (validRequester (p .requester)))
+
+-- the bytes that a send is to put out
+abbrev pub frameOut : ℕ → Option Request → List ℕ
+frameOut n none = []
+frameOut n (some q) = requestFrame n q
+
+abbrev pub toPutOut : State → List ℕ
+toPutOut s = cond (s .unsent) (frameOut (s .newest) (outstanding s)) []
+
+-- the tests of a call on any parts whatever, in document 02's order: 12, 9, 17, 14, 8; a start tests the lengths alone
+unfoldable pub mainTests : Parts → Call → List TableTest
+mainTests p Histories.start = test 12 (not (Calls.longEnough p)) ∷ []
+mainTests p (Histories.request command d room) =
+    partTest p
+    ∷ test 9 (ltb longest-data (length d))
+    ∷ test 17 (isSome (outstanding (view p)))
+    ∷ test 14 (leb last-number (view p .newest))
+    ∷ test 8 (ltb (length room) (length (requestFrame (suc (view p .newest)) (record { command = command; payload = d }))))
+    ∷ []
+mainTests p Histories.interrupt = partTest p ∷ test 14 (not (isSome (view p .recovery)) && leb last-number (view p .newest)) ∷ []
+mainTests p (Histories.send room) = partTest p ∷ test 8 (ltb (length room) (length (toPutOut (view p)))) ∷ []
+mainTests p (Histories.receive piece) = test 12 (not (Calls.validParts p)) ∷ []
+
+abbrev pub MainRefusedExactly : Type 0
+MainRefusedExactly = (p : Parts) (c : Call) (n : ℕ) → (did p c .answer ≡ refused n) ↔ (firstFailing (mainTests p c) ≡ some n)
+
+abbrev pub MainStartAccepted : Type 0
+MainStartAccepted = (p : Parts) → (did p Histories.start .answer ≡ done) ↔ LongEnough p
 
 abbrev pub RefusedHolds : Type 0
 RefusedHolds = (p : Parts) (c : Call) (n : ℕ) → did p c .answer ≡ refused n → (did p c .parts ≡ p) × (did p c .out ≡ untouched c)
@@ -59,6 +102,11 @@ pub record Item2 : Type 0 where
   -- Every answer, all that is written or handed out, and the state left are those of the item's meaning.
   -- The parts stay valid and as long as they were.
   pub history : History
+  -- Tests run 12, 9, 17, 14, 8. Every call on any parts whatever: 12 exactly where a part that it takes is too short or not valid.
+  -- Then 9, 17, 14 and 8 exactly where due, and no other number.
+  pub main-refused-exactly : MainRefusedExactly
+  -- a start is accepted exactly where both parts have their published lengths, whatever they hold
+  pub main-start-accepted : MainStartAccepted
   -- no call that is lent enough of what they left is refused as 12
   pub no-12 : OfReached No12
   -- a refused call changes nothing, on any parts at all
@@ -88,5 +136,5 @@ pub record Item2 : Type 0 where
   pub answer-matches-started : OfStarted AnswerMatches
   -- One is outstanding, and answered once: answers handed out and requests still kept are at most requests that stay outstanding and those kept at first.
   pub answers-counted : OfValid AnswersCounted
-  -- from a start on, at most one answer for each request
+  -- from a start on, no more answers than requests that stay outstanding
   pub one-answer-each : OfStarted OneAnswerEach

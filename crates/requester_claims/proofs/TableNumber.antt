@@ -1,0 +1,134 @@
+-- Each call's number, on any parts whatever, is that of its first test that fails; a start is accepted where the parts are long enough.
+-- Assumes nothing.
+use mathlib.Core.Path.{_≡_, refl}
+use mathlib.Core.Bool.{Bool, true, false, cond, not, _&&_}
+use mathlib.Core.List.{List, []}
+use mathlib.Core.Logic.{_↔_}
+use mathlib.Core.Option.{Option, none, some}
+use Prim.Native.Nat.{ℕ}
+use native.Mathlib.Omega.{arith}
+use lib.Dec.{leb, ltb, eqb}
+use lib.ListN.{length}
+use borrow.Author.Tests.{le-ltb}
+use Rattle.octets.proofs.Conditions.{cond-by, cond-both}
+use Rattle.line.specs.Limits.{longest-data}
+use Rattle.line_claims.specs.TableTests.{firstFailing}
+use Rattle.requester.specs.Limits.{last-number}
+use Rattle.requester.specs.State.{Request, Step, fetch, acknowledge, alert, isSome, requestFrame}
+use Rattle.requester.specs.Layout
+use Rattle.requester.specs.Valid.{validRequester}
+use Rattle.requester.specs.Calls
+use Rattle.requester.specs.Calls.{Parts, LongEnough}
+use Rattle.requester.proofs.ValidLaws.{is-long-enough, long-enough-is}
+use Rattle.requester_claims.specs.View.{view}
+use Rattle.requester_claims.specs.Histories
+use Rattle.requester_claims.specs.Histories.{Answer, refused, done, did, refusal, receiptDid}
+use Rattle.requester_claims.specs.Item2.{frameOut, mainTests, MainRefusedExactly, MainStartAccepted}
+use Rattle.requester_claims.proofs.CallClaims.{report-received, outstanding-is, outstanding-some}
+
+-- a choice by a test, and one by its opposite
+cond-not : {A B : Type 0} (P : A → B → Type 0) (t : Bool) {x y : A} {v w : B} → P x w → P y v → P (cond t x y) (cond (not t) v w)
+cond-not P true f g = f
+cond-not P false f g = g
+
+clash : _≡_ {A = ℕ} 0 1 → ⊥
+clash z = omega arith
+
+module _ (n : ℕ) where
+  abbrev Numbered : Answer → Option ℕ → Type 0
+  Numbered a k = (a ≡ refused n) ↔ (k ≡ some n)
+
+  same : (k : ℕ) → Numbered (refused k) (some k)
+  same k = (λ e. cc, λ e. cc)
+
+  none-done : Numbered done none
+  none-done = (λ e. absurd (clash cc), λ e. absurd (clash cc))
+
+  none-put : (k : ℕ) → Numbered (Histories.put k) none
+  none-put k = (λ e. absurd (clash cc), λ e. absurd (clash cc))
+
+  none-received : (used : ℕ) (t : Calls.Report) (e u : Bool) → Numbered (Histories.received used t e u) none
+  none-received used t e u = (λ f. absurd (clash cc), λ f. absurd (clash cc))
+
+  abbrev PutBy : Calls.Put → Option ℕ → Type 0
+  PutBy t k = Numbered (Histories.putAnswer (t .report)) k
+
+  abbrev StartBy : Calls.Start → Option ℕ → Type 0
+  StartBy t k = Numbered (refusal (t .refusal)) k
+
+  abbrev InterruptBy : Calls.Interrupt → Option ℕ → Type 0
+  InterruptBy t k = Numbered (refusal (t .refusal)) k
+
+  abbrev ReceiptBy : Calls.Receipt → Option ℕ → Type 0
+  ReceiptBy x k = Numbered (receiptDid x .answer) k
+
+-- a step is none exactly where its number is 0
+step-none : (t : ℕ) → isSome (Layout.stepAt t) ≡ not (eqb t 0)
+unfolding Layout.stepAt
+step-none t = by (eqb t 0)
+  where
+    Some : Option Step → Type 0
+    Some x = isSome x ≡ true
+
+    later : Option Step
+    later = cond (eqb t 1) (some fetch) (cond (eqb t 2) (some acknowledge) (some alert))
+
+    by : (b : Bool) → isSome (cond b none later) ≡ not b
+    by true = refl
+    by false = cond-by Some (eqb t 1) _ _ (λ _. refl) (λ _. cond-by Some (eqb t 2) _ _ (λ _. refl) (λ _. refl))
+
+-- 14 where no recovery runs and there is no number
+interrupt-number : (n : ℕ) (r t : List ℕ) (b c : Bool)
+    → InterruptBy n (cond b (cond c (Calls.interruptBy (some 14) r) (Calls.interruptBy none t)) (Calls.interruptBy none r))
+    (cond (not (not b) && c) (some 14) none)
+interrupt-number n r t true true = same n 14
+interrupt-number n r t true false = none-done n
+interrupt-number n r t false c = none-done n
+
+-- 8 where a frame is to go out and does not fit
+send-number : (n : ℕ) (room r t : List ℕ) (k : ℕ) (q : Request) (a u : Bool)
+    → PutBy n (cond (a && u) (Calls.putInto (requestFrame k q) room r t) (Calls.putBy (Calls.wrote 0) room r))
+    (cond (ltb (length room) (length (cond u (frameOut k (cond a (some q) none)) []))) (some 8) none)
+unfolding Calls.putInto
+send-number n room r t k q true true =
+    cond-both (PutBy n) (ltb (length room) (length (requestFrame k q))) (λ _. same n 8) (λ _. none-put n (length (requestFrame k q)))
+send-number n room r t k q true false = rw (le-ltb (length room) 0 (omega arith)) (none-put n 0)
+send-number n room r t k q false true = rw (le-ltb (length room) 0 (omega arith)) (none-put n 0)
+send-number n room r t k q false false = rw (le-ltb (length room) 0 (omega arith)) (none-put n 0)
+
+receive-number : (n : ℕ) (p : Parts) (piece : List ℕ)
+    → ReceiptBy n (Calls.receiving p piece) (cond (not (Calls.validParts p)) (some 12) none)
+unfolding receiptDid Calls.receiving Calls.received
+receive-number n p piece = cond-not (ReceiptBy n) (Calls.validParts p) (rw report-received (none-received n _ _ _ _)) (same n 12)
+
+pub main-refused-exactly : MainRefusedExactly
+unfolding did mainTests firstFailing view Calls.starting Calls.requesting Calls.putInto Calls.interrupting Calls.sending Layout.isUnsent
+main-refused-exactly p Histories.start n = cond-not (StartBy n) (Calls.longEnough p) (none-done n) (same n 12)
+main-refused-exactly p (Histories.request command d room) n =
+    let r = p .requester in
+    rw (outstanding-some r)
+    (cond-not (PutBy n) (validRequester r)
+    (cond-both (PutBy n) (ltb longest-data (length d)) (λ _. same n 9) (λ _.
+    cond-both (PutBy n) (Layout.isOutstanding r) (λ _. same n 17) (λ _.
+    cond-both (PutBy n) (leb last-number (Layout.numberOf r)) (λ _. same n 14) (λ _.
+    cond-both (PutBy n) (ltb (length room) _) (λ _. same n 8) (λ _. none-put n _)))))
+    (same n 12))
+main-refused-exactly p Histories.interrupt n =
+    let r = p .requester in
+    rw (step-none (Layout.recoveryOf r))
+    (cond-not (InterruptBy n) (validRequester r)
+    (interrupt-number n r _ (eqb (Layout.recoveryOf r) 0) (leb last-number (Layout.numberOf r))) (same n 12))
+main-refused-exactly p (Histories.send room) n =
+    let r = p .requester in
+    rw (outstanding-is r)
+    (cond-not (PutBy n) (validRequester r)
+    (send-number n room r _ (Layout.numberOf r) (Layout.outRequest r) (Layout.isOutstanding r) (eqb (Layout.unsentOf r) 1)) (same n 12))
+main-refused-exactly p (Histories.receive piece) n = receive-number n p piece
+
+pub main-start-accepted : MainStartAccepted
+unfolding did Calls.starting
+main-start-accepted p = (
+  cond-by (λ (t : Calls.Start). refusal (t .refusal) ≡ done → LongEnough p) (Calls.longEnough p) _ _ (λ e _. is-long-enough p e)
+      (λ _ e. absurd (clash cc)),
+  λ l. rw (long-enough-is p l),
+)
