@@ -15,6 +15,7 @@ use Rattle.supervisor_claims.proofs.claims.History.{one-call, refused-m
 use Rattle.supervisor_claims.proofs.claims.ReaderCalls.{reader-calls-sound, reader-no-12}
 use Rattle.supervisor_claims.proofs.claims.InOrder.{in-order, in-order-behind, request-carried, failure-only-pending}
 use Rattle.supervisor_claims.proofs.claims.FramesClaim.{history-frames, each-once, received-since, in-order-after}
+use Rattle.supervisor_claims.proofs.claims.FailureClaim.{failure-answered, overlong-answered, ahead-of-zero, empty-frame-ignored}
 use Rattle.supervisor_claims.proofs.claims.Cuts.{cut-any}
 use Rattle.supervisor_claims.proofs.claims.Replies.{replies-in-order}
 use Rattle.supervisor_claims.proofs.claims.LastSetLaws.{set-successful, successful-exactly, replaced-other}
@@ -60,7 +61,13 @@ carried-out = record {
 }
 
 pub numbered-failures : NumberedFailures
-numbered-failures = record { failure-only-pending = failure-only-pending }
+numbered-failures = record {
+  failure-answered = failure-answered;
+  overlong-answered = overlong-answered;
+  ahead-of-zero = ahead-of-zero;
+  empty-frame-ignored = empty-frame-ignored;
+  failure-only-pending = failure-only-pending;
+}
 
 pub cuts : Cuts
 cuts = record {

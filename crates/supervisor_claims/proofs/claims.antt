@@ -6,6 +6,7 @@ pub mod History
 pub mod ReaderCalls
 pub mod InOrder
 pub mod FramesClaim
+pub mod FailureClaim
 pub mod Cuts
 pub mod Replies
 pub mod LastSetLaws

@@ -9,21 +9,24 @@ use Prim.Native.Nat.{ℕ, zero, suc, _≤_, _<_}
 use lib.Dec.{eqb}
 use lib.ListN.{length, take, drop}
 use Rattle.octets.specs.Bytes.{Each, Byte}
+use Rattle.line.specs.Limits.{longest-form}
 use Rattle.line.specs.Message.{Message}
 use Rattle.line_claims.specs.Pieces.{split, nonEmpty}
 use Rattle.supervisor.specs.Limits.{last-edition, SettingsKey}
 use Rattle.supervisor.specs.Layout
-use Rattle.supervisor.specs.State.{Factory, Setting, Settings, State, fresh, withPending}
+use Rattle.supervisor.specs.State.{Factory, Setting, Settings, State, fresh, withPending, withReceived}
 use Rattle.supervisor.specs.Local
 use Rattle.supervisor.specs.Calls
 use Rattle.supervisor.specs.Calls.{Parts}
-use Rattle.requests.specs.Requests.{failure, good, verdict, wrongValueLength, stored, carried, stream, owed, replyFrame, replyOf, failedOf}
+use Rattle.requests.specs.Requests.{first-version, failure, good, verdict, wrongValueLength, stored, carried, stream}
+use Rattle.requests.specs.Requests.{owed, replyFrame, replyOf, failedOf}
 use Rattle.supervisor_claims.specs.View.{factoryOf, view}
 use Rattle.supervisor_claims.specs.Sound.{Valid, Bytes, Sound, Lengths}
 use Rattle.supervisor_claims.specs.Histories
-use Rattle.supervisor_claims.specs.Histories.{Answer, refused, done, found, did, upTo, Lent, enough, Made, made, Output, outputs, left}
-use Rattle.supervisor_claims.specs.Histories.{outputsMeant, leftMeant, AllTyped, received, locally, FromStart, AfterCalls}
+use Rattle.supervisor_claims.specs.Histories.{Typed, Answer, refused, done, found, did, upTo, Lent, enough, Made, made}
+use Rattle.supervisor_claims.specs.Histories.{Output, outputs, left, outputsMeant, leftMeant, AllTyped, received, locally, FromStart, AfterCalls}
 use Rattle.supervisor_claims.specs.FrameHistory.{joinedAll, framed, tailOf, following, outputsByFrames, leftByFrames, carriedFrames, Replied, OnRequest}
+use Rattle.supervisor_claims.specs.FrameHistory.{OnFrame, DoneLeaving, answeredWith}
 use Rattle.supervisor_claims.specs.LastSet.{successful, setAfter, origin, originBehind, setSince, Has, fittedOf, lookupOf, lookupReply, ReadBack}
 use Rattle.supervisor_claims.specs.Replies.{Cycle, Ample, byteByByte, streamOf, takenBytes, replies}
 
@@ -159,8 +162,32 @@ FailureOnlyPending = (image : List ℕ) (s : State) (b : ℕ) (bs : List ℕ) (r
     → verdict (b ∷ bs) ≡ failure reason version sequence
     → framed image s (b ∷ bs) ≡ withPending s (owed (s .terminator-owed) ++ replyFrame (some (failedOf reason version sequence)))
 
+abbrev pub FailureAnswered : List Made → Parts → Type 0
+FailureAnswered ms q = (b : ℕ) (bs : List ℕ) (reason version : ℕ) (sequence : Option ℕ) → verdict (b ∷ bs) ≡ failure reason version sequence
+    → OnFrame ms (b ∷ bs) (λ ahead c. DoneLeaving (made q c) (answeredWith (view (made q ahead .parts)) (failedOf reason version sequence)))
+
+abbrev pub OverlongAnswered : List Made → Parts → Type 0
+OverlongAnswered ms q = (f : List ℕ) → longest-form < length f
+    → OnFrame ms f (λ ahead c. DoneLeaving (made q c) (answeredWith (view (made q ahead .parts)) (failedOf 1 first-version none)))
+
+abbrev pub EmptyFrameIgnored : List Made → Parts → Type 0
+EmptyFrameIgnored ms q = OnFrame ms [] (λ ahead c. DoneLeaving (made q c) (view (made q ahead .parts)))
+
+abbrev pub AheadOfZero : List Made → Parts → Type 0
+AheadOfZero ms q = (j : Lent) (image bs : List ℕ) → let c = received image j bs in Typed (c .call) → enough (c .call) j ≡ true → NoZeros bs
+    → DoneLeaving (made q c) (withReceived (view q) (tailOf (split (joinedAll [] ms) .rest ++ bs)))
+
 pub record NumberedFailures : Type 0 where
-  -- it changes nothing but the pending bytes: behind a 00 where one is owed, the failure's reply
+  -- Behind any calls from an accepted start, a 00 closes a frame that is not empty and that the table finds a failure. The call is done.
+  -- It leaves the state before that 00 but for the receive progress and the pending bytes: the frame of exactly that failure's reply.
+  pub failure-answered : AfterCalls FailureAnswered
+  -- so of a frame of more than 4,140 bytes: reason 1, version 1, all ones, at its 00
+  pub overlong-answered : AfterCalls OverlongAnswered
+  -- once: bytes that are not 00 change the receive progress alone
+  pub ahead-of-zero : AfterCalls AheadOfZero
+  -- an empty frame is ignored
+  pub empty-frame-ignored : AfterCalls EmptyFrameIgnored
+  -- the same over any state: a failed frame changes nothing but the pending bytes
   pub failure-only-pending : FailureOnlyPending
 
 -- ---- Cutting the stream elsewhere changes nothing

@@ -11,10 +11,10 @@ use lib.ListN.{length}
 use Rattle.line.specs.Limits.{longest-form}
 use Rattle.line.specs.Message.{Message}
 use Rattle.line_claims.specs.Pieces.{split, nonEmpty, closedBy}
-use Rattle.supervisor.specs.State.{State, withReceived}
+use Rattle.supervisor.specs.State.{State, withReceived, withPending}
 use Rattle.supervisor.specs.Local
 use Rattle.supervisor.specs.Calls.{Parts}
-use Rattle.requests.specs.Requests.{good, verdict, judged, owed}
+use Rattle.requests.specs.Requests.{good, verdict, Reply, judged, owed, replyFrame}
 use Rattle.requests.specs.Receive
 use Rattle.requests.specs.Receive.{Ended}
 use Rattle.supervisor_claims.specs.View.{factoryOf, view}
@@ -119,6 +119,22 @@ leftByFrames w s (m ∷ ms) = leftByFrames (joined w m) (carriedMade w s m .stat
 unfoldable pub carriedFrames : List ℕ → List (List ℕ) → List Made → List (List ℕ)
 carriedFrames w fs [] = fs
 carriedFrames w fs (m ∷ ms) = carriedFrames (joined w m) (cond (startsAnew m) [] (fs ++ framesBy w (receivedBy m))) ms
+
+-- ---- A frame behind calls
+
+-- What holds where the frame f comes behind calls: the bytes bs and a 00 are received, and f is what this 00 closes.
+-- P speaks of a call with bs alone and of one with the 00 too, both lent the same. They stand for any (`cut-any`, `step-receives`).
+abbrev pub OnFrame : List Made → List ℕ → (Made → Made → Type 0) → Type 0
+OnFrame ms f P = (j : Lent) (image bs : List ℕ) → let c = received image j bs in Typed (c .call) → enough (c .call) j ≡ true
+    → split (joinedAll [] ms ++ bs) .rest ≡ f → P c (received image j (bs ++ (0 ∷ [])))
+
+-- a call on q is done, and leaves this state
+abbrev pub DoneLeaving : Did → State → Type 0
+DoneLeaving r s = (r .answer ≡ done) × (view (r .parts) ≡ s)
+
+-- the state s but for the receive progress, which begins anew, and the pending bytes: behind a 00 where one is owed, this reply's frame
+abbrev pub answeredWith : State → Reply → State
+answeredWith s r = withPending (withReceived s (some [])) (owed (s .terminator-owed) ++ replyFrame (some r))
 
 -- ---- A request and its reply
 
