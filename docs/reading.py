@@ -5,7 +5,8 @@ Comments are not counted. Works from the sources (docs/sources.py); names of the
 Assumes that the crates check.
 
 usage: docs/reading.py NAME            a claim (never-replaced), a record (Item7), a definition (judge), a public function (line::reader::read)
-       docs/reading.py CRATE.NAME      where several crates have the name (supervisor_claims.Demand1, requester_claims.cut)
+       docs/reading.py CRATE.NAME      where several crates have the name (supervisor_claims.NumberDue, requester_claims.cut)
+       docs/reading.py CRATE.RECORD.NAME    where several records of a crate have it (claims.Item6.line)
        docs/reading.py --total NAME    the last line alone
        docs/reading.py --records       CLAIMS.md's table: each record of statements, its fields, and how much each rests on
        docs/reading.py --records check | write    whether CLAIMS.md has that table; puts it there"""
@@ -57,11 +58,17 @@ def fields_of(record):
         yield sources.Item(match.group(1), 'law', True, record.module, record.path, first, first + match.group(2).count('\n'), match.group(2), [], [])
 
 
+def parts_of(name):
+    """The crate, the record and the last word of a name; '' where it has none."""
+    words = name.split('.') if '::' not in name else [name]
+    return (words[0] if len(words) > 1 else '', words[1] if len(words) == 3 else '', words[-1])
+
+
 def named(found, name):
     """The items that a name may mean: claims as fields of records of statements first, then records and other items of specs/, then laws, then functions."""
-    crate, _, last = name.rpartition('.') if '::' not in name else ('', '', name)
+    crate, within, last = parts_of(name)
     items = [item for item in found.items() if not crate or item.module.split('.')[0] == crate]
-    claims = [field for record in statements(found) if record in items for field in fields_of(record) if field.name == last]
+    claims = [field for record in statements(found) if record in items and within in ('', record.name) for field in fields_of(record) if field.name == last]
     kinds = (claims, [item for item in items if item.name == last and item.defines], [item for item in items if item.name == last],
              [item for path, item in promises(found) if path == last or path.split('::')[-1] == last])
     return next((kind for kind in kinds if kind), [])
@@ -111,9 +118,19 @@ def records(found, what):
     return 0 if old and old.group(0) == table else 1
 
 
-def same(items):
-    """Whether items say the same: fields of two records with one type."""
-    return len({item.told.strip() for item in items}) == 1
+def same(found, items):
+    """Whether items say the same: fields of two records with one type, its words standing for the same definitions."""
+    return len({(re.sub(r'\b[A-Z]\w*\.', '', item.told.strip()), frozenset(other.key for other in found.rests(item)[0])) for item in items}) < 2
+
+
+def several(found, name):
+    """Where a name is more than one thing: the names to take instead, by crate or, where that is not enough, by crate and record."""
+    if same(found, named(found, name)):
+        return []
+    last = parts_of(name)[2]
+    names = {f'{item.module.split(".")[0]}.{last}' for item in named(found, name)}
+    within = [f'{record.module.split(".")[0]}.{record.name}.{last}' for record in statements(found) if last in [field.name for field in fields_of(record)]]
+    return sorted(one for word in names for one in ([word] if same(found, named(found, word)) else [full for full in within if full.startswith(word.split('.')[0] + '.')]))
 
 
 def main():
@@ -129,8 +146,8 @@ def main():
     items = named(found, words[0])
     if not items:
         sys.exit(f'reading: nothing is named {words[0]}')
-    if len(items) > 1 and not same(items):
-        sys.exit(f'reading: {words[0]} is several things; name its crate: ' + ', '.join(sorted(f'{item.module.split(".")[0]}.{item.name} ({item.place})' for item in items)))
+    if several(found, words[0]):
+        sys.exit(f'reading: {words[0]} is several things; take one of ' + ', '.join(several(found, words[0])))
     order, unknown = rest(found, items[0])
     if not total:
         print(f'{items[0].place}: {items[0].name}')

@@ -87,7 +87,7 @@ pub record Item3 : Type 0 where
 pub record Item4 : Type 0 where
   -- the probe list
   pub probes : ProbesItem4.Item4
-  -- with 64 items and 4,096 bytes of key 5 all parts together still have at most 65,536 bytes
+  -- all parts together still have at most 65,536 bytes
   pub parts-fit : SupervisorDemand1.PartsFit
 
 -- how old is this list?
@@ -141,6 +141,7 @@ pub record Item14 : Type 0 where
 
 -- ---- Both ends together
 
--- what holds of an answer where both ends are this repository's, over a wire that may lose, delay and repeat; no paper asks for it
+-- What holds of an answer where both ends are this repository's; no paper asks for it. Each end reads only messages that the other put out.
+-- The wire may lose, delay and repeat them, but where a claim says that it keeps their order (`InOrder`) or loses nothing (`NothingLost`).
 pub record BothEnds : Type 0 where
   pub both-ends : BothEndsTogether.BothEnds

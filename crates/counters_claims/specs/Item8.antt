@@ -45,7 +45,7 @@ pub record Item8 : Type 0 where
   pub counters-count : OfStart CountersCount
   -- the same where the block is cleared ahead of that start
   pub counters-from-start : OfStart CountersFromStart
-  -- a frame of more bytes than a form has is counted at its 00, as reason 1
+  -- a frame of more bytes than a form has counts as reason 1
   pub overlong-once : OverlongOnce
   -- every frame is counted, in one counter: the numbers of the nine kinds of frames come to the number of all
   pub each-counted-once : EachCountedOnce

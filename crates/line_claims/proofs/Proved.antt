@@ -32,6 +32,7 @@ number-due = record {
   start-refused-exactly = start-refused-exactly;
   writer-refused-exactly = writer-refused-exactly;
   never-12 = never-12;
+  stays-valid = stays-valid;
   too-little-12 = too-little-12;
   any-run = any-run;
 }
@@ -44,7 +45,6 @@ as-it-was = record {
   data-not-handed = data-not-handed;
   writer-untouched = writer-untouched;
   writer-writes = writer-writes;
-  accepted-stops = accepted-stops;
 }
 
 pub wire-determines : WireDetermines
@@ -68,7 +68,7 @@ fresh-reader = record {
   any-messages = any-messages;
   any-failures = any-failures;
   any-tail = any-tail;
-  stays-valid = stays-valid;
+  accepted-stops = accepted-stops;
   cut = cut;
 }
 

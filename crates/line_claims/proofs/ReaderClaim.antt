@@ -29,7 +29,8 @@ use Rattle.line_claims.specs.Calls.{Call, read, start, lentState, back, 
 use Rattle.line_claims.specs.Calls.{restarted, afterStart, after, afterAll, begun}
 use Rattle.line_claims.specs.Calls.{tailMeant, frameReport, gathered, goodOf, reasonOf, goodMessages, failureReasons}
 use Rattle.line_claims.proofs.Streams.{afterByte, stream, stream-read, bytesRead, call-stream, reads-stream}
-use Rattle.line_claims.specs.Demand3.{HandsOut, AnyStream, AnyMessages, AnyFailures, AnyTail, StaysValid, Cut}
+use Rattle.line_claims.specs.Demand3.{HandsOut, AnyStream, AnyMessages, AnyFailures, AnyTail, Cut}
+use Rattle.line_claims.specs.Demand1.{StaysValid}
 
 pub gathered-append : {A : Type 0} (f : Verdict → List A) (ps qs : List (List ℕ)) → gathered f (ps ++ qs) ≡ gathered f ps ++ gathered f qs
 unfolding gathered

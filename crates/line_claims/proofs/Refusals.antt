@@ -26,9 +26,9 @@ use Rattle.line_claims.specs.Calls.{Call, read, start, lentState, handed
 use Rattle.line_claims.specs.Calls.{restarted, afterStart, after, afterAll, begun}
 use Rattle.line_claims.proofs.WriterClaim.{sent-wire}
 use Rattle.line_claims.proofs.ReaderClaim.{hands-out, stays-valid}
-use Rattle.line_claims.specs.Demand1.{Stops, NotRefused, RefusedExactly, RefusedNothing, AcceptedStops, TooLittle12, TooLittleNothing, Never12}
+use Rattle.line_claims.specs.Demand1.{NotRefused, RefusedExactly, RefusedNothing, TooLittle12, TooLittleNothing, Never12}
 use Rattle.line_claims.specs.Demand1.{TailRefusedExactly, DataRefusedExactly, DataNotHanded, StartRefusedExactly, StartUntouched}
-use Rattle.line_claims.specs.Demand3.{SentHanded, RoomEnough}
+use Rattle.line_claims.specs.Demand3.{Stops, AcceptedStops, SentHanded, RoomEnough}
 use Rattle.line_claims.specs.TableTests.{firstFailing}
 
 -- ---- What a call reads

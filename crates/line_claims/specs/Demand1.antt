@@ -3,11 +3,11 @@
 use mathlib.Core.Path.{_≡_}
 use mathlib.Core.Bool.{true, false, not}
 use mathlib.Core.List.{List, [], _∷_, _++_}
-use mathlib.Core.Logic.{_⊎_, _↔_}
+use mathlib.Core.Logic.{_↔_}
 use mathlib.Core.Option.{none, some}
-use Prim.Native.Nat.{ℕ, suc, _<_}
+use Prim.Native.Nat.{ℕ, _<_}
 use lib.Dec.{ltb}
-use lib.ListN.{length, drop, getD}
+use lib.ListN.{length, drop}
 use Rattle.octets.specs.Bytes.{run}
 use Rattle.line.specs.Limits.{longest-data}
 use Rattle.line.specs.Message.{Message}
@@ -17,10 +17,6 @@ use Rattle.line.specs.Writer as LineWriter
 use Rattle.line_claims.specs.Loans.{Loan, within, lentPart, enoughPart}
 use Rattle.line_claims.specs.TableTests.{TableTest, test, firstFailing}
 use Rattle.line_claims.specs.Calls.{Call, loanOf, lentState, Reader, after, OfFreshReader}
-
--- the whole piece, or up to and with a 00 of that piece
-abbrev pub Stops : List ℕ → ℕ → Type 0
-Stops piece used = (used ≡ length piece) ⊎ ((at : ℕ) × (used ≡ suc at) × (at < length piece) × (getD piece at 0 ≡ 0))
 
 -- no call says 12 of this part of a state
 pub record NotRefused (part : List ℕ) : Type 0 where
@@ -65,6 +61,9 @@ WriterRefusedExactly = (m : Message) (room : List ℕ) (n : ℕ)
 abbrev pub Never12 : Reader → Type 0
 Never12 r = (l : Loan) → enoughPart state-length l ≡ true → NotRefused (lentState l (r .state))
 
+abbrev pub StaysValid : Reader → Type 0
+StaysValid r = valid (r .state) ≡ true
+
 abbrev pub TooLittle12 : Type 0
 TooLittle12 = (s : List ℕ) (l : Loan) → enoughPart state-length l ≡ false → AllRefused (lentState l s)
 
@@ -84,6 +83,8 @@ pub record NumberDue : Type 0 where
   pub writer-refused-exactly : WriterRefusedExactly
   -- what the layer's own calls left never earns 12, of any call that is lent enough of it
   pub never-12 : OfFreshReader Never12
+  -- it stays as 12 requires it
+  pub stays-valid : OfFreshReader StaysValid
   -- too little of a state, from any offset on, is 12 of every call
   pub too-little-12 : TooLittle12
   -- each run of a part that is shorter than its published length is such a loan
@@ -111,9 +112,6 @@ abbrev pub WriterWrites : Type 0
 WriterWrites = (m : Message) (room : List ℕ) → firstFailing (writerTests m room) ≡ none
     → LineWriter.writing m room ≡ record { answer = LineWriter.wrote (length (frame m)); out = frame m ++ drop (length (frame m)) room }
 
-abbrev pub AcceptedStops : Type 0
-AcceptedStops = (s piece : List ℕ) → valid s ≡ true → Stops piece (reading s piece .used)
-
 pub record AsItWas : Type 0 where
   -- a refused call reads nothing and leaves the state as it was
   pub refused-nothing : RefusedNothing
@@ -127,5 +125,3 @@ pub record AsItWas : Type 0 where
   pub writer-untouched : WriterUntouched
   -- any other puts exactly the frame at the room's start and answers its length; every byte behind it stays
   pub writer-writes : WriterWrites
-  -- any other reads its whole piece, or stops behind a 00 of that piece
-  pub accepted-stops : AcceptedStops

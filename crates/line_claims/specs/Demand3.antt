@@ -5,8 +5,8 @@ use mathlib.Core.Bool.{true, false}
 use mathlib.Core.List.{List, [], _∷_, _++_, map}
 use mathlib.Core.Logic.{_⊎_, _↔_}
 use mathlib.Core.Option.{some}
-use Prim.Native.Nat.{ℕ, _+_, _/_, _%_, _≤_}
-use lib.ListN.{length, take}
+use Prim.Native.Nat.{ℕ, suc, _+_, _/_, _%_, _≤_, _<_}
+use lib.ListN.{length, take, getD}
 use Rattle.octets.specs.Bytes.{Byte, Each}
 use Rattle.line.specs.Limits.{longest-data, longest-form}
 use Rattle.line.specs.Checksum.{checksum}
@@ -14,7 +14,7 @@ use Rattle.line.specs.Message.{Message, Typed, InRange, message}
 use Rattle.line.specs.Cobs.{cobs, uncobs}
 use Rattle.line.specs.Frame.{frame, Wire}
 use Rattle.line.specs.Judge.{failure, sequenceOf, checksumOf, wrongLength, wrongChecksum, judgeForm}
-use Rattle.line.specs.Reader.{valid, tailOf}
+use Rattle.line.specs.Reader.{valid, reading, tailOf}
 use Rattle.line.specs.Writer.{Report, writing}
 use Rattle.line_claims.specs.Pieces.{NonZero, split, nonEmpty}
 use Rattle.line_claims.specs.Calls.{Read, Reader, fresh, afterReads, OfFreshReader, frameReport, goodMessages, failureReasons, tailMeant}
@@ -95,8 +95,12 @@ AnyFailures r = r .failures ≡ failureReasons (nonEmpty (split (r .bytes) .clos
 abbrev pub AnyTail : Reader → Type 0
 AnyTail r = tailOf (r .state) ≡ tailMeant (split (r .bytes) .rest)
 
-abbrev pub StaysValid : Reader → Type 0
-StaysValid r = valid (r .state) ≡ true
+-- the whole piece, or up to and with a 00 of that piece
+abbrev pub Stops : List ℕ → ℕ → Type 0
+Stops piece used = (used ≡ length piece) ⊎ ((at : ℕ) × (used ≡ suc at) × (at < length piece) × (getD piece at 0 ≡ 0))
+
+abbrev pub AcceptedStops : Type 0
+AcceptedStops = (s piece : List ℕ) → valid s ≡ true → Stops piece (reading s piece .used)
 
 abbrev pub Cut : Type 0
 Cut = (s : List ℕ) (cs ds : List Read) → afterReads (fresh s) cs .bytes ≡ afterReads (fresh s) ds .bytes → afterReads (fresh s) cs ≡ afterReads (fresh s) ds
@@ -114,8 +118,8 @@ pub record FreshReader : Type 0 where
   pub any-failures : OfFreshReader AnyFailures
   -- the unfinished tail is what was read behind the last 00
   pub any-tail : OfFreshReader AnyTail
-  -- the state stays as 12 requires it
-  pub stays-valid : OfFreshReader StaysValid
+  -- a call that is not refused reads its whole piece, or stops behind a 00 of that piece
+  pub accepted-stops : AcceptedStops
   -- cutting the stream elsewhere changes nothing: calls that read the same bytes leave the same reader
   pub cut : Cut
 

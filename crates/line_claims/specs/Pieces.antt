@@ -1,5 +1,5 @@
--- A list split at its zeros, with the laws of one byte or piece more, and the list put together again.
--- Assumes nothing.
+-- A list split at its zeros, and the list put together again.
+-- Assumes nothing: these are definitions.
 use mathlib.Core.List.{List, [], _∷_, _++_}
 use Prim.Native.Nat.{ℕ, zero, suc, _≤_}
 use lib.ListN.{length, drop}

@@ -62,11 +62,11 @@ ImageOne = (i j : List ℕ) → Each Byte i → Each Byte j → (es fs : List En
 pub record Item11 : Type 0 where
   -- small images, each with what it holds or its first fault and that fault's offset, as a single table, over the meaning itself
   pub samples-hold : SamplesHold
-  -- the image of settings that can be saved has no fault
+  -- the image of settings that can be saved has no fault, and holds their records
   pub saved-read : OfSavable SavedRead
-  -- and restores them
+  -- these records leave the same settings as they are
   pub saved-restores : OfSavable SavedRestores
-  -- into any settings: the three saved ones are replaced, the others stay
+  -- and restore them into any others: the three saved ones are replaced, the rest stays
   pub saved-restores-into : OfSavable SavedRestoresInto
   -- an image that is accepted is the saved form of what it restores, byte for byte
   pub image-exact : ImageExact

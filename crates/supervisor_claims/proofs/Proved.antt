@@ -11,7 +11,8 @@ use Rattle.supervisor_claims.proofs.calls.StartClaim.{start-meant}
 use Rattle.supervisor_claims.proofs.calls.LookupClaim.{edition-meant}
 use Rattle.supervisor_claims.proofs.claims.Refusals.{refused-exactly, refused-holds, parts-fit}
 use Rattle.supervisor_claims.proofs.claims.LentCalls.{made-12}
-use Rattle.supervisor_claims.proofs.claims.History.{one-call, refused-made, no-12, history, cut, step-receives, step-then-receive, steps-receive}
+use Rattle.supervisor_claims.proofs.claims.History.{one-call, refused-made, fault-made, no-12, history, cut}
+use Rattle.supervisor_claims.proofs.claims.History.{step-receives, step-then-receive, steps-receive}
 use Rattle.supervisor_claims.proofs.claims.ReaderCalls.{reader-calls-sound, reader-no-12}
 use Rattle.supervisor_claims.proofs.claims.InOrder.{in-order, in-order-behind, request-carried, failure-only-pending}
 use Rattle.supervisor_claims.proofs.claims.FramesClaim.{history-frames, each-once, received-since, in-order-after}
@@ -38,7 +39,7 @@ number-due = record {
 }
 
 pub as-it-was : AsItWas
-as-it-was = record { refused-holds = refused-holds; refused-made = refused-made }
+as-it-was = record { refused-holds = refused-holds; refused-made = refused-made; fault-made = fault-made }
 
 pub carried-out : CarriedOut
 carried-out = record {

@@ -16,7 +16,8 @@ use Rattle.supervisor_claims.specs.ByPart.{Part, published, part, validP
 use Rattle.supervisor_claims.specs.View.{view}
 use Rattle.supervisor_claims.specs.Sound.{Sound, Lengths, Leaves, withReader}
 use Rattle.supervisor_claims.specs.Histories
-use Rattle.supervisor_claims.specs.Histories.{Call, Typed, refused, Did, didBy, did, Means, ofTaken, enough, Made, untouched, made, meantMade, AfterCalls}
+use Rattle.supervisor_claims.specs.Histories.{Call, Typed, refused, faulty, Did, didBy, did, Means, ofTaken, enough}
+use Rattle.supervisor_claims.specs.Histories.{Made, untouched, made, meantMade, AfterCalls}
 
 -- ---- The table's number exactly where it is due
 
@@ -96,8 +97,14 @@ RefusedHolds = (p : Parts) (c : Call) (n : ℕ) → did p c .answer ≡ refused 
 abbrev pub RefusedMade : Type 0
 RefusedMade = (p : Parts) (m : Made) (n : ℕ) → made p m .answer ≡ refused n → (made p m .parts ≡ p) × (made p m .out ≡ untouched (m .call))
 
+abbrev pub FaultMade : Type 0
+FaultMade = (p : Parts) (m : Made) (n at : ℕ) → made p m .answer ≡ faulty n at
+    → (made p m .parts ≡ p) × (made p m .out ≡ untouched (m .call))
+
 pub record AsItWas : Type 0 where
-  -- a refused call, whatever its number, leaves state and output buffers as they were
+  -- a refused call leaves state and output buffers as they were
   pub refused-holds : RefusedHolds
   -- the same whatever it is lent
   pub refused-made : RefusedMade
+  -- so does a restore that finds a fault, 30 to 35, which it answers with the fault's offset
+  pub fault-made : FaultMade

@@ -24,7 +24,8 @@ use Rattle.supervisor_claims.specs.View.{factoryOf, view}
 use Rattle.supervisor_claims.specs.Sound.{Valid, Bytes, Sound, Lengths}
 use Rattle.supervisor_claims.specs.Histories
 use Rattle.supervisor_claims.specs.Histories.{Typed, Answer, refused, done, found, did, upTo, Lent, enough, Made, made}
-use Rattle.supervisor_claims.specs.Histories.{Output, outputs, left, outputsMeant, leftMeant, AllTyped, received, locally, FromStart, AfterCalls}
+use Rattle.supervisor_claims.specs.Histories.{Output, outputs, left, outputsMeant, leftMeant, AllTyped}
+use Rattle.supervisor_claims.specs.Histories.{received, locally, FromStart, AfterCalls}
 use Rattle.supervisor_claims.specs.FrameHistory.{joinedAll, framed, tailOf, following, outputsByFrames, leftByFrames, carriedFrames, Replied, OnRequest}
 use Rattle.supervisor_claims.specs.FrameHistory.{OnFrame, DoneLeaving, answeredWith}
 use Rattle.supervisor_claims.specs.LastSet.{successful, setAfter, origin, originBehind, setSince, Has, fittedOf, lookupOf, lookupReply, ReadBack}

@@ -63,7 +63,7 @@ pub record Item11 : Type 0 where
   pub good-meant : GoodMeant
   -- a restore leaves every setting that is not saved
   pub replaced-other : ReplacedOther
-  -- over any calls every setting can be saved, so that one without a value has edition 0
+  -- over any calls every setting, key 6 too, is as a record can hold it, so that one without a value has edition 0
   pub key-savable : AfterCalls KeySavable
   -- a save with room for the image writes it, and bytes past it stay
   pub save-writes : AfterCalls SaveWrites

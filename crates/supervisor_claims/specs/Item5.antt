@@ -39,5 +39,5 @@ pub record Item5 : Type 0 where
   -- A version 2 lookup of the withdrawn-key list, where v is the value of the last of these sets and the others are vs: the edition before the value is
   -- the number of these sets, on top of the restored edition. The value is v.
   pub list-edition-answered : AfterCalls ListEditionAnswered
-  -- the local call that hands out a key's edition
+  -- on valid parts the local call that asks for a key's edition answers its result and edition; no paper asks for this call
   pub edition-meant : EditionMeant

@@ -1,7 +1,7 @@
 -- The replies that frames earn, in order; and a stream received byte by byte, everything taken after each byte, in any rooms, with the bytes taken.
 -- Assumes nothing: these are definitions.
 use mathlib.Core.Path.{_≡_}
-use mathlib.Core.Bool.{true, false}
+use mathlib.Core.Bool.{true}
 use mathlib.Core.List.{List, [], _∷_, _++_}
 use mathlib.Core.Option.{Option, some}
 use Prim.Native.Nat.{ℕ, _≤_, _<_}
@@ -37,11 +37,6 @@ afterFrame image s f = doneBy image s (verdict f)
 unfoldable pub replies : List ℕ → State → List (List ℕ) → List ℕ
 replies image s [] = []
 replies image s (f ∷ fs) = replyFrame (replyTo image s f) ++ replies image (afterFrame image s f) fs
-
--- nothing is pending, and no 00 is owed
-pub record Quiet (s : State) : Type 0 where
-  pub pending : s .pending ≡ []
-  pub terminator-owed : s .terminator-owed ≡ false
 
 -- ---- A stream byte by byte
 

@@ -38,9 +38,9 @@ use Rattle.supervisor_claims.specs.FrameHistory.{tailOf, allFramed}
 use Rattle.supervisor_claims.proofs.calls.SendingClaim.{frame-bytes}
 use Rattle.supervisor_claims.proofs.claims.History as SupervisorHistory
 use Rattle.supervisor_claims.proofs.claims.InOrder.{lined, tail-over, tail-within}
-use Rattle.supervisor_claims.specs.Replies.{replyBy, takenBytes, Quiet}
+use Rattle.supervisor_claims.specs.Replies.{replyBy, takenBytes}
 use Rattle.supervisor_claims.proofs.claims.LastSetLaws.{frames-owed}
-use Rattle.supervisor_claims.proofs.laws.TakenAll.{larger-room, after-all, frame-last}
+use Rattle.supervisor_claims.proofs.laws.TakenAll.{Quiet, larger-room, after-all, frame-last}
 use Rattle.both_claims.specs.Ends
 use Rattle.both_claims.specs.Ends.{GoesOn, restores, got, over, InOrderAfter, messageOf, newestReply, brought, asMessage, after, afterAll, Always, CallTyped}
 use Rattle.both_claims.proofs.RoundTrip.{Waiting, next-number, waiting, replied-stays, reply-heard, whole-heard, delivered-parts, reply-waits, reply-taken}

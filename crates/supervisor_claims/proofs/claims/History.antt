@@ -21,7 +21,7 @@ use Rattle.supervisor_claims.specs.Histories
 use Rattle.supervisor_claims.specs.Histories.{Call, Typed, refused, done, Did, did, doneMeans, meant, upTo}
 use Rattle.supervisor_claims.specs.Histories.{Lent, lentOf, takes, enough, Made, made, meantMade, outputs, left, outputsMeant, leftMeant, AllTyped}
 use Rattle.supervisor_claims.specs.Histories.{startWith}
-use Rattle.supervisor_claims.specs.Demand1.{fit, Meets, OneCall, RefusedMade, Never12, No12}
+use Rattle.supervisor_claims.specs.Demand1.{fit, Meets, OneCall, RefusedMade, FaultMade, Never12, No12}
 use Rattle.supervisor_claims.specs.Demand2.{Follows, steps, History, Cut, StepReceives, StepThenReceive, StepsReceive}
 use Rattle.supervisor_claims.proofs.Sound.{lengths-same, lengths-then, valid-long}
 use Rattle.supervisor_claims.proofs.laws.Locality.{widened, lent-bytes, lent-sound, lent-view, back-lent, back-leaves}
@@ -30,7 +30,7 @@ use Rattle.supervisor_claims.proofs.calls.StartClaim.{start-refused}
 use Rattle.supervisor_claims.proofs.calls.ReceiveClaim.{fed-leaves}
 use Rattle.supervisor_claims.proofs.calls.StepClaim.{step-fed}
 use Rattle.supervisor_claims.proofs.calls.CallClaims.{start-leaves, call-meets}
-use Rattle.supervisor_claims.proofs.claims.Refusals.{refused-12, refused-holds, WhereRefused, Not12}
+use Rattle.supervisor_claims.proofs.claims.Refusals.{refused-12, refused-holds, fault-holds, WhereRefused, Not12}
 use Rattle.supervisor_claims.proofs.claims.LentCalls.{parts-valid, valid-parts, made-12, widened-enough, widened-same}
 
 -- ---- refusals change nothing
@@ -39,6 +39,12 @@ pub refused-made : RefusedMade
 unfolding made
 refused-made p m n e =
     let h = refused-holds (lentOf (m .lent) p) (m .call) n e in
+    (rw (h .0) (back-lent (m .lent) p), h .1)
+
+pub fault-made : FaultMade
+unfolding made
+fault-made p m n at e =
+    let h = fault-holds (lentOf (m .lent) p) (m .call) n at e in
     (rw (h .0) (back-lent (m .lent) p), h .1)
 
 -- ---- 12 only where too little is lent

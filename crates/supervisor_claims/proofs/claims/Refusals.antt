@@ -202,6 +202,15 @@ refused-exactly p c = (by (fit p c) refl, λ e. ap (λ (x : Did). x .answer) (re
     by true e h = absurd ((rw h at (fit-other p c e)) .0 refl)
     by false e h = e
 
+-- so does a fault
+pub fault-holds : (p : Parts) (c : Call) (n at : ℕ) → did p c .answer ≡ Histories.faulty n at
+    → (did p c .parts ≡ p) × (did p c .out ≡ untouched c)
+fault-holds p c n at h = by (fit p c) refl
+  where
+    by : (t : Bool) → fit p c ≡ t → (did p c .parts ≡ p) × (did p c .out ≡ untouched c)
+    by true e = let k = rw h at (fit-other p c e) in (k .1, k .2)
+    by false e = rw (refused-12 p c e) (refl, refl)
+
 pub refused-holds : RefusedHolds
 refused-holds p c n h = by (fit p c) refl
   where

@@ -18,7 +18,7 @@ use Rattle.supervisor.specs.State.{State, withReceived}
 use Rattle.supervisor.specs.Local.{lastNonZero, taken, afterTake}
 use Rattle.requests.specs.Requests.{Reply, verdict, judged, closed, byte, owed, replyFrame}
 use Rattle.supervisor_claims.specs.FrameHistory.{framed, tailOf}
-use Rattle.supervisor_claims.specs.Replies.{replyTo, afterFrame, replies, Quiet}
+use Rattle.supervisor_claims.specs.Replies.{replyTo, afterFrame, replies}
 use Rattle.supervisor_claims.proofs.claims.InOrder.{lined, done-lined, judged-is, more-tail, closed-framed}
 
 drop-all : (n : ℕ) (l : List ℕ) → length l ≤ n → drop n l ≡ []
@@ -89,6 +89,10 @@ after-append image s [] gs = refl
 after-append image s (f ∷ fs) gs = after-append image (afterFrame image s f) fs gs
 
 -- ---- nothing is pending and no 00 is owed, before a frame and after it
+
+pub record Quiet (s : State) : Type 0 where
+  pub pending : s .pending ≡ []
+  pub terminator-owed : s .terminator-owed ≡ false
 
 frame-quiet : (image : List ℕ) (s : State) (f : List ℕ) → Quiet s → Quiet (afterFrame image s f)
 unfolding afterFrame
