@@ -2,9 +2,11 @@
 """Checks that the crates above the line layer, `line_claims` too, name of it only what its public contracts rest on: its public types; the modules of
 its specs that the `ensures` of a public function cites, and those that these import; the files of laws in its proofs that import nothing of `line` but
 such modules and files; and its records of statements with their proofs (specs/Item.., proofs/Proved). Anything else of `line` that a file names is printed with its place, and the check fails.
-Assumes the layout of crates.txt, and uses and contracts as `rt fmt` lays them out.
+Checks too that in no crate the modules of the code, or those of specs/, stand in a cycle by what each names of the others.
+Assumes the layout of crates.txt, and uses, paths and contracts as `rt fmt` lays them out.
 
-usage: tests/layers.py"""
+usage: tests/layers.py            prints what is wrong, or how much was looked at
+       tests/layers.py planted    plants cycles, which must be seen"""
 import pathlib
 import re
 import sys
@@ -88,7 +90,65 @@ def crates_above():
         found |= more
 
 
-def main():
+# ---- Cycles between the modules of a crate
+
+def texts_of(folder):
+    """The modules of a folder, by name, as texts without comments."""
+    return {path.stem: re.sub(r'(^|\s)(--|//) .*$', '', path.read_text(), flags=re.M) for path in folder.iterdir() if path.suffix in ('.antt', '.rt')}
+
+
+def code_names(texts):
+    """What each module of code names of the others: `crate::head` in any module, or `head::` in the root, which declares it. What is `crate::` and no module is the root's."""
+    root = 'main' if 'main' in texts else 'lib'
+    found = {name: {other if other in texts else root for other in re.findall(r'\bcrate::(\w+)', text)} for name, text in texts.items()}
+    found[root] |= {other for other in re.findall(r'(?<!::)\b(\w+)::', texts[root]) if other in texts}
+    return found
+
+
+def specs_names(texts):
+    """What each module of specs/ names of the others in its uses."""
+    return {name: set(re.findall(r'^(?:pub )?use Rattle·\w+·specs\.specs\.(\w+)', text, re.M)) & set(texts) for name, text in texts.items()}
+
+
+def reached(names, start):
+    found, rest = set(), [start]
+    while rest:
+        more = names[rest.pop()] - found
+        found |= more
+        rest += more
+    return found
+
+
+def cycles(names):
+    """The sets of modules that name each other, over others too."""
+    ahead = {name: reached(names, name) for name in names}
+    return {frozenset(other for other in ahead[name] if name in ahead[other]) for name in names if name in ahead[name]}
+
+
+def crate_modules():
+    """For each crate: its name, and what its modules of code and of specs/ are, and how what they name is read."""
+    for crate in sorted((ROOT / 'crates').iterdir()):
+        yield crate.name, 'src', texts_of(crate / 'src'), code_names
+        if (crate / 'specs').exists():
+            yield crate.name, 'specs', texts_of(crate / 'specs'), specs_names
+
+
+def planted():
+    """Cycles in memory: between two modules of code, over a third, with the root, and in specs/."""
+    folders = {(crate, part): (texts, read) for crate, part, texts, read in crate_modules()}
+    plants = [('requester', 'src', 'progress', 'use crate::hearing;'), ('requests', 'src', 'sending', 'use crate::receive::Stepped;'),
+              ('line_cases', 'src', 'print', 'use crate::run_all;'), ('requests', 'specs', 'Commands', 'use Rattle.requests.specs.Receive.{stepOf}')]
+    missed = []
+    for crate, part, name, line in plants:
+        texts, read = folders[crate, part]
+        if cycles(read(texts)) or not cycles(read({**texts, name: line + '\n' + texts[name]})):
+            missed.append(f'layers: not seen: {line} in {name} of {crate}')
+    print('\n'.join(missed + [f'layers: {len(plants) - len(missed)} of {len(plants)} planted cycles seen']))
+    sys.exit(1 if missed else 0)
+
+
+def internal_names():
+    """How many names of line's modules the crates above it have, and those that are internal to line, with their places."""
     specs = public_specs()
     public = specs | public_proofs(specs) | stated()
     count, wrong = 0, []
@@ -98,8 +158,21 @@ def main():
                 count += 1
                 if name not in public:
                     wrong.append(f'{path.relative_to(ROOT)}:{number}: {name or "the whole"} is internal to line')
-    print('\n'.join(wrong + [f'layers: {count} names of line\'s modules in the crates above it, {len(wrong)} of them internal']))
-    sys.exit(1 if wrong or not count else 0)
+    return count, wrong
+
+
+def main():
+    if sys.argv[1:] == ['planted']:
+        planted()
+    if sys.argv[1:]:
+        sys.exit(__doc__)
+    count, wrong = internal_names()
+    modules, circular = 0, []
+    for crate, part, texts, read in crate_modules():
+        modules += len(texts)
+        circular += [f'crates/{crate}/{part}: {", ".join(sorted(cycle))} stand in a cycle' for cycle in cycles(read(texts))]
+    print('\n'.join(wrong + circular + [f'layers: {count} names of line\'s modules in the crates above it, {len(wrong)} of them internal; {modules} modules, {len(circular)} cycles']))
+    sys.exit(1 if wrong or circular or not count or not modules else 0)
 
 
 main()

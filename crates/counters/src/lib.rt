@@ -1,13 +1,13 @@
 // The field counters: a block of nine counters, lent by the caller, which a call that receives changes in place.
 // Assumes nothing: no function has a `requires`, and no block is refused.
-use requests::receive::Outcome;
+use requests::outcome::Outcome;
 use requests::receive::Received;
 use requests::receive::Stepped;
 ghost use mathlib.Core.Path.{_≡_};
 ghost use mathlib.Core.Bool.{not};
 ghost use Rattle.supervisor.specs.Calls.{parts};
 ghost use Rattle.requests.specs.Receive.{endedReport, validParts, stepOf, stepping, receiptOf, receiving};
-ghost use Rattle.requests.specs.declared.receive.Outcome.the-variants as report;
+ghost use Rattle.requests.specs.declared.outcome.Outcome.the-variants as report;
 ghost use Rattle.counters.specs.Count.{oneMore, zeros, bumpedFor};
 ghost use Rattle.counters.specs.Counting.{counting};
 

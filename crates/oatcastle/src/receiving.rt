@@ -1,7 +1,7 @@
 // The supervisor's calls that receive.
 // Assumes nothing: no exported function has a `requires`.
 use crate::answer_writing::write_answer;
-use requests::receive::Outcome;
+use requests::outcome::Outcome;
 use requests::receive::Received;
 ghost use mathlib.Core.Path.{_≡_};
 ghost use Rattle.supervisor.specs.Calls.{parts};

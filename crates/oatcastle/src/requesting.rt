@@ -1,7 +1,7 @@
 // The main processor's calls: start, request, interrupt, send, receive.
 // Assumes nothing: no exported function has a `requires`.
 use crate::answer_writing::write_answer;
-use requester::hearing::Handed;
+use requester::outcome::Handed;
 use requester::receive::Received;
 use requester::recovery::Interrupted;
 use requester::sending::Requested;

@@ -25,8 +25,8 @@ use Rattle.requester.specs.Layout
 use Rattle.requester.specs.Calls
 use Rattle.requester.specs.Calls.{receiveReport, reportOf, progressed, movedBy, movedTo}
 use Rattle.requester.specs.Hearing.{headMessage, nextOf, outcomeReport, outcomeReportOf}
-use Rattle.requester.specs.declared.hearing.Handed.the-variants as handed
-use Rattle.requester.specs.declared.hearing.Next.the-variants as next
+use Rattle.requester.specs.declared.outcome.Handed.the-variants as handed
+use Rattle.requester.specs.declared.outcome.Next.the-variants as next
 use Rattle.requester.proofs.ProgressLaws.{step-number}
 use Rattle.requester.proofs.ReaderLaws.{data-length}
 

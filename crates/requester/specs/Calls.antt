@@ -24,8 +24,8 @@ use Rattle.requester.specs.declared.sending.Sent.{Sent}
 use Rattle.requester.specs.declared.sending.Sent.the-variants as sent
 use Rattle.requester.specs.declared.recovery.Interrupted.{Interrupted}
 use Rattle.requester.specs.declared.recovery.Interrupted.the-variants as interrupted
-use Rattle.requester.specs.declared.hearing.Handed.{Handed}
-use Rattle.requester.specs.declared.hearing.Handed.the-variants as handed
+use Rattle.requester.specs.declared.outcome.Handed.{Handed}
+use Rattle.requester.specs.declared.outcome.Handed.the-variants as handed
 use Rattle.requester.specs.declared.receive.Received.{Received}
 use mathlib.Core.Path.{_≡_}
 use Prim.Native.Nat.{_≤_}

@@ -14,9 +14,9 @@ use Rattle.requester.specs.Requester
 use Rattle.requester.specs.Calls.{Report, receiveReport, reportOf}
 use Rattle.requester.specs.declared.hearing.Heard.{Heard}
 use Rattle.requester.specs.declared.hearing.Heard.the-variants as heard
-use Rattle.requester.specs.declared.hearing.Next.{Next}
-use Rattle.requester.specs.declared.hearing.Next.the-variants as next
-use Rattle.requester.specs.declared.hearing.Outcome.{Outcome}
+use Rattle.requester.specs.declared.outcome.Next.{Next}
+use Rattle.requester.specs.declared.outcome.Next.the-variants as next
+use Rattle.requester.specs.declared.outcome.Outcome.{Outcome}
 
 -- a message by its head and its data
 abbrev pub headMessage : Head → List ℕ → Message

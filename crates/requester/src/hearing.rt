@@ -4,6 +4,10 @@ use crate::layout;
 use crate::number::ReplyNumber;
 use crate::number::RequestNumber;
 use crate::number::reply_to;
+use crate::outcome::Handed;
+use crate::outcome::Next;
+use crate::outcome::Outcome;
+use crate::outcome::Status;
 use crate::progress;
 use line::reader::Answer;
 use line::reader::Head;
@@ -25,39 +29,6 @@ ghost use Rattle.requester.specs.Calls.{isOverlong, heardOf, outcomeOf};
 ghost use Rattle.requester.specs.Hearing.{headMessage, heardReport, nextOf, outcomeReport, outcomeReportOf, dataFit};
 
 const ALL_ONES: u64 = 0xffffffffffffffff;
-
-// A status read, and how many of its bits are set.
-pub struct Status {
-    pub status: u64,
-    pub options: u64,
-    pub set_bits: u32,
-}
-
-// What a call of `receive` hands out; `receiveReport` in specs/Calls.antt gives the papers' numbers. The data of an answer lie in the
-// reader's part: `line::reader::message_data` with its length.
-pub enum Handed {
-    Refused,
-    Nothing,
-    Answer(Head),
-    Status(Status),
-    Alert(Head),
-}
-
-// What comes next: a step of a recovery and the original go out under a new number.
-pub(crate) enum Next {
-    Same,
-    Again,
-    Fetch,
-    Acknowledge,
-    Alert,
-    Original,
-    Idle,
-}
-
-pub(crate) struct Outcome {
-    pub handed: Handed,
-    pub next: Next,
-}
 
 // What a good message is to the one outstanding.
 pub(crate) enum Heard {

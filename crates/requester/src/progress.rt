@@ -1,7 +1,7 @@
 // The first fields of the main processor's part: what is outstanding, and under which number.
 // Assumes that the part has its published length, as each `requires` states.
-use crate::hearing::Next;
 use crate::layout;
+use crate::outcome::Next;
 ghost use mathlib.Core.Path.{_≡_};
 ghost use mathlib.Core.Bool.{true};
 ghost use Prim.Native.Nat.{_≤_};

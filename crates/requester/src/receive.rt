@@ -1,8 +1,8 @@
 // Receiving: a piece of the received stream, up to one frame's end.
 // Assumes nothing: no public function here has a `requires`.
 use crate::hearing;
-use crate::hearing::Handed;
 use crate::layout;
+use crate::outcome::Handed;
 use crate::progress;
 use crate::valid;
 use line::reader::Unfinished;

@@ -1,8 +1,8 @@
 // Prints the answers of the main processor's end, each with one space in front; refusals go by the numbers of documents 01 and 02.
 // Assumes nothing: output that cannot be written is lost.
 use line::reader::Head;
-use requester::hearing::Handed;
-use requester::hearing::Status;
+use requester::outcome::Handed;
+use requester::outcome::Status;
 use requester::receive::Received;
 use requester::recovery::Interrupted;
 use requester::sending::Requested;

@@ -19,8 +19,8 @@ use Rattle.requests.specs.Requests
 use Rattle.requests.specs.Requests.{Verdict, failure, good}
 use Rattle.supervisor.specs.Calls.{Parts, resultNumber, lookupResult, lookupValue, editionNumber, editionResult}
 use Rattle.requests.specs.declared.head.ReplyHead.{ReplyHead}
-use Rattle.requests.specs.declared.receive.Outcome.{Outcome}
-use Rattle.requests.specs.declared.receive.Outcome.the-variants as outcome
+use Rattle.requests.specs.declared.outcome.Outcome.{Outcome}
+use Rattle.requests.specs.declared.outcome.Outcome.the-variants as outcome
 use Rattle.requests.specs.declared.receive.Stepped.{Stepped}
 use Rattle.requests.specs.declared.receive.Received.{Received}
 use Rattle.requests.specs.declared.receive.Received.the-variants as received

@@ -3,6 +3,7 @@
 mod alert;
 mod answers;
 mod head;
+pub mod outcome;
 pub mod receive;
 mod records;
 mod requests;

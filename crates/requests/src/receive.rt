@@ -1,6 +1,7 @@
 // Receiving: a piece of the received stream, frame by frame.
 // Assumes nothing: no public function here has a `requires`.
 use crate::head;
+use crate::outcome::Outcome;
 use crate::requests;
 use crate::sending::fail;
 use line::reader::Answer;
@@ -15,15 +16,6 @@ ghost use Rattle.supervisor.specs.Layout.{outbox-length};
 ghost use Rattle.supervisor.specs.Valid.{validFactory};
 ghost use Rattle.supervisor.specs.Calls.{parts};
 ghost use Rattle.requests.specs.Receive.{inner, validInner, innerAfter, verdictOf, ended, endedReport, validParts, stepOf, stepping, validStep, receiptOf, receiving};
-
-// What a call of `step` answers; `endedReport` in specs/Receive.antt gives document 01's numbers.
-pub enum Outcome {
-    Refused,
-    More,
-    Empty,
-    Request,
-    Failure(u8),
-}
 
 // How many bytes of the piece a call of `step` read, and how the frame ended.
 pub struct Stepped {

@@ -5,7 +5,7 @@ use crate::answers::send_block;
 use crate::answers::send_item;
 use crate::answers::send_value;
 use crate::head;
-use crate::receive::Outcome;
+use crate::outcome::Outcome;
 use crate::records::ask_for;
 use crate::records::boot_failure;
 use crate::records::panic;

@@ -1,7 +1,7 @@
 // Sending: a reply, or none, takes the place of what is unsent.
 // Assumes that the outbox has its published length and that the data fit a message, as each `requires` states.
 use crate::head::ReplyHead;
-use crate::receive::Outcome;
+use crate::outcome::Outcome;
 use line::writer::Written;
 use supervisor::layout;
 ghost use mathlib.Core.Path.{_≡_};

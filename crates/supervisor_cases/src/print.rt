@@ -1,6 +1,6 @@
 // Prints answers, each with one space in front; failures and refusals go by the numbers of document 01.
 // Assumes nothing: output that cannot be written is lost.
-use requests::receive::Outcome;
+use requests::outcome::Outcome;
 use requests::receive::Received;
 use saving::restore::Restored;
 use saving::save::Saved;

@@ -38,11 +38,11 @@ use denote.Triple.Walked.{says, Stays, stay-ref, stay-none, walkOf, AllGo, goes-
 use denote.Triple.Clauses.{ensured, lasts}
 use denote.Exit.{yes}
 use Rattle.requests.specs.Receive.{endedReport}
-use Rattle.requests.specs.declared.receive.Outcome.{Outcome}
+use Rattle.requests.specs.declared.outcome.Outcome.{Outcome}
 use Rattle.counters.specs.Count.{bumpedFor}
 use Rattle.counters.specs.declared.Counters.{Counters}
-use Rattle.requests.proofs.receive.Outcome as E
-use Rattle.requests.proofs.receive.Outcome.Laws as E′
+use Rattle.requests.proofs.outcome.Outcome as E
+use Rattle.requests.proofs.outcome.Outcome.Laws as E′
 use Rattle.counters.proofs.Counters as T
 use Rattle.counters.proofs.Counters.Laws as T′
 use Rattle.counters.proofs.bumped as g

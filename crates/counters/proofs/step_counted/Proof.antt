@@ -44,13 +44,13 @@ use Rattle.supervisor.specs.Calls.{parts}
 use Rattle.requests.specs.Receive.{endedReport, stepOf, stepping}
 use Rattle.counters.specs.Count.{bumpedFor}
 use Rattle.counters.specs.declared.Counters.{Counters}
-use Rattle.requests.specs.declared.receive.Outcome.{Outcome}
+use Rattle.requests.specs.declared.outcome.Outcome.{Outcome}
 use Rattle.requests.specs.declared.receive.Stepped.{Stepped}
 use Rattle.counters.proofs.Counters as T
 use Rattle.requests.proofs.receive.Stepped as R
 use Rattle.requests.proofs.receive.Stepped.Laws as R′
-use Rattle.requests.proofs.receive.Outcome as E
-use Rattle.requests.proofs.receive.Outcome.Laws as E′
+use Rattle.requests.proofs.outcome.Outcome as E
+use Rattle.requests.proofs.outcome.Outcome.Laws as E′
 use Rattle.requests.proofs.receive.step as g
 use Rattle.requests.proofs.receive.step.Symbol as g-def
 use Rattle.requests.proofs.receive.step.Symbol.{name as #requests·receive·step}
