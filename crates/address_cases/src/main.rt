@@ -81,11 +81,7 @@ fn print_row(row: [u8; 6]) {
     streams::word(b",");
     let mut i = 0;
     while i < ADDRESS_LENGTH {
-        streams::hex(wide(row[i]), 2);
+        streams::hex(octets::wide(row[i]) as u64, 2);
         i += 1;
     }
-}
-
-fn wide(b: u8) -> u64 {
-    b as u64
 }

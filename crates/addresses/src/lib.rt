@@ -61,7 +61,7 @@ fn last_passes(base: [u8; 6], count: u16, stride: u8) -> bool
         return false;
     }
     let steps = count - 1;
-    let last = number_of(base) + steps as u64 * wide(stride);
+    let last = number_of(base) + steps as u64 * octets::wide(stride) as u64;
     HIGHEST_ADDRESS < last
 }
 
@@ -72,7 +72,7 @@ fn number_of(address: [u8; 6]) -> u64
     let mut number = 0;
     let mut i = 0;
     while i < ADDRESS_LENGTH {
-        number = wide(address[i]) + number * 256;
+        number = octets::wide(address[i]) as u64 + number * 256;
         i += 1;
     }
     number
@@ -83,22 +83,15 @@ fn next_row(row: [u8; 6], stride: u8) -> [u8; 6]
     ensures { λ r. ⌜ r ≡ nextRow row stride ⌝ }
 {
     let mut next = row;
-    let mut carry = wide(stride);
+    let mut carry = octets::wide(stride) as u64;
     let mut left = ADDRESS_LENGTH;
     while 0 < left {
         left -= 1;
-        let sum = wide(next[left]) + carry;
+        let sum = octets::wide(next[left]) as u64 + carry;
         next[left] = (sum % 256) as u8;
         carry = sum / 256;
     }
     next
-}
-
-// A byte as a number.
-fn wide(b: u8) -> u64
-    ensures { λ r. ⌜ (r ≡ b) × (r < 256) ⌝ }
-{
-    b as u64
 }
 
 fn min(a: u16, b: u16) -> u16

@@ -86,12 +86,6 @@ pub(crate) enum Measured {
     Length(usize),
 }
 
-fn wide(b: u8) -> usize
-    ensures { λ r. ⌜ (r ≡ b) × (r < 256) ⌝ }
-{
-    b as usize
-}
-
 // How many zeros a group holds.
 fn held(zero: bool) -> usize
     ensures { λ r. ⌜ (r ≡ one-if zero) × (r ≤ 1) ⌝ }
@@ -142,7 +136,7 @@ pub(crate) fn decoded_length(s: &[u8], n: usize) -> Measured
             i += 1;
             zero = true;
         } else {
-            let c = wide(s[i]);
+            let c = octets::wide(s[i]);
             if c == 0 {
                 return Measured::Bad;
             }
@@ -178,7 +172,7 @@ pub(crate) fn decode(s: &mut [u8], n: usize)
             o += 1;
             i += 1;
         } else {
-            let c = wide(s[i]);
+            let c = octets::wide(s[i]);
             i += 1;
             put_held(s, o, zero);
             o += held(zero);

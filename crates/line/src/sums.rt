@@ -26,7 +26,8 @@ fn byte(b: u8) -> u16
     b as u16
 }
 
-fn wide(x: u16) -> u32
+// A column's sum, to be added to others.
+fn column_sum(x: u16) -> u32
     ensures { λ r. ⌜ (r ≡ x) × (r < 65536) ⌝ }
 {
     x as u32
@@ -68,7 +69,7 @@ fn row_sums(row: &[u16; COLUMNS]) -> Sums
     let mut weighted: u32 = 0;
     let mut i = 0;
     while i < COLUMNS {
-        sum += wide(row[i]);
+        sum += column_sum(row[i]);
         weighted += sum;
         i += 1;
     }
@@ -113,7 +114,7 @@ fn rest(body: &[u8], at: usize, sums: Sums) -> u16
     let mut second = sums.second;
     let mut i = at;
     while i < body.len() {
-        let b = wide(byte(body[i]));
+        let b = octets::wide(body[i]) as u32;
         first += b;
         second += first;
         i += 1;

@@ -54,6 +54,13 @@ pub fn read_u64(s: &[u8], at: usize) -> u64
     low as u64 + high as u64 * 4294967296
 }
 
+// A byte as a number.
+pub fn wide(b: u8) -> usize
+    ensures { λ r. ⌜ (r ≡ b) × (r < 256) ⌝ }
+{
+    b as usize
+}
+
 // The numbers of one byte and of two bytes at an offset, as an index.
 pub fn byte_at(s: &[u8], at: usize) -> usize
     ensures { λ r. ⌜ (r ≡ numberAt 1 (now (s .entry)) at) × (r < 256) ⌝ }

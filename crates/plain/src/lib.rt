@@ -11,6 +11,8 @@ ghost use Rattle.line.specs.Judge.{judgeForm, judge};
 ghost use Rattle.plain.specs.Answers.{pieceAt, verdictOf, decoding, decodedInto};
 ghost use Rattle.plain.specs.Inner.{decodedReport};
 
+// Document 01's numbers stand here by themselves: the second reader takes nothing of the line layer's code, these neither.
+
 // A COBS form has at most so many bytes, and decodes to no more.
 pub const LONGEST_FORM: usize = 4140;
 
@@ -79,12 +81,6 @@ enum Decoded {
     Length(usize),
 }
 
-fn wide(b: u8) -> usize
-    ensures { λ r. ⌜ (r ≡ b) × (r < 256) ⌝ }
-{
-    b as usize
-}
-
 // Decodes a COBS form to the start of out, which has room for as many bytes as the form.
 fn decode(form: &[u8], out: &mut [u8]) -> Decoded
     requires { ⌜ length (now form) ≤ length (now out) ⌝ }
@@ -110,7 +106,7 @@ fn decode(form: &[u8], out: &mut [u8]) -> Decoded
                 return Decoded::Bad;
             }
             n = put_zero(out, n, zero);
-            left = wide(b) - 1;
+            left = octets::wide(b) - 1;
             zero = b < 255;
         }
     }
@@ -180,7 +176,7 @@ fn checksum(body: &[u8]) -> u16
     let mut second: u32 = 0;
     let mut i = 0;
     while i < body.len() {
-        first = (first + wide(body[i]) as u32) % 255;
+        first = (first + octets::wide(body[i]) as u32) % 255;
         second = (second + first) % 255;
         i += 1;
     }

@@ -74,16 +74,12 @@ pub fn digest(s: &[u8]) {
     number(digest_on(0, s) as u64);
 }
 
-fn wide(b: u8) -> u64 {
-    b as u64
-}
-
 // The bytes in hex.
 fn digits(s: &[u8]) {
     word(b" ");
     let mut i = 0;
     while i < s.len() {
-        io::print_hex(OUTPUT, wide(s[i]), 2);
+        io::print_hex(OUTPUT, octets::wide(s[i]) as u64, 2);
         i += 1;
     }
 }

@@ -1,6 +1,6 @@
 -- `line::sums::rest` meets its contract. The loop keeps what the remainders of the sums come to over the bytes that are left.
 -- Assumes nothing.
-use mathlib.Core.Path.{_≡_, _∙_}
+use mathlib.Core.Path.{_≡_}
 use Prim.Native.Nat.{_+_, _-_, _*_, _%_, _≤_}
 use native.Mathlib.Omega.{arith}
 use borrow.Author.Needs.{needs}
@@ -24,17 +24,17 @@ loop-holds c = (search needs, search needs, omega arith, omega arith, sums-start
 
 loop-again : tie.Need-loop-again Inv-loop μ-loop
 loop-again c =
-    let l = c .before .before .before .before .loop in (
+    let l = c .before .before .before .loop in (
       search needs,
       search needs,
       omega arith,
       omega arith,
-      sums-next _ (l .i) _ _ _ (c .before .before .before .loop-test .taken) (c .wide .ensures .0 ∙ c .before .byte .ensures .0) (l .inv .4),
+      sums-next _ (l .i) _ _ _ (c .before .before .loop-test .taken) (c .wide .ensures .0) (l .inv .4),
     )
 
 pub rest-spec : {M : Type 1} → statement M
 rest-spec =
     tie.close
-    (tie.spec Inv-loop μ-loop loop-holds (λ c. search needs) (λ c κs. search needs) (λ c κs. search needs) (λ c. search needs) (λ c. search needs)
+    (tie.spec Inv-loop μ-loop loop-holds (λ c. search needs) (λ c κs. search needs) (λ c. search needs) (λ c. search needs) (λ c. search needs)
     (λ c. search needs) (λ c. search needs) loop-again (λ c. search needs) (λ c. search needs) (λ c. search needs)
     (λ c. sums-end _ _ _ _ (c .loop-test .left) (c .before .loop .inv .4)))
