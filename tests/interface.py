@@ -344,7 +344,7 @@ def bits_and_codes(known):
              'INVENTORY_BAD_INDEX': the_one('an index out of range', map(int, re.findall(r'^inventoried none = (\d) ', meant, re.M)))}
     for name, place in (('RESTARTED', r'^startAcknowledged .*clearBit \(s \.status\) (\d)'), ('ALERTS', r'^statusAfter .*clearBit status (\d)')):
         found[f'STATUS_{name}'] = 1 << the_one(name, map(int, re.findall(place, meant, re.M)))
-    if known['ALL_OPTIONS'] != (1 << len(OPTIONS)) - 1:
+    if known['HIGHEST_OPTION'] + 1 != len(OPTIONS):
         sys.exit('interface.py: OPTIONS does not name every option bit')
     found.update({f'OPTION_{name}': 1 << i for i, name in enumerate(OPTIONS)})
     found['BSU_A'], found['BSU_B'] = (int(n, 16) for n in re.search(r'^bsuAllowed n = eqb n (0x\w+) \|\| eqb n (0x\w+)$', allowed, re.M).groups())
@@ -384,10 +384,10 @@ def number_faults(texts):
 def wrapper_wanted():
     """The wrapper's numbers by what the crates have: those of the header, and those that the header has no name for."""
     known = constants('crates/supervisor/src/layout.rt')
-    names = ('ALL_OPTIONS', 'FIRST_SETTING', 'LONGEST_ITEM_DATA', 'LONGEST_IMAGE_ID', 'PONG_OFFSET', 'SETTING_EDITION_OFFSET', 'SETTING_LENGTH_OFFSET', 'SETTING_VALUE_OFFSET',
+    names = ('FIRST_SETTING', 'LONGEST_ITEM_DATA', 'LONGEST_IMAGE_ID', 'PONG_OFFSET', 'SETTING_EDITION_OFFSET', 'SETTING_LENGTH_OFFSET', 'SETTING_VALUE_OFFSET',
              'BOOT_FAILURE_OFFSET', 'PANIC_OFFSET', 'RECORD_CODE_OFFSET', 'RECORD_WHOLE_OFFSET', 'RECORD_KEPT_OFFSET')
     results = re.findall(r'Found::(\w+) => write_both\(value, room, \[(\d+),', read('crates/oatcastle/src/readings.rt'))
-    return {**wanted_numbers(), **{name: known[name] for name in names},
+    return {**wanted_numbers(), **{name: known[name] for name in names}, 'ALL_OPTIONS': (1 << known['HIGHEST_OPTION'] + 1) - 1,
             'MESSAGE_DATA_OFFSET': constants('crates/line/src/limits.rt', 'crates/line/src/reader.rt')['DATA_OFFSET'],
             **{f'NOT_FOUND_{upper(name)}': int(number) for name, number in results},
             **{f'LONGEST_SETTINGS[{i}]': longest for i, longest in enumerate(settings(known))}}

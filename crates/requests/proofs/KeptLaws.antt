@@ -163,7 +163,7 @@ module _ (r : List ℕ) (v : validRegisters r ≡ true) where
         flags-and-records = same-within after (omega arith);
         retained = same-within after (omega arith);
       })
-      w (omega arith) (waiting .alerts)
+      w (omega arith) (rw options (w .options)) (waiting .alerts)
 
 pub asked-valid : (r : List ℕ) → validRegisters r ≡ true → (at : ℕ) → (Layout.reboot-offset ≤ at) × (at ≤ Layout.power-off-offset)
     → validRegisters (Receive.askedFor r at) ≡ true
@@ -297,7 +297,7 @@ fewer-valid r n v h =
     let after : Same Layout.retained-offset Layout.registers-length r s = same-then (moved-after r (w .long) (omega arith)) (same-within late (omega arith)) in
     let numbers = numbers-kept before w (omega arith) in
     let count = stored-number 1 at n t room (omega arith) in
-    kept-valid (record { long = stored-long 1 at n t room ∙ long; flags-and-records = same-within before (omega arith); retained = after }) w (omega arith)
+    kept-valid (record { long = stored-long 1 at n t room ∙ long; flags-and-records = same-within before (omega arith); retained = after }) w (omega arith) (numbers .1)
     (rw count
     (each-all (validAlert s) n (λ i k.
     let a = alert-valid r (i + 1) (all-each (validAlert r) _ (w .rest .alerts) (i + 1) (omega arith)) in

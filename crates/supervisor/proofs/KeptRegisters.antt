@@ -9,6 +9,7 @@ use lib.ListN.{length}
 use Rattle.octets.specs.Bytes.{numberAt}
 use Rattle.octets.proofs.SameBytes.{Same, number-same}
 use Rattle.supervisor.specs.Limits
+use Rattle.supervisor.specs.Local.{optionsAllowed}
 use Rattle.supervisor.specs.Layout
 use Rattle.supervisor.specs.Valid.{validAlert, validAlerts, validRegisters}
 use Rattle.supervisor.proofs.ValidLaws.{all-each, each-all, alert-valid, valid-alert, RecordValid, RegistersValid, valid-registers}
@@ -16,7 +17,7 @@ use Rattle.supervisor.proofs.ValidLaws.{all-each, each-all, alert-valid
 -- ---- the groups, in their order
 
 abbrev pub NumbersValid : List ℕ → Type 0
-NumbersValid r = (Layout.statusOf r ≤ 3) × (Layout.optionsOf r ≤ Limits.all-options)
+NumbersValid r = (Layout.statusOf r ≤ 3) × (optionsAllowed (Layout.optionsOf r) ≡ true)
 
 abbrev pub FlagsValid : List ℕ → Type 0
 FlagsValid r = (numberAt 1 r Layout.reboot-offset ≤ 1) × (numberAt 1 r Layout.power-off-offset ≤ 1)
@@ -78,7 +79,7 @@ module _ {from to : ℕ} {r s : List ℕ} (same : Same from to r s) where
     numbers-kept h =
         let status = number-same same 8 Layout.status-offset (omega arith) in
         let options = number-same same 8 Layout.options-offset (omega arith) in
-        omega arith
+        (omega arith, rw options (v .options))
 
     pub flags-kept : (from ≤ Layout.reboot-offset) × (Layout.boot-failure-offset ≤ to) → FlagsValid s
     flags-kept h =
@@ -113,9 +114,9 @@ pub record Kept (r s : List ℕ) : Type 0 where
   pub retained : Same Layout.retained-offset Layout.registers-length r s
 
 pub kept-valid : {r s : List ℕ} → Kept r s → RegistersValid r
-    → (Layout.statusOf s ≤ 3) × (Layout.optionsOf s ≤ Limits.all-options) × (Layout.alertCount s ≤ Limits.most-alerts)
+    → (Layout.statusOf s ≤ 3) × (Layout.alertCount s ≤ Limits.most-alerts) → optionsAllowed (Layout.optionsOf s) ≡ true
     → validAlerts s (Layout.alertCount s) ≡ true → validRegisters s ≡ true
-kept-valid k v small alerts =
+kept-valid k v small options alerts =
     let middle = k .flags-and-records in
-    groups-valid (omega arith) (small .0, small .1) (flags-kept middle v (omega arith)) (failure-kept middle v (omega arith)) (panic-kept middle v (omega arith))
-    (record { count = small .2; alerts = alerts }) (retained-kept (k .retained) v (omega arith))
+    groups-valid (omega arith) (small .0, options) (flags-kept middle v (omega arith)) (failure-kept middle v (omega arith)) (panic-kept middle v (omega arith))
+    (record { count = small .1; alerts = alerts }) (retained-kept (k .retained) v (omega arith))

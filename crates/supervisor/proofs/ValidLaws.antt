@@ -14,7 +14,7 @@ use borrow.Author.Tests.{leb-true, le-leb, eqb-true, eq-eqb, not-true, not-false
 use Rattle.octets.specs.Bytes.{numberAt, run}
 use Rattle.octets.proofs.Equal.{equal-true, equal-refl}
 use Rattle.supervisor.specs.Limits
-use Rattle.supervisor.specs.Local.{pong}
+use Rattle.supervisor.specs.Local.{optionsAllowed, pong}
 use Rattle.supervisor.specs.Layout
 use Rattle.supervisor.specs.Valid
 use Rattle.supervisor.specs.Valid.{SettingValid, SettingsValid}
@@ -285,7 +285,7 @@ valid-records-and-alerts r v =
 pub record RegistersValid (r : List ℕ) : Type 0 where
   pub long : Layout.registers-length ≤ length r
   pub status : Layout.statusOf r ≤ 3
-  pub options : Layout.optionsOf r ≤ Limits.all-options
+  pub options : optionsAllowed (Layout.optionsOf r) ≡ true
   pub reboot : numberAt 1 r Layout.reboot-offset ≤ 1
   pub power-off : numberAt 1 r Layout.power-off-offset ≤ 1
   pub rest : RecordsAndAlertsValid r
@@ -295,7 +295,7 @@ unfolding Valid.validRegisters
 registers-valid r e =
     let a = le-and _ _ _ e in
     let b = le-and _ _ _ (a .1) in
-    let c = le-and _ _ _ (b .1) in
+    let c = both (optionsAllowed (Layout.optionsOf r)) _ (b .1) in
     let d = le-and _ _ _ (c .1) in
     let f = le-and _ _ _ (d .1) in
     record { long = a .0; status = b .0; options = c .0; reboot = d .0; power-off = f .0; rest = records-and-alerts-valid r (f .1) }
@@ -305,5 +305,5 @@ unfolding Valid.validRegisters
 valid-registers r v =
     and-le _ _ _ (v .long)
     (and-le _ _ _ (v .status)
-    (and-le _ _ _ (v .options)
+    (and _ _ (v .options)
     (and-le _ _ _ (v .reboot) (and-le _ _ _ (v .power-off) (valid-records-and-alerts r (v .rest))))))

@@ -1,7 +1,7 @@
 -- The supervisor's limits, each in one place (document 01, "Requests and what they do", as document 02 has moved them).
 -- Assumes nothing: these are definitions.
 use mathlib.Core.List.{List, [], _∷_}
-use Prim.Native.Nat.{ℕ, _+_, _-_, _^_, _≤_}
+use Prim.Native.Nat.{ℕ, _+_, _-_, _≤_}
 use lib.ListN.{getD}
 use Rattle.line.specs.Limits.{longest-data, longest-form}
 
@@ -74,12 +74,9 @@ longest-boot-failure = longest-data - 1
 abbrev pub longest-panic : ℕ
 longest-panic = longest-data - 2
 
--- the highest option bit, and all options up to it
+-- the highest option bit
 abbrev pub highest-option : ℕ
 highest-option = 8
-
-abbrev pub all-options : ℕ
-all-options = 2 ^ (highest-option + 1) - 1
 
 -- bytes of an image block
 abbrev pub longest-block : ℕ

@@ -7,7 +7,7 @@ use lib.Dec.{leb, eqb}
 use lib.ListN.{length}
 use Rattle.octets.specs.Bytes.{numberAt, run, equal}
 use Rattle.supervisor.specs.Limits
-use Rattle.supervisor.specs.Local.{pong}
+use Rattle.supervisor.specs.Local.{optionsAllowed, pong}
 use Rattle.supervisor.specs.Layout
 use mathlib.Core.Path.{_≡_}
 use mathlib.Core.Logic.{_⊎_}
@@ -105,12 +105,12 @@ validRecordsAndAlerts r =
     && (leb (Layout.retainedVersion r) 2
     && validText r Layout.retained-alert-offset)))))
 
--- status has no bit but 0 and 1, and options none above 8
+-- status has no bit but 0 and 1
 unfoldable pub validRegisters : List ℕ → Bool
 validRegisters r =
     leb Layout.registers-length (length r)
     && (leb (Layout.statusOf r) 3
-    && (leb (Layout.optionsOf r) Limits.all-options
+    && (optionsAllowed (Layout.optionsOf r)
     && (leb (numberAt 1 r Layout.reboot-offset) 1
     && (leb (numberAt 1 r Layout.power-off-offset) 1
     && validRecordsAndAlerts r))))

@@ -49,8 +49,10 @@ pub const LONGEST_BOOT_FAILURE: usize = 4103;
 
 pub const LONGEST_PANIC: usize = 4102;
 
-// Bits 0 to 8.
-pub const ALL_OPTIONS: u64 = 511;
+// The highest option bit, and how many zeros lead where no higher one is set.
+pub const HIGHEST_OPTION: u32 = 8;
+
+pub const OPTION_ZEROS: u32 = 63 - HIGHEST_OPTION;
 
 // The outbox.
 pub const MOST_PENDING: usize = 4142;

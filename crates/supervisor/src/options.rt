@@ -3,7 +3,6 @@
 use crate::layout;
 use crate::valid;
 ghost use mathlib.Core.Path.{_≡_};
-ghost use Rattle.supervisor.specs.Local.{optionsAllowed};
 ghost use Rattle.supervisor.specs.Calls.{registered, optionsReport, settingOptions};
 
 pub enum OptionsSet {
@@ -19,16 +18,9 @@ pub fn set_options(registers: &mut [u8], options: u64) -> OptionsSet
     if !valid::registers_are_valid(registers) {
         return OptionsSet::Refused;
     }
-    if !are_allowed(options) {
+    if !valid::options_are_allowed(options) {
         return OptionsSet::BadOption;
     }
     octets::write_u64(registers, layout::OPTIONS_OFFSET, options);
     OptionsSet::Done
-}
-
-// Bit 8 is the highest where at least 55 zeros lead.
-fn are_allowed(options: u64) -> bool
-    ensures { λ r. ⌜ r ≡ optionsAllowed options ⌝ }
-{
-    u64::leading_zeros(options) >= 55
 }

@@ -3,6 +3,7 @@
 use crate::layout;
 ghost use mathlib.Core.Path.{_≡_};
 ghost use Prim.Native.Nat.{_<_};
+ghost use Rattle.supervisor.specs.Local.{optionsAllowed};
 ghost use Rattle.supervisor.specs.Valid.{goodItem, goodItems, goodStart, validOutbox, validFactory, validSetting, validValues, validSettings, validRecord, validText, validAlert, validAlerts, validRecordsAndAlerts, validRegisters};
 ghost use Rattle.supervisor.specs.Limits.{setting-count};
 
@@ -176,6 +177,13 @@ fn alerts_are_valid(registers: &[u8], n: usize) -> bool
     true
 }
 
+// Whether the highest option bit set is at most 8: at least 55 zeros lead.
+pub(crate) fn options_are_allowed(options: u64) -> bool
+    ensures { λ r. ⌜ r ≡ optionsAllowed options ⌝ }
+{
+    u64::leading_zeros(options) >= layout::OPTION_ZEROS
+}
+
 pub fn registers_are_valid(registers: &[u8]) -> bool
     ensures { λ r. ⌜ r ≡ validRegisters (now (registers .entry)) ⌝ }
 {
@@ -185,7 +193,7 @@ pub fn registers_are_valid(registers: &[u8]) -> bool
     if 3 < octets::read_u64(registers, layout::STATUS_OFFSET) {
         return false;
     }
-    if layout::ALL_OPTIONS < octets::read_u64(registers, layout::OPTIONS_OFFSET) {
+    if !options_are_allowed(octets::read_u64(registers, layout::OPTIONS_OFFSET)) {
         return false;
     }
     if 1 < octets::byte_at(registers, layout::REBOOT_OFFSET) {

@@ -5,12 +5,9 @@ use mathlib.Core.Bool.{Bool, true, false, cond}
 use mathlib.Core.List.{List, []}
 use mathlib.Core.Option.{none, some}
 use Prim.Native.Nat.{ℕ, _+_, _^_, _≤_, _<_}
-use native.Mathlib.Nat.{pow-le-pow-right}
 use native.Mathlib.Omega.{arith}
-use lib.Count.{leadingZeros, leading-length}
 use lib.Dec.{ltb, eqb}
 use lib.ListN.{length}
-use borrow.Author.Tests.{leb-true}
 use Rattle.octets.specs.Bytes.{bytes, overlay}
 use Rattle.octets.proofs.Conditions.{cond-both}
 use Rattle.octets.proofs.Overlay.{length-run}
@@ -22,7 +19,6 @@ use Rattle.supervisor.specs.Local
 use Rattle.supervisor.specs.Calls
 use Rattle.supervisor.specs.declared.registers.Kind.{Kind}
 use Rattle.supervisor.specs.declared.registers.Kind.the-variants as kind
-use Rattle.supervisor.proofs.HighestBit.{zeros-highest}
 use Rattle.supervisor.proofs.ValidLaws.{registers-valid}
 use Rattle.supervisor.proofs.KeptRegisters.{alerts-valid, Kept, kept-valid}
 use Rattle.supervisor_claims.specs.ByPart.{Part}
@@ -32,14 +28,6 @@ use Rattle.supervisor_claims.proofs.Meant.{valid-with, Does, Reads, Rec
 use Rattle.supervisor_claims.proofs.laws.ViewLaws.{length-listed}
 use Rattle.supervisor_claims.proofs.laws.RegisterLaws.{alerts-same, kept-view}
 use Rattle.supervisor_claims.proofs.laws.PostLaws.{Posting, allowed, posted-kept, posted-status, posted-options, posted-count, posted-alerts, posted-valid}
-
--- options of which the highest bit set is at most 8
-options-small : (options : ℕ) → options < 2 ^ 64 → Local.optionsAllowed options ≡ true → options ≤ 511
-unfolding Local.optionsAllowed
-options-small options h e =
-    let z = leading-length 64 options h in
-    let l = leb-true 55 (leadingZeros 64 options) (zeros-highest 64 options 55 8 h refl ∙ e) in
-    omega (arith, pow-le-pow-right {n = 2} (omega arith) {i = z .0} {j = 9} (omega arith))
 
 module _ (p : Calls.Parts) (v : Valid p) where
   -- ---- post an alert
@@ -70,10 +58,10 @@ module _ (p : Calls.Parts) (v : Valid p) where
 
   -- ---- set options
 
-  set : (options : ℕ) → options ≤ 511 → let s = overlay Layout.options-offset (bytes 8 options) (p .registers) in
+  set : (options : ℕ) → options < 2 ^ 64 → Local.optionsAllowed options ≡ true → let s = overlay Layout.options-offset (bytes 8 options) (p .registers) in
       Does p (Calls.registered none s) (Local.left (withOptions (view p) options))
   unfolding view
-  set options small =
+  set options small allowed-then =
       let r = p .registers in
       let w = registers-valid r (v .registers) in
       let s = overlay Layout.options-offset (bytes 8 options) r in
@@ -91,7 +79,7 @@ module _ (p : Calls.Parts) (v : Valid p) where
       let n = Layout.alertCount r in (
         refl,
         kept-view p kept w ∙ rw (status, new, count, alerts-same after n (omega arith) (w .rest .alerts)),
-        valid-with p Part.registers _ v (kept-valid kept w (omega arith) (rw count (alerts-valid after n (omega arith) (w .rest .alerts)))),
+        valid-with p Part.registers _ v (kept-valid kept w (omega arith) (rw new allowed-then) (rw count (alerts-valid after n (omega arith) (w .rest .alerts)))),
       )
 
   pub options-meant : (options : ℕ) → options < 2 ^ 64
@@ -99,7 +87,7 @@ module _ (p : Calls.Parts) (v : Valid p) where
   unfolding Calls.settingOptions Local.setOptions
   options-meant options h =
       rw (v .registers)
-      (cond-both (Does p) (Local.optionsAllowed options) (λ e. set options (options-small options h e)) (λ e. refl))
+      (cond-both (Does p) (Local.optionsAllowed options) (λ e. set options h e) (λ e. refl))
 
   -- ---- read
 

@@ -64,12 +64,16 @@ module _ (s : List ℕ) (z : Clear 0 Layout.settings-length s) where
           let size = z 2 (at + Layout.setting-length-offset) (omega arith) (omega arith) in
           record { held = omega arith; size = omega arith; short = inr (size, held) }
 
+none-allowed : Local.optionsAllowed 0 ≡ true
+unfolding Local.optionsAllowed Local.highest
+none-allowed = refl
+
 module _ (r : List ℕ) (status : Layout.statusOf r ≡ 1) (z : Clear 8 Layout.registers-length r) where
   registers-clear : Layout.registers-length ≤ length r → RegistersValid r
   registers-clear h = record {
     long = h;
     status = omega arith;
-    options = omega (arith, z 8 Layout.options-offset (omega arith) (omega arith));
+    options = rw (z 8 Layout.options-offset (omega arith) (omega arith)) none-allowed;
     reboot = omega (arith, z 1 Layout.reboot-offset (omega arith) (omega arith));
     power-off = omega (arith, z 1 Layout.power-off-offset (omega arith) (omega arith));
     rest = record {

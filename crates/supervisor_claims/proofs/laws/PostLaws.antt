@@ -159,5 +159,5 @@ module _ {r : List ℕ} {action : ℕ} {text : List ℕ} (c : Posting r action t
       let action-left = number-same slots 1 (at + Layout.alert-action-offset) (omega arith) in
       let new = valid-alert (Calls.withAlert r action text) n (omega arith) in
       let small = set-small (Layout.statusOf r) (c .valid .status) in
-      kept-valid posted-kept (c .valid) (omega (arith, posted-status, posted-options, posted-count))
+      kept-valid posted-kept (c .valid) (omega (arith, posted-status, posted-count)) (rw posted-options (c .valid .options))
       (rw posted-count (all-more (validAlert _) n (alerts-valid older n (omega arith) (c .valid .rest .alerts)) new))

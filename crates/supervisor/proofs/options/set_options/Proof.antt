@@ -14,14 +14,14 @@ returns c = options-refused _ _ (sym (c .before .registers-are-valid .ensures) �
 returns-2 : tie.Need-returns-2
 returns-2 c =
     options-bad _ _ (passed _ _ (c .before .before .before .registers-are-valid .ensures) (c .before .before .if1 .left))
-    (sym (c .before .are-allowed .ensures) ∙ not-true _ (c .if2 .taken))
+    (sym (c .before .options-are-allowed .ensures) ∙ not-true _ (c .if2 .taken))
 
 returns-3 : tie.Need-returns-3
 returns-3 c =
     let allowed = c .before .before .before .before in
     let start = allowed .before .before in
     options-done _ _ (passed _ _ (start .before .registers-are-valid .ensures) (start .if1 .left))
-    (passed _ _ (allowed .before .are-allowed .ensures) (allowed .if2 .left)) (c .before .before .write-u64 .ensures)
+    (passed _ _ (allowed .before .options-are-allowed .ensures) (allowed .if2 .left)) (c .before .before .write-u64 .ensures)
 
 pub set-options-spec : {M : Type 1} → statement M
 set-options-spec =
