@@ -31,6 +31,9 @@ NUMBERS = {'u8': 'u8', 'u16': 'u16', 'u32': 'u32', 'u64': 'u64', 'usize': 'u64',
 LENGTH = 'oatcastle_length'
 # The records that functions take: the crates' name, its file, and the header's name.
 RECORDS = {'Probe': ('crates/probes/src/lib.rt', 'oatcastle_probe'), 'Counters': ('crates/counters/src/lib.rt', 'oatcastle_counters')}
+# The numbers of messages, and the limits that others are made of.
+MESSAGES = 'crates/line/src/numbers.rt'
+LINE_LIMITS = 'crates/line/src/limits.rt'
 # What a pointer leads to.
 ELEMENTS = {**NUMBERS, 'usize': 'size', LENGTH: 'size', **{name: name for name in RECORDS}, **{c: name for name, (_, c) in RECORDS.items()}}
 
@@ -141,6 +144,16 @@ def constants(*paths):
     return known
 
 
+def definitions(path):
+    """The numbers that a file of definitions names, by the code's spelling of their names; one that is made of others is left out."""
+    return {name.upper().replace('-', '_'): eval(value.replace('^', '**')) for name, value in re.findall(r'^([\w-]+) = (\w+(?: \^ \d+)?)$', read(path), re.M) if value[0].isdigit()}
+
+
+def worth(word, known):
+    """A number, or a constant by its name behind any path; None for a variable."""
+    return int(word) if word.isdigit() else known.get(word.split('::')[-1])
+
+
 def the_one(what, values):
     found = set(values)
     if len(found) != 1:
@@ -150,13 +163,13 @@ def the_one(what, values):
 
 def arms(text):
     """For each variant of an enum that a `match` of the text answers with numbers: the number returned, or kind and reason of an answer."""
-    found = {}
-    for variant, number in re.findall(r'\b(\w+::\w+)(?:\(\w+\))? => (\d+),', text):
-        found.setdefault(variant, []).append(int(number))
+    found, known = {}, constants(MESSAGES, 'crates/oatcastle/src/refusals.rt', 'crates/oatcastle/src/kinds.rt')
+    for variant, number in re.findall(r'\b(\w+::\w+)(?:\(\w+\))? => (\d+|refusals::\w+),', text):
+        found.setdefault(variant, []).append(worth(number, known))
     # the numbers stand in the call, or in a `let` ahead of it
-    numbers = r'(?:let \w+ = \w+\.\w+ as u64;\s*)*(?:let numbers = |write_answer\(\s*answer,\s*)\[\s*used,\s*(\d+),\s*(\w+)'
+    numbers = r'(?:let \w+ = \w+\.\w+ as u64;\s*)*(?:let numbers = |write_answer\(\s*answer,\s*)\[\s*used,\s*([A-Z]\w+),\s*(\w+)'
     for variant, kind, reason in re.findall(r'\b(\w+::\w+)(?:\(\w+\))? => \{?\s*' + numbers, text):
-        found.setdefault(variant, []).append((int(kind), reason))
+        found.setdefault(variant, []).append((worth(kind, known), worth(reason, known)))
     return found
 
 
@@ -199,11 +212,12 @@ def kinds():
 
 
 def reasons():
-    answered = arms(library(link=False))
+    """The reasons that the line layer's answers and the supervisor's tests have, each under the name that the numbers of messages give it."""
+    answered, known = arms(library(link=False)), constants(MESSAGES)
     tested = read('crates/requests/specs/Requests.antt')
-    found = {name: the_one(name, (int(reason) for _, reason in answered[f'Answer::Bad{name.title()}'])) for name in ('FORM', 'CHECKSUM', 'LENGTH', 'MAGIC')}
-    for name, test in (('VERSION', r'not \(served \(m \.version\)\)\)'), ('SEQUENCE', r'leb \(2 \^ 63\) \(m \.sequence\)\)'), ('DATA', r'lengthAllowed [^\n]*\)\)')):
-        found[name] = the_one(name, map(int, re.findall(test + r' \(failure (\d+) ', tested)))
+    found = {name: the_one(name, (reason for _, reason in answered[f'Answer::Bad{name.title()}'])) for name in ('FORM', 'CHECKSUM', 'LENGTH', 'MAGIC')}
+    for name, test in (('VERSION', r'not \(served \(m \.version\)\)\)'), ('SEQUENCE', r'leb top-bit \(m \.sequence\)\)'), ('DATA', r'lengthAllowed [^\n]*\)\)')):
+        found[name] = known[the_one(name, re.findall(test + r' \(failure ([\w-]+) ', tested)).upper().replace('-', '_')]
     return {f'REASON_{name}': number for name, number in found.items()}
 
 
@@ -218,10 +232,11 @@ def image_faults():
     """The faults of an image of the settings."""
     text = read('crates/saving/src/restore.rt')
     found = {}
-    for test, number in re.findall(r'if ([^{]*?) \{\s*return Next::Bad\((\d+),', body(text, 'pass') + '\n' + body(text, 'pass_record')):
+    known = constants('crates/saving/src/restore.rt')
+    for test, name in re.findall(r'if ([^{]*?) \{\s*return Next::Bad\((\w+),', body(text, 'pass') + '\n' + body(text, 'pass_record')):
         if test not in FAULTS:
-            sys.exit(f'interface.py: restoring finds fault {number} where {test}; FAULTS has no name for it')
-        found.setdefault(FAULTS[test], []).append(int(number))
+            sys.exit(f'interface.py: restoring finds fault {name} where {test}; FAULTS has no name for it')
+        found.setdefault(FAULTS[test], []).append(known[name])
     return {f'RESTORE_{name}': the_one(name, numbers) for name, numbers in found.items()}
 
 
@@ -231,7 +246,8 @@ def root_of_trust():
     named = {'NO_INPUT': 'NoInput', 'BAD_PROTOCOL': 'BadProtocol', 'SHORT_HEADER': 'ShortHeader', 'TOO_LONG': 'TooLong', 'CUT_SHORT': 'CutShort',
              'BAD_CRC': 'BadCrc', 'BAD_TYPE': 'BadType'}
     found = {name: the_one(name, arms(text)[f'Refusal::{variant}']) for name, variant in named.items()}
-    kinds = {variant: int(kind) for variant, kind in re.findall(r'Answer::(\w+)(?:\(\w+\))? => write_answer\(\s*answer,\s*\[(\d+),', text)}
+    named_kinds = constants(MESSAGES, 'crates/oatcastle/src/kinds.rt')
+    kinds = {variant: named_kinds[kind] for variant, kind in re.findall(r'Answer::(\w+)(?:\(\w+\))? => write_answer\(\s*answer,\s*\[\s*([A-Z]\w+),', text)}
     found.update({name: kinds[name.title()] for name in ('NOTHING', 'MESSAGE', 'ECHOED')})
     known = constants('crates/rot/src/limits.rt')
     found.update({'HEADER_LENGTH': known['HEADER_LENGTH'], 'LONGEST_PAYLOAD': known['LONGEST_PAYLOAD'],
@@ -263,7 +279,7 @@ def settings(known, most='longest'):
 
 
 def limits():
-    known = constants('crates/line/src/limits.rt', 'crates/line/src/reader.rt', 'crates/supervisor/src/layout.rt', 'crates/addresses/src/lib.rt')
+    known = constants(LINE_LIMITS, 'crates/line/src/reader.rt', 'crates/supervisor/src/layout.rt', 'crates/addresses/src/lib.rt')
     found = {name: known[name] for name in ('OUTBOX_LENGTH', 'FACTORY_LENGTH', 'SETTINGS_LENGTH', 'REGISTERS_LENGTH', 'LONGEST_DATA', 'LONGEST_ALERT',
                                             'MOST_KEPT', 'MOST_PENDING', 'MOST_ALERTS', 'MOST_ITEMS', 'START_LENGTH', 'ITEM_LENGTH')}
     at = places(read('crates/supervisor_claims/specs/View.antt'), known)
@@ -273,10 +289,10 @@ def limits():
     item = {'RESULT': at['result'], 'NAME': at['name'], 'TYPE': at['type'], 'DATA': at['payload'], 'DATA_LENGTH': known['ITEM_DATA_LENGTH_OFFSET']}
     found.update({f'START_{name}': place for name, place in start.items()})
     found.update({f'ITEM_{name}': place for name, place in item.items()})
-    found.update({'READER_LENGTH': known['STATE_LENGTH'], 'REQUESTER_LENGTH': constants('crates/requester/src/layout.rt')['REQUESTER_LENGTH'], 'LONGEST_FRAME': known['LONGEST_FORM'] + 1,
+    found.update({'READER_LENGTH': known['STATE_LENGTH'], 'REQUESTER_LENGTH': constants(LINE_LIMITS, 'crates/requester/src/layout.rt')['REQUESTER_LENGTH'], 'LONGEST_FRAME': known['LONGEST_FORM'] + 1,
                   'ADDRESS_LENGTH': known['ADDRESS_LENGTH'], 'ADDRESS_ROWS': known['ROWS'], 'ADDRESSES_LENGTH': known['ADDRESS_LENGTH'] * known['ROWS'],
                   'LONGEST_VALUE': max(settings(known)),
-                  'LONGEST_IMAGE': constants('crates/supervisor/src/layout.rt', 'crates/saving/src/image.rt')['LONGEST_IMAGE']})
+                  'LONGEST_IMAGE': constants(LINE_LIMITS, 'crates/supervisor/src/layout.rt', 'crates/saving/src/image.rt')['LONGEST_IMAGE']})
     return found
 
 
@@ -298,18 +314,14 @@ def snake(name):
 
 
 def commands():
-    """Commands of requests, and of the replies to them: the number behind `reply` where a command is carried out, or in the function that does it."""
-    numbers = {name.replace('-', '_').upper(): int(n, 16) for name, n in re.findall(r'^numberOf ([\w-]+) = (0x\w+)$', read('crates/requests/specs/Commands.antt'), re.M)}
-    found = {f'COMMAND_{name}': number for name, number in numbers.items()}
-    text = read('crates/requests/src')
-    arms_of = {int(n, 16): done for n, done in re.findall(r'^        (0x\w+) => (.*?)(?=\n        (?:0x\w+ =>|//|_ =>))', body(text, 'carry'), re.M | re.S)}
-    for name, number in numbers.items():
-        done = arms_of[number]
-        replies = re.findall(r'\breply,\s*(0x\w+)', done) or re.findall(r'\breply,\s*(0x\w+)', body(text, re.search(r'\w+(?=\()', done).group(0)))
-        if replies:
-            found[f'REPLY_{name}'] = int(the_one(f'the reply to {name}', replies), 16)
-    for name, function in (('ACKNOWLEDGED', 'acknowledge'), ('DECODE_FAILURE', 'fail')):
-        found[f'REPLY_{name}'] = int(the_one(name, re.findall(r'\breply,\s*(0x\w+)', body(text, function))), 16)
+    """Commands of requests and of replies: the code's, which the definitions must have too, and a command for each of document 01's."""
+    known, defined = constants(MESSAGES), definitions('crates/line/specs/Numbers.antt')
+    if known != defined:
+        sys.exit(f'interface.py: the numbers of messages differ between code and definitions: {sorted(known.items() ^ defined.items())}')
+    named = re.findall(r'^numberOf ([\w-]+) = command-([\w-]+)$', read('crates/requests/specs/Commands.antt'), re.M)
+    found = {name: number for name, number in known.items() if name.startswith(('COMMAND_', 'REPLY_'))}
+    if {f'COMMAND_{name.upper().replace("-", "_")}' for name, same in named if name == same} != {name for name in found if name.startswith('COMMAND_')}:
+        sys.exit('interface.py: numberOf does not give each command the number of its name')
     return found
 
 
@@ -338,21 +350,19 @@ def keys(known):
 
 def bits_and_codes(known):
     """Inventory results, status bits, startup options and the BSU."""
-    meant, allowed = read('crates/requests/specs/Requests.antt'), read('crates/supervisor/specs/Valid.antt')
-    item, absent, failed = re.search(r'^resultAllowed n = eqb n (\d) \|\| \(?eqb n (\d) \|\| eqb n (\d)\)?$', allowed, re.M).groups()
-    found = {'INVENTORY_ITEM': int(item), 'INVENTORY_ABSENT': int(absent), 'INVENTORY_FAILED': int(failed),
-             'INVENTORY_BAD_INDEX': the_one('an index out of range', map(int, re.findall(r'^inventoried none = (\d) ', meant, re.M)))}
+    meant, defined = read('crates/requests/specs/Requests.antt'), definitions('crates/supervisor/specs/Limits.antt')
+    named = {**known, 'INVENTORY_BAD_INDEX': constants('crates/requests/src/answers.rt')['BAD_INDEX']}
+    found = {name: the_one(name, (named[name], defined[name])) for name in ('INVENTORY_ITEM', 'INVENTORY_BAD_INDEX', 'INVENTORY_ABSENT', 'INVENTORY_FAILED', 'BSU_A', 'BSU_B')}
     for name, place in (('RESTARTED', r'^startAcknowledged .*clearBit \(s \.status\) (\d)'), ('ALERTS', r'^statusAfter .*clearBit status (\d)')):
         found[f'STATUS_{name}'] = 1 << the_one(name, map(int, re.findall(place, meant, re.M)))
     if known['HIGHEST_OPTION'] + 1 != len(OPTIONS):
         sys.exit('interface.py: OPTIONS does not name every option bit')
     found.update({f'OPTION_{name}': 1 << i for i, name in enumerate(OPTIONS)})
-    found['BSU_A'], found['BSU_B'] = (int(n, 16) for n in re.search(r'^bsuAllowed n = eqb n (0x\w+) \|\| eqb n (0x\w+)$', allowed, re.M).groups())
     return found
 
 
 def wire():
-    known = constants('crates/line/src/limits.rt', 'crates/supervisor/src/layout.rt')
+    known = constants(LINE_LIMITS, 'crates/supervisor/src/layout.rt')
     limits = {name: known[name] for name in ('LONGEST_IMAGE_ID', 'LONGEST_ITEM_DATA', 'LONGEST_BLOCK')}
     return {**commands(), **keys(known), **bits_and_codes(known), **limits}
 
@@ -383,12 +393,12 @@ def number_faults(texts):
 @functools.cache
 def wrapper_wanted():
     """The wrapper's numbers by what the crates have: those of the header, and those that the header has no name for."""
-    known = constants('crates/supervisor/src/layout.rt')
+    known = constants(LINE_LIMITS, 'crates/supervisor/src/layout.rt')
     names = ('FIRST_SETTING', 'LONGEST_ITEM_DATA', 'LONGEST_IMAGE_ID', 'PONG_OFFSET', 'SETTING_EDITION_OFFSET', 'SETTING_LENGTH_OFFSET', 'SETTING_VALUE_OFFSET',
              'BOOT_FAILURE_OFFSET', 'PANIC_OFFSET', 'RECORD_CODE_OFFSET', 'RECORD_WHOLE_OFFSET', 'RECORD_KEPT_OFFSET')
     results = re.findall(r'Found::(\w+) => write_both\(value, room, \[(\d+),', read('crates/oatcastle/src/readings.rt'))
     return {**wanted_numbers(), **{name: known[name] for name in names}, 'ALL_OPTIONS': (1 << known['HIGHEST_OPTION'] + 1) - 1,
-            'MESSAGE_DATA_OFFSET': constants('crates/line/src/limits.rt', 'crates/line/src/reader.rt')['DATA_OFFSET'],
+            'MESSAGE_DATA_OFFSET': constants(LINE_LIMITS, 'crates/line/src/reader.rt')['DATA_OFFSET'],
             **{f'NOT_FOUND_{upper(name)}': int(number) for name, number in results},
             **{f'LONGEST_SETTINGS[{i}]': longest for i, longest in enumerate(settings(known))}}
 

@@ -8,6 +8,7 @@ use Prim.Native.Nat.{ℕ, suc, _≤_, _<_}
 use lib.ListN.{length, take}
 use Rattle.octets.specs.Bytes.{Each, Byte, bytes}
 use Rattle.line.specs.Limits.{longest-data}
+use Rattle.line.specs.Numbers.{command-key-lookup}
 use Rattle.requester.specs.State.{Request}
 use Rattle.requester.specs.Limits.{last-number}
 use Rattle.requester.specs.Calls as MainCalls
@@ -103,7 +104,7 @@ NeverReplaced = AtMoment GoesOnInOrder (λ e us. GoesOnInOrder e us → Always (
 abbrev pub ValueAsked : Type 0
 ValueAsked = AtMoment GoesOnInOrder (λ e us.
     (k most : ℕ) → ReadBack k → most < 65536 → (j : Main.Lent) (room : List ℕ) (count : ℕ)
-    → let c : Main.Made = record { lent = j; call = Main.request 0x0e (bytes 1 k ++ bytes 2 most) room } in
+    → let c : Main.Made = record { lent = j; call = Main.request command-key-lookup (bytes 1 k ++ bytes 2 most) room } in
     Main.made (e .main) c .answer ≡ Main.put count → InOrderAfter e (main c)
     → let a = after e (main c) in GoesOnInOrder a us → Always NoRequest a us → Always (CallOf (HadValue e k most)) a us)
 

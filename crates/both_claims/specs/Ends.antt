@@ -10,6 +10,7 @@ use lib.Count.{ones}
 use lib.Dec.{eqb}
 use lib.ListN.{length, take}
 use Rattle.octets.specs.Bytes.{Each, Byte, bytes}
+use Rattle.line.specs.Numbers.{status-length, first-version, command-reboot, command-power-off, command-alert, command-key-lookup, reply-status, reply-key-lookup}
 use Rattle.line.specs.Message.{Message}
 use Rattle.line.specs.Frame.{frame}
 use Rattle.line_claims.specs.Pieces.{split, nonEmpty}
@@ -17,7 +18,6 @@ use Rattle.line_claims.specs.Calls.{goodMessages}
 use Rattle.requester.specs.State as MainState
 use Rattle.requester.specs.State.{isSome, Request, outstanding, requestFrame}
 use Rattle.requester.specs.Requester.{replySequence, statusOf, optionsOf}
-use Rattle.requester.specs.Limits.{status-length}
 use Rattle.requester.specs.Layout
 use Rattle.requester.specs.Calls as MainCalls
 use Rattle.requester_claims.specs.View as MainView
@@ -178,7 +178,7 @@ imageOf (Supervisor.local c) = []
 -- whether a frame drops the retained alert reply: a reboot or power-off that is carried out
 abbrev pub dropsBy : Verdict → Bool
 dropsBy (failure reason version sequence) = false
-dropsBy (good m) = eqb (m .command) 0x01 || eqb (m .command) 0x02
+dropsBy (good m) = eqb (m .command) command-reboot || eqb (m .command) command-power-off
 
 unfoldable pub drops : List ℕ → Bool
 drops f = dropsBy (verdict f)
@@ -353,7 +353,7 @@ FreshReport s l (MainCalls.Report.refused n) d = Unit {0}
 FreshReport s l MainCalls.nothing d = Unit {0}
 FreshReport s l (MainCalls.answered v q c n) d = (s .recovery ≡ none) × Fresh s l (record { version = v; sequence = q; command = c; payload = d })
 FreshReport s l (MainCalls.status x o k) d =
-    (s .recovery ≡ some MainState.fetch) × (r : Message) × Fresh s l r × (statusOf r ≡ x) × (optionsOf r ≡ o) × (ones x ≡ k) × (r .command ≡ 0x06)
+    (s .recovery ≡ some MainState.fetch) × (r : Message) × Fresh s l r × (statusOf r ≡ x) × (optionsOf r ≡ o) × (ones x ≡ k) × (r .command ≡ reply-status)
     × (length (r .payload) ≡ status-length)
 FreshReport s l (MainCalls.alerted v q c n) d =
     (s .recovery ≡ some MainState.alert) × Fresh s l (record { version = v; sequence = q; command = c; payload = d })
@@ -387,7 +387,7 @@ pub record AlertTaken (n : ℕ) (q : Request) (r : Message) (h : Handled) : Type
 -- then this request
 abbrev pub FreshAlert : MainState.State → Log → Message → Type 0
 FreshAlert s l r =
-    (q : Request) → outstanding s ≡ some q → q .command ≡ 0x0a → Any (λ (h : Handled). CarriedOut (s .newest) q r h × (h .cleared ≡ true)) (l .handled)
+    (q : Request) → outstanding s ≡ some q → q .command ≡ command-alert → Any (λ (h : Handled). CarriedOut (s .newest) q r h × (h .cleared ≡ true)) (l .handled)
     → Any (AlertTaken (s .newest) q r) (l .handled)
 
 -- the message that is handed out as an answer or an alert's answer
@@ -413,7 +413,7 @@ CallOf P e (supervisor m) = Unit {0}
 
 -- a lookup of key k with maxresponse `most`
 abbrev pub lookupRequest : ℕ → ℕ → Request
-lookupRequest k most = record { command = 0x0e; payload = bytes 1 k ++ bytes 2 most }
+lookupRequest k most = record { command = command-key-lookup; payload = bytes 1 k ++ bytes 2 most }
 
 -- the supervisor carried the lookup out, after it was put out
 pub record ValueThen (n k most : ℕ) (r : Message) (h : Handled) : Type 0 where
@@ -428,7 +428,7 @@ pub record ValueThen (n k most : ℕ) (r : Message) (h : Handled) : Type 0 where
 abbrev pub FreshValue : MainState.State → Log → Message → Type 0
 FreshValue s l r =
     (k most : ℕ) → ReadBack k → most < 65536 → outstanding s ≡ some (lookupRequest k most)
-    → (r .version ≡ 1) × (r .sequence ≡ replySequence (s .newest)) × (r .command ≡ 0x0a) × Any (ValueThen (s .newest) k most r) (l .handled)
+    → (r .version ≡ first-version) × (r .sequence ≡ replySequence (s .newest)) × (r .command ≡ reply-key-lookup) × Any (ValueThen (s .newest) k most r) (l .handled)
 
 -- the frames that the supervisor has received since its last accepted start, without the empty ones
 abbrev pub framesOf : Ends → List (List ℕ)
@@ -481,7 +481,7 @@ MainGoesOn e (supervisor m) = Unit {0}
 
 -- an answer to an alert request that had not been put out at that moment holds an alert that was taken in carrying out that request, after it was put out
 abbrev pub AlertAgainst : Ends → MainState.State → Log → Message → Type 0
-AlertAgainst e s l r = (q : Request) → outstanding s ≡ some q → q .command ≡ 0x0a → NotAsked e (s .newest) → Any (AlertTaken (s .newest) q r) (l .handled)
+AlertAgainst e s l r = (q : Request) → outstanding s ≡ some q → q .command ≡ command-alert → NotAsked e (s .newest) → Any (AlertTaken (s .newest) q r) (l .handled)
 
 -- ---- On a wire that keeps the order
 

@@ -8,6 +8,7 @@ use Prim.Native.Nat.{ℕ, _≤_, _<_}
 use lib.ListN.{length, take}
 use Rattle.octets.specs.Bytes.{Each, Byte, bytes}
 use Rattle.line.specs.Limits.{longest-data}
+use Rattle.line.specs.Numbers.{command-key-set}
 use Rattle.line.specs.Message.{Message}
 use Rattle.line.specs.Frame.{frame}
 use Rattle.line_claims.specs.Pieces.{form}
@@ -136,7 +137,7 @@ pub record Served (q : Request) : Type 0 where
 
 -- a set of key k to the value v
 abbrev pub setRequest : ℕ → List ℕ → Request
-setRequest k v = record { command = 0x10; payload = bytes 1 k ++ v }
+setRequest k v = record { command = command-key-set; payload = bytes 1 k ++ v }
 
 -- exchanges of these requests
 pub record Made (e : Ends) (qs : List Request) : Type 0 where

@@ -15,10 +15,11 @@ use Rattle.octets.proofs.Conditions.{cond-by}
 use Rattle.octets.proofs.Each.{each-run}
 use Rattle.octets.proofs.Numbers.{length-bytes, number-small}
 use Rattle.line.specs.Limits.{longest-data}
+use Rattle.line.specs.Numbers.{first-version}
 use Rattle.line.specs.Reader as LineReader
 use Rattle.supervisor.specs.Valid.{validFactory}
 use Rattle.supervisor.specs.Calls.{Parts}
-use Rattle.requests.specs.Requests.{Verdict, failure, good, first-version, served, known, lengthAllowed, tested}
+use Rattle.requests.specs.Requests.{Verdict, failure, good, served, known, lengthAllowed, tested}
 use Rattle.requests.specs.Receive as Receive
 use Rattle.requests.specs.declared.receive.Received.{Received}
 use Rattle.requests.specs.declared.receive.Received.the-variants as received

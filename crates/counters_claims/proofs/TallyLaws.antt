@@ -11,10 +11,11 @@ use lib.Dec.{leb, ltb}
 use lib.ListN.{length}
 use borrow.Author.Tests.{ltb-true, ltb-false}
 use Rattle.octets.proofs.Conditions.{cond-by}
+use Rattle.line.specs.Numbers.{first-version}
 use Rattle.line.specs.Message.{Message}
 use Rattle.line.specs.Judge as Line
 use Rattle.line.specs.Judge.{sequenceOf, fields, decoded, wrongLength, wrongChecksum, wrongMagic, judgeForm, judge}
-use Rattle.requests.specs.Requests.{Verdict, failure, good, served, first-version, known, lengthAllowed, tested, testedWhere, verdict}
+use Rattle.requests.specs.Requests.{Verdict, failure, good, served, known, lengthAllowed, tested, testedWhere, verdict}
 use Rattle.requests.specs.Receive.{Ended, endedBy}
 use Rattle.counters.specs.declared.Counters.{Counters}
 use Rattle.counters.specs.Count.{most-counted, frameEnded, oneMore, raised, isGood, isEmpty, isReason, zeros, bumpedFor, bumpedForAll, howMany, tallyOf}

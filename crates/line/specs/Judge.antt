@@ -8,6 +8,7 @@ use lib.Dec.{eqb, ltb}
 use lib.ListN.{length, take, drop}
 use Rattle.octets.specs.Bytes.{number, numberAt}
 use Rattle.line.specs.Limits.{header-length, checksum-length, shortest-message, longest-message, longest-form}
+use Rattle.line.specs.Numbers.{reason-form, reason-checksum, reason-length, reason-magic}
 use Rattle.line.specs.Checksum.{checksum}
 use Rattle.line.specs.Message.{magic, Message}
 use Rattle.line.specs.Cobs.{uncobs}
@@ -63,11 +64,11 @@ wrongMagic xs = not (eqb (magicOf xs) magic)
 
 -- the verdict: the first row whose test fails, or else a good message
 unfoldable pub judgeForm : Option (List ℕ) → Verdict
-judgeForm none = failure 1 none
+judgeForm none = failure reason-form none
 judgeForm (some xs) =
-    cond (wrongLength xs) (failure 3 none)
-    (cond (wrongChecksum xs) (failure 2 (some (sequenceOf xs)))
-    (cond (wrongMagic xs) (failure 4 (some (sequenceOf xs)))
+    cond (wrongLength xs) (failure reason-length none)
+    (cond (wrongChecksum xs) (failure reason-checksum (some (sequenceOf xs)))
+    (cond (wrongMagic xs) (failure reason-magic (some (sequenceOf xs)))
     (good (fields xs))))
 
 unfoldable pub judge : List ℕ → Verdict

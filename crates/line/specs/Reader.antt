@@ -8,6 +8,7 @@ use lib.Dec.{leb, ltb, eqb}
 use lib.ListN.{length}
 use Rattle.octets.specs.Bytes.{bytes, run, numberAt, overlay}
 use Rattle.line.specs.Limits.{header-length, longest-data, longest-form}
+use Rattle.line.specs.Numbers.{reason-form, reason-checksum, reason-length, reason-magic}
 use Rattle.line.specs.Message.{Message}
 use Rattle.line.specs.Cobs.{uncobs}
 use Rattle.line.specs.Judge.{Verdict, failure, good, wrongLength, judge}
@@ -64,10 +65,10 @@ report answer.Refused = refused 12
 report answer.More = more
 report answer.Empty = empty
 report (answer.Message h) = message (h .version) (h .sequence) (h .command) (h .length)
-report answer.BadForm = failed 1 none
-report answer.BadLength = failed 3 none
-report (answer.BadChecksum sequence) = failed 2 (some sequence)
-report (answer.BadMagic sequence) = failed 4 (some sequence)
+report answer.BadForm = failed reason-form none
+report answer.BadLength = failed reason-length none
+report (answer.BadChecksum sequence) = failed reason-checksum (some sequence)
+report (answer.BadMagic sequence) = failed reason-magic (some sequence)
 
 -- what an answer reports of a verdict
 unfoldable pub verdictReport : Verdict → Report
@@ -103,7 +104,7 @@ settle form s = settled (verdictReport (judge form)) (unpacked (uncobs form) s)
 unfoldable pub finish : List ℕ → Settled
 finish s =
     cond (eqb (count s) 0) (settled empty (counted 0 s))
-    (cond (ltb longest-form (count s)) (settled (failed 1 none) (counted 0 s))
+    (cond (ltb longest-form (count s)) (settled (failed reason-form none) (counted 0 s))
     (settle (kept s) (counted 0 s)))
 
 -- How many bytes a call read, what it answered, and the state that it left.

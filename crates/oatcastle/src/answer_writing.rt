@@ -1,5 +1,6 @@
 // What a call hands out: numbers at the start of a lent answer, bytes at the start of a lent room; 8 where either is too short.
 // Assumes nothing of what a caller lends; a count of numbers is at most MOST_NUMBERS, as `requires` say.
+use crate::refusals;
 ghost use mathlib.Core.Path.{_≡_};
 ghost use Prim.Native.Nat.{_≤_};
 ghost use lib.ListN.{take};
@@ -13,14 +14,14 @@ pub(crate) fn write_answer(answer: &mut [u64], numbers: [u64; MOST_NUMBERS], cou
     ensures { λ r. ⌜ outcome r (now (answer .exit)) ≡ writingAnswer (given (take count numbers)) (now (answer .entry)) ⌝ }
 {
     if answer.len() < count {
-        return 8;
+        return refusals::NO_ROOM;
     }
     let mut i = 0;
     while i < count {
         answer[i] = numbers[i];
         i += 1;
     }
-    0
+    refusals::DONE
 }
 
 // Puts bytes.
@@ -28,10 +29,10 @@ pub(crate) fn write_bytes(bytes: &[u8], room: &mut [u8]) -> u32
     ensures { λ r. ⌜ outcome r (now (room .exit)) ≡ writingAnswer (given (now («bytes» .entry))) (now (room .entry)) ⌝ }
 {
     if room.len() < bytes.len() {
-        return 8;
+        return refusals::NO_ROOM;
     }
     octets::copy(bytes, 0, bytes.len(), room, 0);
-    0
+    refusals::DONE
 }
 
 // Puts bytes and numbers.
@@ -46,10 +47,10 @@ pub(crate) fn write_both(
     ensures { λ r. ⌜ outcome r (now (room .exit), now (answer .exit)) ≡ writingBoth (given (take count numbers)) (now («bytes» .entry)) (now (room .entry)) (now (answer .entry)) ⌝ }
 {
     if answer.len() < count {
-        return 8;
+        return refusals::NO_ROOM;
     }
     if room.len() < bytes.len() {
-        return 8;
+        return refusals::NO_ROOM;
     }
     octets::copy(bytes, 0, bytes.len(), room, 0);
     write_answer(answer, numbers, count)

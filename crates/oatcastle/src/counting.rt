@@ -1,5 +1,6 @@
 // The supervisor's call that receives with a counter block lent, and clearing a block.
 // Assumes nothing: no exported function has a `requires`, and no block is refused.
+use crate::refusals;
 use counters::Counters;
 use requests::receive::Received;
 ghost use mathlib.Core.Path.{_≡_};
@@ -86,7 +87,7 @@ fn number(received: Received) -> u32
     ensures { λ r. ⌜ r ≡ numbered (receiptReport received) ⌝ }
 {
     match received {
-        Received::Done => 0,
-        Received::Refused => 12,
+        Received::Done => refusals::DONE,
+        Received::Refused => refusals::BAD_STATE,
     }
 }

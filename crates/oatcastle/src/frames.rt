@@ -2,6 +2,16 @@
 // Assumes nothing: no exported function has a `requires`.
 use crate::answer_writing::write_answer;
 use crate::answer_writing::write_bytes;
+use crate::kinds::CHECKSUM;
+use crate::kinds::EMPTY;
+use crate::kinds::FAILURE;
+use crate::kinds::FORM;
+use crate::kinds::LENGTH;
+use crate::kinds::MAGIC;
+use crate::kinds::MESSAGE;
+use crate::kinds::MORE;
+use crate::refusals;
+use line::limits;
 use line::reader::Answer;
 use line::reader::Handed;
 use line::reader::Started;
@@ -17,9 +27,6 @@ ghost use Rattle.oatcastle.specs.LineCalls.{lineStartCall, readGiven, li
 // How many numbers `oatcastle_line_read` answers.
 const READ_NUMBERS: usize = 7;
 
-// The most bytes of data that a message has.
-const LONGEST_DATA: usize = 4104;
-
 // Begins a fresh reader in a state of any contents.
 #[no_mangle]
 pub extern "C" fn oatcastle_line_start(state: &mut [u8]) -> u32
@@ -27,8 +34,8 @@ pub extern "C" fn oatcastle_line_start(state: &mut [u8]) -> u32
 {
     let started = line::reader::start(state);
     match started {
-        Started::Done => 0,
-        Started::Refused => 12,
+        Started::Done => refusals::DONE,
+        Started::Refused => refusals::BAD_STATE,
     }
 }
 
@@ -38,10 +45,10 @@ pub extern "C" fn oatcastle_line_read(state: &mut [u8], piece: &[u8], answer: &m
     ensures { λ r. ⌜ outcome r (now (state .exit), now (answer .exit)) ≡ lineReadCall (now (state .entry)) (now (piece .entry)) (now (answer .entry)) ⌝ }
 {
     if !line::reader::is_valid(state) {
-        return 12;
+        return refusals::BAD_STATE;
     }
     if answer.len() < READ_NUMBERS {
-        return 8;
+        return refusals::NO_ROOM;
     }
     let read = line::reader::read(state, piece);
     let report = read.answer;
@@ -53,14 +60,14 @@ fn answer_reading(answer: &mut [u64], used: u64, read: Answer) -> u32
     ensures { λ r. ⌜ outcome r (now (answer .exit)) ≡ writingAnswer (readGiven used (report read)) (now (answer .entry)) ⌝ }
 {
     match read {
-        Answer::Refused => 12,
-        Answer::More => write_answer(answer, [used, 0, 0, 0, 0, 0, 0], READ_NUMBERS),
-        Answer::Empty => write_answer(answer, [used, 1, 0, 0, 0, 0, 0], READ_NUMBERS),
+        Answer::Refused => refusals::BAD_STATE,
+        Answer::More => write_answer(answer, [used, MORE, 0, 0, 0, 0, 0], READ_NUMBERS),
+        Answer::Empty => write_answer(answer, [used, EMPTY, 0, 0, 0, 0, 0], READ_NUMBERS),
         Answer::Message(h) => write_answer(
             answer,
             [
                 used,
-                2,
+                MESSAGE,
                 0,
                 h.version as u64,
                 h.sequence,
@@ -69,14 +76,20 @@ fn answer_reading(answer: &mut [u64], used: u64, read: Answer) -> u32
             ],
             READ_NUMBERS,
         ),
-        Answer::BadForm => write_answer(answer, [used, 3, 1, 0, 0, 0, 0], READ_NUMBERS),
-        Answer::BadLength => write_answer(answer, [used, 3, 3, 0, 0, 0, 0], READ_NUMBERS),
-        Answer::BadChecksum(sequence) => {
-            write_answer(answer, [used, 3, 2, 0, sequence, 0, 0], READ_NUMBERS)
-        }
+        Answer::BadForm => write_answer(answer, [used, FAILURE, FORM, 0, 0, 0, 0], READ_NUMBERS),
+        Answer::BadLength => write_answer(
+            answer,
+            [used, FAILURE, LENGTH, 0, 0, 0, 0],
+            READ_NUMBERS,
+        ),
+        Answer::BadChecksum(sequence) => write_answer(
+            answer,
+            [used, FAILURE, CHECKSUM, 0, sequence, 0, 0],
+            READ_NUMBERS,
+        ),
         Answer::BadMagic(sequence) => write_answer(
             answer,
-            [used, 3, 4, 0, sequence, 0, 0],
+            [used, FAILURE, MAGIC, 0, sequence, 0, 0],
             READ_NUMBERS,
         ),
     }
@@ -89,8 +102,8 @@ pub extern "C" fn oatcastle_line_data(state: &[u8], length: u64, room: &mut [u8]
 {
     let given = line::reader::message_data_given(state, length as usize);
     match given {
-        Handed::Refused => 12,
-        Handed::TooLong => 9,
+        Handed::Refused => refusals::BAD_STATE,
+        Handed::TooLong => refusals::TOO_LONG,
         Handed::Given => write_bytes(line::reader::message_data(state, length as usize), room),
     }
 }
@@ -102,7 +115,7 @@ pub extern "C" fn oatcastle_line_tail(state: &[u8], answer: &mut [u64]) -> u32
 {
     let tail = line::reader::tail(state);
     match tail {
-        Unfinished::Refused => 12,
+        Unfinished::Refused => refusals::BAD_STATE,
         Unfinished::Bytes(n) => write_answer(answer, [0, n as u64, 0, 0, 0, 0, 0], 2),
         Unfinished::Longer => write_answer(answer, [1, 0, 0, 0, 0, 0, 0], 2),
     }
@@ -121,14 +134,14 @@ pub extern "C" fn oatcastle_line_write(
 ) -> u32
     ensures { λ r. ⌜ outcome r (now (out .exit), now (answer .exit)) ≡ lineWriteCall (messageOf version sequence command (now (head .entry)) (now (rest .entry))) (now (out .entry)) (now (answer .entry)) ⌝ }
 {
-    if LONGEST_DATA < head.len() {
-        return 9;
+    if limits::LONGEST_DATA < head.len() {
+        return refusals::TOO_LONG;
     }
-    if LONGEST_DATA - head.len() < rest.len() {
-        return 9;
+    if limits::LONGEST_DATA - head.len() < rest.len() {
+        return refusals::TOO_LONG;
     }
     if answer.len() < 1 {
-        return 8;
+        return refusals::NO_ROOM;
     }
     let written = line::writer::write(version, sequence, command, head, rest, out);
     answer_written(answer, written)
@@ -140,8 +153,8 @@ fn answer_written(answer: &mut [u64], written: Written) -> u32
 {
     match written {
         Written::Done(n) => write_answer(answer, [n as u64, 0, 0, 0, 0, 0, 0], 1),
-        Written::NoRoom => 8,
-        Written::TooLong => 9,
+        Written::NoRoom => refusals::NO_ROOM,
+        Written::TooLong => refusals::TOO_LONG,
     }
 }
 

@@ -3,10 +3,12 @@
 mod answer_writing;
 pub mod counting;
 pub mod frames;
+mod kinds;
 pub mod plans;
 pub mod probe_list;
 pub mod readings;
 pub mod receiving;
+mod refusals;
 pub mod requesting;
 pub mod rot_link;
 pub mod saving_calls;

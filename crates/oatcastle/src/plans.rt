@@ -1,6 +1,7 @@
 // The address plan's calls: its rows, and whether it passes.
 // Assumes nothing: no exported function has a `requires`.
 use crate::answer_writing::write_bytes;
+use crate::refusals;
 use addresses::ADDRESS_LENGTH;
 use addresses::Planned;
 use addresses::ROWS;
@@ -36,8 +37,8 @@ pub extern "C" fn oatcastle_plan(base: &[u8; 6], count: u16, stride: u8) -> u32
 {
     let planned = addresses::plan(*base, count, stride);
     match planned {
-        Planned::Fits => 0,
-        Planned::Passes => 16,
+        Planned::Fits => refusals::DONE,
+        Planned::Passes => refusals::PLAN_PASSES,
     }
 }
 

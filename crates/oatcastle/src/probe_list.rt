@@ -1,5 +1,6 @@
 // The probe list's call.
 // Assumes nothing: no exported function has a `requires`.
+use crate::refusals;
 use probes::Probe;
 use probes::Updated;
 ghost use mathlib.Core.Path.{_≡_};
@@ -23,7 +24,7 @@ fn update_number(updated: Updated) -> u32
     ensures { λ r. ⌜ r ≡ numbered (updatedReport updated) ⌝ }
 {
     match updated {
-        Updated::Done => 0,
-        Updated::Refused => 15,
+        Updated::Done => refusals::DONE,
+        Updated::Refused => refusals::BAD_PROBE,
     }
 }

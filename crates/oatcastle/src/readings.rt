@@ -2,6 +2,7 @@
 // Assumes nothing: no exported function has a `requires`.
 use crate::answer_writing::write_answer;
 use crate::answer_writing::write_both;
+use crate::refusals;
 use supervisor::keys;
 use supervisor::keys::EditionFound;
 use supervisor::keys::Found;
@@ -37,7 +38,7 @@ fn answer_value(value: &[u8], found: Found, room: &mut [u8], answer: &mut [u64])
     ensures { λ r. ⌜ outcome r (now (room .exit), now (answer .exit)) ≡ writingBoth (lookupGiven (lookupReport found)) (now (value .entry)) (now (room .entry)) (now (answer .entry)) ⌝ }
 {
     match found {
-        Found::Refused => 12,
+        Found::Refused => refusals::BAD_STATE,
         Found::Value(n) => write_both(value, room, [0, n as u64, 0, 0, 0, 0, 0], 2, answer),
         Found::BadKey => write_both(value, room, [1, 0, 0, 0, 0, 0, 0], 2, answer),
         Found::NoValue => write_both(value, room, [2, 0, 0, 0, 0, 0, 0], 2, answer),
@@ -58,7 +59,7 @@ pub extern "C" fn oatcastle_edition(
 {
     let found = keys::edition(factory, settings, key);
     match found {
-        EditionFound::Refused => 12,
+        EditionFound::Refused => refusals::BAD_STATE,
         EditionFound::Edition(n) => write_answer(answer, [0, n as u64, 0, 0, 0, 0, 0], 2),
         EditionFound::BadKey => write_answer(answer, [1, 0, 0, 0, 0, 0, 0], 2),
         EditionFound::NoValue => write_answer(answer, [2, 0, 0, 0, 0, 0, 0], 2),
@@ -73,7 +74,7 @@ pub extern "C" fn oatcastle_signal(registers: &[u8], answer: &mut [u64]) -> u32
 {
     let read = supervisor::registers::signal(registers);
     match read {
-        SignalRead::Refused => 12,
+        SignalRead::Refused => refusals::BAD_STATE,
         SignalRead::Asserted => write_answer(answer, [1, 0, 0, 0, 0, 0, 0], 1),
         SignalRead::Clear => write_answer(answer, [0, 0, 0, 0, 0, 0, 0], 1),
     }
@@ -86,7 +87,7 @@ pub extern "C" fn oatcastle_flags(registers: &[u8], answer: &mut [u64]) -> u32
 {
     let read = supervisor::registers::flags(registers);
     match read {
-        FlagsRead::Refused => 12,
+        FlagsRead::Refused => refusals::BAD_STATE,
         FlagsRead::Read(asked) => write_answer(
             answer,
             [asked.reboot as u64, asked.power_off as u64, 0, 0, 0, 0, 0],
@@ -128,7 +129,7 @@ fn answer_record(kept: &[u8], found: Recorded, room: &mut [u8], answer: &mut [u6
     ensures { λ r. ⌜ outcome r (now (room .exit), now (answer .exit)) ≡ writingBoth (recordGiven (recordReport found)) (now (kept .entry)) (now (room .entry)) (now (answer .entry)) ⌝ }
 {
     match found {
-        Recorded::Refused => 12,
+        Recorded::Refused => refusals::BAD_STATE,
         Recorded::Nothing => write_both(kept, room, [0, 0, 0, 0, 0, 0, 0], 4, answer),
         Recorded::Found(e) => write_both(
             kept,

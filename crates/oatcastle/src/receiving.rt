@@ -1,6 +1,11 @@
 // The supervisor's calls that receive.
 // Assumes nothing: no exported function has a `requires`.
 use crate::answer_writing::write_answer;
+use crate::kinds::EMPTY;
+use crate::kinds::FAILURE;
+use crate::kinds::MESSAGE;
+use crate::kinds::MORE;
+use crate::refusals;
 use requests::outcome::Outcome;
 use requests::receive::Received;
 ghost use mathlib.Core.Path.{_≡_};
@@ -35,8 +40,8 @@ pub extern "C" fn oatcastle_receive(
         registers,
     );
     match received {
-        Received::Done => 0,
-        Received::Refused => 12,
+        Received::Done => refusals::DONE,
+        Received::Refused => refusals::BAD_STATE,
     }
 }
 
@@ -84,8 +89,8 @@ fn short_number(received: Received) -> u32
     ensures { λ r. ⌜ r ≡ shortNumber (receiptReport received) ⌝ }
 {
     match received {
-        Received::Done => 8,
-        Received::Refused => 12,
+        Received::Done => refusals::NO_ROOM,
+        Received::Refused => refusals::BAD_STATE,
     }
 }
 
@@ -94,12 +99,16 @@ fn answer_step(answer: &mut [u64], used: u64, ended: Outcome) -> u32
     ensures { λ r. ⌜ outcome r (now (answer .exit)) ≡ writingAnswer (stepGiven used (endedReport ended)) (now (answer .entry)) ⌝ }
 {
     match ended {
-        Outcome::Refused => 12,
-        Outcome::More => write_answer(answer, [used, 0, 0, 0, 0, 0, 0], STEP_NUMBERS),
-        Outcome::Empty => write_answer(answer, [used, 1, 0, 0, 0, 0, 0], STEP_NUMBERS),
-        Outcome::Request => write_answer(answer, [used, 2, 0, 0, 0, 0, 0], STEP_NUMBERS),
+        Outcome::Refused => refusals::BAD_STATE,
+        Outcome::More => write_answer(answer, [used, MORE, 0, 0, 0, 0, 0], STEP_NUMBERS),
+        Outcome::Empty => write_answer(answer, [used, EMPTY, 0, 0, 0, 0, 0], STEP_NUMBERS),
+        Outcome::Request => write_answer(answer, [used, MESSAGE, 0, 0, 0, 0, 0], STEP_NUMBERS),
         Outcome::Failure(reason) => {
-            write_answer(answer, [used, 3, reason as u64, 0, 0, 0, 0], STEP_NUMBERS)
+            write_answer(
+                answer,
+                [used, FAILURE, reason as u64, 0, 0, 0, 0],
+                STEP_NUMBERS,
+            )
         }
     }
 }

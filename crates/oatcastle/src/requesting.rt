@@ -1,6 +1,11 @@
 // The main processor's calls: start, request, interrupt, send, receive.
 // Assumes nothing: no exported function has a `requires`.
 use crate::answer_writing::write_answer;
+use crate::kinds::ALERT;
+use crate::kinds::ANSWER;
+use crate::kinds::NOTHING;
+use crate::kinds::STATUS;
+use crate::refusals;
 use requester::outcome::Handed;
 use requester::receive::Received;
 use requester::recovery::Interrupted;
@@ -25,8 +30,8 @@ pub extern "C" fn oatcastle_requester_start(reader: &mut [u8], requester: &mut [
 {
     let started = requester::start::start(reader, requester);
     match started {
-        Started::Done => 0,
-        Started::Refused => 12,
+        Started::Done => refusals::DONE,
+        Started::Refused => refusals::BAD_STATE,
     }
 }
 
@@ -54,11 +59,11 @@ fn answer_requested(answer: &mut [u64], requested: Requested) -> u32
     ensures { λ r. ⌜ outcome r (now (answer .exit)) ≡ writingAnswer (putGiven (requestReport requested)) (now (answer .entry)) ⌝ }
 {
     match requested {
-        Requested::Refused => 12,
-        Requested::TooLong => 9,
-        Requested::Outstanding => 17,
-        Requested::NoNumber => 14,
-        Requested::NoRoom => 8,
+        Requested::Refused => refusals::BAD_STATE,
+        Requested::TooLong => refusals::TOO_LONG,
+        Requested::Outstanding => refusals::OUTSTANDING,
+        Requested::NoNumber => refusals::NO_NUMBER,
+        Requested::NoRoom => refusals::NO_ROOM,
         Requested::Done(n) => write_answer(answer, [n as u64, 0, 0, 0, 0, 0, 0], 1),
     }
 }
@@ -67,12 +72,12 @@ fn short_requested(requested: Requested) -> u32
     ensures { λ r. ⌜ r ≡ shortPut (requestReport requested) ⌝ }
 {
     match requested {
-        Requested::Refused => 12,
-        Requested::TooLong => 9,
-        Requested::Outstanding => 17,
-        Requested::NoNumber => 14,
-        Requested::NoRoom => 8,
-        Requested::Done(_) => 8,
+        Requested::Refused => refusals::BAD_STATE,
+        Requested::TooLong => refusals::TOO_LONG,
+        Requested::Outstanding => refusals::OUTSTANDING,
+        Requested::NoNumber => refusals::NO_NUMBER,
+        Requested::NoRoom => refusals::NO_ROOM,
+        Requested::Done(_) => refusals::NO_ROOM,
     }
 }
 
@@ -83,9 +88,9 @@ pub extern "C" fn oatcastle_requester_interrupt(requester: &mut [u8]) -> u32
 {
     let interrupted = requester::recovery::interrupt(requester);
     match interrupted {
-        Interrupted::Done => 0,
-        Interrupted::Refused => 12,
-        Interrupted::NoNumber => 14,
+        Interrupted::Done => refusals::DONE,
+        Interrupted::Refused => refusals::BAD_STATE,
+        Interrupted::NoNumber => refusals::NO_NUMBER,
     }
 }
 
@@ -111,8 +116,8 @@ fn answer_put(answer: &mut [u64], sent: Sent) -> u32
     ensures { λ r. ⌜ outcome r (now (answer .exit)) ≡ writingAnswer (putGiven (sendReport sent)) (now (answer .entry)) ⌝ }
 {
     match sent {
-        Sent::Refused => 12,
-        Sent::NoRoom => 8,
+        Sent::Refused => refusals::BAD_STATE,
+        Sent::NoRoom => refusals::NO_ROOM,
         Sent::Done(n) => write_answer(answer, [n as u64, 0, 0, 0, 0, 0, 0], 1),
     }
 }
@@ -121,9 +126,9 @@ fn short_sent(sent: Sent) -> u32
     ensures { λ r. ⌜ r ≡ shortPut (sendReport sent) ⌝ }
 {
     match sent {
-        Sent::Refused => 12,
-        Sent::NoRoom => 8,
-        Sent::Done(_) => 8,
+        Sent::Refused => refusals::BAD_STATE,
+        Sent::NoRoom => refusals::NO_ROOM,
+        Sent::Done(_) => refusals::NO_ROOM,
     }
 }
 
@@ -151,11 +156,11 @@ fn short_received(handed: Handed) -> u32
     ensures { λ r. ⌜ r ≡ shortReceipt (receiveReport handed) ⌝ }
 {
     match handed {
-        Handed::Refused => 12,
-        Handed::Nothing => 8,
-        Handed::Answer(_) => 8,
-        Handed::Status(_) => 8,
-        Handed::Alert(_) => 8,
+        Handed::Refused => refusals::BAD_STATE,
+        Handed::Nothing => refusals::NO_ROOM,
+        Handed::Answer(_) => refusals::NO_ROOM,
+        Handed::Status(_) => refusals::NO_ROOM,
+        Handed::Alert(_) => refusals::NO_ROOM,
     }
 }
 
@@ -168,23 +173,27 @@ fn answer_received(answer: &mut [u64], received: Received) -> u32
     let unsent = flag_number(received.unsent);
     let handed = received.handed;
     match handed {
-        Handed::Refused => 12,
-        Handed::Nothing => write_answer(answer, [used, 0, ended, unsent, 0, 0, 0], RECEIVE_NUMBERS),
+        Handed::Refused => refusals::BAD_STATE,
+        Handed::Nothing => write_answer(
+            answer,
+            [used, NOTHING, ended, unsent, 0, 0, 0],
+            RECEIVE_NUMBERS,
+        ),
         Handed::Answer(h) => {
             let command = h.command as u64;
             let length = h.length as u64;
-            let numbers = [used, 1, ended, unsent, h.sequence, command, length];
+            let numbers = [used, ANSWER, ended, unsent, h.sequence, command, length];
             write_answer(answer, numbers, RECEIVE_NUMBERS)
         }
         Handed::Status(s) => {
             let bits = s.set_bits as u64;
-            let numbers = [used, 2, ended, unsent, s.status, s.options, bits];
+            let numbers = [used, STATUS, ended, unsent, s.status, s.options, bits];
             write_answer(answer, numbers, RECEIVE_NUMBERS)
         }
         Handed::Alert(h) => {
             let command = h.command as u64;
             let length = h.length as u64;
-            let numbers = [used, 3, ended, unsent, h.sequence, command, length];
+            let numbers = [used, ALERT, ended, unsent, h.sequence, command, length];
             write_answer(answer, numbers, RECEIVE_NUMBERS)
         }
     }

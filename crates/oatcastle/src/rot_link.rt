@@ -2,6 +2,10 @@
 // Assumes nothing: no exported function has a `requires`.
 use crate::answer_writing::write_answer;
 use crate::answer_writing::write_bytes;
+use crate::kinds::ROT_ECHOED;
+use crate::kinds::ROT_MESSAGE;
+use crate::kinds::ROT_NOTHING;
+use crate::refusals;
 use rot::reader::Answer;
 use rot::refusals::number;
 use rot::writer::Written;
@@ -72,13 +76,25 @@ fn answer_read(answer: &mut [u64], read: Answer) -> u32
 {
     match read {
         Answer::Refused(why) => number(why),
-        Answer::Nothing => write_answer(answer, [0, 0, 0, 0, 0, 0, 0], ROT_READ_NUMBERS),
+        Answer::Nothing => write_answer(answer, [ROT_NOTHING, 0, 0, 0, 0, 0, 0], ROT_READ_NUMBERS),
         Answer::Message(head) => write_answer(
             answer,
-            [1, head.kind as u64, head.length as u64, 0, 0, 0, 0],
+            [
+                ROT_MESSAGE,
+                head.kind as u64,
+                head.length as u64,
+                0,
+                0,
+                0,
+                0,
+            ],
             ROT_READ_NUMBERS,
         ),
-        Answer::Echoed(n) => write_answer(answer, [2, 0, n as u64, 0, 0, 0, 0], ROT_READ_NUMBERS),
+        Answer::Echoed(n) => write_answer(
+            answer,
+            [ROT_ECHOED, 0, n as u64, 0, 0, 0, 0],
+            ROT_READ_NUMBERS,
+        ),
     }
 }
 
@@ -98,9 +114,9 @@ fn short_read(read: Answer) -> u32
 {
     match read {
         Answer::Refused(why) => number(why),
-        Answer::Nothing => 8,
-        Answer::Message(_) => 8,
-        Answer::Echoed(_) => 8,
+        Answer::Nothing => refusals::NO_ROOM,
+        Answer::Message(_) => refusals::NO_ROOM,
+        Answer::Echoed(_) => refusals::NO_ROOM,
     }
 }
 
@@ -108,7 +124,7 @@ fn short_written(written: Written) -> u32
     ensures { λ r. ⌜ r ≡ shortNumber (RotWriting.report written) ⌝ }
 {
     match written {
-        Written::Done(_) => 8,
+        Written::Done(_) => refusals::NO_ROOM,
         Written::Refused(why) => number(why),
     }
 }

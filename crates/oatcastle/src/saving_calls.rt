@@ -1,6 +1,7 @@
 // Saving the settings to an image, and restoring them from one.
 // Assumes nothing: no exported function has a `requires`.
 use crate::answer_writing::write_answer;
+use crate::refusals;
 use saving::restore::Restored;
 use saving::save::Saved;
 ghost use mathlib.Core.Path.{_≡_};
@@ -14,10 +15,10 @@ pub extern "C" fn oatcastle_save(settings: &[u8], out: &mut [u8], answer: &mut [
     ensures { λ r. ⌜ outcome r (now (out .exit), now (answer .exit)) ≡ saveCall (now (settings .entry)) (now (out .entry)) (now (answer .entry)) ⌝ }
 {
     if !supervisor::valid::settings_are_valid(settings) {
-        return 12;
+        return refusals::BAD_STATE;
     }
     if answer.len() < 1 {
-        return 8;
+        return refusals::NO_ROOM;
     }
     let saved = saving::save::save(settings, out);
     answer_saved(answer, saved)
@@ -29,8 +30,8 @@ fn answer_saved(answer: &mut [u64], saved: Saved) -> u32
 {
     match saved {
         Saved::Done(n) => write_answer(answer, [n as u64, 0, 0, 0, 0, 0, 0], 1),
-        Saved::Refused => 12,
-        Saved::NoRoom => 8,
+        Saved::Refused => refusals::BAD_STATE,
+        Saved::NoRoom => refusals::NO_ROOM,
     }
 }
 
@@ -40,15 +41,15 @@ pub extern "C" fn oatcastle_restore(settings: &mut [u8], image: &[u8], answer: &
     ensures { λ r. ⌜ outcome r (now (settings .exit), now (answer .exit)) ≡ restoreCall (now (settings .entry)) (now (image .entry)) (now (answer .entry)) ⌝ }
 {
     if !supervisor::valid::settings_are_valid(settings) {
-        return 12;
+        return refusals::BAD_STATE;
     }
     if answer.len() < 1 {
-        return 8;
+        return refusals::NO_ROOM;
     }
     let restored = saving::restore::restore(settings, image);
     match restored {
-        Restored::Done => 0,
-        Restored::Refused => 12,
+        Restored::Done => refusals::DONE,
+        Restored::Refused => refusals::BAD_STATE,
         Restored::Fault(number, offset) => {
             answer[0] = offset as u64;
             number as u32

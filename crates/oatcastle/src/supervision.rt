@@ -1,6 +1,7 @@
 // The supervisor's calls that change what they are lent: start, take, post an alert, set options.
 // Assumes nothing: no exported function has a `requires`.
 use crate::answer_writing::write_answer;
+use crate::refusals;
 use supervisor::alerts::Posted;
 use supervisor::layout;
 use supervisor::options::OptionsSet;
@@ -31,9 +32,9 @@ fn start_number(started: Started) -> u32
     ensures { λ r. ⌜ r ≡ numbered (startReport started) ⌝ }
 {
     match started {
-        Started::Done => 0,
-        Started::Refused => 12,
-        Started::BadData => 11,
+        Started::Done => refusals::DONE,
+        Started::Refused => refusals::BAD_STATE,
+        Started::BadData => refusals::BAD_START,
     }
 }
 
@@ -43,10 +44,10 @@ pub extern "C" fn oatcastle_take(outbox: &mut [u8], room: &mut [u8], answer: &mu
     ensures { λ r. ⌜ outcome r ((now (outbox .exit), now (room .exit)), now (answer .exit)) ≡ takeCall (now (outbox .entry)) (now (room .entry)) (now (answer .entry)) ⌝ }
 {
     if !supervisor::valid::outbox_is_valid(outbox) {
-        return 12;
+        return refusals::BAD_STATE;
     }
     if answer.len() < 1 {
-        return 8;
+        return refusals::NO_ROOM;
     }
     let taken = supervisor::outbox::take(outbox, room);
     answer_taken(answer, taken)
@@ -58,7 +59,7 @@ fn answer_taken(answer: &mut [u64], taken: Taken) -> u32
 {
     match taken {
         Taken::Moved(n) => write_answer(answer, [n as u64, 0, 0, 0, 0, 0, 0], 1),
-        Taken::Refused => 12,
+        Taken::Refused => refusals::BAD_STATE,
     }
 }
 
@@ -69,11 +70,11 @@ pub extern "C" fn oatcastle_post(registers: &mut [u8], action: u8, text: &[u8]) 
 {
     let posted = supervisor::alerts::post(registers, action, text);
     match posted {
-        Posted::Done => 0,
-        Posted::Refused => 12,
-        Posted::BadAction => 13,
-        Posted::TooLong => 9,
-        Posted::Full => 10,
+        Posted::Done => refusals::DONE,
+        Posted::Refused => refusals::BAD_STATE,
+        Posted::BadAction => refusals::BAD_VALUE,
+        Posted::TooLong => refusals::TOO_LONG,
+        Posted::Full => refusals::ALERTS_FULL,
     }
 }
 
@@ -84,8 +85,8 @@ pub extern "C" fn oatcastle_set_options(registers: &mut [u8], options: u64) -> u
 {
     let set = supervisor::options::set_options(registers, options);
     match set {
-        OptionsSet::Done => 0,
-        OptionsSet::Refused => 12,
-        OptionsSet::BadOption => 13,
+        OptionsSet::Done => refusals::DONE,
+        OptionsSet::Refused => refusals::BAD_STATE,
+        OptionsSet::BadOption => refusals::BAD_VALUE,
     }
 }

@@ -6,6 +6,7 @@ use mathlib.Core.Option.{none, some}
 use Prim.Native.Nat.{ℕ}
 use lib.Dec.{leb, eqb}
 use Rattle.line.specs.Limits.{longest-data}
+use Rattle.line.specs.Numbers.{command-status, command-start-acknowledged, command-alert}
 use Rattle.line.specs.Message.{Message}
 use Rattle.line.specs.Reader as LineReader
 use Rattle.line.specs.declared.reader.Head.{Head}
@@ -57,4 +58,4 @@ dataFit (LineReader.message version sequence command n) = leb n longest-data
 
 -- the command of the step with this number
 unfoldable pub stepCommand : ℕ → ℕ
-stepCommand n = cond (eqb n 1) 0x08 (cond (eqb n 2) 0x09 0x0a)
+stepCommand n = cond (eqb n 1) command-status (cond (eqb n 2) command-start-acknowledged command-alert)

@@ -9,9 +9,10 @@ use lib.Count.{ones}
 use lib.ListN.{length}
 use Rattle.octets.specs.Bytes.{numberAt}
 use Rattle.line.specs.Limits.{longest-data, longest-form}
+use Rattle.line.specs.Numbers.{first-version, top-bit, all-ones, status-length, command-reboot, command-power-off, command-boot-failure, reply-decode-failure, reply-status}
 use Rattle.line.specs.Message.{Message}
 use Rattle.line.specs.Judge.{Verdict, failure, good, judge}
-use Rattle.requester.specs.Limits.{last-number, all-ones, status-length}
+use Rattle.requester.specs.Limits.{last-number}
 use Rattle.requester.specs.State.{Request, Step, fetch, acknowledge, alert, State, state, isSome, outstanding, requestFrame}
 
 -- ---- The caller's calls
@@ -34,7 +35,7 @@ putOut room bs before after = cond (ltb room (length bs)) (refusedAs 8 before) (
 
 -- reboot, power off and boot failure never stay outstanding
 unfoldable pub staysOut : ℕ → Bool
-staysOut command = not (eqb command 0x01 || (eqb command 0x02 || eqb command 0x06))
+staysOut command = not (eqb command command-reboot || (eqb command command-power-off || eqb command command-boot-failure))
 
 abbrev pub keep : Request → Option Request
 keep q = cond (staysOut (q .command)) (some q) none
@@ -79,18 +80,18 @@ pub data Heard : Type 0 where
 
 -- the sequence that a reply to this number carries
 abbrev pub replySequence : ℕ → ℕ
-replySequence n = n + 2 ^ 63
+replySequence n = n + top-bit
 
 -- a decode failure, whatever its data, with the expected sequence or all ones
 abbrev pub failsDecode : ℕ → Message → Bool
-failsDecode n m = eqb (m .command) 0x02 && (eqb (m .sequence) (replySequence n) || eqb (m .sequence) all-ones)
+failsDecode n m = eqb (m .command) reply-decode-failure && (eqb (m .sequence) (replySequence n) || eqb (m .sequence) all-ones)
 
 -- n is the newest number
 unfoldable pub heard : ℕ → Verdict → Heard
 heard n (failure reason sequence) = ground
 heard n (good m) =
-    cond (not (eqb (m .version) 1)) ground
-    (cond (ltb (m .sequence) (2 ^ 63)) ground
+    cond (not (eqb (m .version) first-version)) ground
+    (cond (ltb (m .sequence) top-bit) ground
     (cond (failsDecode n m) ground
     (cond (eqb (m .sequence) (replySequence n)) (answer m) other)))
 
@@ -139,7 +140,7 @@ optionsOf m = numberAt 8 (m .payload) 8
 -- an answer to the fetch: 0x06 with 16 bytes, or the fetch is sent again
 unfoldable pub fetched : Bool → Message → Outcome
 fetched original m =
-    cond (eqb (m .command) 0x06 && eqb (length (m .payload)) status-length)
+    cond (eqb (m .command) reply-status && eqb (length (m .payload)) status-length)
     (outcome (status (statusOf m) (optionsOf m) (ones (statusOf m))) (served original (statusOf m)))
     (outcome nothing again)
 

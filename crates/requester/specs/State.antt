@@ -4,6 +4,7 @@ use mathlib.Core.Bool.{Bool, true, false}
 use mathlib.Core.List.{List, []}
 use mathlib.Core.Option.{Option, none, some}
 use Prim.Native.Nat.{ℕ}
+use Rattle.line.specs.Numbers.{first-version, command-status, command-start-acknowledged, command-alert}
 use Rattle.line.specs.Frame.{frame}
 
 -- a request: its command and its data
@@ -38,9 +39,9 @@ fresh = state 0 none none false (some [])
 
 -- 0x08, 0x09 and 0x0a have no data
 unfoldable pub stepRequest : Step → Request
-stepRequest fetch = record { command = 0x08; payload = [] }
-stepRequest acknowledge = record { command = 0x09; payload = [] }
-stepRequest alert = record { command = 0x0a; payload = [] }
+stepRequest fetch = record { command = command-status; payload = [] }
+stepRequest acknowledge = record { command = command-start-acknowledged; payload = [] }
+stepRequest alert = record { command = command-alert; payload = [] }
 
 abbrev pub isSome : {A : Type 0} → Option A → Bool
 isSome none = false
@@ -56,4 +57,4 @@ outstanding s = outstandingOf (s .recovery) (s .kept)
 
 -- a request's frame: version 1
 unfoldable pub requestFrame : ℕ → Request → List ℕ
-requestFrame n q = frame (record { version = 1; sequence = n; command = q .command; payload = q .payload })
+requestFrame n q = frame (record { version = first-version; sequence = n; command = q .command; payload = q .payload })

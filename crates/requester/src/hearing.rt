@@ -9,6 +9,7 @@ use crate::outcome::Next;
 use crate::outcome::Outcome;
 use crate::outcome::Status;
 use crate::progress;
+use line::numbers;
 use line::reader::Answer;
 use line::reader::Head;
 use line::reader::Unfinished;
@@ -16,19 +17,17 @@ ghost use mathlib.Core.Path.{_≡_};
 ghost use mathlib.Core.Bool.{true, cond, _&&_, _||_};
 ghost use mathlib.Core.List.{List};
 ghost use mathlib.Core.Option.{none, some};
-ghost use Prim.Native.Nat.{ℕ, _^_, _≤_, _<_};
+ghost use Prim.Native.Nat.{ℕ, _≤_, _<_};
 ghost use lib.Dec.{eqb};
 ghost use Rattle.line.specs.Limits.{longest-data};
+ghost use Rattle.line.specs.Numbers.{top-bit, all-ones, reply-decode-failure};
 ghost use Rattle.line.specs.Judge.{good};
 ghost use Rattle.line.specs.Reader.{report, dataOf, valid as readerValid};
-ghost use Rattle.requester.specs.Limits.{all-ones};
 ghost use Rattle.requester.specs.Requester.{heard, ground, nothing, same, outcome, served, fetched, answeredIn};
 ghost use Rattle.requester.specs.Layout.{numberOf, stepOf, isKept};
 ghost use Rattle.requester.specs.Valid.{validRequester};
 ghost use Rattle.requester.specs.Calls.{isOverlong, heardOf, outcomeOf};
 ghost use Rattle.requester.specs.Hearing.{headMessage, heardReport, nextOf, outcomeReport, outcomeReportOf, dataFit};
-
-const ALL_ONES: u64 = 0xffffffffffffffff;
 
 // What a good message is to the one outstanding.
 pub(crate) enum Heard {
@@ -39,26 +38,26 @@ pub(crate) enum Heard {
 
 // Whether a message is a decode failure of the one outstanding, or of none.
 fn fails_decode(expected: ReplyNumber, sequence: u64, command: u8) -> bool
-    ensures { λ r. ⌜ r ≡ (eqb command 0x02 && (eqb sequence (expected .0) || eqb sequence all-ones)) ⌝ }
+    ensures { λ r. ⌜ r ≡ (eqb command reply-decode-failure && (eqb sequence (expected .0) || eqb sequence all-ones)) ⌝ }
 {
-    if command != 0x02 {
+    if command != numbers::REPLY_DECODE_FAILURE {
         return false;
     }
     if sequence == expected.0 {
         return true;
     }
-    sequence == ALL_ONES
+    sequence == numbers::ALL_ONES
 }
 
 // By the newest number: a ground for sending the same bytes again, another reply, or the answer.
 fn hear(newest: RequestNumber, head: Head) -> Heard
-    requires { ⌜ newest .0 < 2 ^ 63 ⌝ }
+    requires { ⌜ newest .0 < top-bit ⌝ }
     ensures { λ r. ⌜ ((d : List ℕ) → heardReport r (headMessage head d) ≡ heard (newest .0) (good (headMessage head d))) ⌝ }
 {
-    if head.version != 1 {
+    if head.version != numbers::FIRST_VERSION {
         return Heard::Ground;
     }
-    if head.sequence < 0x8000000000000000 {
+    if head.sequence < numbers::TOP_BIT {
         return Heard::Ground;
     }
     let expected = reply_to(newest);
@@ -93,13 +92,13 @@ fn settle_fetch(reader: &[u8], original: bool, head: Head) -> Outcome
     requires { ⌜ head .length ≤ longest-data ⌝ }
     ensures { λ r. ⌜ outcomeReport r ≡ outcomeReportOf (fetched original (headMessage head (dataOf (now (reader .entry)) (head .length)))) ⌝ }
 {
-    if head.command != 0x06 {
+    if head.command != numbers::REPLY_STATUS {
         return Outcome {
             handed: Handed::Nothing,
             next: Next::Again,
         };
     }
-    if head.length != layout::STATUS_LENGTH {
+    if head.length != numbers::STATUS_LENGTH {
         return Outcome {
             handed: Handed::Nothing,
             next: Next::Again,

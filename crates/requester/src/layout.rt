@@ -1,15 +1,12 @@
 // The main processor's part: its published length, and which byte is where. docs/STATE.md lists every field.
 // Numbers are little-endian. Assumes nothing.
-
-// Limits of documents 01 and 02.
-pub const LONGEST_DATA: usize = 4104;
+use line::limits;
 
 // The count of a frame that is longer than any form.
-pub const OVERLONG: usize = 4141;
+pub const OVERLONG: usize = limits::LONGEST_FORM + 1;
 
+// Sequences run from 1 to this one.
 pub const LAST_NUMBER: u64 = 0x7ffffffffffffffe;
-
-pub const STATUS_LENGTH: usize = 16;
 
 pub const NUMBER_OFFSET: usize = 0;
 
@@ -25,7 +22,7 @@ pub const LENGTH_OFFSET: usize = 12;
 
 pub const DATA_OFFSET: usize = 14;
 
-pub const REQUESTER_LENGTH: usize = DATA_OFFSET + LONGEST_DATA;
+pub const REQUESTER_LENGTH: usize = DATA_OFFSET + limits::LONGEST_DATA;
 
 // The steps of a recovery.
 pub const NO_STEP: u8 = 0;

@@ -1,7 +1,9 @@
 // Request and reply numbers: two types, so that one is never passed for the other.
 // Assumes nothing of a request's number but that its top bit is clear, as the `requires` says.
+use line::numbers;
 ghost use mathlib.Core.Path.{_≡_};
-ghost use Prim.Native.Nat.{_^_, _<_};
+ghost use Prim.Native.Nat.{_<_};
+ghost use Rattle.line.specs.Numbers.{top-bit};
 ghost use Rattle.requester.specs.Number.{replyTo};
 
 pub struct RequestNumber(pub u64);
@@ -10,8 +12,8 @@ pub struct ReplyNumber(pub u64);
 
 // The sequence of a reply to a request.
 pub(crate) fn reply_to(n: RequestNumber) -> ReplyNumber
-    requires { ⌜ n .0 < 2 ^ 63 ⌝ }
+    requires { ⌜ n .0 < top-bit ⌝ }
     ensures { λ r. ⌜ r ≡ replyTo n ⌝ }
 {
-    ReplyNumber(n.0 + 0x8000000000000000)
+    ReplyNumber(n.0 + numbers::TOP_BIT)
 }

@@ -3,6 +3,8 @@
 use crate::layout;
 use crate::progress;
 use crate::valid;
+use line::limits;
+use line::numbers;
 use line::writer::Written;
 ghost use mathlib.Core.Path.{_≡_};
 ghost use mathlib.Core.Bool.{true};
@@ -40,7 +42,7 @@ pub fn request(requester: &mut [u8], command: u8, data: &[u8], out: &mut [u8]) -
     if !valid::requester_is_valid(requester) {
         return Requested::Refused;
     }
-    if layout::LONGEST_DATA < data.len() {
+    if limits::LONGEST_DATA < data.len() {
         return Requested::TooLong;
     }
     if progress::is_outstanding(requester) {
@@ -50,7 +52,14 @@ pub fn request(requester: &mut [u8], command: u8, data: &[u8], out: &mut [u8]) -
     if layout::LAST_NUMBER <= number {
         return Requested::NoNumber;
     }
-    let written = line::writer::write(1, number + 1, command, data, &data[0..0], out);
+    let written = line::writer::write(
+        numbers::FIRST_VERSION,
+        number + 1,
+        command,
+        data,
+        &data[0..0],
+        out,
+    );
     match written {
         Written::Done(n) => {
             keep(requester, number + 1, command, data);
@@ -110,7 +119,7 @@ fn write_outstanding(requester: &[u8], out: &mut [u8]) -> Written
         let command = octets::read_u8(requester, layout::COMMAND_OFFSET);
         let end = layout::DATA_OFFSET + n;
         return line::writer::write(
-            1,
+            numbers::FIRST_VERSION,
             number,
             command,
             &requester[layout::DATA_OFFSET..end],
@@ -119,7 +128,7 @@ fn write_outstanding(requester: &[u8], out: &mut [u8]) -> Written
         );
     }
     line::writer::write(
-        1,
+        numbers::FIRST_VERSION,
         number,
         step_command(step),
         &requester[0..0],
@@ -133,10 +142,10 @@ fn step_command(step: u8) -> u8
     ensures { λ r. ⌜ r ≡ stepCommand step ⌝ }
 {
     if step == layout::FETCH {
-        return 0x08;
+        return numbers::COMMAND_STATUS;
     }
     if step == layout::ACKNOWLEDGE {
-        return 0x09;
+        return numbers::COMMAND_START_ACKNOWLEDGED;
     }
-    0x0a
+    numbers::COMMAND_ALERT
 }

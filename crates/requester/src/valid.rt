@@ -1,6 +1,8 @@
 // The tests for 12 on the main processor's part.
 // Assumes nothing.
 use crate::layout;
+use line::limits;
+use line::numbers;
 ghost use mathlib.Core.Path.{_≡_};
 ghost use Rattle.requester.specs.Requester.{staysOut};
 ghost use Rattle.requester.specs.Valid.{validRequester};
@@ -9,13 +11,13 @@ ghost use Rattle.requester.specs.Valid.{validRequester};
 pub(crate) fn stays_out(command: u8) -> bool
     ensures { λ r. ⌜ r ≡ staysOut command ⌝ }
 {
-    if command == 0x01 {
+    if command == numbers::COMMAND_REBOOT {
         return false;
     }
-    if command == 0x02 {
+    if command == numbers::COMMAND_POWER_OFF {
         return false;
     }
-    command != 0x06
+    command != numbers::COMMAND_BOOT_FAILURE
 }
 
 pub fn requester_is_valid(requester: &[u8]) -> bool
@@ -36,7 +38,7 @@ pub fn requester_is_valid(requester: &[u8]) -> bool
     if 1 < octets::byte_at(requester, layout::KEPT_OFFSET) {
         return false;
     }
-    if layout::LONGEST_DATA < octets::word_at(requester, layout::LENGTH_OFFSET) {
+    if limits::LONGEST_DATA < octets::word_at(requester, layout::LENGTH_OFFSET) {
         return false;
     }
     stays_out(octets::read_u8(requester, layout::COMMAND_OFFSET))

@@ -12,9 +12,9 @@ use lib.Seq.{append-snoc}
 use borrow.Author.Tests.{eqb-true}
 use Rattle.octets.proofs.Conditions.{cond-by}
 use Rattle.line.specs.Limits.{longest-form}
+use Rattle.line.specs.Numbers.{status-length}
 use Rattle.line.specs.Message.{Message}
 use Rattle.line.specs.Judge.{Verdict, failure, good, judge}
-use Rattle.requester.specs.Limits.{status-length}
 use Rattle.requester.specs.State.{Step, fetch, acknowledge, alert, State, isSome}
 use Rattle.requester.specs.Requester
 use Rattle.requester.specs.Requester.{Handed, Heard, ground, other, answer, heard, failsDecode, replySequence, settled}

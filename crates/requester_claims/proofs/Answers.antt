@@ -12,8 +12,9 @@ use lib.ListN.{length}
 use borrow.Author.Tests.{not-false, eqb-true, eq-eqb}
 use Rattle.octets.proofs.Conditions.{cond-by}
 use Rattle.line.specs.Limits.{longest-data, longest-form}
+use Rattle.line.specs.Numbers.{status-length}
 use Rattle.line.specs.Judge.{Verdict, failure, good, judge}
-use Rattle.requester.specs.Limits.{last-number, status-length}
+use Rattle.requester.specs.Limits.{last-number}
 use Rattle.requester.specs.State.{Request, Step, fetch, acknowledge, alert, State, fresh, isSome, outstanding, requestFrame}
 use Rattle.requester.specs.Requester
 use Rattle.requester.specs.Requester.{Heard, ground, other, answer, heard, failsDecode, replySequence, settled, staysOut}

@@ -10,10 +10,11 @@ use lib.Dec.{leb, ltb, eqb}
 use lib.ListN.{length}
 use borrow.Author.Tests.{leb-false}
 use Rattle.octets.proofs.Conditions.{cond-by, cond-both}
+use Rattle.line.specs.Numbers.{status-length}
 use Rattle.line.specs.Message.{Message}
 use Rattle.line.specs.Judge.{good}
 use Rattle.line.specs.Reader as LineReader
-use Rattle.requester.specs.Limits.{last-number, status-length}
+use Rattle.requester.specs.Limits.{last-number}
 use Rattle.requester.specs.State.{Step, fetch, acknowledge, alert, isSome}
 use Rattle.requester.specs.Requester
 use Rattle.requester.specs.Requester.{Heard, ground, other, answer, Next, same, again, anew, idle, heard, failsDecode, replySequence, settled}

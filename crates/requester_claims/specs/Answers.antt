@@ -5,6 +5,7 @@ use mathlib.Core.Bool.{cond}
 use mathlib.Core.List.{List, [], _∷_}
 use mathlib.Core.Option.{Option, none, some}
 use Prim.Native.Nat.{ℕ, _+_}
+use Rattle.line.specs.Numbers.{reply-decode-failure}
 use Rattle.line.specs.Message.{Message}
 use Rattle.requester.specs.State.{Request}
 use Rattle.requester.specs.Requester.{replySequence, staysOut}
@@ -18,7 +19,7 @@ use Rattle.requester_claims.specs.Histories.{Call, Answer, refused, done
 pub record Matching (n version sequence command : ℕ) : Type 0 where
   pub version-1 : version ≡ 1
   pub reply : sequence ≡ replySequence n
-  pub no-failure : command ≡ 0x02 → ⊥
+  pub no-failure : command ≡ reply-decode-failure → ⊥
 
 -- a property of the message that is handed out to the caller, or as a recovery's alert: its version, sequence and command, and the data
 abbrev pub OfReport : (Message → Type 0) → Report → List ℕ → Type 0

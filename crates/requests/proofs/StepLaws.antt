@@ -14,12 +14,13 @@ use Rattle.octets.specs.Bytes.{bytes, run, numberAt}
 use Rattle.octets.proofs.Conditions.{cond-by}
 use Rattle.octets.proofs.Numbers.{length-bytes}
 use Rattle.line.specs.Limits.{longest-data}
+use Rattle.line.specs.Numbers.{first-version, second-version}
 use Rattle.line.specs.Reader as LineReader
 use Rattle.line.proofs.State.{Ready, valid-ready, ready-valid, ready-pushed}
 use Rattle.line.proofs.Held.{finish-leaves}
 use Rattle.supervisor.specs.Valid.{validFactory}
 use Rattle.supervisor.specs.Calls.{Parts, parts}
-use Rattle.requests.specs.Requests.{Verdict, failure, good, first-version, second-version, served, known, lengthAllowed, tested}
+use Rattle.requests.specs.Requests.{Verdict, failure, good, served, known, lengthAllowed, tested}
 use Rattle.requests.specs.Commands.{Command, commandOf}
 use Rattle.requests.specs.Receive
 use Rattle.requests.specs.declared.receive.Received.the-variants as received

@@ -5,6 +5,7 @@ use mathlib.Core.List.{List, [], _∷_}
 use mathlib.Core.Option.{Option, none, some}
 use Prim.Native.Nat.{ℕ}
 use lib.Dec.{leb, eqb}
+use Rattle.line.specs.Numbers.{command-reboot, command-power-off, command-bsu, command-identity, command-mac, command-boot-failure, command-panic, command-status, command-start-acknowledged, command-alert, command-image-block, command-key-lookup, command-inventory, command-key-set}
 
 pub data Command : Type 0 where
   reboot : Command
@@ -23,20 +24,30 @@ pub data Command : Type 0 where
   key-set : Command
 
 unfoldable pub numberOf : Command → ℕ
-numberOf reboot = 0x01
-numberOf power-off = 0x02
-numberOf bsu = 0x03
-numberOf identity = 0x04
-numberOf mac = 0x05
-numberOf boot-failure = 0x06
-numberOf panic = 0x07
-numberOf status = 0x08
-numberOf start-acknowledged = 0x09
-numberOf alert = 0x0a
-numberOf image-block = 0x0d
-numberOf key-lookup = 0x0e
-numberOf inventory = 0x0f
-numberOf key-set = 0x10
+numberOf reboot = command-reboot
+numberOf power-off = command-power-off
+numberOf bsu = command-bsu
+numberOf identity = command-identity
+numberOf mac = command-mac
+numberOf boot-failure = command-boot-failure
+numberOf panic = command-panic
+numberOf status = command-status
+numberOf start-acknowledged = command-start-acknowledged
+numberOf alert = command-alert
+numberOf image-block = command-image-block
+numberOf key-lookup = command-key-lookup
+numberOf inventory = command-inventory
+numberOf key-set = command-key-set
+
+-- the data of three of them: hash[32], offset u64; key u8, maxresponse u16; index u32
+abbrev pub image-block-length : ℕ
+image-block-length = 40
+
+abbrev pub key-lookup-length : ℕ
+key-lookup-length = 3
+
+abbrev pub inventory-length : ℕ
+inventory-length = 4
 
 -- how many bytes of data it may have
 unfoldable pub lengthRight : Command → ℕ → Bool
@@ -50,9 +61,9 @@ lengthRight panic n = leb 2 n
 lengthRight status n = eqb n 0
 lengthRight start-acknowledged n = eqb n 0
 lengthRight alert n = eqb n 0
-lengthRight image-block n = eqb n 40
-lengthRight key-lookup n = eqb n 3
-lengthRight inventory n = eqb n 4
+lengthRight image-block n = eqb n image-block-length
+lengthRight key-lookup n = eqb n key-lookup-length
+lengthRight inventory n = eqb n inventory-length
 lengthRight key-set n = leb 1 n
 
 -- ---- The command of a number

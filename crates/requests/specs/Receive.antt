@@ -7,6 +7,7 @@ use Prim.Native.Nat.{ℕ, suc, _+_, _-_, _*_}
 use lib.Dec.{leb, ltb, eqb}
 use lib.ListN.{length, take, drop, replicate}
 use Rattle.octets.specs.Bytes.{bytes, run, numberAt, overlay, equal}
+use Rattle.line.specs.Numbers.{status-length, reply-acknowledged, reply-decode-failure, reply-bsu, reply-identity, reply-mac, reply-status, reply-alert, reply-image-block, reply-key-lookup, reply-inventory, reply-key-set, first-version, second-version}
 use Rattle.line.specs.Message.{Message}
 use Rattle.line.specs.Frame.{frame}
 use Rattle.line.specs.Reader as LineReader
@@ -64,7 +65,7 @@ answering i reply command payload = inner (sentBox (replyBytes reply command pay
 
 -- an acknowledgement, and other registers
 unfoldable pub acknowledged : Inner → Head → List ℕ → Inner
-acknowledged i reply r = inner (sentBox (replyBytes reply 0x01 []) (i .outbox)) (i .settings) r
+acknowledged i reply r = inner (sentBox (replyBytes reply reply-acknowledged []) (i .outbox)) (i .settings) r
 
 -- no reply, and other registers
 unfoldable pub noReply : Inner → List ℕ → Inner
@@ -116,7 +117,7 @@ alertParts o r = record { outbox = o; registers = r }
 unfoldable pub alertAnswered : List ℕ → List ℕ → ℕ → ℕ → AlertParts
 alertAnswered o r version sequence =
     let q = alertRegisters r version sequence in
-    alertParts (sentBox (replyBytes (replyHead (Layout.retainedVersion q) sequence) 0x07 (retainedData q)) o) q
+    alertParts (sentBox (replyBytes (replyHead (Layout.retainedVersion q) sequence) reply-alert (retainedData q)) o) q
 
 -- an item's reply: result, name and type, and its data where the result is 0
 unfoldable pub itemDataLength : List ℕ → ℕ → ℕ
@@ -130,11 +131,11 @@ itemBytes f index =
     (1 ∷ replicate 33 0)
 
 unfoldable pub blockBytes : List ℕ → List ℕ → List ℕ → List ℕ
-blockBytes f image d = cond (equal (run 0 32 d) (run Layout.hash-offset 32 f)) (take Limits.longest-block (drop (numberAt 8 d 32) image)) []
+blockBytes f image d = cond (equal (run 0 Layout.hash-length d) (run Layout.hash-offset Layout.hash-length f)) (take Limits.longest-block (drop (numberAt 8 d Layout.hash-length) image)) []
 
 -- the result, and in version 2 the edition where the result is 0
 abbrev pub carriesEdition : ℕ → ℕ → Bool
-carriesEdition version result = eqb version Requests.second-version && eqb result 0
+carriesEdition version result = eqb version second-version && eqb result 0
 
 unfoldable pub valueHead : ℕ → ℕ → ℕ → List ℕ
 valueHead version result edition = bytes 1 result ++ cond (carriesEdition version result) (bytes 4 edition) []
@@ -178,7 +179,7 @@ keySetParts o s = record { outbox = o; settings = s }
 unfoldable pub keySetAnswered : List ℕ → List ℕ → Head → List ℕ → KeySet
 keySetAnswered o s reply d =
     let t = storing s (numberAt 1 d 0) (drop 1 d) in
-    keySetParts (sentBox (replyBytes reply 0x0c (bytes 1 (t .result))) o) (t .settings)
+    keySetParts (sentBox (replyBytes reply reply-key-set (bytes 1 (t .result))) o) (t .settings)
 
 -- ---- A valid request: its command, version, sequence and data
 
@@ -186,20 +187,20 @@ keySetAnswered o s reply d =
 unfoldable pub leftBy : Command → List ℕ → List ℕ → Inner → ℕ → ℕ → List ℕ → Inner
 leftBy Command.reboot image f i version sequence d = noReply i (askedFor (i .registers) Layout.reboot-offset)
 leftBy Command.power-off image f i version sequence d = noReply i (askedFor (i .registers) Layout.power-off-offset)
-leftBy Command.bsu image f i version sequence d = answering i (replyHead version sequence) 0x03 (run Layout.bsu-offset 1 f)
-leftBy Command.identity image f i version sequence d = answering i (replyHead version sequence) 0x04 (run Layout.identity-offset 26 f)
-leftBy Command.mac image f i version sequence d = answering i (replyHead version sequence) 0x05 (run Layout.mac-offset 9 f)
+leftBy Command.bsu image f i version sequence d = answering i (replyHead version sequence) reply-bsu (run Layout.bsu-offset 1 f)
+leftBy Command.identity image f i version sequence d = answering i (replyHead version sequence) reply-identity (run Layout.identity-offset Layout.identity-length f)
+leftBy Command.mac image f i version sequence d = answering i (replyHead version sequence) reply-mac (run Layout.mac-offset Layout.mac-length f)
 leftBy Command.boot-failure image f i version sequence d = noReply i (withRecord (i .registers) Layout.boot-failure-offset (numberAt 1 d 0) (drop 1 d))
 leftBy Command.panic image f i version sequence d =
     acknowledged i (replyHead version sequence) (withRecord (i .registers) Layout.panic-offset (numberAt 2 d 0) (drop 2 d))
-leftBy Command.status image f i version sequence d = answering i (replyHead version sequence) 0x06 (run Layout.status-offset 16 (i .registers))
+leftBy Command.status image f i version sequence d = answering i (replyHead version sequence) reply-status (run Layout.status-offset status-length (i .registers))
 leftBy Command.start-acknowledged image f i version sequence d =
     acknowledged i (replyHead version sequence) (overlay Layout.status-offset (bytes 8 (Requests.clearBit (Layout.statusOf (i .registers)) 0)) (i .registers))
 leftBy Command.alert image f i version sequence d =
     let a = alertAnswered (i .outbox) (i .registers) version sequence in inner (a .outbox) (i .settings) (a .registers)
-leftBy Command.image-block image f i version sequence d = answering i (replyHead version sequence) 0x09 (blockBytes f image d)
-leftBy Command.key-lookup image f i version sequence d = answering i (replyHead version sequence) 0x0a (valueBytes version f (i .settings) d)
-leftBy Command.inventory image f i version sequence d = answering i (replyHead version sequence) 0x0b (itemBytes f (numberAt 4 d 0))
+leftBy Command.image-block image f i version sequence d = answering i (replyHead version sequence) reply-image-block (blockBytes f image d)
+leftBy Command.key-lookup image f i version sequence d = answering i (replyHead version sequence) reply-key-lookup (valueBytes version f (i .settings) d)
+leftBy Command.inventory image f i version sequence d = answering i (replyHead version sequence) reply-inventory (itemBytes f (numberAt 4 d 0))
 leftBy Command.key-set image f i version sequence d =
     let k = keySetAnswered (i .outbox) (i .settings) (replyHead version sequence) d in inner (k .outbox) (k .settings) (i .registers)
 
@@ -213,7 +214,7 @@ carriedInner image f i version sequence command d = leftWhere (commandOf command
 -- ---- A frame, by the table's verdict on it
 
 unfoldable pub innerBy : List ℕ → List ℕ → Inner → Verdict → Inner
-innerBy image f i (failure reason version sequence) = answering i (failureHead version sequence) 0x02 (bytes 1 reason)
+innerBy image f i (failure reason version sequence) = answering i (failureHead version sequence) reply-decode-failure (bytes 1 reason)
 innerBy image f i (good m) = carriedInner image f i (m .version) (m .sequence) (m .command) (m .payload)
 
 abbrev pub messageBy : ℕ → ℕ → ℕ → List ℕ → Message
@@ -224,7 +225,7 @@ unfoldable pub verdictOf : List ℕ → LineReader.Report → Option Verdict
 verdictOf reader (LineReader.refused n) = none
 verdictOf reader LineReader.more = none
 verdictOf reader LineReader.empty = none
-verdictOf reader (LineReader.failed reason sequence) = some (failure reason Requests.first-version sequence)
+verdictOf reader (LineReader.failed reason sequence) = some (failure reason first-version sequence)
 verdictOf reader (LineReader.message version sequence command n) =
     some (Requests.tested (messageBy version sequence command (LineReader.dataOf reader n)))
 

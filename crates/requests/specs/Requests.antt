@@ -8,11 +8,12 @@ use lib.Dec.{leb, ltb, eqb}
 use lib.ListN.{length, take, drop, replicate}
 use Rattle.octets.specs.Bytes.{bytes, numberAt, equal, run}
 use Rattle.line.specs.Limits.{longest-form}
+use Rattle.line.specs.Numbers.{first-version, second-version, top-bit, all-ones, reply-acknowledged, reply-decode-failure, reply-bsu, reply-identity, reply-mac, reply-status, reply-alert, reply-image-block, reply-key-lookup, reply-inventory, reply-key-set, reason-form, reason-length, reason-version, reason-sequence, reason-data}
 use Rattle.line.specs.Message.{Message}
 use Rattle.line.specs.Frame.{frame}
 use Rattle.line.specs.Judge as Line
 use Rattle.line.specs.Judge.{judge}
-use Rattle.supervisor.specs.Limits.{highest-key, first-setting, longest-setting, shortest-setting, last-edition, most-kept, longest-block}
+use Rattle.supervisor.specs.Limits.{inventory-bad-index, highest-key, first-setting, longest-setting, shortest-setting, last-edition, most-kept, longest-block}
 use Rattle.supervisor.specs.State.{Item, Factory, Settings, setting, Recorded, Alert, Retained, State}
 use Rattle.supervisor.specs.State.{withStatus, withReboot, withPowerOff, withBootFailure, withPanic, withSetting, withSettings, withWaiting, withRetained, withReceived, withPending}
 use Rattle.supervisor.specs.Number.{topSet}
@@ -20,13 +21,6 @@ use Rattle.supervisor.specs.Local.{Found, bit, lookup}
 use Rattle.requests.specs.Commands.{Command, commandOf, isListed, mayHave}
 
 -- ---- Versions (document 02, item 5)
-
-abbrev pub first-version : ℕ
-first-version = 1
-
--- in which a lookup's reply carries the edition
-abbrev pub second-version : ℕ
-second-version = 2
 
 abbrev pub served : ℕ → Bool
 served version = eqb version first-version || eqb version second-version
@@ -50,10 +44,10 @@ pub data Verdict : Type 0 where
 -- version 1, to one of reason 6 or 7 the request's
 unfoldable pub tested : Message → Verdict
 tested m =
-    cond (not (served (m .version))) (failure 5 first-version (some (m .sequence)))
-    (cond (leb (2 ^ 63) (m .sequence)) (failure 6 (m .version) (some (m .sequence)))
-    (cond (not (known (m .command))) (failure 3 first-version none)
-    (cond (not (lengthAllowed (m .command) (length (m .payload)))) (failure 7 (m .version) (some (m .sequence)))
+    cond (not (served (m .version))) (failure reason-version first-version (some (m .sequence)))
+    (cond (leb top-bit (m .sequence)) (failure reason-sequence (m .version) (some (m .sequence)))
+    (cond (not (known (m .command))) (failure reason-length first-version none)
+    (cond (not (lengthAllowed (m .command) (length (m .payload)))) (failure reason-data (m .version) (some (m .sequence)))
     (good m))))
 
 -- the whole table, on the bytes before a 00
@@ -72,9 +66,6 @@ pub record Reply : Type 0 where
   pub command : ℕ
   pub payload : List ℕ
 
-abbrev pub all-ones : ℕ
-all-ones = 0xffffffffffffffff
-
 -- the sequence of a failure's reply: the request's with the top bit set, or all ones
 abbrev pub failureSequence : Option ℕ → ℕ
 failureSequence none = all-ones
@@ -82,7 +73,7 @@ failureSequence (some sequence) = topSet sequence
 
 -- the reply to a failure
 unfoldable pub failedOf : ℕ → ℕ → Option ℕ → Reply
-failedOf reason version sequence = record { version = version; sequence = failureSequence sequence; command = 0x02; payload = reason ∷ [] }
+failedOf reason version sequence = record { version = version; sequence = failureSequence sequence; command = reply-decode-failure; payload = reason ∷ [] }
 
 -- ---- What a valid request does: the state, and the reply's version, command and data, or none
 
@@ -121,11 +112,11 @@ bootFailure s bs = unanswered (withBootFailure s (some (recorded (numberAt 1 bs 
 
 -- 0x07: cause u16, rest free; recorded; acknowledged
 unfoldable pub panicked : ℕ → State → List ℕ → Carried
-panicked version s bs = replied (withPanic s (some (recorded (numberAt 2 bs 0) (drop 2 bs)))) version 0x01 []
+panicked version s bs = replied (withPanic s (some (recorded (numberAt 2 bs 0) (drop 2 bs)))) version reply-acknowledged []
 
 -- 0x09: clears status bit 0; acknowledged
 unfoldable pub startAcknowledged : ℕ → State → Carried
-startAcknowledged version s = replied (withStatus s (clearBit (s .status) 0)) version 0x01 []
+startAcknowledged version s = replied (withStatus s (clearBit (s .status) 0)) version reply-acknowledged []
 
 -- 0x0a: the retained reply again, as first written, where it has the request's sequence; else the oldest alert, or action 0 and no data, which is then
 -- retained with the request's version and sequence, and status bit 1 is cleared if none waits
@@ -147,12 +138,12 @@ unfoldable pub alertTaken : ℕ → State → ℕ → Carried
 alertTaken version s sequence =
     let rest = others (s .waiting) in
     let kept : Retained = record { version = version; sequence = sequence; alert = oldest (s .waiting) } in
-    replied (withRetained (withWaiting (withStatus s (statusAfter (s .status) rest)) rest) (some kept)) version 0x07 (alertData (oldest (s .waiting)))
+    replied (withRetained (withWaiting (withStatus s (statusAfter (s .status) rest)) rest) (some kept)) version reply-alert (alertData (oldest (s .waiting)))
 
 unfoldable pub alertAsked : ℕ → State → ℕ → Option Retained → Carried
 alertAsked version s sequence none = alertTaken version s sequence
 alertAsked version s sequence (some r) =
-    cond (eqb (r .sequence) sequence) (replied s (r .version) 0x07 (alertData (r .alert))) (alertTaken version s sequence)
+    cond (eqb (r .sequence) sequence) (replied s (r .version) reply-alert (alertData (r .alert))) (alertTaken version s sequence)
 
 -- 0x0d: up to 4,096 bytes of the image from the offset, none where the hash is not the start data's or the offset is at or past the end
 unfoldable pub block : Factory → List ℕ → List ℕ → List ℕ
@@ -163,7 +154,7 @@ abbrev pub editionBytes : ℕ → Found → List ℕ
 editionBytes version f = cond (eqb version second-version && eqb (f .result) 0) (bytes 4 (f .edition)) []
 
 abbrev pub found : ℕ → State → Found → Carried
-found version s f = replied s version 0x0a (f .result ∷ (editionBytes version f ++ f .value))
+found version s f = replied s version reply-key-lookup (f .result ∷ (editionBytes version f ++ f .value))
 
 -- 0x0f: out of range result 1, name and type zero, no data; a result other than 0 has no data
 abbrev pub itemData : Item → List ℕ
@@ -175,7 +166,7 @@ itemOf (i ∷ is) zero = some i
 itemOf (i ∷ is) (suc n) = itemOf is n
 
 unfoldable pub inventoried : Option Item → List ℕ
-inventoried none = 1 ∷ replicate 33 0
+inventoried none = inventory-bad-index ∷ replicate 33 0
 inventoried (some i) = itemData i
 
 -- 0x10: an invalid key 1, a read-only one 2, a wrong length 3, at the last edition 4, else 0 and stored, one edition on
@@ -197,23 +188,23 @@ stored s key v =
 unfoldable pub keySet : ℕ → State → List ℕ → Carried
 keySet version s bs =
     let t = stored (s .settings) (numberAt 1 bs 0) (drop 1 bs) in
-    replied (withSettings s (t .settings)) version 0x0c (t .result ∷ [])
+    replied (withSettings s (t .settings)) version reply-key-set (t .result ∷ [])
 
 -- what each command does; a reply carries the request's version, but a retained one that is sent again
 unfoldable pub effect : Command → List ℕ → State → Message → Carried
 effect Command.reboot image s m = reboot s
 effect Command.power-off image s m = powerOff s
-effect Command.bsu image s m = replied s (m .version) 0x03 (bytes 1 (s .factory .bsu))
-effect Command.identity image s m = replied s (m .version) 0x04 (s .factory .model ++ (bytes 4 (s .factory .revision) ++ s .factory .serial))
-effect Command.mac image s m = replied s (m .version) 0x05 (s .factory .base ++ (bytes 2 (s .factory .count) ++ bytes 1 (s .factory .stride)))
+effect Command.bsu image s m = replied s (m .version) reply-bsu (bytes 1 (s .factory .bsu))
+effect Command.identity image s m = replied s (m .version) reply-identity (s .factory .model ++ (bytes 4 (s .factory .revision) ++ s .factory .serial))
+effect Command.mac image s m = replied s (m .version) reply-mac (s .factory .base ++ (bytes 2 (s .factory .count) ++ bytes 1 (s .factory .stride)))
 effect Command.boot-failure image s m = bootFailure s (m .payload)
 effect Command.panic image s m = panicked (m .version) s (m .payload)
-effect Command.status image s m = replied s (m .version) 0x06 (bytes 8 (s .status) ++ bytes 8 (s .options))
+effect Command.status image s m = replied s (m .version) reply-status (bytes 8 (s .status) ++ bytes 8 (s .options))
 effect Command.start-acknowledged image s m = startAcknowledged (m .version) s
 effect Command.alert image s m = alertAsked (m .version) s (m .sequence) (s .retained)
-effect Command.image-block image s m = replied s (m .version) 0x09 (block (s .factory) image (m .payload))
+effect Command.image-block image s m = replied s (m .version) reply-image-block (block (s .factory) image (m .payload))
 effect Command.key-lookup image s m = found (m .version) s (lookup s (numberAt 1 (m .payload) 0) (numberAt 2 (m .payload) 1))
-effect Command.inventory image s m = replied s (m .version) 0x0b (inventoried (itemOf (s .factory .items) (numberAt 4 (m .payload) 0)))
+effect Command.inventory image s m = replied s (m .version) reply-inventory (inventoried (itemOf (s .factory .items) (numberAt 4 (m .payload) 0)))
 effect Command.key-set image s m = keySet (m .version) s (m .payload)
 
 -- a valid request, which has a listed command
@@ -250,7 +241,7 @@ judged image s (good m) = let c = carried image s m in sent (c .state) (replyOf 
 
 -- the verdict on the bytes since the last 00; none on an empty frame, which is ignored
 abbrev pub verdictSince : Option (List ℕ) → Option Verdict
-verdictSince none = some (failure 1 first-version none)
+verdictSince none = some (failure reason-form first-version none)
 verdictSince (some []) = none
 verdictSince (some (b ∷ bs)) = some (verdict (b ∷ bs))
 

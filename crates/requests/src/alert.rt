@@ -2,6 +2,7 @@
 // Assumes valid registers, as each `requires` states.
 use crate::head;
 use crate::sending::send_part;
+use line::numbers;
 use supervisor::layout;
 use supervisor::number::RequestNumber;
 ghost use mathlib.Core.Path.{_≡_};
@@ -29,7 +30,7 @@ pub(crate) fn alert(outbox: &mut [u8], registers: &mut [u8], version: u32, numbe
     send_part(
         outbox,
         reply,
-        0x07,
+        numbers::REPLY_ALERT,
         registers,
         at + layout::ALERT_ACTION_OFFSET,
         n,

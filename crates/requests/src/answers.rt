@@ -1,18 +1,24 @@
 // Requests that change no more than the pending reply.
 // Assumes valid parts, as each `requires` states.
-use crate::head;
 use crate::head::ReplyHead;
 use crate::sending::send;
 use crate::sending::send_part;
+use line::numbers;
 use supervisor::keys;
 use supervisor::layout;
 ghost use mathlib.Core.Path.{_≡_};
 ghost use mathlib.Core.Bool.{true, cond};
 ghost use Prim.Native.Nat.{_≤_, _<_};
 ghost use lib.ListN.{length};
+ghost use Rattle.line.specs.Numbers.{reply-image-block, reply-key-lookup, reply-inventory};
 ghost use Rattle.supervisor.specs.Layout.{outbox-length};
 ghost use Rattle.supervisor.specs.Valid.{validFactory, validSettings};
 ghost use Rattle.requests.specs.Receive.{itemDataLength, itemBytes, blockBytes, carriesEdition, valueBytes, sentBox, replyBytes};
+
+// The result for an index out of range, and the bytes of name and type behind it.
+const BAD_INDEX: u8 = 1;
+
+const NAME_AND_TYPE: usize = 33;
 
 // A block of the image: hash[32], offset u64.
 pub(crate) fn send_block(
@@ -24,17 +30,17 @@ pub(crate) fn send_block(
 )
     requires { ⌜ outbox-length ≤ length (now outbox) ⌝ }
     requires { ⌜ validFactory (now factory) ≡ true ⌝ }
-    ensures { λ _. ⌜ now (outbox .exit) ≡ sentBox (replyBytes reply 0x09 (blockBytes (now (factory .entry)) (now (image .entry)) (now («data» .entry)))) (now (outbox .entry)) ⌝ }
+    ensures { λ _. ⌜ now (outbox .exit) ≡ sentBox (replyBytes reply reply-image-block (blockBytes (now (factory .entry)) (now (image .entry)) (now («data» .entry)))) (now (outbox .entry)) ⌝ }
 {
-    if !octets::same(data, 0, factory, layout::HASH_OFFSET, 32) {
-        send_part(outbox, reply, 0x09, image, 0, 0);
+    if !octets::same(data, 0, factory, layout::HASH_OFFSET, layout::HASH_LENGTH) {
+        send_part(outbox, reply, numbers::REPLY_IMAGE_BLOCK, image, 0, 0);
         return;
     }
-    let offset = octets::read_u64(data, 32) as usize;
+    let offset = octets::read_u64(data, layout::HASH_LENGTH) as usize;
     send(
         outbox,
         reply,
-        0x09,
+        numbers::REPLY_IMAGE_BLOCK,
         &image[0..0],
         octets::part(image, offset, layout::LONGEST_BLOCK),
     );
@@ -51,7 +57,7 @@ pub(crate) fn send_value<'a>(
     requires { ⌜ outbox-length ≤ length (now outbox) ⌝ }
     requires { ⌜ validFactory (now factory) ≡ true ⌝ }
     requires { ⌜ validSettings (now settings) ≡ true ⌝ }
-    ensures { λ _. ⌜ now (outbox .exit) ≡ sentBox (replyBytes reply 0x0a (valueBytes (reply .version) (now (factory .entry)) (now (settings .entry)) (now («data» .entry)))) (now (outbox .entry)) ⌝ }
+    ensures { λ _. ⌜ now (outbox .exit) ≡ sentBox (replyBytes reply reply-key-lookup (valueBytes (reply .version) (now (factory .entry)) (now (settings .entry)) (now («data» .entry)))) (now (outbox .entry)) ⌝ }
 {
     let key = octets::read_u8(data, 0);
     let most = octets::read_u16(data, 1);
@@ -63,7 +69,7 @@ pub(crate) fn send_value<'a>(
     send(
         outbox,
         reply,
-        0x0a,
+        numbers::REPLY_KEY_LOOKUP,
         &head[0..n],
         keys::lookup(factory, settings, key, most),
     );
@@ -73,7 +79,7 @@ pub(crate) fn send_value<'a>(
 fn head_length(version: u32, result: u8) -> usize
     ensures { λ r. ⌜ (r ≡ cond (carriesEdition version result) 5 1) × (r ≤ 5) ⌝ }
 {
-    if version == head::SECOND_VERSION {
+    if version == numbers::SECOND_VERSION {
         if result == 0 {
             return 5;
         }
@@ -85,13 +91,19 @@ fn head_length(version: u32, result: u8) -> usize
 pub(crate) fn send_item(outbox: &mut [u8], reply: ReplyHead, factory: &[u8], index: usize)
     requires { ⌜ outbox-length ≤ length (now outbox) ⌝ }
     requires { ⌜ validFactory (now factory) ≡ true ⌝ }
-    ensures { λ _. ⌜ now (outbox .exit) ≡ sentBox (replyBytes reply 0x0b (itemBytes (now (factory .entry)) index)) (now (outbox .entry)) ⌝ }
+    ensures { λ _. ⌜ now (outbox .exit) ≡ sentBox (replyBytes reply reply-inventory (itemBytes (now (factory .entry)) index)) (now (outbox .entry)) ⌝ }
 {
     let count = octets::read_u32(factory, layout::ITEM_COUNT_OFFSET) as usize;
     if count <= index {
-        let result = [1u8];
-        let nothing = [0u8; 33];
-        send(outbox, reply, 0x0b, &result[0..1], &nothing[0..33]);
+        let result = [BAD_INDEX];
+        let nothing = [0u8; NAME_AND_TYPE];
+        send(
+            outbox,
+            reply,
+            numbers::REPLY_INVENTORY,
+            &result[0..1],
+            &nothing[0..NAME_AND_TYPE],
+        );
         return;
     }
     let at = layout::ITEMS_OFFSET + index * layout::ITEM_LENGTH;
@@ -100,7 +112,7 @@ pub(crate) fn send_item(outbox: &mut [u8], reply: ReplyHead, factory: &[u8], ind
     send(
         outbox,
         reply,
-        0x0b,
+        numbers::REPLY_INVENTORY,
         &factory[at..at + layout::ITEM_DATA_LENGTH_OFFSET],
         &factory[from..from + n],
     );
@@ -111,7 +123,7 @@ fn item_data_length(factory: &[u8], at: usize) -> usize
     requires { ⌜ at < 65536 ⌝ }
     ensures { λ r. ⌜ r ≡ itemDataLength (now (factory .entry)) at ⌝ }
 {
-    if octets::byte_at(factory, at) == 0 {
+    if octets::byte_at(factory, at) == layout::INVENTORY_ITEM {
         return octets::byte_at(factory, at + layout::ITEM_DATA_LENGTH_OFFSET);
     }
     0

@@ -1,20 +1,13 @@
 // The head of a reply: its version and its number.
 // Assumes nothing.
+use line::numbers;
 use supervisor::number;
 use supervisor::number::ReplyNumber;
 use supervisor::number::RequestNumber;
 ghost use mathlib.Core.Path.{_≡_};
 ghost use mathlib.Core.Option.{none};
-ghost use Rattle.requests.specs.Requests.{first-version};
+ghost use Rattle.line.specs.Numbers.{first-version};
 ghost use Rattle.requests.specs.Receive.{replyHead, failureHead};
-
-// The versions of requests and replies; in the second a lookup's reply carries the edition.
-pub(crate) const FIRST_VERSION: u32 = 1;
-
-pub(crate) const SECOND_VERSION: u32 = 2;
-
-// The number of a failure's reply whose request has none.
-const ALL_ONES: u64 = 0xffffffffffffffff;
 
 pub(crate) struct ReplyHead {
     pub version: u32,
@@ -36,9 +29,9 @@ pub(crate) fn head_to(version: u32, number: RequestNumber) -> ReplyHead
 pub(crate) fn unnumbered() -> ReplyHead
     ensures { λ r. ⌜ r ≡ failureHead first-version none ⌝ }
 {
-    let reply = ReplyNumber(ALL_ONES);
+    let reply = ReplyNumber(numbers::ALL_ONES);
     ReplyHead {
-        version: FIRST_VERSION,
+        version: numbers::FIRST_VERSION,
         number: reply,
     }
 }

@@ -4,6 +4,7 @@ use crate::head;
 use crate::outcome::Outcome;
 use crate::requests;
 use crate::sending::fail;
+use line::numbers;
 use line::reader::Answer;
 use supervisor::number::RequestNumber;
 use supervisor::valid;
@@ -163,17 +164,17 @@ fn settle(
                 registers,
             )
         }
-        Answer::BadForm => fail(outbox, head::unnumbered(), 1),
-        Answer::BadLength => fail(outbox, head::unnumbered(), 3),
+        Answer::BadForm => fail(outbox, head::unnumbered(), numbers::REASON_FORM),
+        Answer::BadLength => fail(outbox, head::unnumbered(), numbers::REASON_LENGTH),
         Answer::BadChecksum(sequence) => fail(
             outbox,
-            head::head_to(head::FIRST_VERSION, RequestNumber(sequence)),
-            2,
+            head::head_to(numbers::FIRST_VERSION, RequestNumber(sequence)),
+            numbers::REASON_CHECKSUM,
         ),
         Answer::BadMagic(sequence) => fail(
             outbox,
-            head::head_to(head::FIRST_VERSION, RequestNumber(sequence)),
-            4,
+            head::head_to(numbers::FIRST_VERSION, RequestNumber(sequence)),
+            numbers::REASON_MAGIC,
         ),
     }
 }

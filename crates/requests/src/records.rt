@@ -10,6 +10,7 @@ ghost use Prim.Native.Nat.{min, _≤_};
 ghost use lib.ListN.{length, drop};
 ghost use Rattle.octets.specs.Bytes.{bytes, numberAt, overlay};
 ghost use Rattle.line.specs.Limits.{longest-data};
+ghost use Rattle.line.specs.Numbers.{reply-acknowledged};
 ghost use Rattle.supervisor.specs.Layout.{outbox-length, registers-length, status-offset, statusOf, power-off-offset, boot-failure-offset, panic-offset};
 ghost use Rattle.requests.specs.Requests.{clearBit};
 ghost use Rattle.requests.specs.Receive.{sentBox, replyBytes, askedFor, withRecord};
@@ -46,7 +47,7 @@ pub(crate) fn panic(outbox: &mut [u8], registers: &mut [u8], reply: ReplyHead, d
     requires { ⌜ registers-length ≤ length (now registers) ⌝ }
     requires { ⌜ 2 ≤ length (now «data») ⌝ }
     requires { ⌜ length (now «data») ≤ longest-data ⌝ }
-    ensures { λ _. ⌜ now (outbox .exit) ≡ sentBox (replyBytes reply 0x01 []) (now (outbox .entry)) ⌝ }
+    ensures { λ _. ⌜ now (outbox .exit) ≡ sentBox (replyBytes reply reply-acknowledged []) (now (outbox .entry)) ⌝ }
     ensures { λ _. ⌜ now (registers .exit) ≡ withRecord (now (registers .entry)) panic-offset (numberAt 2 (now («data» .entry)) 0) (drop 2 (now («data» .entry))) ⌝ }
 {
     set_record(
@@ -79,7 +80,7 @@ fn set_record(registers: &mut [u8], at: usize, code: u16, data: &[u8], from: usi
 pub(crate) fn start_acknowledged(outbox: &mut [u8], registers: &mut [u8], reply: ReplyHead)
     requires { ⌜ outbox-length ≤ length (now outbox) ⌝ }
     requires { ⌜ registers-length ≤ length (now registers) ⌝ }
-    ensures { λ _. ⌜ now (outbox .exit) ≡ sentBox (replyBytes reply 0x01 []) (now (outbox .entry)) ⌝ }
+    ensures { λ _. ⌜ now (outbox .exit) ≡ sentBox (replyBytes reply reply-acknowledged []) (now (outbox .entry)) ⌝ }
     ensures { λ _. ⌜ now (registers .exit) ≡ overlay status-offset (bytes 8 (clearBit (statusOf (now (registers .entry))) 0)) (now (registers .entry)) ⌝ }
 {
     let status = octets::read_u64(registers, layout::STATUS_OFFSET);

@@ -13,6 +13,7 @@ use crate::records::start_acknowledged;
 use crate::sending::fail;
 use crate::sending::send_part;
 use crate::settings::set_key;
+use line::numbers;
 use supervisor::layout;
 use supervisor::number::RequestNumber;
 ghost use mathlib.Core.Path.{_≡_};
@@ -24,6 +25,13 @@ ghost use Rattle.supervisor.specs.Layout.{outbox-length};
 ghost use Rattle.supervisor.specs.Valid.{validFactory};
 ghost use Rattle.requests.specs.Requests.{served, tested, known, lengthAllowed};
 ghost use Rattle.requests.specs.Receive.{inner, validInner, carriedInner, innerBy, messageBy, endedBy, endedReport};
+
+// The data of three requests: hash[32], offset u64; key u8, maxresponse u16; index u32.
+const IMAGE_BLOCK_LENGTH: usize = 40;
+
+const KEY_LOOKUP_LENGTH: usize = 3;
+
+const INVENTORY_LENGTH: usize = 4;
 
 // A message that the line layer found good: failure 5, 6, 3 or 7, or what the request does.
 pub(crate) fn request(
@@ -45,20 +53,20 @@ pub(crate) fn request(
     ensures { λ _. ⌜ inner (now (outbox .exit)) (now (settings .exit)) (now (registers .exit)) ≡ innerBy (now (image .entry)) (now (factory .entry)) (inner (now (outbox .entry)) (now (settings .entry)) (now (registers .entry))) (tested (messageBy version (number .0) command (now («data» .entry)))) ⌝ }
     ensures { λ _. ⌜ validInner (inner (now (outbox .exit)) (now (settings .exit)) (now (registers .exit))) ≡ true ⌝ }
 {
-    let first = head::head_to(head::FIRST_VERSION, number);
+    let first = head::head_to(numbers::FIRST_VERSION, number);
     if !is_served(version) {
-        return fail(outbox, first, 5);
+        return fail(outbox, first, numbers::REASON_VERSION);
     }
     let reply = head::head_to(version, number);
-    if 0x8000000000000000 <= number.0 {
-        return fail(outbox, reply, 6);
+    if numbers::TOP_BIT <= number.0 {
+        return fail(outbox, reply, numbers::REASON_SEQUENCE);
     }
     if !is_known(command) {
         let none = head::unnumbered();
-        return fail(outbox, none, 3);
+        return fail(outbox, none, numbers::REASON_LENGTH);
     }
     if !length_is_allowed(command, data.len()) {
-        return fail(outbox, reply, 7);
+        return fail(outbox, reply, numbers::REASON_DATA);
     }
     carry(
         image,
@@ -77,46 +85,46 @@ pub(crate) fn request(
 fn is_served(version: u32) -> bool
     ensures { λ r. ⌜ r ≡ served version ⌝ }
 {
-    if version == head::FIRST_VERSION {
+    if version == numbers::FIRST_VERSION {
         return true;
     }
-    version == head::SECOND_VERSION
+    version == numbers::SECOND_VERSION
 }
 
 // Whether a command is among those of document 01.
 fn is_known(command: u8) -> bool
     ensures { λ r. ⌜ r ≡ known command ⌝ }
 {
-    if command < 0x01 {
+    if command < numbers::COMMAND_REBOOT {
         return false;
     }
-    if command <= 0x0a {
+    if command <= numbers::COMMAND_ALERT {
         return true;
     }
-    if command < 0x0d {
+    if command < numbers::COMMAND_IMAGE_BLOCK {
         return false;
     }
-    command <= 0x10
+    command <= numbers::COMMAND_KEY_SET
 }
 
 fn length_is_allowed(command: u8, n: usize) -> bool
     ensures { λ r. ⌜ r ≡ lengthAllowed command n ⌝ }
 {
     match command {
-        0x01 => n == 0,
-        0x02 => n == 0,
-        0x03 => n == 0,
-        0x04 => n == 0,
-        0x05 => n == 0,
-        0x06 => 1 <= n,
-        0x07 => 2 <= n,
-        0x08 => n == 0,
-        0x09 => n == 0,
-        0x0a => n == 0,
-        0x0d => n == 40,
-        0x0e => n == 3,
-        0x0f => n == 4,
-        0x10 => 1 <= n,
+        numbers::COMMAND_REBOOT => n == 0,
+        numbers::COMMAND_POWER_OFF => n == 0,
+        numbers::COMMAND_BSU => n == 0,
+        numbers::COMMAND_IDENTITY => n == 0,
+        numbers::COMMAND_MAC => n == 0,
+        numbers::COMMAND_BOOT_FAILURE => 1 <= n,
+        numbers::COMMAND_PANIC => 2 <= n,
+        numbers::COMMAND_STATUS => n == 0,
+        numbers::COMMAND_START_ACKNOWLEDGED => n == 0,
+        numbers::COMMAND_ALERT => n == 0,
+        numbers::COMMAND_IMAGE_BLOCK => n == IMAGE_BLOCK_LENGTH,
+        numbers::COMMAND_KEY_LOOKUP => n == KEY_LOOKUP_LENGTH,
+        numbers::COMMAND_INVENTORY => n == INVENTORY_LENGTH,
+        numbers::COMMAND_KEY_SET => 1 <= n,
         _ => false,
     }
 }
@@ -145,20 +153,53 @@ fn carry(
     let reason = octets::byte_at(data, 0);
     let reply = head::head_to(version, number);
     match command {
-        0x01 => ask_for(outbox, registers, layout::REBOOT_OFFSET),
-        0x02 => ask_for(outbox, registers, layout::POWER_OFF_OFFSET),
-        0x03 => send_part(outbox, reply, 0x03, factory, layout::BSU_OFFSET, 1),
-        0x04 => send_part(outbox, reply, 0x04, factory, layout::IDENTITY_OFFSET, 26),
-        0x05 => send_part(outbox, reply, 0x05, factory, layout::MAC_OFFSET, 9),
-        0x06 => boot_failure(outbox, registers, reason as u16, data),
-        0x07 => panic(outbox, registers, reply, data),
-        0x08 => send_part(outbox, reply, 0x06, registers, layout::STATUS_OFFSET, 16),
-        0x09 => start_acknowledged(outbox, registers, reply),
-        0x0a => alert(outbox, registers, version, number),
-        0x0d => send_block(outbox, reply, factory, image, data),
-        0x0e => send_value(outbox, reply, factory, settings, data),
-        0x0f => send_item(outbox, reply, factory, octets::read_u32(data, 0) as usize),
-        0x10 => set_key(outbox, settings, reply, data),
+        numbers::COMMAND_REBOOT => ask_for(outbox, registers, layout::REBOOT_OFFSET),
+        numbers::COMMAND_POWER_OFF => ask_for(outbox, registers, layout::POWER_OFF_OFFSET),
+        numbers::COMMAND_BSU => send_part(
+            outbox,
+            reply,
+            numbers::REPLY_BSU,
+            factory,
+            layout::BSU_OFFSET,
+            1,
+        ),
+        numbers::COMMAND_IDENTITY => send_part(
+            outbox,
+            reply,
+            numbers::REPLY_IDENTITY,
+            factory,
+            layout::IDENTITY_OFFSET,
+            layout::IDENTITY_LENGTH,
+        ),
+        numbers::COMMAND_MAC => send_part(
+            outbox,
+            reply,
+            numbers::REPLY_MAC,
+            factory,
+            layout::MAC_OFFSET,
+            layout::MAC_LENGTH,
+        ),
+        numbers::COMMAND_BOOT_FAILURE => boot_failure(outbox, registers, reason as u16, data),
+        numbers::COMMAND_PANIC => panic(outbox, registers, reply, data),
+        numbers::COMMAND_STATUS => send_part(
+            outbox,
+            reply,
+            numbers::REPLY_STATUS,
+            registers,
+            layout::STATUS_OFFSET,
+            numbers::STATUS_LENGTH,
+        ),
+        numbers::COMMAND_START_ACKNOWLEDGED => start_acknowledged(outbox, registers, reply),
+        numbers::COMMAND_ALERT => alert(outbox, registers, version, number),
+        numbers::COMMAND_IMAGE_BLOCK => send_block(outbox, reply, factory, image, data),
+        numbers::COMMAND_KEY_LOOKUP => send_value(outbox, reply, factory, settings, data),
+        numbers::COMMAND_INVENTORY => send_item(
+            outbox,
+            reply,
+            factory,
+            octets::read_u32(data, 0) as usize,
+        ),
+        numbers::COMMAND_KEY_SET => set_key(outbox, settings, reply, data),
         // The tests let no other number through.
         _ => {}
     }

@@ -2,6 +2,7 @@
 // Assumes that the outbox has its published length and that the data fit a message, as each `requires` states.
 use crate::head::ReplyHead;
 use crate::outcome::Outcome;
+use line::numbers;
 use line::writer::Written;
 use supervisor::layout;
 ghost use mathlib.Core.Path.{_≡_};
@@ -12,6 +13,7 @@ ghost use lib.Dec.{eqb};
 ghost use lib.ListN.{length};
 ghost use Rattle.octets.specs.Bytes.{bytes, run, overlay};
 ghost use Rattle.line.specs.Limits.{longest-data, longest-form};
+ghost use Rattle.line.specs.Numbers.{reply-acknowledged, reply-decode-failure};
 ghost use Rattle.supervisor.specs.Layout.{outbox-length, outbox-from-offset, outbox-bytes-offset, outboxTerminatorOwed};
 ghost use Rattle.requests.specs.Receive.{sentBox, replyBytes, failed, endedReport};
 
@@ -105,18 +107,18 @@ pub(crate) fn send_byte(outbox: &mut [u8], reply: ReplyHead, command: u8, byte: 
 // A reply without data.
 pub(crate) fn acknowledge(outbox: &mut [u8], reply: ReplyHead)
     requires { ⌜ outbox-length ≤ length (now outbox) ⌝ }
-    ensures { λ _. ⌜ now (outbox .exit) ≡ sentBox (replyBytes reply 0x01 []) (now (outbox .entry)) ⌝ }
+    ensures { λ _. ⌜ now (outbox .exit) ≡ sentBox (replyBytes reply reply-acknowledged []) (now (outbox .entry)) ⌝ }
 {
     let none = [0u8];
-    send_part(outbox, reply, 0x01, &none, 0, 0);
+    send_part(outbox, reply, numbers::REPLY_ACKNOWLEDGED, &none, 0, 0);
 }
 
 // A decode failure with its reason.
 pub(crate) fn fail(outbox: &mut [u8], reply: ReplyHead, reason: u8) -> Outcome
     requires { ⌜ outbox-length ≤ length (now outbox) ⌝ }
     ensures { λ r. ⌜ endedReport r ≡ failed reason ⌝ }
-    ensures { λ _. ⌜ now (outbox .exit) ≡ sentBox (replyBytes reply 0x02 (bytes 1 reason)) (now (outbox .entry)) ⌝ }
+    ensures { λ _. ⌜ now (outbox .exit) ≡ sentBox (replyBytes reply reply-decode-failure (bytes 1 reason)) (now (outbox .entry)) ⌝ }
 {
-    send_byte(outbox, reply, 0x02, reason);
+    send_byte(outbox, reply, numbers::REPLY_DECODE_FAILURE, reason);
     Outcome::Failure(reason)
 }

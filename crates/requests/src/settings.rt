@@ -2,6 +2,7 @@
 // Assumes that the store has its published length, as each `requires` states.
 use crate::head::ReplyHead;
 use crate::sending::send_byte;
+use line::numbers;
 use supervisor::layout;
 ghost use mathlib.Core.Path.{_≡_};
 ghost use Prim.Native.Nat.{_+_, _≤_, _<_};
@@ -17,7 +18,7 @@ pub(crate) fn set_key(outbox: &mut [u8], settings: &mut [u8], reply: ReplyHead, 
     ensures { λ _. ⌜ keySetParts (now (outbox .exit)) (now (settings .exit)) ≡ keySetAnswered (now (outbox .entry)) (now (settings .entry)) reply (now («data» .entry)) ⌝ }
 {
     let result = store(settings, octets::read_u8(data, 0), data);
-    send_byte(outbox, reply, 0x0c, result);
+    send_byte(outbox, reply, numbers::REPLY_KEY_SET, result);
 }
 
 // Stores the data behind the key, and answers the result.

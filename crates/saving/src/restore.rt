@@ -12,6 +12,19 @@ ghost use Rattle.supervisor.specs.Layout.{settings-length, setting-value-offset
 ghost use Rattle.saving.specs.Saving.{saved-count, lengthAt, entryAt, follows, recordStep, step, read};
 ghost use Rattle.saving.specs.Calls.{settingHead, cleared, put, putAll, restoreOf, restoring, stepOf, foundOf, faultIn, entriesIn, Whole};
 
+// The faults of an image.
+const BAD_MARK: u8 = 30;
+
+const BAD_KEY: u8 = 31;
+
+const TOO_LONG: u8 = 32;
+
+const BAD_CHECKSUM: u8 = 33;
+
+const CUT_SHORT: u8 = 34;
+
+const BYTES_AFTER: u8 = 35;
+
 pub enum Restored {
     Done,
     Refused,
@@ -79,22 +92,22 @@ fn pass(image: &[u8], before: u8, at: usize) -> Next
 {
     let left = image.len() - at;
     if left < image::MARK_LENGTH {
-        return Next::Bad(34, image.len());
+        return Next::Bad(CUT_SHORT, image.len());
     }
     if octets::same(image, at, b"KE", 0, image::MARK_LENGTH) {
         if image::MARK_LENGTH < left {
-            return Next::Bad(35, at + image::MARK_LENGTH);
+            return Next::Bad(BYTES_AFTER, at + image::MARK_LENGTH);
         }
         return Next::End;
     }
     if !octets::same(image, at, b"KV", 0, image::MARK_LENGTH) {
-        return Next::Bad(30, at);
+        return Next::Bad(BAD_MARK, at);
     }
     if left < image::EDITION_OFFSET {
-        return Next::Bad(34, image.len());
+        return Next::Bad(CUT_SHORT, image.len());
     }
     if !key_follows(before, octets::read_u8(image, at + image::KEY_OFFSET)) {
-        return Next::Bad(31, at + image::KEY_OFFSET);
+        return Next::Bad(BAD_KEY, at + image::KEY_OFFSET);
     }
     pass_record(image, at)
 }
@@ -119,20 +132,20 @@ fn pass_record(image: &[u8], at: usize) -> Next
 {
     let left = image.len() - at;
     if left < image::VALUE_OFFSET {
-        return Next::Bad(34, image.len());
+        return Next::Bad(CUT_SHORT, image.len());
     }
     let key = octets::read_u8(image, at + image::KEY_OFFSET);
     let n = octets::word_at(image, at + image::LENGTH_OFFSET);
     if layout::longest_setting(key) < n {
-        return Next::Bad(32, at + image::LENGTH_OFFSET);
+        return Next::Bad(TOO_LONG, at + image::LENGTH_OFFSET);
     }
     if left < image::RECORD_LENGTH + n {
-        return Next::Bad(34, image.len());
+        return Next::Bad(CUT_SHORT, image.len());
     }
     let body = image::VALUE_OFFSET + n;
     let sum = image::checksum_of(image, at, body);
     if octets::read_u16(image, at + body) != sum {
-        return Next::Bad(33, at + body);
+        return Next::Bad(BAD_CHECKSUM, at + body);
     }
     Next::To(key, at + (image::RECORD_LENGTH + n))
 }

@@ -14,7 +14,7 @@ use borrow.Author.Tests.{leb-true, le-leb, eqb-true, eq-eqb, not-true, not-false
 use Rattle.octets.specs.Bytes.{numberAt, run}
 use Rattle.octets.proofs.Equal.{equal-true, equal-refl}
 use Rattle.supervisor.specs.Limits
-use Rattle.supervisor.specs.Local.{optionsAllowed, pong}
+use Rattle.supervisor.specs.Local.{resultAllowed, bsuAllowed, optionsAllowed, pong}
 use Rattle.supervisor.specs.Layout
 use Rattle.supervisor.specs.Valid
 use Rattle.supervisor.specs.Valid.{SettingValid, SettingsValid}
@@ -95,7 +95,7 @@ pub record ItemGood (d : List ℕ) (i : ℕ) : Type 0 where
 pub item-good : (d : List ℕ) (i : ℕ) → Valid.goodItem d i ≡ true → ItemGood d i
 unfolding Valid.goodItem
 item-good d i e =
-    let t = both (Valid.resultAllowed (numberAt 1 d (Layout.item-offset i))) _ e in
+    let t = both (resultAllowed (numberAt 1 d (Layout.item-offset i))) _ e in
     record {
       result = ⊎-map (eqb-true _ _) (λ o. ⊎-map (eqb-true _ _) (eqb-true _ _) (either _ _ o)) (either _ _ (t .0));
       size = leb-true _ _ (t .1);
@@ -104,7 +104,7 @@ item-good d i e =
 pub good-item : (d : List ℕ) (i : ℕ) → ItemGood d i → Valid.goodItem d i ≡ true
 unfolding Valid.goodItem
 good-item d i g =
-    and (Valid.resultAllowed (numberAt 1 d (Layout.item-offset i))) _
+    and (resultAllowed (numberAt 1 d (Layout.item-offset i))) _
     (or _ _ (⊎-map (eq-eqb _ _) (λ o. or _ _ (⊎-map (eq-eqb _ _) (eq-eqb _ _) o)) (g .result)))
     (le-leb _ _ (g .size))
 
@@ -117,7 +117,7 @@ pub record StartGood (d : List ℕ) : Type 0 where
 pub start-good : (d : List ℕ) → Valid.goodStart d ≡ true → StartGood d
 unfolding Valid.goodStart
 start-good d e =
-    let a = both (Valid.bsuAllowed (numberAt 1 d Layout.bsu-offset)) _ e in
+    let a = both (bsuAllowed (numberAt 1 d Layout.bsu-offset)) _ e in
     let b = le-and _ _ _ (a .1) in
     let c = le-and _ _ _ (b .1) in
     record { bsu = ⊎-map (eqb-true _ _) (eqb-true _ _) (either _ _ (a .0)); image = b .0; count = c .0; items = c .1 }
@@ -125,7 +125,7 @@ start-good d e =
 pub good-start : (d : List ℕ) → StartGood d → Valid.goodStart d ≡ true
 unfolding Valid.goodStart
 good-start d g =
-    and (Valid.bsuAllowed (numberAt 1 d Layout.bsu-offset)) _
+    and (bsuAllowed (numberAt 1 d Layout.bsu-offset)) _
     (or _ _ (⊎-map (eq-eqb _ _) (eq-eqb _ _) (g .bsu)))
     (and-le _ _ _ (g .image) (and-le _ _ _ (g .count) (g .items)))
 

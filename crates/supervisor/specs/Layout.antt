@@ -41,18 +41,27 @@ bsu-offset = 0
 abbrev pub identity-offset : ℕ
 identity-offset = 1
 
+abbrev pub identity-length : ℕ
+identity-length = 26
+
 -- base[6], count u16, stride u8
 abbrev pub mac-offset : ℕ
-mac-offset = 27
+mac-offset = identity-offset + identity-length
+
+abbrev pub mac-length : ℕ
+mac-length = 9
 
 abbrev pub hash-offset : ℕ
-hash-offset = 36
+hash-offset = mac-offset + mac-length
+
+abbrev pub hash-length : ℕ
+hash-length = 32
 
 abbrev pub image-id-length-offset : ℕ
-image-id-length-offset = 68
+image-id-length-offset = hash-offset + hash-length
 
 abbrev pub image-id-offset : ℕ
-image-id-offset = 69
+image-id-offset = image-id-length-offset + 1
 
 abbrev pub items-offset : ℕ
 items-offset = image-id-offset + longest-image-id

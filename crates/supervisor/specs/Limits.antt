@@ -5,7 +5,26 @@ use Prim.Native.Nat.{ℕ, _+_, _-_, _≤_}
 use lib.ListN.{getD}
 use Rattle.line.specs.Limits.{longest-data, longest-form}
 
--- inventory
+-- what a BSU is
+abbrev pub bsu-a : ℕ
+bsu-a = 0x41
+
+abbrev pub bsu-b : ℕ
+bsu-b = 0x42
+
+-- inventory: the result of an item, of an index out of range, of an item that is absent and of one that failed
+abbrev pub inventory-item : ℕ
+inventory-item = 0
+
+abbrev pub inventory-bad-index : ℕ
+inventory-bad-index = 1
+
+abbrev pub inventory-absent : ℕ
+inventory-absent = 2
+
+abbrev pub inventory-failed : ℕ
+inventory-failed = 3
+
 abbrev pub most-items : ℕ
 most-items = 64
 

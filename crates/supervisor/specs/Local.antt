@@ -7,13 +7,20 @@ use Prim.Native.Nat.{ℕ, zero, suc, _+_, _/_, _%_, _^_}
 use lib.Dec.{leb, ltb, eqb}
 use lib.ListN.{length, take, drop, getD}
 use Rattle.octets.specs.Bytes.{bytes}
-use Rattle.supervisor.specs.Limits.{most-items, longest-item-data, longest-image-id, highest-key, passphrase-key, most-alerts, longest-alert, highest-option}
+use Rattle.supervisor.specs.Limits.{bsu-a, bsu-b, inventory-item, inventory-absent, inventory-failed, most-items, longest-item-data, longest-image-id, highest-key, passphrase-key, most-alerts, longest-alert, highest-option}
 use Rattle.supervisor.specs.State.{Item, Factory, Setting, State, setting, withStatus, withOptions, withWaiting, withPending, withTerminatorOwed, fresh}
 
 -- ---- Start data: refused as 11
 
+-- the result of an item
+abbrev pub resultAllowed : ℕ → Bool
+resultAllowed n = eqb n inventory-item || (eqb n inventory-absent || eqb n inventory-failed)
+
+abbrev pub bsuAllowed : ℕ → Bool
+bsuAllowed n = eqb n bsu-a || eqb n bsu-b
+
 unfoldable pub badItem : Item → Bool
-badItem i = ltb longest-item-data (length (i .payload)) || not (eqb (i .result) 0 || eqb (i .result) 2 || eqb (i .result) 3)
+badItem i = ltb longest-item-data (length (i .payload)) || not (resultAllowed (i .result))
 
 unfoldable pub anyBad : List Item → Bool
 anyBad [] = false
@@ -22,7 +29,7 @@ anyBad (i ∷ is) = badItem i || anyBad is
 unfoldable pub badStart : Factory → Bool
 badStart f =
     ltb most-items (length (f .items)) || anyBad (f .items) || ltb longest-image-id (length (f .image-id))
-    || not (eqb (f .bsu) 0x41 || eqb (f .bsu) 0x42)
+    || not (bsuAllowed (f .bsu))
 
 -- a refusal by its number, or the state that a call leaves
 pub data Done : Type 0 where

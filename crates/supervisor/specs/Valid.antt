@@ -7,7 +7,7 @@ use lib.Dec.{leb, eqb}
 use lib.ListN.{length}
 use Rattle.octets.specs.Bytes.{numberAt, run, equal}
 use Rattle.supervisor.specs.Limits
-use Rattle.supervisor.specs.Local.{optionsAllowed, pong}
+use Rattle.supervisor.specs.Local.{resultAllowed, bsuAllowed, optionsAllowed, pong}
 use Rattle.supervisor.specs.Layout
 use mathlib.Core.Path.{_≡_}
 use mathlib.Core.Logic.{_⊎_}
@@ -20,10 +20,6 @@ all p (suc n) = all p n && p n
 
 -- ---- Start data
 
--- the result of an item
-abbrev pub resultAllowed : ℕ → Bool
-resultAllowed n = eqb n 0 || (eqb n 2 || eqb n 3)
-
 unfoldable pub goodItem : List ℕ → ℕ → Bool
 goodItem d i =
     resultAllowed (numberAt 1 d (Layout.item-offset i))
@@ -32,9 +28,6 @@ goodItem d i =
 -- the first n items
 abbrev pub goodItems : List ℕ → ℕ → Bool
 goodItems d = all (goodItem d)
-
-abbrev pub bsuAllowed : ℕ → Bool
-bsuAllowed n = eqb n 0x41 || eqb n 0x42
 
 unfoldable pub goodStart : List ℕ → Bool
 goodStart d =

@@ -136,7 +136,7 @@ fn find(factory: &[u8], settings: &[u8], key: u8) -> Location
     ensures { λ r. ⌜ r ≡ locationOf (now (factory .entry)) (now (settings .entry)) key ⌝ }
 {
     if key == 0 {
-        return Location::Factory(layout::PONG_OFFSET, 4);
+        return Location::Factory(layout::PONG_OFFSET, layout::PONG_LENGTH);
     }
     if key == 1 {
         return Location::Factory(

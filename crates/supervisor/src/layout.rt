@@ -1,5 +1,6 @@
 // The lent parts: their published lengths, and which byte is where. docs/STATE.md lists every field.
 // Numbers are little-endian. Assumes nothing.
+use line::limits;
 ghost use mathlib.Core.Path.{_≡_};
 ghost use Prim.Native.Nat.{_≤_};
 ghost use Rattle.supervisor.specs.Limits.{longest-setting, shortest-setting, longest-value};
@@ -45,17 +46,29 @@ pub const MOST_KEPT: usize = 512;
 pub const LONGEST_BLOCK: usize = 4096;
 
 // The rest of a boot failure behind its reason, and of a panic behind its cause.
-pub const LONGEST_BOOT_FAILURE: usize = 4103;
+pub const LONGEST_BOOT_FAILURE: usize = limits::LONGEST_DATA - 1;
 
-pub const LONGEST_PANIC: usize = 4102;
+pub const LONGEST_PANIC: usize = limits::LONGEST_DATA - 2;
 
 // The highest option bit, and how many zeros lead where no higher one is set.
 pub const HIGHEST_OPTION: u32 = 8;
 
 pub const OPTION_ZEROS: u32 = 63 - HIGHEST_OPTION;
 
-// The outbox.
-pub const MOST_PENDING: usize = 4142;
+// What a BSU is.
+pub const BSU_A: usize = 0x41;
+
+pub const BSU_B: usize = 0x42;
+
+// The result of an inventory item.
+pub const INVENTORY_ITEM: usize = 0;
+
+pub const INVENTORY_ABSENT: usize = 2;
+
+pub const INVENTORY_FAILED: usize = 3;
+
+// The outbox: a 00 that is owed, the longest form and its terminator.
+pub const MOST_PENDING: usize = limits::LONGEST_FORM + 2;
 
 pub const OUTBOX_FROM_OFFSET: usize = 0;
 
@@ -72,13 +85,19 @@ pub const BSU_OFFSET: usize = 0;
 
 pub const IDENTITY_OFFSET: usize = 1;
 
-pub const MAC_OFFSET: usize = 27;
+pub const IDENTITY_LENGTH: usize = 26;
 
-pub const HASH_OFFSET: usize = 36;
+pub const MAC_OFFSET: usize = IDENTITY_OFFSET + IDENTITY_LENGTH;
 
-pub const IMAGE_ID_LENGTH_OFFSET: usize = 68;
+pub const MAC_LENGTH: usize = 9;
 
-pub const IMAGE_ID_OFFSET: usize = 69;
+pub const HASH_OFFSET: usize = MAC_OFFSET + MAC_LENGTH;
+
+pub const HASH_LENGTH: usize = 32;
+
+pub const IMAGE_ID_LENGTH_OFFSET: usize = HASH_OFFSET + HASH_LENGTH;
+
+pub const IMAGE_ID_OFFSET: usize = IMAGE_ID_LENGTH_OFFSET + 1;
 
 pub const ITEMS_OFFSET: usize = IMAGE_ID_OFFSET + LONGEST_IMAGE_ID;
 
@@ -96,7 +115,9 @@ pub const INVENTORY_VERSION_OFFSET: usize = START_LENGTH;
 
 pub const PONG_OFFSET: usize = INVENTORY_VERSION_OFFSET + 4;
 
-pub const FACTORY_LENGTH: usize = PONG_OFFSET + 4;
+pub const PONG_LENGTH: usize = 4;
+
+pub const FACTORY_LENGTH: usize = PONG_OFFSET + PONG_LENGTH;
 
 // The settings store.
 pub const SETTING_EDITION_OFFSET: usize = 1;

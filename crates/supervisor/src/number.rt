@@ -1,5 +1,6 @@
 // Request and reply numbers: two types, so that one is never passed for the other.
 // Assumes nothing.
+use line::numbers;
 ghost use mathlib.Core.Path.{_≡_};
 ghost use Rattle.supervisor.specs.Number.{replyTo};
 
@@ -11,8 +12,8 @@ pub struct ReplyNumber(pub u64);
 pub fn reply_to(n: RequestNumber) -> ReplyNumber
     ensures { λ r. ⌜ r ≡ replyTo n ⌝ }
 {
-    if n.0 < 0x8000000000000000 {
-        return ReplyNumber(n.0 + 0x8000000000000000);
+    if n.0 < numbers::TOP_BIT {
+        return ReplyNumber(n.0 + numbers::TOP_BIT);
     }
     ReplyNumber(n.0)
 }

@@ -62,7 +62,13 @@ fn set_factory(data: &[u8; layout::START_LENGTH], factory: &mut [u8])
 {
     octets::copy(data, 0, layout::START_LENGTH, factory, 0);
     octets::write_u32(factory, layout::INVENTORY_VERSION_OFFSET, 0);
-    octets::copy(b"pong", 0, 4, factory, layout::PONG_OFFSET);
+    octets::copy(
+        b"pong",
+        0,
+        layout::PONG_LENGTH,
+        factory,
+        layout::PONG_OFFSET,
+    );
 }
 
 // Status 1, and every other register 0.

@@ -14,9 +14,9 @@ fn item_is_good(d: &[u8], i: usize) -> bool
 {
     let at = layout::ITEMS_OFFSET + i * layout::ITEM_LENGTH;
     let result = octets::byte_at(d, at);
-    if result != 0 {
-        if result != 2 {
-            if result != 3 {
+    if result != layout::INVENTORY_ITEM {
+        if result != layout::INVENTORY_ABSENT {
+            if result != layout::INVENTORY_FAILED {
                 return false;
             }
         }
@@ -43,8 +43,8 @@ pub(crate) fn start_is_good(d: &[u8]) -> bool
     ensures { λ r. ⌜ r ≡ goodStart (now (d .entry)) ⌝ }
 {
     let bsu = octets::byte_at(d, layout::BSU_OFFSET);
-    if bsu != 0x41 {
-        if bsu != 0x42 {
+    if bsu != layout::BSU_A {
+        if bsu != layout::BSU_B {
             return false;
         }
     }
@@ -86,7 +86,13 @@ pub fn factory_is_valid(factory: &[u8]) -> bool
     if octets::read_u32(factory, layout::INVENTORY_VERSION_OFFSET) != 0 {
         return false;
     }
-    octets::same(factory, layout::PONG_OFFSET, b"pong", 0, 4)
+    octets::same(
+        factory,
+        layout::PONG_OFFSET,
+        b"pong",
+        0,
+        layout::PONG_LENGTH,
+    )
 }
 
 // A length below the shortest is 0, and no value is held.

@@ -8,6 +8,7 @@ use mathlib.Core.Option.{Option, none, some}
 use Prim.Native.Nat.{ℕ}
 use lib.Dec.{eqb}
 use Rattle.octets.specs.Bytes.{Each}
+use Rattle.line.specs.Numbers.{command-reboot, command-power-off, command-alert, reply-alert}
 use Rattle.line.specs.Message.{Message}
 use Rattle.line.specs.Frame.{frame}
 use Rattle.supervisor.specs.Number.{topSet}
@@ -34,7 +35,7 @@ retains (some r) = true
 
 -- after a valid request: none after a reboot or power-off, one after an alert request, else as before
 unfoldable pub retainsAfter : Bool → Message → Bool
-retainsAfter before m = cond (eqb (m .command) 0x01) false (cond (eqb (m .command) 0x02) false (cond (eqb (m .command) 0x0a) true before))
+retainsAfter before m = cond (eqb (m .command) command-reboot) false (cond (eqb (m .command) command-power-off) false (cond (eqb (m .command) command-alert) true before))
 
 -- after valid requests, in order
 unfoldable pub retainsAll : Bool → List Message → Bool
@@ -43,17 +44,17 @@ retainsAll before (m ∷ ms) = retainsAll (retainsAfter before m) ms
 
 -- a request that drops it, and one that is no alert request
 abbrev pub Drops : Message → Type 0
-Drops m = (m .command ≡ 0x01) ⊎ (m .command ≡ 0x02)
+Drops m = (m .command ≡ command-reboot) ⊎ (m .command ≡ command-power-off)
 
 abbrev pub NoAlert : Message → Type 0
-NoAlert m = eqb (m .command) 0x0a ≡ false
+NoAlert m = eqb (m .command) command-alert ≡ false
 
 -- an alert request of a version under number n, and the frame of a reply to it, under n with the top bit set
 abbrev pub alertOf : ℕ → ℕ → Message
-alertOf version n = record { version = version; sequence = n; command = 0x0a; payload = [] }
+alertOf version n = record { version = version; sequence = n; command = command-alert; payload = [] }
 
 unfoldable pub alertReply : ℕ → ℕ → Alert → List ℕ
-alertReply version n a = frame (record { version = version; sequence = topSet n; command = 0x07; payload = alertData a })
+alertReply version n a = frame (record { version = version; sequence = topSet n; command = reply-alert; payload = alertData a })
 
 -- the alert that a post adds where it is done
 abbrev pub whereDone : Answer → Alert → List Alert

@@ -10,6 +10,7 @@ use lib.Dec.{eqb}
 use lib.ListN.{length, take, drop}
 use Rattle.octets.specs.Bytes.{Each, Byte}
 use Rattle.line.specs.Limits.{longest-form}
+use Rattle.line.specs.Numbers.{first-version, command-key-set}
 use Rattle.line.specs.Message.{Message}
 use Rattle.line_claims.specs.Pieces.{split, nonEmpty}
 use Rattle.supervisor.specs.Limits.{last-edition, SettingsKey}
@@ -18,7 +19,7 @@ use Rattle.supervisor.specs.State.{Factory, Setting, Settings, State, fresh, wi
 use Rattle.supervisor.specs.Local
 use Rattle.supervisor.specs.Calls
 use Rattle.supervisor.specs.Calls.{Parts}
-use Rattle.requests.specs.Requests.{first-version, failure, good, verdict, wrongValueLength, stored, carried, stream}
+use Rattle.requests.specs.Requests.{failure, good, verdict, wrongValueLength, stored, carried, stream}
 use Rattle.requests.specs.Requests.{owed, replyFrame, replyOf, failedOf}
 use Rattle.supervisor_claims.specs.View.{factoryOf, view}
 use Rattle.supervisor_claims.specs.Sound.{Valid, Bytes, Sound, Lengths}
@@ -114,7 +115,7 @@ SetSuccessful = (z : Settings) (v : List ℕ) (k : ℕ) → SettingsKey k → (x
 
 abbrev pub SuccessfulExactly : Type 0
 SuccessfulExactly = (k : ℕ) → SettingsKey k → (x : Setting) → x .edition ≤ last-edition → (ms : List Message) (z : Settings) → Has z k (setAfter k x ms)
-    → (m : Message) (v : List ℕ) → m .command ≡ 0x10 → m .payload ≡ k ∷ v
+    → (m : Message) (v : List ℕ) → m .command ≡ command-key-set → m .payload ≡ k ∷ v
     → successful (x .edition) k (ms ++ (m ∷ [])) ≡ successful (x .edition) k ms ++ cond (eqb (stored z k v .result) 0) (v ∷ []) []
 
 pub record CarriedOut : Type 0 where

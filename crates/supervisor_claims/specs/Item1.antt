@@ -7,6 +7,7 @@ use mathlib.Core.Option.{Option, some}
 use Prim.Native.Nat.{ℕ}
 use lib.Dec.{eqb}
 use Rattle.octets.specs.Bytes.{Each}
+use Rattle.line.specs.Numbers.{command-reboot, command-power-off, command-alert, reply-alert}
 use Rattle.line.specs.Message.{Message}
 use Rattle.line_claims.specs.Pieces.{split}
 use Rattle.supervisor.specs.State.{State}
@@ -22,18 +23,18 @@ use Rattle.supervisor_claims.specs.Alerts.{retains, retainsAfter, retain
 -- ---- One request, one call
 
 abbrev pub RetainedStays : Type 0
-RetainedStays = (image : List ℕ) (s : State) (m : Message) → eqb (m .command) 0x01 ≡ false → eqb (m .command) 0x02 ≡ false → eqb (m .command) 0x0a ≡ false
+RetainedStays = (image : List ℕ) (s : State) (m : Message) → eqb (m .command) command-reboot ≡ false → eqb (m .command) command-power-off ≡ false → eqb (m .command) command-alert ≡ false
     → Keeps s (carried image s m .state)
 
 abbrev pub RebootForgets : Type 0
-RebootForgets = (image : List ℕ) (s : State) (m : Message) → m .command ≡ 0x01 → Forgets s (carried image s m .state)
+RebootForgets = (image : List ℕ) (s : State) (m : Message) → m .command ≡ command-reboot → Forgets s (carried image s m .state)
 
 abbrev pub PowerOffForgets : Type 0
-PowerOffForgets = (image : List ℕ) (s : State) (m : Message) → m .command ≡ 0x02 → Forgets s (carried image s m .state)
+PowerOffForgets = (image : List ℕ) (s : State) (m : Message) → m .command ≡ command-power-off → Forgets s (carried image s m .state)
 
 abbrev pub FreshAlert : Type 0
-FreshAlert = (image : List ℕ) (s t : State) (m : Message) → Forgets s t → m .command ≡ 0x0a
-    → (carried image t m .reply ≡ some (record { version = m .version; command = 0x07; payload = alertData (oldest (s .waiting)) }))
+FreshAlert = (image : List ℕ) (s t : State) (m : Message) → Forgets s t → m .command ≡ command-alert
+    → (carried image t m .reply ≡ some (record { version = m .version; command = reply-alert; payload = alertData (oldest (s .waiting)) }))
     × (carried image t m .state .waiting ≡ others (s .waiting))
 
 abbrev pub LocalKeeps : Type 0

@@ -4,6 +4,7 @@ use mathlib.Core.Path.{_≡_}
 use mathlib.Core.Bool.{true}
 use mathlib.Core.List.{List, [], _∷_}
 use Prim.Native.Nat.{ℕ, _+_, _<_}
+use Rattle.line.specs.Numbers.{reply-key-lookup}
 use Rattle.line.specs.Frame.{frame}
 use Rattle.supervisor.specs.Limits
 use Rattle.supervisor.specs.Number.{topSet}
@@ -17,7 +18,7 @@ use Rattle.supervisor_claims.specs.Item11.{ReplacedOther}
 
 -- the reply to a lookup of the passphrase: result 4 and nothing else
 abbrev pub passphraseReply : ℕ → ℕ → List ℕ
-passphraseReply version n = frame (record { version = version; sequence = topSet n; command = 0x0a; payload = 4 ∷ [] })
+passphraseReply version n = frame (record { version = version; sequence = topSet n; command = reply-key-lookup; payload = 4 ∷ [] })
 
 abbrev pub PassphraseUnread : List Made → Parts → Type 0
 PassphraseUnread ms q = (version n most : ℕ) → most < 65536

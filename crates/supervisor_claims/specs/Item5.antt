@@ -5,12 +5,12 @@ use mathlib.Core.List.{List, [], _∷_, _++_}
 use Prim.Native.Nat.{ℕ, _+_, _≤_, _<_}
 use lib.ListN.{length}
 use Rattle.octets.specs.Bytes.{bytes}
+use Rattle.line.specs.Numbers.{second-version, reply-key-lookup}
 use Rattle.line.specs.Frame.{frame}
 use Rattle.supervisor.specs.Number.{topSet}
 use Rattle.supervisor.specs.Local
 use Rattle.supervisor.specs.Calls
 use Rattle.supervisor.specs.Calls.{Parts}
-use Rattle.requests.specs.Requests.{second-version}
 use Rattle.supervisor_claims.specs.View.{view}
 use Rattle.supervisor_claims.specs.Sound.{Valid}
 use Rattle.supervisor_claims.specs.Histories.{Made, made, AfterCalls}
@@ -20,7 +20,7 @@ use Rattle.supervisor_claims.specs.Demand2.{ValueLastSet, SuccessfulExac
 
 -- the reply in version 2 that hands out an edition and a value
 unfoldable pub editionReply : ℕ → ℕ → List ℕ → List ℕ
-editionReply n edition v = frame (record { version = second-version; sequence = topSet n; command = 0x0a; payload = 0 ∷ (bytes 4 edition ++ v) })
+editionReply n edition v = frame (record { version = second-version; sequence = topSet n; command = reply-key-lookup; payload = 0 ∷ (bytes 4 edition ++ v) })
 
 abbrev pub ListEditionAnswered : List Made → Parts → Type 0
 ListEditionAnswered ms q = (n most : ℕ) → most < 65536 → OnRequest ms (lookupOf second-version n 5 most) (λ bs c. let x = originBehind 5 ms bs in

@@ -8,6 +8,7 @@ use Prim.Native.Nat.{ℕ, _+_, _-_}
 use lib.Dec.{leb, eqb}
 use lib.ListN.{length, take}
 use Rattle.octets.specs.Bytes.{bytes}
+use Rattle.line.specs.Numbers.{command-key-set, command-key-lookup, reply-key-lookup}
 use Rattle.line.specs.Message.{Message}
 use Rattle.line.specs.Frame.{frame}
 use Rattle.line_claims.specs.Pieces.{split, nonEmpty}
@@ -48,7 +49,7 @@ valueFor k (key ∷ v) = cond (eqb key k) (cond (wrongValueLength k (length v)) 
 
 -- the value that a request has for key k, where it is a set of it
 unfoldable pub setBy : ℕ → Message → Option (List ℕ)
-setBy k m = cond (eqb (m .command) 0x10) (valueFor k (m .payload)) none
+setBy k m = cond (eqb (m .command) command-key-set) (valueFor k (m .payload)) none
 
 abbrev pub listedIf : Option (List ℕ) → List (List ℕ)
 listedIf none = []
@@ -149,14 +150,14 @@ fittedOf most x = Local.fitted most (x .edition) (x .value)
 
 -- a lookup of key k with maxresponse `most`, under number n
 abbrev pub lookupOf : ℕ → ℕ → ℕ → ℕ → Message
-lookupOf version n k most = record { version = version; sequence = n; command = 0x0e; payload = bytes 1 k ++ bytes 2 most }
+lookupOf version n k most = record { version = version; sequence = n; command = command-key-lookup; payload = bytes 1 k ++ bytes 2 most }
 
 -- the frame of its reply, under n with the top bit set: result 2 where there is no value, 3 where the value is longer than maxresponse,
 -- else 0 and the value, in version 2 behind its edition
 unfoldable pub lookupReply : ℕ → ℕ → ℕ → Setting → List ℕ
 lookupReply version n most x =
     let f = fittedOf most x in
-    frame (record { version = version; sequence = topSet n; command = 0x0a; payload = f .result ∷ (editionBytes version f ++ f .value) })
+    frame (record { version = version; sequence = topSet n; command = reply-key-lookup; payload = f .result ∷ (editionBytes version f ++ f .value) })
 
 -- a settings key that is read back
 pub record ReadBack (k : ℕ) : Type 0 where

@@ -16,6 +16,7 @@ use Rattle.octets.proofs.Numbers.{number-small}
 use Rattle.supervisor.specs.Layout
 use Rattle.both_claims.proofs.laws.Lists.{none-some}
 use Rattle.octets.proofs.Each.{each-append}
+use Rattle.line.specs.Numbers.{first-version, second-version}
 use Rattle.line.specs.Message.{Message, InRange}
 use Rattle.line.specs.Reader as LineReader
 use Rattle.line.proofs.State.{valid-ready, count-counted}
@@ -23,7 +24,7 @@ use Rattle.line_claims.specs.Pieces.{NonZero, split}
 use Rattle.line_claims.proofs.Pieces.{split-at}
 use Rattle.supervisor.specs.State.{Retained, State, withReceived}
 use Rattle.supervisor.specs.Calls.{Parts}
-use Rattle.requests.specs.Requests.{served, first-version, second-version, good, verdict, stream, replyOf}
+use Rattle.requests.specs.Requests.{served, good, verdict, stream, replyOf}
 use Rattle.supervisor_claims.specs.ByPart.{Part, withPart}
 use Rattle.supervisor_claims.specs.View.{receivedOf, retainedOf, view}
 use Rattle.supervisor_claims.specs.Sound.{Sound}

@@ -12,8 +12,9 @@ use lib.ListN.{length}
 use borrow.Author.Tests.{leb-true, leb-false}
 use Rattle.octets.proofs.Conditions.{cond-by}
 use Rattle.line.specs.Limits.{longest-data}
+use Rattle.line.specs.Numbers.{status-length}
 use Rattle.line.specs.Message.{Message}
-use Rattle.requester.specs.Limits.{last-number, status-length}
+use Rattle.requester.specs.Limits.{last-number}
 use Rattle.requester.specs.State.{Request, Step, fetch, acknowledge, alert, State, isSome, outstanding, requestFrame}
 use Rattle.requester.specs.Requester
 use Rattle.requester.specs.Requester.{Handed, Heard, ground, other, answer, settled, Result, withReceived}

@@ -12,6 +12,7 @@ use borrow.Author.Tests.{eqb-true}
 use Rattle.octets.specs.Bytes.{Each, Byte}
 use Rattle.octets.proofs.Conditions.{cond-by}
 use Rattle.octets.proofs.Each.{each-append, each-take}
+use Rattle.line.specs.Numbers.{status-length}
 use Rattle.line.specs.Message.{Message, InRange}
 use Rattle.line.specs.Frame.{frame}
 use Rattle.line.specs.Judge.{good}
@@ -23,7 +24,6 @@ use Rattle.requester.specs.State as MainState
 use Rattle.requester.specs.State.{Request, Step, fetch, acknowledge, alert, outstanding, outstandingOf, isSome}
 use Rattle.requester.specs.Requester
 use Rattle.requester.specs.Requester.{Heard, ground, other, answer, heard, settled}
-use Rattle.requester.specs.Limits.{status-length}
 use Rattle.requester.specs.Calls.{reportOf}
 use Rattle.requester_claims.specs.Histories as Main
 use Rattle.requester_claims.specs.Histories.{meant, meantMade, enough}

@@ -16,6 +16,7 @@ use Rattle.octets.proofs.Conditions.{cond-by, cond-both}
 use Rattle.octets.proofs.Each.{each-append, each-run}
 use Rattle.octets.proofs.Numbers.{one-byte, bytes-each}
 use Rattle.octets.proofs.Overlay.{number-run, run-add}
+use Rattle.line.specs.Numbers.{second-version}
 use Rattle.supervisor.specs.Limits
 use Rattle.supervisor.specs.Layout
 use Rattle.supervisor.specs.State.{Item, State}
@@ -210,7 +211,7 @@ module _ (p : Calls.Parts) (v : Valid p) (fb : Each Byte (p .factory)) (sb : Eac
   head-meant version f edition small e =
       rw (one-byte (f .result) (omega arith))
       (cond-both (λ (xs ys : List ℕ). (f .result ∷ (xs ++ f .value)) ≡ (f .result ∷ (ys ++ f .value))) (carriesEdition version (f .result))
-      (λ t. rw (e (eqb-true (f .result) 0 (and-eq-true-iff (eqb version Requests.second-version) _ .0 t .1)))) (λ t. refl))
+      (λ t. rw (e (eqb-true (f .result) 0 (and-eq-true-iff (eqb version second-version) _ .0 t .1)))) (λ t. refl))
 
   pub value-meant : (version : ℕ) (d : List ℕ) → let found = Local.lookup (view p) (numberAt 1 d 0) (numberAt 2 d 1) in
       valueBytes version (p .factory) (p .settings) d ≡ found .result ∷ (Requests.editionBytes version found ++ found .value)

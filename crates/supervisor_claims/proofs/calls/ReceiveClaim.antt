@@ -12,6 +12,7 @@ use Rattle.octets.specs.Bytes.{Each, Byte}
 use Rattle.octets.proofs.Conditions.{cond-by, cond-both}
 use Rattle.octets.proofs.Numbers.{one-byte, number-small}
 use Rattle.line.specs.Limits.{longest-form}
+use Rattle.line.specs.Numbers.{first-version}
 use Rattle.line.specs.Message.{Message}
 use Rattle.line.specs.Judge as Line
 use Rattle.line.specs.Judge.{decoded, wrongLength, wrongChecksum, wrongMagic, judgeForm, judge}
@@ -189,7 +190,7 @@ module _ (image : List ℕ) (each : Each Byte image) (p : Parts) (s : Sound p) w
   closed-leaves : (r : Option (List ℕ)) → receivedOf (p .reader) ≡ r
       → Leaves p (Receive.partsWith p ended (Receive.innerAfter image (p .factory) (Receive.innerOf p) (verdictSince r))) (Requests.closed image (view p) r)
   unfolding Receive.innerAfter Requests.closed
-  closed-leaves none e = frame-leaves (failure 1 Requests.first-version none) (omega arith)
+  closed-leaves none e = frame-leaves (failure 1 first-version none) (omega arith)
   closed-leaves (some []) e =
       let a = rw (finished-received (p .reader) (s .valid .reader)) at (reader-leaves p s ended (finished-kept (p .reader) (s .valid .reader))) in
       (a .0 ∙ progress-same (view p) (some []) (received-view ∙ e), a .1, a .2)

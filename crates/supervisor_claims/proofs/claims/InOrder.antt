@@ -12,6 +12,7 @@ use lib.Seq.{append-snoc}
 use borrow.Author.Tests.{ltb-true, ltb-false, lt-ltb, le-ltb}
 use Rattle.octets.proofs.Conditions.{cond-both}
 use Rattle.line.specs.Limits.{longest-form}
+use Rattle.line.specs.Numbers.{first-version}
 use Rattle.line.specs.Message.{Message}
 use Rattle.line.specs.Judge.{judgeForm, judge}
 use Rattle.line_claims.specs.Pieces.{split, nonEmpty}
@@ -20,7 +21,7 @@ use Rattle.supervisor.specs.State.{Retained, State, withReceived, withPending, 
 use Rattle.supervisor.specs.Local.{lookup, entryOf}
 use Rattle.requests.specs.Commands.{Command, commandOf}
 use Rattle.requests.specs.Requests
-use Rattle.requests.specs.Requests.{Verdict, failure, good, first-version, Carried, verdict, effect, carriedBy, carried, judged, closed, more, byte, stream, owed, replyFrame, sent, replyOf}
+use Rattle.requests.specs.Requests.{Verdict, failure, good, Carried, verdict, effect, carriedBy, carried, judged, closed, more, byte, stream, owed, replyFrame, sent, replyOf}
 use Rattle.supervisor_claims.specs.FrameHistory.{framed, allFramed, tailOf, following}
 use Rattle.supervisor_claims.specs.Replies.{doneBy, replyBy}
 use Rattle.supervisor_claims.specs.Demand2.{InOrder, InOrderBehind, RequestCarried, FailureOnlyPending}

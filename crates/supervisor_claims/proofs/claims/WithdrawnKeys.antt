@@ -10,6 +10,7 @@ use lib.ListN.{length, length-append}
 use borrow.Author.Tests.{le-ltb, ne-eqb}
 use Rattle.octets.specs.Bytes.{number, bytes, numberAt}
 use Rattle.octets.proofs.Numbers.{number-bytes}
+use Rattle.line.specs.Numbers.{second-version}
 use Rattle.line.specs.Message.{Message}
 use Rattle.line.specs.Judge
 use Rattle.line.specs.Cobs
@@ -20,7 +21,7 @@ use Rattle.supervisor.specs.State.{setting, State, fresh}
 use Rattle.supervisor.specs.Local
 use Rattle.supervisor.specs.Calls.{Parts}
 use Rattle.requests.specs.Commands.{numberOf, withNumber, commandOf}
-use Rattle.requests.specs.Requests.{good, second-version, verdict, effect, carried, stream, owed, replyOf, replyFrame}
+use Rattle.requests.specs.Requests.{good, verdict, effect, carried, stream, owed, replyOf, replyFrame}
 use Rattle.supervisor_claims.specs.View.{factoryOf, view}
 use Rattle.supervisor_claims.specs.Sound.{Bytes}
 use Rattle.supervisor_claims.specs.Histories

@@ -5,7 +5,7 @@ use mathlib.Core.Bool.{Bool, true, false, not, _&&_, _||_, and-false, or-false, 
 use mathlib.Core.List.{List, [], _∷_, _++_}
 use Prim.Native.Nat.{ℕ, zero, suc, _+_, _-_, _≤_, _<_, min}
 use native.Mathlib.Omega.{arith}
-use lib.Dec.{leb, ltb, eqb}
+use lib.Dec.{leb, ltb}
 use lib.ListN.{length, length-take, length-drop}
 use borrow.Author.Tests.{ltb-false, le-ltb, not-true}
 use Rattle.octets.specs.Bytes.{run, numberAt}
@@ -36,12 +36,10 @@ not-more-run m at n s h =
 
 -- ---- an item
 
-item-test : (x a b c : Bool) → ((a || (b || c)) && not x) ≡ not (x || not (a || b || c))
-item-test true a b c = and-false (a || (b || c))
-item-test false true b c = refl
-item-test false false true c = refl
-item-test false false false true = refl
-item-test false false false false = refl
+item-test : (x s : Bool) → (s && not x) ≡ not (x || not s)
+item-test true s = and-false s
+item-test false true = refl
+item-test false false = refl
 
 any-more : (is : List Item) (i : Item) → Local.anyBad (is ++ i ∷ []) ≡ (Local.anyBad is || Local.badItem i)
 unfolding Local.anyBad
@@ -64,9 +62,8 @@ module _ (d : List ℕ) (long : Layout.start-length ≤ length d) where
   item-bad i h =
       let at = Layout.item-offset i in
       let size = numberAt 1 d (at + Layout.item-data-length-offset) in
-      let result = numberAt 1 d at in
       rw (not-more-run Limits.longest-item-data (at + Layout.item-data-offset) size d (omega arith))
-      (item-test (ltb Limits.longest-item-data (length (run (at + Layout.item-data-offset) size d))) (eqb result 0) (eqb result 2) (eqb result 3))
+      (item-test (ltb Limits.longest-item-data (length (run (at + Layout.item-data-offset) size d))) (Local.resultAllowed (numberAt 1 d at)))
 
   items-bad : (n : ℕ) → n ≤ Limits.most-items → Valid.goodItems d n ≡ not (Local.anyBad (listed (itemAt d) n))
   unfolding Valid.all Local.anyBad listed
@@ -82,5 +79,5 @@ module _ (d : List ℕ) (long : Layout.start-length ≤ length d) where
         length-listed (itemAt d) n,
         not-more n Limits.most-items,
       )
-      (start-test (ltb Limits.most-items n) (Local.anyBad (listed (itemAt d) n)) _ (Valid.bsuAllowed (numberAt 1 d Layout.bsu-offset)) (Valid.goodItems d n)
+      (start-test (ltb Limits.most-items n) (Local.anyBad (listed (itemAt d) n)) _ (Local.bsuAllowed (numberAt 1 d Layout.bsu-offset)) (Valid.goodItems d n)
       (λ e. items-bad n (ltb-false Limits.most-items n e)))

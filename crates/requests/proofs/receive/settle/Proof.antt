@@ -7,9 +7,9 @@ use Prim.Native.Nat.{ℕ}
 use borrow.Author.Needs.{needs}
 use denote.Ref.{now}
 use Rattle.octets.specs.Bytes.{bytes}
+use Rattle.line.specs.Numbers.{first-version}
 use Rattle.line.specs.Reader.{Report, report}
 use Rattle.line.specs.Reader as LineReader
-use Rattle.requests.specs.Requests.{first-version}
 use Rattle.requests.specs.Receive.{Ended, sentBox, Head, failureHead, replyBytes, inner, innerAfter, verdictOf, ended, endedReport}
 use Rattle.requests.proofs.StepLaws.{Settled, data-short, settled-failure, settled-message}
 use Rattle.requests.proofs.receive.settle.Statement.{statement}

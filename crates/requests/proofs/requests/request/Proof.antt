@@ -7,7 +7,8 @@ use Prim.Native.Nat.{ℕ}
 use borrow.Author.Needs.{needs}
 use denote.Ref.{now}
 use Rattle.octets.specs.Bytes.{bytes}
-use Rattle.requests.specs.Requests.{Verdict, failure, first-version}
+use Rattle.line.specs.Numbers.{first-version}
+use Rattle.requests.specs.Requests.{Verdict, failure}
 use Rattle.supervisor.proofs.Cases.{refused}
 use Rattle.supervisor.proofs.ValidLaws.{passed}
 use Rattle.requests.specs.Receive.{Ended, sentBox, Head, failureHead, replyBytes, inner, endedReport}
