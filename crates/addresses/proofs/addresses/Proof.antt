@@ -20,14 +20,18 @@ Inv-loop count stride rows₀ filled row₀ i₀ rows row i =
 abbrev μ-loop : tie.MeasureT-loop
 μ-loop count stride rows₀ filled row₀ i₀ rows row i = filled - i
 
+-- places of the walk, each from a later one
+abbrev start : tie.After-last-passes Inv-loop μ-loop → tie.Start Inv-loop μ-loop
+start c = c .before .before
+
 returns : tie.Need-returns Inv-loop μ-loop
 returns c =
-    let a = c .before .before .before .args in
+    let a = start (c .before) .args in
     rows-passing (a .base) (a .count) (a .stride) (sym (c .before .last-passes .ensures) ∙ c .if1 .taken)
 
 loop-holds : tie.Need-loop-holds Inv-loop μ-loop
 loop-holds c =
-    let base = c .before .before .before .args .base in
+    let base = start (c .before) .args .base in
     let bytes : (i : ℕ) → Fits w8 (getD base i 0) = λ i. search needs in
     (search needs, rows-none _ _, address-first base _ (search needs) (λ i. bytes i .fits))
 
@@ -38,11 +42,12 @@ loop-again c =
 
 returns-2 : tie.Need-returns-2 Inv-loop μ-loop
 returns-2 c =
+    let else1 = c .before .before in
     let l = c .before .loop in
-    let start = c .before .before .before in
-    let a = start .before .before .args in
+    let at-last-passes = else1 .before in
+    let a = at-last-passes .before .before .args in
     let e : l .i ≡ min (a .count) 8 = omega arith in
-    rw (l .inv .1, e) (rows-fitting (a .base) (a .stride) (a .count) (sym (start .last-passes .ensures) ∙ c .before .before .if1 .left))
+    rw (l .inv .1, e) (rows-fitting (a .base) (a .stride) (a .count) (sym (at-last-passes .last-passes .ensures) ∙ else1 .if1 .left))
 
 pub addresses-spec : {M : Type 1} → statement M
 addresses-spec =

@@ -9,8 +9,9 @@ use Rattle.addresses.proofs.last_passes.Tie as tie
 
 returns-2 : tie.Need-returns-2
 returns-2 c =
-    let a = c .before .before .before .args in
-    rw (c .wide .ensures .0, c .before .number-of .ensures .0) (last-passes (a .base) (a .count) (a .stride) (c .before .before .if1 .left))
+    let else1 = c .before .before in
+    let a = else1 .before .args in
+    rw (c .wide .ensures .0, c .before .number-of .ensures .0) (last-passes (a .base) (a .count) (a .stride) (else1 .if1 .left))
 
 pub last-passes-spec : {M : Type 1} → statement M
 last-passes-spec =

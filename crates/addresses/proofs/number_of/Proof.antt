@@ -17,6 +17,10 @@ Inv-loop address number₀ i₀ number i = (i ≤ 6) × (number < 256 ^ i) × (n
 abbrev μ-loop : tie.MeasureT-loop
 μ-loop address number₀ i₀ number i = 6 - i
 
+-- places of the walk, each from a later one
+abbrev at-loop : tie.After-wide Inv-loop μ-loop → tie.At-loop Inv-loop μ-loop
+at-loop c = c .before .before
+
 loop-again : tie.Need-loop-again Inv-loop μ-loop
 loop-again c =
     let l = c .before .before .loop in (
@@ -36,6 +40,6 @@ number-of-spec =
     tie.close
     (tie.spec
     Inv-loop μ-loop (λ c. (search needs, search needs, number-none)) (λ c. search needs) (λ c κs. search needs)
-    (λ c. shifted-fits _ _ (search needs) (c .before .before .loop .inv .1))
-    (λ c. digit-fits _ _ (search needs) (c .before .before .loop .inv .1) _ (search needs)) (λ c. search needs) (λ c. search needs)
+    (λ c. shifted-fits _ _ (search needs) (at-loop c .loop .inv .1))
+    (λ c. digit-fits _ _ (search needs) (at-loop c .loop .inv .1) _ (search needs)) (λ c. search needs) (λ c. search needs)
     loop-again returns)

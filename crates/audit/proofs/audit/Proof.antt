@@ -12,13 +12,15 @@ unfolding tooLong
 returns c =
     let wrote = c .before .before in
     let test = wrote .before .before .before in
-    rw (audit-over (now (test .before .before .before .args .capture)) (test .if1 .taken)) (wrote .put .ensures)
+    let start = test .before .before .before in
+    rw (audit-over (now (start .args .capture)) (test .if1 .taken)) (wrote .put .ensures)
 
 returns-2 : tie.Need-returns-2
 returns-2 c =
     let wrote = c .before .before in
     let test = wrote .before .before in
-    rw (audit-text (now (test .before .before .before .args .capture)) (test .if1 .left)) (wrote .list .ensures)
+    let start = test .before .before .before in
+    rw (audit-text (now (start .args .capture)) (test .if1 .left)) (wrote .list .ensures)
 
 pub audit-spec : {M : Type 1} → statement M
 audit-spec =

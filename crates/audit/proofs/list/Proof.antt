@@ -19,23 +19,40 @@ Inv-loop capture text₀ at₀ k₀ text at k = (at ≤ length capture) × (leng
 abbrev μ-loop : tie.MeasureT-loop
 μ-loop capture text₀ at₀ k₀ text at k = length capture + 1 - at
 
+-- places of the walk, each from a later one
+abbrev at-next-from-piece2 : tie.After-piece2 Inv-loop μ-loop → tie.After-next Inv-loop μ-loop
+at-next-from-piece2 c = c .before .before
+
+abbrev piece2-of : tie.After-put-tail-arg Inv-loop μ-loop → tie.After-piece2 Inv-loop μ-loop
+piece2-of c = c .before .before
+
+abbrev start : tie.After-next Inv-loop μ-loop → tie.Start Inv-loop μ-loop
+start c = c .before .before .before .before
+
+abbrev piece-of : tie.After-slice-known2 Inv-loop μ-loop → tie.After-piece Inv-loop μ-loop
+piece-of c = c .before .before .before .before .before
+
+abbrev at-next : tie.After-slice-known2 Inv-loop μ-loop → tie.After-next Inv-loop μ-loop
+at-next c = c .before .before .before .before .before .before .before
+
 put-frame-requires : tie.Need-put-frame-requires Inv-loop μ-loop
 put-frame-requires c κs =
-    let asked = c .before .before .before .before in
+    let at-piece = c .before .before in
+    let asked = at-piece .before .before in
     let iteration = asked .before .loop in
-    let a = asked .before .before .before .before .args in
-    let f = at-frame (now (a .capture)) (iteration .at) (sym (c .before .before .piece .given .1) ∙ asked .next .ensures) in
+    let a = start asked .args in
+    let f = at-frame (now (a .capture)) (iteration .at) (sym (at-piece .piece .given .1) ∙ asked .next .ensures) in
     (omega (arith, f .within), (omega arith, omega (arith, f .within, iteration .inv .2 .short)))
 
 -- the frame that was found
-found : (c : tie.After-slice-known2 Inv-loop μ-loop) → let asked = c .before .before .before .before .before .before .before in
-    let iteration = asked .before .loop in let a = asked .before .before .before .before .args in
-    Frame (c .before .before .before .before .before .piece .given .0 .0) ≡ pieceAt (now (a .capture)) (iteration .at)
-found c = sym (c .before .before .before .before .before .piece .given .1) ∙ c .before .before .before .before .before .before .before .next .ensures
+found : (c : tie.After-slice-known2 Inv-loop μ-loop) → let asked = at-next c in
+    let iteration = asked .before .loop in let a = start asked .args in
+    Frame (piece-of c .piece .given .0 .0) ≡ pieceAt (now (a .capture)) (iteration .at)
+found c = sym (piece-of c .piece .given .1) ∙ at-next c .next .ensures
 
-within : (c : tie.After-slice-known2 Inv-loop μ-loop) → let asked = c .before .before .before .before .before .before .before in
-    let iteration = asked .before .loop in let a = asked .before .before .before .before .args in
-    iteration .at + c .before .before .before .before .before .piece .given .0 .0 < length (now (a .capture))
+within : (c : tie.After-slice-known2 Inv-loop μ-loop) → let asked = at-next c in
+    let iteration = asked .before .loop in let a = start asked .args in
+    iteration .at + piece-of c .piece .given .0 .0 < length (now (a .capture))
 within c = at-frame _ _ (found c) .within
 
 add-at : tie.Need-add-at Inv-loop μ-loop
@@ -50,9 +67,9 @@ loop-less c = omega (arith, within c)
 loop-again : tie.Need-loop-again Inv-loop μ-loop
 loop-again c =
     let wrote = c .before .before in
-    let asked = wrote .before .before .before .before .before in
+    let asked = at-next c in
     let iteration = asked .before .loop in
-    let a = asked .before .before .before .before .args in (
+    let a = start asked .args in (
       omega (arith, within c),
       search needs,
       middle-next (now (a .capture)) (now (a .text)) (iteration .text) (iteration .at) (iteration .k) _ (iteration .inv .2) (found c) _ _ (wrote .put-frame .ensures .0) (wrote .put-frame .ensures .1),
@@ -60,20 +77,21 @@ loop-again c =
 
 put-tail-requires : tie.Need-put-tail-requires Inv-loop μ-loop
 put-tail-requires c κs =
-    let asked = c .before .before .before .before in
+    let asked = at-next-from-piece2 (piece2-of c) in
     let iteration = asked .before .loop in
-    let a = asked .before .before .before .before .args in
-    let t = at-tail (now (a .capture)) (iteration .at) (sym (c .before .before .piece2 .given .1) ∙ asked .next .ensures) in
+    let a = start asked .args in
+    let t = at-tail (now (a .capture)) (iteration .at) (sym (piece2-of c .piece2 .given .1) ∙ asked .next .ensures) in
     (omega (arith, t .within), omega (arith, iteration .inv .2 .short))
 
 returns : tie.Need-returns Inv-loop μ-loop
 returns c =
     let wrote = c .before .before in
-    let asked = wrote .before .before .before .before .before in
+    let at-piece2 = wrote .before .before .before in
+    let asked = at-next-from-piece2 at-piece2 in
     let iteration = asked .before .loop in
-    let a = asked .before .before .before .before .args in
+    let a = start asked .args in
     middle-end (now (a .capture)) (now (a .text)) (iteration .text) (iteration .at) (iteration .k) _ (iteration .inv .2)
-    (sym (wrote .before .before .before .piece2 .given .1) ∙ asked .next .ensures) _ _ (wrote .put-tail .ensures)
+    (sym (at-piece2 .piece2 .given .1) ∙ asked .next .ensures) _ _ (wrote .put-tail .ensures)
 
 pub list-spec : {M : Type 1} → statement M
 list-spec =

@@ -12,7 +12,9 @@ array-share-prefix-text : tie.Need-array-share-prefix-text
 array-share-prefix-text c = omega (arith, wrote-within (c .before .audit .ensures))
 
 slice-aggregate-write-all : tie.Need-slice-aggregate-write-all
-slice-aggregate-write-all c = sym (length-take-le _ _ (wrote-within (c .before .before .audit .ensures)))
+slice-aggregate-write-all c =
+    let at-audit = c .before .before in
+    sym (length-take-le _ _ (wrote-within (at-audit .audit .ensures)))
 
 pub main-spec : {M : Type 1} → statement M
 main-spec =

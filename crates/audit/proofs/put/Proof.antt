@@ -8,8 +8,9 @@ use Rattle.audit.proofs.put.Tie as tie
 
 returns : tie.Need-returns
 returns c =
-    let start = c .before .before .before .before .before .before in
-    wrote-copy (now (start .args .text)) (now (start .args .bytes)) _ (start .args .k) (start .pre) (c .before .before .copy .ensures)
+    let at-copy = c .before .before in
+    let start = at-copy .before .before .before .before in
+    wrote-copy (now (start .args .text)) (now (start .args .bytes)) _ (start .args .k) (start .pre) (at-copy .copy .ensures)
 
 pub put-spec : {M : Type 1} → statement M
 put-spec = tie.close (tie.spec

@@ -8,11 +8,15 @@ use Rattle.counters.proofs.are_refused.Tie as tie
 
 returns : tie.Need-returns
 unfolding receiptReport
-returns c = rw (c .enum-told .given .1) at (tested-parts _ _ (c .before .before .before .before .before .before .before .before .before .before .receive .ensures))
+returns c =
+    let at-receive = c .before .before .before .before .before .before .before .before .before .before in
+    rw (c .enum-told .given .1) at (tested-parts _ _ (at-receive .receive .ensures))
 
 returns-2 : tie.Need-returns-2
 unfolding receiptReport
-returns-2 c = rw (c .enum-told2 .given .1) at (tested-parts _ _ (c .before .before .before .before .before .before .before .before .before .before .receive .ensures))
+returns-2 c =
+    let at-receive = c .before .before .before .before .before .before .before .before .before .before in
+    rw (c .enum-told2 .given .1) at (tested-parts _ _ (at-receive .receive .ensures))
 
 pub are-refused-spec : {M : Type 1} → statement M
 are-refused-spec =

@@ -23,7 +23,9 @@ unfolding bumpedFor endedReport
 returns-4 c = rw (c .before .enum-told4 .given .1, c .one-more2 .ensures)
 
 returns-5 : tie.Need-returns-5
-returns-5 c = rw (c .before .before .outcome .given .1) (c .failed .ensures)
+returns-5 c =
+    let at-outcome = c .before .before in
+    rw (at-outcome .outcome .given .1) (c .failed .ensures)
 
 pub bumped-spec : {M : Type 1} → statement M
 bumped-spec =

@@ -18,8 +18,8 @@ use prog.Wp.{Heap, Calls, Loops, WpFn, Tables}
 use ghost.Atoms.{Atoms}
 use contract.Monad.{Fun, fact}
 use contract.Running.{givenOf, tables, tablesOf}
-use contract.Lifetimes.{Lfts}
-use types.Kit.{Given, ‵, raw, _⊛_, ⋆, some, later, _$_, _∵_, !, qed, by, move, keep, drop, use1, use2, split, join, pick, rewrite, fsplit, fsplit3, fjoin, fjoin3, feqL, feqI, suffices, frame, await, done}
+use contract.Lifetimes.{Lfts, Shares}
+use types.Kit.{Given, Item, ‵, raw, _⊛_, ⋆, some, later, _$_, _∵_, !, qed, by, move, keep, drop, use1, use2, split, join, pick, rewrite, fsplit, fsplit3, fjoin, fjoin3, feqL, feqI, suffices, frame, await, done}
 use types.Part.{agg, whole, sub, look-in}
 use types.Run.{look, look-raw, init, store-raw, forget, stop, hop, fld, from, load, addr, and-then, no-more, land, of-opd, assigns, returns, enter, alloc1, alloc0, params1, pass1, pass0, free1, free0}
 use types.SemTy.{Body}
@@ -42,7 +42,7 @@ use denote.Triple.Table.{entered, cited}
 use denote.Triple.Walked.{says, Stays, stay-ref, stay-none-slice, gave-slice, walkOf, AllGo, goes-ref, goes-none-slice, goes-gave-slice, Walks, ends-at, walked, walk-meets}
 use denote.Triple.Clauses.{ensured, lasts}
 use denote.Exit.{yes}
-use Rattle.supervisor.specs.Calls.{parts}
+use Rattle.supervisor.specs.Calls.{Parts, parts}
 use Rattle.requests.specs.Receive.{receiptOf, receiving}
 use Rattle.counters.specs.Counting.{counting}
 use Rattle.counters.specs.declared.Counters.{Counters}
@@ -69,16 +69,49 @@ stayed = (stay-ref (0 ∷ []) tt (plain (λ _. T.the-row)), (stay-none-slice (1 
 abbrev val : Counters → Val
 val h = LL.val T.the-type T′.the-laws h
 
+-- a slice as the machine has it
+abbrev slice-val : RefT (List ℕ) → Val
+slice-val r = sliceVal (r .ptr) (length (r .now))
+
+-- the callee's last values, and the lists among them
+abbrev Last : Type 0
+Last = Unit {0} × (Unit {0} × (Unit {0} × (List ℕ × (List ℕ × (Unit {0} × (List ℕ × (List ℕ × Unit {0})))))))
+
+abbrev last-reader : Last → List ℕ
+last-reader zs = zs .1 .1 .1 .0
+
+abbrev last-outbox : Last → List ℕ
+last-outbox zs = zs .1 .1 .1 .1 .0
+
+abbrev last-settings : Last → List ℕ
+last-settings zs = zs .1 .1 .1 .1 .1 .1 .0
+
+abbrev last-registers : Last → List ℕ
+last-registers zs = zs .1 .1 .1 .1 .1 .1 .1 .0
+
 module _ {M : Type 1} (𝓤 : URA M) (H : Heap 𝓤) (A : Atoms 𝓤) (at-mem : Memory → SProp 𝓤) (run : Routine → Fun 𝓤) where
   abbrev Callee : Contract 𝓤
   Callee = tripleOf 𝓤 H A g.signature (g.spec 𝓤 H A at-mem run)
 
-module _ {M : Type 1} (𝓤 : URA M) (H : Heap 𝓤) (A : Atoms 𝓤) (W : Given 𝓤 H A) (at-mem : Memory → SProp 𝓤) (run : Routine → Fun 𝓤) (κ-block κ-image κ-piece κ-reader κ-outbox κ-factory κ-settings κ-registers : Lft) (q-block q-image q-piece q-reader q-outbox q-factory q-settings q-registers : Share) (b o : ℕ) (γ : GName) (h : Counters) (image : RefT (List ℕ)) (piece : RefT (List ℕ)) (reader : RefT (List ℕ)) (outbox : RefT (List ℕ)) (factory : RefT (List ℕ)) (settings : RefT (List ℕ)) (registers : RefT (List ℕ)) (is-image : Is (ShrSlice (named 1) κ-image u8) image (sliceVal (image .ptr) (length (image .now)) ∷ [])) (is-piece : Is (ShrSlice (named 2) κ-piece u8) piece (sliceVal (piece .ptr) (length (piece .now)) ∷ [])) (room-reader : Room u8 (length (reader .now))) (room-outbox : Room u8 (length (outbox .now))) (is-factory : Is (ShrSlice (named 5) κ-factory u8) factory (sliceVal (factory .ptr) (length (factory .now)) ∷ [])) (room-settings : Room u8 (length (settings .now))) (room-registers : Room u8 (length (registers .now))) where
+module _ {M : Type 1} (𝓤 : URA M) (H : Heap 𝓤) (A : Atoms 𝓤) (W : Given 𝓤 H A) (at-mem : Memory → SProp 𝓤) (run : Routine → Fun 𝓤) (κ-block κ-image κ-piece κ-reader κ-outbox κ-factory κ-settings κ-registers : Lft) (q-block q-image q-piece q-reader q-outbox q-factory q-settings q-registers : Share) (b o : ℕ) (γ : GName) (h : Counters) (image : RefT (List ℕ)) (piece : RefT (List ℕ)) (reader : RefT (List ℕ)) (outbox : RefT (List ℕ)) (factory : RefT (List ℕ)) (settings : RefT (List ℕ)) (registers : RefT (List ℕ)) (is-image : Is (ShrSlice (named 1) κ-image u8) image (slice-val image ∷ [])) (is-piece : Is (ShrSlice (named 2) κ-piece u8) piece (slice-val piece ∷ [])) (room-reader : Room u8 (length (reader .now))) (room-outbox : Room u8 (length (outbox .now))) (is-factory : Is (ShrSlice (named 5) κ-factory u8) factory (slice-val factory ∷ [])) (room-settings : Room u8 (length (settings .now))) (room-registers : Room u8 (length (registers .now))) where
   abbrev κs : Lfts 8
   κs = (κ-block, (κ-image, (κ-piece, (κ-reader, (κ-outbox, (κ-factory, (κ-settings, (κ-registers, tt))))))))
 
   abbrev κs-in : Lfts 7
   κs-in = (κ-image, (κ-piece, (κ-reader, (κ-outbox, (κ-factory, (κ-settings, (κ-registers, tt)))))))
+
+  abbrev qs-in : Shares 7
+  qs-in = (q-image, (q-piece, (q-reader, (q-outbox, (q-factory, (q-settings, (q-registers, tt)))))))
+
+  abbrev qs : Shares 8
+  qs = (q-block, qs-in)
+
+  -- the tokens of the slices' lifetimes
+  abbrev Tokens : Item 𝓤
+  Tokens = ‵ (flft κ-image q-image) ⊛ ‵ (flft κ-piece q-piece) ⊛ ‵ (flft κ-reader q-reader) ⊛ ‵ (flft κ-outbox q-outbox) ⊛ ‵ (flft κ-factory q-factory) ⊛ ‵ (flft κ-settings q-settings) ⊛ ‵ (flft κ-registers q-registers) ⊛ ‵ ftrue
+
+  abbrev at-entry : Parts
+  at-entry = parts (reader .now) (outbox .now) (factory .now) (settings .now) (registers .now)
 
   abbrev Params : List RattleType
   Params = MutRef (named 0) κ-block T.the-row ∷ ShrSlice (named 1) κ-image u8 ∷ ShrSlice (named 2) κ-piece u8 ∷ MutSlice (named 3) κ-reader u8 ∷ MutSlice (named 4) κ-outbox u8 ∷ ShrSlice (named 5) κ-factory u8 ∷ MutSlice (named 6) κ-settings u8 ∷ MutSlice (named 7) κ-registers u8 ∷ []
@@ -90,22 +123,25 @@ module _ {M : Type 1} (𝓤 : URA M) (H : Heap 𝓤) (A : Atoms 𝓤) (W : Given
   a-in = (h, (image, (piece, (reader, (outbox, (factory, (settings, (registers, tt))))))))
 
   abbrev vals : List Val × (List Val × (List Val × (List Val × (List Val × (List Val × (List Val × (List Val × Unit {0})))))))
-  vals = (vptr b o ∷ [], (sliceVal (image .ptr) (length (image .now)) ∷ [], (sliceVal (piece .ptr) (length (piece .now)) ∷ [], (sliceVal (reader .ptr) (length (reader .now)) ∷ [], (sliceVal (outbox .ptr) (length (outbox .now)) ∷ [], (sliceVal (factory .ptr) (length (factory .now)) ∷ [], (sliceVal (settings .ptr) (length (settings .now)) ∷ [], (sliceVal (registers .ptr) (length (registers .now)) ∷ [], tt))))))))
+  vals = (vptr b o ∷ [], (slice-val image ∷ [], (slice-val piece ∷ [], (slice-val reader ∷ [], (slice-val outbox ∷ [], (slice-val factory ∷ [], (slice-val settings ∷ [], (slice-val registers ∷ [], tt))))))))
+
+  abbrev vals-in : List Val × (List Val × (List Val × (List Val × (List Val × (List Val × (List Val × (List Val × Unit {0})))))))
+  vals-in = (val h ∷ [], vals .1)
 
   abbrev machine : List Val
-  machine = vptr b o ∷ sliceVal (image .ptr) (length (image .now)) ∷ sliceVal (piece .ptr) (length (piece .now)) ∷ sliceVal (reader .ptr) (length (reader .now)) ∷ sliceVal (outbox .ptr) (length (outbox .now)) ∷ sliceVal (factory .ptr) (length (factory .now)) ∷ sliceVal (settings .ptr) (length (settings .now)) ∷ sliceVal (registers .ptr) (length (registers .now)) ∷ []
+  machine = vptr b o ∷ slice-val image ∷ slice-val piece ∷ slice-val reader ∷ slice-val outbox ∷ slice-val factory ∷ slice-val settings ∷ slice-val registers ∷ []
 
   abbrev Own-image : Fml
-  Own-image = ShrSlice (named 1) κ-image u8 .own image (sliceVal (image .ptr) (length (image .now)) ∷ [])
+  Own-image = ShrSlice (named 1) κ-image u8 .own image (slice-val image ∷ [])
 
   abbrev Own-piece : Fml
-  Own-piece = ShrSlice (named 2) κ-piece u8 .own piece (sliceVal (piece .ptr) (length (piece .now)) ∷ [])
+  Own-piece = ShrSlice (named 2) κ-piece u8 .own piece (slice-val piece ∷ [])
 
   abbrev Own-factory : Fml
-  Own-factory = ShrSlice (named 5) κ-factory u8 .own factory (sliceVal (factory .ptr) (length (factory .now)) ∷ [])
+  Own-factory = ShrSlice (named 5) κ-factory u8 .own factory (slice-val factory ∷ [])
 
   abbrev Post : Val → SProp 𝓤
-  Post = walkOf 𝓤 H A f.ended stayed (f.clauses 𝓤 H A at-mem run) .post ((κs, (q-block, (q-image, (q-piece, (q-reader, (q-outbox, (q-factory, (q-settings, (q-registers, tt)))))))), tt, a, vals), tt)
+  Post = walkOf 𝓤 H A f.ended stayed (f.clauses 𝓤 H A at-mem run) .post ((κs, qs, tt, a, vals), tt)
 
   -- what is known of the fields of the callee's result
   is-answer : (r : Tallied) (v : Val) → Is R.the-row r (v ∷ []) → Is E.the-row (r .answer) ((EL.val E.the-type E′.the-laws (r .answer)) ∷ [])
@@ -114,29 +150,40 @@ module _ {M : Type 1} (𝓤 : URA M) (H : Heap 𝓤) (A : Atoms 𝓤) (W : Given
   is-counters : (r : Tallied) (v : Val) → Is R.the-row r (v ∷ []) → Is T.the-row (r .counters) (val (r .counters) ∷ [])
   is-counters r v is = LL.owed R.the-type R′.the-laws r _ is .1 .0
 
-  exits : (r : Tallied) (v : Val) → Is R.the-row r (v ∷ []) → (reader′ outbox′ settings′ registers′ : List ℕ) → (receiptOf (r .answer) (parts reader′ outbox′ (factory .now) settings′ registers′) ≡ receiving (image .now) (parts (reader .now) (outbox .now) (factory .now) (settings .now) (registers .now)) (piece .now)) × ((r .counters) ≡ counting h (parts (reader .now) (outbox .now) (factory .now) (settings .now) (registers .now)) (piece .now)) → length reader′ ≡ length (reader .now) → length outbox′ ≡ length (outbox .now) → length settings′ ≡ length (settings .now) → length registers′ ≡ length (registers .now)
-      → ent 𝓤 (⋆ 𝓤 H A (‵ (fobs γ (T.the-row .coded .code (r .counters))) ∷ ‵ (fbor κ-block (Body (mem T.the-row) b o γ)) ∷ ‵ (flft κ-block q-block) ∷ (‵ (flft κ-image q-image) ⊛ ‵ (flft κ-piece q-piece) ⊛ ‵ (flft κ-reader q-reader) ⊛ ‵ (flft κ-outbox q-outbox) ⊛ ‵ (flft κ-factory q-factory) ⊛ ‵ (flft κ-settings q-settings) ⊛ ‵ (flft κ-registers q-registers) ⊛ ‵ ftrue) ∷ ‵ (finally u8 (reader .name) reader′) ∷ ‵ (finally u8 (outbox .name) outbox′) ∷ ‵ (finally u8 (settings .name) settings′) ∷ ‵ (finally u8 (registers .name) registers′) ∷ ‵ (Own-image) ∷ ‵ (Own-piece) ∷ ‵ (Own-factory) ∷ [])) (Post (EL.val E.the-type E′.the-laws (r .answer)))
+  -- what the callee ensures of its result and its last lists
+  abbrev Ensured : Tallied → List ℕ → List ℕ → List ℕ → List ℕ → Type 0
+  Ensured r reader′ outbox′ settings′ registers′ = (receiptOf (r .answer) (parts reader′ outbox′ (factory .now) settings′ registers′) ≡ receiving (image .now) at-entry (piece .now)) × ((r .counters) ≡ counting h at-entry (piece .now))
+
+  -- what is had where the walk ends
+  abbrev Left : Tallied → List ℕ → List ℕ → List ℕ → List ℕ → List (Item 𝓤)
+  Left r reader′ outbox′ settings′ registers′ =
+      ‵ (fobs γ (T.the-row .coded .code (r .counters))) ∷ ‵ (fbor κ-block (Body (mem T.the-row) b o γ)) ∷ ‵ (flft κ-block q-block)
+      ∷ Tokens ∷ ‵ (finally u8 (reader .name) reader′) ∷ ‵ (finally u8 (outbox .name) outbox′) ∷ ‵ (finally u8 (settings .name) settings′)
+      ∷ ‵ (finally u8 (registers .name) registers′) ∷ ‵ (Own-image) ∷ ‵ (Own-piece) ∷ ‵ (Own-factory) ∷ []
+
+  exits : (r : Tallied) (v : Val) → Is R.the-row r (v ∷ []) → (reader′ outbox′ settings′ registers′ : List ℕ) → Ensured r reader′ outbox′ settings′ registers′ → length reader′ ≡ length (reader .now) → length outbox′ ≡ length (outbox .now) → length settings′ ≡ length (settings .now) → length registers′ ≡ length (registers .now)
+      → ent 𝓤 (⋆ 𝓤 H A (Left r reader′ outbox′ settings′ registers′)) (Post (EL.val E.the-type E′.the-laws (r .answer)))
   exits r v is reader′ outbox′ settings′ registers′ e len-reader len-outbox len-settings len-registers =
-      qed W (‵ (fobs γ (T.the-row .coded .code (r .counters))) ∷ ‵ (fbor κ-block (Body (mem T.the-row) b o γ)) ∷ ‵ (flft κ-block q-block) ∷ (‵ (flft κ-image q-image) ⊛ ‵ (flft κ-piece q-piece) ⊛ ‵ (flft κ-reader q-reader) ⊛ ‵ (flft κ-outbox q-outbox) ⊛ ‵ (flft κ-factory q-factory) ⊛ ‵ (flft κ-settings q-settings) ⊛ ‵ (flft κ-registers q-registers) ⊛ ‵ ftrue) ∷ ‵ (finally u8 (reader .name) reader′) ∷ ‵ (finally u8 (outbox .name) outbox′) ∷ ‵ (finally u8 (settings .name) settings′) ∷ ‵ (finally u8 (registers .name) registers′) ∷ ‵ (Own-image) ∷ ‵ (Own-piece) ∷ ‵ (Own-factory) ∷ []) ∵
-      suffices ! _ (ends-at 𝓤 H A f.ended stayed (f.clauses 𝓤 H A at-mem run) W ((κs, (q-block, (q-image, (q-piece, (q-reader, (q-outbox, (q-factory, (q-settings, (q-registers, tt)))))))), tt, a, vals), tt) (EL.val E.the-type E′.the-laws (r .answer)) (r .answer) (r .counters, (tt, (tt, (reader′, (outbox′, (tt, (settings′, (registers′, tt)))))))) (tt, (tt, (tt, (len-reader, (len-outbox, (tt, (len-settings, (len-registers, tt))))))))) $ says ! e $
+      qed W (Left r reader′ outbox′ settings′ registers′) ∵
+      suffices ! _ (ends-at 𝓤 H A f.ended stayed (f.clauses 𝓤 H A at-mem run) W ((κs, qs, tt, a, vals), tt) (EL.val E.the-type E′.the-laws (r .answer)) (r .answer) (r .counters, (tt, (tt, (reader′, (outbox′, (tt, (settings′, (registers′, tt)))))))) (tt, (tt, (tt, (len-reader, (len-outbox, (tt, (len-settings, (len-registers, tt))))))))) $ says ! e $
       move ! (2 ∷ 3 ∷ []) $ join ! $ frame ! $ feqI ! (List Val) (vptr b o ∷ []) (vptr b o ∷ []) refl $ fjoin3 ! $ nothing ! $ move ! (5 ∷ 0 ∷ []) $ fjoin ! $ move ! (4 ∷ 0 ∷ []) $ fjoin ! $ move ! (6 ∷ 0 ∷ []) $ fjoin ! $ move ! (3 ∷ 0 ∷ []) $ fjoin ! $ move ! (2 ∷ 0 ∷ []) $ fjoin ! $ move ! (3 ∷ 0 ∷ []) $ fjoin ! $ move ! (2 ∷ 0 ∷ []) $ fjoin ! $ move ! (1 ∷ 0 ∷ []) $ fjoin ! $ owned ! E.the-row (Is E.the-row) ((EL.makes E.the-type E′.the-plain) 𝓤 H A) (r .answer) _ (is-answer r v is) $ move ! (1 ∷ 0 ∷ []) $ done !
 
   -- what the callee's triple binds outside, and what it asks
   abbrev to : Callee 𝓤 H A at-mem run .Ghost
-  to = ((κs-in, (q-image, (q-piece, (q-reader, (q-outbox, (q-factory, (q-settings, (q-registers, tt))))))), tt, a-in, (val h ∷ [], (sliceVal (image .ptr) (length (image .now)) ∷ [], (sliceVal (piece .ptr) (length (piece .now)) ∷ [], (sliceVal (reader .ptr) (length (reader .now)) ∷ [], (sliceVal (outbox .ptr) (length (outbox .now)) ∷ [], (sliceVal (factory .ptr) (length (factory .now)) ∷ [], (sliceVal (settings .ptr) (length (settings .now)) ∷ [], (sliceVal (registers .ptr) (length (registers .now)) ∷ [], tt))))))))), tt)
+  to = ((κs-in, qs-in, tt, a-in, vals-in), tt)
 
   abbrev Passed : Fml
-  Passed = owns (T.the-row ∷ ShrSlice (named 0) κ-image u8 ∷ ShrSlice (named 1) κ-piece u8 ∷ MutSlice (named 2) κ-reader u8 ∷ MutSlice (named 3) κ-outbox u8 ∷ ShrSlice (named 4) κ-factory u8 ∷ MutSlice (named 5) κ-settings u8 ∷ MutSlice (named 6) κ-registers u8 ∷ []) a-in (val h ∷ [], (sliceVal (image .ptr) (length (image .now)) ∷ [], (sliceVal (piece .ptr) (length (piece .now)) ∷ [], (sliceVal (reader .ptr) (length (reader .now)) ∷ [], (sliceVal (outbox .ptr) (length (outbox .now)) ∷ [], (sliceVal (factory .ptr) (length (factory .now)) ∷ [], (sliceVal (settings .ptr) (length (settings .now)) ∷ [], (sliceVal (registers .ptr) (length (registers .now)) ∷ [], tt))))))))
+  Passed = owns (T.the-row ∷ ShrSlice (named 0) κ-image u8 ∷ ShrSlice (named 1) κ-piece u8 ∷ MutSlice (named 2) κ-reader u8 ∷ MutSlice (named 3) κ-outbox u8 ∷ ShrSlice (named 4) κ-factory u8 ∷ MutSlice (named 5) κ-settings u8 ∷ MutSlice (named 6) κ-registers u8 ∷ []) a-in vals-in
 
-  goes-in : ent 𝓤 (⋆ 𝓤 H A ((‵ (flft κ-image q-image) ⊛ ‵ (flft κ-piece q-piece) ⊛ ‵ (flft κ-reader q-reader) ⊛ ‵ (flft κ-outbox q-outbox) ⊛ ‵ (flft κ-factory q-factory) ⊛ ‵ (flft κ-settings q-settings) ⊛ ‵ (flft κ-registers q-registers) ⊛ ‵ ftrue) ∷ ‵ Passed ∷ [])) (Callee 𝓤 H A at-mem run .pre to)
-  goes-in = qed W ((‵ (flft κ-image q-image) ⊛ ‵ (flft κ-piece q-piece) ⊛ ‵ (flft κ-reader q-reader) ⊛ ‵ (flft κ-outbox q-outbox) ⊛ ‵ (flft κ-factory q-factory) ⊛ ‵ (flft κ-settings q-settings) ⊛ ‵ (flft κ-registers q-registers) ⊛ ‵ ftrue) ∷ ‵ Passed ∷ []) ∵ join ! $ frame ! $ done !
+  goes-in : ent 𝓤 (⋆ 𝓤 H A (Tokens ∷ ‵ Passed ∷ [])) (Callee 𝓤 H A at-mem run .pre to)
+  goes-in = qed W (Tokens ∷ ‵ Passed ∷ []) ∵ join ! $ frame ! $ done !
 
   module _ (C : Calls 𝓤 H) (Λ : Loops 𝓤 H) (fm : FmC 𝓤 H (W .laws) C) (known : Triple 𝓤 (C #counters·receive-tallied) (Callee 𝓤 H A at-mem run)) where
-    walk : ent 𝓤 (onEntry 𝓤 H A f.signature κs (q-block, (q-image, (q-piece, (q-reader, (q-outbox, (q-factory, (q-settings, (q-registers, tt)))))))) a vals) (WpFn 𝓤 H C Λ code.function machine Post)
+    walk : ent 𝓤 (onEntry 𝓤 H A f.signature κs qs a vals) (WpFn 𝓤 H C Λ code.function machine Post)
     walk =
-        qed W ((‵ (flft κ-block q-block) ⊛ ‵ (flft κ-image q-image) ⊛ ‵ (flft κ-piece q-piece) ⊛ ‵ (flft κ-reader q-reader) ⊛ ‵ (flft κ-outbox q-outbox) ⊛ ‵ (flft κ-factory q-factory) ⊛ ‵ (flft κ-settings q-settings) ⊛ ‵ (flft κ-registers q-registers) ⊛ ‵ ftrue) ∷ ‵ (owns Params a vals) ∷ []) ∵ split ! $ move ! (2 ∷ []) $ fsplit ! $ fsplit3 ! $ drop ! $ move ! (2 ∷ []) $ fsplit ! $ use1 W (‵ (Own-image) ⊛ ‵ (Own-image)) (shr-slice-copy 𝓤 H A W (named 1) κ-image u8 .twice image (sliceVal (image .ptr) (length (image .now)) ∷ [])) $ split ! $ move ! (2 ∷ []) $ fsplit ! $ use1 W (‵ (Own-piece) ⊛ ‵ (Own-piece)) (shr-slice-copy 𝓤 H A W (named 2) κ-piece u8 .twice piece (sliceVal (piece .ptr) (length (piece .now)) ∷ [])) $ split ! $ move ! (2 ∷ []) $ fsplit ! $ move ! (1 ∷ []) $ fsplit ! $ move ! (1 ∷ []) $ fsplit ! $ use1 W (‵ (Own-factory) ⊛ ‵ (Own-factory)) (shr-slice-copy 𝓤 H A W (named 5) κ-factory u8 .twice factory (sliceVal (factory .ptr) (length (factory .now)) ∷ [])) $ split ! $ move ! (2 ∷ []) $ fsplit ! $ move ! (1 ∷ []) $ fsplit ! $
+        qed W ((‵ (flft κ-block q-block) ⊛ Tokens) ∷ ‵ (owns Params a vals) ∷ []) ∵ split ! $ move ! (2 ∷ []) $ fsplit ! $ fsplit3 ! $ drop ! $ move ! (2 ∷ []) $ fsplit ! $ use1 W (‵ (Own-image) ⊛ ‵ (Own-image)) (shr-slice-copy 𝓤 H A W (named 1) κ-image u8 .twice image (slice-val image ∷ [])) $ split ! $ move ! (2 ∷ []) $ fsplit ! $ use1 W (‵ (Own-piece) ⊛ ‵ (Own-piece)) (shr-slice-copy 𝓤 H A W (named 2) κ-piece u8 .twice piece (slice-val piece ∷ [])) $ split ! $ move ! (2 ∷ []) $ fsplit ! $ move ! (1 ∷ []) $ fsplit ! $ move ! (1 ∷ []) $ fsplit ! $ use1 W (‵ (Own-factory) ⊛ ‵ (Own-factory)) (shr-slice-copy 𝓤 H A W (named 5) κ-factory u8 .twice factory (slice-val factory ∷ [])) $ split ! $ move ! (2 ∷ []) $ fsplit ! $ move ! (1 ∷ []) $ fsplit ! $
         -- [own-registers; rest; own-settings; own-factory; kept-factory; own-outbox; own-reader; own-piece; kept-piece; own-image; kept-image; obs; bor; tok0; toks]
-        enter ! C Λ code.function machine _ $ alloc1 ! (λ l0. alloc1 ! (λ l1. alloc1 ! (λ l2. alloc1 ! (λ l3. alloc1 ! (λ l4. alloc1 ! (λ l5. alloc1 ! (λ l6. alloc1 ! (λ l7. alloc1 ! (λ l8. alloc1 ! (λ l9. alloc1 ! (λ l10. alloc1 ! (λ l11. alloc1 ! (λ l12. alloc1 ! (λ l13. alloc1 ! (λ l14. alloc1 ! (λ l15. alloc1 ! (λ l16. alloc1 ! (λ l17. alloc1 ! (λ l18. alloc0 ! $ params1 ! $ pass1 ! (init ! 34 refl (tt, tt)) $ pass1 ! (init ! 32 refl (shr-slice-lawful 𝓤 H A W (named 1) κ-image u8 .typed image (sliceVal (image .ptr) (length (image .now)) ∷ []) is-image .0)) $ pass1 ! (init ! 30 refl (shr-slice-lawful 𝓤 H A W (named 2) κ-piece u8 .typed piece (sliceVal (piece .ptr) (length (piece .now)) ∷ []) is-piece .0)) $ pass1 ! (init ! 28 refl (tt, (tt, (record { fits = room-reader .0 }, tt)))) $ pass1 ! (init ! 26 refl (tt, (tt, (record { fits = room-outbox .0 }, tt)))) $ pass1 ! (init ! 24 refl (shr-slice-lawful 𝓤 H A W (named 5) κ-factory u8 .typed factory (sliceVal (factory .ptr) (length (factory .now)) ∷ []) is-factory .0)) $ pass1 ! (init ! 22 refl (tt, (tt, (record { fits = room-settings .0 }, tt)))) $ pass1 ! (init ! 20 refl (tt, (tt, (record { fits = room-registers .0 }, tt)))) $ pass0 ! $
+        enter ! C Λ code.function machine _ $ alloc1 ! (λ l0. alloc1 ! (λ l1. alloc1 ! (λ l2. alloc1 ! (λ l3. alloc1 ! (λ l4. alloc1 ! (λ l5. alloc1 ! (λ l6. alloc1 ! (λ l7. alloc1 ! (λ l8. alloc1 ! (λ l9. alloc1 ! (λ l10. alloc1 ! (λ l11. alloc1 ! (λ l12. alloc1 ! (λ l13. alloc1 ! (λ l14. alloc1 ! (λ l15. alloc1 ! (λ l16. alloc1 ! (λ l17. alloc1 ! (λ l18. alloc0 ! $ params1 ! $ pass1 ! (init ! 34 refl (tt, tt)) $ pass1 ! (init ! 32 refl (shr-slice-lawful 𝓤 H A W (named 1) κ-image u8 .typed image (slice-val image ∷ []) is-image .0)) $ pass1 ! (init ! 30 refl (shr-slice-lawful 𝓤 H A W (named 2) κ-piece u8 .typed piece (slice-val piece ∷ []) is-piece .0)) $ pass1 ! (init ! 28 refl (tt, (tt, (record { fits = room-reader .0 }, tt)))) $ pass1 ! (init ! 26 refl (tt, (tt, (record { fits = room-outbox .0 }, tt)))) $ pass1 ! (init ! 24 refl (shr-slice-lawful 𝓤 H A W (named 5) κ-factory u8 .typed factory (slice-val factory ∷ []) is-factory .0)) $ pass1 ! (init ! 22 refl (tt, (tt, (record { fits = room-settings .0 }, tt)))) $ pass1 ! (init ! 20 refl (tt, (tt, (record { fits = room-registers .0 }, tt)))) $ pass0 ! $
         -- the block is opened, and its value is copied out
         move ! (49 ∷ 50 ∷ 51 ∷ []) $ opens ! tt T.the-row {h = h} b o (λ vs. spelt ! T.the-row (Is T.the-row) (shows 𝓤 H A T.the-row) (LL.vals T.the-type T′.the-laws) (LL.tells T.the-type T′.the-laws) fullShare h vs b o $ move ! (1 ∷ []) $ peeks ! T.the-row (Is T.the-row) (shows 𝓤 H A T.the-row) h (LL.vals T.the-type T′.the-laws h) (λ was. move ! (1 ∷ []) $
         -- [cell; was; open; obs; auth; _18; _17; _16; _15; _14; _13; _12; _11; _10; _9; _8; _7; _6; _5; _4; _3; _2; _1; _0; own-registers; rest; own-settings; own-factory; kept-factory; own-outbox; own-reader; own-piece; kept-piece; own-image; kept-image; toks]; each local is followed by what frees it
@@ -147,21 +194,49 @@ module _ {M : Type 1} (𝓤 : URA M) (H : Heap 𝓤) (A : Atoms 𝓤) (W : Given
         assigns ! (addr ! (from ! (fld ! refl (hop ! (look-in ! 25 (sub ! 0 refl (whole !))) (stop !))))) (from ! (stop !)) (init ! 7 refl (tt, tt)) $ assigns ! (agg ! (and-then ! (load ! (from ! (stop !)) (look ! 7 refl)) (and-then ! (load ! (from ! (fld ! refl (stop !))) (look-in ! 25 (sub ! 1 refl (whole !)))) (no-more !)))) (from ! (stop !)) (init ! 5 refl (tt, (tt, (record { fits = room-registers .0 }, tt)))) $
         -- the call: the copy and the slices go in, with all tokens but the block's
         move ! (44 ∷ []) $ move ! (44 ∷ 0 ∷ []) $ fjoin ! $ move ! (44 ∷ 0 ∷ []) $ fjoin ! $ move ! (44 ∷ 0 ∷ []) $ fjoin ! $ move ! (45 ∷ 0 ∷ []) $ fjoin ! $ move ! (45 ∷ 0 ∷ []) $ fjoin ! $ move ! (45 ∷ 0 ∷ []) $ fjoin ! $ move ! (46 ∷ 0 ∷ []) $ fjoin ! $ owned ! T.the-row (Is T.the-row) ((LL.makes T.the-type T′.the-plain) 𝓤 H A) h _ was $ fjoin ! $ move ! (47 ∷ 0 ∷ []) $ use2 W (raw (Callee 𝓤 H A at-mem run .pre to)) goes-in $
-        calls-at ! fm (Callee 𝓤 H A at-mem run) known to (and-then ! (load ! (from ! (stop !)) (look ! 22 refl)) (and-then ! (load ! (from ! (stop !)) (look ! 38 refl)) (and-then ! (load ! (from ! (stop !)) (look ! 36 refl)) (and-then ! (load ! (from ! (stop !)) (look ! 18 refl)) (and-then ! (load ! (from ! (stop !)) (look ! 14 refl)) (and-then ! (load ! (from ! (stop !)) (look ! 30 refl)) (and-then ! (load ! (from ! (stop !)) (look ! 10 refl)) (and-then ! (load ! (from ! (stop !)) (look ! 6 refl)) (no-more !))))))))) (λ v. use1 W (later (some (λ (r : Tallied). ((‵ (flft κ-image q-image) ⊛ ‵ (flft κ-piece q-piece) ⊛ ‵ (flft κ-reader q-reader) ⊛ ‵ (flft κ-outbox q-outbox) ⊛ ‵ (flft κ-factory q-factory) ⊛ ‵ (flft κ-settings q-settings) ⊛ ‵ (flft κ-registers q-registers) ⊛ ‵ ftrue) ⊛ ‵ (R.the-row .own r (v ∷ []))) ⊛ raw (ensured 𝓤 H A g.ended (g.clauses 𝓤 H A at-mem run) κs-in a-in tt r)))) (id⊢ 𝓤 _) $ await ! tt $ pick ! (λ r.
+        calls-at ! fm (Callee 𝓤 H A at-mem run) known to (and-then ! (load ! (from ! (stop !)) (look ! 22 refl)) (and-then ! (load ! (from ! (stop !)) (look ! 38 refl)) (and-then ! (load ! (from ! (stop !)) (look ! 36 refl)) (and-then ! (load ! (from ! (stop !)) (look ! 18 refl)) (and-then ! (load ! (from ! (stop !)) (look ! 14 refl)) (and-then ! (load ! (from ! (stop !)) (look ! 30 refl)) (and-then ! (load ! (from ! (stop !)) (look ! 10 refl)) (and-then ! (load ! (from ! (stop !)) (look ! 6 refl)) (no-more !))))))))) (λ v. use1 W (later (some (λ (r : Tallied). (Tokens ⊛ ‵ (R.the-row .own r (v ∷ []))) ⊛ raw (ensured 𝓤 H A g.ended (g.clauses 𝓤 H A at-mem run) κs-in a-in tt r)))) (id⊢ 𝓤 _) $ await ! tt $ pick ! (λ r.
         -- what the callee ensures, at its last lists
-        split ! $ move ! (1 ∷ []) $ use1 W (some (λ (zs : Unit {0} × (Unit {0} × (Unit {0} × (List ℕ × (List ℕ × (Unit {0} × (List ℕ × (List ℕ × Unit {0})))))))). ‵ (lasts g.ended κs-in a-in zs) ⊛ raw (fact 𝓤 ((receiptOf (r .answer) (parts (zs .1 .1 .1 .0) (zs .1 .1 .1 .1 .0) (factory .now) (zs .1 .1 .1 .1 .1 .1 .0) (zs .1 .1 .1 .1 .1 .1 .1 .0)) ≡ receiving (image .now) (parts (reader .now) (outbox .now) (factory .now) (settings .now) (registers .now)) (piece .now)) × ((r .counters) ≡ counting h (parts (reader .now) (outbox .now) (factory .now) (settings .now) (registers .now)) (piece .now)))))) (id⊢ 𝓤 _) $ pick ! (λ zs. split ! $ move ! (1 ∷ []) $ heard ! ((receiptOf (r .answer) (parts (zs .1 .1 .1 .0) (zs .1 .1 .1 .1 .0) (factory .now) (zs .1 .1 .1 .1 .1 .1 .0) (zs .1 .1 .1 .1 .1 .1 .1 .0)) ≡ receiving (image .now) (parts (reader .now) (outbox .now) (factory .now) (settings .now) (registers .now)) (piece .now)) × ((r .counters) ≡ counting h (parts (reader .now) (outbox .now) (factory .now) (settings .now) (registers .now)) (piece .now))) (λ e. move ! (0 ∷ []) $ fsplit ! $ drop ! $ move ! (0 ∷ []) $ fsplit ! $ drop ! $ move ! (0 ∷ []) $ fsplit ! $ drop ! $ move ! (0 ∷ []) $ fsplit ! $ fsplit ! $ move ! (1 ∷ []) $ feqL ! (λ len-reader. move ! (1 ∷ []) $ fsplit ! $ fsplit ! $ move ! (1 ∷ []) $ feqL ! (λ len-outbox. move ! (1 ∷ []) $ fsplit ! $ drop ! $ move ! (0 ∷ []) $ fsplit ! $ fsplit ! $ move ! (1 ∷ []) $ feqL ! (λ len-settings. move ! (1 ∷ []) $ fsplit ! $ fsplit ! $ move ! (1 ∷ []) $ feqL ! (λ len-registers. move ! (1 ∷ []) $ drop ! $ move ! (4 ∷ []) $ split ! $ move ! (1 ∷ []) $ peeks ! R.the-row (Is R.the-row) (shows 𝓤 H A R.the-row) r (v ∷ []) (λ is.
+        split ! $ move ! (1 ∷ []) $ use1 W (some (λ (zs : Last). ‵ (lasts g.ended κs-in a-in zs) ⊛ raw (fact 𝓤 (Ensured r (last-reader zs) (last-outbox zs) (last-settings zs) (last-registers zs))))) (id⊢ 𝓤 _) $ pick ! (λ zs. split ! $ move ! (1 ∷ []) $ heard ! (Ensured r (last-reader zs) (last-outbox zs) (last-settings zs) (last-registers zs)) (λ e. move ! (0 ∷ []) $ fsplit ! $ drop ! $ move ! (0 ∷ []) $ fsplit ! $ drop ! $ move ! (0 ∷ []) $ fsplit ! $ drop ! $ move ! (0 ∷ []) $ fsplit ! $ fsplit ! $ move ! (1 ∷ []) $ feqL ! (λ len-reader. move ! (1 ∷ []) $ fsplit ! $ fsplit ! $ move ! (1 ∷ []) $ feqL ! (λ len-outbox. move ! (1 ∷ []) $ fsplit ! $ drop ! $ move ! (0 ∷ []) $ fsplit ! $ fsplit ! $ move ! (1 ∷ []) $ feqL ! (λ len-settings. move ! (1 ∷ []) $ fsplit ! $ fsplit ! $ move ! (1 ∷ []) $ feqL ! (λ len-registers. move ! (1 ∷ []) $ drop ! $ move ! (4 ∷ []) $ split ! $ move ! (1 ∷ []) $ peeks ! R.the-row (Is R.the-row) (shows 𝓤 H A R.the-row) r (v ∷ []) (λ is.
         -- the result lands, and is written out as the struct of its fields; the counters are stored, the answer is returned
         land ! (from ! (stop !)) (init ! 29 refl (LL.lawful R.the-type R′.the-laws 𝓤 H A W .typed r _ is .0)) $ rewrite ! 29 (λ (u : Val). ‵ (fat fullShare R′.mir l9 0 u)) (ap only (LL.tells R.the-type R′.the-laws r (v ∷ []) is)) refl $
         assigns ! (of-opd ! (load ! (from ! (fld ! refl (stop !))) (look-in ! 29 (sub ! 1 refl (whole !))))) (from ! (hop ! (look ! 45 refl) (stop !))) (store-raw ! 6 refl (LL.lawful T.the-type T′.the-laws 𝓤 H A W .typed (r .counters) _ (is-counters r v is) .0)) $ assigns ! (of-opd ! (load ! (from ! (fld ! refl (stop !))) (look-in ! 29 (sub ! 0 refl (whole !))))) (from ! (stop !)) (init ! 47 refl (EL.lawful E.the-type E′.the-laws 𝓤 H A W tt .typed (r .answer) _ (is-answer r v is) .0)) $
         -- the block is closed at the new counters
         owned ! T.the-row (Is T.the-row) ((LL.makes T.the-type T′.the-plain) 𝓤 H A) (r .counters) _ (is-counters r v is) $ move ! (7 ∷ 0 ∷ 9 ∷ 10 ∷ 11 ∷ []) $ closes ! tt T.the-row (r .counters) (val (r .counters) ∷ []) b o $ returns ! (look ! 46 refl) $ forget ! 10 refl $ forget ! 12 refl $ forget ! 14 refl $ forget ! 16 refl $ forget ! 18 refl $ forget ! 20 refl $ forget ! 22 refl $ forget ! 24 refl $ forget ! 26 refl $ forget ! 28 refl $ forget ! 30 refl $ forget ! 32 refl $ forget ! 34 refl $ forget ! 36 refl $ forget ! 38 refl $ forget ! 40 refl $ forget ! 42 refl $ forget ! 44 refl $ forget ! 46 refl $
-        move ! (46 ∷ 47 ∷ []) $ free1 ! $ move ! (44 ∷ 45 ∷ []) $ free1 ! $ move ! (42 ∷ 43 ∷ []) $ free1 ! $ move ! (40 ∷ 41 ∷ []) $ free1 ! $ move ! (38 ∷ 39 ∷ []) $ free1 ! $ move ! (36 ∷ 37 ∷ []) $ free1 ! $ move ! (34 ∷ 35 ∷ []) $ free1 ! $ move ! (32 ∷ 33 ∷ []) $ free1 ! $ move ! (30 ∷ 31 ∷ []) $ free1 ! $ move ! (28 ∷ 29 ∷ []) $ free1 ! $ move ! (26 ∷ 27 ∷ []) $ free1 ! $ move ! (24 ∷ 25 ∷ []) $ free1 ! $ move ! (22 ∷ 23 ∷ []) $ free1 ! $ move ! (20 ∷ 21 ∷ []) $ free1 ! $ move ! (18 ∷ 19 ∷ []) $ free1 ! $ move ! (16 ∷ 17 ∷ []) $ free1 ! $ move ! (14 ∷ 15 ∷ []) $ free1 ! $ move ! (12 ∷ 13 ∷ []) $ free1 ! $ move ! (10 ∷ 11 ∷ []) $ free1 ! $ free0 ! $ keep ! (0 ∷ 1 ∷ 2 ∷ 4 ∷ 8 ∷ 7 ∷ 6 ∷ 5 ∷ 12 ∷ 11 ∷ 10 ∷ []) $ by ! (exits r v is (zs .1 .1 .1 .0) (zs .1 .1 .1 .1 .0) (zs .1 .1 .1 .1 .1 .1 .0) (zs .1 .1 .1 .1 .1 .1 .1 .0) e len-reader len-outbox len-settings len-registers)))))))))))))))))))))))))))))))
+        move ! (46 ∷ 47 ∷ []) $ free1 ! $ move ! (44 ∷ 45 ∷ []) $ free1 ! $ move ! (42 ∷ 43 ∷ []) $ free1 ! $ move ! (40 ∷ 41 ∷ []) $ free1 ! $ move ! (38 ∷ 39 ∷ []) $ free1 ! $ move ! (36 ∷ 37 ∷ []) $ free1 ! $ move ! (34 ∷ 35 ∷ []) $ free1 ! $ move ! (32 ∷ 33 ∷ []) $ free1 ! $ move ! (30 ∷ 31 ∷ []) $ free1 ! $ move ! (28 ∷ 29 ∷ []) $ free1 ! $ move ! (26 ∷ 27 ∷ []) $ free1 ! $ move ! (24 ∷ 25 ∷ []) $ free1 ! $ move ! (22 ∷ 23 ∷ []) $ free1 ! $ move ! (20 ∷ 21 ∷ []) $ free1 ! $ move ! (18 ∷ 19 ∷ []) $ free1 ! $ move ! (16 ∷ 17 ∷ []) $ free1 ! $ move ! (14 ∷ 15 ∷ []) $ free1 ! $ move ! (12 ∷ 13 ∷ []) $ free1 ! $ move ! (10 ∷ 11 ∷ []) $ free1 ! $ free0 ! $ keep ! (0 ∷ 1 ∷ 2 ∷ 4 ∷ 8 ∷ 7 ∷ 6 ∷ 5 ∷ 12 ∷ 11 ∷ 10 ∷ []) $ by ! (exits r v is (last-reader zs) (last-outbox zs) (last-settings zs) (last-registers zs) e len-reader len-outbox len-settings len-registers)))))))))))))))))))))))))))))))
 
 module _ {M : Type 1} (𝓤 : URA M) (H : Heap 𝓤) (A : Atoms 𝓤) (W : Given 𝓤 H A) (at-mem : Memory → SProp 𝓤) (run : Routine → Fun 𝓤) where
   walks : (C : Calls 𝓤 H) (Λ : Loops 𝓤 H) → FmC 𝓤 H (W .laws) C → Triple 𝓤 (C #counters·receive-tallied) (Callee 𝓤 H A at-mem run) → Walks 𝓤 H A f.ended stayed (WpFn 𝓤 H C Λ code.function) (f.clauses 𝓤 H A at-mem run)
   walks C Λ fm known = walked 𝓤 H A f.ended stayed (f.clauses 𝓤 H A at-mem run) (WpFn 𝓤 H C Λ code.function) (λ κs. (ptr-vals, (slice-vals, (slice-vals, (slice-vals, (slice-vals, (slice-vals, (slice-vals, (slice-vals, tt)))))))))
-      (λ κs. (mut-tells (named 0) (κs .0) T.the-row, (shr-slice-tells (named 1) (κs .1 .0) u8, (shr-slice-tells (named 2) (κs .1 .1 .0) u8, (mut-slice-tells (named 3) (κs .1 .1 .1 .0) u8, (mut-slice-tells (named 4) (κs .1 .1 .1 .1 .0) u8, (shr-slice-tells (named 5) (κs .1 .1 .1 .1 .1 .0) u8, (mut-slice-tells (named 6) (κs .1 .1 .1 .1 .1 .1 .0) u8, (mut-slice-tells (named 7) (κs .1 .1 .1 .1 .1 .1 .1 .0) u8, tt)))))))))
-      (λ κs qs bounds a _ are. via 𝓤 _ (fst∗ 𝓤 _ (emp 𝓤)) (walk 𝓤 H A W at-mem run (κs .0) (κs .1 .0) (κs .1 .1 .0) (κs .1 .1 .1 .0) (κs .1 .1 .1 .1 .0) (κs .1 .1 .1 .1 .1 .0) (κs .1 .1 .1 .1 .1 .1 .0) (κs .1 .1 .1 .1 .1 .1 .1 .0) (qs .0) (qs .1 .0) (qs .1 .1 .0) (qs .1 .1 .1 .0) (qs .1 .1 .1 .1 .0) (qs .1 .1 .1 .1 .1 .0) (qs .1 .1 .1 .1 .1 .1 .0) (qs .1 .1 .1 .1 .1 .1 .1 .0) (a .0 .ptr .0) (a .0 .ptr .1) (a .0 .name) (a .0 .now) (a .1 .0) (a .1 .1 .0) (a .1 .1 .1 .0) (a .1 .1 .1 .1 .0) (a .1 .1 .1 .1 .1 .0) (a .1 .1 .1 .1 .1 .1 .0) (a .1 .1 .1 .1 .1 .1 .1 .0) (are .1 .0) (are .1 .1 .0) (are .1 .1 .1 .0 .0 .1) (are .1 .1 .1 .1 .0 .0 .1) (are .1 .1 .1 .1 .1 .0) (are .1 .1 .1 .1 .1 .1 .0 .0 .1) (are .1 .1 .1 .1 .1 .1 .1 .0 .0 .1) C Λ fm known))
+      (λ κs.
+      let (κ-block, (κ-image, (κ-piece, (κ-reader, (κ-outbox, (κ-factory, (κ-settings, (κ-registers, _)))))))) = κs in (
+        mut-tells (named 0) κ-block T.the-row,
+        (
+          shr-slice-tells (named 1) κ-image u8,
+          (
+            shr-slice-tells (named 2) κ-piece u8,
+            (
+              mut-slice-tells (named 3) κ-reader u8,
+              (
+                mut-slice-tells (named 4) κ-outbox u8,
+                (
+                  shr-slice-tells (named 5) κ-factory u8,
+                  (mut-slice-tells (named 6) κ-settings u8, (mut-slice-tells (named 7) κ-registers u8, tt)),
+                ),
+              ),
+            ),
+          ),
+        ),
+      ))
+      (λ κs qs bounds a _ are.
+      let (κ-block, (κ-image, (κ-piece, (κ-reader, (κ-outbox, (κ-factory, (κ-settings, (κ-registers, _)))))))) = κs in
+      let (q-block, (q-image, (q-piece, (q-reader, (q-outbox, (q-factory, (q-settings, (q-registers, _)))))))) = qs in
+      let (block, (image, (piece, (reader, (outbox, (factory, (settings, (registers, _)))))))) = a in
+      let (_, (is-image, (is-piece, (is-reader, (is-outbox, (is-factory, (is-settings, (is-registers, _)))))))) = are in
+      via 𝓤 _ (fst∗ 𝓤 _ (emp 𝓤))
+      (walk 𝓤 H A W at-mem run κ-block κ-image κ-piece κ-reader κ-outbox κ-factory κ-settings κ-registers q-block q-image q-piece
+      q-reader q-outbox q-factory q-settings q-registers (block .ptr .0) (block .ptr .1) (block .name) (block .now) image piece reader
+      outbox factory settings registers is-image is-piece (is-reader .0 .1) (is-outbox .0 .1) is-factory (is-settings .0 .1)
+      (is-registers .0 .1) C Λ fm known))
 
   goes : AllGo 𝓤 H A W 8 (f.signature .params) (f.ended .kept) stayed
   goes = (goes-ref 𝓤 H A W 8 0 tt (plain (λ _. T.the-row)), (goes-none-slice 𝓤 H A W 8 (1 ∷ []) tt (plain (λ _. u8)) yes, (goes-none-slice 𝓤 H A W 8 (2 ∷ []) tt (plain (λ _. u8)) yes, (goes-gave-slice 𝓤 H A W 8 3 tt (plain (λ _. u8)), (goes-gave-slice 𝓤 H A W 8 4 tt (plain (λ _. u8)), (goes-none-slice 𝓤 H A W 8 (5 ∷ []) tt (plain (λ _. u8)) yes, (goes-gave-slice 𝓤 H A W 8 6 tt (plain (λ _. u8)), (goes-gave-slice 𝓤 H A W 8 7 tt (plain (λ _. u8)), tt))))))))

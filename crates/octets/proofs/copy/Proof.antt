@@ -17,10 +17,15 @@ Inv-loop src from n dst₀ at i₀ dst i = (i ≤ n) × (length dst ≡ length d
 abbrev μ-loop : tie.MeasureT-loop
 μ-loop src from n dst₀ at i₀ dst i = n - i
 
+-- places of the walk, each from a later one
+abbrev start : tie.At-loop Inv-loop μ-loop → tie.Start Inv-loop μ-loop
+start c = c .before .before .before .before .before
+
 loop-again : tie.Need-loop-again Inv-loop μ-loop
 loop-again c =
+    let at-loop = c .before .before in
     let l = c .before .before .loop in
-    let a = c .before .before .before .before .before .before .before .args in (
+    let a = start at-loop .args in (
       search needs,
       search needs,
       rw (l .inv .2) (overlay-run-more (a .at) (a .from) (l .i) (now (a .src)) (now (a .dst)) (search needs) (search needs)),
@@ -28,7 +33,7 @@ loop-again c =
 
 returns-5 : tie.Need-returns-5 Inv-loop μ-loop
 returns-5 c =
-    let e : c .before .loop .i ≡ c .before .before .before .before .before .before .args .n = omega arith in
+    let e : c .before .loop .i ≡ start (c .before) .args .n = omega arith in
     rw (c .before .loop .inv .2, e) (sym (copied-fits _ _ _ _ _ (search needs) (search needs)))
 
 pub copy-spec : {M : Type 1} → statement M

@@ -17,10 +17,15 @@ Inv-loop s₀ from to n i₀ s i = (i ≤ n) × (length s ≡ length s₀) × (s
 abbrev μ-loop : tie.MeasureT-loop
 μ-loop s₀ from to n i₀ s i = n - i
 
+-- places of the walk, each from a later one
+abbrev start : tie.At-loop Inv-loop μ-loop → tie.Start Inv-loop μ-loop
+start c = c .before .before .before .before
+
 loop-again : tie.Need-loop-again Inv-loop μ-loop
 loop-again c =
+    let at-loop = c .before .before in
     let l = c .before .before .loop in
-    let a = c .before .before .before .before .before .before .args in (
+    let a = start at-loop .args in (
       search needs,
       search needs,
       rw (l .inv .2) (overlay-down-more (a .from) (a .to) (l .i) (now (a .s)) (search needs) (search needs)),
@@ -28,7 +33,7 @@ loop-again c =
 
 returns-4 : tie.Need-returns-4 Inv-loop μ-loop
 returns-4 c =
-    let e : c .before .loop .i ≡ c .before .before .before .before .before .args .n = omega arith in
+    let e : c .before .loop .i ≡ start (c .before) .args .n = omega arith in
     rw (c .before .loop .inv .2, e) (sym (movedDown-fits _ _ _ _ (search needs) (search needs)))
 
 pub move-down-spec : {M : Type 1} → statement M

@@ -16,11 +16,15 @@ Inv-loop s at t bt n i₀ i = (i ≤ n) × ((k : ℕ) → k < i → getD s (at +
 abbrev μ-loop : tie.MeasureT-loop
 μ-loop s at t bt n i₀ i = n - i
 
+-- places of the walk, each from a later one
+abbrev at-loop : tie.After-shared-slice-known2 Inv-loop μ-loop → tie.At-loop Inv-loop μ-loop
+at-loop c = c .before .before .before
+
 loop-again : tie.Need-loop-again Inv-loop μ-loop
-loop-again c = (search needs, below-more _ _ (c .before .before .before .before .loop .inv .1) (c .if5 .left))
+loop-again c = (search needs, below-more _ _ (at-loop (c .before) .loop .inv .1) (c .if5 .left))
 
 returns-5 : tie.Need-returns-5 Inv-loop μ-loop
-returns-5 c = sym (sameRun-differ _ _ _ _ _ (c .before .before .before .before .loop .i) (search needs) (c .if5 .taken))
+returns-5 c = sym (sameRun-differ _ _ _ _ _ (at-loop (c .before) .loop .i) (search needs) (c .if5 .taken))
 
 returns-6 : tie.Need-returns-6 Inv-loop μ-loop
 returns-6 c = sym (sameRun-bytes _ _ _ _ _ (search needs) (search needs) (λ i l. c .before .loop .inv .1 i (omega arith)))

@@ -23,8 +23,9 @@ loop-holds c = (search needs, search needs, refl)
 
 loop-again : tie.Need-loop-again Inv-loop μ-loop
 loop-again c =
-    let l = c .before .before .before .loop in
-    (omega arith, omega arith, sums-next _ (l .i) _ _ (c .before .before .loop-test .taken) (c .wide .ensures .0) (l .inv .2))
+    let in-loop = c .before .before in
+    let l = in-loop .before .loop in
+    (omega arith, omega arith, sums-next _ (l .i) _ _ (in-loop .loop-test .taken) (c .wide .ensures .0) (l .inv .2))
 
 returns : tie.Need-returns Inv-loop μ-loop
 returns c = sums-end _ _ _ _ (c .loop-test .left) (c .before .loop .inv .2)

@@ -11,13 +11,15 @@ returns c = let a = c .before .args in last-other (a .code) (now (a .form)) (a .
 
 returns-2 : tie.Need-returns-2
 returns-2 c =
-    let a = c .before .before .args in
-    last-longer (a .code) (now (a .form)) (a .i) (c .before .if1 .left) (c .before .before .pre) (c .if2 .taken)
+    let start = c .before .before in
+    let a = start .args in
+    last-longer (a .code) (now (a .form)) (a .i) (c .before .if1 .left) (start .pre) (c .if2 .taken)
 
 returns-3 : tie.Need-returns-3
 returns-3 c =
-    let a = c .before .before .before .args in
-    last-byte (a .code) (now (a .form)) (a .i) (c .before .before .if1 .left) (c .before .if2 .left)
+    let else1 = c .before .before in
+    let a = else1 .before .args in
+    last-byte (a .code) (now (a .form)) (a .i) (else1 .if1 .left) (c .before .if2 .left)
 
 pub last-one-after-full-spec : {M : Type 1} → statement M
 last-one-after-full-spec =

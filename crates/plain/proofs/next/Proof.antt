@@ -14,10 +14,14 @@ abbrev μ-loop : tie.MeasureT-loop
 μ-loop capture at i₀ i = length capture - i
 
 returns : tie.Need-returns Inv-loop μ-loop
-returns c = let l = c .before .before .before in reached-zero _ _ _ (l .loop .inv) (c .before .before .loop-test .taken) (c .if1 .taken)
+returns c =
+    let in-loop = c .before .before in
+    let l = in-loop .before in reached-zero _ _ _ (l .loop .inv) (in-loop .loop-test .taken) (c .if1 .taken)
 
 loop-again : tie.Need-loop-again Inv-loop μ-loop
-loop-again c = let l = c .before .before .before in reached-more _ _ _ (l .loop .inv) (c .before .before .loop-test .taken) (c .if1 .left)
+loop-again c =
+    let in-loop = c .before .before in
+    let l = in-loop .before in reached-more _ _ _ (l .loop .inv) (in-loop .loop-test .taken) (c .if1 .left)
 
 returns-2 : tie.Need-returns-2 Inv-loop μ-loop
 returns-2 c = reached-end _ _ _ (c .before .loop .inv) (c .loop-test .left)

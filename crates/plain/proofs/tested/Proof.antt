@@ -11,6 +11,16 @@ use Rattle.plain.proofs.Tests.{tested-short, tested-long, tested-checks
 use Rattle.plain.proofs.tested.Statement.{statement}
 use Rattle.plain.proofs.tested.Tie as tie
 
+-- places of the walk, each from a later one
+abbrev at-read-u16 : tie.After-checksum → tie.After-read-u16
+at-read-u16 c = c .before .before
+
+abbrev at-read-u64 : tie.After-checksum → tie.After-read-u64
+at-read-u64 c = c .before .before .before
+
+abbrev start-of : tie.Else2 → tie.Start
+start-of c = c .before .before .before
+
 returns : tie.Need-returns
 unfolding verdictOf
 returns c =
@@ -32,34 +42,38 @@ returns-3 : tie.Need-returns-3
 unfolding verdictOf
 returns-3 c =
     let sum = c .before in
-    let sequence = sum .before .before .before in
+    let sequence = at-read-u64 sum in
     let high = sequence .before in
-    let start = high .before .before .before in
+    let start = start-of high in
     tested-checksum (now (start .args .message)) (start .args .n) (start .pre) (high .before .if1 .left) (high .if2 .left)
-    (sum .before .before .read-u16 .ensures) (sum .checksum .ensures) (sequence .read-u64 .ensures)
+    (at-read-u16 sum .read-u16 .ensures) (sum .checksum .ensures) (sequence .read-u64 .ensures)
     (c .if3 .taken)
 
 returns-4 : tie.Need-returns-4
 unfolding verdictOf
 returns-4 c =
-    let sum = c .before .before .before in
-    let sequence = sum .before .before .before in
+    let else3 = c .before .before in
+    let sum = else3 .before in
+    let sequence = at-read-u64 sum in
     let high = sequence .before in
-    let start = high .before .before .before in
+    let start = start-of high in
     tested-magic (now (start .args .message)) (start .args .n) (start .pre) (high .before .if1 .left) (high .if2 .left)
-    (sum .before .before .read-u16 .ensures) (sum .checksum .ensures) (sequence .read-u64 .ensures)
-    (c .before .before .if3 .left) (c .before .read-u32 .ensures) (c .if4 .taken)
+    (at-read-u16 sum .read-u16 .ensures) (sum .checksum .ensures) (sequence .read-u64 .ensures)
+    (else3 .if3 .left) (c .before .read-u32 .ensures) (c .if4 .taken)
 
 returns-5 : tie.Need-returns-5
 unfolding verdictOf
 returns-5 c =
-    let sum = c .before .before .before .before .before in
-    let sequence = sum .before .before .before in
+    let else4 = c .before .before in
+    let at-read-u32 = else4 .before in
+    let else3 = at-read-u32 .before in
+    let sum = else3 .before in
+    let sequence = at-read-u64 sum in
     let high = sequence .before in
-    let start = high .before .before .before in
+    let start = start-of high in
     tested-good (now (start .args .message)) (start .args .n) (start .pre) (high .before .if1 .left) (high .if2 .left)
-    (sum .before .before .read-u16 .ensures) (sum .checksum .ensures) (sequence .read-u64 .ensures)
-    (c .before .before .before .before .if3 .left) (c .before .before .before .read-u32 .ensures) (c .before .before .if4 .left)
+    (at-read-u16 sum .read-u16 .ensures) (sum .checksum .ensures) (sequence .read-u64 .ensures)
+    (else3 .if3 .left) (at-read-u32 .read-u32 .ensures) (else4 .if4 .left)
     (c .before .read-u322 .ensures) (c .read-u8 .ensures)
 
 pub tested-spec : {M : Type 1} → statement M

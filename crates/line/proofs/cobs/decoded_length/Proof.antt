@@ -21,6 +21,19 @@ Inv-loop s n full₀ zero₀ i₀ full zero i =
 abbrev μ-loop : tie.MeasureT-loop
 μ-loop s n full₀ zero₀ i₀ full zero i = n - i
 
+-- places of the walk, each from a later one
+abbrev start-from-loop : tie.At-loop Inv-loop μ-loop → tie.Start Inv-loop μ-loop
+start-from-loop c = c .before .before
+
+abbrev wide-of : tie.After-last-one-after-full Inv-loop μ-loop → tie.After-wide Inv-loop μ-loop
+wide-of c = c .before .before .before
+
+abbrev start-from-in-loop : tie.In-loop Inv-loop μ-loop → tie.Start Inv-loop μ-loop
+start-from-in-loop c = start-from-loop (c .before)
+
+abbrev in-loop-of : tie.After-wide Inv-loop μ-loop → tie.In-loop Inv-loop μ-loop
+in-loop-of c = c .before .before .before .before .before .before
+
 loop-holds : tie.Need-loop-holds Inv-loop μ-loop
 loop-holds c = (search needs, search needs, counted-start _)
 
@@ -29,7 +42,7 @@ loop-again : tie.Need-loop-again Inv-loop μ-loop
 loop-again c =
     let at-loop = c .before .before .before in
     let iteration = at-loop .loop in
-    let start = at-loop .before .before in
+    let start = start-from-loop at-loop in
     let ones = c .before .alike .ensures (c .if1 .taken) in (
       omega (arith, ones .0),
       omega arith,
@@ -42,7 +55,7 @@ loop-again-2 : tie.Need-loop-again-2 Inv-loop μ-loop
 loop-again-2 c =
     let at-loop = c .before .before .before .before .before in
     let iteration = at-loop .loop in
-    let start = at-loop .before .before in
+    let start = start-from-loop at-loop in
     let ones = c .before .alike2 .ensures (c .if2 .taken) in (
       omega (arith, ones .0),
       omega arith,
@@ -54,9 +67,9 @@ loop-again-2 c =
 returns : tie.Need-returns Inv-loop μ-loop
 returns c =
     let at-wide = c .before in
-    let in-loop = at-wide .before .before .before .before .before .before in
+    let in-loop = in-loop-of at-wide in
     let iteration = in-loop .before .loop in
-    let start = in-loop .before .before .before in
+    let start = start-from-in-loop in-loop in
     counted-zero (now (start .args .s)) (start .args .n) (iteration .i) (iteration .zero) _ (at-wide .wide .result)
     (in-loop .loop-test .taken) (start .pre) (at-wide .wide .ensures .0) (c .if3 .taken)
     ∙ sym (iteration .inv .2)
@@ -65,9 +78,9 @@ returns c =
 returns-2 : tie.Need-returns-2 Inv-loop μ-loop
 returns-2 c =
     let at-wide = c .before .before in
-    let in-loop = at-wide .before .before .before .before .before .before in
+    let in-loop = in-loop-of at-wide in
     let iteration = in-loop .before .loop in
-    let start = in-loop .before .before .before in
+    let start = start-from-in-loop in-loop in
     counted-short (now (start .args .s)) (start .args .n) (iteration .i) (iteration .zero) _ (at-wide .wide .result)
     (in-loop .loop-test .taken) (start .pre) (at-wide .wide .ensures .0) (c .if4 .taken)
     ∙ sym (iteration .inv .2)
@@ -76,10 +89,10 @@ returns-2 c =
 returns-3 : tie.Need-returns-3 Inv-loop μ-loop
 returns-3 c =
     let at-call = c .before in
-    let at-wide = at-call .before .before .before in
-    let in-loop = at-wide .before .before .before .before .before .before in
+    let at-wide = wide-of at-call in
+    let in-loop = in-loop-of at-wide in
     let iteration = in-loop .before .loop in
-    let start = in-loop .before .before .before in
+    let start = start-from-in-loop in-loop in
     counted-last (now (start .args .s)) (start .args .n) (iteration .i) (iteration .zero) _ (at-wide .wide .result)
     (in-loop .loop-test .taken) (start .pre) (at-wide .wide .ensures .0) (sym (c .if5 .taken) ∙ at-call .last-one-after-full .ensures)
     ∙ sym (iteration .inv .2)
@@ -88,16 +101,17 @@ returns-3 c =
 loop-again-3 : tie.Need-loop-again-3 Inv-loop μ-loop
 loop-again-3 c =
     let at-call = c .before .before in
-    let at-wide = at-call .before .before .before in
-    let in-loop = at-wide .before .before .before .before .before .before in
+    let else3 = at-call .before .before in
+    let at-wide = wide-of at-call in
+    let in-loop = in-loop-of at-wide in
     let iteration = in-loop .before .loop in
-    let start = in-loop .before .before .before in
+    let start = start-from-in-loop in-loop in
     let next = one-if-not (leb (at-wide .wide .result) 254) in (
       search needs,
       omega arith,
       rw (c .held .ensures .0) (iteration .inv .2
           ∙ counted-group (now (start .args .s)) (start .args .n) (iteration .i) (iteration .full) (iteration .zero) (iteration .inv .1) (at-wide .wide .result)
-          (in-loop .loop-test .taken) (start .pre) (at-wide .wide .ensures .0) (at-call .before .before .if3 .left) (at-call .before .if4 .left)
+          (in-loop .loop-test .taken) (start .pre) (at-wide .wide .ensures .0) (else3 .if3 .left) (at-call .before .if4 .left)
           (sym (c .before .if5 .left) ∙ at-call .last-one-after-full .ensures)),
     )
 
@@ -106,7 +120,7 @@ returns-4 : tie.Need-returns-4 Inv-loop μ-loop
 returns-4 c =
     let at-loop = c .before .before in
     let iteration = at-loop .loop in
-    let start = at-loop .before .before in
+    let start = start-from-loop at-loop in
     let e : start .args .n - iteration .full - c .held2 .result ≡ decodedOf (iteration .i) (iteration .full) (iteration .zero) = omega arith in
     ap Length e
     ∙ counted-end (now (start .args .s)) (start .args .n) (iteration .i) (iteration .zero) _ (c .before .loop-test .left) (start .pre)

@@ -17,32 +17,63 @@ Inv-loop s n out₀ i₀ o₀ out i o = (i ≤ n) × Met s n i o × Put (cobs (t
 abbrev μ-loop : tie.MeasureT-loop
 μ-loop s n out₀ i₀ o₀ out i o = n - i
 
+-- places of the walk, each from a later one
+abbrev at-loop-from-then1 : tie.Then1 Inv-loop μ-loop → tie.At-loop Inv-loop μ-loop
+at-loop-from-then1 c = c .before .before
+
+abbrev start : tie.At-loop Inv-loop μ-loop → tie.Start Inv-loop μ-loop
+start c = c .before .before .before
+
+abbrev then1 : tie.After-slice-known2 Inv-loop μ-loop → tie.Then1 Inv-loop μ-loop
+then1 c = c .before .before .before .before
+
+abbrev then2 : tie.After-slice-known3 Inv-loop μ-loop → tie.Then2 Inv-loop μ-loop
+then2 c = c .before .before .before .before
+
+abbrev at-nonzero-run : tie.After-slice-known4 Inv-loop μ-loop → tie.After-nonzero-run Inv-loop μ-loop
+at-nonzero-run c = c .before .before .before .before
+
+abbrev at-loop-from-then2 : tie.Then2 Inv-loop μ-loop → tie.At-loop Inv-loop μ-loop
+at-loop-from-then2 c = c .before .before .before .before
+
+abbrev at-loop-from-nonzero-run : tie.After-nonzero-run Inv-loop μ-loop → tie.At-loop Inv-loop μ-loop
+at-loop-from-nonzero-run c = c .before .before .before .before .before .before
+
+abbrev at-nonzero-run-from-else4 : tie.Else4 Inv-loop μ-loop → tie.After-nonzero-run Inv-loop μ-loop
+at-nonzero-run-from-else4 c = at-nonzero-run (c .before .before)
+
+abbrev at-nonzero-run-from-then4 : tie.Then4 Inv-loop μ-loop → tie.After-nonzero-run Inv-loop μ-loop
+at-nonzero-run-from-then4 c = at-nonzero-run (c .before .before)
+
+abbrev start-from-nonzero-run : tie.After-nonzero-run Inv-loop μ-loop → tie.Start Inv-loop μ-loop
+start-from-nonzero-run c = start (at-loop-from-nonzero-run c)
+
 -- a block of zeros
 block : (c : tie.Then1 Inv-loop μ-loop)
-    → let at-loop = c .before .before in
-    let a = at-loop .before .before .before .args in
+    → let at-loop = at-loop-from-then1 c in
+    let a = start at-loop .args in
     Zeros (now (a .s)) (a .n) (at-loop .loop .i) (at-loop .loop .o) 32
 block c =
     let found = c .before .alike .ensures (c .if1 .taken) in
-    zeros-next _ _ _ _ 32 (omega arith) (found .0) (found .1) (c .before .before .loop .inv .1)
+    zeros-next _ _ _ _ 32 (omega arith) (found .0) (found .1) (at-loop-from-then1 c .loop .inv .1)
 
 -- one zero
 one : (c : tie.Then2 Inv-loop μ-loop)
-    → let at-loop = c .before .before .before .before in
-    let a = at-loop .before .before .before .args in
+    → let at-loop = at-loop-from-then2 c in
+    let a = start at-loop .args in
     Zeros (now (a .s)) (a .n) (at-loop .loop .i) (at-loop .loop .o) 1
 one c =
     let found = c .before .alike2 .ensures (c .if2 .taken) in
-    zeros-next _ _ _ _ 1 (omega arith) (found .0) (found .1) (c .before .before .before .before .loop .inv .1)
+    zeros-next _ _ _ _ 1 (omega arith) (found .0) (found .1) (at-loop-from-then2 c .loop .inv .1)
 
 -- what an iteration's calls ensure of its group
 known : (c : tie.After-nonzero-run Inv-loop μ-loop)
-    → let at-loop = c .before .before .before .before .before .before in
-    let a = at-loop .before .before .before .args in
+    → let at-loop = at-loop-from-nonzero-run c in
+    let a = start at-loop .args in
     NextGroup (now (a .s)) (a .n) (at-loop .loop .i) (at-loop .loop .o) (c .nonzero-run .result)
 known c =
-    let l = c .before .before .before .before .before .before .loop .inv in
-    next-group _ _ _ _ _ _ (c .before .before .before .before .before .before .before .before .before .pre .0) (l .0) (l .1) (c .before .min .ensures) (c .nonzero-run .ensures)
+    let l = at-loop-from-nonzero-run c .loop .inv in
+    next-group _ _ _ _ _ _ (start-from-nonzero-run c .pre .0) (l .0) (l .1) (c .before .min .ensures) (c .nonzero-run .ensures)
 
 -- what the iteration leaves in out
 made : (c : tie.After-slice-known4 Inv-loop μ-loop)
@@ -52,29 +83,32 @@ made : (c : tie.After-slice-known4 Inv-loop μ-loop)
     Put (cobs (take (a .n) (now (a .s)))) (at-loop .loop .o + (k .nonzero-run .result + 1)) (now (a .out))
     (c .before .before .copy .last .1 .1 .1 .0)
 made c =
-    let k = c .before .before .before .before in
-    rw (c .before .before .copy .ensures)
-    (next-group-put (known k) (k .before .before .before .before .before .before .before .before .before .pre .1 .1) (k .before .before .before .before .before .before .loop .inv .2))
+    let at-copy = c .before .before in
+    let k = at-nonzero-run c in
+    rw (at-copy .copy .ensures)
+    (next-group-put (known k) (start-from-nonzero-run k .pre .1 .1) (at-loop-from-nonzero-run k .loop .inv .2))
 
 -- a block of code bytes 01 is put
 loop-again : tie.Need-loop-again Inv-loop μ-loop
 loop-again c =
-    let k = c .before .before .before .before in
+    let at-put-alike = c .before .before in
+    let k = then1 c in
     let z = block k in (
       omega arith,
       z .met,
-      rw (c .before .before .put-alike .ensures) (zeros-put z (k .before .before .before .before .before .pre .1 .1) (k .before .before .loop .inv .2)),
+      rw (at-put-alike .put-alike .ensures) (zeros-put z (start (at-loop-from-then1 k) .pre .1 .1) (at-loop-from-then1 k .loop .inv .2)),
     )
 
 -- one is
 loop-again-2 : tie.Need-loop-again-2 Inv-loop μ-loop
 loop-again-2 c =
-    let k = c .before .before .before .before in
-    let at-loop = k .before .before .before .before in
+    let at-put-alike2 = c .before .before in
+    let k = then2 c in
+    let at-loop = at-loop-from-then2 k in
     let z = one k in (
       omega arith,
       z .met,
-      rw (c .before .before .put-alike2 .ensures) (zeros-put z (at-loop .before .before .before .pre .1 .1) (at-loop .loop .inv .2)),
+      rw (at-put-alike2 .put-alike2 .ensures) (zeros-put z (start at-loop .pre .1 .1) (at-loop .loop .inv .2)),
     )
 
 pub encode-spec : {M : Type 1} → statement M
@@ -83,26 +117,28 @@ encode-spec =
     (tie.spec
     Inv-loop μ-loop (λ c. (search needs, refl, put-none _ _))
     (λ c κs. search needs) (λ c κs. omega (arith, block (c .before)))
-    (λ c. omega (arith, block (c .before .before .before .before))) (λ c. omega (arith, block (c .before .before .before .before)))
-    (λ c. omega (arith, block (c .before .before .before .before))) loop-again
+    (λ c. omega (arith, block (then1 c))) (λ c. omega (arith, block (then1 c)))
+    (λ c. omega (arith, block (then1 c))) loop-again
     (λ c κs. search needs) (λ c κs. omega (arith, one (c .before)))
-    (λ c. omega (arith, one (c .before .before .before .before))) (λ c. omega (arith, one (c .before .before .before .before)))
-    (λ c. omega (arith, one (c .before .before .before .before))) loop-again-2
+    (λ c. omega (arith, one (then2 c))) (λ c. omega (arith, one (then2 c)))
+    (λ c. omega (arith, one (then2 c))) loop-again-2
     (λ c. search needs) (λ c κs. search needs) (λ c κs. search needs)
     (λ c. omega (arith, known c)) (λ c. omega (arith, known c)) (λ c. omega (arith, known c)) (λ c. omega (arith, known (c .before)))
     (λ c κs. search needs)
-    (λ c. omega (arith, known (c .before .before .before .before))) (λ c. omega (arith, known (c .before .before .before .before)))
-    (λ c. omega (arith, known (c .before .before .before .before)))
+    (λ c. omega (arith, known (at-nonzero-run c))) (λ c. omega (arith, known (at-nonzero-run c)))
+    (λ c. omega (arith, known (at-nonzero-run c)))
     (λ c. made (c .before) .size)
     (λ c.
-    let e = group-last (known (c .before .before .before .before .before)) (c .if3 .taken) in
+    let e = group-last (known (at-nonzero-run (c .before))) (c .if3 .taken) in
     (put-all e (made (c .before)), e))
-    (λ c. omega (arith, known (c .before .before .before .before .before .before)))
-    (λ c. omega (arith, known (c .before .before .before .before .before .before)))
+    (λ c. omega (arith, known (at-nonzero-run-from-then4 c)))
+    (λ c. omega (arith, known (at-nonzero-run-from-then4 c)))
     (λ c.
-    let t = known (c .before .before .before .before .before .before) in
-    (omega arith, group-zero t (omega arith) (c .if4 .taken), made (c .before .before)))
-    (λ c. omega (arith, known (c .before .before .before .before .before .before)))
+    let at-slice-known4 = c .before .before in
+    let t = known (at-nonzero-run-from-then4 c) in
+    (omega arith, group-zero t (omega arith) (c .if4 .taken), made at-slice-known4))
+    (λ c. omega (arith, known (at-nonzero-run-from-else4 c)))
     (λ c.
-    let t = known (c .before .before .before .before .before .before) in
-    (omega arith, group-full t (omega arith) (c .if4 .left), made (c .before .before))))
+    let at-slice-known4 = c .before .before in
+    let t = known (at-nonzero-run-from-else4 c) in
+    (omega arith, group-full t (omega arith) (c .if4 .left), made at-slice-known4)))

@@ -8,23 +8,30 @@ use Rattle.line.proofs.State.{append-over, append-some, append-fit}
 use Rattle.line.proofs.reader.append.Statement.{statement}
 use Rattle.line.proofs.reader.append.Tie as tie
 
+-- places of the walk, each from a later one
+abbrev start : tie.After-get-count → tie.Start
+start c = c .before .before .before .before .before
+
 returns : tie.Need-returns
 unfolding pushes
 returns c = rw (c .if1 .taken)
 
 returns-2 : tie.Need-returns-2
 returns-2 c =
-    let a = c .before .before .before .before .before .before .before .before .before .before .args in
+    let at-get-count = c .before .before .before .before .before in
+    let a = start at-get-count .args in
     cc (append-over (now (a .state)) (now (a .piece)) (a .n) (omega arith, omega arith) (omega arith) (omega arith) (omega arith))
 
 returns-3 : tie.Need-returns-3
 returns-3 c =
-    let a = c .before .before .before .before .before .before .before .before .before .before .before .before .before .before .before .args in
+    let at-get-count = c .before .before .before .before .before .before .before .before .before .before in
+    let a = start at-get-count .args in
     cc (append-some (now (a .state)) (now (a .piece)) (a .n) (omega arith, omega arith) (omega arith) (omega arith) (omega arith) (omega arith))
 
 returns-4 : tie.Need-returns-4
 returns-4 c =
-    let a = c .before .before .before .before .before .before .before .before .before .before .before .before .before .before .before .args in
+    let at-get-count = c .before .before .before .before .before .before .before .before .before .before in
+    let a = start at-get-count .args in
     cc (append-fit (now (a .state)) (now (a .piece)) (a .n) (omega arith, omega arith) (omega arith) (omega arith) (omega arith))
 
 pub append-spec : {M : Type 1} → statement M

@@ -24,11 +24,15 @@ returns-2 c =
 
 returns-3 : tie.Need-returns-3
 returns-3 c =
-    let reset = c .before .before .before .before .before .before .before .before in
+    let at-settle-form = c .before .before in
+    let else1 = at-settle-form .before .before .before in
+    let reset = else1 .before .before .before in
     let found = reset .before .before in
-    let state = now (found .before .before .before .args .state) in
-    c .before .before .settle-form .ensures
-    ∙ rw (reset .set-count .ensures, found .get-count .ensures .0) (finish-form state (λ e. c .before .before .before .before .before .if1 .left (found .get-count .ensures .0 ∙ e)) (omega arith) (omega arith))
+    let start = found .before .before .before in
+    let state = now (start .args .state) in
+    at-settle-form .settle-form .ensures
+    ∙ rw (reset .set-count .ensures, found .get-count .ensures .0) (finish-form state
+    (λ e. else1 .if1 .left (found .get-count .ensures .0 ∙ e)) (omega arith) (omega arith))
 
 pub finish-frame-spec : {M : Type 1} → statement M
 finish-frame-spec =

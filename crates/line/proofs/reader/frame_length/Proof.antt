@@ -12,4 +12,4 @@ frame-length-spec =
     tie.close
     (tie.spec
     (λ c. search needs) (λ c. search needs) (λ c. search needs) (λ c κs. search needs)
-    (λ c. cc (rest-mid (now (c .before .before .before .args .state)) frame-offset)))
+    (λ c. let start = c .before .before .before in cc (rest-mid (now (start .args .state)) frame-offset)))

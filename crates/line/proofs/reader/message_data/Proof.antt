@@ -12,24 +12,32 @@ use Rattle.line.proofs.reader.message_data.Tie as tie
 
 returns : tie.Need-returns
 unfolding dataOf dataRefusal partOf
-returns c = rw (sym (c .before .before .is-valid .ensures) ∙ not-true _ (c .before .if1 .taken))
+returns c =
+    let at-is-valid = c .before .before in
+    rw (sym (at-is-valid .is-valid .ensures) ∙ not-true _ (c .before .if1 .taken))
 
 returns-2 : tie.Need-returns-2
 unfolding dataOf dataRefusal partOf
 returns-2 c =
+    let else1 = c .before .before in
+    let at-is-valid = else1 .before in
     rw (
-      sym (c .before .before .before .is-valid .ensures) ∙ not-false _ (c .before .before .if1 .left),
+      sym (at-is-valid .is-valid .ensures) ∙ not-false _ (else1 .if1 .left),
       lt-ltb _ _ (c .before .if2 .taken),
     )
 
 part-result-end : tie.Need-part-result-end
-part-result-end c = omega (arith, valid-ready _ (sym (c .before .before .is-valid .ensures) ∙ not-false _ (c .before .if1 .left)))
+part-result-end c =
+    let at-is-valid = c .before .before in
+    omega (arith, valid-ready _ (sym (at-is-valid .is-valid .ensures) ∙ not-false _ (c .before .if1 .left)))
 
 returns-3 : tie.Need-returns-3
 unfolding dataOf dataRefusal partOf
 returns-3 c =
+    let else1 = c .before .before in
+    let at-is-valid = else1 .before in
     rw (
-      sym (c .before .before .before .is-valid .ensures) ∙ not-false _ (c .before .before .if1 .left),
+      sym (at-is-valid .is-valid .ensures) ∙ not-false _ (else1 .if1 .left),
       le-ltb _ _ (c .before .if2 .left),
       add-sub-cancel-left,
     )

@@ -13,11 +13,15 @@ returns c = rw (sym (c .before .is-valid .ensures) ∙ not-true _ (c .if1 .taken
 
 returns-2 : tie.Need-returns-2
 unfolding dataReport dataRefusal
-returns-2 c = rw (sym (c .before .before .is-valid .ensures) ∙ not-false _ (c .before .if1 .left), lt-ltb _ _ (c .if2 .taken))
+returns-2 c =
+    let at-is-valid = c .before .before in
+    rw (sym (at-is-valid .is-valid .ensures) ∙ not-false _ (c .before .if1 .left), lt-ltb _ _ (c .if2 .taken))
 
 returns-3 : tie.Need-returns-3
 unfolding dataReport dataRefusal
-returns-3 c = rw (sym (c .before .before .is-valid .ensures) ∙ not-false _ (c .before .if1 .left), le-ltb _ _ (c .if2 .left))
+returns-3 c =
+    let at-is-valid = c .before .before in
+    rw (sym (at-is-valid .is-valid .ensures) ∙ not-false _ (c .before .if1 .left), le-ltb _ _ (c .if2 .left))
 
 pub message-data-given-spec : {M : Type 1} → statement M
 message-data-given-spec = tie.close (tie.spec

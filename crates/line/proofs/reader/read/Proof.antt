@@ -13,53 +13,67 @@ use Rattle.line.proofs.Reading.{ahead, ahead-most, reading-refused, rea
 use Rattle.line.proofs.reader.read.Statement.{statement}
 use Rattle.line.proofs.reader.read.Tie as tie
 
+-- places of the walk, each from a later one
+abbrev at-nonzero-run : tie.After-append → tie.After-nonzero-run
+at-nonzero-run c = c .before .before
+
+abbrev else1 : tie.After-nonzero-run → tie.Else1
+else1 c = c .before .before
+
+abbrev at-append : tie.After-slice-known2 → tie.After-append
+at-append c = c .before .before
+
+abbrev start : tie.After-nonzero-run → tie.Start
+start c = c .before .before .before .before .before .before .before
+
 returns : tie.Need-returns
 unfolding report
 returns c = reading-refused _ _ (sym (c .before .is-valid .ensures) ∙ not-true _ (c .if1 .taken))
 
 -- the search goes through the whole piece
 found : (c : tie.After-nonzero-run)
-    → c .nonzero-run .result ≡ length (ahead (now (c .before .before .before .before .before .before .before .args .piece)))
-found c = cc (rest-mid (now (c .before .before .before .before .before .before .before .args .piece)) 0)
+    → c .nonzero-run .result ≡ length (ahead (now (start c .args .piece)))
+found c = cc (rest-mid (now (start c .args .piece)) 0)
 
 append-requires : tie.Need-append-requires
 append-requires c κs =
     let run = c .before in
-    let z = run .before .before in
+    let z = else1 run in
     let r = valid-ready _ (sym (z .before .is-valid .ensures) ∙ not-false _ (z .if1 .left)) in
-    let piece = now (z .before .before .before .before .before .args .piece) in
+    let piece = now (start run .args .piece) in
     (r .0, (r .1, omega (arith, found run, ahead-most piece)))
 
 returns-2 : tie.Need-returns-2
 unfolding report
 returns-2 c =
-    let pushed = c .before .before .before in
-    let run = pushed .before .before in
-    let z = run .before .before in
+    let pushed = at-append (c .before) in
+    let run = at-nonzero-run pushed in
+    let z = else1 run in
     reading-more _ _ (sym (z .before .is-valid .ensures) ∙ not-false _ (z .if1 .left)) (found run)
     (pushed .append .ensures) (c .if2 .taken)
 
 finish-frame-requires : tie.Need-finish-frame-requires
 finish-frame-requires c κs =
     let pushed = c .before .before .before .before in
-    let run = pushed .before .before in
-    let z = run .before .before in
+    let run = at-nonzero-run pushed in
+    let z = else1 run in
     let r = reading-ready _ _ (sym (z .before .is-valid .ensures) ∙ not-false _ (z .if1 .left)) (found run) (pushed .append .ensures) in
     (r .0, r .1)
 
 add-t14 : tie.Need-add-t14
 add-t14 c =
     let run = c .before .before .before .before .before .before .before .before .before in
-    omega (arith, found run, ahead-most (now (run .before .before .before .before .before .before .before .args .piece)))
+    omega (arith, found run, ahead-most (now (start run .args .piece)))
 
 returns-3 : tie.Need-returns-3
 returns-3 c =
-    let stop = c .before .before .before .before in
-    let pushed = stop .before .before .before in
-    let run = pushed .before .before in
-    let z = run .before .before in
+    let at-finish-frame = c .before .before in
+    let stop = at-finish-frame .before .before in
+    let pushed = at-append (stop .before) in
+    let run = at-nonzero-run pushed in
+    let z = else1 run in
     reading-stop _ _ (sym (z .before .is-valid .ensures) ∙ not-false _ (z .if1 .left)) (found run)
-    (pushed .append .ensures) (stop .if2 .left) (c .before .before .finish-frame .ensures)
+    (pushed .append .ensures) (stop .if2 .left) (at-finish-frame .finish-frame .ensures)
 
 pub read-spec : {M : Type 1} → statement M
 read-spec =

@@ -14,8 +14,9 @@ use Rattle.line.proofs.reader.set_count.Tie as tie
 returns : tie.Need-returns
 unfolding counted
 returns c =
-    let a = c .before .before .before .before .before .args in
-    c .before .before .write-u16 .ensures ∙ put-fits 0 (bytes 2 (a .n)) (now (a .state)) (omega (arith, length-bytes 2 (a .n)))
+    let at-write-u16 = c .before .before in
+    let a = at-write-u16 .before .before .before .args in
+    at-write-u16 .write-u16 .ensures ∙ put-fits 0 (bytes 2 (a .n)) (now (a .state)) (omega (arith, length-bytes 2 (a .n)))
 
 pub set-count-spec : {M : Type 1} → statement M
 set-count-spec = tie.close (tie.spec

@@ -8,37 +8,52 @@ use Rattle.line.proofs.Judging.{form-fits, settle-bad, settle-short, se
 use Rattle.line.proofs.reader.settle_form.Statement.{statement}
 use Rattle.line.proofs.reader.settle_form.Tie as tie
 
+-- places of the walk, each from a later one
+abbrev at-frame-length : tie.After-m → tie.After-frame-length
+at-frame-length c = c .before .before
+
+abbrev m-of : tie.Else1 → tie.After-m
+m-of c = c .before .before
+
+abbrev start : tie.After-frame-length → tie.Start
+start c = c .before .before .before
+
 returns : tie.Need-returns
 unfolding report
 returns c =
-    let found = c .before .before .before .before in
-    let a = found .before .before .before .args in
-    settle-short _ _ (form-fits (now (a .state)) (a .n) (omega arith) (omega arith)) (found .frame-length .ensures) (c .before .before .m .given .1)
+    let at-m = c .before .before in
+    let found = at-frame-length at-m in
+    let a = start found .args in
+    settle-short _ _ (form-fits (now (a .state)) (a .n) (omega arith) (omega arith)) (found .frame-length .ensures) (at-m .m .given .1)
     (c .if1 .taken)
 
 returns-2 : tie.Need-returns-2
 unfolding report
 returns-2 c =
-    let found = c .before .before .before .before .before in
-    let a = found .before .before .before .args in
-    settle-long _ _ (form-fits (now (a .state)) (a .n) (omega arith) (omega arith)) (found .frame-length .ensures) (c .before .before .before .m .given .1)
+    let at-m = c .before .before .before in
+    let found = at-frame-length at-m in
+    let a = start found .args in
+    settle-long _ _ (form-fits (now (a .state)) (a .n) (omega arith) (omega arith)) (found .frame-length .ensures) (at-m .m .given .1)
     (c .if2 .taken)
 
 returns-3 : tie.Need-returns-3
 unfolding report
 returns-3 c =
     let found = c .before .before in
-    let a = found .before .before .before .args in
+    let a = start found .args in
     settle-bad _ _ (form-fits (now (a .state)) (a .n) (omega arith) (omega arith)) (found .frame-length .ensures) (c .enum-told .given .1)
 
 returns-4 : tie.Need-returns-4
 unfolding report
 returns-4 c =
-    let found = c .before .before .before .before .before .before .before .before .before .before .before in
-    let a = found .before .before .before .args in
-    settle-fits _ _ (form-fits (now (a .state)) (a .n) (omega arith) (omega arith)) (found .frame-length .ensures) (c .before .before .before .before .before .before .before .before .before .m .given .1)
-    (c .before .before .before .before .before .before .before .if1 .left) (c .before .before .before .before .before .before .if2 .left) (omega arith)
-    (c .before .before .before .before .decode-frame .ensures) (c .inspect .ensures)
+    let at-decode-frame = c .before .before .before .before in
+    let else2 = at-decode-frame .before .before in
+    let else1 = else2 .before in
+    let found = at-frame-length (m-of else1) in
+    let a = start found .args in
+    settle-fits _ _ (form-fits (now (a .state)) (a .n) (omega arith) (omega arith)) (found .frame-length .ensures) (m-of else1 .m .given .1)
+    (else1 .if1 .left) (else2 .if2 .left) (omega arith)
+    (at-decode-frame .decode-frame .ensures) (c .inspect .ensures)
 
 pub settle-form-spec : {M : Type 1} → statement M
 settle-form-spec =

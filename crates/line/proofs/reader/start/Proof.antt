@@ -12,7 +12,10 @@ returns c = rw (lt-leb _ _ (c .if1 .taken))
 
 returns-2 : tie.Need-returns-2
 unfolding startReport starting
-returns-2 c = rw (le-leb _ _ (c .before .before .before .before .if1 .left), c .before .before .set-count .ensures)
+returns-2 c =
+    let at-set-count = c .before .before in
+    let else1 = at-set-count .before .before in
+    rw (le-leb _ _ (else1 .if1 .left), at-set-count .set-count .ensures)
 
 pub start-spec : {M : Type 1} → statement M
 start-spec = tie.close (tie.spec

@@ -14,8 +14,10 @@ returns c = rw (sym (c .before .is-valid .ensures) ∙ not-true _ (c .if1 .taken
 returns-2 : tie.Need-returns-2
 unfolding tailReport tailOf
 returns-2 c =
+    let else1 = c .before .before in
+    let at-is-valid = else1 .before in
     rw (
-      sym (c .before .before .before .is-valid .ensures) ∙ not-false _ (c .before .before .if1 .left),
+      sym (at-is-valid .is-valid .ensures) ∙ not-false _ (else1 .if1 .left),
       ← c .before .get-count .ensures .0,
       lt-ltb _ _ (c .if2 .taken),
     )
@@ -23,8 +25,10 @@ returns-2 c =
 returns-3 : tie.Need-returns-3
 unfolding tailReport tailOf
 returns-3 c =
+    let else1 = c .before .before in
+    let at-is-valid = else1 .before in
     rw (
-      sym (c .before .before .before .is-valid .ensures) ∙ not-false _ (c .before .before .if1 .left),
+      sym (at-is-valid .is-valid .ensures) ∙ not-false _ (else1 .if1 .left),
       ← c .before .get-count .ensures .0,
       le-ltb _ _ (c .if2 .left),
     )

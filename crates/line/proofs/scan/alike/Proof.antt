@@ -21,11 +21,15 @@ Inv-loop b s at n end other₀ k₀ other k = (k ≤ n) × (other ≡ false → 
 abbrev μ-loop : tie.MeasureT-loop
 μ-loop b s at n end other₀ k₀ other k = n - k
 
+-- places of the walk, each from a later one
+abbrev start : tie.At-loop Inv-loop μ-loop → tie.Start Inv-loop μ-loop
+start c = c .before .before .before .before .before .before
+
 loop-again : tie.Need-loop-again Inv-loop μ-loop
 loop-again c =
     let at-loop = c .before .before in
     let l = at-loop .loop in
-    let a = at-loop .before .before .before .before .before .before .args in
+    let a = start at-loop .args in
     let byte = getD (now (a .s)) (a .at + l .k) 0 in (
       search needs,
       λ e.
@@ -37,7 +41,7 @@ loop-again c =
 returns-4 : tie.Need-returns-4 Inv-loop μ-loop
 returns-4 c =
     let at-loop = c .before in
-    let e : at-loop .loop .k ≡ at-loop .before .before .before .before .before .before .args .n = omega arith in
+    let e : at-loop .loop .k ≡ start at-loop .args .n = omega arith in
     λ f. (omega arith, rw e at (at-loop .loop .inv .1 (not-true (at-loop .loop .other) f)))
 
 pub alike-spec : {M : Type 1} → statement M

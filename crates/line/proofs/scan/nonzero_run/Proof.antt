@@ -18,6 +18,16 @@ Inv-loop s from most end k₀ k = (k ≤ end) × (length (nonzero most (drop fro
 abbrev μ-loop : tie.MeasureT-loop
 μ-loop s from most end k₀ k = end - k
 
+-- places of the walk, each from a later one
+abbrev loop-of : tie.After-shared-slice-known2 Inv-loop μ-loop → tie.At-loop Inv-loop μ-loop
+loop-of c = c .before .before
+
+abbrev start : tie.After-min Inv-loop μ-loop → tie.Start Inv-loop μ-loop
+start c = c .before .before .before
+
+abbrev min-of : tie.At-loop Inv-loop μ-loop → tie.After-min Inv-loop μ-loop
+min-of c = c .before .before .before
+
 returns : tie.Need-returns Inv-loop μ-loop
 returns c =
     let a = c .before .before .args in
@@ -27,7 +37,7 @@ returns c =
 loop-holds : tie.Need-loop-holds Inv-loop μ-loop
 loop-holds c =
     let at-min = c .before .before in
-    let a = at-min .before .before .before .args in
+    let a = start at-min .args in
     let n = length-drop (a .from) (now (a .s)) in (
       c .pass-blocks2 .ensures .0,
       reached-start (a .most) (at-min .min .result) (drop (a .from) (now (a .s))) (rw n (at-min .min .ensures))
@@ -36,20 +46,20 @@ loop-holds c =
 
 returns-2 : tie.Need-returns-2 Inv-loop μ-loop
 returns-2 c =
-    let at-loop = c .before .before .before in
+    let at-loop = loop-of (c .before) in
     let l = at-loop .loop in
-    let at-min = at-loop .before .before .before in
-    let a = at-min .before .before .before .args in
+    let at-min = min-of at-loop in
+    let a = start at-min .args in
     let n = length-drop (a .from) (now (a .s)) in
     let b = getD-drop (a .from) (now (a .s)) (l .k) 0 in
     sym (l .inv .1 ∙ reached-zero (at-min .min .result) (l .k) (drop (a .from) (now (a .s))) (omega arith) (omega arith))
 
 loop-again : tie.Need-loop-again Inv-loop μ-loop
 loop-again c =
-    let at-loop = c .before .before .before in
+    let at-loop = loop-of (c .before) in
     let l = at-loop .loop in
-    let at-min = at-loop .before .before .before in
-    let a = at-min .before .before .before .args in
+    let at-min = min-of at-loop in
+    let a = start at-min .args in
     let n = length-drop (a .from) (now (a .s)) in
     let b = getD-drop (a .from) (now (a .s)) (l .k) 0 in
     (search needs, l .inv .1 ∙ reached-more (at-min .min .result) (l .k) (drop (a .from) (now (a .s))) (omega arith) (omega arith) (omega arith))
@@ -58,8 +68,8 @@ returns-3 : tie.Need-returns-3 Inv-loop μ-loop
 returns-3 c =
     let at-loop = c .before in
     let l = at-loop .loop in
-    let at-min = at-loop .before .before .before in
-    let a = at-min .before .before .before .args in
+    let at-min = min-of at-loop in
+    let a = start at-min .args in
     let n = length-drop (a .from) (now (a .s)) in
     sym (l .inv .1 ∙ reached-end (at-min .min .result) (l .k) (drop (a .from) (now (a .s))) (omega arith))
 

@@ -18,9 +18,13 @@ Inv-loop s from end passed width k₀ k = (k ≤ end) × (reached end passed (dr
 abbrev μ-loop : tie.MeasureT-loop
 μ-loop s from end passed width k₀ k = end - k
 
+-- places of the walk, each from a later one
+abbrev at-loop : tie.After-has-zero Inv-loop μ-loop → tie.At-loop Inv-loop μ-loop
+at-loop c = c .before .before
+
 loop-again : tie.Need-loop-again Inv-loop μ-loop
 loop-again c =
-    let l = c .before .before .before .loop in
+    let l = at-loop (c .before) .loop in
     let a = c .before .before .before .before .before .args in
     let b = rw (← drop-drop (l .k) (a .from) (now (a .s))) at (c .before .has-zero .ensures (c .if1 .left)) in
     (omega arith, l .inv .1 ∙ reached-block (a .end) (l .k) (a .width) (drop (a .from) (now (a .s))) (omega arith) b)
@@ -30,4 +34,4 @@ pass-blocks-spec =
     tie.close
     (tie.spec
     Inv-loop μ-loop (λ c. (search needs, refl)) (λ c. search needs) (λ c. omega arith) (λ c κs. omega arith)
-    (λ c. c .before .before .before .loop .inv) (λ c. omega arith) (λ c. search needs) loop-again (λ c. c .before .loop .inv))
+    (λ c. at-loop (c .before) .loop .inv) (λ c. omega arith) (λ c. search needs) loop-again (λ c. c .before .loop .inv))

@@ -26,7 +26,8 @@ loop-again c =
 
 returns : tie.Need-returns Inv-loop μ-loop
 returns c =
-    let e : c .before .loop .k ≡ c .before .before .args .n = omega arith in
+    let start = c .before .before in
+    let e : c .before .loop .k ≡ start .args .n = omega arith in
     rw e at (c .before .loop .inv .2)
 
 pub put-alike-spec : {M : Type 1} → statement M

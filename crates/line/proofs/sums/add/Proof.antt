@@ -21,18 +21,25 @@ Inv-loop sums₀ row i₀ sums i =
 abbrev μ-loop : tie.MeasureT-loop
 μ-loop sums₀ row i₀ sums i = columns - i
 
+-- places of the walk, each from a later one
+abbrev at-loop : tie.After-sums2 Inv-loop μ-loop → tie.At-loop Inv-loop μ-loop
+at-loop c = c .before .before .before
+
+abbrev start-of : tie.After-sums2 Inv-loop μ-loop → tie.Start Inv-loop μ-loop
+start-of c = c .before .before .before .before
+
 loop-holds : tie.Need-loop-holds Inv-loop μ-loop
 loop-holds c = (search needs, c .pre .0, λ k h. refl, refl)
 
 add-sums : tie.Need-add-sums Inv-loop μ-loop
 add-sums c =
-    let l = c .before .before .before .loop in
-    omega (arith, l .inv .2 (l .i) (omega arith), c .before .before .before .before .pre .2 (l .i))
+    let l = at-loop c .loop in
+    omega (arith, l .inv .2 (l .i) (omega arith), start-of c .pre .2 (l .i))
 
 loop-again : tie.Need-loop-again Inv-loop μ-loop
 loop-again c =
-    let l = c .before .before .before .loop in
-    let a = c .before .before .before .before .args in (
+    let l = at-loop c .loop in
+    let a = start-of c .args in (
       search needs,
       simp length-set (l .inv .1),
       λ k h. getD-set-other (l .sums) (l .i) k _ 0 (λ e. omega arith) ∙ l .inv .2 k (omega arith),
@@ -41,7 +48,8 @@ loop-again c =
 
 returns : tie.Need-returns Inv-loop μ-loop
 returns c =
-    let l = c .before .loop in added-end (now (c .before .before .args .row)) (l .sums) (l .i) (omega arith) (omega arith) (l .inv .3)
+    let start = c .before .before in
+    let l = c .before .loop in added-end (now (start .args .row)) (l .sums) (l .i) (omega arith) (omega arith) (l .inv .3)
 
 pub add-spec : {M : Type 1} → statement M
 add-spec =

@@ -17,6 +17,16 @@ Inv-loop body at sums firsts₀ seconds₀ i₀ firsts seconds i = (i ≤ rows) 
 abbrev μ-loop : tie.MeasureT-loop
 μ-loop body at sums firsts₀ seconds₀ i₀ firsts seconds i = rows - i
 
+-- places of the walk, each from a later one
+abbrev add-of : tie.After-firsts2 Inv-loop μ-loop → tie.After-add Inv-loop μ-loop
+add-of c = c .before .before
+
+abbrev at-row : tie.After-add Inv-loop μ-loop → tie.After-row Inv-loop μ-loop
+at-row c = c .before .before .before
+
+abbrev loop-of : tie.After-add Inv-loop μ-loop → tie.At-loop Inv-loop μ-loop
+loop-of c = c .before .before .before .before .before
+
 add-requires : tie.Need-add-requires Inv-loop μ-loop
 add-requires c κs =
     let l = c .before .before .before .before .loop in
@@ -25,16 +35,17 @@ add-requires c κs =
 
 add-requires-2 : tie.Need-add-requires-2 Inv-loop μ-loop
 add-requires-2 c κs =
-    let l = c .before .before .before .before .before .before .before .loop in
-    let bytes = c .before .before .before .before .before .row in
-    second-addable (l .i) _ (bytes .result) (l .firsts) (l .seconds) (omega arith) (bytes .ensures .1) (bytes .ensures .2) (l .inv .1) _ (c .before .before .add .ensures)
+    let l = loop-of (add-of c) .loop in
+    let bytes = at-row (add-of c) .row in
+    second-addable (l .i) _ (bytes .result) (l .firsts) (l .seconds) (omega arith) (bytes .ensures .1) (bytes .ensures .2) (l .inv .1) _ (add-of c .add .ensures)
 
 loop-again : tie.Need-loop-again Inv-loop μ-loop
 loop-again c =
-    let l = c .before .before .before .before .before .before .before .before .loop in
-    let bytes = c .before .before .before .before .before .before .row in (
+    let at-add = c .before .before .before in
+    let l = loop-of at-add .loop in
+    let bytes = at-row at-add .row in (
       search needs,
-      summed-next (l .i) _ _ _ _ _ _ _ (omega arith) (bytes .ensures .0) (bytes .ensures .1) (bytes .ensures .2) (c .before .before .before .add .ensures)
+      summed-next (l .i) _ _ _ _ _ _ _ (omega arith) (bytes .ensures .0) (bytes .ensures .1) (bytes .ensures .2) (at-add .add .ensures)
           (c .add2 .ensures) (l .inv .1),
     )
 
@@ -56,7 +67,9 @@ pub block-spec : {M : Type 1} → statement M
 block-spec =
     tie.close
     (tie.spec Inv-loop μ-loop (λ c. (search needs, summed-none)) (λ c. search needs) (λ c. search needs) (λ c κs. search needs) add-requires
-    add-requires-2 (λ c. search needs) (λ c. search needs) loop-again (λ c κs. c .before .before .loop .inv .1 .first-length)
-    (λ c κs. c .before .before .before .before .loop .inv .1 .second-length) (λ c. search needs) (λ c. search needs) (λ c. search needs)
+    add-requires-2 (λ c. search needs) (λ c. search needs) loop-again
+    (λ c κs. let at-loop = c .before .before in at-loop .loop .inv .1 .first-length)
+    (λ c κs. let at-loop = c .before .before .before .before in at-loop .loop .inv .1 .second-length) (λ c. search needs)
+    (λ c. search needs) (λ c. search needs)
     (λ c. search needs) (λ c. search needs) (λ c. search needs) (λ c. search needs) (λ c. search needs) (λ c. search needs) (λ c. search needs)
     (λ c. search needs) returns)

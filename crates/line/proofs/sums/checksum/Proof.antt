@@ -24,5 +24,6 @@ pub checksum-spec : {M : Type 1} → statement M
 checksum-spec =
     tie.close
     (tie.spec Inv-loop μ-loop loop-holds (λ c. search needs) (λ c κs. search needs) (λ c. search needs) (λ c. search needs)
-    (λ c. (search needs, c .block .ensures .0, c .block .ensures .1, c .block .ensures .2 ∙ c .before .before .loop .inv .3))
-    (λ c κs. search needs) (λ c. c .rest .ensures ∙ c .before .before .loop .inv .3))
+    (λ c. let at-loop = c .before .before in
+    (search needs, c .block .ensures .0, c .block .ensures .1, c .block .ensures .2 ∙ at-loop .loop .inv .3))
+    (λ c κs. search needs) (λ c. let at-loop = c .before .before in c .rest .ensures ∙ at-loop .loop .inv .3))

@@ -11,5 +11,6 @@ use Rattle.line.proofs.sums.checksum_of_first.Tie as tie
 pub checksum-of-first-spec : {M : Type 1} → statement M
 checksum-of-first-spec =
     tie.close
-    (tie.spec (λ c. sym (length-take-le _ (now (c .before .before .before .args .s)) (omega arith))) (λ c κs. search needs) (λ c κs. search needs) (λ c. search needs)
-    (λ c. cc (take-all (c .before .before .before .args .n) (now (c .before .before .before .args .s)) (c .before .if1 .left))))
+    (tie.spec (λ c. let start = c .before .before .before in sym (length-take-le _ (now (start .args .s)) (omega arith)))
+    (λ c κs. search needs) (λ c κs. search needs) (λ c. search needs)
+    (λ c. let start = c .before .before .before in cc (take-all (start .args .n) (now (start .args .s)) (c .before .if1 .left))))

@@ -24,12 +24,13 @@ loop-holds c = (search needs, search needs, omega arith, omega arith, sums-start
 
 loop-again : tie.Need-loop-again Inv-loop μ-loop
 loop-again c =
-    let l = c .before .before .before .loop in (
+    let in-loop = c .before .before in
+    let l = in-loop .before .loop in (
       search needs,
       search needs,
       omega arith,
       omega arith,
-      sums-next _ (l .i) _ _ _ (c .before .before .loop-test .taken) (c .wide .ensures .0) (l .inv .4),
+      sums-next _ (l .i) _ _ _ (in-loop .loop-test .taken) (c .wide .ensures .0) (l .inv .4),
     )
 
 pub rest-spec : {M : Type 1} → statement M

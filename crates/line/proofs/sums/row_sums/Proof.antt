@@ -25,8 +25,9 @@ loop-holds c = (search needs, search needs, search needs, refl, refl)
 
 loop-again : tie.Need-loop-again Inv-loop μ-loop
 loop-again c =
+    let start = c .before .before .before .before in
     let i = c .before .before .before .loop .i in
-    let row = now (c .before .before .before .before .args .row) in (
+    let row = now (start .args .row) in (
       search needs,
       omega arith,
       omega arith,
@@ -36,8 +37,9 @@ loop-again c =
 
 returns : tie.Need-returns Inv-loop μ-loop
 returns c =
+    let start = c .before .before in
     let l = c .before .loop in
-    let row = now (c .before .before .args .row) in
+    let row = now (start .args .row) in
     let e : take (l .i) row ≡ row = take-all (l .i) row (omega arith) in
     ((rw e at (l .inv .3), rw e at (l .inv .4)), (omega arith, omega arith))
 

@@ -10,7 +10,8 @@ use Rattle.line.proofs.writer.write_by.Tie as tie
 returns : tie.Need-returns
 returns c =
     let sent = c .before .before in
-    write-sent _ _ (simp length-append (omega arith)) (sent .before .before .before .before .before .assemble .ensures .1) (sent .send .ensures)
+    let at-assemble = sent .before .before .before .before .before in
+    write-sent _ _ (simp length-append (omega arith)) (at-assemble .assemble .ensures .1) (sent .send .ensures)
 
 pub write-by-spec : {M : Type 1} → statement M
 write-by-spec = tie.close (tie.spec (λ c κs. search needs) (λ c κs. search needs) (λ c. search needs) (λ c. search needs) returns)

@@ -32,8 +32,10 @@ loop-again c =
 
 returns-2 : tie.Need-returns-2 Inv-loop μ-loop
 returns-2 c =
-    let e : c .before .loop .i ≡ c .before .before .before .args .count = omega arith in
-    rw (c .before .loop .inv .2, e) (first-fits _ _ (search needs) _ (c .before .before .if1 .left))
+    let else1 = c .before .before in
+    let start = else1 .before in
+    let e : c .before .loop .i ≡ start .args .count = omega arith in
+    rw (c .before .loop .inv .2, e) (first-fits _ _ (search needs) _ (else1 .if1 .left))
 
 pub write-answer-spec : {M : Type 1} → statement M
 write-answer-spec =

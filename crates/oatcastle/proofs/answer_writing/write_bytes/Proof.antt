@@ -10,4 +10,5 @@ write-bytes-spec =
     tie.close
     (tie.spec
     (λ c. writingAnswer-short _ _ (c .if1 .taken)) (λ c κs. search needs) (λ c. search needs)
-    (λ c. writingAnswer-copied _ _ (c .before .before .before .before .if1 .left) (c .before .before .copy .ensures)))
+    (λ c. let at-copy = c .before .before in let else1 = at-copy .before .before in
+    writingAnswer-copied _ _ (else1 .if1 .left) (at-copy .copy .ensures)))

@@ -9,7 +9,10 @@ use Rattle.oatcastle.proofs.frames.answer_written.Tie as tie
 
 returns : tie.Need-returns
 unfolding report writeGiven
-returns c = rw (c .before .before .before .before .before .written .given .1) (c .before .before .write-answer .ensures)
+returns c =
+    let at-write-answer = c .before .before in
+    let at-written = at-write-answer .before .before .before in
+    rw (at-written .written .given .1) (at-write-answer .write-answer .ensures)
 
 returns-2 : tie.Need-returns-2
 unfolding report writeGiven writingAnswer

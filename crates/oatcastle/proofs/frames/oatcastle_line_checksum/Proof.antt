@@ -7,7 +7,10 @@ use Rattle.oatcastle.proofs.frames.oatcastle_line_checksum.Tie as tie
 
 returns : tie.Need-returns
 unfolding lineChecksumCall
-returns c = rw (← c .before .before .before .before .checksum .ensures) (c .before .before .write-answer .ensures)
+returns c =
+    let at-write-answer = c .before .before in
+    let at-checksum = at-write-answer .before .before in
+    rw (← at-checksum .checksum .ensures) (at-write-answer .write-answer .ensures)
 
 pub oatcastle-line-checksum-spec : {M : Type 1} → statement M
 oatcastle-line-checksum-spec = tie.close (tie.spec (λ c κs. search needs) (λ c. search needs) (λ c κs. search needs) (λ c. search needs) returns)

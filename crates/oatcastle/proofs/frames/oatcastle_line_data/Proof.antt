@@ -9,20 +9,24 @@ use Rattle.oatcastle.proofs.frames.oatcastle_line_data.Tie as tie
 
 returns : tie.Need-returns
 unfolding lineDataCall dataGiven dataReport writingAnswer
-returns c = rw (← c .before .before .message-data-given .ensures, c .enum-told .given .1)
+returns c =
+    let at-message-data-given = c .before .before in
+    rw (← at-message-data-given .message-data-given .ensures, c .enum-told .given .1)
 
 returns-2 : tie.Need-returns-2
 unfolding lineDataCall dataGiven dataReport writingAnswer
-returns-2 c = rw (← c .before .before .message-data-given .ensures, c .enum-told2 .given .1)
+returns-2 c =
+    let at-message-data-given = c .before .before in
+    rw (← at-message-data-given .message-data-given .ensures, c .enum-told2 .given .1)
 
 returns-3 : tie.Need-returns-3
 unfolding lineDataCall dataGiven dataReport
 returns-3 c =
-    let earlier = c .before .before in
-    let bytes = earlier .before .before in
+    let called = c .before .before in
+    let bytes = called .before .before in
     let arm = bytes .before in
     let asked = arm .before .before in
-    rw (← asked .message-data-given .ensures, arm .enum-told3 .given .1, ← bytes .message-data .ensures) (earlier .write-bytes .ensures)
+    rw (← asked .message-data-given .ensures, arm .enum-told3 .given .1, ← bytes .message-data .ensures) (called .write-bytes .ensures)
 
 pub oatcastle-line-data-spec : {M : Type 1} → statement M
 oatcastle-line-data-spec =

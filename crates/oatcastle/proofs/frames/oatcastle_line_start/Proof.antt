@@ -8,11 +8,15 @@ use Rattle.oatcastle.proofs.frames.oatcastle_line_start.Tie as tie
 
 returns : tie.Need-returns
 unfolding lineStartCall startReport
-returns c = rw (← c .before .before .before .before .start .ensures, c .enum-told .given .1)
+returns c =
+    let at-start = c .before .before .before .before in
+    rw (← at-start .start .ensures, c .enum-told .given .1)
 
 returns-2 : tie.Need-returns-2
 unfolding lineStartCall startReport
-returns-2 c = rw (← c .before .before .before .before .start .ensures, c .enum-told2 .given .1)
+returns-2 c =
+    let at-start = c .before .before .before .before in
+    rw (← at-start .start .ensures, c .enum-told2 .given .1)
 
 pub oatcastle-line-start-spec : {M : Type 1} → statement M
 oatcastle-line-start-spec =

@@ -17,10 +17,10 @@ returns-3 c = write-short _ _ _ (rw length-append (search needs)) (c .if3 .taken
 
 returns-4 : tie.Need-returns-4
 returns-4 c =
-    let earlier = c .before .before in
-    let written = earlier .before .before .before .before in
+    let called = c .before .before in
+    let written = called .before .before .before .before in
     let third = written .before .before in
-    write-given _ _ _ (rw length-append (search needs)) _ (third .if3 .left) (written .write .ensures) (earlier .answer-written .ensures)
+    write-given _ _ _ (rw length-append (search needs)) _ (third .if3 .left) (written .write .ensures) (called .answer-written .ensures)
 
 pub oatcastle-line-write-spec : {M : Type 1} → statement M
 oatcastle-line-write-spec =

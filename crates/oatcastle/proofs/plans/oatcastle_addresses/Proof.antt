@@ -8,9 +8,9 @@ use Rattle.oatcastle.proofs.plans.oatcastle_addresses.Tie as tie
 returns : tie.Need-returns
 unfolding addressesCall
 returns c =
-    let earlier = c .before .before in
-    let joined = earlier .before .before .before in
-    rw (← joined .before .addresses .ensures, ← joined .joined .ensures) (earlier .write-bytes .ensures)
+    let called = c .before .before in
+    let joined = called .before .before .before in
+    rw (← joined .before .addresses .ensures, ← joined .joined .ensures) (called .write-bytes .ensures)
 
 pub oatcastle-addresses-spec : {M : Type 1} → statement M
 oatcastle-addresses-spec =

@@ -9,8 +9,10 @@ use Rattle.oatcastle.proofs.plans.put_row.Tie as tie
 
 returns : tie.Need-returns
 returns c =
-    let l : length (c .before .before .before .before .before .before .args .t1) ≡ 6 = search needs in
-    (l, c .before .before .copy .ensures ∙ copied-row _ _ _ l)
+    let at-copy = c .before .before in
+    let start = at-copy .before .before .before .before in
+    let l : length (start .args .t1) ≡ 6 = search needs in
+    (l, at-copy .copy .ensures ∙ copied-row _ _ _ l)
 
 pub put-row-spec : {M : Type 1} → statement M
 put-row-spec = tie.close (tie.spec (λ c. search needs) (λ c κs. search needs) (λ c. search needs) returns)

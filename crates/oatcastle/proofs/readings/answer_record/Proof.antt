@@ -13,7 +13,10 @@ returns c = rw (c .enum-told .given .1)
 
 returns-2 : tie.Need-returns-2
 unfolding recordGiven recordReport
-returns-2 c = rw (c .before .before .before .before .before .before .before .enum-told2 .given .1) (c .before .before .before .before .write-both .ensures)
+returns-2 c =
+    let at-write-both = c .before .before .before .before in
+    let at-enum-told2 = at-write-both .before .before .before in
+    rw (at-enum-told2 .enum-told2 .given .1) (at-write-both .write-both .ensures)
 
 returns-3 : tie.Need-returns-3
 unfolding recordGiven recordReport

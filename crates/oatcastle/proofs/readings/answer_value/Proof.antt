@@ -20,19 +20,31 @@ returns-2 c =
 
 returns-3 : tie.Need-returns-3
 unfolding lookupGiven lookupReport
-returns-3 c = rw (c .before .before .before .before .before .before .before .enum-told2 .given .1) (c .before .before .before .before .write-both2 .ensures)
+returns-3 c =
+    let at-write-both2 = c .before .before .before .before in
+    let at-enum-told2 = at-write-both2 .before .before .before in
+    rw (at-enum-told2 .enum-told2 .given .1) (at-write-both2 .write-both2 .ensures)
 
 returns-4 : tie.Need-returns-4
 unfolding lookupGiven lookupReport
-returns-4 c = rw (c .before .before .before .before .before .before .before .enum-told3 .given .1) (c .before .before .before .before .write-both3 .ensures)
+returns-4 c =
+    let at-write-both3 = c .before .before .before .before in
+    let at-enum-told3 = at-write-both3 .before .before .before in
+    rw (at-enum-told3 .enum-told3 .given .1) (at-write-both3 .write-both3 .ensures)
 
 returns-5 : tie.Need-returns-5
 unfolding lookupGiven lookupReport
-returns-5 c = rw (c .before .before .before .before .before .before .before .enum-told4 .given .1) (c .before .before .before .before .write-both4 .ensures)
+returns-5 c =
+    let at-write-both4 = c .before .before .before .before in
+    let at-enum-told4 = at-write-both4 .before .before .before in
+    rw (at-enum-told4 .enum-told4 .given .1) (at-write-both4 .write-both4 .ensures)
 
 returns-6 : tie.Need-returns-6
 unfolding lookupGiven lookupReport
-returns-6 c = rw (c .before .before .before .before .before .before .before .enum-told5 .given .1) (c .before .before .before .before .write-both5 .ensures)
+returns-6 c =
+    let at-write-both5 = c .before .before .before .before in
+    let at-enum-told5 = at-write-both5 .before .before .before in
+    rw (at-enum-told5 .enum-told5 .given .1) (at-write-both5 .write-both5 .ensures)
 
 pub answer-value-spec : {M : Type 1} → statement M
 answer-value-spec =

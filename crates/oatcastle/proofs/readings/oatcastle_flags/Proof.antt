@@ -10,15 +10,17 @@ use Rattle.oatcastle.proofs.readings.oatcastle_flags.Tie as tie
 
 returns : tie.Need-returns
 unfolding flagsCall flagsGiven flagsReport writingAnswer
-returns c = rw (← c .before .before .flags .ensures, c .enum-told .given .1)
+returns c =
+    let at-flags = c .before .before in
+    rw (← at-flags .flags .ensures, c .enum-told .given .1)
 
 returns-2 : tie.Need-returns-2
 unfolding flagsCall flagsGiven flagsReport
 returns-2 c =
-    let earlier = c .before .before in
-    let arm = earlier .before .before .before .before .before in
+    let called = c .before .before in
+    let arm = called .before .before .before .before .before in
     let asked = arm .before .before in
-    rw (← asked .flags .ensures, arm .read .given .1, ← byte-flag (arm .read .given .0 .0 .reboot), ← byte-flag (arm .read .given .0 .0 .«power_off»)) (earlier .write-answer .ensures)
+    rw (← asked .flags .ensures, arm .read .given .1, ← byte-flag (arm .read .given .0 .0 .reboot), ← byte-flag (arm .read .given .0 .0 .«power_off»)) (called .write-answer .ensures)
 
 pub oatcastle-flags-spec : {M : Type 1} → statement M
 oatcastle-flags-spec =

@@ -9,23 +9,25 @@ use Rattle.oatcastle.proofs.readings.oatcastle_signal.Tie as tie
 
 returns : tie.Need-returns
 unfolding signalCall signalGiven signalReport writingAnswer
-returns c = rw (← c .before .before .signal .ensures, c .enum-told .given .1)
+returns c =
+    let at-signal = c .before .before in
+    rw (← at-signal .signal .ensures, c .enum-told .given .1)
 
 returns-2 : tie.Need-returns-2
 unfolding signalCall signalGiven signalReport
 returns-2 c =
-    let earlier = c .before .before in
-    let arm = earlier .before .before in
+    let called = c .before .before in
+    let arm = called .before .before in
     let asked = arm .before .before in
-    rw (← asked .signal .ensures, arm .enum-told2 .given .1) (earlier .write-answer .ensures)
+    rw (← asked .signal .ensures, arm .enum-told2 .given .1) (called .write-answer .ensures)
 
 returns-3 : tie.Need-returns-3
 unfolding signalCall signalGiven signalReport
 returns-3 c =
-    let earlier = c .before .before in
-    let arm = earlier .before .before in
+    let called = c .before .before in
+    let arm = called .before .before in
     let asked = arm .before .before in
-    rw (← asked .signal .ensures, arm .enum-told3 .given .1) (earlier .write-answer2 .ensures)
+    rw (← asked .signal .ensures, arm .enum-told3 .given .1) (called .write-answer2 .ensures)
 
 pub oatcastle-signal-spec : {M : Type 1} → statement M
 oatcastle-signal-spec =

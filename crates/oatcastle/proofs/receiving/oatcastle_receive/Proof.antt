@@ -8,11 +8,15 @@ use Rattle.oatcastle.proofs.receiving.oatcastle_receive.Tie as tie
 
 returns : tie.Need-returns
 unfolding receiveCall receiptReport
-returns c = rw (← c .before .before .before .before .before .before .before .before .before .before .receive .ensures, c .enum-told .given .1)
+returns c =
+    let at-receive = c .before .before .before .before .before .before .before .before .before .before in
+    rw (← at-receive .receive .ensures, c .enum-told .given .1)
 
 returns-2 : tie.Need-returns-2
 unfolding receiveCall receiptReport
-returns-2 c = rw (← c .before .before .before .before .before .before .before .before .before .before .receive .ensures, c .enum-told2 .given .1)
+returns-2 c =
+    let at-receive = c .before .before .before .before .before .before .before .before .before .before in
+    rw (← at-receive .receive .ensures, c .enum-told2 .given .1)
 
 pub oatcastle-receive-spec : {M : Type 1} → statement M
 oatcastle-receive-spec =

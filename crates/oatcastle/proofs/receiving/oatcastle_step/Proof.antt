@@ -13,10 +13,10 @@ returns c =
 
 returns-2 : tie.Need-returns-2
 returns-2 c =
-    let earlier = c .before .before in
-    let stepped = earlier .before .before .before .before .before .before .before .before .before .before in
+    let called = c .before .before in
+    let stepped = called .before .before .before .before .before .before .before .before .before .before in
     let first = stepped .before .before .before .before .before in
-    step-given _ _ _ _ _ (first .if1 .left) (stepped .step .ensures) (earlier .answer-step .ensures)
+    step-given _ _ _ _ _ (first .if1 .left) (stepped .step .ensures) (called .answer-step .ensures)
 
 pub oatcastle-step-spec : {M : Type 1} → statement M
 oatcastle-step-spec =

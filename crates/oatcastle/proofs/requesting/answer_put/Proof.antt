@@ -17,7 +17,10 @@ returns-2 c = rw (c .enum-told2 .given .1)
 
 returns-3 : tie.Need-returns-3
 unfolding sendReport putGiven
-returns-3 c = rw (c .before .before .before .before .before .sent .given .1) (c .before .before .write-answer .ensures)
+returns-3 c =
+    let at-write-answer = c .before .before in
+    let at-sent = at-write-answer .before .before .before in
+    rw (at-sent .sent .given .1) (at-write-answer .write-answer .ensures)
 
 pub answer-put-spec : {M : Type 1} → statement M
 answer-put-spec =

@@ -29,7 +29,10 @@ returns-5 c = rw (c .enum-told5 .given .1)
 
 returns-6 : tie.Need-returns-6
 unfolding requestReport putGiven
-returns-6 c = rw (c .before .before .before .before .before .requested .given .1) (c .before .before .write-answer .ensures)
+returns-6 c =
+    let at-write-answer = c .before .before in
+    let at-requested = at-write-answer .before .before .before in
+    rw (at-requested .requested .given .1) (at-write-answer .write-answer .ensures)
 
 pub answer-requested-spec : {M : Type 1} → statement M
 answer-requested-spec =

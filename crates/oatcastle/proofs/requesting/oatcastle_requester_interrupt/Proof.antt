@@ -8,15 +8,21 @@ use Rattle.oatcastle.proofs.requesting.oatcastle_requester_interrupt.Ti
 
 returns : tie.Need-returns
 unfolding interruptCall interruptReport
-returns c = rw (← c .before .before .before .before .interrupt .ensures, c .enum-told .given .1)
+returns c =
+    let at-interrupt = c .before .before .before .before in
+    rw (← at-interrupt .interrupt .ensures, c .enum-told .given .1)
 
 returns-2 : tie.Need-returns-2
 unfolding interruptCall interruptReport
-returns-2 c = rw (← c .before .before .before .before .interrupt .ensures, c .enum-told2 .given .1)
+returns-2 c =
+    let at-interrupt = c .before .before .before .before in
+    rw (← at-interrupt .interrupt .ensures, c .enum-told2 .given .1)
 
 returns-3 : tie.Need-returns-3
 unfolding interruptCall interruptReport
-returns-3 c = rw (← c .before .before .before .before .interrupt .ensures, c .enum-told3 .given .1)
+returns-3 c =
+    let at-interrupt = c .before .before .before .before in
+    rw (← at-interrupt .interrupt .ensures, c .enum-told3 .given .1)
 
 pub oatcastle-requester-interrupt-spec : {M : Type 1} → statement M
 oatcastle-requester-interrupt-spec =

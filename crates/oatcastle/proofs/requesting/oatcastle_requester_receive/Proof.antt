@@ -8,13 +8,15 @@ use Rattle.oatcastle.proofs.requesting.oatcastle_requester_receive.Tie 
 returns : tie.Need-returns
 returns c =
     let received = c .before .before .before .before .before in
-    listen-short _ _ _ _ (received .before .before .before .before .if1 .taken) (received .receive .ensures) (c .short-received .ensures)
+    let then1 = received .before .before .before .before in
+    listen-short _ _ _ _ (then1 .if1 .taken) (received .receive .ensures) (c .short-received .ensures)
 
 returns-2 : tie.Need-returns-2
 returns-2 c =
-    let earlier = c .before .before in
-    let received = earlier .before .before .before .before .before .before in
-    listen-given _ _ _ _ (received .before .before .before .if1 .left) (received .receive2 .ensures) (earlier .answer-received .ensures)
+    let called = c .before .before in
+    let received = called .before .before .before .before .before .before in
+    let else1 = received .before .before .before in
+    listen-given _ _ _ _ (else1 .if1 .left) (received .receive2 .ensures) (called .answer-received .ensures)
 
 pub oatcastle-requester-receive-spec : {M : Type 1} → statement M
 oatcastle-requester-receive-spec =

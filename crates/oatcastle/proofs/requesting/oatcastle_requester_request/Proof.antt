@@ -10,13 +10,15 @@ use Rattle.oatcastle.proofs.requesting.oatcastle_requester_request.Tie 
 returns : tie.Need-returns
 returns c =
     let put = c .before .before .before .before in
-    request-short _ _ _ _ _ (0 ∷ []) (put .before .before .before .if1 .taken) refl (put .request .ensures) (c .short-requested .ensures)
+    let then1 = put .before .before .before in
+    request-short _ _ _ _ _ (0 ∷ []) (then1 .if1 .taken) refl (put .request .ensures) (c .short-requested .ensures)
 
 returns-2 : tie.Need-returns-2
 returns-2 c =
-    let earlier = c .before .before in
-    let put = earlier .before .before .before .before .before .before in
-    request-given _ _ _ _ _ (put .before .before .before .if1 .left) (put .request2 .ensures) (earlier .answer-requested .ensures)
+    let called = c .before .before in
+    let put = called .before .before .before .before .before .before in
+    let else1 = put .before .before .before in
+    request-given _ _ _ _ _ (else1 .if1 .left) (put .request2 .ensures) (called .answer-requested .ensures)
 
 pub oatcastle-requester-request-spec : {M : Type 1} → statement M
 oatcastle-requester-request-spec =

@@ -10,13 +10,15 @@ use Rattle.oatcastle.proofs.requesting.oatcastle_requester_send.Tie as 
 returns : tie.Need-returns
 returns c =
     let put = c .before .before .before .before in
-    send-short _ _ _ (0 ∷ []) (put .before .before .before .if1 .taken) refl (put .send .ensures) (c .short-sent .ensures)
+    let then1 = put .before .before .before in
+    send-short _ _ _ (0 ∷ []) (then1 .if1 .taken) refl (put .send .ensures) (c .short-sent .ensures)
 
 returns-2 : tie.Need-returns-2
 returns-2 c =
-    let earlier = c .before .before in
-    let put = earlier .before .before .before .before .before .before in
-    send-given _ _ _ (put .before .before .before .if1 .left) (put .send2 .ensures) (earlier .answer-put .ensures)
+    let called = c .before .before in
+    let put = called .before .before .before .before .before .before in
+    let else1 = put .before .before .before in
+    send-given _ _ _ (else1 .if1 .left) (put .send2 .ensures) (called .answer-put .ensures)
 
 pub oatcastle-requester-send-spec : {M : Type 1} → statement M
 oatcastle-requester-send-spec =

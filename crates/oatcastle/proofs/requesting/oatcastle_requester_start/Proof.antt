@@ -8,11 +8,15 @@ use Rattle.oatcastle.proofs.requesting.oatcastle_requester_start.Tie as
 
 returns : tie.Need-returns
 unfolding requesterStartCall startReport
-returns c = rw (← c .before .before .before .before .before .before .start .ensures, c .enum-told .given .1)
+returns c =
+    let at-start = c .before .before .before .before .before .before in
+    rw (← at-start .start .ensures, c .enum-told .given .1)
 
 returns-2 : tie.Need-returns-2
 unfolding requesterStartCall startReport
-returns-2 c = rw (← c .before .before .before .before .before .before .start .ensures, c .enum-told2 .given .1)
+returns-2 c =
+    let at-start = c .before .before .before .before .before .before in
+    rw (← at-start .start .ensures, c .enum-told2 .given .1)
 
 pub oatcastle-requester-start-spec : {M : Type 1} → statement M
 oatcastle-requester-start-spec =

@@ -9,11 +9,16 @@ use Rattle.oatcastle.proofs.rot_link.answer_sent.Tie as tie
 
 returns : tie.Need-returns
 unfolding report rotWriteGiven
-returns c = rw (c .before .before .before .before .before .written .given .1) (c .before .before .write-answer .ensures)
+returns c =
+    let at-write-answer = c .before .before in
+    let at-written = at-write-answer .before .before .before in
+    rw (at-written .written .given .1) (at-write-answer .write-answer .ensures)
 
 returns-2 : tie.Need-returns-2
 unfolding report rotWriteGiven writingAnswer
-returns-2 c = rw (c .before .before .written2 .given .1, c .number .ensures)
+returns-2 c =
+    let at-written2 = c .before .before in
+    rw (at-written2 .written2 .given .1, c .number .ensures)
 
 pub answer-sent-spec : {M : Type 1} → statement M
 answer-sent-spec =

@@ -7,7 +7,10 @@ use Rattle.oatcastle.proofs.rot_link.oatcastle_rot_crc.Tie as tie
 
 returns : tie.Need-returns
 unfolding rotCrcCall
-returns c = rw (← c .before .before .before .before .crc .ensures) (c .before .before .write-answer .ensures)
+returns c =
+    let at-write-answer = c .before .before in
+    let at-crc = at-write-answer .before .before in
+    rw (← at-crc .crc .ensures) (at-write-answer .write-answer .ensures)
 
 pub oatcastle-rot-crc-spec : {M : Type 1} → statement M
 oatcastle-rot-crc-spec =

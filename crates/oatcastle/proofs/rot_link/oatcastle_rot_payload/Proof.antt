@@ -7,7 +7,10 @@ use Rattle.oatcastle.proofs.rot_link.oatcastle_rot_payload.Tie as tie
 
 returns : tie.Need-returns
 unfolding rotPayloadCall
-returns c = rw (← c .before .before .before .before .payload .ensures) (c .before .before .write-bytes .ensures)
+returns c =
+    let at-write-bytes = c .before .before in
+    let at-payload = at-write-bytes .before .before in
+    rw (← at-payload .payload .ensures) (at-write-bytes .write-bytes .ensures)
 
 pub oatcastle-rot-payload-spec : {M : Type 1} → statement M
 oatcastle-rot-payload-spec =

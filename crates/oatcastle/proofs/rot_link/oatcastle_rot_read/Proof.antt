@@ -10,13 +10,15 @@ use Rattle.oatcastle.proofs.rot_link.oatcastle_rot_read.Tie as tie
 returns : tie.Need-returns
 returns c =
     let read = c .before .before in
-    read-short _ _ _ (0 ∷ []) _ (omega arith) (read .before .before .if1 .taken) (read .read .ensures) (c .short-read .ensures)
+    let then1 = read .before .before in
+    read-short _ _ _ (0 ∷ []) _ (omega arith) (then1 .if1 .taken) (read .read .ensures) (c .short-read .ensures)
 
 returns-2 : tie.Need-returns-2
 returns-2 c =
-    let earlier = c .before .before in
-    let read = earlier .before .before .before .before in
-    read-given _ _ _ _ (read .before .before .if1 .left) (read .read2 .ensures) (earlier .answer-read .ensures)
+    let called = c .before .before in
+    let read = called .before .before .before .before in
+    let else1 = read .before .before in
+    read-given _ _ _ _ (else1 .if1 .left) (read .read2 .ensures) (called .answer-read .ensures)
 
 pub oatcastle-rot-read-spec : {M : Type 1} → statement M
 oatcastle-rot-read-spec =

@@ -10,13 +10,15 @@ use Rattle.oatcastle.proofs.rot_link.oatcastle_rot_write.Tie as tie
 returns : tie.Need-returns
 returns c =
     let written = c .before .before in
-    write-short _ _ _ _ (0 ∷ []) (omega arith) (written .before .before .if1 .taken) (written .write .ensures) (c .short-written .ensures)
+    let then1 = written .before .before in
+    write-short _ _ _ _ (0 ∷ []) (omega arith) (then1 .if1 .taken) (written .write .ensures) (c .short-written .ensures)
 
 returns-2 : tie.Need-returns-2
 returns-2 c =
-    let earlier = c .before .before in
-    let written = earlier .before .before .before .before in
-    write-given _ _ _ _ (written .before .before .if1 .left) (written .write2 .ensures) (earlier .answer-sent .ensures)
+    let called = c .before .before in
+    let written = called .before .before .before .before in
+    let else1 = written .before .before in
+    write-given _ _ _ _ (else1 .if1 .left) (written .write2 .ensures) (called .answer-sent .ensures)
 
 pub oatcastle-rot-write-spec : {M : Type 1} → statement M
 oatcastle-rot-write-spec =

@@ -8,7 +8,9 @@ use Rattle.oatcastle.proofs.rot_link.short_read.Tie as tie
 
 returns : tie.Need-returns
 unfolding report shortNumber
-returns c = rw (c .before .before .read .given .1) (c .number .ensures)
+returns c =
+    let at-read = c .before .before in
+    rw (at-read .read .given .1) (c .number .ensures)
 
 returns-2 : tie.Need-returns-2
 unfolding report shortNumber

@@ -12,7 +12,9 @@ returns c = rw (c .enum-told .given .1)
 
 returns-2 : tie.Need-returns-2
 unfolding report shortNumber
-returns-2 c = rw (c .before .before .written .given .1) (c .number .ensures)
+returns-2 c =
+    let at-written = c .before .before in
+    rw (at-written .written .given .1) (c .number .ensures)
 
 pub short-written-spec : {M : Type 1} → statement M
 short-written-spec =

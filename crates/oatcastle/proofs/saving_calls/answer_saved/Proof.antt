@@ -9,7 +9,10 @@ use Rattle.oatcastle.proofs.saving_calls.answer_saved.Tie as tie
 
 returns : tie.Need-returns
 unfolding saveReport saveGiven
-returns c = rw (c .before .before .before .before .before .saved .given .1) (c .before .before .write-answer .ensures)
+returns c =
+    let at-write-answer = c .before .before in
+    let at-saved = at-write-answer .before .before .before in
+    rw (at-saved .saved .given .1) (at-write-answer .write-answer .ensures)
 
 returns-2 : tie.Need-returns-2
 unfolding saveReport saveGiven writingAnswer

@@ -11,14 +11,16 @@ returns : tie.Need-returns
 returns c = save-refused _ _ _ (refused _ _ (c .before .settings-are-valid .ensures) (c .if1 .taken))
 
 returns-2 : tie.Need-returns-2
-returns-2 c = save-short _ _ _ (passed _ _ (c .before .before .settings-are-valid .ensures) (c .before .if1 .left)) (search needs)
+returns-2 c =
+    let at-settings-are-valid = c .before .before in
+    save-short _ _ _ (passed _ _ (at-settings-are-valid .settings-are-valid .ensures) (c .before .if1 .left)) (search needs)
 
 returns-3 : tie.Need-returns-3
 returns-3 c =
-    let earlier = c .before .before in
-    let saved = earlier .before .before .before .before in
+    let called = c .before .before in
+    let saved = called .before .before .before .before in
     let first = saved .before .before .before in
-    save-given _ _ _ (passed _ _ (first .before .settings-are-valid .ensures) (first .if1 .left)) _ (search needs) (saved .save .ensures) (earlier .answer-saved .ensures)
+    save-given _ _ _ (passed _ _ (first .before .settings-are-valid .ensures) (first .if1 .left)) _ (search needs) (saved .save .ensures) (called .answer-saved .ensures)
 
 pub oatcastle-save-spec : {M : Type 1} → statement M
 oatcastle-save-spec =

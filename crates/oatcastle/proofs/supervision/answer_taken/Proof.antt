@@ -9,7 +9,10 @@ use Rattle.oatcastle.proofs.supervision.answer_taken.Tie as tie
 
 returns : tie.Need-returns
 unfolding takeReport takeGiven
-returns c = rw (c .before .before .before .before .before .taken .given .1) (c .before .before .write-answer .ensures)
+returns c =
+    let at-write-answer = c .before .before in
+    let at-taken = at-write-answer .before .before .before in
+    rw (at-taken .taken .given .1) (at-write-answer .write-answer .ensures)
 
 returns-2 : tie.Need-returns-2
 unfolding takeReport takeGiven writingAnswer

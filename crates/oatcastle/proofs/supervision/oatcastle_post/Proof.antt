@@ -8,23 +8,33 @@ use Rattle.oatcastle.proofs.supervision.oatcastle_post.Tie as tie
 
 returns : tie.Need-returns
 unfolding postCall postReport
-returns c = rw (← c .before .before .before .before .post .ensures, c .enum-told .given .1)
+returns c =
+    let at-post = c .before .before .before .before in
+    rw (← at-post .post .ensures, c .enum-told .given .1)
 
 returns-2 : tie.Need-returns-2
 unfolding postCall postReport
-returns-2 c = rw (← c .before .before .before .before .post .ensures, c .enum-told2 .given .1)
+returns-2 c =
+    let at-post = c .before .before .before .before in
+    rw (← at-post .post .ensures, c .enum-told2 .given .1)
 
 returns-3 : tie.Need-returns-3
 unfolding postCall postReport
-returns-3 c = rw (← c .before .before .before .before .post .ensures, c .enum-told3 .given .1)
+returns-3 c =
+    let at-post = c .before .before .before .before in
+    rw (← at-post .post .ensures, c .enum-told3 .given .1)
 
 returns-4 : tie.Need-returns-4
 unfolding postCall postReport
-returns-4 c = rw (← c .before .before .before .before .post .ensures, c .enum-told4 .given .1)
+returns-4 c =
+    let at-post = c .before .before .before .before in
+    rw (← at-post .post .ensures, c .enum-told4 .given .1)
 
 returns-5 : tie.Need-returns-5
 unfolding postCall postReport
-returns-5 c = rw (← c .before .before .before .before .post .ensures, c .enum-told5 .given .1)
+returns-5 c =
+    let at-post = c .before .before .before .before in
+    rw (← at-post .post .ensures, c .enum-told5 .given .1)
 
 pub oatcastle-post-spec : {M : Type 1} → statement M
 oatcastle-post-spec =

@@ -8,15 +8,21 @@ use Rattle.oatcastle.proofs.supervision.oatcastle_set_options.Tie as ti
 
 returns : tie.Need-returns
 unfolding optionsCall optionsReport
-returns c = rw (← c .before .before .before .before .set-options .ensures, c .enum-told .given .1)
+returns c =
+    let at-set-options = c .before .before .before .before in
+    rw (← at-set-options .set-options .ensures, c .enum-told .given .1)
 
 returns-2 : tie.Need-returns-2
 unfolding optionsCall optionsReport
-returns-2 c = rw (← c .before .before .before .before .set-options .ensures, c .enum-told2 .given .1)
+returns-2 c =
+    let at-set-options = c .before .before .before .before in
+    rw (← at-set-options .set-options .ensures, c .enum-told2 .given .1)
 
 returns-3 : tie.Need-returns-3
 unfolding optionsCall optionsReport
-returns-3 c = rw (← c .before .before .before .before .set-options .ensures, c .enum-told3 .given .1)
+returns-3 c =
+    let at-set-options = c .before .before .before .before in
+    rw (← at-set-options .set-options .ensures, c .enum-told3 .given .1)
 
 pub oatcastle-set-options-spec : {M : Type 1} → statement M
 oatcastle-set-options-spec =

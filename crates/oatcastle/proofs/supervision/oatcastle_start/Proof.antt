@@ -7,7 +7,9 @@ use Rattle.oatcastle.proofs.supervision.oatcastle_start.Tie as tie
 
 returns : tie.Need-returns
 unfolding startCall
-returns c = rw (← c .before .before .before .before .before .before .before .before .before .before .before .start .ensures, c .start-number .ensures)
+returns c =
+    let at-start = c .before .before .before .before .before .before .before .before .before .before .before in
+    rw (← at-start .start .ensures, c .start-number .ensures)
 
 pub oatcastle-start-spec : {M : Type 1} → statement M
 oatcastle-start-spec =

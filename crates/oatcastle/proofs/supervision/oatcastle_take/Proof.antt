@@ -11,15 +11,17 @@ returns : tie.Need-returns
 returns c = take-refused _ _ _ (refused _ _ (c .before .outbox-is-valid .ensures) (c .if1 .taken))
 
 returns-2 : tie.Need-returns-2
-returns-2 c = take-short _ _ _ (passed _ _ (c .before .before .outbox-is-valid .ensures) (c .before .if1 .left)) (search needs)
+returns-2 c =
+    let at-outbox-is-valid = c .before .before in
+    take-short _ _ _ (passed _ _ (at-outbox-is-valid .outbox-is-valid .ensures) (c .before .if1 .left)) (search needs)
 
 returns-3 : tie.Need-returns-3
 returns-3 c =
-    let earlier = c .before .before in
-    let taken = earlier .before .before .before .before .before .before in
+    let called = c .before .before in
+    let taken = called .before .before .before .before .before .before in
     let first = taken .before .before .before .before in
     let tested = first .before in
-    take-given _ _ _ (passed _ _ (tested .outbox-is-valid .ensures) (first .if1 .left)) _ (search needs) (taken .take .ensures) (earlier .answer-taken .ensures)
+    take-given _ _ _ (passed _ _ (tested .outbox-is-valid .ensures) (first .if1 .left)) _ (search needs) (taken .take .ensures) (called .answer-taken .ensures)
 
 pub oatcastle-take-spec : {M : Type 1} → statement M
 oatcastle-take-spec =

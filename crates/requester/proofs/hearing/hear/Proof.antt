@@ -10,7 +10,9 @@ use Rattle.requester.proofs.hearing.hear.Tie as tie
 
 returns : tie.Need-returns
 unfolding heardReport
-returns c = λ d. sym (hear-version _ (headMessage (c .before .before .args .head) d) (c .if1 .taken))
+returns c =
+    let start = c .before .before in
+    λ d. sym (hear-version _ (headMessage (start .args .head) d) (c .if1 .taken))
 
 returns-2 : tie.Need-returns-2
 unfolding heardReport

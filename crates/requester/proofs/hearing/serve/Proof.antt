@@ -16,11 +16,15 @@ returns-2 c = sym (serve-alert _ _ (c .before .if1 .left) (c .if2 .taken))
 
 returns-3 : tie.Need-returns-3
 unfolding nextOf
-returns-3 c = rw (serve-rest _ _ (c .before .before .if1 .left) (c .before .if2 .left), c .if3 .taken)
+returns-3 c =
+    let else1 = c .before .before in
+    rw (serve-rest _ _ (else1 .if1 .left) (c .before .if2 .left), c .if3 .taken)
 
 returns-4 : tie.Need-returns-4
 unfolding nextOf
-returns-4 c = rw (serve-rest _ _ (c .before .before .if1 .left) (c .before .if2 .left), c .if3 .left)
+returns-4 c =
+    let else1 = c .before .before in
+    rw (serve-rest _ _ (else1 .if1 .left) (c .before .if2 .left), c .if3 .left)
 
 pub serve-spec : {M : Type 1} → statement M
 serve-spec =

@@ -30,7 +30,9 @@ returns-3 c = rw (c .before .enum-told3 .given .1) (c .settle-none2 .ensures)
 
 returns-4 : tie.Need-returns-4
 unfolding report heardOf
-returns-4 c = rw (c .before .before .answer .given .1) (c .settle-message .ensures)
+returns-4 c =
+    let at-answer = c .before .before in
+    rw (at-answer .answer .given .1) (c .settle-message .ensures)
 
 returns-5 : tie.Need-returns-5
 unfolding report heardOf heard

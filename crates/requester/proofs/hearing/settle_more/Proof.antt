@@ -21,13 +21,15 @@ returns c =
 returns-2 : tie.Need-returns-2
 unfolding tailReport outcomeOf
 returns-2 c =
-    let t = tail-holds _ (rw (c .before .enum-told2 .given .1) at (c .before .before .before .tail .ensures)) in
+    let at-tail = c .before .before .before in
+    let t = tail-holds _ (rw (c .before .enum-told2 .given .1) at (at-tail .tail .ensures)) in
     rw (le-ltb _ _ (t .2)) (c .settle-none2 .ensures)
 
 returns-3 : tie.Need-returns-3
 unfolding tailReport
 returns-3 c =
-    let t = tail-holds _ (rw (c .before .enum-told3 .given .1) at (c .before .before .before .tail .ensures)) in
+    let at-tail = c .before .before .before in
+    let t = tail-holds _ (rw (c .before .enum-told3 .given .1) at (at-tail .tail .ensures)) in
     rw (lt-ltb _ _ (t .1)) (c .settle-ground .ensures)
 
 pub settle-more-spec : {M : Type 1} → statement M

@@ -12,7 +12,9 @@ returns c = rw (← c .before .byte-at .ensures .0, ne-eqb _ _ (c .if1 .taken))
 
 returns-2 : tie.Need-returns-2
 unfolding isOutstanding
-returns-2 c = rw (← c .before .before .byte-at .ensures .0, eq-eqb _ _ (c .before .if1 .left)) (c .is-kept .ensures)
+returns-2 c =
+    let at-byte-at = c .before .before in
+    rw (← at-byte-at .byte-at .ensures .0, eq-eqb _ _ (c .before .if1 .left)) (c .is-kept .ensures)
 
 pub is-outstanding-spec : {M : Type 1} → statement M
 is-outstanding-spec =

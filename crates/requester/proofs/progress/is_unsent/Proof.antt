@@ -12,7 +12,9 @@ returns c = rw (refused _ _ (c .before .is-outstanding .ensures) (c .if1 .taken)
 
 returns-2 : tie.Need-returns-2
 unfolding isUnsent
-returns-2 c = rw (passed _ _ (c .before .before .is-outstanding .ensures) (c .before .if1 .left), c .byte-at .ensures .0)
+returns-2 c =
+    let at-is-outstanding = c .before .before in
+    rw (passed _ _ (at-is-outstanding .is-outstanding .ensures) (c .before .if1 .left), c .byte-at .ensures .0)
 
 pub is-unsent-spec : {M : Type 1} → statement M
 is-unsent-spec =

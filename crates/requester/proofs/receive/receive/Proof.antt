@@ -37,7 +37,9 @@ skip-requires c κs =
 
 returns-2 : tie.Need-returns-2
 unfolding receiveReport tailReport
-returns-2 c = receive-refused _ _ (invalid-reader _ (tail-holds _ (rw (c .enum-told .given .1) at (c .before .before .tail .ensures))))
+returns-2 c =
+    let at-tail = c .before .before in
+    receive-refused _ _ (invalid-reader _ (tail-holds _ (rw (c .enum-told .given .1) at (at-tail .tail .ensures))))
 
 returns-3 : tie.Need-returns-3
 unfolding tailReport

@@ -12,6 +12,13 @@ use Rattle.requester.proofs.ValidLaws.{requester-valid}
 use Rattle.requester.proofs.recovery.interrupt.Statement.{statement}
 use Rattle.requester.proofs.recovery.interrupt.Tie as tie
 
+-- places of the walk, each from a later one
+abbrev else1 : tie.After-byte-at → tie.Else1
+else1 c = c .before .before
+
+abbrev else2 : tie.After-read-u64 → tie.Else2
+else2 c = c .before .before
+
 returns : tie.Need-returns
 unfolding interrupting interruptReport
 returns c = rw (refused _ _ (c .before .requester-is-valid .ensures) (c .if1 .taken))
@@ -20,7 +27,7 @@ returns-2 : tie.Need-returns-2
 unfolding interrupting interruptReport
 returns-2 c =
     let byte-at = c .before in
-    let if1 = byte-at .before .before in
+    let if1 = else1 byte-at in
     let requester-is-valid = if1 .before in
     rw (passed _ _ (requester-is-valid .requester-is-valid .ensures) (if1 .if1 .left), ← byte-at .byte-at .ensures .0, ne-eqb _ _ (c .if2 .taken))
 
@@ -28,9 +35,9 @@ returns-3 : tie.Need-returns-3
 unfolding interrupting interruptReport
 returns-3 c =
     let read-u64 = c .before in
-    let if2 = read-u64 .before .before in
+    let if2 = else2 read-u64 in
     let byte-at = if2 .before in
-    let if1 = byte-at .before .before in
+    let if1 = else1 byte-at in
     let requester-is-valid = if1 .before in
     rw (
       passed _ _ (requester-is-valid .requester-is-valid .ensures) (if1 .if1 .left),
@@ -53,9 +60,9 @@ returns-4 c =
     let read-u8 = set-progress .before .before in
     let if3 = read-u8 .before .before in
     let read-u64 = if3 .before in
-    let if2 = read-u64 .before .before in
+    let if2 = else2 read-u64 in
     let byte-at = if2 .before in
-    let if1 = byte-at .before .before in
+    let if1 = else1 byte-at in
     let requester-is-valid = if1 .before in
     rw (
       passed _ _ (requester-is-valid .requester-is-valid .ensures) (if1 .if1 .left),

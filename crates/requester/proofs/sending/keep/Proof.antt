@@ -10,6 +10,10 @@ use Rattle.requester.proofs.ProgressLaws.{request-kept}
 use Rattle.requester.proofs.sending.keep.Statement.{statement}
 use Rattle.requester.proofs.sending.keep.Tie as tie
 
+-- places of the walk, each from a later one
+abbrev at-requester2 : tie.After-write-u16 → tie.After-requester2
+at-requester2 c = c .before .before .before
+
 returns : tie.Need-returns
 unfolding withRequest
 returns c =
@@ -22,7 +26,7 @@ same-length-2 : tie.Need-same-length-2
 same-length-2 c =
     let requester4 = c .before in
     let requester3 = requester4 .before .before .before .before in
-    let requester2 = requester3 .before .before .before .before in
+    let requester2 = at-requester2 (requester3 .before) in
     requester4 .requester4 .given ∙ requester3 .requester3 .given ∙ simp length-set (requester2 .requester2 .given)
 
 returns-2 : tie.Need-returns-2
@@ -30,7 +34,7 @@ unfolding withRequest
 returns-2 c =
     let copy = c .before .before in
     let write-u16 = copy .before .before .before .before in
-    let requester2 = write-u16 .before .before .before in
+    let requester2 = at-requester2 write-u16 in
     let set-progress2 = requester2 .before in
     let if1 = set-progress2 .before .before in
     let stays-out = if1 .before in

@@ -11,19 +11,31 @@ use Rattle.requester.proofs.SendingLaws.{request-refused, request-long,
 use Rattle.requester.proofs.sending.request.Statement.{statement}
 use Rattle.requester.proofs.sending.request.Tie as tie
 
+-- places of the walk, each from a later one
+abbrev else2 : tie.After-is-outstanding → tie.Else2
+else2 c = c .before .before
+
+abbrev else3 : tie.After-read-u64 → tie.Else3
+else3 c = c .before .before
+
+abbrev else4 : tie.After-write → tie.Else4
+else4 c = c .before .before .before
+
 returns : tie.Need-returns
 unfolding requestReport
 returns c = request-refused _ _ _ _ (refused _ _ (c .before .requester-is-valid .ensures) (c .if1 .taken))
 
 returns-2 : tie.Need-returns-2
 unfolding requestReport
-returns-2 c = request-long _ _ _ _ (passed _ _ (c .before .before .requester-is-valid .ensures) (c .before .if1 .left)) (c .if2 .taken)
+returns-2 c =
+    let at-requester-is-valid = c .before .before in
+    request-long _ _ _ _ (passed _ _ (at-requester-is-valid .requester-is-valid .ensures) (c .before .if1 .left)) (c .if2 .taken)
 
 returns-3 : tie.Need-returns-3
 unfolding requestReport
 returns-3 c =
     let is-outstanding = c .before in
-    let if2 = is-outstanding .before .before in
+    let if2 = else2 is-outstanding in
     let if1 = if2 .before in
     let requester-is-valid = if1 .before in
     request-out _ _ _ _ (passed _ _ (requester-is-valid .requester-is-valid .ensures) (if1 .if1 .left)) (if2 .if2 .left) (sym (is-outstanding .is-outstanding .ensures) ∙ c .if3 .taken)
@@ -32,9 +44,9 @@ returns-4 : tie.Need-returns-4
 unfolding requestReport
 returns-4 c =
     let read-u64 = c .before in
-    let if3 = read-u64 .before .before in
+    let if3 = else3 read-u64 in
     let is-outstanding = if3 .before in
-    let if2 = is-outstanding .before .before in
+    let if2 = else2 is-outstanding in
     let if1 = if2 .before in
     let requester-is-valid = if1 .before in
     request-spent _ _ _ _ (passed _ _ (requester-is-valid .requester-is-valid .ensures) (if1 .if1 .left)) (if2 .if2 .left) (sym (is-outstanding .is-outstanding .ensures) ∙ if3 .if3 .left) (read-u64 .read-u64 .ensures) (c .if4 .taken)
@@ -52,11 +64,11 @@ returns-5 c =
     let keep = c .before .before in
     let written = keep .before .before .before in
     let write = written .before .before .before .before in
-    let if4 = write .before .before .before in
+    let if4 = else4 write in
     let read-u64 = if4 .before in
-    let if3 = read-u64 .before .before in
+    let if3 = else3 read-u64 in
     let is-outstanding = if3 .before in
-    let if2 = is-outstanding .before .before in
+    let if2 = else2 is-outstanding in
     let if1 = if2 .before in
     let requester-is-valid = if1 .before in
     request-done _ _ _ _ (passed _ _ (requester-is-valid .requester-is-valid .ensures) (if1 .if1 .left)) (if2 .if2 .left) (sym (is-outstanding .is-outstanding .ensures) ∙ if3 .if3 .left) (read-u64 .read-u64 .ensures) (if4 .if4 .left)
@@ -66,11 +78,11 @@ returns-6 : tie.Need-returns-6
 unfolding requestReport report
 returns-6 c =
     let write = c .before .before .before .before in
-    let if4 = write .before .before .before in
+    let if4 = else4 write in
     let read-u64 = if4 .before in
-    let if3 = read-u64 .before .before in
+    let if3 = else3 read-u64 in
     let is-outstanding = if3 .before in
-    let if2 = is-outstanding .before .before in
+    let if2 = else2 is-outstanding in
     let if1 = if2 .before in
     let requester-is-valid = if1 .before in
     request-short _ _ _ _ (passed _ _ (requester-is-valid .requester-is-valid .ensures) (if1 .if1 .left)) (if2 .if2 .left) (sym (is-outstanding .is-outstanding .ensures) ∙ if3 .if3 .left) (read-u64 .read-u64 .ensures) (if4 .if4 .left)
@@ -80,11 +92,11 @@ returns-7 : tie.Need-returns-7
 unfolding report
 returns-7 c =
     let write = c .before .before .before .before in
-    let if4 = write .before .before .before in
+    let if4 = else4 write in
     let read-u64 = if4 .before in
-    let if3 = read-u64 .before .before in
+    let if3 = else3 read-u64 in
     let is-outstanding = if3 .before in
-    let if2 = is-outstanding .before .before in
+    let if2 = else2 is-outstanding in
     let if1 = if2 .before in
     let requester-is-valid = if1 .before in
     let start = requester-is-valid .before .before .before .before .before in

@@ -11,6 +11,13 @@ use Rattle.requester.proofs.SendingLaws.{send-refused, send-nothing, se
 use Rattle.requester.proofs.sending.send.Statement.{statement}
 use Rattle.requester.proofs.sending.send.Tie as tie
 
+-- places of the walk, each from a later one
+abbrev else1 : tie.After-is-unsent → tie.Else1
+else1 c = c .before .before
+
+abbrev else2 : tie.After-write-outstanding → tie.Else2
+else2 c = c .before .before .before
+
 returns : tie.Need-returns
 unfolding sendReport
 returns c = send-refused _ _ (refused _ _ (c .before .requester-is-valid .ensures) (c .if1 .taken))
@@ -19,7 +26,7 @@ returns-2 : tie.Need-returns-2
 unfolding sendReport
 returns-2 c =
     let is-unsent = c .before in
-    let if1 = is-unsent .before .before in
+    let if1 = else1 is-unsent in
     let requester-is-valid = if1 .before in
     send-nothing _ _ (passed _ _ (requester-is-valid .requester-is-valid .ensures) (if1 .if1 .left)) (refused _ _ (is-unsent .is-unsent .ensures) (c .if2 .taken))
 
@@ -40,9 +47,9 @@ unfolding sendReport report
 returns-3 c =
     let written = c .before in
     let write-outstanding = written .before .before .before .before in
-    let if2 = write-outstanding .before .before .before in
+    let if2 = else2 write-outstanding in
     let is-unsent = if2 .before in
-    let if1 = is-unsent .before .before in
+    let if1 = else1 is-unsent in
     let requester-is-valid = if1 .before in
     send-done _ _ (passed _ _ (requester-is-valid .requester-is-valid .ensures) (if1 .if1 .left)) (passed _ _ (is-unsent .is-unsent .ensures) (if2 .if2 .left)) (write-outstanding .write-outstanding .ensures) _ (ap report (written .written .given .1))
 
@@ -50,9 +57,9 @@ returns-4 : tie.Need-returns-4
 unfolding sendReport report
 returns-4 c =
     let write-outstanding = c .before .before .before .before in
-    let if2 = write-outstanding .before .before .before in
+    let if2 = else2 write-outstanding in
     let is-unsent = if2 .before in
-    let if1 = is-unsent .before .before in
+    let if1 = else1 is-unsent in
     let requester-is-valid = if1 .before in
     send-short _ _ (passed _ _ (requester-is-valid .requester-is-valid .ensures) (if1 .if1 .left)) (passed _ _ (is-unsent .is-unsent .ensures) (if2 .if2 .left)) (write-outstanding .write-outstanding .ensures) (ap report (c .enum-told .given .1))
 
@@ -60,9 +67,9 @@ returns-5 : tie.Need-returns-5
 unfolding report
 returns-5 c =
     let write-outstanding = c .before .before .before .before in
-    let if2 = write-outstanding .before .before .before in
+    let if2 = else2 write-outstanding in
     let is-unsent = if2 .before in
-    let if1 = is-unsent .before .before in
+    let if1 = else1 is-unsent in
     let requester-is-valid = if1 .before in
     absurd (send-never _ _ (passed _ _ (requester-is-valid .requester-is-valid .ensures) (if1 .if1 .left)) (passed _ _ (is-unsent .is-unsent .ensures) (if2 .if2 .left)) (write-outstanding .write-outstanding .ensures) (ap report (c .enum-told2 .given .1)))
 

@@ -7,6 +7,10 @@ use Rattle.requester.proofs.SendingLaws.{kept-written, step-written}
 use Rattle.requester.proofs.sending.write_outstanding.Statement.{statement}
 use Rattle.requester.proofs.sending.write_outstanding.Tie as tie
 
+-- places of the walk, each from a later one
+abbrev start-of : tie.After-read-u64 → tie.Start
+start-of c = c .before .before .before
+
 part-write-end : tie.Need-part-write-end
 part-write-end c =
     let word-at = c .before .before in
@@ -21,7 +25,7 @@ returns c =
     let word-at = if1 .before in
     let read-u8 = word-at .before in
     let read-u64 = read-u8 .before in
-    let start = read-u64 .before .before .before in
+    let start = start-of read-u64 in
     kept-written _ _ (requester-valid _ (start .pre)) (read-u64 .read-u64 .ensures) (read-u8 .read-u8 .ensures) (if1 .if1 .taken) (word-at .word-at .ensures .0) (read-u82 .read-u82 .ensures) (write .write .ensures)
 
 returns-2 : tie.Need-returns-2
@@ -31,7 +35,7 @@ returns-2 c =
     let if1 = step-command .before in
     let read-u8 = if1 .before .before in
     let read-u64 = read-u8 .before in
-    let start = read-u64 .before .before .before in
+    let start = start-of read-u64 in
     step-written _ _ (requester-valid _ (start .pre)) (read-u64 .read-u64 .ensures) (read-u8 .read-u8 .ensures) (if1 .if1 .left) (step-command .step-command .ensures) (write2 .write2 .ensures)
 
 pub write-outstanding-spec : {M : Type 1} → statement M

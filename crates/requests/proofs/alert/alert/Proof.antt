@@ -7,10 +7,18 @@ use Rattle.requests.proofs.TakenLaws.{settled, alert-sent}
 use Rattle.requests.proofs.alert.alert.Statement.{statement}
 use Rattle.requests.proofs.alert.alert.Tie as tie
 
+-- places of the walk, each from a later one
+abbrev at-word-at : tie.After-send-part-arg2 → tie.After-word-at
+at-word-at c = c .before .before
+
+abbrev at-settle-alert : tie.After-head-to → tie.After-settle-alert
+at-settle-alert c = c .before .before .before .before .before
+
 send-part-requires : tie.Need-send-part-requires
 send-part-requires c κs =
-    let text = c .before .before in
-    let settle = text .before .before .before .before .before .before .before in
+    let text = at-word-at c in
+    let at-head-to = text .before .before in
+    let settle = at-settle-alert at-head-to in
     let start = settle .before .before .before .before in
     let v = start .pre .1 .0 in
     let s = settled _ _ _ v (settle .settle-alert .ensures) in
@@ -20,10 +28,11 @@ send-part-requires c κs =
 
 returns : tie.Need-returns
 returns c =
-    let text = c .before .before .before .before .before in
+    let at-send-part = c .before .before in
+    let text = at-word-at (at-send-part .before) in
     let head = text .before .before in
-    alert-sent _ _ _ _ (head .before .before .before .before .before .settle-alert .ensures) (text .word-at .ensures .0) (head .before .read-u8 .ensures) (head .head-to .ensures)
-    (c .before .before .send-part .ensures)
+    alert-sent _ _ _ _ (at-settle-alert head .settle-alert .ensures) (text .word-at .ensures .0) (head .before .read-u8 .ensures) (head .head-to .ensures)
+    (at-send-part .send-part .ensures)
 
 pub alert-spec : {M : Type 1} → statement M
 alert-spec =

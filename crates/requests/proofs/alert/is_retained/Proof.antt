@@ -11,7 +11,8 @@ returns c = none-kept _ _ (c .before .byte-at .ensures .0) (c .if1 .taken)
 returns-2 : tie.Need-returns-2
 returns-2 c =
     let read = c .before in
-    kept-by _ _ (read .before .before .byte-at .ensures .0) (read .before .if1 .left) (read .read-u64 .ensures)
+    let at-byte-at = read .before .before in
+    kept-by _ _ (at-byte-at .byte-at .ensures .0) (read .before .if1 .left) (read .read-u64 .ensures)
 
 pub is-retained-spec : {M : Type 1} → statement M
 is-retained-spec = tie.close (tie.spec

@@ -13,8 +13,9 @@ returns c = rw (sym (c .before .is-retained .ensures) ∙ c .if1 .taken)
 returns-2 : tie.Need-returns-2
 unfolding alertRegisters
 returns-2 c =
-    let first = c .before .before .before .before in
-    rw (sym (first .before .is-retained .ensures) ∙ first .if1 .left) (c .before .before .take-alert .ensures)
+    let at-take-alert = c .before .before in
+    let first = at-take-alert .before .before in
+    rw (sym (first .before .is-retained .ensures) ∙ first .if1 .left) (at-take-alert .take-alert .ensures)
 
 pub settle-alert-spec : {M : Type 1} → statement M
 settle-alert-spec =

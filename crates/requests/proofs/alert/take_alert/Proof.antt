@@ -9,36 +9,52 @@ use Rattle.requests.proofs.TakenLaws.{alert-taken}
 use Rattle.requests.proofs.alert.take_alert.Statement.{statement}
 use Rattle.requests.proofs.alert.take_alert.Tie as tie
 
+-- places of the walk, each from a later one
+abbrev at-registers2 : tie.After-one-less → tie.After-registers2
+at-registers2 c = c .before .before
+
+abbrev at-byte-at : tie.After-read-u64 → tie.After-byte-at
+at-byte-at c = c .before .before
+
+abbrev start-of : tie.After-byte-at → tie.Start
+start-of c = c .before .before .before
+
+abbrev registers-of : tie.After-registers2 → tie.After-registers
+registers-of c = c .before .before .before .before
+
 retain-requires : tie.Need-retain-requires
 retain-requires c κs =
-    let count = c .before .before .before in
-    let p = count .before .before .before .pre in
+    let count = at-byte-at (c .before) in
+    let p = start-of count .pre in
     (registers-valid _ (p .0) .long, (p .1, count .byte-at .ensures .0))
 
 slice-write-registers : tie.Need-slice-write-registers
 slice-write-registers c =
-    let moved = c .before .before in
-    let retained = moved .before .before .before .before in
+    let moved = at-registers2 c in
+    let retained = registers-of moved in
     let start = retained .before .before .before .before .before .before .before .before in
     omega (arith, moved .registers2 .given, retained .registers .given, registers-valid _ (start .pre .0) .long)
 
 same-length : tie.Need-same-length
 same-length c =
     let moved = c .before .before .before .before .before .before .before in
-    c .before .registers3 .given ∙ simp length-set (moved .registers2 .given ∙ moved .before .before .before .before .registers .given)
+    c .before .registers3 .given ∙ simp length-set (moved .registers2 .given ∙ registers-of moved .registers .given)
 
 returns : tie.Need-returns
 returns c =
-    let left = c .before .before .before .before .before in
-    let moved = left .before .before .before in
-    let retained = moved .before .before .before .before in
+    let at-write-u64 = c .before .before in
+    let at-status-after = at-write-u64 .before in
+    let left = at-status-after .before .before in
+    let moved = at-registers2 left .before in
+    let at-registers = moved .before .before .before in
+    let retained = at-registers .before in
     let status = retained .before .before in
-    let count = status .before .before in
-    let p = count .before .before .before .pre in
+    let count = at-byte-at status in
+    let p = start-of count .pre in
     alert-taken _ _ _ (p .1) (registers-valid _ (p .0) .long) (count .byte-at .ensures .0) (count .byte-at .ensures .1)
-    (status .read-u64 .ensures) (retained .retain .ensures) (moved .before .before .before .registers .given) (moved .move-down .ensures)
-    (left .before .before .registers2 .given) (left .one-less .ensures) (c .before .before .before .status-after .ensures)
-    (c .before .before .write-u64 .ensures)
+    (status .read-u64 .ensures) (retained .retain .ensures) (at-registers .registers .given) (moved .move-down .ensures)
+    (at-registers2 left .registers2 .given) (left .one-less .ensures) (at-status-after .status-after .ensures)
+    (at-write-u64 .write-u64 .ensures)
 
 pub take-alert-spec : {M : Type 1} → statement M
 take-alert-spec =

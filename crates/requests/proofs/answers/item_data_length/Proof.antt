@@ -8,7 +8,9 @@ use Rattle.requests.proofs.answers.item_data_length.Tie as tie
 
 returns : tie.Need-returns
 unfolding itemDataLength
-returns c = rw (← c .before .before .byte-at .ensures .0, eq-eqb _ _ (c .before .if1 .taken)) (c .byte-at2 .ensures .0)
+returns c =
+    let at-byte-at = c .before .before in
+    rw (← at-byte-at .byte-at .ensures .0, eq-eqb _ _ (c .before .if1 .taken)) (c .byte-at2 .ensures .0)
 
 returns-2 : tie.Need-returns-2
 unfolding itemDataLength

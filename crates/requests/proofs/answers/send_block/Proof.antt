@@ -8,27 +8,38 @@ use Rattle.requests.proofs.ReceiveLaws.{block-same, block-other}
 use Rattle.requests.proofs.answers.send_block.Statement.{statement}
 use Rattle.requests.proofs.answers.send_block.Tie as tie
 
+-- places of the walk, each from a later one
+abbrev at-read-u64 : tie.After-part → tie.After-read-u64
+at-read-u64 c = c .before .before .before
+
+abbrev start-of : tie.After-same → tie.Start
+start-of c = c .before .before .before .before .before
+
 returns : tie.Need-returns
 returns c =
-    let tested = c .before .before .before .before in
-    rw (← block-other _ _ _ (tested .before .before .before .before .before .before .pre .1) _ (tested .before .same .ensures) (tested .if1 .taken))
-    (c .before .before .send-part .ensures)
+    let at-send-part = c .before .before in
+    let tested = at-send-part .before .before in
+    rw (← block-other _ _ _ (start-of (tested .before) .pre .1) _ (tested .before .same .ensures) (tested .if1 .taken))
+    (at-send-part .send-part .ensures)
 
 send-requires : tie.Need-send-requires
 send-requires c κs =
-    let read = c .before .before .before in
-    let l = length-take 4096 (drop (read .read-u64 .result) (now (read .before .before .before .before .before .before .before .args .image))) in
+    let read = at-read-u64 c in
+    let start = read .before .before .before .before .before .before .before in
+    let l = length-take 4096 (drop (read .read-u64 .result) (now (start .args .image))) in
     (search needs, rw (c .part .ensures) (omega arith))
 
 returns-2 : tie.Need-returns-2
 returns-2 c =
-    let tested = c .before .before .before .before .before .before .before in
+    let at-send = c .before .before in
+    let at-part = at-send .before in
+    let tested = at-read-u64 at-part .before in
     rw (
-      ← block-same _ _ _ (tested .before .before .before .before .before .before .pre .1) _ (tested .before .same .ensures) (tested .if1 .left),
-      ← c .before .before .before .before .before .before .read-u64 .ensures,
-      ← c .before .before .before .part .ensures,
+      ← block-same _ _ _ (start-of (tested .before) .pre .1) _ (tested .before .same .ensures) (tested .if1 .left),
+      ← at-read-u64 at-part .read-u64 .ensures,
+      ← at-part .part .ensures,
     )
-    (c .before .before .send .ensures)
+    (at-send .send .ensures)
 
 pub send-block-spec : {M : Type 1} → statement M
 send-block-spec =

@@ -8,35 +8,47 @@ use Rattle.requests.proofs.ReceiveLaws.{ItemHeld, item-held, item-there
 use Rattle.requests.proofs.answers.send_item.Statement.{statement}
 use Rattle.requests.proofs.answers.send_item.Tie as tie
 
+-- places of the walk, each from a later one
+abbrev else1-of : tie.After-send-arg5 → tie.Else1
+else1-of c = c .before .before .before
+
+abbrev start-of : tie.Else1 → tie.Start
+start-of c = c .before .before .before .before
+
 returns : tie.Need-returns
 returns c =
-    let tested = c .before .before .before .before .before .before .before .before in
-    rw (← item-none _ (tested .before .before .before .before .args .index) (rw (tested .before .read-u32 .ensures) at (tested .if1 .taken)))
-    (c .before .before .send .ensures)
+    let at-send = c .before .before in
+    let tested = at-send .before .before .before .before .before .before in
+    let start = tested .before .before .before .before in
+    rw (← item-none _ (start .args .index) (rw (tested .before .read-u32 .ensures) at (tested .if1 .taken)))
+    (at-send .send .ensures)
 
 -- the item is there
-held : (c : tie.Else1) → ItemHeld (now (c .before .before .before .before .args .factory)) (c .before .before .before .before .args .index)
-held c = item-held _ _ (c .before .before .before .before .pre .1) (rw (c .before .read-u32 .ensures) at (c .if1 .left))
+held : (c : tie.Else1) → ItemHeld (now (start-of c .args .factory)) (start-of c .args .index)
+held c = item-held _ _ (start-of c .pre .1) (rw (c .before .read-u32 .ensures) at (c .if1 .left))
 
 part-send-end-3 : tie.Need-part-send-end-3
-part-send-end-3 c = let h = held (c .before .before) in search needs
+part-send-end-3 c =
+    let else1 = c .before .before in
+    let h = held else1 in search needs
 
 add-send-2 : tie.Need-add-send-2
-add-send-2 c = let h = held (c .before .before .before) in search needs
+add-send-2 c = let h = held (else1-of c) in search needs
 
 part-send-end-4 : tie.Need-part-send-end-4
-part-send-end-4 c = let h = held (c .before .before .before) in search needs
+part-send-end-4 c = let h = held (else1-of c) in search needs
 
 send-requires-2 : tie.Need-send-requires-2
-send-requires-2 c κs = let h = held (c .before .before .before .before) in (search needs, simp length-take (omega arith))
+send-requires-2 c κs = let h = held (else1-of (c .before)) in (search needs, simp length-take (omega arith))
 
 returns-2 : tie.Need-returns-2
 returns-2 c =
-    let n = c .before .before .before .before .before .before in
+    let at-send2 = c .before .before in
+    let n = at-send2 .before .before .before .before in
     let tested = n .before in
     let below = rw (tested .before .read-u32 .ensures) at (tested .if1 .left) in
-    rw (← item-there _ (tested .before .before .before .before .args .index) _ below (n .item-data-length .ensures))
-    (c .before .before .send2 .ensures)
+    rw (← item-there _ (start-of tested .args .index) _ below (n .item-data-length .ensures))
+    (at-send2 .send2 .ensures)
 
 pub send-item-spec : {M : Type 1} → statement M
 send-item-spec =

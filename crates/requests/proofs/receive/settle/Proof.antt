@@ -15,6 +15,13 @@ use Rattle.requests.proofs.StepLaws.{Settled, data-short, settled-failu
 use Rattle.requests.proofs.receive.settle.Statement.{statement}
 use Rattle.requests.proofs.receive.settle.Tie as tie
 
+-- places of the walk, each from a later one
+abbrev message-data-of : tie.After-request-arg3 → tie.After-message-data
+message-data-of c = c .before .before .before
+
+abbrev start : tie.After-slice-known3 → tie.Start
+start c = c .before .before .before .before .before .before
+
 by-fail : (c : tie.Start) (reason : ℕ) (sequence : Option ℕ) {t : Report} {h : Head} {g : Ended} {o : List ℕ}
     → t ≡ LineReader.failed reason sequence → h ≡ failureHead first-version sequence
     → (g ≡ Ended.failed reason) × (o ≡ sentBox (replyBytes h 0x02 (bytes 1 reason)) (now (c .args .outbox)))
@@ -26,59 +33,71 @@ by-fail c reason sequence =
 
 returns : tie.Need-returns
 unfolding endedReport ended innerAfter verdictOf report
-returns c = rw (c .enum-told .given .1) (refl, (refl, c .before .before .before .before .before .before .before .before .pre .1 .1))
+returns c =
+    let at-match = c .before .before in
+    rw (c .enum-told .given .1) (refl, (refl, start at-match .pre .1 .1))
 
 returns-2 : tie.Need-returns-2
 unfolding endedReport ended innerAfter verdictOf report
-returns-2 c = rw (c .enum-told2 .given .1) (refl, (refl, c .before .before .before .before .before .before .before .before .pre .1 .1))
+returns-2 c =
+    let at-match = c .before .before in
+    rw (c .enum-told2 .given .1) (refl, (refl, start at-match .pre .1 .1))
 
 returns-3 : tie.Need-returns-3
 unfolding endedReport ended innerAfter verdictOf report
-returns-3 c = rw (c .enum-told3 .given .1) (refl, (refl, c .before .before .before .before .before .before .before .before .pre .1 .1))
+returns-3 c =
+    let at-match = c .before .before in
+    rw (c .enum-told3 .given .1) (refl, (refl, start at-match .pre .1 .1))
 
 request-requires : tie.Need-request-requires
 request-requires c κs =
-    let earlier = c .before .before .before in
-    let p = earlier .before .before .before .before .before .before .before .before .before .before .pre in
-    (p .0, (p .1 .0, (p .1 .1, rw (earlier .message-data .ensures) (data-short _ _))))
+    let at-message-data = message-data-of c in
+    let at-match = at-message-data .before .before .before .before in
+    let p = start at-match .pre in
+    (p .0, (p .1 .0, (p .1 .1, rw (at-message-data .message-data .ensures) (data-short _ _))))
 
 returns-4 : tie.Need-returns-4
 unfolding report
 returns-4 c =
     let called = c .before .before .before .before .before .before in
-    let given = called .before .before .before .before in
-    let earlier = given .before .before in
-    let a = earlier .before .before .before .before .before .before .before .before .args in
+    let given = message-data-of (called .before) in
+    let at-answer = given .before .before in
+    let at-match = at-answer .before .before in
+    let a = start at-match .args in
     settled-message (now (a .image)) (now (a .factory)) (inner (now (a .outbox)) (now (a .settings)) (now (a .registers))) (now (a .reader)) _ _ _ _
-    (ap report (earlier .answer .given .1)) (given .message-data .ensures) (called .request .ensures)
+    (ap report (at-answer .answer .given .1)) (given .message-data .ensures) (called .request .ensures)
 
 returns-5 : tie.Need-returns-5
 unfolding report
 returns-5 c =
     let called = c .before .before in
-    let earlier = called .before .before .before in
-    by-fail (earlier .before .before .before .before .before .before .before .before) 1 none (ap report (earlier .enum-told4 .given .1)) (called .before .unnumbered .ensures) (called .fail .ensures)
+    let at-enum-told4 = called .before .before .before in
+    let at-match = at-enum-told4 .before .before in
+    by-fail (start at-match) 1 none (ap report (at-enum-told4 .enum-told4 .given .1)) (called .before .unnumbered .ensures) (called .fail .ensures)
 
 returns-6 : tie.Need-returns-6
 unfolding report
 returns-6 c =
     let called = c .before .before in
-    let earlier = called .before .before .before in
-    by-fail (earlier .before .before .before .before .before .before .before .before) 3 none (ap report (earlier .enum-told5 .given .1)) (called .before .unnumbered2 .ensures) (called .fail2 .ensures)
+    let at-enum-told5 = called .before .before .before in
+    let at-match = at-enum-told5 .before .before in
+    by-fail (start at-match) 3 none (ap report (at-enum-told5 .enum-told5 .given .1)) (called .before .unnumbered2 .ensures) (called .fail2 .ensures)
 
 returns-7 : tie.Need-returns-7
 unfolding report
 returns-7 c =
     let called = c .before .before in
-    let earlier = called .before .before .before .before in
-    by-fail (earlier .before .before .before .before .before .before .before .before) 2 (some _) (ap report (earlier .answer2 .given .1)) (called .before .head-to .ensures) (called .fail3 .ensures)
+    let at-answer2 = called .before .before .before .before in
+    let at-match = at-answer2 .before .before in
+    by-fail (start at-match) 2 (some _) (ap report (at-answer2 .answer2 .given .1)) (called .before .head-to .ensures) (called .fail3 .ensures)
 
 returns-8 : tie.Need-returns-8
 unfolding report
 returns-8 c =
     let called = c .before .before in
-    let earlier = called .before .before .before .before in
-    by-fail (earlier .before .before .before .before .before .before .before .before) 4 (some _) (ap report (earlier .answer3 .given .1)) (called .before .head-to2 .ensures) (called .fail4 .ensures)
+    let at-answer3 = called .before .before .before .before in
+    let at-match = at-answer3 .before .before in
+    by-fail (start at-match) 4 (some _) (ap report (at-answer3 .answer3 .given .1)) (called .before .head-to2 .ensures) (called .fail4 .ensures)
 
 pub settle-spec : {M : Type 1} → statement M
 settle-spec =

@@ -7,19 +7,23 @@ use Rattle.requests.specs.Receive.{endedReport, stepping}
 use Rattle.requests.proofs.receive.step.Statement.{statement}
 use Rattle.requests.proofs.receive.step.Tie as tie
 
+-- places of the walk, each from a later one
+abbrev else1-of : tie.After-valid-step-arg4 → tie.Else1
+else1-of c = c .before .before .before .before
+
 returns : tie.Need-returns
 unfolding stepping endedReport
 returns c = rw (refused _ _ (c .before .are-valid .ensures) (c .if1 .taken))
 
 valid-step-requires : tie.Need-valid-step-requires
-valid-step-requires c κs = let earlier = c .before .before .before .before in passed _ _ (earlier .before .are-valid .ensures) (earlier .if1 .left)
+valid-step-requires c κs = let else1 = else1-of c in passed _ _ (else1 .before .are-valid .ensures) (else1 .if1 .left)
 
 returns-2 : tie.Need-returns-2
 unfolding stepping
 returns-2 c =
     let called = c .before .before .before .before .before .before .before .before in
-    let earlier = called .before .before .before .before .before in
-    rw (passed _ _ (earlier .before .are-valid .ensures) (earlier .if1 .left)) (called .valid-step .ensures .0)
+    let else1 = else1-of (called .before) in
+    rw (passed _ _ (else1 .before .are-valid .ensures) (else1 .if1 .left)) (called .valid-step .ensures .0)
 
 pub step-spec : {M : Type 1} → statement M
 step-spec =

@@ -9,13 +9,18 @@ use Rattle.requests.proofs.StepLaws.{parts-valid, valid-step-by}
 use Rattle.requests.proofs.receive.valid_step.Statement.{statement}
 use Rattle.requests.proofs.receive.valid_step.Tie as tie
 
+-- places of the walk, each from a later one
+abbrev start-of : tie.After-read → tie.Start
+start-of c = c .before .before .before .before .before .before .before .before .before
+
 lent : tie.Start → Parts
 lent c = let a = c .args in parts (now (a .reader)) (now (a .outbox)) (now (a .factory)) (now (a .settings)) (now (a .registers))
 
 settle-requires : tie.Need-settle-requires
 unfolding lent
 settle-requires c κs =
-    let start = c .before .before .before .before .before .before .before .before .before .before .before .before .before .before .before in
+    let at-read = c .before .before .before .before .before .before in
+    let start = start-of at-read in
     let v = parts-valid (lent start) (start .pre) in
     (outbox-valid _ (inner-valid _ (v .inner) .outbox) .long, (v .factory, v .inner))
 
@@ -23,9 +28,9 @@ returns : tie.Need-returns
 unfolding lent
 returns c =
     let settled = c .before .before .before .before .before .before in
-    let earlier = settled .before .before .before .before .before .before .before in
-    let start = earlier .before .before .before .before .before .before .before .before .before in
-    valid-step-by (now (start .args .image)) (now (start .args .piece)) (lent start) (start .pre) (earlier .read .ensures) (settled .settle .ensures)
+    let at-read = settled .before .before .before .before .before .before .before in
+    let start = start-of at-read in
+    valid-step-by (now (start .args .image)) (now (start .args .piece)) (lent start) (start .pre) (at-read .read .ensures) (settled .settle .ensures)
 
 pub valid-step-spec : {M : Type 1} → statement M
 valid-step-spec =

@@ -6,8 +6,9 @@ use Rattle.requests.proofs.records.panic.Tie as tie
 
 returns : tie.Need-returns
 returns c =
-    let set = c .before .before .before .before .before .before in
-    (c .before .before .acknowledge .ensures, rw (← set .before .read-u16 .ensures) (set .set-record .ensures))
+    let at-acknowledge = c .before .before in
+    let set = at-acknowledge .before .before .before .before in
+    (at-acknowledge .acknowledge .ensures, rw (← set .before .read-u16 .ensures) (set .set-record .ensures))
 
 pub panic-spec : {M : Type 1} → statement M
 panic-spec = tie.close (tie.spec (λ c κs. search needs) (λ c κs. search needs) (λ c κs. search needs) (λ c. search needs) (λ c. search needs) returns)

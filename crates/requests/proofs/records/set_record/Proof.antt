@@ -10,16 +10,18 @@ use Rattle.requests.proofs.records.set_record.Tie as tie
 same-length : tie.Need-same-length
 same-length c =
     let whole = c .before .before .before .before .before .before in
-    c .before .registers3 .given ∙ whole .registers2 .given ∙ whole .before .before .before .before .registers .given ∙ simp length-set
+    let at-registers = whole .before .before .before .before in
+    c .before .registers3 .given ∙ whole .registers2 .given ∙ at-registers .registers .given ∙ simp length-set
 
 returns : tie.Need-returns
 returns c =
-    let at-min = c .before .before .before .before in
+    let at-copy = c .before .before in
+    let at-min = at-copy .before .before in
     let whole = at-min .before .before .before in
     let code = whole .before .before .before .before in
     let p = code .before .before .before .before .pre in
     record-put _ _ _ _ _ (p .0) (p .1 .0) (p .1 .1 .0) refl (at-min .min .ensures) (code .write-u16 .ensures) (whole .write-u162 .ensures)
-    (c .before .before .copy .ensures)
+    (at-copy .copy .ensures)
 
 pub set-record-spec : {M : Type 1} → statement M
 set-record-spec =

@@ -9,9 +9,10 @@ use Rattle.requests.proofs.records.start_acknowledged.Tie as tie
 
 returns : tie.Need-returns
 returns c =
-    let written = c .before .before .before .before .before .before in
+    let at-acknowledge = c .before .before in
+    let written = at-acknowledge .before .before .before .before in
     let start = written .before .before .before .before .before .before .before in (
-      c .before .before .acknowledge .ensures,
+      at-acknowledge .acknowledge .ensures,
       number-stored 8 status-offset (start .args .registers .now) (omega (arith, start .pre)) (cc) (written .write-u64 .ensures),
     )
 

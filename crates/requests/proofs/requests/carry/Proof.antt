@@ -19,6 +19,16 @@ use Rattle.requests.proofs.StepLaws.{unanswered-by, answered-by, looked
 use Rattle.requests.proofs.requests.carry.Statement.{statement}
 use Rattle.requests.proofs.requests.carry.Tie as tie
 
+-- places of the walk, each from a later one
+abbrev at-keys6 : tie.After-boot-failure-arg2 → tie.At-match-keys6
+at-keys6 c = c .before .before
+
+abbrev at-keys7 : tie.After-panic-arg2 → tie.At-match-keys7
+at-keys7 c = c .before .before
+
+abbrev at-keys14 : tie.After-set-key-arg2 → tie.At-match-keys14
+at-keys14 c = c .before .before
+
 abbrev start : tie.After-head-to → tie.Start
 start h = h .before .before .before .before .before .before .before .before
 
@@ -54,123 +64,138 @@ does h x e = both h (some x) (rw e (of-number x))
 
 boot-failure-requires : tie.Need-boot-failure-requires
 boot-failure-requires c κs =
-    let earlier = c .before .before in
-    let h = earlier .before in
+    let arm = at-keys6 c in
+    let h = arm .before in
     let p = start h .pre in
-    (p .0, (registers-long h, (boot-failure-long _ _ (p .1 .1 .1 .1 .0) (earlier .match .keys6), p .1 .1 .1 .0)))
+    (p .0, (registers-long h, (boot-failure-long _ _ (p .1 .1 .1 .1 .0) (arm .match .keys6), p .1 .1 .1 .0)))
 
 panic-requires : tie.Need-panic-requires
 panic-requires c κs =
-    let earlier = c .before .before in
-    let h = earlier .before in
+    let arm = at-keys7 c in
+    let h = arm .before in
     let p = start h .pre in
-    (p .0, (registers-long h, (panic-long _ _ (p .1 .1 .1 .1 .0) (earlier .match .keys7), p .1 .1 .1 .0)))
+    (p .0, (registers-long h, (panic-long _ _ (p .1 .1 .1 .1 .0) (arm .match .keys7), p .1 .1 .1 .0)))
 
 set-key-requires : tie.Need-set-key-requires
 set-key-requires c κs =
-    let earlier = c .before .before in
-    let h = earlier .before in
-    (start h .pre .0, (settings-valid _ (valid h .settings) .long, key-set-long _ _ (start h .pre .1 .1 .1 .1 .0) (earlier .match .keys14)))
+    let arm = at-keys14 c in
+    let h = arm .before in
+    (start h .pre .0, (settings-valid _ (valid h .settings) .long, key-set-long _ _ (start h .pre .1 .1 .1 .1 .0) (arm .match .keys14)))
 
 returns : tie.Need-returns
 unfolding numberOf leftBy
 returns c =
-    let earlier = c .before .before .before .before .before .before .before in
-    let h = earlier .before in
-    does h Command.reboot (earlier .match .keys1) (unanswered-by (lent h) _ (c .before .before .before .before .ask-for .ensures))
+    let at-ask-for = c .before .before .before .before in
+    let arm = at-ask-for .before .before .before in
+    let h = arm .before in
+    does h Command.reboot (arm .match .keys1) (unanswered-by (lent h) _ (at-ask-for .ask-for .ensures))
 
 returns-2 : tie.Need-returns-2
 unfolding numberOf leftBy
 returns-2 c =
-    let earlier = c .before .before .before .before .before .before .before in
-    let h = earlier .before in
-    does h Command.power-off (earlier .match .keys2) (unanswered-by (lent h) _ (c .before .before .before .before .ask-for2 .ensures))
+    let at-ask-for2 = c .before .before .before .before in
+    let arm = at-ask-for2 .before .before .before in
+    let h = arm .before in
+    does h Command.power-off (arm .match .keys2) (unanswered-by (lent h) _ (at-ask-for2 .ask-for2 .ensures))
 
 returns-3 : tie.Need-returns-3
 unfolding numberOf leftBy
 returns-3 c =
-    let earlier = c .before .before .before .before in
-    let h = earlier .before in
-    does h Command.bsu (earlier .match .keys3) (answered-by (lent h) _ _ _ _ (h .head-to .ensures) (c .before .before .send-part .ensures))
+    let at-send-part = c .before .before in
+    let arm = at-send-part .before .before in
+    let h = arm .before in
+    does h Command.bsu (arm .match .keys3) (answered-by (lent h) _ _ _ _ (h .head-to .ensures) (at-send-part .send-part .ensures))
 
 returns-4 : tie.Need-returns-4
 unfolding numberOf leftBy
 returns-4 c =
-    let earlier = c .before .before .before .before in
-    let h = earlier .before in
-    does h Command.identity (earlier .match .keys4) (answered-by (lent h) _ _ _ _ (h .head-to .ensures) (c .before .before .send-part2 .ensures))
+    let at-send-part2 = c .before .before in
+    let arm = at-send-part2 .before .before in
+    let h = arm .before in
+    does h Command.identity (arm .match .keys4) (answered-by (lent h) _ _ _ _ (h .head-to .ensures) (at-send-part2 .send-part2 .ensures))
 
 returns-5 : tie.Need-returns-5
 unfolding numberOf leftBy
 returns-5 c =
-    let earlier = c .before .before .before .before in
-    let h = earlier .before in
-    does h Command.mac (earlier .match .keys5) (answered-by (lent h) _ _ _ _ (h .head-to .ensures) (c .before .before .send-part3 .ensures))
+    let at-send-part3 = c .before .before in
+    let arm = at-send-part3 .before .before in
+    let h = arm .before in
+    does h Command.mac (arm .match .keys5) (answered-by (lent h) _ _ _ _ (h .head-to .ensures) (at-send-part3 .send-part3 .ensures))
 
 returns-6 : tie.Need-returns-6
 unfolding numberOf leftBy
 returns-6 c =
-    let earlier = c .before .before .before .before .before .before .before in
-    let h = earlier .before in
-    does h Command.boot-failure (earlier .match .keys6) (rw (← h .before .byte-at .ensures .0) (unanswered-by (lent h) _ (c .before .before .before .before .boot-failure .ensures)))
+    let at-boot-failure = c .before .before .before .before in
+    let arm = at-keys6 (at-boot-failure .before) in
+    let h = arm .before in
+    does h Command.boot-failure (arm .match .keys6) (rw (← h .before .byte-at .ensures .0) (unanswered-by (lent h) _ (at-boot-failure .boot-failure .ensures)))
 
 returns-7 : tie.Need-returns-7
 unfolding numberOf leftBy
 returns-7 c =
-    let earlier = c .before .before .before .before .before .before .before in
-    let h = earlier .before in
-    does h Command.panic (earlier .match .keys7) (acknowledged-by (lent h) _ _ _ (h .head-to .ensures) (c .before .before .before .before .panic .ensures))
+    let at-panic = c .before .before .before .before in
+    let arm = at-keys7 (at-panic .before) in
+    let h = arm .before in
+    does h Command.panic (arm .match .keys7) (acknowledged-by (lent h) _ _ _ (h .head-to .ensures) (at-panic .panic .ensures))
 
 returns-8 : tie.Need-returns-8
 unfolding numberOf leftBy
 returns-8 c =
-    let earlier = c .before .before .before .before .before in
-    let h = earlier .before in
-    does h Command.status (earlier .match .keys8) (answered-by (lent h) _ _ _ _ (h .head-to .ensures) (c .before .before .send-part4 .ensures))
+    let at-send-part4 = c .before .before in
+    let arm = at-send-part4 .before .before .before in
+    let h = arm .before in
+    does h Command.status (arm .match .keys8) (answered-by (lent h) _ _ _ _ (h .head-to .ensures) (at-send-part4 .send-part4 .ensures))
 
 returns-9 : tie.Need-returns-9
 unfolding numberOf leftBy
 returns-9 c =
-    let earlier = c .before .before .before .before .before .before .before in
-    let h = earlier .before in
-    does h Command.start-acknowledged (earlier .match .keys9) (acknowledged-by (lent h) _ _ _ (h .head-to .ensures) (c .before .before .before .before .start-acknowledged .ensures))
+    let at-start-acknowledged = c .before .before .before .before in
+    let arm = at-start-acknowledged .before .before .before in
+    let h = arm .before in
+    does h Command.start-acknowledged (arm .match .keys9) (acknowledged-by (lent h) _ _ _ (h .head-to .ensures) (at-start-acknowledged .start-acknowledged .ensures))
 
 returns-10 : tie.Need-returns-10
 unfolding numberOf leftBy
 returns-10 c =
-    let earlier = c .before .before .before .before .before .before .before in
-    let h = earlier .before in
-    does h Command.alert (earlier .match .keys10)
-    (ap (λ (a : AlertParts). inner (a .outbox) (now (start h .args .settings)) (a .registers)) (c .before .before .before .before .alert .ensures))
+    let at-alert = c .before .before .before .before in
+    let arm = at-alert .before .before .before in
+    let h = arm .before in
+    does h Command.alert (arm .match .keys10)
+    (ap (λ (a : AlertParts). inner (a .outbox) (now (start h .args .settings)) (a .registers)) (at-alert .alert .ensures))
 
 returns-11 : tie.Need-returns-11
 unfolding numberOf leftBy
 returns-11 c =
-    let earlier = c .before .before .before .before in
-    let h = earlier .before in
-    does h Command.image-block (earlier .match .keys11) (answered-by (lent h) _ _ _ _ (h .head-to .ensures) (c .before .before .send-block .ensures))
+    let at-send-block = c .before .before in
+    let arm = at-send-block .before .before in
+    let h = arm .before in
+    does h Command.image-block (arm .match .keys11) (answered-by (lent h) _ _ _ _ (h .head-to .ensures) (at-send-block .send-block .ensures))
 
 returns-12 : tie.Need-returns-12
 unfolding numberOf leftBy
 returns-12 c =
-    let earlier = c .before .before .before .before .before in
-    let h = earlier .before in
-    does h Command.key-lookup (earlier .match .keys12) (looked-by (lent h) _ _ _ _ (h .head-to .ensures) (c .before .before .send-value .ensures))
+    let at-send-value = c .before .before in
+    let arm = at-send-value .before .before .before in
+    let h = arm .before in
+    does h Command.key-lookup (arm .match .keys12) (looked-by (lent h) _ _ _ _ (h .head-to .ensures) (at-send-value .send-value .ensures))
 
 returns-13 : tie.Need-returns-13
 unfolding numberOf leftBy
 returns-13 c =
-    let earlier = c .before .before .before .before .before in
-    let h = earlier .before in
-    does h Command.inventory (earlier .match .keys13) (rw (← c .before .before .before .read-u32 .ensures) (answered-by (lent h) _ _ _ _ (h .head-to .ensures) (c .before .before .send-item .ensures)))
+    let at-send-item = c .before .before in
+    let at-read-u32 = at-send-item .before in
+    let arm = at-read-u32 .before .before in
+    let h = arm .before in
+    does h Command.inventory (arm .match .keys13) (rw (← at-read-u32 .read-u32 .ensures) (answered-by (lent h) _ _ _ _ (h .head-to .ensures) (at-send-item .send-item .ensures)))
 
 returns-14 : tie.Need-returns-14
 unfolding numberOf leftBy
 returns-14 c =
-    let earlier = c .before .before .before .before .before .before .before in
-    let h = earlier .before in
-    does h Command.key-set (earlier .match .keys14) (rw (← h .head-to .ensures)
-    (ap (λ (k : KeySet). inner (k .outbox) (k .settings) (now (start h .args .registers))) (c .before .before .before .before .set-key .ensures)))
+    let at-set-key = c .before .before .before .before in
+    let arm = at-keys14 (at-set-key .before) in
+    let h = arm .before in
+    does h Command.key-set (arm .match .keys14) (rw (← h .head-to .ensures)
+    (ap (λ (k : KeySet). inner (k .outbox) (k .settings) (now (start h .args .registers))) (at-set-key .set-key .ensures)))
 
 returns-15 : tie.Need-returns-15
 unfolding numberOf
@@ -181,20 +206,27 @@ carry-spec =
     tie.close
     (tie.spec
     (λ c κs. search needs) (λ c κs. search needs)
-    (λ c κs. let h = c .before .before .before in (start h .pre .0, (omega arith, registers-long h)))
-    (λ c κs. let h = c .before .before .before in (start h .pre .0, (omega arith, registers-long h)))
+    (λ c κs. let h = c .before .before .before in
+    (start h .pre .0, (omega arith, registers-long h)))
+    (λ c κs. let h = c .before .before .before in
+    (start h .pre .0, (omega arith, registers-long h)))
     (λ c κs. let h = c .before .before in (start h .pre .0, (omega (arith, factory-long h), omega arith)))
     (λ c κs. let h = c .before .before in (start h .pre .0, (omega (arith, factory-long h), omega arith)))
     (λ c κs. let h = c .before .before in (start h .pre .0, (omega (arith, factory-long h), omega arith)))
     (λ c. search needs) boot-failure-requires panic-requires
-    (λ c κs. let h = c .before .before .before in (start h .pre .0, (omega (arith, registers-long h), omega arith)))
-    (λ c κs. let h = c .before .before .before in (start h .pre .0, registers-long h))
-    (λ c κs. let h = c .before .before .before in (start h .pre .0, (valid h .registers, omega (arith, served-small (start h .args .version) (start h .pre .1 .1 .1 .1 .1)))))
+    (λ c κs. let h = c .before .before .before in
+    (start h .pre .0, (omega (arith, registers-long h), omega arith)))
+    (λ c κs. let h = c .before .before .before in
+    (start h .pre .0, registers-long h))
+    (λ c κs. let h = c .before .before .before in
+    (start h .pre .0, (valid h .registers, omega (arith, served-small (start h .args .version) (start h .pre .1 .1 .1 .1 .1)))))
     (λ c κs. let h = c .before .before in (start h .pre .0, start h .pre .1 .0))
-    (λ c κs. let h = c .before .before .before in (start h .pre .0, (start h .pre .1 .0, valid h .settings)))
+    (λ c κs. let h = c .before .before .before in
+    (start h .pre .0, (start h .pre .1 .0, valid h .settings)))
     (λ c κs. search needs)
     (λ c. search needs)
-    (λ c κs. let h = c .before .before .before in (start h .pre .0, start h .pre .1 .0))
+    (λ c κs. let h = c .before .before .before in
+    (start h .pre .0, start h .pre .1 .0))
     set-key-requires
     (λ c. search needs) (λ c. search needs) returns
     (λ c. search needs) (λ c. search needs) returns-2

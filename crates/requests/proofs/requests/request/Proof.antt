@@ -16,6 +16,19 @@ use Rattle.requests.proofs.StepLaws.{Judged, other-version, top-bit-set
 use Rattle.requests.proofs.requests.request.Statement.{statement}
 use Rattle.requests.proofs.requests.request.Tie as tie
 
+-- places of the walk, each from a later one
+abbrev at-head-to : tie.Else1 → tie.After-head-to
+at-head-to c = c .before .before
+
+abbrev else2 : tie.Else3 → tie.Else2
+else2 c = c .before .before
+
+abbrev else4-of : tie.After-carry-arg3 → tie.Else4
+else4-of c = c .before .before .before
+
+abbrev else1 : tie.Else2 → tie.Else1
+else1 c = c .before .before .before
+
 by-fail : (c : tie.Start) (reason version : ℕ) (sequence : Option ℕ) {v : Verdict} {h : Head} {g : Ended} {o : List ℕ}
     → v ≡ failure reason version sequence → h ≡ failureHead version sequence
     → (g ≡ Ended.failed reason) × (o ≡ sentBox (replyBytes h 0x02 (bytes 1 reason)) (now (c .args .outbox)))
@@ -30,45 +43,50 @@ start c = c .before .before .before .before .before .before .before
 
 returns : tie.Need-returns
 returns c =
-    let earlier = c .before .before .before .before in
-    let numbered = earlier .before .before in
-    by-fail (start numbered) 5 first-version (some _) (other-version _ _ _ _ (refused _ _ (earlier .before .is-served .ensures) (earlier .if1 .taken)))
-    (numbered .head-to .ensures) (c .before .before .fail .ensures)
+    let at-fail = c .before .before in
+    let then1 = at-fail .before .before in
+    let numbered = then1 .before .before in
+    by-fail (start numbered) 5 first-version (some _) (other-version _ _ _ _ (refused _ _ (then1 .before .is-served .ensures) (then1 .if1 .taken)))
+    (numbered .head-to .ensures) (at-fail .fail .ensures)
 
 returns-2 : tie.Need-returns-2
 returns-2 c =
-    let earlier = c .before .before .before .before in
-    let reply = earlier .before .before in
+    let at-fail2 = c .before .before in
+    let then2 = at-fail2 .before .before in
+    let reply = then2 .before .before in
     let first = reply .before in
-    by-fail (start (first .before .before)) 6 _ (some _)
-    (top-bit-set _ _ _ _ (passed _ _ (first .before .is-served .ensures) (first .if1 .left)) (earlier .if2 .taken)) (reply .head-to2 .ensures) (c .before .before .fail2 .ensures)
+    by-fail (start (at-head-to first)) 6 _ (some _)
+    (top-bit-set _ _ _ _ (passed _ _ (first .before .is-served .ensures) (first .if1 .left)) (then2 .if2 .taken)) (reply .head-to2 .ensures) (at-fail2 .fail2 .ensures)
 
 returns-3 : tie.Need-returns-3
 returns-3 c =
-    let earlier = c .before .before .before .before .before in
-    let second = earlier .before .before in
-    let first = second .before .before .before in
-    by-fail (start (first .before .before)) 3 first-version none
-    (command-unknown _ _ _ _ (passed _ _ (first .before .is-served .ensures) (first .if1 .left)) (second .if2 .left) (refused _ _ (earlier .before .is-known .ensures) (earlier .if3 .taken)))
-    (c .before .before .before .before .unnumbered .ensures) (c .before .before .fail3 .ensures)
+    let at-fail3 = c .before .before in
+    let at-unnumbered = at-fail3 .before .before in
+    let then3 = at-unnumbered .before in
+    let second = then3 .before .before in
+    let first = else1 second in
+    by-fail (start (at-head-to first)) 3 first-version none
+    (command-unknown _ _ _ _ (passed _ _ (first .before .is-served .ensures) (first .if1 .left)) (second .if2 .left) (refused _ _ (then3 .before .is-known .ensures) (then3 .if3 .taken)))
+    (at-unnumbered .unnumbered .ensures) (at-fail3 .fail3 .ensures)
 
 returns-4 : tie.Need-returns-4
 returns-4 c =
-    let earlier = c .before .before .before .before in
-    let third = earlier .before .before in
-    let second = third .before .before in
+    let at-fail4 = c .before .before in
+    let then4 = at-fail4 .before .before in
+    let third = then4 .before .before in
+    let second = else2 third in
     let reply = second .before .before in
     let first = reply .before in
-    by-fail (start (first .before .before)) 7 _ (some _)
+    by-fail (start (at-head-to first)) 7 _ (some _)
     (length-wrong _ _ _ _ (passed _ _ (first .before .is-served .ensures) (first .if1 .left)) (second .if2 .left)
-    (passed _ _ (third .before .is-known .ensures) (third .if3 .left)) (refused _ _ (earlier .before .length-is-allowed .ensures) (earlier .if4 .taken)))
-    (reply .head-to2 .ensures) (c .before .before .fail4 .ensures)
+    (passed _ _ (third .before .is-known .ensures) (third .if3 .left)) (refused _ _ (then4 .before .length-is-allowed .ensures) (then4 .if4 .taken)))
+    (reply .head-to2 .ensures) (at-fail4 .fail4 .ensures)
 
 carry-requires : tie.Need-carry-requires
 carry-requires c κs =
-    let earlier = c .before .before .before in
-    let first = earlier .before .before .before .before .before .before .before in
-    let p = start (first .before .before) .pre in (
+    let else4 = else4-of c in
+    let first = else4 .before .before .before .before .before .before .before in
+    let p = start (at-head-to first) .pre in (
       p .0,
       (
         p .1 .0,
@@ -76,7 +94,7 @@ carry-requires c κs =
           p .1 .1 .0,
           (
             p .1 .1 .1,
-            (passed _ _ (earlier .before .length-is-allowed .ensures) (earlier .if4 .left), passed _ _ (first .before .is-served .ensures) (first .if1 .left)),
+            (passed _ _ (else4 .before .length-is-allowed .ensures) (else4 .if4 .left), passed _ _ (first .before .is-served .ensures) (first .if1 .left)),
           ),
         ),
       ),
@@ -86,14 +104,14 @@ returns-5 : tie.Need-returns-5
 unfolding endedReport
 returns-5 c =
     let called = c .before .before .before .before .before .before in
-    let earlier = called .before .before .before .before in
-    let third = earlier .before .before in
-    let second = third .before .before in
-    let first = second .before .before .before in
-    let a = start (first .before .before) .args in
+    let else4 = else4-of (called .before) in
+    let third = else4 .before .before in
+    let second = else2 third in
+    let first = else1 second in
+    let a = start (at-head-to first) .args in
     judged-good (now (a .image)) (now (a .factory)) (inner (now (a .outbox)) (now (a .settings)) (now (a .registers))) (a .version) (a .number .0) (a .command) (now (a .«data»))
     (passed-all _ _ _ _ (passed _ _ (first .before .is-served .ensures) (first .if1 .left)) (second .if2 .left)
-    (passed _ _ (third .before .is-known .ensures) (third .if3 .left)) (passed _ _ (earlier .before .length-is-allowed .ensures) (earlier .if4 .left)))
+    (passed _ _ (third .before .is-known .ensures) (third .if3 .left)) (passed _ _ (else4 .before .length-is-allowed .ensures) (else4 .if4 .left)))
     (called .carry .ensures)
 
 pub request-spec : {M : Type 1} → statement M

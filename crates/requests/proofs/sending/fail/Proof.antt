@@ -8,7 +8,9 @@ use Rattle.requests.proofs.sending.fail.Tie as tie
 
 returns : tie.Need-returns
 unfolding endedReport
-returns c = (refl, c .before .before .send-byte .ensures)
+returns c =
+    let at-send-byte = c .before .before in
+    (refl, at-send-byte .send-byte .ensures)
 
 pub fail-spec : {M : Type 1} → statement M
 fail-spec = tie.close (tie.spec (λ c κs. search needs) (λ c. search needs) returns)

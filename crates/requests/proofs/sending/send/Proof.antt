@@ -10,11 +10,12 @@ use Rattle.requests.proofs.sending.send.Tie as tie
 
 returns : tie.Need-returns
 returns c =
-    let written = c .before .before .before .before .before .before in
+    let at-set-pending = c .before .before in
+    let written = at-set-pending .before .before .before .before in
     let start = written .before .before .before .before .before in
     let a = start .args in
     sent (replyBytes (a .reply) (a .command) (now (a .head) ++ now (a .rest))) (now (a .outbox)) (start .pre .0)
-    (written .write-reply .ensures .0) (written .write-reply .ensures .1 .1) (c .before .before .set-pending .ensures)
+    (written .write-reply .ensures .0) (written .write-reply .ensures .1 .1) (at-set-pending .set-pending .ensures)
 
 pub send-spec : {M : Type 1} → statement M
 send-spec = tie.close (tie.spec

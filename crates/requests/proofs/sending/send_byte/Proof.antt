@@ -8,8 +8,9 @@ use Rattle.requests.proofs.sending.send_byte.Tie as tie
 
 returns : tie.Need-returns
 returns c =
-    let start = c .before .before .before .before .before .before in
-    rw (one-byte (start .args .byte) (omega (arith, start .fits .byte))) (c .before .before .send-part .ensures)
+    let at-send-part = c .before .before in
+    let start = at-send-part .before .before .before .before in
+    rw (one-byte (start .args .byte) (omega (arith, start .fits .byte))) (at-send-part .send-part .ensures)
 
 pub send-byte-spec : {M : Type 1} → statement M
 send-byte-spec = tie.close (tie.spec (λ c. search needs) (λ c κs. search needs) (λ c. search needs) returns)

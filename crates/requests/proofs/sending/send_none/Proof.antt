@@ -7,7 +7,9 @@ use Rattle.requests.proofs.sending.send_none.Tie as tie
 
 returns : tie.Need-returns
 unfolding sentBox
-returns c = c .before .before .set-pending .ensures
+returns c =
+    let at-set-pending = c .before .before in
+    at-set-pending .set-pending .ensures
 
 pub send-none-spec : {M : Type 1} → statement M
 send-none-spec = tie.close (tie.spec (λ c κs. search needs) (λ c. search needs) returns)

@@ -12,4 +12,4 @@ send-part-spec =
     (tie.spec
     (λ c. search needs) (λ c. search needs) (λ c. search needs) (λ c. search needs) (λ c. search needs)
     (λ c. search needs) (λ c. search needs) (λ c κs. search needs) (λ c. search needs)
-    (λ c. rw (add-sub-cancel-left, append-nil) at (c .before .before .send .ensures)))
+    (λ c. let at-send = c .before .before in rw (add-sub-cancel-left, append-nil) at (at-send .send .ensures)))

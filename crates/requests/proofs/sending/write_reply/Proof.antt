@@ -8,10 +8,14 @@ use Rattle.requests.proofs.SendingLaws.{reply-written, reply-refused}
 use Rattle.requests.proofs.sending.write_reply.Statement.{statement}
 use Rattle.requests.proofs.sending.write_reply.Tie as tie
 
+-- places of the walk, each from a later one
+abbrev start-of : tie.After-write → tie.Start
+start-of c = c .before .before .before .before .before .before
+
 returns : tie.Need-returns
 returns c =
     let write = c .before .before .before .before .before in
-    let start = write .before .before .before .before .before .before in
+    let start = start-of write in
     let a = start .args in
     reply-written (a .reply) (a .command) (now (a .head)) (now (a .rest)) (now (a .outbox)) (start .pre .0) (start .pre .1) _ (write .write .ensures) (c .before .written .given .1)
 
@@ -19,7 +23,7 @@ returns-2 : tie.Need-returns-2
 unfolding report
 returns-2 c =
     let write = c .before .before .before .before in
-    let start = write .before .before .before .before .before .before in
+    let start = start-of write in
     let a = start .args in
     absurd (reply-refused (a .reply) (a .command) (now (a .head)) (now (a .rest)) (now (a .outbox)) (start .pre .0) (start .pre .1) _ (write .write .ensures) (c .enum-told .given .1) 8 refl)
 
@@ -27,7 +31,7 @@ returns-3 : tie.Need-returns-3
 unfolding report
 returns-3 c =
     let write = c .before .before .before .before in
-    let start = write .before .before .before .before .before .before in
+    let start = start-of write in
     let a = start .args in
     absurd (reply-refused (a .reply) (a .command) (now (a .head)) (now (a .rest)) (now (a .outbox)) (start .pre .0) (start .pre .1) _ (write .write .ensures) (c .enum-told2 .given .1) 9 refl)
 

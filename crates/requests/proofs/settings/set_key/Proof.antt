@@ -8,8 +8,9 @@ use Rattle.requests.proofs.settings.set_key.Tie as tie
 returns : tie.Need-returns
 unfolding keySetAnswered
 returns c =
-    let stored = c .before .before .before .before .before .before in
-    rw (c .before .before .send-byte .ensures, ← stored .before .read-u8 .ensures, ← stored .store .ensures)
+    let at-send-byte = c .before .before in
+    let stored = at-send-byte .before .before .before .before in
+    rw (at-send-byte .send-byte .ensures, ← stored .before .read-u8 .ensures, ← stored .store .ensures)
 
 pub set-key-spec : {M : Type 1} → statement M
 set-key-spec =

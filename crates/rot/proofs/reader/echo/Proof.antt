@@ -8,11 +8,15 @@ use Rattle.rot.proofs.reader.echo.Tie as tie
 
 returns : tie.Need-returns
 unfolding Reading.report Writing.report
-returns c = rw (← c .before .before .before .before .before .write .ensures, c .before .written .given .1)
+returns c =
+    let at-write = c .before .before .before .before .before in
+    rw (← at-write .write .ensures, c .before .written .given .1)
 
 returns-2 : tie.Need-returns-2
 unfolding Reading.report Writing.report
-returns-2 c = rw (← c .before .before .before .before .before .write .ensures, c .before .written2 .given .1)
+returns-2 c =
+    let at-write = c .before .before .before .before .before in
+    rw (← at-write .write .ensures, c .before .written2 .given .1)
 
 pub echo-spec : {M : Type 1} → statement M
 echo-spec =

@@ -14,7 +14,9 @@ returns c = no-input _ (c .if1 .taken)
 
 returns-2 : tie.Need-returns-2
 unfolding judgedAs
-returns-2 c = null-sent _ (c .before .before .if1 .left) (c .before .read-u8 .ensures) (c .if2 .taken)
+returns-2 c =
+    let else1 = c .before .before in
+    null-sent _ (else1 .if1 .left) (c .before .read-u8 .ensures) (c .if2 .taken)
 
 returns-3 : tie.Need-returns-3
 unfolding numberOf judgedAs
@@ -25,8 +27,9 @@ returns-3 c =
 returns-4 : tie.Need-returns-4
 unfolding numberOf judgedAs
 returns-4 c =
-    let first = c .before .before .before in
-    short-header _ (first .before .if1 .left) (first .read-u8 .ensures) (c .before .before .if2 .left) (c .before .if3 .left) (c .if4 .taken)
+    let else2 = c .before .before in
+    let first = else2 .before in
+    short-header _ (first .before .if1 .left) (first .read-u8 .ensures) (else2 .if2 .left) (c .before .if3 .left) (c .if4 .taken)
 
 returns-5 : tie.Need-returns-5
 returns-5 c =

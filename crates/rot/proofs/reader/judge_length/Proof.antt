@@ -14,7 +14,9 @@ returns c = too-long _ (c .before .word-at .ensures .0) (c .if1 .taken)
 
 returns-2 : tie.Need-returns-2
 unfolding numberOf judgedAs
-returns-2 c = cut-short _ (c .before .before .word-at .ensures .0) (c .before .if1 .left) (c .if2 .taken)
+returns-2 c =
+    let at-word-at = c .before .before in
+    cut-short _ (at-word-at .word-at .ensures .0) (c .before .if1 .left) (c .if2 .taken)
 
 returns-3 : tie.Need-returns-3
 returns-3 c =

@@ -9,20 +9,27 @@ use Rattle.rot.proofs.reader.payload.Tie as tie
 returns : tie.Need-returns
 returns c =
     let arm = c .before .before .before in
-    payload-echo _ (arm .before .before .judge .ensures) (arm .verdict .given .1) (c .before .if1 .taken)
+    let at-judge = arm .before .before in
+    payload-echo _ (at-judge .judge .ensures) (arm .verdict .given .1) (c .before .if1 .taken)
 
 returns-2 : tie.Need-returns-2
 unfolding judgedAs handedPart payloadPart
-returns-2 c = rw (← c .before .before .before .judge .ensures, c .before .enum-told .given .1)
+returns-2 c =
+    let at-judge = c .before .before .before in
+    rw (← at-judge .judge .ensures, c .before .enum-told .given .1)
 
 returns-3 : tie.Need-returns-3
 unfolding judgedAs handedPart payloadPart
-returns-3 c = rw (← c .before .before .before .judge .ensures, c .before .enum-told2 .given .1)
+returns-3 c =
+    let at-judge = c .before .before .before in
+    rw (← at-judge .judge .ensures, c .before .enum-told2 .given .1)
 
 returns-4 : tie.Need-returns-4
 returns-4 c =
-    let arm = c .before .before .before .before in
-    rw (c .part .ensures, c .before .word-at .ensures .0) (payload-handed _ (arm .before .before .judge .ensures) (arm .verdict .given .1) (c .before .before .if1 .left))
+    let else1 = c .before .before in
+    let arm = else1 .before .before in
+    let at-judge = arm .before .before in
+    rw (c .part .ensures, c .before .word-at .ensures .0) (payload-handed _ (at-judge .judge .ensures) (arm .verdict .given .1) (else1 .if1 .left))
 
 pub payload-spec : {M : Type 1} → statement M
 payload-spec =

@@ -12,22 +12,28 @@ returns c =
     let part = echo .before .before in
     let length = part .before .before in
     let arm = length .before .before in
+    let at-judge = arm .before .before in
     rw (echo .echo .ensures, part .part .ensures, length .word-at .ensures .0)
-    (read-echo _ (arm .before .before .judge .ensures) (arm .verdict2 .given .1) _ (part .before .if1 .taken))
+    (read-echo _ (at-judge .judge .ensures) (arm .verdict2 .given .1) _ (part .before .if1 .taken))
 
 returns-2 : tie.Need-returns-2
 unfolding judgedAs answering reading report
-returns-2 c = rw (← c .before .before .before .judge .ensures, c .before .verdict .given .1)
+returns-2 c =
+    let at-judge = c .before .before .before in
+    rw (← at-judge .judge .ensures, c .before .verdict .given .1)
 
 returns-3 : tie.Need-returns-3
 unfolding judgedAs answering reading report
-returns-3 c = rw (← c .before .before .judge .ensures, c .enum-told .given .1)
+returns-3 c =
+    let at-judge = c .before .before in
+    rw (← at-judge .judge .ensures, c .enum-told .given .1)
 
 returns-4 : tie.Need-returns-4
 unfolding report
 returns-4 c =
     let arm = c .before .before .before in
-    rw (c .before .word-at .ensures .0) (read-handed _ (arm .before .before .judge .ensures) (arm .verdict2 .given .1) _ (c .if1 .left))
+    let at-judge = arm .before .before in
+    rw (c .before .word-at .ensures .0) (read-handed _ (at-judge .judge .ensures) (arm .verdict2 .given .1) _ (c .if1 .left))
 
 pub read-spec : {M : Type 1} → statement M
 read-spec =

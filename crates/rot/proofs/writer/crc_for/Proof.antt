@@ -14,7 +14,8 @@ use Rattle.rot.proofs.writer.crc_for.Tie as tie
 returns : tie.Need-returns
 unfolding crcOf start bytes
 returns c =
-    let n = length (now (c .before .before .before .args .payload)) in
+    let entry = c .before .before .before in
+    let n = length (now (entry .args .payload)) in
     let e : n / 256 % 256 ≡ n / 256 = omega arith in
     rw (c .crc-of-parts .ensures, e)
 

@@ -19,7 +19,9 @@ returns c =
     (counted .write-u16 .ensures) (crc .write-u32 .ensures) (payload .copy .ensures)
 
 same-length : tie.Need-same-length
-same-length c = assembled-length _ _ (c .before .before .before .before .before .before .before .before .before .before .before .before .before .before .before .pre .1) (returns c)
+same-length c =
+    let start = c .before .before .before .before .before .before .before .before .before .before .before .before .before .before .before in
+    assembled-length _ _ (start .pre .1) (returns c)
 
 pub put-spec : {M : Type 1} → statement M
 put-spec =

@@ -15,7 +15,9 @@ returns c = write-long _ _ (c .if1 .taken)
 
 returns-2 : tie.Need-returns-2
 unfolding numberOf report
-returns-2 c = write-unlisted _ _ (c .before .before .if1 .left) (sym (c .before .is-listed .ensures) ∙ not-true _ (c .if2 .taken))
+returns-2 c =
+    let else1 = c .before .before in
+    write-unlisted _ _ (else1 .if1 .left) (sym (c .before .is-listed .ensures) ∙ not-true _ (c .if2 .taken))
 
 returns-3 : tie.Need-returns-3
 unfolding numberOf report

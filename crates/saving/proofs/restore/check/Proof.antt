@@ -17,18 +17,22 @@ Inv-loop image before₀ at₀ before at = (at ≤ length image) × (faultIn (re
 abbrev μ-loop : tie.MeasureT-loop
 μ-loop image before₀ at₀ before at = length image - at
 
+-- places of the walk, each from a later one
+abbrev at-pass : tie.After-known-told Inv-loop μ-loop → tie.After-pass Inv-loop μ-loop
+at-pass c = c .before .before .before
+
 loop-holds : tie.Need-loop-holds Inv-loop μ-loop
 unfolding read
 loop-holds c = (search needs, refl)
 
 loop-less : tie.Need-loop-less Inv-loop μ-loop
 unfolding stepOf
-loop-less c = omega (arith, further _ _ _ (sym (c .before .before .before .pass .ensures) ∙ ap stepOf (c .before .next .given .1)))
+loop-less c = omega (arith, further _ _ _ (sym (at-pass c .pass .ensures) ∙ ap stepOf (c .before .next .given .1)))
 
 loop-again : tie.Need-loop-again Inv-loop μ-loop
 unfolding stepOf
 loop-again c =
-    let passed = c .before .before .before in
+    let passed = at-pass c in
     let e = sym (passed .pass .ensures) ∙ ap stepOf (c .before .next .given .1) in
     (further _ _ _ e .1, sym (fault-behind _ _ _ e) ∙ passed .before .loop .inv .1)
 

@@ -17,17 +17,22 @@ Inv-loop settings₀ i₀ settings i = (i ≤ saved-count) × (length settings �
 abbrev μ-loop : tie.MeasureT-loop
 μ-loop settings₀ i₀ settings i = saved-count - i
 
+-- places of the walk, each from a later one
+abbrev at-loop : tie.After-setting-offset Inv-loop μ-loop → tie.At-loop Inv-loop μ-loop
+at-loop c = c .before .before
+
 loop-holds : tie.Need-loop-holds Inv-loop μ-loop
 unfolding cleared
 loop-holds c = (search needs, search needs, refl)
 
 set-head-requires : tie.Need-set-head-requires Inv-loop μ-loop
-set-head-requires c κs = omega (arith, c .before .setting-offset .ensures .0, head-room (c .before .before .before .loop .i) (omega arith))
+set-head-requires c κs = omega (arith, c .before .setting-offset .ensures .0, head-room (at-loop (c .before) .loop .i) (omega arith))
 
 loop-again : tie.Need-loop-again Inv-loop μ-loop
 loop-again c =
-    let offset = c .before .before .before .before in
-    (search needs, search needs, cleared-more _ _ (offset .before .before .loop .inv .2) (offset .setting-offset .ensures .0) (c .before .before .set-head .ensures))
+    let at-set-head = c .before .before in
+    let offset = at-set-head .before .before in
+    (search needs, search needs, cleared-more _ _ (at-loop offset .loop .inv .2) (offset .setting-offset .ensures .0) (at-set-head .set-head .ensures))
 
 returns : tie.Need-returns Inv-loop μ-loop
 returns c = let e : c .before .loop .i ≡ saved-count = omega arith in rw e at (c .before .loop .inv .2)

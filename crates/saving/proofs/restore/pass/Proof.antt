@@ -8,47 +8,64 @@ use Rattle.saving.proofs.StepLaws.{mark-cut, bytes-behind, end-good, ma
 use Rattle.saving.proofs.restore.pass.Statement.{statement}
 use Rattle.saving.proofs.restore.pass.Tie as tie
 
+-- places of the walk, each from a later one
+abbrev else4 : tie.After-read-u8 → tie.Else4
+else4 c = c .before .before
+
+abbrev else2 : tie.After-same2 → tie.Else2
+else2 c = c .before .before
+
+abbrev else2-from-else4 : tie.Else4 → tie.Else2
+else2-from-else4 c = else2 (c .before)
+
 returns : tie.Need-returns
 unfolding stepOf
 returns c = mark-cut _ _ _ (omega arith)
 
 returns-2 : tie.Need-returns-2
 unfolding stepOf
-returns-2 c = bytes-behind _ _ _ (omega arith) (c .before .before .same .ensures) (c .before .if2 .taken) (omega arith)
+returns-2 c =
+    let at-same = c .before .before in
+    bytes-behind _ _ _ (omega arith) (at-same .same .ensures) (c .before .if2 .taken) (omega arith)
 
 returns-3 : tie.Need-returns-3
 unfolding stepOf
-returns-3 c = end-good _ _ _ (omega arith) (c .before .before .same .ensures) (c .before .if2 .taken) (omega arith)
+returns-3 c =
+    let at-same = c .before .before in
+    end-good _ _ _ (omega arith) (at-same .same .ensures) (c .before .if2 .taken) (omega arith)
 
 returns-4 : tie.Need-returns-4
 unfolding stepOf
 returns-4 c =
-    let more = c .before .before .before in
+    let more = else2 (c .before) in
     mark-wrong _ _ _ (omega arith) (more .before .same .ensures) (more .if2 .left) (c .before .same2 .ensures) (c .if4 .taken)
 
 returns-5 : tie.Need-returns-5
 unfolding stepOf
 returns-5 c =
-    let more = c .before .before .before .before in
-    key-cut _ _ _ (omega arith) (more .before .same .ensures) (more .if2 .left) (c .before .before .same2 .ensures) (c .before .if4 .left) (omega arith)
+    let at-same2 = c .before .before in
+    let more = else2 at-same2 in
+    key-cut _ _ _ (omega arith) (more .before .same .ensures) (more .if2 .left) (at-same2 .same2 .ensures) (c .before .if4 .left) (omega arith)
 
 returns-6 : tie.Need-returns-6
 unfolding stepOf
 returns-6 c =
-    let mark = c .before .before .before .before in
-    let more = mark .before .before .before in
+    let at-read-u8 = c .before .before in
+    let mark = else4 at-read-u8 in
+    let more = else2-from-else4 mark in
     key-wrong _ _ _ (omega arith) (more .before .same .ensures) (more .if2 .left) (mark .before .same2 .ensures) (mark .if4 .left) (omega arith)
-    (c .before .before .read-u8 .ensures) (c .before .key-follows .ensures) (c .if6 .taken)
+    (at-read-u8 .read-u8 .ensures) (c .before .key-follows .ensures) (c .if6 .taken)
 
 returns-7 : tie.Need-returns-7
 unfolding stepOf
 returns-7 c =
-    let key = c .before .before .before in
-    let mark = key .before .before in
-    let more = mark .before .before .before in
+    let at-key-follows = c .before .before in
+    let key = at-key-follows .before in
+    let mark = else4 key in
+    let more = else2-from-else4 mark in
     c .pass-record .ensures
     ∙ key-good _ _ _ (omega arith) (more .before .same .ensures) (more .if2 .left) (mark .before .same2 .ensures) (mark .if4 .left) (omega arith)
-    (key .read-u8 .ensures) (c .before .before .key-follows .ensures) (c .before .if6 .left)
+    (key .read-u8 .ensures) (at-key-follows .key-follows .ensures) (c .before .if6 .left)
 
 pub pass-spec : {M : Type 1} → statement M
 pass-spec =

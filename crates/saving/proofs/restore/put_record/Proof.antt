@@ -8,25 +8,31 @@ use Rattle.saving.proofs.StoreLaws.{whole-room, entry-put}
 use Rattle.saving.proofs.restore.put_record.Statement.{statement}
 use Rattle.saving.proofs.restore.put_record.Tie as tie
 
+-- places of the walk, each from a later one
+abbrev start-of : tie.After-read-u8 → tie.Start
+start-of c = c .before .before .before .before
+
 set-head-requires : tie.Need-set-head-requires
 set-head-requires c κs =
-    let key = c .before .before .before in
+    let at-setting-offset = c .before .before in
+    let key = at-setting-offset .before in
     omega (
       arith,
-      c .before .before .setting-offset .ensures .0,
+      at-setting-offset .setting-offset .ensures .0,
       ap setting-offset (key .read-u8 .ensures),
-      whole-room _ _ (key .before .before .before .before .pre .1),
+      whole-room _ _ (start-of key .pre .1),
     )
 
 returns : tie.Need-returns
 returns c =
-    let head = c .before .before .before .before .before .before in
+    let at-copy = c .before .before in
+    let head = at-copy .before .before .before .before in
     let edition = head .before .before in
     let key = edition .before .before in
-    let start = key .before .before .before .before in (
+    let start = start-of key in (
       search needs,
       entry-put _ _ (start .pre .1) _ (key .before .word-at .ensures .0) (key .read-u8 .ensures) (edition .before .setting-offset .ensures .0)
-          (edition .read-u32 .ensures) (start .pre .0) (head .set-head .ensures) (c .before .before .copy .ensures),
+          (edition .read-u32 .ensures) (start .pre .0) (head .set-head .ensures) (at-copy .copy .ensures),
     )
 
 pub put-record-spec : {M : Type 1} → statement M

@@ -19,35 +19,47 @@ Inv-loop settings₀ image at₀ t4 settings at = (length settings ≡ length se
 abbrev μ-loop : tie.MeasureT-loop
 μ-loop settings₀ image at₀ t4 settings at = length image - at
 
+-- places of the walk, each from a later one
+abbrev at-loop : tie.After-same Inv-loop μ-loop → tie.At-loop Inv-loop μ-loop
+at-loop c = c .before .before
+
+abbrev at-put-record : tie.After-slice-known2 Inv-loop μ-loop → tie.After-put-record Inv-loop μ-loop
+at-put-record c = c .before .before
+
+abbrev then1 : tie.After-slice-known2 Inv-loop μ-loop → tie.Then1 Inv-loop μ-loop
+then1 c = c .before .before .before .before
+
 loop-holds : tie.Need-loop-holds Inv-loop μ-loop
-loop-holds c = (search needs, all-left _ _ (c .before .before .pre .1))
+loop-holds c =
+    let start = c .before .before in
+    (search needs, all-left _ _ (start .pre .1))
 
 put-record-requires : tie.Need-put-record-requires Inv-loop μ-loop
 put-record-requires c κs =
     let same = c .before .before in
-    (omega arith, whole-here _ _ _ _ (same .before .before .loop .inv .1) (refused _ _ (same .same .ensures) (c .before .if1 .taken)))
+    (omega arith, whole-here _ _ _ _ (at-loop same .loop .inv .1) (refused _ _ (same .same .ensures) (c .before .if1 .taken)))
 
 loop-less : tie.Need-loop-less Inv-loop μ-loop
 loop-less c =
-    let more = c .before .before .before .before in
+    let more = then1 c in
     let same = more .before in
     omega (
       arith,
-      whole-here _ _ _ _ (same .before .before .loop .inv .1) (refused _ _ (same .same .ensures) (more .if1 .taken)) .complete,
-      c .before .before .put-record .ensures .0,
+      whole-here _ _ _ _ (at-loop same .loop .inv .1) (refused _ _ (same .same .ensures) (more .if1 .taken)) .complete,
+      at-put-record c .put-record .ensures .0,
     )
 
 loop-again : tie.Need-loop-again Inv-loop μ-loop
 loop-again c =
-    let put = c .before .before .put-record in
-    let more = c .before .before .before .before in
+    let put = at-put-record c .put-record in
+    let more = then1 c in
     let same = more .before in (
       search needs,
-      on-left _ _ _ _ (same .before .before .loop .inv .1) (refused _ _ (same .same .ensures) (more .if1 .taken)) (put .ensures .1) (put .ensures .0),
+      on-left _ _ _ _ (at-loop same .loop .inv .1) (refused _ _ (same .same .ensures) (more .if1 .taken)) (put .ensures .1) (put .ensures .0),
     )
 
 returns : tie.Need-returns Inv-loop μ-loop
-returns c = none-left _ _ _ _ (c .before .before .before .loop .inv .1) (passed _ _ (c .before .same .ensures) (c .if1 .left))
+returns c = none-left _ _ _ _ (at-loop (c .before) .loop .inv .1) (passed _ _ (c .before .same .ensures) (c .if1 .left))
 
 pub put-records-spec : {M : Type 1} → statement M
 put-records-spec =

@@ -30,12 +30,13 @@ put-records-requires c κs =
 returns-2 : tie.Need-returns-2
 unfolding restoreReport restoring foundOf
 returns-2 c =
-    let cleared = c .before .before .before .before .before .before in
+    let at-put-records = c .before .before in
+    let cleared = at-put-records .before .before .before .before in
     let good = cleared .before .before in
     let checked = good .before .before in
     let valid = checked .before in
     rw (passed _ _ (valid .before .settings-are-valid .ensures) (valid .if1 .left))
-    (restored-good _ _ (sym (checked .check .ensures) ∙ ap foundOf (good .enum-told .given .1)) (cleared .clear .ensures) (c .before .before .put-records .ensures))
+    (restored-good _ _ (sym (checked .check .ensures) ∙ ap foundOf (good .enum-told .given .1)) (cleared .clear .ensures) (at-put-records .put-records .ensures))
 
 returns-3 : tie.Need-returns-3
 unfolding restoreReport restoring foundOf

@@ -8,12 +8,15 @@ use Rattle.saving.proofs.restore.set_head.Statement.{statement}
 use Rattle.saving.proofs.restore.set_head.Tie as tie
 
 same-length : tie.Need-same-length
-same-length c = c .before .settings2 .given ∙ c .before .before .before .before .before .settings .given ∙ simp length-set
+same-length c =
+    let at-settings = c .before .before .before .before .before in
+    c .before .settings2 .given ∙ at-settings .settings .given ∙ simp length-set
 
 returns : tie.Need-returns
 returns c =
-    let edition = c .before .before .before .before .before .before in
-    rw (c .before .before .write-u16 .ensures, edition .write-u32 .ensures) (head-put _ _ _ _ _ (search needs) (search needs))
+    let at-write-u16 = c .before .before in
+    let edition = at-write-u16 .before .before .before .before in
+    rw (at-write-u16 .write-u16 .ensures, edition .write-u32 .ensures) (head-put _ _ _ _ _ (search needs) (search needs))
 
 pub set-head-spec : {M : Type 1} → statement M
 set-head-spec =

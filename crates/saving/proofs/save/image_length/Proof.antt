@@ -20,6 +20,10 @@ Inv-loop settings n₀ i₀ n i = (i ≤ saved-count) × (n ≤ i * 65546) × (n
 abbrev μ-loop : tie.MeasureT-loop
 μ-loop settings n₀ i₀ n i = saved-count - i
 
+-- places of the walk, each from a later one
+abbrev start : tie.At-loop Inv-loop μ-loop → tie.Start Inv-loop μ-loop
+start c = c .before .before
+
 loop-holds : tie.Need-loop-holds Inv-loop μ-loop
 unfolding imageBytes
 loop-holds c = (search needs, search needs, zero-add _)
@@ -27,13 +31,13 @@ loop-holds c = (search needs, search needs, zero-add _)
 loop-again : tie.Need-loop-again Inv-loop μ-loop
 loop-again c =
     let looped = c .before .before in
-    let l = length-on (now (looped .before .before .args .settings)) (looped .loop .i) (c .before .loop-test .taken) in
+    let l = length-on (now (start looped .args .settings)) (looped .loop .i) (c .before .loop-test .taken) in
     (search needs, omega (arith, c .record-length .ensures .1), omega (arith, l, c .record-length .ensures .0, looped .loop .inv .2))
 
 returns : tie.Need-returns Inv-loop μ-loop
 returns c =
     let looped = c .before in
-    let l = ap length (records-end (now (looped .before .before .args .settings)) (looped .loop .i) (c .loop-test .left)) in
+    let l = ap length (records-end (now (start looped .args .settings)) (looped .loop .i) (c .loop-test .left)) in
     omega (arith, l, looped .loop .inv .2)
 
 pub image-length-spec : {M : Type 1} → statement M

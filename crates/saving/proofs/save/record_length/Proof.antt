@@ -8,7 +8,9 @@ use Rattle.saving.proofs.save.record_length.Statement.{statement}
 use Rattle.saving.proofs.save.record_length.Tie as tie
 
 returns : tie.Need-returns
-returns c = (sym (ap length (no-record _ _ _ (c .before .before .setting-offset .ensures .0) (c .before .read-u8 .ensures) (c .if1 .taken))), search needs)
+returns c =
+    let at-setting-offset = c .before .before in
+    (sym (ap length (no-record _ _ _ (at-setting-offset .setting-offset .ensures .0) (c .before .read-u8 .ensures) (c .if1 .taken))), search needs)
 
 returns-2 : tie.Need-returns-2
 returns-2 c =

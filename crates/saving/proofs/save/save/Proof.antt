@@ -24,19 +24,21 @@ returns-2 c =
 
 write-image-requires : tie.Need-write-image-requires
 write-image-requires c κs =
-    let valid = c .before .before .before in
-    (passed _ _ (valid .before .settings-are-valid .ensures) (valid .if1 .left), omega (arith, c .before .before .image-length .ensures))
+    let at-image-length = c .before .before in
+    let valid = at-image-length .before in
+    (passed _ _ (valid .before .settings-are-valid .ensures) (valid .if1 .left), omega (arith, at-image-length .image-length .ensures))
 
 returns-3 : tie.Need-returns-3
 unfolding saveReport saving
 returns-3 c =
-    let room = c .before .before .before .before in
+    let at-write-image = c .before .before in
+    let room = at-write-image .before .before in
     let valid = room .before .before in
     rw (
       passed _ _ (valid .before .settings-are-valid .ensures) (valid .if1 .left),
       ← room .before .image-length .ensures,
       le-ltb _ _ (room .if2 .left),
-      c .before .before .write-image .ensures,
+      at-write-image .write-image .ensures,
     )
 
 pub save-spec : {M : Type 1} → statement M

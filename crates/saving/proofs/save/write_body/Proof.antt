@@ -12,16 +12,18 @@ same-length : tie.Need-same-length
 same-length c =
     let size = c .before .before .before .before .before in
     let edition = size .before .before .before .before in
-    c .before .out4 .given ∙ size .out3 .given ∙ edition .out2 .given ∙ simp length-set (edition .before .before .before .before .before .out .given)
+    let at-out = edition .before .before .before .before .before in
+    c .before .out4 .given ∙ size .out3 .given ∙ edition .out2 .given ∙ simp length-set (at-out .out .given)
 
 returns : tie.Need-returns
 returns c =
-    let size = c .before .before .before .before .before .before in
+    let at-copy2 = c .before .before in
+    let size = at-copy2 .before .before .before .before in
     let edition = size .before .before .before .before in
     let read = edition .before .before in
     let mark = read .before .before .before in
     let start = mark .before .before .before .before .before in
-    rw (c .before .before .copy2 .ensures, size .write-u16 .ensures, edition .write-u32 .ensures, mark .copy .ensures, read .read-u32 .ensures)
+    rw (at-copy2 .copy2 .ensures, size .write-u16 .ensures, edition .write-u32 .ensures, mark .copy .ensures, read .read-u32 .ensures)
     (body-put _ _ _ _ _ _ _ (omega (arith, start .fits .key)) (omega (arith, start .pre .0)) (start .pre .1 .1))
 
 pub write-body-spec : {M : Type 1} → statement M

@@ -23,6 +23,10 @@ Inv-loop settings out₀ at₀ i₀ t5 out at i =
 abbrev μ-loop : tie.MeasureT-loop
 μ-loop settings out₀ at₀ i₀ t5 out at i = saved-count - i
 
+-- places of the walk, each from a later one
+abbrev start : tie.At-loop Inv-loop μ-loop → tie.Start Inv-loop μ-loop
+start c = c .before .before .before
+
 loop-holds : tie.Need-loop-holds Inv-loop μ-loop
 unfolding imageBytes
 loop-holds c = (search needs, search needs, search needs, refl)
@@ -30,7 +34,7 @@ loop-holds c = (search needs, search needs, search needs, refl)
 write-record-requires : tie.Need-write-record-requires Inv-loop μ-loop
 write-record-requires c κs =
     let looped = c .before .before in
-    let l = length-on (now (looped .before .before .before .args .settings)) (looped .loop .i) (c .before .loop-test .taken) in
+    let l = length-on (now (start looped .args .settings)) (looped .loop .i) (c .before .loop-test .taken) in
     (search needs, (saved-key _ (c .before .loop-test .taken), omega (arith, l, looped .loop .inv .2)))
 
 loop-again : tie.Need-loop-again Inv-loop μ-loop
@@ -38,7 +42,7 @@ loop-again c =
     let put = c .before .before .write-record in
     let left = c .before .before .before .before in
     let looped = left .before in
-    let s = now (looped .before .before .before .args .settings) in
+    let s = now (start looped .args .settings) in
     let l = length-on s (looped .loop .i) (left .loop-test .taken) in (
       search needs,
       search needs,
@@ -48,10 +52,11 @@ loop-again c =
 
 returns : tie.Need-returns Inv-loop μ-loop
 returns c =
-    let over = c .before .before .before .before .before in
+    let at-copy = c .before .before in
+    let over = at-copy .before .before .before in
     let looped = over .before in
-    c .before .before .copy .ensures
-    ∙ end-put (now (looped .before .before .before .args .settings)) _ (looped .loop .i) _ (over .loop-test .left) (looped .loop .inv .2)
+    at-copy .copy .ensures
+    ∙ end-put (now (start looped .args .settings)) _ (looped .loop .i) _ (over .loop-test .left) (looped .loop .inv .2)
     ∙ looped .loop .inv .3
 
 pub write-image-spec : {M : Type 1} → statement M

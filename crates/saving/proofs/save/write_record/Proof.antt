@@ -12,20 +12,23 @@ use Rattle.saving.proofs.save.write_record.Tie as tie
 
 returns : tie.Need-returns
 returns c =
-    let e = no-record _ _ _ (c .before .before .setting-offset .ensures .0) (c .before .read-u8 .ensures) (c .if1 .taken) in
+    let at-setting-offset = c .before .before in
+    let e = no-record _ _ _ (at-setting-offset .setting-offset .ensures .0) (c .before .read-u8 .ensures) (c .if1 .taken) in
     (rw (e, add-zero), rw e (sym (overlay-none _ _)))
 
 write-body-requires : tie.Need-write-body-requires
 write-body-requires c κs =
-    let held = c .before .before .before in
+    let else1 = c .before .before in
+    let held = else1 .before in
     let p = held .before .before .before .before .pre in
     let offset = held .before .setting-offset .ensures .0 in
-    let h = held-record _ _ _ offset (held .read-u8 .ensures) (c .before .word-at .ensures .0) (c .before .before .if1 .left) (p .0) (p .1 .0) in
+    let h = held-record _ _ _ offset (held .read-u8 .ensures) (c .before .word-at .ensures .0) (else1 .if1 .left) (p .0) (p .1 .0) in
     (omega (arith, h .within), (search needs, omega (arith, h .size)))
 
 returns-2 : tie.Need-returns-2
 returns-2 c =
-    let sum = c .before .before .before .before in
+    let at-write-u16 = c .before .before in
+    let sum = at-write-u16 .before .before in
     let body = sum .before .before .before .before in
     let size = body .before .before in
     let held = size .before .before in
@@ -35,7 +38,7 @@ returns-2 c =
     let room = h .size in (
       rw (h .size),
       rw (h .its-bytes)
-          (c .before .before .write-u16 .ensures
+          (at-write-u16 .write-u16 .ensures
           ∙ record-put _ _ _ _ _ _ _ (omega (arith, start .fits .key)) (h .within) (omega arith) (omega arith) (body .write-body .ensures) (sum .checksum-of .ensures)),
     )
 

@@ -15,39 +15,50 @@ returns c = rw (refused _ _ (c .before .stores-are-valid .ensures) (c .if1 .take
 
 returns-2 : tie.Need-returns-2
 unfolding editionReport editionResult
-returns-2 c = rw (passed _ _ (c .before .before .stores-are-valid .ensures) (c .before .if1 .left), lt-ltb _ _ (c .if2 .taken))
+returns-2 c =
+    let at-stores-are-valid = c .before .before in
+    rw (passed _ _ (at-stores-are-valid .stores-are-valid .ensures) (c .before .if1 .left), lt-ltb _ _ (c .if2 .taken))
 
 returns-3 : tie.Need-returns-3
 unfolding editionReport editionAt
 returns-3 c =
     let found = c .before .before .before in
-    let v = passed _ _ (found .before .before .before .stores-are-valid .ensures) (found .before .before .if1 .left) in
+    let else1 = found .before .before in
+    let at-stores-are-valid = else1 .before in
+    let v = passed _ _ (at-stores-are-valid .stores-are-valid .ensures) (else1 .if1 .left) in
     rw (edition-found _ _ _ _ v (found .before .if2 .left) (found .find .ensures), c .enum-told .given .1)
 
 returns-4 : tie.Need-returns-4
 unfolding editionReport editionAt
 returns-4 c =
-    let found = c .before .before .before .before in
-    let v = passed _ _ (found .before .before .before .stores-are-valid .ensures) (found .before .before .if1 .left) in
+    let at-setting-offset = c .before .before .before in
+    let found = at-setting-offset .before in
+    let else1 = found .before .before in
+    let at-stores-are-valid = else1 .before in
+    let v = passed _ _ (at-stores-are-valid .stores-are-valid .ensures) (else1 .if1 .left) in
     rw (
       edition-found _ _ _ _ v (found .before .if2 .left) (found .find .ensures),
       c .before .enum-told2 .given .1,
       c .read-u32 .ensures,
-      c .before .before .before .setting-offset .ensures .0,
+      at-setting-offset .setting-offset .ensures .0,
     )
 
 returns-5 : tie.Need-returns-5
 unfolding editionReport editionAt
 returns-5 c =
     let found = c .before .before .before in
-    let v = passed _ _ (found .before .before .before .stores-are-valid .ensures) (found .before .before .if1 .left) in
+    let else1 = found .before .before in
+    let at-stores-are-valid = else1 .before in
+    let v = passed _ _ (at-stores-are-valid .stores-are-valid .ensures) (else1 .if1 .left) in
     rw (edition-found _ _ _ _ v (found .before .if2 .left) (found .find .ensures), c .enum-told3 .given .1)
 
 returns-6 : tie.Need-returns-6
 unfolding editionReport editionAt
 returns-6 c =
     let found = c .before .before .before in
-    let v = passed _ _ (found .before .before .before .stores-are-valid .ensures) (found .before .before .if1 .left) in
+    let else1 = found .before .before in
+    let at-stores-are-valid = else1 .before in
+    let v = passed _ _ (at-stores-are-valid .stores-are-valid .ensures) (else1 .if1 .left) in
     rw (edition-found _ _ _ _ v (found .before .if2 .left) (found .find .ensures), c .enum-told4 .given .1)
 
 pub edition-spec : {M : Type 1} → statement M

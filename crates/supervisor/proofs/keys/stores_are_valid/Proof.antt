@@ -11,4 +11,5 @@ stores-are-valid-spec =
     tie.close
     (tie.spec
     (λ c κs. search needs) (λ c. rw (refused _ _ (c .before .factory-is-valid .ensures) (c .if1 .taken))) (λ c κs. search needs)
-    (λ c. rw (passed _ _ (c .before .before .factory-is-valid .ensures) (c .before .if1 .left)) (c .settings-are-valid .ensures)))
+    (λ c. let at-factory-is-valid = c .before .before in
+    rw (passed _ _ (at-factory-is-valid .factory-is-valid .ensures) (c .before .if1 .left)) (c .settings-are-valid .ensures)))

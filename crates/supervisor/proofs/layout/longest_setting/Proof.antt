@@ -26,7 +26,9 @@ returns-4 c = (rw (c .if4 .taken), omega arith)
 
 returns-5 : tie.Need-returns-5
 unfolding longest-setting
-returns-5 c = (rw (List·getD-eq-default longest-settings 0 {n = c .before .before .before .before .args .key - first-setting} (omega arith)), omega arith)
+returns-5 c =
+    let start = c .before .before .before .before in
+    (rw (List·getD-eq-default longest-settings 0 {n = start .args .key - first-setting} (omega arith)), omega arith)
 
 pub longest-setting-spec : {M : Type 1} → statement M
 longest-setting-spec = tie.close (tie.spec returns returns-2 returns-3 returns-4 returns-5)

@@ -27,7 +27,9 @@ returns-4 c = (rw (c .if4 .taken), omega arith)
 
 returns-5 : tie.Need-returns-5
 unfolding setting-offset
-returns-5 c = (rw (take-all (c .before .before .before .before .args .key - first-setting) longest-settings (omega arith)), omega arith)
+returns-5 c =
+    let start = c .before .before .before .before in
+    (rw (take-all (start .args .key - first-setting) longest-settings (omega arith)), omega arith)
 
 pub setting-offset-spec : {M : Type 1} → statement M
 setting-offset-spec = tie.close (tie.spec returns returns-2 returns-3 returns-4 returns-5)

@@ -13,15 +13,18 @@ returns c = options-refused _ _ (sym (c .before .registers-are-valid .ensures) �
 
 returns-2 : tie.Need-returns-2
 returns-2 c =
-    options-bad _ _ (passed _ _ (c .before .before .before .registers-are-valid .ensures) (c .before .before .if1 .left))
+    let else1 = c .before .before in
+    let at-registers-are-valid = else1 .before in
+    options-bad _ _ (passed _ _ (at-registers-are-valid .registers-are-valid .ensures) (else1 .if1 .left))
     (sym (c .before .options-are-allowed .ensures) ∙ not-true _ (c .if2 .taken))
 
 returns-3 : tie.Need-returns-3
 returns-3 c =
-    let allowed = c .before .before .before .before in
-    let start = allowed .before .before in
-    options-done _ _ (passed _ _ (start .before .registers-are-valid .ensures) (start .if1 .left))
-    (passed _ _ (allowed .before .options-are-allowed .ensures) (allowed .if2 .left)) (c .before .before .write-u64 .ensures)
+    let at-write-u64 = c .before .before in
+    let allowed = at-write-u64 .before .before in
+    let else1 = allowed .before .before in
+    options-done _ _ (passed _ _ (else1 .before .registers-are-valid .ensures) (else1 .if1 .left))
+    (passed _ _ (allowed .before .options-are-allowed .ensures) (allowed .if2 .left)) (at-write-u64 .write-u64 .ensures)
 
 pub set-options-spec : {M : Type 1} → statement M
 set-options-spec =

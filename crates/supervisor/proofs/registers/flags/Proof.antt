@@ -14,8 +14,10 @@ returns c = rw (refused _ _ (c .before .registers-are-valid .ensures) (c .if1 .t
 returns-2 : tie.Need-returns-2
 unfolding flagsReport flagsOf
 returns-2 c =
+    let else1 = c .before .before in
+    let at-registers-are-valid = else1 .before in
     rw (
-      passed _ _ (c .before .before .before .registers-are-valid .ensures) (c .before .before .if1 .left),
+      passed _ _ (at-registers-are-valid .registers-are-valid .ensures) (else1 .if1 .left),
       ← c .before .byte-at .ensures .0,
       ← c .byte-at2 .ensures .0,
     )

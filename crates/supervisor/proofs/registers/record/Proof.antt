@@ -10,6 +10,10 @@ use Rattle.supervisor.proofs.ReadingLaws.{record-found}
 use Rattle.supervisor.proofs.registers.record.Statement.{statement}
 use Rattle.supervisor.proofs.registers.record.Tie as tie
 
+-- places of the walk, each from a later one
+abbrev at-registers-are-valid : tie.After-record-offset → tie.After-registers-are-valid
+at-registers-are-valid c = c .before .before
+
 returns : tie.Need-returns
 unfolding recordReport recordOf
 returns c = rw (refused _ _ (c .before .registers-are-valid .ensures) (c .if1 .taken))
@@ -19,7 +23,7 @@ unfolding recordReport recordAt recordOf
 returns-2 c =
     let at = c .before .before in
     rw (
-      passed _ _ (at .before .before .registers-are-valid .ensures) (at .before .if1 .left),
+      passed _ _ (at-registers-are-valid at .registers-are-valid .ensures) (at .before .if1 .left),
       ← at .record-offset .ensures .0,
       ← c .before .byte-at .ensures .0,
       ne-eqb _ _ (c .if2 .taken),
@@ -28,11 +32,12 @@ returns-2 c =
 returns-3 : tie.Need-returns-3
 unfolding recordReport recordOf
 returns-3 c =
-    let held = c .before .before .before in
+    let at-word-at = c .before .before in
+    let held = at-word-at .before in
     let at = held .before .before in
     let h = sym (held .before .byte-at .ensures .0) ∙ held .if2 .left in
-    rw (passed _ _ (at .before .before .registers-are-valid .ensures) (at .before .if1 .left), ← at .record-offset .ensures .0)
-    (ap is (record-found _ _ _ _ _ h (c .before .before .word-at .ensures .0) (c .before .word-at2 .ensures .0) (c .kept .ensures .0)))
+    rw (passed _ _ (at-registers-are-valid at .registers-are-valid .ensures) (at .before .if1 .left), ← at .record-offset .ensures .0)
+    (ap is (record-found _ _ _ _ _ h (at-word-at .word-at .ensures .0) (c .before .word-at2 .ensures .0) (c .kept .ensures .0)))
 
 pub record-spec : {M : Type 1} → statement M
 record-spec =

@@ -10,35 +10,44 @@ use Rattle.supervisor.proofs.ValidLaws.{passed, registers-valid}
 use Rattle.supervisor.proofs.registers.record_bytes.Statement.{statement}
 use Rattle.supervisor.proofs.registers.record_bytes.Tie as tie
 
+-- places of the walk, each from a later one
+abbrev registers-are-valid-of : tie.After-record-offset → tie.After-registers-are-valid
+registers-are-valid-of c = c .before .before
+
 returns : tie.Need-returns
 unfolding recordBytes
-returns c = rw (refused _ _ (c .before .before .registers-are-valid .ensures) (c .before .if1 .taken))
+returns c =
+    let at-registers-are-valid = c .before .before in
+    rw (refused _ _ (at-registers-are-valid .registers-are-valid .ensures) (c .before .if1 .taken))
 
 returns-2 : tie.Need-returns-2
 unfolding recordBytes
 returns-2 c =
-    let at = c .before .before .before in
+    let at-byte-at = c .before .before in
+    let at = at-byte-at .before in
     rw (
-      passed _ _ (at .before .before .registers-are-valid .ensures) (at .before .if1 .left),
+      passed _ _ (registers-are-valid-of at .registers-are-valid .ensures) (at .before .if1 .left),
       ← at .record-offset .ensures .0,
-      ← c .before .before .byte-at .ensures .0,
+      ← at-byte-at .byte-at .ensures .0,
       ne-eqb _ _ (c .before .if2 .taken),
     )
 
 part-result-end-3 : tie.Need-part-result-end-3
 part-result-end-3 c =
     let at = c .before .before .before in
-    omega (arith, registers-valid _ (passed _ _ (at .before .before .registers-are-valid .ensures) (at .before .if1 .left)) .long)
+    omega (arith, registers-valid _ (passed _ _ (registers-are-valid-of at .registers-are-valid .ensures) (at .before .if1 .left)) .long)
 
 returns-3 : tie.Need-returns-3
 unfolding recordBytes
 returns-3 c =
-    let at = c .before .before .before .before in
+    let else2 = c .before .before in
+    let at-byte-at = else2 .before in
+    let at = at-byte-at .before in
     rw (
-      passed _ _ (at .before .before .registers-are-valid .ensures) (at .before .if1 .left),
+      passed _ _ (registers-are-valid-of at .registers-are-valid .ensures) (at .before .if1 .left),
       ← at .record-offset .ensures .0,
-      ← c .before .before .before .byte-at .ensures .0,
-      eq-eqb _ _ (c .before .before .if2 .left),
+      ← at-byte-at .byte-at .ensures .0,
+      eq-eqb _ _ (else2 .if2 .left),
       ← c .before .kept .ensures .0,
       add-sub-cancel-left,
     )

@@ -15,8 +15,10 @@ returns c = rw (refused _ _ (c .before .registers-are-valid .ensures) (c .if1 .t
 returns-2 : tie.Need-returns-2
 unfolding signalReport signalOf
 returns-2 c =
+    let else1 = c .before .before in
+    let at-registers-are-valid = else1 .before in
     rw (
-      passed _ _ (c .before .before .before .registers-are-valid .ensures) (c .before .before .if1 .left),
+      passed _ _ (at-registers-are-valid .registers-are-valid .ensures) (else1 .if1 .left),
       ← c .before .read-u64 .ensures,
       eq-eqb _ _ (c .if2 .taken),
     )
@@ -24,8 +26,10 @@ returns-2 c =
 returns-3 : tie.Need-returns-3
 unfolding signalReport signalOf
 returns-3 c =
+    let else1 = c .before .before in
+    let at-registers-are-valid = else1 .before in
     rw (
-      passed _ _ (c .before .before .before .registers-are-valid .ensures) (c .before .before .if1 .left),
+      passed _ _ (at-registers-are-valid .registers-are-valid .ensures) (else1 .if1 .left),
       ← c .before .read-u64 .ensures,
       ne-eqb _ _ (c .if2 .left),
     )

@@ -12,9 +12,9 @@ returns : tie.Need-returns
 returns c =
     let text = c .before .before in
     let version = text .before .before .before .before .before in
-    let start = version .before .before .before .before in
+    let at-copy = version .before .before .before .before in
     stored start-length 4 4 _ _ _ _ _ _ _ (search needs) (length-bytes 4 0) refl (search needs)
-    (start .copy .ensures) (version .write-u32 .ensures) (text .copy2 .ensures)
+    (at-copy .copy .ensures) (version .write-u32 .ensures) (text .copy2 .ensures)
 
 pub set-factory-spec : {M : Type 1} → statement M
 set-factory-spec =

@@ -25,9 +25,10 @@ records-and-alerts-are-valid-spec =
     (λ c. untrue _ (λ e. omega (arith, records-and-alerts-valid _ e)))
     (λ c κs. search needs)
     (λ c.
+    let at-byte-at = c .before .before .before in
     untrue _ (λ e.
     failed _ _ (c .before .alerts-are-valid .ensures) (c .if5 .taken)
-    (rw (c .before .before .before .byte-at .ensures .0) (records-and-alerts-valid _ e .alerts))))
+    (rw (at-byte-at .byte-at .ensures .0) (records-and-alerts-valid _ e .alerts))))
     (λ c κs. search needs)
     (λ c. untrue _ (λ e. omega (arith, records-and-alerts-valid _ e)))
     (λ c κs. search needs)

@@ -20,9 +20,10 @@ start-is-good-spec =
     (λ c κs. search needs)
     (λ c.
     let counted = c .before .before in
+    let joined1 = counted .before .before .before in
     alike _ _
     (λ t. good-start _ (record {
-      bsu = ⊎-elim (λ w. inr (omega arith)) (λ w. inl (omega arith)) (counted .before .before .before .if1 .came);
+      bsu = ⊎-elim (λ w. inr (omega arith)) (λ w. inl (omega arith)) (joined1 .if1 .came);
       image = search needs;
       count = search needs;
       items = rw (← counted .read-u32 .ensures, ← c .items-are-good .ensures) t;

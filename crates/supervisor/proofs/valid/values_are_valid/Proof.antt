@@ -20,17 +20,19 @@ returns : tie.Need-returns Inv-loop μ-loop
 returns c =
     let longest = c .before .before in
     let shortest = longest .before in
+    let in-loop = shortest .before .before in
     untrue _ (λ e.
     failed _ _ (c .before .setting-is-valid .ensures) (c .if1 .taken)
     (rw (shortest .before .setting-offset .ensures .0, shortest .shortest-setting .ensures, longest .longest-setting .ensures .0)
-    (all-each _ _ e _ (shortest .before .before .loop-test .taken))))
+    (all-each _ _ e _ (in-loop .loop-test .taken))))
 
 loop-again : tie.Need-loop-again Inv-loop μ-loop
 loop-again c =
     let longest = c .before .before in
-    let shortest = longest .before in (
+    let shortest = longest .before in
+    let at-loop = shortest .before .before .before in (
       search needs,
-      all-more _ _ (shortest .before .before .before .loop .inv .1)
+      all-more _ _ (at-loop .loop .inv .1)
           (rw (← shortest .before .setting-offset .ensures .0, ← shortest .shortest-setting .ensures, ← longest .longest-setting .ensures .0)
           (passed _ _ (c .before .setting-is-valid .ensures) (c .if1 .left))),
     )

@@ -8,4 +8,5 @@ use Rattle.text_lines.proofs.fields.behind_key.Statement.{statement}
 use Rattle.text_lines.proofs.fields.behind_key.Tie as tie
 
 pub behind-key-spec : {M : Type 1} → statement M
-behind-key-spec = tie.close (tie.spec (λ c κs. search needs) (λ c. c .part .ensures ∙ rest 2 (now (c .before .before .args .line))))
+behind-key-spec = tie.close (tie.spec (λ c κs. search needs)
+    (λ c. let start = c .before .before in c .part .ensures ∙ rest 2 (now (start .args .line))))

@@ -17,15 +17,21 @@ returns-2 c = let b = c .before .before .args .b in (rw (le-leb 48 b (omega arit
 
 returns-3 : tie.Need-returns-3
 unfolding digit
-returns-3 c = let b = c .before .before .before .args .b in (rw (le-leb 48 b (omega arith), lt-leb b 57 (omega arith), lt-leb 97 b (omega arith)), omega arith)
+returns-3 c =
+    let b = c .before .before .before .args .b in
+    (rw (le-leb 48 b (omega arith), lt-leb b 57 (omega arith), lt-leb 97 b (omega arith)), omega arith)
 
 returns-4 : tie.Need-returns-4
 unfolding digit
-returns-4 c = let b = c .before .before .before .before .args .b in (rw (le-leb 48 b (omega arith), lt-leb b 57 (omega arith), le-leb 97 b (omega arith), le-leb b 102 (omega arith)), omega arith)
+returns-4 c =
+    let b = c .before .before .before .before .args .b in
+    (rw (le-leb 48 b (omega arith), lt-leb b 57 (omega arith), le-leb 97 b (omega arith), le-leb b 102 (omega arith)), omega arith)
 
 returns-5 : tie.Need-returns-5
 unfolding digit
-returns-5 c = let b = c .before .before .before .before .args .b in (rw (le-leb 48 b (omega arith), lt-leb b 57 (omega arith), le-leb 97 b (omega arith), lt-leb b 102 (omega arith)), omega arith)
+returns-5 c =
+    let b = c .before .before .before .before .args .b in
+    (rw (le-leb 48 b (omega arith), lt-leb b 57 (omega arith), le-leb 97 b (omega arith), lt-leb b 102 (omega arith)), omega arith)
 
 pub digit-spec : {M : Type 1} → statement M
 digit-spec =

@@ -16,12 +16,15 @@ abbrev μ-loop : tie.MeasureT-loop
 μ-loop line k left₀ i₀ left i = length line - i
 
 returns : tie.Need-returns Inv-loop μ-loop
-returns c = sym (field-here _) ∙ rw (c .if1 .taken) at (c .before .before .loop .inv)
+returns c =
+    let at-loop = c .before .before in
+    sym (field-here _) ∙ rw (c .if1 .taken) at (at-loop .loop .inv)
 
 loop-again : tie.Need-loop-again Inv-loop μ-loop
 loop-again c =
-    let l = c .before .before .before .before .loop in
-    rw (c .spaces-left .ensures) (sym (field-next (l .left) (l .i) _ (search needs) (c .before .before .if1 .left)) ∙ l .inv)
+    let else1 = c .before .before in
+    let l = else1 .before .before .loop in
+    rw (c .spaces-left .ensures) (sym (field-next (l .left) (l .i) _ (search needs) (else1 .if1 .left)) ∙ l .inv)
 
 returns-2 : tie.Need-returns-2 Inv-loop μ-loop
 returns-2 c = let l = c .before .loop in sym (field-end (l .left) (l .i) _ (search needs)) ∙ l .inv

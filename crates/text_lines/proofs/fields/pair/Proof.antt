@@ -11,7 +11,9 @@ use Rattle.text_lines.proofs.fields.pair.Tie as tie
 returns-2 : tie.Need-returns-2
 unfolding pairAt
 returns-2 c =
-    rw (← c .before .before .before .read-u8 .ensures, ← c .before .read-u82 .ensures, ← c .before .before .digit .ensures .0, ← c .digit2 .ensures .0)
+    let at-digit = c .before .before in
+    let at-read-u8 = at-digit .before in
+    rw (← at-read-u8 .read-u8 .ensures, ← c .before .read-u82 .ensures, ← at-digit .digit .ensures .0, ← c .digit2 .ensures .0)
 
 pub pair-spec : {M : Type 1} → statement M
 pair-spec =

@@ -8,20 +8,27 @@ use Rattle.text_lines.proofs.pieces.how_many.Tie as tie
 
 returns : tie.Need-returns
 unfolding adds
-returns c = rw (← c .before .before .key .ensures, eq-eqb _ 43 (c .before .if1 .taken), ← c .behind-key .ensures)
+returns c =
+    let at-key = c .before .before in
+    rw (← at-key .key .ensures, eq-eqb _ 43 (c .before .if1 .taken), ← c .behind-key .ensures)
 
 returns-2 : tie.Need-returns-2
 unfolding adds
 returns-2 c =
-    rw (← c .before .before .before .key .ensures, ne-eqb _ 43 (c .before .before .if1 .left), eq-eqb _ 42 (c .before .if2 .taken)) (c .count .ensures)
+    let else1 = c .before .before in
+    let at-key = else1 .before in
+    rw (← at-key .key .ensures, ne-eqb _ 43 (else1 .if1 .left), eq-eqb _ 42 (c .before .if2 .taken)) (c .count .ensures)
 
 returns-3 : tie.Need-returns-3
 unfolding adds
 returns-3 c =
+    let else2 = c .before .before in
+    let else1 = else2 .before in
+    let at-key = else1 .before in
     rw (
-      ← c .before .before .before .before .key .ensures,
-      ne-eqb _ 43 (c .before .before .before .if1 .left),
-      ne-eqb _ 42 (c .before .before .if2 .left),
+      ← at-key .key .ensures,
+      ne-eqb _ 43 (else1 .if1 .left),
+      ne-eqb _ 42 (else2 .if2 .left),
       eq-eqb _ 60 (c .before .if3 .taken),
     )
     (c .count2 .ensures)
@@ -29,9 +36,11 @@ returns-3 c =
 returns-4 : tie.Need-returns-4
 unfolding adds
 returns-4 c =
+    let else1 = c .before .before in
+    let at-key = else1 .before in
     rw (
-      ← c .before .before .before .key .ensures,
-      ne-eqb _ 43 (c .before .before .if1 .left),
+      ← at-key .key .ensures,
+      ne-eqb _ 43 (else1 .if1 .left),
       ne-eqb _ 42 (c .before .if2 .left),
       ne-eqb _ 60 (c .if3 .left),
     )

@@ -19,16 +19,20 @@ returns c = rw (eq-eqb _ 0 (c .if1 .taken))
 returns-2 : tie.Need-returns-2
 unfolding lastAgain
 returns-2 c =
-    let a = c .before .before .before .before .args in
+    let else1 = c .before .before in
+    let a = else1 .before .before .args in
     let e : length (now (a .piece)) - a .back ≡ 0 = omega arith in
-    rw (ne-eqb (a .back) 0 (c .before .before .if1 .left), e, zero-add) (c .read-u8 .ensures)
+    rw (ne-eqb (a .back) 0 (else1 .if1 .left), e, zero-add) (c .read-u8 .ensures)
 
 add-read-u8 : tie.Need-add-read-u8
 add-read-u8 c = let a = c .before .before .before .args in omega (arith, mod-lt (a .j) {m = a .back} (search needs))
 
 returns-3 : tie.Need-returns-3
 unfolding lastAgain
-returns-3 c = rw (ne-eqb (c .before .before .before .before .args .back) 0 (c .before .before .if1 .left)) (c .read-u82 .ensures)
+returns-3 c =
+    let else1 = c .before .before in
+    let start = else1 .before .before in
+    rw (ne-eqb (start .args .back) 0 (else1 .if1 .left)) (c .read-u82 .ensures)
 
 pub last-again-spec : {M : Type 1} → statement M
 last-again-spec =
