@@ -36,9 +36,9 @@ def promises(found):
             parts = module.split('.')
             front = '::'.join([parts[0]] + [part for part in parts[2:] if part not in ('lib', 'main')])
             for name, first, contract in functions(source):
-                ensures = '\n'.join(re.findall(r'^ *ensures \{(.*)\}$', contract, re.M))
                 last = first + contract.count('\n')
-                yield f'{front}::{name}', sources.Item(name, 'law', True, module, source.path, first, last, ensures, [bound(contract)], [])
+                told = '\n'.join(sources.ensured(contract))
+                yield f'{front}::{name}', sources.Item(name, 'law', True, module, source.path, first, last, told, [bound(contract)], [])
 
 
 def statements(found):

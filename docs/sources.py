@@ -60,6 +60,12 @@ def canonical(path):
     return '.'.join([match.group(1)] + parts)
 
 
+def ensured(head):
+    """What each `ensures` of a contract says, in one line; `head` is a function's text between its name and its body."""
+    found = re.findall(r'^ *ensures \{(.*?)\}$(?=\s*(?:(?:requires|ensures) \{|\Z))', head, re.M | re.S)
+    return [' '.join(text.split()) for text in found]
+
+
 class File:
     """A file of antt or of Rattle: its module, its imports, its items."""
 
@@ -169,7 +175,7 @@ def binders(text):
 
 def fields(text):
     """The names that stand ahead of = in a record or a named argument: { x = .., ; y = .. }."""
-    return {match.start(1) for match in re.finditer(r'(?:[{;]|^)\s*([^\s(){}:=;,]+) = ', text, re.M)}
+    return {match.start(1) for match in re.finditer(r'(?:[{;]|^)\s*([^\s(){}:=;,]+) =(?=\s)', text, re.M)}
 
 
 def clause_variables(item):

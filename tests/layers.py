@@ -12,6 +12,9 @@ import re
 import sys
 
 ROOT = pathlib.Path(__file__).resolve().parent.parent
+sys.path.insert(0, str(ROOT / 'docs'))
+import sources  # noqa: E402
+
 LINE = ROOT / 'crates' / 'line'
 # line·specs.specs.Reader inside the crate, line.specs.Reader above it; a name in the module may follow
 NAME = re.compile(r'Rattle.line(?![\w-])((?:[·.][\w-]+)*)')
@@ -44,8 +47,8 @@ def cited(text):
     """The modules of line's specs whose names stand in an `ensures` of a public function."""
     uses = re.findall(r'^ghost use (Rattle.line[^;{]*)\.\{(.*)\};$', text, re.M)
     found = set()
-    for function, head in re.findall(r'^ *pub fn (\w+)(.*?)\{$', text, re.M | re.S):
-        words = set(re.findall(r'[^\s(){}⌜⌝,;]+', ' '.join(re.findall(r'^ *ensures \{(.*)\}$', head, re.M))))
+    for function, head in re.findall(r'^ *pub fn (\w+)(.*?)(?<!record )\{$', text, re.M | re.S):
+        words = set(re.findall(r'[^\s(){}⌜⌝,;]+', ' '.join(sources.ensured(head))))
         modules = {name for path, names in uses if words.intersection(names.split(', ')) for name in named(path)}
         if not modules:
             sys.exit(f'layers: the contract of line\'s public function {function} cites no definition of line')

@@ -81,7 +81,7 @@ def elements(found, record):
             for item in file.items:
                 if item.told.split(' : ', 1)[-1].strip() == record.name and found.resolved(file, record.name) is record:
                     body = '\n'.join(file.bare[item.first:file.end(item.first - 1, 0)])
-                    yield item, set(re.findall(r'(?:[{;]|^)\s*([^\s(){}=;]+) = ', body.partition('record {')[2], re.M))
+                    yield item, set(re.findall(r'(?:[{;]|^)\s*([^\s(){}=;]+) =(?=\s)', body.partition('record {')[2], re.M))
 
 
 def record_faults(found):
@@ -149,7 +149,7 @@ def row_faults(found, count):
             if not match:
                 yield f'{file.own["did"].place}: did has no row {call}'
                 continue
-            row = list(row_calls(found, file, match.group(1)))
+            row = list(row_calls(found, file, ' '.join(match.group(1).split())))
             wanted = [promised(found, path, names) for path in functions]
             count[0] += len(wanted)
             if row != wanted:

@@ -19,7 +19,7 @@ SIGNS = {'[]': 'nil-sign', '!': 'bang-sign'}
 USE = re.compile(r'^(ghost )?use ([^;{\n]+?)(?:\.\{([^}\n]*)\})?;?$', re.M)
 HEAD = re.compile(r'^( *)(?:abbrev |unfoldable |pub )*([^\s(){}:=]+) :(?= )', re.M)
 # a record's fields are used where it is
-RECORD = re.compile(r'^( *)(?:pub )?record .*where\n(?:\1  .*\n)*', re.M)
+RECORD = re.compile(r'^( *)(?:pub )?record .*(?:\n\1    .*)*?where\n(?:\1  .*\n)*', re.M)
 # what a proof's tie to its function, or the language, looks up by its name
 BY_NAME = re.compile(r'^(.*-spec|Inv-.*|μ-.*)$')
 
