@@ -7,7 +7,8 @@
  * Where a length is 0, its pointer is not looked at and may be NULL. An answer has the number of places that its parameter says, and
  * overlaps neither the struct nor anything else that is lent.
  *
- * The main processor's end, for any bytes: hands in all that the wire brought, gives `handed` each answer, alert and status, and `send` the bytes that are to go out.
+ * The main processor's end, for any bytes: hands in all that the wire brought, gives `handed` each answer, alert and status, and `send` the
+ * bytes that are to go out.
  * @code
  * static uint32_t hear(oatcastle_main_end *end, const uint8_t *piece, size_t length,
  *                      void (*handed)(const uint64_t *numbers, const uint8_t *data), void (*send)(const uint8_t *bytes, size_t count))
@@ -70,35 +71,54 @@ typedef struct oatcastle_supervisor {
 /** oatcastle_start on these parts. */
 static inline uint32_t oatcastle_supervisor_start(oatcastle_supervisor *parts, const uint8_t data[OATCASTLE_START_LENGTH])
 {
-    return oatcastle_start(data, parts->reader, sizeof parts->reader, parts->outbox, sizeof parts->outbox, parts->factory, sizeof parts->factory, parts->settings, sizeof parts->settings, parts->registers, sizeof parts->registers);
+    return oatcastle_start(data, parts->reader, sizeof parts->reader, parts->outbox, sizeof parts->outbox,
+                           parts->factory, sizeof parts->factory, parts->settings, sizeof parts->settings,
+                           parts->registers, sizeof parts->registers);
 }
 
 /** oatcastle_receive on these parts. */
-static inline uint32_t oatcastle_supervisor_receive(oatcastle_supervisor *parts, const uint8_t *image, oatcastle_length image_length, const uint8_t *piece, oatcastle_length piece_length)
+static inline uint32_t oatcastle_supervisor_receive(oatcastle_supervisor *parts, const uint8_t *image, oatcastle_length image_length,
+                                                    const uint8_t *piece, oatcastle_length piece_length)
 {
-    return oatcastle_receive(oatcastle_some(image, image_length), image_length, oatcastle_some(piece, piece_length), piece_length, parts->reader, sizeof parts->reader, parts->outbox, sizeof parts->outbox, parts->factory, sizeof parts->factory, parts->settings, sizeof parts->settings, parts->registers, sizeof parts->registers);
+    return oatcastle_receive(oatcastle_some(image, image_length), image_length, oatcastle_some(piece, piece_length), piece_length,
+                             parts->reader, sizeof parts->reader, parts->outbox, sizeof parts->outbox,
+                             parts->factory, sizeof parts->factory, parts->settings, sizeof parts->settings,
+                             parts->registers, sizeof parts->registers);
 }
 
 /** oatcastle_step on these parts. */
-static inline uint32_t oatcastle_supervisor_step(oatcastle_supervisor *parts, const uint8_t *image, oatcastle_length image_length, const uint8_t *piece, oatcastle_length piece_length, uint64_t answer[OATCASTLE_STEP_NUMBERS])
+static inline uint32_t oatcastle_supervisor_step(oatcastle_supervisor *parts, const uint8_t *image, oatcastle_length image_length,
+                                                 const uint8_t *piece, oatcastle_length piece_length,
+                                                 uint64_t answer[OATCASTLE_STEP_NUMBERS])
 {
-    return oatcastle_step(oatcastle_some(image, image_length), image_length, oatcastle_some(piece, piece_length), piece_length, parts->reader, sizeof parts->reader, parts->outbox, sizeof parts->outbox, parts->factory, sizeof parts->factory, parts->settings, sizeof parts->settings, parts->registers, sizeof parts->registers, answer, OATCASTLE_STEP_NUMBERS);
+    return oatcastle_step(oatcastle_some(image, image_length), image_length, oatcastle_some(piece, piece_length), piece_length,
+                          parts->reader, sizeof parts->reader, parts->outbox, sizeof parts->outbox, parts->factory, sizeof parts->factory,
+                          parts->settings, sizeof parts->settings, parts->registers, sizeof parts->registers,
+                          answer, OATCASTLE_STEP_NUMBERS);
 }
 
 /** oatcastle_receive_counted on these parts. */
-static inline uint32_t oatcastle_supervisor_receive_counted(oatcastle_supervisor *parts, oatcastle_counters *counters, const uint8_t *image, oatcastle_length image_length, const uint8_t *piece, oatcastle_length piece_length)
+static inline uint32_t oatcastle_supervisor_receive_counted(oatcastle_supervisor *parts, oatcastle_counters *counters,
+                                                            const uint8_t *image, oatcastle_length image_length,
+                                                            const uint8_t *piece, oatcastle_length piece_length)
 {
-    return oatcastle_receive_counted(counters, oatcastle_some(image, image_length), image_length, oatcastle_some(piece, piece_length), piece_length, parts->reader, sizeof parts->reader, parts->outbox, sizeof parts->outbox, parts->factory, sizeof parts->factory, parts->settings, sizeof parts->settings, parts->registers, sizeof parts->registers);
+    return oatcastle_receive_counted(counters, oatcastle_some(image, image_length), image_length,
+                                     oatcastle_some(piece, piece_length), piece_length, parts->reader, sizeof parts->reader,
+                                     parts->outbox, sizeof parts->outbox, parts->factory, sizeof parts->factory,
+                                     parts->settings, sizeof parts->settings, parts->registers, sizeof parts->registers);
 }
 
 /** oatcastle_take on these parts. */
-static inline uint32_t oatcastle_supervisor_take(oatcastle_supervisor *parts, uint8_t *room, oatcastle_length room_length, uint64_t answer[OATCASTLE_TAKE_NUMBERS])
+static inline uint32_t oatcastle_supervisor_take(oatcastle_supervisor *parts, uint8_t *room, oatcastle_length room_length,
+                                                 uint64_t answer[OATCASTLE_TAKE_NUMBERS])
 {
-    return oatcastle_take(parts->outbox, sizeof parts->outbox, oatcastle_some_room(room, room_length), room_length, answer, OATCASTLE_TAKE_NUMBERS);
+    return oatcastle_take(parts->outbox, sizeof parts->outbox, oatcastle_some_room(room, room_length), room_length,
+                          answer, OATCASTLE_TAKE_NUMBERS);
 }
 
 /** oatcastle_post on these parts. */
-static inline uint32_t oatcastle_supervisor_post(oatcastle_supervisor *parts, uint8_t action, const uint8_t *text, oatcastle_length text_length)
+static inline uint32_t oatcastle_supervisor_post(oatcastle_supervisor *parts, uint8_t action,
+                                                 const uint8_t *text, oatcastle_length text_length)
 {
     return oatcastle_post(parts->registers, sizeof parts->registers, action, oatcastle_some(text, text_length), text_length);
 }
@@ -110,27 +130,35 @@ static inline uint32_t oatcastle_supervisor_set_options(oatcastle_supervisor *pa
 }
 
 /** oatcastle_lookup on these parts. */
-static inline uint32_t oatcastle_supervisor_lookup(const oatcastle_supervisor *parts, uint8_t key, uint16_t maxresponse, uint8_t *room, oatcastle_length room_length, uint64_t answer[OATCASTLE_LOOKUP_NUMBERS])
+static inline uint32_t oatcastle_supervisor_lookup(const oatcastle_supervisor *parts, uint8_t key, uint16_t maxresponse,
+                                                   uint8_t *room, oatcastle_length room_length, uint64_t answer[OATCASTLE_LOOKUP_NUMBERS])
 {
-    return oatcastle_lookup(parts->factory, sizeof parts->factory, parts->settings, sizeof parts->settings, key, maxresponse, oatcastle_some_room(room, room_length), room_length, answer, OATCASTLE_LOOKUP_NUMBERS);
+    return oatcastle_lookup(parts->factory, sizeof parts->factory, parts->settings, sizeof parts->settings, key, maxresponse,
+                            oatcastle_some_room(room, room_length), room_length, answer, OATCASTLE_LOOKUP_NUMBERS);
 }
 
 /** oatcastle_edition on these parts. */
-static inline uint32_t oatcastle_supervisor_edition(const oatcastle_supervisor *parts, uint8_t key, uint64_t answer[OATCASTLE_EDITION_NUMBERS])
+static inline uint32_t oatcastle_supervisor_edition(const oatcastle_supervisor *parts, uint8_t key,
+                                                    uint64_t answer[OATCASTLE_EDITION_NUMBERS])
 {
-    return oatcastle_edition(parts->factory, sizeof parts->factory, parts->settings, sizeof parts->settings, key, answer, OATCASTLE_EDITION_NUMBERS);
+    return oatcastle_edition(parts->factory, sizeof parts->factory, parts->settings, sizeof parts->settings, key,
+                             answer, OATCASTLE_EDITION_NUMBERS);
 }
 
 /** oatcastle_save on these parts. */
-static inline uint32_t oatcastle_supervisor_save(const oatcastle_supervisor *parts, uint8_t *out, oatcastle_length out_length, uint64_t answer[OATCASTLE_SAVE_NUMBERS])
+static inline uint32_t oatcastle_supervisor_save(const oatcastle_supervisor *parts, uint8_t *out, oatcastle_length out_length,
+                                                 uint64_t answer[OATCASTLE_SAVE_NUMBERS])
 {
-    return oatcastle_save(parts->settings, sizeof parts->settings, oatcastle_some_room(out, out_length), out_length, answer, OATCASTLE_SAVE_NUMBERS);
+    return oatcastle_save(parts->settings, sizeof parts->settings, oatcastle_some_room(out, out_length), out_length,
+                          answer, OATCASTLE_SAVE_NUMBERS);
 }
 
 /** oatcastle_restore on these parts. */
-static inline uint32_t oatcastle_supervisor_restore(oatcastle_supervisor *parts, const uint8_t *image, oatcastle_length image_length, uint64_t answer[OATCASTLE_RESTORE_NUMBERS])
+static inline uint32_t oatcastle_supervisor_restore(oatcastle_supervisor *parts, const uint8_t *image, oatcastle_length image_length,
+                                                    uint64_t answer[OATCASTLE_RESTORE_NUMBERS])
 {
-    return oatcastle_restore(parts->settings, sizeof parts->settings, oatcastle_some(image, image_length), image_length, answer, OATCASTLE_RESTORE_NUMBERS);
+    return oatcastle_restore(parts->settings, sizeof parts->settings, oatcastle_some(image, image_length), image_length,
+                             answer, OATCASTLE_RESTORE_NUMBERS);
 }
 
 /** oatcastle_signal on these parts. */
@@ -146,15 +174,20 @@ static inline uint32_t oatcastle_supervisor_flags(const oatcastle_supervisor *pa
 }
 
 /** oatcastle_boot_failure on these parts. */
-static inline uint32_t oatcastle_supervisor_boot_failure_record(const oatcastle_supervisor *parts, uint8_t *room, oatcastle_length room_length, uint64_t answer[OATCASTLE_RECORD_NUMBERS])
+static inline uint32_t oatcastle_supervisor_boot_failure_record(const oatcastle_supervisor *parts,
+                                                                uint8_t *room, oatcastle_length room_length,
+                                                                uint64_t answer[OATCASTLE_RECORD_NUMBERS])
 {
-    return oatcastle_boot_failure(parts->registers, sizeof parts->registers, oatcastle_some_room(room, room_length), room_length, answer, OATCASTLE_RECORD_NUMBERS);
+    return oatcastle_boot_failure(parts->registers, sizeof parts->registers, oatcastle_some_room(room, room_length), room_length,
+                                  answer, OATCASTLE_RECORD_NUMBERS);
 }
 
 /** oatcastle_panic on these parts. */
-static inline uint32_t oatcastle_supervisor_panic_record(const oatcastle_supervisor *parts, uint8_t *room, oatcastle_length room_length, uint64_t answer[OATCASTLE_RECORD_NUMBERS])
+static inline uint32_t oatcastle_supervisor_panic_record(const oatcastle_supervisor *parts, uint8_t *room, oatcastle_length room_length,
+                                                         uint64_t answer[OATCASTLE_RECORD_NUMBERS])
 {
-    return oatcastle_panic(parts->registers, sizeof parts->registers, oatcastle_some_room(room, room_length), room_length, answer, OATCASTLE_RECORD_NUMBERS);
+    return oatcastle_panic(parts->registers, sizeof parts->registers, oatcastle_some_room(room, room_length), room_length,
+                           answer, OATCASTLE_RECORD_NUMBERS);
 }
 
 /** The main processor's end: its lent parts, which the caller owns and only these calls write. */
@@ -170,9 +203,13 @@ static inline uint32_t oatcastle_main_end_start(oatcastle_main_end *parts)
 }
 
 /** oatcastle_requester_request on these parts. */
-static inline uint32_t oatcastle_main_end_request(oatcastle_main_end *parts, uint8_t command, const uint8_t *data, oatcastle_length data_length, uint8_t *out, oatcastle_length out_length, uint64_t answer[OATCASTLE_REQUESTER_REQUEST_NUMBERS])
+static inline uint32_t oatcastle_main_end_request(oatcastle_main_end *parts, uint8_t command,
+                                                  const uint8_t *data, oatcastle_length data_length,
+                                                  uint8_t *out, oatcastle_length out_length,
+                                                  uint64_t answer[OATCASTLE_REQUESTER_REQUEST_NUMBERS])
 {
-    return oatcastle_requester_request(parts->requester, sizeof parts->requester, command, oatcastle_some(data, data_length), data_length, oatcastle_some_room(out, out_length), out_length, answer, OATCASTLE_REQUESTER_REQUEST_NUMBERS);
+    return oatcastle_requester_request(parts->requester, sizeof parts->requester, command, oatcastle_some(data, data_length), data_length,
+                                       oatcastle_some_room(out, out_length), out_length, answer, OATCASTLE_REQUESTER_REQUEST_NUMBERS);
 }
 
 /** oatcastle_requester_interrupt on these parts. */
@@ -182,15 +219,19 @@ static inline uint32_t oatcastle_main_end_interrupt(oatcastle_main_end *parts)
 }
 
 /** oatcastle_requester_send on these parts. */
-static inline uint32_t oatcastle_main_end_send(oatcastle_main_end *parts, uint8_t *out, oatcastle_length out_length, uint64_t answer[OATCASTLE_REQUESTER_SEND_NUMBERS])
+static inline uint32_t oatcastle_main_end_send(oatcastle_main_end *parts, uint8_t *out, oatcastle_length out_length,
+                                               uint64_t answer[OATCASTLE_REQUESTER_SEND_NUMBERS])
 {
-    return oatcastle_requester_send(parts->requester, sizeof parts->requester, oatcastle_some_room(out, out_length), out_length, answer, OATCASTLE_REQUESTER_SEND_NUMBERS);
+    return oatcastle_requester_send(parts->requester, sizeof parts->requester, oatcastle_some_room(out, out_length), out_length,
+                                    answer, OATCASTLE_REQUESTER_SEND_NUMBERS);
 }
 
 /** oatcastle_requester_receive on these parts. */
-static inline uint32_t oatcastle_main_end_receive(oatcastle_main_end *parts, const uint8_t *piece, oatcastle_length piece_length, uint64_t answer[OATCASTLE_REQUESTER_RECEIVE_NUMBERS])
+static inline uint32_t oatcastle_main_end_receive(oatcastle_main_end *parts, const uint8_t *piece, oatcastle_length piece_length,
+                                                  uint64_t answer[OATCASTLE_REQUESTER_RECEIVE_NUMBERS])
 {
-    return oatcastle_requester_receive(oatcastle_some(piece, piece_length), piece_length, parts->reader, sizeof parts->reader, parts->requester, sizeof parts->requester, answer, OATCASTLE_REQUESTER_RECEIVE_NUMBERS);
+    return oatcastle_requester_receive(oatcastle_some(piece, piece_length), piece_length, parts->reader, sizeof parts->reader,
+                                       parts->requester, sizeof parts->requester, answer, OATCASTLE_REQUESTER_RECEIVE_NUMBERS);
 }
 
 #ifdef __cplusplus

@@ -1,6 +1,6 @@
 #!/usr/bin/env python3
-"""Writes include/oatcastle_parts.h from the declarations of include/oatcastle.h: a struct of the supervisor's five parts and one of the main processor's
-two, and for each function that takes such parts an inline function that takes the struct in their place.
+"""Writes include/oatcastle_parts.h from the declarations of include/oatcastle.h: a struct of the supervisor's five parts and one of the
+main processor's two, and for each function that takes such parts an inline function that takes the struct in their place.
 Assumes the layout of the header's declarations; a list `answer` gets the length OATCASTLE_NAME_NUMBERS of its function's name.
 
 usage: include/parts.py [write|check]      check: says whether the file is as this would write it"""
@@ -11,6 +11,7 @@ import sys
 HERE = pathlib.Path(__file__).resolve().parent
 HEADER = HERE / 'oatcastle.h'
 FILE = HERE / 'oatcastle_parts.h'
+WIDTH = 140
 # Each struct with its parts in order.
 STRUCTS = {'supervisor': ('reader', 'outbox', 'factory', 'settings', 'registers'), 'main_end': ('reader', 'requester')}
 WORDS = {'supervisor': 'The supervisor', 'main_end': "The main processor's end"}
@@ -26,7 +27,8 @@ TOP = '''/**
  * Where a length is 0, its pointer is not looked at and may be NULL. An answer has the number of places that its parameter says, and
  * overlaps neither the struct nor anything else that is lent.
  *
- * The main processor's end, for any bytes: hands in all that the wire brought, gives `handed` each answer, alert and status, and `send` the bytes that are to go out.
+ * The main processor's end, for any bytes: hands in all that the wire brought, gives `handed` each answer, alert and status, and `send` the
+ * bytes that are to go out.
  * @code
  * static uint32_t hear(oatcastle_main_end *end, const uint8_t *piece, size_t length,
  *                      void (*handed)(const uint64_t *numbers, const uint8_t *data), void (*send)(const uint8_t *bytes, size_t count))
@@ -107,6 +109,20 @@ def numbers(text, name):
     return constant
 
 
+def filled(front, units, back):
+    """A list of parameters or arguments on as many lines as it needs, one below the other; a pointer and its length, as one unit, stay
+    together."""
+    lines = [front]
+    for n, unit in enumerate(units):
+        end = back if n == len(units) - 1 else ','
+        blank = '' if n == 0 else ' '
+        if n and len(lines[-1] + blank + unit + end) > WIDTH:
+            lines.append(' ' * len(front) + unit + end)
+        else:
+            lines[-1] += blank + unit + end
+    return '\n'.join(lines)
+
+
 def helper(text, name, parameters, struct):
     """The inline function: its parameters, and what it passes on."""
     own = STRUCTS[struct]
@@ -123,14 +139,14 @@ def helper(text, name, parameters, struct):
             passed.append(f'answer, {numbers(text, name)}')
         elif length:
             some = 'oatcastle_some' if kind.startswith('const') else 'oatcastle_some_room'
-            taken += [f'{kind}{parameter}', f'oatcastle_length {length}']
+            taken.append(f'{kind}{parameter}, oatcastle_length {length}')
             passed.append(f'{some}({parameter}, {length}), {length}')
         else:
             taken.append(f'{kind}{parameter}' + (f'[{bound}]' if bound else ''))
             passed.append(parameter)
     short = RECORDS.get(name, name.removeprefix('requester_'))
-    return (f'\n/** oatcastle_{name} on these parts. */\n'
-            f'static inline uint32_t oatcastle_{struct}_{short}({", ".join(taken)})\n{{\n    return oatcastle_{name}({", ".join(passed)});\n}}\n')
+    return (f'\n/** oatcastle_{name} on these parts. */\n' + filled(f'static inline uint32_t oatcastle_{struct}_{short}(', taken, ')')
+            + '\n{\n' + filled(f'    return oatcastle_{name}(', passed, ');') + '\n}\n')
 
 
 def made():
@@ -139,7 +155,8 @@ def made():
     out = TOP
     for struct, own in STRUCTS.items():
         out += f'\n/** {WORDS[struct]}: its lent parts, which the caller owns and only these calls write. */\n'
-        out += f'typedef struct oatcastle_{struct} {{\n' + ''.join(f'    uint8_t {part}[OATCASTLE_{part.upper()}_LENGTH];\n' for part in own) + f'}} oatcastle_{struct};\n'
+        fields = ''.join(f'    uint8_t {part}[OATCASTLE_{part.upper()}_LENGTH];\n' for part in own)
+        out += f'typedef struct oatcastle_{struct} {{\n{fields}}} oatcastle_{struct};\n'
         out += ''.join(helper(text, name, parameters, struct) for name, parameters in listed if owner(parameters) == struct)
     return out + END
 
