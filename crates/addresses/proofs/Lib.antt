@@ -3,4 +3,5 @@
 pub mod Carry
 pub mod Number
 pub mod Plans
+pub mod PlanAnswers
 pub mod Proved

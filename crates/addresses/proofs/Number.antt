@@ -12,7 +12,7 @@ use lib.ListN.{length, take, getD, length-reverse}
 use lib.Seq.{take-suc}
 use Rattle.octets.specs.Bytes.{Byte, Each, number}
 use Rattle.octets.proofs.Each.{each-append}
-use Rattle.octets.proofs.Numbers.{number-bytes, bytes-number}
+use Rattle.octets.proofs.Numbers.{number-bytes, bytes-number, number-bound}
 use Rattle.addresses.specs.Addresses.{addressNumber, addressBytes, highest-address}
 
 -- ---- of an address's first bytes
@@ -41,6 +41,11 @@ unfolding addressNumber addressBytes
 bytes-address s e h =
     let b = bytes-number (reverse s) (each-reverse s (bytes-of s h)) in
     ap reverse (rw (length-reverse, e) at b) ∙ reverse-reverse s
+
+-- whose number is at most the highest
+pub number-below : (s : List ℕ) → length s ≡ 6 → Each Byte s → addressNumber s ≤ highest-address
+unfolding addressNumber
+number-below s e b = let h = rw (length-reverse, e) at (number-bound (reverse s) (each-reverse s b)) in omega arith
 
 -- a number that six bytes hold is that of its bytes
 pub address-bytes : (v : ℕ) → v ≤ highest-address → addressNumber (addressBytes v) ≡ v

@@ -42,7 +42,7 @@ pub item-3 : Item3
 item-3 = record { line = Line3.item-3 }
 
 pub item-4 : Item4
-item-4 = record { probes = Probes.item-4; parts-fit = Supervisor.number-due .parts-fit }
+item-4 = record { probes = Probes.item-4; supervisor = Supervisor.item-4 }
 
 pub item-5 : Item5
 item-5 = record { supervisor = Supervisor.item-5 }

@@ -12,6 +12,7 @@ use Rattle.saving_claims.specs.Item11 as SavingItem11
 use Rattle.supervisor_claims.specs.Demand1 as SupervisorDemand1
 use Rattle.supervisor_claims.specs.Demand2 as SupervisorDemand2
 use Rattle.supervisor_claims.specs.Item1 as SupervisorItem1
+use Rattle.supervisor_claims.specs.Item4 as SupervisorItem4
 use Rattle.supervisor_claims.specs.Item5 as SupervisorItem5
 use Rattle.supervisor_claims.specs.Item11 as SupervisorItem11
 use Rattle.supervisor_claims.specs.Item14 as SupervisorItem14
@@ -87,8 +88,8 @@ pub record Item3 : Type 0 where
 pub record Item4 : Type 0 where
   -- the probe list
   pub probes : ProbesItem4.Item4
-  -- all parts together still have at most 65,536 bytes
-  pub parts-fit : SupervisorDemand1.PartsFit
+  -- 64 items and 4,096 bytes of key 5
+  pub supervisor : SupervisorItem4.Item4
 
 -- how old is this list?
 pub record Item5 : Type 0 where

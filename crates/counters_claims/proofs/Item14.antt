@@ -16,10 +16,10 @@ use Rattle.supervisor_claims.specs.FrameHistory.{receivedBy, joined}
 use Rattle.supervisor_claims.proofs.laws.Progress.{Since}
 use Rattle.supervisor_claims.proofs.claims.History.{one-call}
 use Rattle.supervisor_claims.proofs.claims.FramesClaim.{made-carried}
-use Rattle.supervisor_claims.specs.TwoRuns.{Run, leftBy, receivedIn}
-use Rattle.supervisor_claims.proofs.TwoRuns.{withoutPassphrase, run-sound, run-since, same-states, two-states}
+use Rattle.supervisor_claims.specs.TwoRuns.{leftBy, receivedIn}
+use Rattle.supervisor_claims.proofs.TwoRuns.{run-sound, run-since, same-states, two-states}
 use Rattle.counters_claims.specs.CountHistory.{Lending, blockBy, blocksLending, unlent, endedAll}
-use Rattle.counters_claims.specs.Item14.{CountedAlike, TwoCountedRuns}
+use Rattle.counters_claims.specs.Item14.{TwoCountedStates, TwoCountedRuns}
 use Rattle.counters_claims.proofs.Item8.{same-by, same-as-unlent}
 use Rattle.counters_claims.proofs.CallCounts.{call-counts}
 
@@ -45,8 +45,7 @@ blocks-by-frames (x ∷ xs) t w p s h =
     let g : Since (split (joined w m) .rest) (view (made p m .parts)) = rw (k .0) (made-carried w (view p) h m .1) in
     rw (block-by-frames w p s h m (x .block), same-by p m (x .block), blocks-by-frames xs (t .1) (joined w m) (made p m .parts) (k .1) g)
 
--- as in `two-states`, with blocks
-pub two-counted-states : (r s : Run) → withoutPassphrase (view (leftBy r)) ≡ withoutPassphrase (view (leftBy s)) → CountedAlike r s
+pub two-counted-states : TwoCountedStates
 two-counted-states r s e xs t h k =
     let p = leftBy r in
     let q = leftBy s in

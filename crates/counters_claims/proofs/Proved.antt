@@ -4,7 +4,7 @@ use Rattle.counters_claims.specs.Item8.{Item8}
 use Rattle.counters_claims.specs.Item14.{Item14}
 use Rattle.counters_claims.proofs.TallyLaws.{each-counted-once}
 use Rattle.counters_claims.proofs.Item8.{counters-count, counters-from-start, overlong-once, blocks-alone}
-use Rattle.counters_claims.proofs.Item14.{two-counted-runs}
+use Rattle.counters_claims.proofs.Item14.{two-counted-states, two-counted-runs}
 
 pub item-8 : Item8
 item-8 = record {
@@ -16,4 +16,4 @@ item-8 = record {
 }
 
 pub item-14 : Item14
-item-14 = record { two-counted-runs = two-counted-runs }
+item-14 = record { two-counted-states = two-counted-states; two-counted-runs = two-counted-runs }

@@ -4,8 +4,9 @@ use mathlib.Core.Path.{_≡_}
 use mathlib.Core.List.{List}
 use Prim.Native.Nat.{_+_, _<_}
 use Rattle.supervisor.specs.Limits.{last-edition}
+use Rattle.supervisor_claims.specs.View.{view}
 use Rattle.supervisor_claims.specs.Histories.{AllTyped}
-use Rattle.supervisor_claims.specs.TwoRuns.{Run, leftBy, receivedIn, SameBut, passphraseEdition, setsToCome}
+use Rattle.supervisor_claims.specs.TwoRuns.{Run, leftBy, receivedIn, SameBut, withoutPassphrase, passphraseEdition, setsToCome}
 use Rattle.counters_claims.specs.CountHistory.{Lending, outputsLending, blocksLending, unlent}
 
 -- behind both runs any calls, each lent any block or none, the same in both, with the edition below its end in both by more than the sets to come:
@@ -18,6 +19,11 @@ CountedAlike r s = (xs : List Lending) → AllTyped (unlent xs) → let n = sets
 abbrev pub TwoCountedRuns : Type 0
 TwoCountedRuns = (r s : Run) → SameBut (leftBy r) (leftBy s) → CountedAlike r s
 
+abbrev pub TwoCountedStates : Type 0
+TwoCountedStates = (r s : Run) → withoutPassphrase (view (leftBy r)) ≡ withoutPassphrase (view (leftBy s)) → CountedAlike r s
+
 pub record Item14 : Type 0 where
-  -- two runs that differ only in the passphrase's record answer, write and count the same
+  -- two runs whose states differ only in the passphrase's value, length, presence and edition answer, write and count the same
+  pub two-counted-states : TwoCountedStates
+  -- so where all bytes of the parts outside the passphrase's record are equal
   pub two-counted-runs : TwoCountedRuns

@@ -5,5 +5,6 @@ pub mod Records
 mod Relending
 pub mod Samples
 pub mod Tests
+pub mod Updates
 mod Walks
 pub mod Proved

@@ -3,9 +3,12 @@
 use Rattle.probes.specs.Item4.{Item4}
 use Rattle.probes.proofs.Records.{last-named, unnamed-stays, record-at, as-long, addresses-stay, others-stay}
 use Rattle.probes.proofs.Samples.{samples-hold, empty-list}
+use Rattle.probes.proofs.Updates.{update-done, update-refused}
 
 pub item-4 : Item4
 item-4 = record {
+  update-done = update-done;
+  update-refused = update-refused;
   last-named = last-named;
   unnamed-stays = unnamed-stays;
   record-at = record-at;

@@ -1,12 +1,14 @@
--- Document 02's item 4, of the probe list: what a call that is done leaves of each record.
+-- Document 02's item 4, of the probe list: when a call is refused, and what any other leaves of each record.
 -- Assumes nothing: these are definitions and statements.
 use mathlib.Core.Path.{_≡_}
 use mathlib.Core.List.{List, [], _∷_, _++_, map}
+use mathlib.Core.Logic.{_⊎_}
+use mathlib.Core.Option.{none, some}
 use Prim.Native.Nat.{ℕ, _<_}
 use lib.ListN.{length, getD}
 use Rattle.probes.specs.declared.Probe.{Probe}
 use Rattle.probes.specs.declared.Updated.the-variants.{Done, Refused}
-use Rattle.probes.specs.Probes.{Change, withResult, latest, recordsFrom, outcomeOf, updating, no-probe, resultSet}
+use Rattle.probes.specs.Probes.{Change, changes, withResult, latest, recordsFrom, outcomeOf, updating, no-probe, resultSet}
 use Rattle.probes.specs.Samples.{three, Sample, samples}
 
 -- no change of a list names part k
@@ -40,7 +42,31 @@ SamplesHold = map (λ (s : Sample). updating three (s .indices) (s .results)) sa
 abbrev pub EmptyList : Type 0
 EmptyList = (updating [] [] [] ≡ outcomeOf Done []) × (updating [] (0 ∷ []) (0 ∷ []) ≡ outcomeOf Refused [])
 
+-- the list of n records has the part, and the result is 0, 2 or 3
+abbrev pub GoodChange : ℕ → Change → Type 0
+GoodChange n c = (c .index < n) × ((c .result ≡ 0) ⊎ (c .result ≡ 2) ⊎ (c .result ≡ 3))
+
+abbrev pub AllGoodChanges : ℕ → List Change → Type 0
+AllGoodChanges n [] = Unit {0}
+AllGoodChanges n (c ∷ cs) = GoodChange n c × AllGoodChanges n cs
+
+-- each index has its result, and each change is good
+abbrev pub GoodUpdate : List Probe → List ℕ → List ℕ → Type 0
+GoodUpdate l indices results = (length indices ≡ length results) × AllGoodChanges (length l) (changes indices results)
+
+abbrev pub UpdateDone : Type 0
+UpdateDone = (l : List Probe) (indices results : List ℕ) → GoodUpdate l indices results
+    → updating l indices results ≡ record { refusal = none; list = recordsFrom 0 l (changes indices results) }
+
+abbrev pub UpdateRefused : Type 0
+UpdateRefused = (l : List Probe) (indices results : List ℕ) → (GoodUpdate l indices results → ⊥)
+    → updating l indices results ≡ record { refusal = some 15; list = l }
+
 pub record Item4 : Type 0 where
+  -- a call whose indices are all below the list's length, and whose results are all 0, 2 or 3, is done, and the list's records are these
+  pub update-done : UpdateDone
+  -- any other changes nothing and is refused as 15, the call's only refusal
+  pub update-refused : UpdateRefused
   -- a part has the result of the last change that names it, whatever comes before: a part named twice keeps the later result
   pub last-named : LastNamed
   -- a part that no change names keeps its result
@@ -55,5 +81,5 @@ pub record Item4 : Type 0 where
   pub others-stay : OthersStay
   -- a call that is done, and one that is refused as 15, on a list of three
   pub samples-hold : SamplesHold
-  -- on a list of no records no changes are done, and any are refused
+  -- on a list of no records, no changes at all are done, and one is refused
   pub empty-list : EmptyList

@@ -3,6 +3,7 @@
 use Rattle.supervisor_claims.specs.Demand1.{NumberDue, AsItWas}
 use Rattle.supervisor_claims.specs.Demand2.{CarriedOut, NumberedFailures, Cuts}
 use Rattle.supervisor_claims.specs.Item1.{Item1}
+use Rattle.supervisor_claims.specs.Item4.{Item4}
 use Rattle.supervisor_claims.specs.Item5.{Item5}
 use Rattle.supervisor_claims.specs.Item11.{Item11}
 use Rattle.supervisor_claims.specs.Item14.{Item14}
@@ -19,13 +20,16 @@ use Rattle.supervisor_claims.proofs.claims.FramesClaim.{history-frames,
 use Rattle.supervisor_claims.proofs.claims.FailureClaim.{failure-answered, overlong-answered, ahead-of-zero, empty-frame-ignored}
 use Rattle.supervisor_claims.proofs.claims.Cuts.{cut-any}
 use Rattle.supervisor_claims.proofs.claims.Replies.{replies-in-order}
+use Rattle.supervisor_claims.proofs.claims.SetResults.{more-items-11, up-to-64-items, value-lengths, stores-nothing}
+use Rattle.supervisor_claims.proofs.claims.SetResults.{factory-edition, reply-version, failure-version}
 use Rattle.supervisor_claims.proofs.claims.LastSetLaws.{set-successful, successful-exactly, replaced-other}
 use Rattle.supervisor_claims.proofs.claims.WithdrawnKeys.{value-last-set, last-set, withdrawn-list-answered, lookup-last-set}
-use Rattle.supervisor_claims.proofs.claims.WithdrawnKeys.{list-edition-answered, passphrase-unread, passphrase-unread-locally}
+use Rattle.supervisor_claims.proofs.claims.WithdrawnKeys.{set-answered, list-edition-answered}
+use Rattle.supervisor_claims.proofs.claims.WithdrawnKeys.{passphrase-unread, passphrase-unread-locally}
 use Rattle.supervisor_claims.proofs.claims.RetainedClaim.{retained-stays, reboot-forgets, power-off-forgets, fresh-alert}
 use Rattle.supervisor_claims.proofs.claims.AlertClaim.{local-keeps, failed-keeps, request-retains, retained-exactly, fresh-alert-answered, fresh-after-reboot}
 use Rattle.supervisor_claims.proofs.claims.SavedClaim.{key-savable, save-writes, saved-restores, accepted-exact}
-use Rattle.supervisor_claims.proofs.TwoRuns.{two-runs}
+use Rattle.supervisor_claims.proofs.TwoRuns.{two-states, two-runs}
 
 pub number-due : NumberDue
 number-due = record {
@@ -93,8 +97,22 @@ item-1 = record {
   fresh-after-reboot = fresh-after-reboot;
 }
 
+pub item-4 : Item4
+item-4 = record {
+  more-items-11 = more-items-11;
+  up-to-64-items = up-to-64-items;
+  value-lengths = value-lengths;
+  set-answered = set-answered;
+  parts-fit = parts-fit;
+}
+
 pub item-5 : Item5
 item-5 = record {
+  set-answered = set-answered;
+  stores-nothing = stores-nothing;
+  factory-edition = factory-edition;
+  reply-version = reply-version;
+  failure-version = failure-version;
   value-last-set = value-last-set;
   successful-exactly = successful-exactly;
   list-edition-answered = list-edition-answered;
@@ -115,8 +133,12 @@ item-11 = record {
 
 pub item-14 : Item14
 item-14 = record {
+  set-answered = set-answered;
+  value-lengths = value-lengths;
+  stores-nothing = stores-nothing;
   passphrase-unread = passphrase-unread;
   passphrase-unread-locally = passphrase-unread-locally;
+  two-states = two-states;
   two-runs = two-runs;
   replaced-other = replaced-other;
 }

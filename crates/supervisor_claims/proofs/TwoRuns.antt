@@ -3,7 +3,7 @@
 use mathlib.Core.Path.{_≡_, refl, sym, ap, _∙_}
 use mathlib.Core.Bool.{Bool, true, false}
 use mathlib.Core.List.{List, [], _∷_}
-use Prim.Native.Nat.{ℕ, _+_, _≤_, _<_}
+use Prim.Native.Nat.{ℕ, _+_, _≤_}
 use native.Mathlib.Omega.{arith}
 use Rattle.line_claims.specs.Pieces.{split}
 use Rattle.supervisor.specs.Limits
@@ -12,22 +12,15 @@ use Rattle.supervisor.specs.Calls.{Parts}
 use Rattle.supervisor.proofs.ValidLaws.{settings-valid}
 use Rattle.supervisor_claims.specs.View.{factoryOf, view}
 use Rattle.supervisor_claims.specs.Sound.{Sound}
-use Rattle.supervisor_claims.specs.Histories.{Means, Made, outputs, left, AllTyped}
+use Rattle.supervisor_claims.specs.Histories.{Means, Made, left}
 use Rattle.supervisor_claims.specs.FrameHistory.{startsAnew, joined, outputsByFrames, leftByFrames}
-use Rattle.supervisor_claims.specs.TwoRuns.{Run, leftBy, receivedIn, record-end, SameBut, passphraseEdition, setsToCome}
-use Rattle.supervisor_claims.specs.Item14.{TwoRuns}
+use Rattle.supervisor_claims.specs.TwoRuns.{Run, leftBy, receivedIn, record-end, SameBut}
+use Rattle.supervisor_claims.specs.TwoRuns.{withoutPassphrase, passphraseEdition, setsToCome}
+use Rattle.supervisor_claims.specs.Item14.{TwoStates, TwoRuns}
 use Rattle.supervisor_claims.proofs.laws.Progress.{Since}
 use Rattle.supervisor_claims.proofs.claims.History.{follows, history}
 use Rattle.supervisor_claims.proofs.claims.FramesClaim.{frames-follow, by-frames}
 use Rattle.supervisor_claims.proofs.claims.TwoRunLaws.{Like, Room, Pair, anew-same, made-same, store-alike, store-room}
-
--- ---- States but for the passphrase
-
--- a state in which no passphrase was set
-abbrev pub withoutPassphrase : State → State
-withoutPassphrase s = withSettings s (withSetting (s .settings) Limits.passphrase-key unset)
-
--- ---- Proof
 
 -- the same comes out, and what is left differs only in the passphrase
 abbrev Follow : List ℕ → List Made → State → State → Type 0
@@ -68,13 +61,7 @@ run-since r =
 
 -- ---- The claim
 
--- Two runs, each from an accepted start by any calls, that leave states which differ only in the passphrase's setting: value, length, presence and edition. In
--- both its edition is below the last by more than the sets to come: at the last edition a set answers 4 and not 0, which shows that edition. Then the same calls,
--- with equal arguments and loans, give the same: each answer, and all that is written outside the state. The states that they leave differ only in that setting.
-pub two-states : (r s : Run) → withoutPassphrase (view (leftBy r)) ≡ withoutPassphrase (view (leftBy s)) → (ms : List Made) → AllTyped ms
-    → let n = setsToCome (receivedIn r) ms in
-    passphraseEdition (leftBy r) + n < Limits.last-edition → passphraseEdition (leftBy s) + n < Limits.last-edition
-    → (outputs (leftBy r) ms ≡ outputs (leftBy s) ms) × (withoutPassphrase (view (left (leftBy r) ms)) ≡ withoutPassphrase (view (left (leftBy s) ms)))
+pub two-states : TwoStates
 two-states r s e ms t h k =
     let w = receivedIn r in
     let p = leftBy r in

@@ -9,6 +9,7 @@ pub mod FramesClaim
 pub mod FailureClaim
 pub mod Cuts
 pub mod Replies
+pub mod SetResults
 pub mod LastSetLaws
 pub mod WithdrawnKeys
 pub mod RetainedClaim

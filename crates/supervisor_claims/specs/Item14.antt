@@ -9,11 +9,15 @@ use Rattle.line.specs.Frame.{frame}
 use Rattle.supervisor.specs.Limits
 use Rattle.supervisor.specs.Number.{topSet}
 use Rattle.supervisor.specs.Calls.{Parts}
+use Rattle.supervisor_claims.specs.View.{view}
 use Rattle.supervisor_claims.specs.Histories
-use Rattle.supervisor_claims.specs.Histories.{found, foundEdition, Lent, enough, Made, made, outputs, AllTyped, locally, AfterCalls}
+use Rattle.supervisor_claims.specs.Histories.{found, foundEdition, Lent, enough, Made, made}
+use Rattle.supervisor_claims.specs.Histories.{outputs, left, AllTyped, locally, AfterCalls}
 use Rattle.supervisor_claims.specs.FrameHistory.{Replied, OnRequest}
-use Rattle.supervisor_claims.specs.LastSet.{lookupOf}
-use Rattle.supervisor_claims.specs.TwoRuns.{Run, leftBy, receivedIn, SameBut, passphraseEdition, setsToCome}
+use Rattle.supervisor_claims.specs.LastSet.{lookupOf, SetAnswered}
+use Rattle.supervisor_claims.specs.TwoRuns.{Run, leftBy, receivedIn, SameBut, withoutPassphrase, passphraseEdition, setsToCome}
+use Rattle.supervisor_claims.specs.Item4.{ValueLengths}
+use Rattle.supervisor_claims.specs.Item5.{StoresNothing}
 use Rattle.supervisor_claims.specs.Item11.{ReplacedOther}
 
 -- the reply to a lookup of the passphrase: result 4 and nothing else
@@ -35,13 +39,29 @@ TwoRuns = (r s : Run) → SameBut (leftBy r) (leftBy s) → (ms : List Made) →
     passphraseEdition (leftBy r) + n < Limits.last-edition → passphraseEdition (leftBy s) + n < Limits.last-edition
     → outputs (leftBy r) ms ≡ outputs (leftBy s) ms
 
+abbrev pub TwoStates : Type 0
+TwoStates = (r s : Run) → withoutPassphrase (view (leftBy r)) ≡ withoutPassphrase (view (leftBy s)) → (ms : List Made) → AllTyped ms
+    → let n = setsToCome (receivedIn r) ms in
+    passphraseEdition (leftBy r) + n < Limits.last-edition → passphraseEdition (leftBy s) + n < Limits.last-edition
+    → (outputs (leftBy r) ms ≡ outputs (leftBy s) ms)
+    × (withoutPassphrase (view (left (leftBy r) ms)) ≡ withoutPassphrase (view (left (leftBy s) ms)))
+
 pub record Item14 : Type 0 where
+  -- key 6 takes 8 to 63 bytes; a set of another length answers 3, and invalid keys start at 7
+  pub set-answered : AfterCalls SetAnswered
+  pub value-lengths : ValueLengths
+  -- and stores nothing
+  pub stores-nothing : StoresNothing
   -- a lookup over the wire answers result 4 and nothing else, whatever was set before, for any maxresponse and in both versions
   pub passphrase-unread : AfterCalls PassphraseUnread
   -- by the local calls no byte and no edition goes out either
   pub passphrase-unread-locally : AfterCalls PassphraseUnreadLocally
-  -- Two states, each reached from a start, differ only in the passphrase's record. In both its edition is below its end by more than the sets to come.
+  -- Two states, each reached from a start, differ only in the passphrase's value, length, presence and edition.
+  -- In both its edition is below its end by more than the sets to come; at its end a set answers 4 and not 0, which shows that edition.
   -- Then the same calls in the same order, with equal arguments and loans, return and write outside the state the same.
+  -- They leave two such states.
+  pub two-states : TwoStates
+  -- so where all bytes of the parts outside the passphrase's record are equal
   pub two-runs : TwoRuns
   -- restore leaves key 6, as it leaves every setting that is not saved
   pub replaced-other : ReplacedOther

@@ -2,20 +2,27 @@
 -- Assumes nothing: these are definitions and statements.
 use mathlib.Core.Path.{_≡_}
 use mathlib.Core.List.{List, [], _∷_, _++_}
+use mathlib.Core.Logic.{_⊎_}
+use mathlib.Core.Option.{Option, some}
 use Prim.Native.Nat.{ℕ, _+_, _≤_, _<_}
 use lib.ListN.{length}
 use Rattle.octets.specs.Bytes.{bytes}
 use Rattle.line.specs.Numbers.{second-version, reply-key-lookup}
+use Rattle.line.specs.Message.{Message}
 use Rattle.line.specs.Frame.{frame}
+use Rattle.line.specs.Judge as Line
+use Rattle.line.specs.Judge.{judge}
 use Rattle.supervisor.specs.Number.{topSet}
+use Rattle.supervisor.specs.State.{Settings, Retained, State}
 use Rattle.supervisor.specs.Local
 use Rattle.supervisor.specs.Calls
 use Rattle.supervisor.specs.Calls.{Parts}
+use Rattle.requests.specs.Requests.{failure, verdict, Answer, stored, carried}
 use Rattle.supervisor_claims.specs.View.{view}
 use Rattle.supervisor_claims.specs.Sound.{Valid}
 use Rattle.supervisor_claims.specs.Histories.{Made, made, AfterCalls}
 use Rattle.supervisor_claims.specs.FrameHistory.{Replied, OnRequest}
-use Rattle.supervisor_claims.specs.LastSet.{successful, originBehind, lookupOf}
+use Rattle.supervisor_claims.specs.LastSet.{successful, originBehind, lookupOf, SetAnswered}
 use Rattle.supervisor_claims.specs.Demand2.{ValueLastSet, SuccessfulExactly}
 
 -- the reply in version 2 that hands out an edition and a value
@@ -31,6 +38,27 @@ abbrev pub EditionMeant : Type 0
 EditionMeant = (p : Parts) → Valid p → (key : ℕ) → let e = Local.edition (view p) key in
     Calls.editionResult (p .factory) (p .settings) key ≡ Calls.EditionReport.result (e .result) (e .edition)
 
+abbrev pub StoresNothing : Type 0
+StoresNothing = (z : Settings) (k : ℕ) (v : List ℕ) → (stored z k v .result ≡ 0 → ⊥) → stored z k v .settings ≡ z
+
+abbrev pub FactoryEdition : Type 0
+FactoryEdition = (s : State) (k : ℕ) → k < 3 → Local.entryOf s k .edition ≡ 0
+
+-- the retained reply that is sent again, as first written
+pub record SentAgain (s : State) (m : Message) (version : ℕ) : Type 0 where
+  pub kept : Retained
+  pub retained : s .retained ≡ some kept
+  pub number : kept .sequence ≡ m .sequence
+  pub written : version ≡ kept .version
+
+abbrev pub ReplyVersion : Type 0
+ReplyVersion = (image : List ℕ) (s : State) (m : Message) (r : Answer) → carried image s m .reply ≡ some r
+    → (r .version ≡ m .version) ⊎ SentAgain s m (r .version)
+
+abbrev pub FailureVersion : Type 0
+FailureVersion = (f : List ℕ) (reason version : ℕ) (sequence : Option ℕ) → verdict f ≡ failure reason version sequence
+    → (reason ≤ 5 → version ≡ 1) × ((m : Message) → judge f ≡ Line.good m → 5 < reason → version ≡ m .version)
+
 pub record Item5 : Type 0 where
   -- over any calls, the edition of a settings key counts its successful sets since start, on from what a later restore left
   pub value-last-set : AfterCalls ValueLastSet
@@ -39,5 +67,15 @@ pub record Item5 : Type 0 where
   -- A version 2 lookup of the withdrawn-key list, where v is the value of the last of these sets and the others are vs: the edition before the value is
   -- the number of these sets, on top of the restored edition. The value is v.
   pub list-edition-answered : AfterCalls ListEditionAnswered
+  -- a set at edition 4,294,967,295 answers 4, in both versions, where results 1 to 3 don't apply
+  pub set-answered : AfterCalls SetAnswered
+  -- and stores nothing, as every set whose result is not 0
+  pub stores-nothing : StoresNothing
+  -- factory keys have edition 0
+  pub factory-edition : FactoryEdition
+  -- replies carry the request's version; a retained alert reply goes out as first written, version included
+  pub reply-version : ReplyVersion
+  -- a decode failure of reason 1 to 5 has version 1, any other the request's
+  pub failure-version : FailureVersion
   -- on valid parts the local call that asks for a key's edition answers its result and edition; no paper asks for this call
   pub edition-meant : EditionMeant

@@ -1,28 +1,30 @@
 -- The successful sets of a settings key among the requests of received bytes: how many, and the last; and a lookup of that key with its reply.
 -- Assumes nothing: these are definitions.
 use mathlib.Core.Path.{_≡_}
-use mathlib.Core.Bool.{cond}
+use mathlib.Core.Bool.{cond, _||_}
 use mathlib.Core.List.{List, [], _∷_, _++_}
 use mathlib.Core.Option.{Option, none, some}
-use Prim.Native.Nat.{ℕ, _+_, _-_}
-use lib.Dec.{leb, eqb}
+use Prim.Native.Nat.{ℕ, _+_, _-_, _<_}
+use lib.Dec.{leb, ltb, eqb}
 use lib.ListN.{length, take}
 use Rattle.octets.specs.Bytes.{bytes}
 use Rattle.line.specs.Numbers.{command-key-set, command-key-lookup, reply-key-lookup}
 use Rattle.line.specs.Message.{Message}
 use Rattle.line.specs.Frame.{frame}
 use Rattle.line_claims.specs.Pieces.{split, nonEmpty}
+use Rattle.line_claims.specs.TableTests.{test, firstFailing}
 use Rattle.supervisor.specs.Number.{topSet}
 use Rattle.supervisor.specs.Limits
 use Rattle.supervisor.specs.Limits.{last-edition, SettingsKey}
 use Rattle.supervisor.specs.State.{Setting, unset, Settings, setting}
 use Rattle.supervisor.specs.Local
+use Rattle.supervisor.specs.Calls.{Parts}
 use Rattle.saving.specs.Saving
 use Rattle.saving.specs.Saving.{Entry}
 use Rattle.requests.specs.Requests.{Verdict, failure, good, verdict, wrongValueLength, editionBytes}
 use Rattle.supervisor_claims.specs.Histories
-use Rattle.supervisor_claims.specs.Histories.{LocalCall, Call, Made, enough}
-use Rattle.supervisor_claims.specs.FrameHistory.{reads, starts, joined, joinedAll, framesBy}
+use Rattle.supervisor_claims.specs.Histories.{LocalCall, Call, Made, enough, made}
+use Rattle.supervisor_claims.specs.FrameHistory.{reads, starts, joined, joinedAll, framesBy, Replied, OnRequest}
 
 -- ---- Requests
 
@@ -163,3 +165,30 @@ lookupReply version n most x =
 pub record ReadBack (k : ℕ) : Type 0 where
   pub key : SettingsKey k
   pub other : k ≡ Limits.passphrase-key → ⊥
+
+-- ---- Sets over the wire
+
+-- a set of key k under number n
+abbrev pub setOf : ℕ → ℕ → ℕ → List ℕ → Message
+setOf version n k v = record { version = version; sequence = n; command = 0x10; payload = bytes 1 k ++ v }
+
+abbrev pub resultOr : Option ℕ → ℕ
+resultOr none = 0
+resultOr (some n) = n
+
+-- the result of a set of key k with a value of n bytes, where the key has this edition: the first test that fails, else 0
+abbrev pub setResult : ℕ → ℕ → ℕ → ℕ
+setResult k n edition =
+    resultOr (firstFailing (
+    test 1 (ltb 6 k) ∷ test 2 (ltb k 3) ∷ test 3 (ltb n (Limits.shortest-setting k) || ltb (Limits.longest-setting k) n)
+    ∷ test 4 (eqb edition 4294967295) ∷ []
+    ))
+
+-- the frame of its reply, under n with the top bit set
+abbrev pub setReply : ℕ → ℕ → ℕ → List ℕ
+setReply version n result = frame (record { version = version; sequence = topSet n; command = 0x0c; payload = result ∷ [] })
+
+-- a set over the wire, behind any calls: all requests before its 00 count for the key's edition
+abbrev pub SetAnswered : List Made → Parts → Type 0
+SetAnswered ms q = (version n k : ℕ) (v : List ℕ) → k < 256 → OnRequest ms (setOf version n k v) (λ bs c.
+    Replied q (made q c) (setReply version n (setResult k (length v) (setSince k (originBehind k ms bs) .edition))))

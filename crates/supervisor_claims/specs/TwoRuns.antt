@@ -7,6 +7,7 @@ use Prim.Native.Nat.{ℕ, _+_}
 use lib.ListN.{length, take, drop}
 use Rattle.supervisor.specs.Limits
 use Rattle.supervisor.specs.Layout
+use Rattle.supervisor.specs.State.{State, unset, withSetting, withSettings}
 use Rattle.supervisor.specs.Calls.{Parts}
 use Rattle.supervisor_claims.specs.Sound.{Bytes}
 use Rattle.supervisor_claims.specs.Histories
@@ -47,6 +48,10 @@ pub record SameBut (p q : Parts) : Type 0 where
   pub ahead : take record-begin (p .settings) ≡ take record-begin (q .settings)
   pub behind : drop record-end (p .settings) ≡ drop record-end (q .settings)
   pub registers : p .registers ≡ q .registers
+
+-- a state in which no passphrase was set; states that are equal so differ only in the passphrase's value, length, presence and edition
+abbrev pub withoutPassphrase : State → State
+withoutPassphrase s = withSettings s (withSetting (s .settings) Limits.passphrase-key unset)
 
 abbrev pub passphraseEdition : Parts → ℕ
 passphraseEdition p = Layout.settingEdition (p .settings) record-begin

@@ -4,7 +4,7 @@ use mathlib.Core.Path.{_≡_, refl, ap, _∙_}
 use mathlib.Core.Bool.{true, and-false}
 use mathlib.Core.List.{List, [], _∷_, _++_}
 use mathlib.Core.Option.{Option, some}
-use Prim.Native.Nat.{ℕ, _+_, _<_, _≤_}
+use Prim.Native.Nat.{ℕ, _+_, _*_, _%_, _<_, _≤_}
 use native.Mathlib.Omega.{arith}
 use lib.ListN.{length, length-append}
 use borrow.Author.Tests.{le-ltb, ne-eqb}
@@ -21,7 +21,7 @@ use Rattle.supervisor.specs.State.{setting, State, fresh}
 use Rattle.supervisor.specs.Local
 use Rattle.supervisor.specs.Calls.{Parts}
 use Rattle.requests.specs.Commands.{numberOf, withNumber, commandOf}
-use Rattle.requests.specs.Requests.{good, verdict, effect, carried, stream, owed, replyOf, replyFrame}
+use Rattle.requests.specs.Requests.{good, verdict, stored, keySet, effect, carried, stream, owed, replyOf, replyFrame}
 use Rattle.supervisor_claims.specs.View.{factoryOf, view}
 use Rattle.supervisor_claims.specs.Sound.{Bytes}
 use Rattle.supervisor_claims.specs.Histories
@@ -29,7 +29,7 @@ use Rattle.supervisor_claims.specs.Histories.{Typed, done, Lent, Made, e
 use Rattle.supervisor_claims.specs.Histories.{received, locally}
 use Rattle.supervisor_claims.specs.FrameHistory.{framesBy, joinedAll, framed, allFramed, Replied}
 use Rattle.supervisor_claims.specs.LastSet.{successful, lastOr, setAfter, Origin, sinceStart, sinceMore, setSince, lookupOf, lookupReply, requestsIn}
-use Rattle.supervisor_claims.specs.LastSet.{fittedOf, ReadBack, origin, originBehind}
+use Rattle.supervisor_claims.specs.LastSet.{fittedOf, ReadBack, origin, originBehind, setOf, setReply, SetAnswered}
 use Rattle.supervisor_claims.specs.Demand2.{ValueLastSet, LastSet, WithdrawnListAnswered, LookupLastSet}
 use Rattle.supervisor_claims.specs.Item5.{editionReply, ListEditionAnswered}
 use Rattle.supervisor_claims.specs.Item14.{passphraseReply, PassphraseUnread, PassphraseUnreadLocally}
@@ -37,6 +37,7 @@ use Rattle.supervisor_claims.proofs.laws.Progress.{Since}
 use Rattle.supervisor_claims.proofs.claims.History.{history, one-call}
 use Rattle.supervisor_claims.proofs.claims.InOrder.{request-carried}
 use Rattle.supervisor_claims.proofs.claims.FramesClaim.{stream-closes, by-frames}
+use Rattle.supervisor_claims.proofs.claims.SetResults.{set-result}
 use Rattle.supervisor_claims.proofs.claims.LastSetLaws.{afterSets, entry-held, after-sets, frames-owed, Holds, fresh-holds, frames-hold, calls-hold, since-low}
 
 -- ---- a lookup carried out
@@ -73,6 +74,12 @@ reply-refused : (image : List ℕ) (s : State) (version n most : ℕ) → most <
     → replyFrame (replyOf n (carried image s (lookupOf version n Limits.passphrase-key most) .reply)) ≡ passphraseReply version n
 unfolding carried commandOf withNumber numberOf effect replyOf replyFrame Local.lookup
 reply-refused image s version n most i = rw (lookup-data Limits.passphrase-key most (omega arith) i .0, and-false)
+
+-- of a set
+reply-set : (image : List ℕ) (s : State) (version n k : ℕ) (v : List ℕ) → k < 256
+    → replyFrame (replyOf n (carried image s (setOf version n k v) .reply)) ≡ setReply version n (stored (s .settings) k v .result)
+unfolding carried commandOf withNumber numberOf effect keySet replyOf replyFrame number bytes
+reply-set image s version n k v h = let e : k % 256 + 0 * 256 ≡ k = omega arith in rw e
 
 -- the 00 of a request behind the bytes w and bs
 stream-replies : (w : List ℕ) (s : State) → Since (split w .rest) s → (image bs : List ℕ) (m : Message) → verdict (split (w ++ bs) .rest) ≡ good m
@@ -140,6 +147,17 @@ module _ (p : Parts) (b : Bytes p) (l : Lent) (d : List ℕ) (typed : Typed (His
   last-set k h version n most i j image bs c e v =
       replied-made j image bs c e _
       (stream-answers h (joinedAll [] ms) (origin k ms) state (by-frames (factoryOf d) ms .2) (state-holds (h .key)) (origin-low k) image bs version n most i v)
+
+  pub set-answered : SetAnswered ms (reached p l d ms)
+  set-answered version n k v i j image bs c e u =
+      let w = joinedAll [] ms in
+      let a = allFramed image state (framesBy w bs) in
+      let x = originBehind k ms bs in
+      let g : SettingsKey k → setting (a .settings) k ≡ setSince k x = λ h.
+      frames-hold h w (origin k ms) state (state-holds h) image bs .held ∙ after-sets k (x .setting) (x .requests) (origin-low k) in
+      replied-made j image bs c e _
+      (stream-replies w state (by-frames (factoryOf d) ms .2) image bs (setOf version n k v) u
+      ∙ rw (reply-set image a version n k v i, set-result (a .settings) k v (setSince k x) g))
 
   pub passphrase-unread : PassphraseUnread ms (reached p l d ms)
   passphrase-unread version n most i j image bs c e v =
