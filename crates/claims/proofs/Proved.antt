@@ -15,10 +15,26 @@ use Rattle.claims.specs.Claims.{NumberDue, AsItWas, Demand1, Demand2, De
 use Rattle.claims.specs.Claims.{Item8, Item9, Item10, Item11, Item12, Item13, Item14, BothEnds}
 
 pub number-due : NumberDue
-number-due = record { line = Line.number-due; supervisor = Supervisor.number-due; main-processor = Main.number-due }
+number-due = record {
+  line = Line.number-due;
+  supervisor = Supervisor.number-due;
+  main-processor = Main.number-due;
+  link-reader = Rot.item-7 .link-refused-exactly;
+  link-writer = Rot.item-7 .link-writer-refused-exactly;
+  probe-update-done = Probes.item-4 .update-done;
+  probe-update-refused = Probes.item-4 .update-refused;
+  address-plan = Addresses.item-9 .plan-refused-exactly;
+}
 
 pub as-it-was : AsItWas
-as-it-was = record { line = Line.as-it-was; supervisor = Supervisor.as-it-was; main-processor = Main.as-it-was }
+as-it-was = record {
+  line = Line.as-it-was;
+  supervisor = Supervisor.as-it-was;
+  main-processor = Main.as-it-was;
+  link-reader = Rot.item-7 .link-untouched;
+  link-writer = Rot.item-7 .link-writer-untouched;
+  probe-update-refused = Probes.item-4 .update-refused;
+}
 
 pub demand-1 : Demand1
 demand-1 = record { number-due = number-due; as-it-was = as-it-was }

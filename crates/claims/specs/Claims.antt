@@ -32,12 +32,22 @@ pub record NumberDue : Type 0 where
   pub line : LineDemand1.NumberDue
   pub supervisor : SupervisorDemand1.NumberDue
   pub main-processor : MainDemand1.NumberDue
+  -- the root-of-trust link's reader and writer, the probe list's 15, the address plan's 16
+  pub link-reader : RotItem7.LinkRefusedExactly
+  pub link-writer : RotItem7.LinkWriterRefusedExactly
+  pub probe-update-done : ProbesItem4.UpdateDone
+  pub probe-update-refused : ProbesItem4.UpdateRefused
+  pub address-plan : AddressesItem9.PlanRefusedExactly
 
 -- and, of a refused call, everything lent as it was
 pub record AsItWas : Type 0 where
   pub line : LineDemand1.AsItWas
   pub supervisor : SupervisorDemand1.AsItWas
   pub main-processor : MainDemand1.AsItWas
+  -- the root-of-trust link's reader and writer, and the probe list
+  pub link-reader : RotItem7.LinkUntouched
+  pub link-writer : RotItem7.LinkWriterUntouched
+  pub probe-update-refused : ProbesItem4.UpdateRefused
 
 -- Any bytes, any arguments. No field says that every public call ends, stays in its memory and tests its own arguments.
 -- The prover checks that when it accepts a function, and no public function's contract has a hypothesis.

@@ -6,6 +6,7 @@ pub mod Pieces
 pub mod CobsClaims
 pub mod JudgeClaim
 pub mod SpellingClaim
+pub mod LastOneClaim
 pub mod WireClaim
 pub mod Changes
 pub mod ApartClaim

@@ -16,6 +16,7 @@ use Rattle.line_claims.proofs.ReaderClaim.{hands-out, any-stream, any-m
 use Rattle.line_claims.proofs.ChecksumClaim.{checksum-claim}
 use Rattle.line_claims.proofs.JudgeClaim.{ff-never-matches, ff-reason-2}
 use Rattle.line_claims.proofs.SpellingClaim.{one-spelling, read-written, good-frame}
+use Rattle.line_claims.proofs.LastOneClaim.{last-one-reason-1}
 use Rattle.line_claims.proofs.FrameClaim.{handed-frames, handed-wire, answers-determine}
 use Rattle.line_claims.proofs.ApartClaim.{checksum-apart, checksum-255-apart, opposite-255-apart, exchanged-255-apart}
 use Rattle.line_claims.proofs.DistanceClaim.{checksum-distance}
@@ -77,6 +78,7 @@ blind-spots = record { checksum-claim = checksum-claim; ff-never-matches = ff-ne
 
 pub item-6 : Item6
 item-6 = record {
+  last-one-reason-1 = last-one-reason-1;
   one-spelling = one-spelling;
   read-written = read-written;
   good-frame = good-frame;

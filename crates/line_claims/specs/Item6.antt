@@ -2,13 +2,14 @@
 -- Assumes nothing: these are definitions and statements.
 use mathlib.Core.Path.{_≡_}
 use mathlib.Core.List.{List, [], _∷_, _++_, map}
-use mathlib.Core.Option.{some}
+use mathlib.Core.Option.{none, some}
 use Prim.Native.Nat.{ℕ}
+use lib.ListN.{length}
 use Rattle.octets.specs.Bytes.{Byte, Each}
 use Rattle.line.specs.Message.{Message}
 use Rattle.line.specs.Cobs.{cobs, uncobs}
 use Rattle.line.specs.Frame.{frame, Wire}
-use Rattle.line.specs.Judge.{good, judge}
+use Rattle.line.specs.Judge.{failure, good, judge}
 use Rattle.line_claims.specs.Pieces.{NonZero, split, nonEmpty, withZeros}
 use Rattle.line_claims.specs.Calls.{Reader, OfFreshReader, goodFrames, reportedBytes}
 
@@ -16,6 +17,9 @@ use Rattle.line_claims.specs.Calls.{Reader, OfFreshReader, goodFrames, r
 pub record Form (form : List ℕ) : Type 0 where
   pub some-byte : form ≡ [] → ⊥
   pub bytes : Each NonZero form
+
+abbrev pub LastOneReason1 : Type 0
+LastOneReason1 = (f g ys : List ℕ) → uncobs f ≡ some ys → length g ≡ 254 → judge (f ++ 0xff ∷ (g ++ 0x01 ∷ [])) ≡ failure 1 none
 
 abbrev pub OneSpelling : Type 0
 OneSpelling = (f g xs : List ℕ) → Form f → Form g → uncobs f ≡ some xs → uncobs g ≡ some xs → f ≡ g
@@ -41,6 +45,8 @@ abbrev pub AnswersDetermine : Reader → Type 0
 AnswersDetermine r = Each Byte (r .bytes) → r .failures ≡ [] → r .bytes ≡ reportedBytes (r .answered) (r .messages) ++ split (r .bytes) .rest
 
 pub record Item6 : Type 0 where
+  -- a last 01 after a full group, behind any groups or none, is reason 1 ahead of the length test: whatever the decoded length
+  pub last-one-reason-1 : LastOneReason1
   -- forms that are read as equal bytes are the same form
   pub one-spelling : OneSpelling
   -- a form that is read as xs is the one that is written of xs

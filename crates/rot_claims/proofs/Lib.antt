@@ -2,4 +2,5 @@
 -- Assumes nothing.
 pub mod Samples
 pub mod ReadBack
+pub mod LinkRefusals
 pub mod Proved

@@ -1,14 +1,23 @@
--- Document 02's item 7: 003's vectors; what was written is read back, bytes behind it or not; the echo's answer is an echo response; one message for any bytes.
+-- Document 02's item 7: 003's vectors; refusals; what was written is read back, bytes behind it or not; the echo's answer; the CRC's table.
 -- Assumes nothing: these are definitions and statements.
 use mathlib.Core.Path.{_≡_}
-use mathlib.Core.Bool.{true}
-use mathlib.Core.List.{List, [], _++_, map}
-use Prim.Native.Nat.{ℕ, _≤_}
-use lib.ListN.{length, take, drop}
+use mathlib.Core.Bool.{true, cond, not, _&&_}
+use mathlib.Core.List.{List, [], _∷_, _++_, map}
+use mathlib.Core.Logic.{_↔_}
+use mathlib.Core.Option.{none, some}
+use Prim.Native.Nat.{ℕ, _*_, _/_, _%_, _^_, _≤_, _<_}
+use lib.Bits.{bitXor}
+use lib.Dec.{eqb, ltb}
+use lib.ListN.{length, take, drop, getD}
+use Rattle.line_claims.specs.TableTests.{TableTest, test, firstFailing}
 use Rattle.octets.specs.Bytes.{Byte, Each}
 use Rattle.rot.specs.Limits.{longest-payload}
 use Rattle.rot.specs.Message.{echo-request, echo-response, listed, Message, message, echoed}
-use Rattle.rot.specs.Answers.{handed, wrote, Outcome, outcome, sending}
+use Rattle.rot.specs.Crc.{afterBits, bits}
+use Rattle.rot.specs.Table.{Entries}
+use Rattle.rot.specs.Answers.{refused, nothing, handed, wrote, Outcome, outcome, sending}
+use Rattle.rot.specs.Reading.{typeOf, payloadOf, noInput, nothingSent, wrongProtocol, shortHeader, longPayload}
+use Rattle.rot.specs.Reading.{cutShort, wrongCrc, wrongType}
 use Rattle.rot.specs.Reading.{good, judge, reading, payloadPart}
 use Rattle.rot.specs.Writing.{messageOf, writing}
 use Rattle.rot_claims.specs.Samples.{meant, samples}
@@ -30,6 +39,53 @@ pub record Echoed (input : List ℕ) (n : ℕ) (o : Outcome) : Type 0 where
   pub judged : judge input ≡ good asked
   pub request : asked .type ≡ echo-request
   pub bytes : take n (o .out) ≡ message (echoed asked)
+
+-- the reader's tests in document 02's order; protocol 0, whatever follows, is no refusal; 8 is for the echo's answer
+unfoldable pub linkTests : List ℕ → List ℕ → List TableTest
+linkTests input out =
+    test 20 (noInput input)
+    ∷ cond (nothingSent input) []
+    (test 21 (wrongProtocol input)
+    ∷ test 22 (shortHeader input)
+    ∷ test 23 (longPayload input)
+    ∷ test 24 (cutShort input)
+    ∷ test 25 (wrongCrc input)
+    ∷ test 26 (wrongType input)
+    ∷ test 8 (eqb (typeOf input) echo-request && ltb (length out) (length (message (messageOf echo-response (payloadOf input)))))
+    ∷ [])
+
+abbrev pub LinkRefusedExactly : Type 0
+LinkRefusedExactly = (input out : List ℕ) (n : ℕ) → (reading input out .answer ≡ refused n) ↔ (firstFailing (linkTests input out) ≡ some n)
+
+abbrev pub LinkUntouched : Type 0
+LinkUntouched = (input out : List ℕ) (n : ℕ) → reading input out .answer ≡ refused n → reading input out .out ≡ out
+
+abbrev pub NothingSent : Type 0
+NothingSent = (rest out : List ℕ) → (reading (0 ∷ rest) out ≡ outcome nothing out) × (payloadPart (0 ∷ rest) ≡ [])
+
+-- the writer's tests: 23, 26, then 8
+abbrev pub linkWriterTests : Message → List ℕ → List TableTest
+linkWriterTests m out =
+    test 23 (ltb longest-payload (length (m .payload)))
+    ∷ test 26 (not (listed (m .type)))
+    ∷ test 8 (ltb (length out) (length (message m)))
+    ∷ []
+
+abbrev pub LinkWriterRefusedExactly : Type 0
+LinkWriterRefusedExactly = (m : Message) (out : List ℕ) (n : ℕ)
+    → (writing m out .answer ≡ refused n) ↔ (firstFailing (linkWriterTests m out) ≡ some n)
+
+abbrev pub LinkWriterUntouched : Type 0
+LinkWriterUntouched = (m : Message) (out : List ℕ) (n : ℕ) → writing m out .answer ≡ refused n → writing m out .out ≡ out
+
+abbrev pub LinkWriterWrites : Type 0
+LinkWriterWrites = (m : Message) (out : List ℕ) → firstFailing (linkWriterTests m out) ≡ none
+    → writing m out ≡ outcome (wrote (length (message m))) (message m ++ drop (length (message m)) out)
+
+-- one byte of the message, by a table of 256 entries that follow the eight-shift rule
+abbrev pub ByTable : Type 0
+ByTable = (table : List ℕ) → Entries table → (register byte : ℕ) → register < 2 ^ 32 → byte < 256
+    → afterBits register (bits 8 byte) ≡ bitXor (getD table (bitXor (register / 2 ^ 24) byte) 0) (register % 2 ^ 24 * 2 ^ 8)
 
 abbrev pub SamplesHold : Type 0
 SamplesHold = map meant samples ≡ samples
@@ -62,6 +118,20 @@ BehindIgnored = (input : List ℕ) (m : Message) → Each Byte input → judge i
 pub record Item7 : Type 0 where
   -- 003's two echo messages, as a single table, over the meaning itself
   pub samples-hold : SamplesHold
+  -- the reader refuses exactly by the first of its tests that fails: 20 to 26 in this order, then 8 for the echo's answer
+  pub link-refused-exactly : LinkRefusedExactly
+  -- and leaves the room then
+  pub link-untouched : LinkUntouched
+  -- protocol 0, whatever follows, means that nothing was sent
+  pub nothing-sent : NothingSent
+  -- the writer refuses exactly by 23, 26, then 8
+  pub link-writer-refused-exactly : LinkWriterRefusedExactly
+  -- and leaves the room then
+  pub link-writer-untouched : LinkWriterUntouched
+  -- any other call puts exactly the message at the room's start; every byte behind it stays
+  pub link-writer-writes : LinkWriterWrites
+  -- the CRC is worked from a table of 256 entries: one look is the eight bits of a byte, the top bit first
+  pub crc-by-table : ByTable
   -- what was written in any room, with any bytes behind it, is read as that message
   pub reads-back : ReadsBack
   -- where the reader wrote, its input was an echo request; its answer, with any bytes behind it, is read as an echo response with the same payload

@@ -3,19 +3,39 @@
 use mathlib.Core.Path.{_≡_, refl, sym, ap, _∙_}
 use mathlib.Core.List.{List, [], _∷_, _++_}
 use mathlib.Core.Option.{Option, none, some}
-use Prim.Native.Nat.{ℕ, suc, _+_, _≤_, _<_}
+use Prim.Native.Nat.{ℕ, suc, _+_, _*_, _≤_, _<_}
 use native.Mathlib.Omega.{arith}
 use lib.ListN.{length, take, drop, take-append-drop, length-drop}
 use lib.Seq.{take-at, take-all, length-take-le}
-use Rattle.octets.specs.Bytes.{Byte, Each}
+use borrow.Author.Tests.{le-ltb, le-leb, lt-leb}
+use Rattle.octets.specs.Bytes.{Byte, Each, number, equal}
 use Rattle.supervisor.specs.Limits.{first-setting}
 use Rattle.supervisor.specs.State.{Settings}
-use Rattle.saving.specs.Saving.{highest-saved, saved-count, recordFor, imageFrom, saved, Read, fault, good, ahead, ended, entryAt, readFrom, read}
+use Rattle.saving.specs.Saving.{highest-saved, saved-count, recordFor, imageFrom, saved, Read, fault, good, ahead}
+use Rattle.saving.specs.Saving.{bad, ended, entryAt, readIn, step, follows, readFrom, read}
 use Rattle.saving.proofs.StepLaws.{Passed, passed, Sound, step-sound}
 use Rattle.saving.proofs.ReadLaws.{read-at, reading-by}
 use Rattle.saving_claims.proofs.RecordLaws.{end-read, record-read, entry-read, rest-here, record-exact}
-use Rattle.saving_claims.specs.Item11.{SavableBy, Savable, aheadOf, entriesOf, records, SavedRead, SavedRestores, SavedRestoresInto, ImageExact, ImageOne}
+use Rattle.saving_claims.specs.Item11.{SavableBy, Savable, aheadOf, entriesOf, records, SavedRead, SavedRestores}
+use Rattle.saving_claims.specs.Item11.{SavedRestoresInto, ImageExact, ImageOne, SavedOmits, OtherKey31}
 use Rattle.saving_claims.proofs.EntryLaws.{settingsIn, restored-split, settings-kept, Rising, written, rising-first, length-settings, settings-written}
+
+-- ---- what is saved, and a key that is not
+
+pub saved-omits : SavedOmits
+unfolding saved
+saved-omits xs ys e = rw e
+
+key-step : (k : ℕ) (rest : List ℕ) → 5 < k → step (0x4b ∷ 0x56 ∷ k ∷ rest) 0 0 ≡ bad 31 2
+unfolding step follows equal number
+key-step k rest l =
+    let n = length (0x4b ∷ 0x56 ∷ k ∷ rest) in
+    let e : k + 0 * 256 ≡ k = omega arith in
+    rw (le-ltb n 2 (omega arith), le-ltb n 3 (omega arith), e, le-leb first-setting k (omega arith), lt-leb k highest-saved l)
+
+pub other-key-31 : OtherKey31
+unfolding read readFrom readIn
+other-key-31 k rest h l = rw (key-step k rest l)
 
 -- ---- what was saved restores
 

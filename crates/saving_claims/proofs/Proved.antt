@@ -2,10 +2,13 @@
 -- Assumes nothing.
 use Rattle.saving_claims.specs.Item11.{Item11}
 use Rattle.saving_claims.proofs.Samples.{samples-hold}
-use Rattle.saving_claims.proofs.Item11.{saved-read, saved-restores, saved-restores-into, image-exact, image-one}
+use Rattle.saving_claims.proofs.Item11.{saved-omits, other-key-31, saved-read}
+use Rattle.saving_claims.proofs.Item11.{saved-restores, saved-restores-into, image-exact, image-one}
 
 pub item-11 : Item11
 item-11 = record {
+  saved-omits = saved-omits;
+  other-key-31 = other-key-31;
   samples-hold = samples-hold;
   saved-read = saved-read;
   saved-restores = saved-restores;

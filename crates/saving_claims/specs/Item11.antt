@@ -8,7 +8,7 @@ use lib.ListN.{length, take, drop}
 use Rattle.octets.specs.Bytes.{Byte, Each}
 use Rattle.supervisor.specs.Limits.{first-setting, longest-setting}
 use Rattle.supervisor.specs.State.{Settings}
-use Rattle.saving.specs.Saving.{saved-count, saved, Entry, good, read, restored}
+use Rattle.saving.specs.Saving.{saved-count, saved, Entry, fault, good, read, restored}
 use Rattle.saving_claims.specs.Samples.{meant, samples}
 
 -- no value and edition 0, or a value that is not too long and an edition of 32 bits
@@ -59,7 +59,17 @@ abbrev pub ImageOne : Type 0
 ImageOne = (i j : List ℕ) → Each Byte i → Each Byte j → (es fs : List Entry) → read i ≡ good es → read j ≡ good fs
     → (ys : Settings) → saved-count ≤ length ys → restored es ys ≡ restored fs ys → i ≡ j
 
+abbrev pub SavedOmits : Type 0
+SavedOmits = (xs ys : Settings) → take 3 xs ≡ take 3 ys → saved xs ≡ saved ys
+
+abbrev pub OtherKey31 : Type 0
+OtherKey31 = (k : ℕ) (rest : List ℕ) → k < 256 → 5 < k → read (0x4b ∷ 0x56 ∷ k ∷ rest) ≡ fault 31 2
+
 pub record Item11 : Type 0 where
+  -- the image is that of keys 3, 4 and 5 alone
+  pub saved-omits : SavedOmits
+  -- a first record of a key above 5 is fault 31, at the key
+  pub other-key-31 : OtherKey31
   -- small images, each with what it holds or its first fault and that fault's offset, as a single table, over the meaning itself
   pub samples-hold : SamplesHold
   -- the image of settings that can be saved has no fault, and holds their records

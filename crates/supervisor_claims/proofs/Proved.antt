@@ -29,6 +29,8 @@ use Rattle.supervisor_claims.proofs.claims.WithdrawnKeys.{passphrase-un
 use Rattle.supervisor_claims.proofs.claims.RetainedClaim.{retained-stays, reboot-forgets, power-off-forgets, fresh-alert}
 use Rattle.supervisor_claims.proofs.claims.AlertClaim.{local-keeps, failed-keeps, request-retains, retained-exactly, fresh-alert-answered, fresh-after-reboot}
 use Rattle.supervisor_claims.proofs.claims.SavedClaim.{key-savable, save-writes, saved-restores, accepted-exact}
+use Rattle.supervisor_claims.proofs.claims.SavingRefusals.{save-refused-exactly, restore-refused-exactly, restore-fault}
+use Rattle.saving_claims.proofs.Item11.{saved-omits, other-key-31}
 use Rattle.supervisor_claims.proofs.TwoRuns.{two-states, two-runs}
 
 pub number-due : NumberDue
@@ -121,6 +123,9 @@ item-5 = record {
 
 pub item-11 : Item11
 item-11 = record {
+  save-refused-exactly = save-refused-exactly;
+  restore-refused-exactly = restore-refused-exactly;
+  restore-fault = restore-fault;
   image-meant = image-meant;
   good-meant = good-meant;
   replaced-other = replaced-other;
@@ -140,5 +145,7 @@ item-14 = record {
   passphrase-unread-locally = passphrase-unread-locally;
   two-states = two-states;
   two-runs = two-runs;
+  saved-omits = saved-omits;
+  other-key-31 = other-key-31;
   replaced-other = replaced-other;
 }

@@ -15,4 +15,5 @@ pub mod WithdrawnKeys
 pub mod RetainedClaim
 pub mod AlertClaim
 pub mod SavedClaim
+pub mod SavingRefusals
 pub mod TwoRunLaws

@@ -1,19 +1,23 @@
 -- Document 02's item 11, saving the settings: over the supervisor's parts, what was saved restores, and an accepted image is the saved form of what it leaves.
 -- Assumes nothing: these are definitions and statements.
 use mathlib.Core.Path.{_≡_}
-use mathlib.Core.Bool.{true}
-use mathlib.Core.List.{List, _++_}
+use mathlib.Core.Bool.{true, not}
+use mathlib.Core.List.{List, [], _∷_, _++_}
+use mathlib.Core.Logic.{_↔_}
+use mathlib.Core.Option.{some}
 use Prim.Native.Nat.{ℕ, _+_, _≤_}
+use lib.Dec.{ltb}
 use lib.ListN.{length, take, drop}
 use Rattle.octets.specs.Bytes.{Each, Byte, overlay}
 use Rattle.supervisor.specs.Limits
 use Rattle.supervisor.specs.Limits.{SettingsKey}
 use Rattle.supervisor.specs.State.{Setting, Settings, setting, withSettings}
 use Rattle.supervisor.specs.Calls.{Parts}
-use Rattle.supervisor.specs.Valid.{SettingsValid}
+use Rattle.supervisor.specs.Valid.{SettingsValid, validSettings}
 use Rattle.saving.specs.Saving
 use Rattle.saving.specs.Saving.{Entry, saved-count, saved}
 use Rattle.saving.specs.Calls as SavingCalls
+use Rattle.line_claims.specs.TableTests.{test, firstFailing}
 use Rattle.saving_claims.specs.Item11.{SavableBy}
 use Rattle.supervisor_claims.specs.View.{settingsOf, view}
 use Rattle.supervisor_claims.specs.Sound.{Sound}
@@ -56,7 +60,25 @@ abbrev pub ReplacedOther : Type 0
 ReplacedOther = (es : List Entry) (n : ℕ) (z : Settings) (k : ℕ) → SettingsKey k → Limits.first-setting + n ≤ k
     → setting (Saving.replaced n es z) k ≡ setting z k
 
+abbrev pub SaveRefusedExactly : Type 0
+SaveRefusedExactly = (s room : List ℕ) (n : ℕ) → (SavingCalls.saving s room .report ≡ SavingCalls.refused n)
+    ↔ (firstFailing (test 12 (not (validSettings s)) ∷ test 8 (ltb (length room) (length (SavingCalls.imageBytes s))) ∷ []) ≡ some n)
+
+abbrev pub RestoreRefusedExactly : Type 0
+RestoreRefusedExactly = (s image : List ℕ) (n : ℕ) → (SavingCalls.restoring s image .report ≡ SavingCalls.RestoreReport.refused n)
+    ↔ (firstFailing (test 12 (not (validSettings s)) ∷ []) ≡ some n)
+
+abbrev pub RestoreFault : Type 0
+RestoreFault = (s image : List ℕ) (n at : ℕ) → validSettings s ≡ true → Saving.read image ≡ Saving.fault n at
+    → SavingCalls.restoring s image ≡ record { report = SavingCalls.faulty n at; settings = s }
+
 pub record Item11 : Type 0 where
+  -- saving tests 12, then 8
+  pub save-refused-exactly : SaveRefusedExactly
+  -- restore tests 12
+  pub restore-refused-exactly : RestoreRefusedExactly
+  -- then it refuses an image at its first fault, with the offset, changing nothing
+  pub restore-fault : RestoreFault
   -- the bytes that a save writes are the saved form of the settings that the store holds
   pub image-meant : ImageMeant
   -- the bytes that a good image leaves in the store hold the settings that it restores

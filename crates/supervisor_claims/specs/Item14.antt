@@ -16,6 +16,7 @@ use Rattle.supervisor_claims.specs.Histories.{outputs, left, AllTyped, l
 use Rattle.supervisor_claims.specs.FrameHistory.{Replied, OnRequest}
 use Rattle.supervisor_claims.specs.LastSet.{lookupOf, SetAnswered}
 use Rattle.supervisor_claims.specs.TwoRuns.{Run, leftBy, receivedIn, SameBut, withoutPassphrase, passphraseEdition, setsToCome}
+use Rattle.saving_claims.specs.Item11.{SavedOmits, OtherKey31}
 use Rattle.supervisor_claims.specs.Item4.{ValueLengths}
 use Rattle.supervisor_claims.specs.Item5.{StoresNothing}
 use Rattle.supervisor_claims.specs.Item11.{ReplacedOther}
@@ -63,5 +64,9 @@ pub record Item14 : Type 0 where
   pub two-states : TwoStates
   -- so where all bytes of the parts outside the passphrase's record are equal
   pub two-runs : TwoRuns
+  -- the saved image omits key 6: it is that of keys 3, 4 and 5 alone
+  pub saved-omits : SavedOmits
+  -- restore refuses its record as 31
+  pub other-key-31 : OtherKey31
   -- restore leaves key 6, as it leaves every setting that is not saved
   pub replaced-other : ReplacedOther
