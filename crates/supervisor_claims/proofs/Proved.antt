@@ -10,7 +10,7 @@ use Rattle.supervisor_claims.specs.Item14.{Item14}
 use Rattle.supervisor_claims.proofs.laws.SavingLaws.{image-meant, good-meant}
 use Rattle.supervisor_claims.proofs.calls.StartClaim.{start-meant}
 use Rattle.supervisor_claims.proofs.calls.LookupClaim.{edition-meant}
-use Rattle.supervisor_claims.proofs.claims.Refusals.{refused-exactly, refused-holds, parts-fit}
+use Rattle.supervisor_claims.proofs.claims.Refusals.{each-number-exactly, refused-exactly, refused-holds, parts-fit}
 use Rattle.supervisor_claims.proofs.claims.LentCalls.{made-12}
 use Rattle.supervisor_claims.proofs.claims.History.{one-call, refused-made, fault-made, no-12, history, cut}
 use Rattle.supervisor_claims.proofs.claims.History.{step-receives, step-then-receive, steps-receive}
@@ -35,6 +35,7 @@ use Rattle.supervisor_claims.proofs.TwoRuns.{two-states, two-runs}
 
 pub number-due : NumberDue
 number-due = record {
+  each-number-exactly = each-number-exactly;
   one-call = one-call;
   refused-exactly = refused-exactly;
   made-12 = made-12;

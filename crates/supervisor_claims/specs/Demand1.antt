@@ -1,19 +1,23 @@
 -- Demand 1 of the supervisor's calls: any bytes, any arguments, any loans; each number of the table exactly where it is due, and everything lent as it was.
 -- Assumes nothing: these are definitions and statements.
 use mathlib.Core.Path.{_≡_}
-use mathlib.Core.Bool.{Bool, true, false}
-use mathlib.Core.List.{List}
+use mathlib.Core.Bool.{Bool, true, false, not}
+use mathlib.Core.List.{List, [], _∷_}
 use mathlib.Core.Logic.{_↔_}
+use mathlib.Core.Option.{some}
 use Prim.Native.Nat.{ℕ, _+_, _≤_}
-use lib.Dec.{leb}
+use lib.Dec.{leb, ltb, eqb}
 use lib.ListN.{length}
 use Rattle.octets.specs.Bytes.{Each, Byte}
 use Rattle.line.specs.Reader as LineReader
+use Rattle.line_claims.specs.TableTests.{TableTest, test, firstFailing}
 use Rattle.line_claims.specs.Calls as LineCalls
 use Rattle.supervisor.specs.Layout
+use Rattle.supervisor.specs.Local
 use Rattle.supervisor.specs.Calls.{Parts}
 use Rattle.supervisor_claims.specs.ByPart.{Part, published, part, validPart}
-use Rattle.supervisor_claims.specs.View.{view}
+use Rattle.saving.specs.Calls as SavingCalls
+use Rattle.supervisor_claims.specs.View.{factoryOf, view}
 use Rattle.supervisor_claims.specs.Sound.{Sound, Lengths, Leaves, withReader}
 use Rattle.supervisor_claims.specs.Histories
 use Rattle.supervisor_claims.specs.Histories.{Call, Typed, refused, faulty, Did, didBy, did, Means, ofTaken, enough}
@@ -40,6 +44,27 @@ asks (Histories.local c) i s = validPart i s
 -- whether the parts that a call takes are as 12 requires
 unfoldable pub fit : Parts → Call → Bool
 fit p c = ofTaken c (λ i. asks c i (part p i))
+
+-- the tests of a call behind 12, in document 01's order: 13, 9, 11, 10, 8
+abbrev pub laterTests : Parts → Call → List TableTest
+laterTests p (Histories.start d) = test 11 (Local.badStart (factoryOf d)) ∷ []
+laterTests p (Histories.receive image piece) = []
+laterTests p (Histories.step image piece) = []
+laterTests p (Histories.local (Histories.take room)) = []
+laterTests p (Histories.local (Histories.post action text)) =
+    test 13 (eqb action 0) ∷ test 9 (ltb 256 (length text)) ∷ test 10 (leb 8 (length (view p .waiting))) ∷ []
+laterTests p (Histories.local (Histories.setOptions options)) = test 13 (not (Local.optionsAllowed options)) ∷ []
+laterTests p (Histories.local (Histories.lookup key most)) = []
+laterTests p (Histories.local (Histories.edition key)) = []
+laterTests p (Histories.local Histories.signal) = []
+laterTests p (Histories.local Histories.flags) = []
+laterTests p (Histories.local (Histories.readRecord k)) = []
+laterTests p (Histories.local (Histories.save room)) = test 8 (ltb (length room) (length (SavingCalls.imageBytes (p .settings)))) ∷ []
+laterTests p (Histories.local (Histories.restore image)) = []
+
+abbrev pub EachNumberExactly : Type 0
+EachNumberExactly = (p : Parts) (c : Call) (n : ℕ) → Typed c
+    → (did p c .answer ≡ refused n) ↔ (firstFailing (test 12 (not (fit p c)) ∷ laterTests p c) ≡ some n)
 
 abbrev pub RefusedExactly : Type 0
 RefusedExactly = (p : Parts) (c : Call) → (did p c .answer ≡ refused 12) ↔ (fit p c ≡ false)
@@ -74,7 +99,10 @@ abbrev pub PartsFit : Type 0
 PartsFit = LineReader.state-length + Layout.outbox-length + Layout.factory-length + Layout.settings-length + Layout.registers-length ≤ 65536
 
 pub record NumberDue : Type 0 where
-  -- on sound parts each call answers, writes and leaves what document 01 has of it: 8, 9, 10, 11 and 13 exactly where due, whatever is lent
+  -- Every call on any parts whatever: 12 exactly where a part that it takes is not as 12 requires.
+  -- Then 13, 9, 11, 10 and 8, in this order, exactly where due, and no other number.
+  pub each-number-exactly : EachNumberExactly
+  -- on sound parts each call answers, writes and leaves what document 01 has of it, whatever is lent
   pub one-call : OneCall
   -- 12 exactly where a part that the call takes is not as 12 requires, on any parts
   pub refused-exactly : RefusedExactly

@@ -1,14 +1,18 @@
 -- Refusals: 12 exactly where a part that a call takes is not as 12 requires; a refused call changes nothing. The parts' lengths.
 -- Assumes nothing.
 use mathlib.Core.Path.{_≡_, refl, sym, ap, _∙_}
-use mathlib.Core.Bool.{Bool, true, false, _&&_, and-true, and-false}
+use mathlib.Core.Bool.{Bool, true, false, cond, not, _&&_, and-true, and-false}
 use mathlib.Core.List.{List, []}
+use mathlib.Core.Logic.{_↔_}
+use mathlib.Core.Option.{Option, none, some}
 use Prim.Native.Nat.{ℕ}
 use native.Mathlib.Omega.{arith}
-use lib.Dec.{ltb, eqb}
+use lib.Dec.{leb, ltb, eqb}
 use lib.ListN.{length}
+use borrow.Author.Tests.{le-leb, lt-leb, ltb-true, ltb-false}
 use Rattle.octets.proofs.Conditions.{cond-by, cond-both}
 use Rattle.line.specs.Reader as LineReader
+use Rattle.line_claims.specs.TableTests.{firstFailing}
 use Rattle.supervisor.specs.Limits
 use Rattle.supervisor.specs.Layout
 use Rattle.supervisor.specs.Local
@@ -19,10 +23,13 @@ use Rattle.saving.specs.Saving
 use Rattle.saving.specs.Calls as SavingCalls
 use Rattle.requests.specs.Receive
 use Rattle.supervisor_claims.specs.ByPart.{part, validPart, everyPart}
+use Rattle.supervisor_claims.specs.View.{factoryOf, view}
 use Rattle.supervisor_claims.specs.Sound.{withSettingsPart, withRegisters}
 use Rattle.supervisor_claims.specs.Histories
-use Rattle.supervisor_claims.specs.Histories.{LocalCall, Call, Answer, refused, Did, didBy, did, refusal, untouched}
-use Rattle.supervisor_claims.specs.Demand1.{fit, RefusedExactly, RefusedHolds, PartsFit}
+use Rattle.supervisor_claims.specs.Histories.{LocalCall, Call, Typed, Answer, refused, Did, didBy, did, refusal, untouched}
+use Rattle.supervisor_claims.specs.Demand1.{fit, laterTests, EachNumberExactly, RefusedExactly, RefusedHolds, PartsFit}
+use Rattle.supervisor_claims.proofs.laws.GoodStart.{good-bad}
+use Rattle.supervisor_claims.proofs.laws.ViewLaws.{length-listed}
 use Rattle.supervisor_claims.proofs.laws.SavingLaws.{Faults, read-faults}
 use Rattle.supervisor_claims.proofs.calls.StepClaim.{valid-step-stepped}
 
@@ -194,6 +201,95 @@ module _ (p : Parts) where
           Other p (Histories.local (Histories.restore image)) (didBy (Histories.restoreAnswer (t .report)) [] (withSettingsPart p (t .settings)))
       by (Saving.fault n at) h = (λ k. omega (arith, h, k), refl, refl)
       by (Saving.good es) h = tt
+
+-- ---- each number exactly where its test is the first to fail
+
+-- a choice by a test, and one by its opposite
+cond-not : {A B : Type 0} (P : A → B → Type 0) (t : Bool) {x y : A} {v w : B} → P x w → P y v → P (cond t x y) (cond (not t) v w)
+cond-not P true f g = f
+cond-not P false f g = g
+
+not-cond : {A B : Type 0} (P : A → B → Type 0) (t : Bool) {x y : A} {v w : B} → P y v → P x w → P (cond (not t) x y) (cond t v w)
+not-cond P true f g = f
+not-cond P false f g = g
+
+clash : _≡_ {A = ℕ} 0 1 → ⊥
+clash z = omega arith
+
+module _ (n : ℕ) where
+  abbrev Numbered : Answer → Option ℕ → Type 0
+  Numbered a k = (a ≡ refused n) ↔ (k ≡ some n)
+
+  numbered-same : (k : ℕ) → Numbered (refused k) (some k)
+  numbered-same k = (λ e. cc, λ e. cc)
+
+  -- an answer that is no refusal
+  unnumbered : (a : Answer) → WhereRefused a (λ _. ⊥) → Numbered a none
+  unnumbered a h = (λ e. absurd (rw e at h), λ e. absurd (clash cc))
+
+  abbrev RegisteredAs : Calls.Registered → Option ℕ → Type 0
+  RegisteredAs r k = Numbered (refusal (r .refusal)) k
+
+  abbrev StartedAs : Calls.Start → Option ℕ → Type 0
+  StartedAs t k = Numbered (refusal (t .refusal)) k
+
+  fit-numbered : (p : Parts) (c : Call) → Typed c → fit p c ≡ true → Numbered (did p c .answer) (firstFailing (laterTests p c))
+  unfolding fit did firstFailing view Calls.starting Receive.receiving Receive.stepping Calls.taking Calls.posting Calls.settingOptions
+      Calls.lookupResult Calls.lookupValue Calls.editionResult Calls.editionAt Calls.signalOf Calls.flagsOf Calls.recordOf
+      Calls.recordBytes SavingCalls.saving SavingCalls.restoring SavingCalls.restoringBy
+  fit-numbered p (Histories.start d) t e =
+      rw (room-test p d e, good-bad d (omega (arith, t .0)))
+      (not-cond StartedAs (Local.badStart (factoryOf d)) (numbered-same 11) (unnumbered Histories.done tt))
+  fit-numbered p (Histories.receive image piece) t e = rw (receive-test p image piece e) (unnumbered Histories.done tt)
+  fit-numbered p (Histories.step image piece) t e = rw (receive-test p image piece e, valid-step-stepped image p piece) (unnumbered _ tt)
+  fit-numbered p (Histories.local (Histories.take room)) t e = rw (outbox-test p room e) (unnumbered _ tt)
+  fit-numbered p (Histories.local (Histories.post action text)) t e =
+      let a = Layout.alertCount (p .registers) in
+      rw (e, length-listed _ a)
+      (cond-both RegisteredAs (eqb action 0) (λ _. numbered-same 13) (λ _.
+      cond-both RegisteredAs (ltb Limits.longest-alert (length text)) (λ _. numbered-same 9) (λ _.
+      cond-by (λ r. RegisteredAs r (cond (leb Limits.most-alerts a) (some 10) none)) (ltb a Limits.most-alerts) _ _
+      (λ f. rw (lt-leb Limits.most-alerts a (ltb-true a Limits.most-alerts f)) (unnumbered Histories.done tt))
+      (λ f. rw (le-leb Limits.most-alerts a (ltb-false a Limits.most-alerts f)) (numbered-same 10)))))
+  fit-numbered p (Histories.local (Histories.setOptions options)) t e =
+      rw e (cond-not RegisteredAs (Local.optionsAllowed options) (unnumbered Histories.done tt) (numbered-same 13))
+  fit-numbered p (Histories.local (Histories.lookup key most)) t e =
+      rw (stores-test p (Histories.local (Histories.lookup key most)) refl e)
+      (cond-by P (ltb Limits.highest-key key) _ _ (λ f. unnumbered _ tt)
+      (λ f. unnumbered _ (found-held (λ _. ⊥) most (p .factory) (p .settings) key)))
+    where
+      P : Calls.LookupReport → Type 0
+      P a = Numbered (Histories.lookupAnswer a) none
+  fit-numbered p (Histories.local (Histories.edition key)) t e =
+      rw (stores-test p (Histories.local (Histories.edition key)) refl e)
+      (cond-by P (ltb Limits.highest-key key) _ _ (λ f. unnumbered _ tt)
+      (λ f. unnumbered _ (edition-held (λ _. ⊥) (p .factory) (p .settings) key)))
+    where
+      P : Calls.EditionReport → Type 0
+      P a = Numbered (Histories.editionAnswer a) none
+  fit-numbered p (Histories.local Histories.signal) t e = rw e (unnumbered _ tt)
+  fit-numbered p (Histories.local Histories.flags) t e = rw e (unnumbered _ tt)
+  fit-numbered p (Histories.local (Histories.readRecord k)) t e = rw e (unnumbered _ tt)
+  fit-numbered p (Histories.local (Histories.save room)) t e =
+      rw (settings-test p (Histories.local (Histories.save room)) refl e)
+      (cond-both P (ltb (length room) (length (SavingCalls.imageBytes (p .settings)))) (λ f. numbered-same 8) (λ f. unnumbered _ tt))
+    where
+      P : SavingCalls.Save → Option ℕ → Type 0
+      P s k = Numbered (Histories.saveAnswer (s .report)) k
+  fit-numbered p (Histories.local (Histories.restore image)) t e =
+      rw (settings-test p (Histories.local (Histories.restore image)) refl e) (by (Saving.read image))
+    where
+      by : (r : Saving.Read) → Numbered (Histories.restoreAnswer (SavingCalls.restoringBy (p .settings) r .report)) none
+      by (Saving.fault k at) = (λ f. absurd (clash cc), λ f. absurd (clash cc))
+      by (Saving.good es) = unnumbered Histories.done tt
+
+pub each-number-exactly : EachNumberExactly
+unfolding firstFailing
+each-number-exactly p c n t = by (fit p c) refl
+  where
+    by : (b : Bool) → fit p c ≡ b → Numbered n (did p c .answer) (cond (not (fit p c)) (some 12) (firstFailing (laterTests p c)))
+    by true e = rw e (fit-numbered n p c t e)
+    by false e = rw (e, refused-12 p c e) (numbered-same n 12)
 
 pub refused-exactly : RefusedExactly
 refused-exactly p c = (by (fit p c) refl, λ e. ap (λ (x : Did). x .answer) (refused-12 p c e))
