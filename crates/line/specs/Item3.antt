@@ -17,5 +17,5 @@ AllFit = most rows < 65536
 pub record Item3 : Type 0 where
   -- the sums over a block of any length and what follows are the same with the remainder taken once, behind the block
   pub sums-append : SumsAppend
-  -- a block of 256 bytes can't overflow: each column's sums fit 16 bits
+  -- in a block of 256 bytes, 16 rows of 16 columns, a column's second sum, the larger one, fits 16 bits
   pub all-fit : AllFit
