@@ -8,6 +8,7 @@ use native.Mathlib.Omega.{arith}
 use lib.Dec.{eqb·suc-zero}
 use lib.ListN as ListN
 use lib.Seq.{append-snoc}
+use Rattle.line.specs.Reader.{receivedOf}
 use Rattle.octets.specs.Bytes.{Each}
 use Rattle.octets.proofs.Each.{each-append}
 use Rattle.line.specs.Reader as LineReader
@@ -21,7 +22,7 @@ use Rattle.requests.specs.Receive as Receive
 use Rattle.counters.specs.declared.Counters.{Counters}
 use Rattle.counters.specs.Count.{frameEnded, bumpedFor, bumpedForAll}
 use Rattle.counters.specs.Counting.{endings, counting}
-use Rattle.supervisor_claims.specs.View.{receivedOf, view}
+use Rattle.supervisor_claims.specs.View.{view}
 use Rattle.supervisor_claims.specs.Histories
 use Rattle.supervisor_claims.specs.Histories.{Call, Answer, refused, Did, did, upTo, endedMeant, frameEnds, Lent, lentOf, enough, Made, made}
 use Rattle.supervisor_claims.specs.FrameHistory.{reads, receivedBy, endedBy, tailOf}

@@ -46,6 +46,10 @@ counted n s = overlay 0 (bytes 2 n) s
 unfoldable pub kept : List ℕ → List ℕ
 kept s = run frame-offset (count s) s
 
+-- what has come of a frame since the last 00: its bytes, none where they are more than a form has
+unfoldable pub receivedOf : List ℕ → Option (List ℕ)
+receivedOf s = cond (ltb longest-form (count s)) none (some (kept s))
+
 -- what the table's 12 requires of the state
 unfoldable pub valid : List ℕ → Bool
 valid s = leb state-length (length s) && leb (count s) overlong

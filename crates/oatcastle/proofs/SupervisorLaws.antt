@@ -10,8 +10,8 @@ use Rattle.supervisor.specs.Valid.{validOutbox}
 use Rattle.supervisor.specs.Calls
 use Rattle.supervisor.specs.Calls.{takeReport}
 use Rattle.supervisor.specs.declared.outbox.Taken.{Taken}
-use Rattle.oatcastle.specs.Answers.{outcome, writingAnswer, answering}
-use Rattle.oatcastle.specs.SupervisorCalls.{flag, takeGiven, takeCall}
+use Rattle.oatcastle.specs.Answers.{outcome, writingAnswer, answering, flag}
+use Rattle.oatcastle.specs.SupervisorCalls.{takeGiven, takeCall}
 use Rattle.oatcastle.proofs.AnswerLaws.{Writes, writes-says, writes-leaves, answering-short, answering-given}
 
 -- ---- Take

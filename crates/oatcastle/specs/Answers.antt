@@ -1,6 +1,6 @@
 -- What a call of the C interface returns and leaves: 0 or the table's number (document 01, "When a call says no"), and what it was lent.
 -- Assumes nothing: these are definitions.
-use mathlib.Core.Bool.{cond}
+use mathlib.Core.Bool.{Bool, cond}
 use mathlib.Core.List.{List}
 use mathlib.Core.Option.{Option, none, some}
 use Prim.Native.Nat.{ℕ}
@@ -24,6 +24,10 @@ outcome n left = record { number = n; left = left }
 abbrev pub numbered : Option ℕ → ℕ
 numbered none = 0
 numbered (some n) = n
+
+-- a Boolean as the number that C gets
+abbrev pub flag : Bool → ℕ
+flag b = cond b 1 0
 
 -- what a call says: the table's number of a refusal, or what it hands out
 pub data Report : Type 0 where

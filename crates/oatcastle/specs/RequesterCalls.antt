@@ -1,11 +1,11 @@
 -- The main processor's calls in the C interface: the number that each returns, and what it leaves of what it is lent.
 -- Assumes nothing: these are definitions.
-use mathlib.Core.Bool.{Bool, cond}
+use mathlib.Core.Bool.{Bool}
 use mathlib.Core.List.{List, [], _∷_}
 use Prim.Native.Nat.{ℕ}
 use Rattle.requester.specs.Calls
 use Rattle.requester.specs.Calls.{Parts}
-use Rattle.oatcastle.specs.Answers.{Outcome, outcome, numbered, Report, refused, given, answering}
+use Rattle.oatcastle.specs.Answers.{Outcome, outcome, numbered, Report, refused, given, answering, flag}
 
 -- ---- Start
 
@@ -46,9 +46,6 @@ interruptCall r = interruptDone (Calls.interrupting r)
 
 -- ---- Receive: used, kind, ended, unsent, and three numbers
 -- kind 0: nothing; 1: the answer, and 3: the answer to a recovery's 0x0a, each with sequence, command and length; 2: status, options, set bits
-
-abbrev pub flag : Bool → ℕ
-flag b = cond b 1 0
 
 unfoldable pub receiptGiven : ℕ → Calls.Report → Bool → Bool → Report
 receiptGiven used (Calls.Report.refused n) e u = refused n

@@ -1,12 +1,12 @@
 -- The calls of the supervisor in the C interface: the number that each returns, and what it leaves of what it is lent.
 -- Assumes nothing: these are definitions.
-use mathlib.Core.Bool.{Bool, cond}
+use mathlib.Core.Bool.{Bool}
 use mathlib.Core.List.{List, [], _∷_}
 use mathlib.Core.Option.{Option, none, some}
 use Prim.Native.Nat.{ℕ}
 use Rattle.supervisor.specs.Calls
 use Rattle.supervisor.specs.declared.registers.Kind.{Kind}
-use Rattle.oatcastle.specs.Answers.{Outcome, outcome, numbered, Report, refused, given, writingAnswer, answering, writingBoth}
+use Rattle.oatcastle.specs.Answers.{Outcome, outcome, numbered, Report, refused, given, writingAnswer, answering, writingBoth, flag}
 
 -- ---- Start
 
@@ -59,9 +59,6 @@ unfoldable pub editionCall : List ℕ → List ℕ → ℕ → List ℕ → Outc
 editionCall factory settings key answer = writingAnswer (editionGiven (Calls.editionResult factory settings key)) answer
 
 -- ---- Read the line signal, the two flags, a record
-
-abbrev pub flag : Bool → ℕ
-flag b = cond b 1 0
 
 unfoldable pub signalGiven : Calls.ReadReport Bool → Report
 signalGiven (Calls.is on) = given (flag on ∷ [])

@@ -14,8 +14,8 @@ use requester::sending::Sent;
 use requester::start::Started;
 ghost use mathlib.Core.Path.{_≡_};
 ghost use Rattle.requester.specs.Calls.{parts, requestReport, sendReport, receiveReport};
-ghost use Rattle.oatcastle.specs.Answers.{outcome, writingAnswer};
-ghost use Rattle.oatcastle.specs.RequesterCalls.{requesterStartCall, putGiven, requestCall, sendCall, shortPut, interruptCall, flag, receiptGiven, listenCall, shortReceipt};
+ghost use Rattle.oatcastle.specs.Answers.{outcome, writingAnswer, flag};
+ghost use Rattle.oatcastle.specs.RequesterCalls.{requesterStartCall, putGiven, requestCall, sendCall, shortPut, interruptCall, receiptGiven, listenCall, shortReceipt};
 
 // How many numbers `oatcastle_requester_receive` answers.
 const RECEIVE_NUMBERS: usize = 7;

@@ -2,7 +2,7 @@
 -- Assumes nothing: these are definitions.
 use mathlib.Core.Bool.{Bool, true, false, cond, _&&_}
 use mathlib.Core.List.{List, [], _∷_, _++_}
-use Prim.Native.Nat.{ℕ, zero, suc, _+_, _*_, _/_, _%_, _<_}
+use Prim.Native.Nat.{ℕ, zero, suc, _+_, _*_, _/_, _%_, _^_, _<_}
 use lib.Dec.{leb, eqb}
 use lib.ListN.{length, take, drop}
 
@@ -23,6 +23,10 @@ number (b ∷ bs) = b + number bs * 256
 unfoldable pub bytes : ℕ → ℕ → List ℕ
 bytes zero v = []
 bytes (suc k) v = v % 256 ∷ bytes k (v / 256)
+
+-- the bit of a number at a position
+abbrev pub bit : ℕ → ℕ → ℕ
+bit n k = n / 2 ^ k % 2
 
 -- the n bytes from an offset on, or as many as there are
 abbrev pub run : ℕ → ℕ → List ℕ → List ℕ

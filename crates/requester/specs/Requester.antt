@@ -3,11 +3,11 @@
 use mathlib.Core.Bool.{Bool, true, false, cond, not, _&&_, _||_}
 use mathlib.Core.List.{List, [], _∷_, _++_}
 use mathlib.Core.Option.{Option, none, some}
-use Prim.Native.Nat.{ℕ, suc, _+_, _/_, _%_, _^_}
+use Prim.Native.Nat.{ℕ, suc, _+_}
 use lib.Dec.{leb, ltb, eqb}
 use lib.Count.{ones}
 use lib.ListN.{length}
-use Rattle.octets.specs.Bytes.{numberAt}
+use Rattle.octets.specs.Bytes.{numberAt, bit}
 use Rattle.line.specs.Limits.{longest-data, longest-form}
 use Rattle.line.specs.Numbers.{first-version, top-bit, all-ones, status-length, command-reboot, command-power-off, command-boot-failure, reply-decode-failure, reply-status}
 use Rattle.line.specs.Message.{Message}
@@ -120,9 +120,6 @@ pub record Outcome : Type 0 where
 
 abbrev pub outcome : Handed → Next → Outcome
 outcome h x = record { handed = h; next = x }
-
-abbrev pub bit : ℕ → ℕ → ℕ
-bit n k = n / 2 ^ k % 2
 
 -- the lowest set bit first; bits above 1 are not served; once bits 0 and 1 are clear the original goes out, if any
 unfoldable pub served : Bool → ℕ → Next

@@ -11,6 +11,7 @@ use lib.Dec.{leb, ltb, eqb, eqb·suc-zero}
 use lib.ListN.{length}
 use lib.Seq.{take-nil}
 use borrow.Author.Tests.{lt-ltb, le-ltb, ltb-true, ltb-false, leb-true, leb-false, eq-eqb, ne-eqb, eqb-true, eqb-false}
+use Rattle.line.specs.Reader.{receivedOf}
 use Rattle.octets.proofs.Conditions.{cond-by, cond-both}
 use Rattle.line.specs.Limits.{longest-form}
 use Rattle.line.specs.Judge.{judge}
@@ -26,7 +27,7 @@ use Rattle.requester.specs.Calls.{Parts, parts, isOverlong, heardOf, outcomeOf,
 use Rattle.requester.proofs.ValidLaws.{requester-valid, valid-requester}
 use Rattle.requester.specs.Hearing.{dataFit}
 use Rattle.requester.proofs.ReaderLaws.{read-leaves, data-length}
-use Rattle.requester_claims.specs.View.{receivedOf, view}
+use Rattle.requester_claims.specs.View.{view}
 use Rattle.requester_claims.proofs.NextClaim.{kept-some, moves, Given, given-nothing, given-ground, given-good}
 use Rattle.requester_claims.proofs.ReceivedClaim.{received-none, received-some, length-kept, pushed-count, pushed-received, over-count, over-received, finished-received, finished-empty, finished-heard}
 use Rattle.requester_claims.proofs.OneByte.{Fed, fed, fedBy, feed, stopsAt, Walked, walk, receiptOf}

@@ -10,6 +10,7 @@ use lib.Dec.{leb, ltb, eqb}
 use lib.ListN.{length, replicate}
 use borrow.Author.Tests.{le-leb, ltb-false, leb-false}
 use native.Mathlib.Nat.{zero-add}
+use Rattle.line.specs.Reader.{receivedOf}
 use Rattle.octets.specs.Bytes.{number, run, overlay}
 use Rattle.octets.proofs.Conditions.{cond-by, cond-both}
 use Rattle.octets.proofs.Overlay.{length-overlay, overlay-part, overlay-none}
@@ -24,7 +25,7 @@ use Rattle.requester.specs.Layout
 use Rattle.requester.specs.Calls
 use Rattle.requester.specs.Calls.{Parts, parts, reportOf, PartsValid, LongEnough}
 use Rattle.requester.proofs.ValidLaws.{RequesterValid, requester-valid, valid-requester, valid-parts, long-enough-is}
-use Rattle.requester_claims.specs.View.{receivedOf, keptOf, held, view}
+use Rattle.requester_claims.specs.View.{keptOf, held, view}
 use Rattle.requester_claims.specs.Histories
 use Rattle.requester_claims.specs.Histories.{Call, Answer, didBy, did, refusal, withRequester, putDid, means, putMeans, meant}
 use Rattle.requester_claims.specs.Histories.{receiptDid, receiveAnswer}

@@ -8,6 +8,7 @@ use native.Mathlib.Nat.{add-zero}
 use native.Mathlib.Omega.{arith}
 use lib.ListN.{length}
 use borrow.Author.Tests.{lt-ltb, le-ltb, eq-eqb, ne-eqb}
+use Rattle.line.specs.Reader.{receivedOf}
 use Rattle.octets.specs.Bytes.{run, overlay}
 use Rattle.octets.proofs.Conditions.{cond-by, cond-both}
 use Rattle.octets.proofs.Overlay.{run-more, length-run, length-overlay, overlay-before, overlay-getD-inside}
@@ -19,7 +20,6 @@ use Rattle.line.proofs.State.{Ready, length-counted, count-counted, run-counted
 use Rattle.line.proofs.Held.{data-unpacked, finish-leaves}
 use Rattle.requester.specs.Requester.{heard}
 use Rattle.requester.specs.Calls.{heardOf}
-use Rattle.requester_claims.specs.View.{receivedOf}
 
 -- ---- the bytes since the last 00
 

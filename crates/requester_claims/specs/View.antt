@@ -4,16 +4,11 @@ use mathlib.Core.Bool.{cond}
 use mathlib.Core.List.{List}
 use mathlib.Core.Option.{Option, none, some}
 use Prim.Native.Nat.{ℕ}
-use lib.Dec.{ltb, eqb}
-use Rattle.line.specs.Limits.{longest-form}
-use Rattle.line.specs.Reader as LineReader
+use lib.Dec.{eqb}
+use Rattle.line.specs.Reader.{receivedOf}
 use Rattle.requester.specs.State.{Request, State, state}
 use Rattle.requester.specs.Layout
 use Rattle.requester.specs.Calls.{Parts}
-
--- the line reader's bytes since the last 00, none where they are more than a form has
-unfoldable pub receivedOf : List ℕ → Option (List ℕ)
-receivedOf s = cond (ltb longest-form (LineReader.count s)) none (some (LineReader.kept s))
 
 unfoldable pub keptOf : List ℕ → Option Request
 keptOf r = cond (Layout.isKept r) (some (Layout.keptRequest r)) none

@@ -12,7 +12,7 @@ use lib.Dec.{leb, ltb, eqb}
 use lib.ListN.{length, take, drop, replicate, length-append, length-drop, length-take}
 use lib.Seq.{take-length}
 use borrow.Author.Tests.{ltb-true, ltb-false}
-use Rattle.octets.specs.Bytes.{bytes, number, run, numberAt, overlay, equal}
+use Rattle.octets.specs.Bytes.{bytes, number, run, numberAt, overlay, equal, bit}
 use Rattle.octets.proofs.Conditions.{cond-by}
 use Rattle.octets.proofs.Numbers.{length-bytes, number-bytes, one-byte}
 use Rattle.octets.proofs.Overlay.{length-run, length-overlay, overlay-part, run-run}
@@ -22,7 +22,6 @@ use Rattle.line.specs.Limits.{longest-data, longest-form}
 use Rattle.line.proofs.FrameLength.{frame-fits}
 use Rattle.supervisor.specs.Limits
 use Rattle.supervisor.specs.Layout
-use Rattle.supervisor.specs.Local
 use Rattle.supervisor.specs.Valid.{validOutbox, validFactory, validSettings, validAlert, validRegisters}
 use Rattle.supervisor.specs.Calls.{resultNumber, lookupResult, editionNumber, editionResult}
 use Rattle.supervisor.proofs.KeyLaws.{value-short}
@@ -244,7 +243,7 @@ module _ (r : List ℕ) (code : ℕ) (rest : List ℕ) (v : validRegisters r ≡
 -- a cleared bit makes a number no greater
 pub clear-small : (n k : ℕ) → clearBit n k ≤ n
 unfolding clearBit
-clear-small n k = cond-by (λ m. m ≤ n) (eqb (Local.bit n k) 1) (n - 2 ^ k) n (λ _. omega arith) (λ _. omega arith)
+clear-small n k = cond-by (λ m. m ≤ n) (eqb (bit n k) 1) (n - 2 ^ k) n (λ _. omega arith) (λ _. omega arith)
 
 -- the status then
 pub taken-small : (status count : ℕ) → status ≤ 3 → cond (leb count 1) (clearBit status 1) status ≤ 3

@@ -6,7 +6,7 @@ use mathlib.Core.Option.{Option, none, some}
 use Prim.Native.Nat.{ℕ, zero, suc, _-_, _^_}
 use lib.Dec.{leb, ltb, eqb}
 use lib.ListN.{length, take, drop, replicate}
-use Rattle.octets.specs.Bytes.{bytes, numberAt, equal, run}
+use Rattle.octets.specs.Bytes.{bytes, numberAt, equal, run, bit}
 use Rattle.line.specs.Limits.{longest-form}
 use Rattle.line.specs.Numbers.{first-version, second-version, top-bit, all-ones, reply-acknowledged, reply-decode-failure, reply-bsu, reply-identity, reply-mac, reply-status, reply-alert, reply-image-block, reply-key-lookup, reply-inventory, reply-key-set, reason-form, reason-length, reason-version, reason-sequence, reason-data}
 use Rattle.line.specs.Message.{Message}
@@ -17,7 +17,7 @@ use Rattle.supervisor.specs.Limits.{inventory-bad-index, highest-key, first-set
 use Rattle.supervisor.specs.State.{Item, Factory, Settings, setting, Recorded, Alert, Retained, State}
 use Rattle.supervisor.specs.State.{withStatus, withReboot, withPowerOff, withBootFailure, withPanic, withSetting, withSettings, withWaiting, withRetained, withReceived, withPending}
 use Rattle.supervisor.specs.Number.{topSet}
-use Rattle.supervisor.specs.Local.{Found, bit, lookup}
+use Rattle.supervisor.specs.Local.{Found, lookup}
 use Rattle.requests.specs.Commands.{Command, commandOf, isListed, mayHave}
 
 -- ---- Versions (document 02, item 5)

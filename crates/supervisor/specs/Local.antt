@@ -3,10 +3,10 @@
 use mathlib.Core.Bool.{Bool, true, false, cond, not, _||_}
 use mathlib.Core.List.{List, [], _∷_, _++_}
 use mathlib.Core.Option.{Option, none, some}
-use Prim.Native.Nat.{ℕ, zero, suc, _+_, _/_, _%_, _^_}
+use Prim.Native.Nat.{ℕ, zero, suc, _+_, _^_}
 use lib.Dec.{leb, ltb, eqb}
 use lib.ListN.{length, take, drop, getD}
-use Rattle.octets.specs.Bytes.{bytes}
+use Rattle.octets.specs.Bytes.{bytes, bit}
 use Rattle.supervisor.specs.Limits.{bsu-a, bsu-b, inventory-item, inventory-absent, inventory-failed, most-items, longest-item-data, longest-image-id, highest-key, passphrase-key, most-alerts, longest-alert, highest-option}
 use Rattle.supervisor.specs.State.{Item, Factory, Setting, State, setting, withStatus, withOptions, withWaiting, withPending, withTerminatorOwed, fresh}
 
@@ -40,10 +40,6 @@ unfoldable pub start : Factory → Done
 start f = cond (badStart f) (refused 11) (left (fresh f))
 
 -- ---- Bits of a number
-
--- the bit at a position
-abbrev pub bit : ℕ → ℕ → ℕ
-bit n k = n / 2 ^ k % 2
 
 unfoldable pub setBit : ℕ → ℕ → ℕ
 setBit n k = cond (eqb (bit n k) 1) n (n + 2 ^ k)

@@ -4,10 +4,9 @@ use mathlib.Core.Bool.{cond}
 use mathlib.Core.List.{List, [], _∷_, _++_}
 use mathlib.Core.Option.{Option, none, some}
 use Prim.Native.Nat.{ℕ, zero, suc, _+_, _-_}
-use lib.Dec.{ltb, eqb}
+use lib.Dec.{eqb}
+use Rattle.line.specs.Reader.{receivedOf}
 use Rattle.octets.specs.Bytes.{run, numberAt}
-use Rattle.line.specs.Limits as LineLimits
-use Rattle.line.specs.Reader as LineReader
 use Rattle.supervisor.specs.Limits
 use Rattle.supervisor.specs.Layout
 use Rattle.supervisor.specs.State.{Item, Factory, Setting, Settings, Recorded, Alert, Retained, State}
@@ -72,11 +71,6 @@ retainedOf r =
       sequence = numberAt 8 r Layout.retained-sequence-offset;
       alert = alertOf r Layout.retained-alert-offset;
     }))
-
--- ---- the line reader's part: its bytes since the last 00, none where they are more than a form has
-
-unfoldable pub receivedOf : List ℕ → Option (List ℕ)
-receivedOf s = cond (ltb LineLimits.longest-form (LineReader.count s)) none (some (LineReader.kept s))
 
 -- ---- the outbox
 

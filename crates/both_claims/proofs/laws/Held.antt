@@ -10,6 +10,7 @@ use native.Mathlib.Omega.{arith}
 use lib.Dec.{eqb}
 use lib.ListN.{length}
 use borrow.Author.Tests.{eqb-true}
+use Rattle.line.specs.Reader.{receivedOf}
 use Rattle.octets.specs.Bytes.{Each, Byte}
 use Rattle.octets.proofs.Conditions.{cond-by}
 use Rattle.octets.proofs.Numbers.{number-small}
@@ -26,7 +27,7 @@ use Rattle.supervisor.specs.State.{Retained, State, withReceived}
 use Rattle.supervisor.specs.Calls.{Parts}
 use Rattle.requests.specs.Requests.{served, good, verdict, stream, replyOf}
 use Rattle.supervisor_claims.specs.ByPart.{Part, withPart}
-use Rattle.supervisor_claims.specs.View.{receivedOf, retainedOf, view}
+use Rattle.supervisor_claims.specs.View.{retainedOf, view}
 use Rattle.supervisor_claims.specs.Sound.{Sound}
 use Rattle.supervisor_claims.proofs.Sound.{sound-with}
 use Rattle.supervisor_claims.specs.FrameHistory.{framed, allFramed}

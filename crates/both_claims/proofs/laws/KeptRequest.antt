@@ -10,6 +10,7 @@ use native.Mathlib.Omega.{arith}
 use lib.Dec.{leb, ltb, eqb}
 use lib.ListN.{length}
 use borrow.Author.Tests.{leb-true, leb-false}
+use Rattle.octets.specs.Bytes.{bit}
 use Rattle.octets.proofs.Conditions.{cond-by}
 use Rattle.line.specs.Limits.{longest-data}
 use Rattle.line.specs.Numbers.{status-length}
@@ -61,8 +62,8 @@ module _ (s : State) (h : Handed) where
   served-after : (k : Option Request) → s .kept ≡ k → (n : ℕ) → Next (Requester.served (isSome k) n)
   unfolding Requester.served
   served-after k e n =
-      cond-by Next (eqb (Requester.bit n 0) 1) _ _ (λ _. anew-after (some acknowledge)) (λ _.
-      cond-by Next (eqb (Requester.bit n 1) 1) _ _ (λ _. anew-after (some alert)) (λ _. last-after k e))
+      cond-by Next (eqb (bit n 0) 1) _ _ (λ _. anew-after (some acknowledge)) (λ _.
+      cond-by Next (eqb (bit n 1) 1) _ _ (λ _. anew-after (some alert)) (λ _. last-after k e))
 
 module _ (s : State) where
   abbrev Outcome : Requester.Outcome → Type 0

@@ -8,6 +8,7 @@ use Prim.Native.Nat.{ℕ, _+_, _^_, _≤_, _<_}
 use native.Mathlib.Omega.{arith}
 use lib.Dec.{leb, eqb}
 use lib.ListN.{length}
+use Rattle.line.specs.Reader.{receivedOf}
 use Rattle.octets.specs.Bytes.{Each, Byte}
 use Rattle.octets.proofs.Conditions.{cond-by, cond-both}
 use Rattle.octets.proofs.Numbers.{one-byte, number-small}
@@ -26,7 +27,7 @@ use Rattle.requests.proofs.StepLaws.{served-small}
 use Rattle.requests.specs.Receive
 use Rattle.requests.proofs.KeptLaws.{carried-valid, inner-valid, valid-inner, sent-long, sent-owed, box-valid}
 use Rattle.supervisor_claims.specs.ByPart.{Part, withPart}
-use Rattle.supervisor_claims.specs.View.{receivedOf, view}
+use Rattle.supervisor_claims.specs.View.{view}
 use Rattle.supervisor_claims.specs.Sound.{withReader, withOutbox, Sound, Leaves}
 use Rattle.supervisor_claims.proofs.Sound.{lengths-same, lengths-then, sound-with}
 use Rattle.supervisor_claims.proofs.calls.SendingClaim.{reply-sendable, sent-pending, sent-bytes}

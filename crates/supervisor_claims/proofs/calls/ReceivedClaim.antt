@@ -10,6 +10,7 @@ use native.Mathlib.Omega.{arith}
 use lib.Dec.{leb, ltb, eqb}
 use lib.ListN.{length}
 use borrow.Author.Tests.{ltb-true, ltb-false, lt-ltb, le-ltb, leb-false, eqb-true, eqb-false}
+use Rattle.line.specs.Reader.{receivedOf}
 use Rattle.octets.specs.Bytes.{Byte, Each, bytes, run, overlay}
 use Rattle.octets.proofs.Conditions.{cond-by, cond-both}
 use Rattle.octets.proofs.Each.{each-take, each-drop}
@@ -29,7 +30,6 @@ use Rattle.line_claims.proofs.MessageLaws.{fields-range}
 use Rattle.line_claims.proofs.JudgeClaim.{judge-good}
 use Rattle.requests.specs.Requests.{Verdict, failure, good, served, known, lengthAllowed, tested, testedWhere, verdict, more, verdictSince}
 use Rattle.requests.specs.Receive.{verdictOf}
-use Rattle.supervisor_claims.specs.View.{receivedOf}
 
 -- ---- the bytes since the last 00
 

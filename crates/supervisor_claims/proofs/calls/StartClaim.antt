@@ -9,6 +9,7 @@ use Prim.Native.Nat.{ℕ, _+_, _-_, _≤_}
 use native.Mathlib.Omega.{arith}
 use lib.ListN.{length, take, replicate, length-append}
 use lib.Seq.{take-all}
+use Rattle.line.specs.Reader.{receivedOf}
 use Rattle.octets.proofs.Conditions.{cond-by}
 use Rattle.octets.specs.Bytes.{number, bytes, overlay}
 use Rattle.octets.proofs.Numbers.{length-bytes, number-bytes}
@@ -26,7 +27,7 @@ use Rattle.supervisor.proofs.OffsetLaws.{offset-within}
 use Rattle.supervisor.proofs.StartLaws.{LongEnough, long-enough-is}
 use Rattle.supervisor.proofs.ValidLaws.{OutboxValid, FactoryValid, RecordValid, RegistersValid}
 use Rattle.supervisor.proofs.ValidLaws.{all-none, start-good, valid-outbox, valid-factory, valid-settings, valid-registers}
-use Rattle.supervisor_claims.specs.View.{listed, factoryOf, settingOf, settingsOf, recordedOf, retainedOf, receivedOf, pendingOf, view}
+use Rattle.supervisor_claims.specs.View.{listed, factoryOf, settingOf, settingsOf, recordedOf, retainedOf, pendingOf, view}
 use Rattle.supervisor_claims.specs.Sound.{Valid}
 use Rattle.supervisor_claims.specs.Demand2.{Starts, StartMeant}
 use Rattle.supervisor_claims.proofs.laws.ViewLaws.{listed-same, listed-replicate, factory-same, Clear, length-clear, clear, overlay-middle}

@@ -7,6 +7,7 @@ use Prim.Native.Nat.{ℕ, zero, suc}
 use native.Mathlib.Omega.{arith}
 use lib.Dec.{ltb, eqb, eqb·suc-zero}
 use lib.ListN as ListN
+use Rattle.line.specs.Reader.{receivedOf}
 use Rattle.octets.proofs.Conditions.{cond-by}
 use Rattle.line.specs.Limits as LineLimits
 use Rattle.line.specs.Judge as Line
@@ -16,7 +17,6 @@ use Rattle.line.proofs.State.{valid-ready, ready-valid, ready-pushed}
 use Rattle.supervisor.specs.Calls.{Parts}
 use Rattle.requests.specs.Requests
 use Rattle.requests.specs.Receive
-use Rattle.supervisor_claims.specs.View.{receivedOf}
 use Rattle.supervisor_claims.specs.Histories.{upTo, endedMeant, frameEnds, stepped, stepAnswer}
 use Rattle.supervisor_claims.proofs.calls.ReceivedClaim.{pushed-received, finished-verdict}
 

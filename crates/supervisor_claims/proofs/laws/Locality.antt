@@ -9,6 +9,7 @@ use native.Mathlib.Omega.{arith}
 use lib.Dec.{ltb}
 use lib.ListN.{length, take, length-take}
 use borrow.Author.Tests.{ltb-false}
+use Rattle.line.specs.Reader.{receivedOf}
 use Rattle.octets.specs.Bytes.{Each, Byte}
 use Rattle.octets.proofs.Conditions.{cond-both}
 use Rattle.octets.proofs.SameBytes.{Same, same-first, same-within, number-same}
@@ -30,7 +31,7 @@ use Rattle.supervisor.proofs.KeptRegisters.{groups-valid, numbers-kept, flags-k
 use Rattle.supervisor.proofs.OffsetLaws.{offset-within}
 use Rattle.requests.proofs.KeptLaws.{setting-kept}
 use Rattle.supervisor_claims.specs.ByPart.{Part, published, part, Every}
-use Rattle.supervisor_claims.specs.View.{factoryOf, settingsOf, receivedOf, pendingOf, view}
+use Rattle.supervisor_claims.specs.View.{factoryOf, settingsOf, pendingOf, view}
 use Rattle.supervisor_claims.specs.Sound.{Valid, Bytes, Sound, Lengths, Leaves}
 use Rattle.supervisor_claims.specs.Histories.{Lent, lentBy, lentOf, backBy, givenBack}
 use Rattle.supervisor_claims.proofs.ByPart.{every, of, part-by, every-by, parts-same, published-some}

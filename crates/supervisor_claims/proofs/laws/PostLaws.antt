@@ -11,7 +11,7 @@ use lib.Dec.{ltb, eqb}
 use lib.ListN.{length}
 use lib.Seq.{take-length}
 use borrow.Author.Tests.{ltb-true, ltb-false, eqb-false}
-use Rattle.octets.specs.Bytes.{number, bytes, overlay}
+use Rattle.octets.specs.Bytes.{number, bytes, overlay, bit}
 use Rattle.octets.proofs.Conditions.{cond-by}
 use Rattle.octets.proofs.Numbers.{number-bytes}
 use Rattle.octets.proofs.Overlay.{length-overlay, overlay-part}
@@ -79,7 +79,7 @@ counted r action text = overlay Layout.alert-count-offset (bytes 1 (Layout.alert
 
 set-small : (n : ℕ) → n ≤ 3 → Local.setBit n 1 ≤ 3
 unfolding Local.setBit
-set-small n h = cond-by (λ m. m ≤ 3) (eqb (Local.bit n 1) 1) n (n + 2) (λ e. h) (λ e. omega (arith, eqb-false (Local.bit n 1) 1 e))
+set-small n h = cond-by (λ m. m ≤ 3) (eqb (bit n 1) 1) n (n + 2) (λ e. h) (λ e. omega (arith, eqb-false (bit n 1) 1 e))
 
 module _ {r : List ℕ} {action : ℕ} {text : List ℕ} (c : Posting r action text) where
   slotted-long : length (slotted r action text) ≡ length r

@@ -3,7 +3,7 @@
 use native.Mathlib.Omega.{arith}
 use borrow.Author.Needs.{needs}
 use borrow.Author.Tests.{eq-eqb, ne-eqb}
-use Rattle.supervisor.specs.Local.{bit}
+use Rattle.octets.specs.Bytes.{bit}
 use Rattle.requests.specs.Requests.{clearBit}
 use Rattle.requests.proofs.records.without_bit_0.Statement.{statement}
 use Rattle.requests.proofs.records.without_bit_0.Tie as tie
