@@ -25,7 +25,7 @@ WORDS = {
     'supervisor': 'state, stores, local calls',
     'saving': 'settings to an image, back',
     'saving_claims': 'saved restores, exactly',
-    'requests': 'requests, replies, receive',
+    'responder': 'requests, replies, receive',
     'supervisor_claims': 'view, demand 2',
     'counters': 'the counter block',
     'counters_claims': 'frames counted',

@@ -214,9 +214,9 @@ def kinds():
 def reasons():
     """The reasons that the line layer's answers and the supervisor's tests have, each under the name that the numbers of messages give it."""
     answered, known = arms(library(link=False)), constants(MESSAGES)
-    tested = read('crates/requests/specs/Requests.antt')
+    tested = read('crates/responder/specs/Requests.antt')
     found = {name: the_one(name, (reason for _, reason in answered[f'Answer::Bad{name.title()}'])) for name in ('FORM', 'CHECKSUM', 'LENGTH', 'MAGIC')}
-    for name, test in (('VERSION', r'not \(served \(m \.version\)\)\)'), ('SEQUENCE', r'leb top-bit \(m \.sequence\)\)'), ('DATA', r'lengthAllowed [^\n]*\)\)')):
+    for name, test in (('VERSION', r'not \(versionServed \(m \.version\)\)\)'), ('SEQUENCE', r'leb top-bit \(m \.sequence\)\)'), ('DATA', r'lengthAllowed [^\n]*\)\)')):
         found[name] = known[the_one(name, re.findall(test + r' \(failure ([\w-]+) ', tested)).upper().replace('-', '_')]
     return {f'REASON_{name}': number for name, number in found.items()}
 
@@ -318,10 +318,10 @@ def commands():
     known, defined = constants(MESSAGES), definitions('crates/line/specs/Numbers.antt')
     if known != defined:
         sys.exit(f'interface.py: the numbers of messages differ between code and definitions: {sorted(known.items() ^ defined.items())}')
-    named = re.findall(r'^numberOf ([\w-]+) = command-([\w-]+)$', read('crates/requests/specs/Commands.antt'), re.M)
+    named = re.findall(r'^commandNumber ([\w-]+) = command-([\w-]+)$', read('crates/responder/specs/Commands.antt'), re.M)
     found = {name: number for name, number in known.items() if name.startswith(('COMMAND_', 'REPLY_'))}
     if {f'COMMAND_{name.upper().replace("-", "_")}' for name, same in named if name == same} != {name for name in found if name.startswith('COMMAND_')}:
-        sys.exit('interface.py: numberOf does not give each command the number of its name')
+        sys.exit('interface.py: commandNumber does not give each command the number of its name')
     return found
 
 
@@ -337,7 +337,7 @@ def keys(known):
     for variant, numbers in arms(body(text, 'result_number')).items():
         if variant != 'Found::Refused':
             found[f'LOOKUP_{snake(variant.removeprefix("Found::"))}'] = the_one(variant, numbers)
-    text = read('crates/requests/src/settings.rt')
+    text = read('crates/responder/src/settings.rt')
     store = body(text, 'store') + '\n' + body(text, 'store_at')
     for test, number in re.findall(r'if ([^{]*?) \{\s*return (\d+);', store):
         if test not in SET_RESULTS:
@@ -350,8 +350,8 @@ def keys(known):
 
 def bits_and_codes(known):
     """Inventory results, status bits, startup options and the BSU."""
-    meant, defined = read('crates/requests/specs/Requests.antt'), definitions('crates/supervisor/specs/Limits.antt')
-    named = {**known, 'INVENTORY_BAD_INDEX': constants('crates/requests/src/answers.rt')['BAD_INDEX']}
+    meant, defined = read('crates/responder/specs/Requests.antt'), definitions('crates/supervisor/specs/Limits.antt')
+    named = {**known, 'INVENTORY_BAD_INDEX': constants('crates/responder/src/answers.rt')['BAD_INDEX']}
     found = {name: the_one(name, (named[name], defined[name])) for name in ('INVENTORY_ITEM', 'INVENTORY_BAD_INDEX', 'INVENTORY_ABSENT', 'INVENTORY_FAILED', 'BSU_A', 'BSU_B')}
     for name, place in (('RESTARTED', r'^startAcknowledged .*clearBit \(s \.status\) (\d)'), ('ALERTS', r'^statusAfter .*clearBit status (\d)')):
         found[f'STATUS_{name}'] = 1 << the_one(name, map(int, re.findall(place, meant, re.M)))

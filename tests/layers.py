@@ -139,8 +139,8 @@ def crate_modules():
 def planted():
     """Cycles in memory: between two modules of code, over a third, with the root, and in specs/."""
     folders = {(crate, part): (texts, read) for crate, part, texts, read in crate_modules()}
-    plants = [('requester', 'src', 'progress', 'use crate::hearing;'), ('requests', 'src', 'sending', 'use crate::receive::Stepped;'),
-              ('line_cases', 'src', 'print', 'use crate::run_all;'), ('requests', 'specs', 'Commands', 'use Rattle.requests.specs.Receive.{stepOf}')]
+    plants = [('requester', 'src', 'progress', 'use crate::hearing;'), ('responder', 'src', 'sending', 'use crate::receive::Stepped;'),
+              ('line_cases', 'src', 'print', 'use crate::run_all;'), ('responder', 'specs', 'Commands', 'use Rattle.responder.specs.Receive.{stepOutcome}')]
     missed = []
     for crate, part, name, line in plants:
         texts, read = folders[crate, part]

@@ -3,7 +3,7 @@
 - specs/ of a crate has definitions and statements alone: no law, no proof text, no import of proofs/;
 - a file of statements (Demand.., Item.., BothEnds) has records of statements, and proofs/ exactly one element of each, with a proof for each field;
 - every name that docs/CLAIMS.md gives exists;
-- each row of `did` (supervisor_claims and requester_claims, specs/Histories) cites the definition, with the arguments, of the `ensures` of the call that it stands for.
+- each row of `did` and `mainDid` (supervisor_claims and requester_claims, specs/Histories) cites the definition, with the arguments, of the `ensures` of the call that it stands for.
 Assumes the sources as `rt fmt` lays them out (docs/sources.py).
 
 usage: tests/statements.py            prints what is wrong, or how much was compared
@@ -21,12 +21,14 @@ CLAIMS = ROOT / 'docs' / 'CLAIMS.md'
 STATEMENTS = re.compile(r'^(Demand\d+|Item\d+|BothEnds|Claims)$')
 # words of a proof, which no definition has
 PROOF = re.compile(r'(?<![\w.-])(rw|simp|omega|cc|refl|absurd|search|unfolding)(?![\w-])')
-# each call of `did`: the public functions that it stands for, and the names that their parameters have in the row
+# the definitions that have a row for each call
+DID = {'supervisor_claims': 'did', 'requester_claims': 'mainDid'}
+# each call of these: the public functions that it stands for, and the names that their parameters have in the row
 ROWS = {
     'supervisor_claims': {
         'start': (['supervisor::start::start'], {'«data»': 'd'}),
-        'receive': (['requests::receive::receive'], {}),
-        'step': (['requests::receive::step'], {}),
+        'receive': (['responder::receive::receive'], {}),
+        'step': (['responder::receive::step'], {}),
         'take': (['supervisor::outbox::take'], {}),
         'post': (['supervisor::alerts::post'], {}),
         'setOptions': (['supervisor::options::set_options'], {}),
@@ -124,7 +126,7 @@ def plain(words):
     """A call's text with the lent bytes by their names: (now (room .entry)) and (p .room) as room, the parts of one end as p."""
     text = re.sub(r'\(now \((\S+) \.entry\)\)', r'\1', words)
     text = re.sub(r'\(p \.(\w+)\)', r'\1', text)
-    return re.sub(r'\(parts [^()]*\)', 'p', text).split()
+    return re.sub(r'\((?:p|mainP)arts [^()]*\)', 'p', text).split()
 
 
 def promised(found, path, names):
@@ -143,17 +145,17 @@ def row_calls(found, file, row):
 def row_faults(found, count):
     for crate, rows in ROWS.items():
         file = found.files[f'{crate}.specs.Histories']
-        did = file.own['did'].told
+        did = file.own[DID[crate]]
         for call, (functions, names) in rows.items():
-            match = re.search(rf'^did p \(?(?:local \(?)?{call}\b[^=]*= ?(.*(?:\n {{4}}.*)*)$', did, re.M)
+            match = re.search(rf'^{did.name} p \(?(?:local \(?)?{call}\b[^=]*= ?(.*(?:\n {{4}}.*)*)$', did.told, re.M)
             if not match:
-                yield f'{file.own["did"].place}: did has no row {call}'
+                yield f'{did.place}: {did.name} has no row {call}'
                 continue
             row = list(row_calls(found, file, ' '.join(match.group(1).split())))
             wanted = [promised(found, path, names) for path in functions]
             count[0] += len(wanted)
             if row != wanted:
-                yield f'{file.own["did"].place}: the row {call} of did is not what {" and ".join(functions)} promise'
+                yield f'{did.place}: the row {call} of {did.name} is not what {" and ".join(functions)} promise'
 
 
 def faults(found, text, count):
@@ -177,14 +179,14 @@ def planted():
         sys.exit('statements: there are faults that nobody planted')
     histories = 'supervisor_claims.specs.Histories'
     mistakes = {
-        'a field with no proof': (changed(found, 'line_claims.specs.Demand3', '  pub cut : Cut\n', '  pub cut : Cut\n  pub cut-twice : Cut\n'), text),
-        'a record with no element': (changed(found, 'line_claims.proofs.Proved', 'pub item-12 : Item12', 'pub item-12 : Item6'), text),
+        'a field with no proof': (changed(found, 'line_claims.specs.Demand3', '  pub cut : LineCut\n', '  pub cut : LineCut\n  pub cut-twice : LineCut\n'), text),
+        'a record with no element': (changed(found, 'line_claims.proofs.Proved', 'pub item-12 : LineItem12', 'pub item-12 : LineItem6'), text),
         'a law in specs': (changed(found, 'line_claims.specs.Loans', '-- at most one', 'pub same : (n : ℕ) → ℕ\nsame n = n\n\n-- at most one'), text),
         'proof text in specs': (changed(found, 'line_claims.specs.Loans', 'fewer published n = min', 'fewer published n = rw min'), text),
         'specs that name proofs': (changed(found, 'line_claims.specs.Loans', 'use lib.Dec.{leb}', 'use lib.Dec.{leb}\nuse Rattle.octets.proofs.Each.{each-take}'), text),
         'a name misspelt': (found, text.replace('`hands-out`', '`hand-out`', 1)),
-        'rows of did exchanged': (changed(found, histories, 'Calls.posting (p .registers) action text', 'Calls.settingOptions (p .registers) action'), text),
-        'arguments of a row exchanged': (changed(found, histories, 'Calls.lookupResult (p .factory) (p .settings)', 'Calls.lookupResult (p .settings) (p .factory)'), text),
+        'rows of did exchanged': (changed(found, histories, 'Calls.postPromise (p .registers) action text', 'Calls.optionsPromise (p .registers) action'), text),
+        'arguments of a row exchanged': (changed(found, histories, 'Calls.lookupResultPromise (p .factory) (p .settings)', 'Calls.lookupResultPromise (p .settings) (p .factory)'), text),
     }
     missed = [name for name, (sources_then, text_then) in mistakes.items() if not faults(sources_then, text_then, [0])]
     for name in missed:

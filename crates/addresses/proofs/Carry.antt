@@ -8,11 +8,11 @@ use native.Mathlib.Omega.{arith}
 use lib.ListN.{length, take, drop, getD, set}
 use lib.Seq.{lt-length-set, take-suc, take-length, take-set-le, drop-cons, drop-length, drop-set-lt, getD-set-same, append-snoc}
 use Rattle.octets.specs.Bytes.{bytes}
-use Rattle.addresses.specs.Addresses.{addressBytes, carried, nextRow}
+use Rattle.addresses.specs.Addresses.{addressBytes, withCarry, nextRow}
 use Rattle.addresses.specs.Item9.{CarriedSum, NextSum}
 
 pub carried-sum : CarriedSum
-unfolding carried bytes
+unfolding withCarry bytes
 carried-sum zero v c = refl
 carried-sum (suc k) v c =
     let low : (v % 256 + c) % 256 ≡ (v + c) % 256 = omega arith in
@@ -27,19 +27,19 @@ next-sum v stride = rw (reverse-reverse, carried-sum)
 
 -- what is left to add: the first n bytes of a row, with the carry
 abbrev pub rest : ℕ → List ℕ → ℕ → List ℕ
-rest n s carry = reverse (carried (reverse (take n s)) carry) ++ drop n s
+rest n s carry = reverse (withCarry (reverse (take n s)) carry) ++ drop n s
 
 pub rest-all : (n : ℕ) (s : List ℕ) (carry : ℕ) → length s ≡ n → nextRow s carry ≡ rest n s carry
 unfolding nextRow
 rest-all n s carry e = rw (← e, take-length, drop-length, append-nil)
 
 pub rest-none : (s : List ℕ) (carry : ℕ) → rest 0 s carry ≡ s
-unfolding carried
+unfolding withCarry
 rest-none s carry = refl
 
 one-less : (i : ℕ) (s : List ℕ) (carry : ℕ) → i < length s
     → rest (i + 1) s carry ≡ rest i (set s i ((getD s i 0 + carry) % 256)) ((getD s i 0 + carry) / 256)
-unfolding carried
+unfolding withCarry
 one-less i s carry h =
     let v = (getD s i 0 + carry) % 256 in
     let d : drop i (set s i v) ≡ v ∷ drop (suc i) s =

@@ -12,7 +12,7 @@ use lib.ListN.{getD}
 use borrow.Author.Tests.{ltb-true, lt-ltb, le-ltb, eqb-false, ne-eqb}
 use Rattle.octets.specs.Bytes.{Byte, Each}
 use Rattle.octets.proofs.Conditions.{cond-by}
-use Rattle.addresses.specs.Addresses.{addressNumber, highest-address, address, passes, row, row-numbers, rows, planRefusal}
+use Rattle.addresses.specs.Addresses.{addressNumber, highest-address, address, passes, row, row-numbers, addressRows, planRefusal}
 use Rattle.addresses.specs.Item9.{LastPasses, PassesExactly, PlanRefusedExactly, PassingZero, CountZero}
 use Rattle.addresses.specs.Item9.{RowsCounted, RowsPastZero, StrideZero}
 use Rattle.addresses.proofs.Number.{bytes-address, number-below}
@@ -32,7 +32,7 @@ passes-exactly base count stride = (
     clash e = let z : _≡_ {A = ℕ} 0 1 = cc in omega arith
 
 pub passing-zero : PassingZero
-unfolding rows
+unfolding addressRows
 passing-zero base count stride p = rw (passes-exactly base count stride .1 p)
 
 pub plan-refused-exactly : PlanRefusedExactly
@@ -47,7 +47,7 @@ plan-refused-exactly base count stride n = by (passes base count stride) refl
     )
 
 pub count-zero : CountZero
-unfolding rows planRefusal passes row
+unfolding addressRows planRefusal passes row
 count-zero base stride = (refl, refl)
 
 row-of : (f : ℕ → List ℕ) (i : ℕ) → i < 8 → getD (map f row-numbers) i [] ≡ f i
@@ -62,11 +62,11 @@ row-of f (suc (suc (suc (suc (suc (suc (suc zero))))))) h = refl
 row-of f (suc (suc (suc (suc (suc (suc (suc (suc i)))))))) h = absurd (omega arith)
 
 pub rows-counted : RowsCounted
-unfolding rows row address
+unfolding addressRows row address
 rows-counted base count stride i e h l = rw e (row-of (row base count stride) i h ∙ rw (lt-ltb i count l))
 
 pub rows-past-zero : RowsPastZero
-unfolding rows row
+unfolding addressRows row
 rows-past-zero base count stride i e h l = rw e (row-of (row base count stride) i h ∙ rw (le-ltb i count l))
 
 byte-at : (s : List ℕ) → Each Byte s → (i : ℕ) → getD s i 0 < 256

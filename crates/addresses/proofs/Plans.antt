@@ -9,7 +9,7 @@ use native.Mathlib.Omega.{arith}
 use borrow.Author.Tests.{ltb-true, ltb-false, lt-ltb, le-ltb, eq-eqb, ne-eqb}
 use lib.Dec.{ltb}
 use lib.ListN.{length, getD, replicate, set}
-use Rattle.addresses.specs.Addresses.{addressNumber, addressBytes, highest-address, address, passes, zero-row, row, row-numbers, rows}
+use Rattle.addresses.specs.Addresses.{addressNumber, addressBytes, highest-address, address, passes, zero-row, row, row-numbers, addressRows}
 use Rattle.addresses.proofs.Carry.{next-sum}
 use Rattle.addresses.proofs.Number.{bytes-address, address-bytes}
 use Rattle.addresses.specs.Item9.{RowNumber, RowNext}
@@ -23,8 +23,8 @@ module _ (base : List ℕ) (count stride : ℕ) where
   unfolding passes address
   last-passes e = rw (ne-eqb count 0 e)
 
-  pub rows-passing : passes base count stride ≡ true → replicate 8 zero-row ≡ rows base count stride
-  unfolding rows
+  pub rows-passing : passes base count stride ≡ true → replicate 8 zero-row ≡ addressRows base count stride
+  unfolding addressRows
   rows-passing e = rw e
 
 -- ---- addresses
@@ -101,8 +101,8 @@ module _ (base : List ℕ) (stride : ℕ) where
   rows-min count =
       from-same (row base (min count 8) stride) (row base count stride) 8 0 (λ j b. same-row (min count 8) count j (λ l. omega arith) (λ l. omega arith))
 
-  pub rows-fitting : (count : ℕ) → passes base count stride ≡ false → first-rows base stride (min count 8) ≡ rows base count stride
-  unfolding rows
+  pub rows-fitting : (count : ℕ) → passes base count stride ≡ false → first-rows base stride (min count 8) ≡ addressRows base count stride
+  unfolding addressRows
   rows-fitting count e = rw e (rows-min count)
 
   pub row-number : RowNumber base stride

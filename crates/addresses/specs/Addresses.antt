@@ -45,8 +45,8 @@ abbrev pub row-numbers : List ℕ
 row-numbers = 0 ∷ 1 ∷ 2 ∷ 3 ∷ 4 ∷ 5 ∷ 6 ∷ 7 ∷ []
 
 -- the eight rows; all zero where the plan passes
-unfoldable pub rows : List ℕ → ℕ → ℕ → List (List ℕ)
-rows base count stride = cond (passes base count stride) (replicate 8 zero-row) (map (row base count stride) row-numbers)
+unfoldable pub addressRows : List ℕ → ℕ → ℕ → List (List ℕ)
+addressRows base count stride = cond (passes base count stride) (replicate 8 zero-row) (map (row base count stride) row-numbers)
 
 -- ---- The second call's answer: 16 exactly where the plan passes
 
@@ -61,10 +61,10 @@ planReport Passes = some 16
 -- ---- The 48-bit carry, row by row
 
 -- bytes, the lowest first, plus a number: each byte with what the one before it carries
-unfoldable pub carried : List ℕ → ℕ → List ℕ
-carried [] carry = []
-carried (b ∷ bs) carry = (b + carry) % 256 ∷ carried bs ((b + carry) / 256)
+unfoldable pub withCarry : List ℕ → ℕ → List ℕ
+withCarry [] carry = []
+withCarry (b ∷ bs) carry = (b + carry) % 256 ∷ withCarry bs ((b + carry) / 256)
 
 -- the row after a row: the stride added at its last byte, and the carry from there to its first
 unfoldable pub nextRow : List ℕ → ℕ → List ℕ
-nextRow row stride = reverse (carried (reverse row) stride)
+nextRow row stride = reverse (withCarry (reverse row) stride)

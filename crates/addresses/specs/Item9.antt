@@ -9,7 +9,7 @@ use Prim.Native.Nat.{ℕ, _+_, _*_, _-_, _≤_, _<_}
 use lib.ListN.{length, getD, replicate}
 use Rattle.octets.specs.Bytes.{Byte, Each, bytes}
 use Rattle.addresses.specs.Addresses.{addressNumber, addressBytes, address, passes, zero-row, row}
-use Rattle.addresses.specs.Addresses.{rows, planRefusal, carried, nextRow}
+use Rattle.addresses.specs.Addresses.{addressRows, planRefusal, withCarry, nextRow}
 
 abbrev pub RowNumber : List ℕ → ℕ → Type 0
 RowNumber base stride = (count i : ℕ) → passes base count stride ≡ false → i < count → addressNumber (row base count stride i) ≡ address base stride i
@@ -18,7 +18,7 @@ abbrev pub RowNext : List ℕ → ℕ → Type 0
 RowNext base stride = (count i : ℕ) → i + 1 < count → row base count stride (i + 1) ≡ nextRow (row base count stride i) stride
 
 abbrev pub CarriedSum : Type 0
-CarriedSum = (k v c : ℕ) → carried (bytes k v) c ≡ bytes k (v + c)
+CarriedSum = (k v c : ℕ) → withCarry (bytes k v) c ≡ bytes k (v + c)
 
 abbrev pub NextSum : Type 0
 NextSum = (v stride : ℕ) → nextRow (addressBytes v) stride ≡ addressBytes (v + stride)
@@ -38,15 +38,15 @@ abbrev pub eight-zero-rows : List (List ℕ)
 eight-zero-rows = replicate 8 (0 ∷ 0 ∷ 0 ∷ 0 ∷ 0 ∷ 0 ∷ [])
 
 abbrev pub PassingZero : Type 0
-PassingZero = (base : List ℕ) (count stride : ℕ) → LastPasses base count stride → rows base count stride ≡ eight-zero-rows
+PassingZero = (base : List ℕ) (count stride : ℕ) → LastPasses base count stride → addressRows base count stride ≡ eight-zero-rows
 
 abbrev pub CountZero : Type 0
-CountZero = (base : List ℕ) (stride : ℕ) → (rows base 0 stride ≡ eight-zero-rows) × (planRefusal base 0 stride ≡ none)
+CountZero = (base : List ℕ) (stride : ℕ) → (addressRows base 0 stride ≡ eight-zero-rows) × (planRefusal base 0 stride ≡ none)
 
 -- row i of the eight, in a plan that does not pass
 abbrev pub OfEight : (List ℕ → ℕ → ℕ → ℕ → List ℕ → Type 0) → Type 0
 OfEight P = (base : List ℕ) (count stride i : ℕ) → passes base count stride ≡ false → i < 8
-    → P base count stride i (getD (rows base count stride) i [])
+    → P base count stride i (getD (addressRows base count stride) i [])
 
 abbrev pub RowsCounted : Type 0
 RowsCounted = OfEight (λ base count stride i r. i < count → r ≡ addressBytes (addressNumber base + i * stride))
@@ -56,9 +56,9 @@ RowsPastZero = OfEight (λ base count stride i r. count ≤ i → r ≡ zero-row
 
 abbrev pub StrideZero : Type 0
 StrideZero = (base : List ℕ) → length base ≡ 6 → Each Byte base → (count i : ℕ) → i < 8 → i < count
-    → (passes base count 0 ≡ false) × (getD (rows base count 0) i [] ≡ base)
+    → (passes base count 0 ≡ false) × (getD (addressRows base count 0) i [] ≡ base)
 
-pub record Item9 : Type 0 where
+pub record AddressesItem9 : Type 0 where
   -- a plan passes exactly where its last counted address is above ff:ff:ff:ff:ff:ff
   pub passes-exactly : PassesExactly
   -- then it gives eight zero rows

@@ -11,8 +11,8 @@ use lib.Seq.{length-take-le, take-at, take-length}
 use Rattle.octets.specs.Bytes.{run, overlay, copied}
 use Rattle.octets.proofs.Overlay.{copied-fits}
 use Rattle.line.specs.Judge.{judge}
-use Rattle.plain.specs.Listing.{Entry, Listing, entryOf, listing}
-use Rattle.plain.specs.Answers.{pieceAt, verdictOf}
+use Rattle.plain.specs.Listing.{ListedFrame, Listing, listedFrame, listing}
+use Rattle.plain.specs.Answers.{pieceAt, plainVerdict}
 use Rattle.plain.specs.declared.Piece.the-variants.{Frame, Tail}
 use Rattle.plain.specs.declared.Answer.{Answer}
 use Rattle.plain.specs.declared.Answer.the-variants.{Message, BadForm, BadLength, BadChecksum, BadMagic}
@@ -46,28 +46,28 @@ wrote-copy s xs t k h e =
 
 -- ---- one frame
 
-word-any : (a : Answer) (m : List ℕ) → word (verdictOf a m) ≡ word (verdictOf a [])
-unfolding word verdictOf
+word-any : (a : Answer) (m : List ℕ) → word (plainVerdict a m) ≡ word (plainVerdict a [])
+unfolding word plainVerdict
 word-any (Message h) m = refl
 word-any BadForm m = refl
 word-any BadLength m = refl
 word-any (BadChecksum sequence) m = refl
 word-any (BadMagic sequence) m = refl
 
-pub frame-line : (at : ℕ) (p : List ℕ) (a : Answer) (m : List ℕ) → 0 < length p → verdictOf a m ≡ judge p
-    → decimal at ++ 0x20 ∷ (word (verdictOf a []) ++ 0x0a ∷ []) ≡ lines (entryOf at p)
-unfolding lines line entryOf
+pub frame-line : (at : ℕ) (p : List ℕ) (a : Answer) (m : List ℕ) → 0 < length p → plainVerdict a m ≡ judge p
+    → decimal at ++ 0x20 ∷ (word (plainVerdict a []) ++ 0x0a ∷ []) ≡ lines (listedFrame at p)
+unfolding lines line listedFrame
 frame-line at [] a m h e = absurd (omega arith)
 frame-line at (b ∷ bs) a m h e = rw (append-nil, ← e, word-any a m)
 
 -- ---- a listing
 
-lines-append : (es fs : List Entry) → lines (es ++ fs) ≡ lines es ++ lines fs
+lines-append : (es fs : List ListedFrame) → lines (es ++ fs) ≡ lines es ++ lines fs
 unfolding lines
 lines-append [] fs = refl
 lines-append (e ∷ es) fs = rw (lines-append es fs, append-assoc)
 
-text-added : (es : List Entry) (l : Listing) → text (added es l) ≡ lines es ++ text l
+text-added : (es : List ListedFrame) (l : Listing) → text (added es l) ≡ lines es ++ text l
 unfolding text
 text-added es l = rw (lines-append es (l .entries), append-assoc)
 
@@ -83,11 +83,11 @@ unfolding listing
 middle-start w s = record { done = []; wrote = wrote-none s 0; whole = refl; short = omega arith }
 
 module _ (w s t : List ℕ) (at k n : ℕ) (mid : Middle w s t at k) where
-  pub middle-next : Frame n ≡ pieceAt w at → (u : List ℕ) (r : ℕ) → Wrote t k (lines (entryOf at (run at n w))) u r → r ≤ k + 5 * (n + 1)
+  pub middle-next : Frame n ≡ pieceAt w at → (u : List ℕ) (r : ℕ) → Wrote t k (lines (listedFrame at (run at n w))) u r → r ≤ k + 5 * (n + 1)
       → Middle w s u (at + (n + 1)) r
   middle-next e u r o l =
       let f = at-frame w at e in
-      let es = entryOf at (run at n w) in
+      let es = listedFrame at (run at n w) in
       let p = mid .short in
       record {
         done = mid .done ++ lines es;

@@ -6,8 +6,8 @@ use mathlib.Core.List.{List, [], _∷_, _++_}
 use Prim.Native.Nat.{ℕ, zero, suc, _+_, _*_, _/_, _%_}
 use lib.Dec.{ltb}
 use lib.ListN.{length, take}
-use Rattle.line.specs.Judge.{Verdict, failure, good}
-use Rattle.plain.specs.Listing.{Entry, Listing, listing}
+use Rattle.line.specs.Judge.{LineVerdict, failure, good}
+use Rattle.plain.specs.Listing.{ListedFrame, Listing, listing}
 
 abbrev pub longest-capture : ℕ
 longest-capture = 65536
@@ -26,15 +26,15 @@ unfoldable pub decimal : ℕ → List ℕ
 decimal n = digitsWithin (suc n) n
 
 -- `ok`, or the reason
-unfoldable pub word : Verdict → List ℕ
+unfoldable pub word : LineVerdict → List ℕ
 word (good m) = 0x6f ∷ 0x6b ∷ []
 word (failure reason sequence) = decimal reason
 
 -- the start, a space, the word and a line end
-unfoldable pub line : Entry → List ℕ
+unfoldable pub line : ListedFrame → List ℕ
 line e = decimal (e .start) ++ 0x20 ∷ (word (e .verdict) ++ 0x0a ∷ [])
 
-unfoldable pub lines : List Entry → List ℕ
+unfoldable pub lines : List ListedFrame → List ℕ
 lines [] = []
 lines (e ∷ es) = line e ++ lines es
 

@@ -6,8 +6,8 @@ ghost use mathlib.Core.List.{_∷_, _++_, []};
 ghost use Prim.Native.Nat.{_+_, _*_, _≤_};
 ghost use lib.ListN.{length};
 ghost use Rattle.octets.specs.Bytes.{run};
-ghost use Rattle.plain.specs.Listing.{entryOf, listing};
-ghost use Rattle.plain.specs.Answers.{verdictOf};
+ghost use Rattle.plain.specs.Listing.{listedFrame, listing};
+ghost use Rattle.plain.specs.Answers.{plainVerdict};
 ghost use Rattle.audit.specs.Text.{longest-capture, text-room, decimal, word, lines, tailLine, text as textOf, audit as auditOf, Wrote};
 
 const INPUT: i32 = 0;
@@ -63,7 +63,7 @@ fn put_frame(capture: &[u8], at: usize, n: usize, text: &mut [u8], k: usize) -> 
     requires { ⌜ at + n ≤ length (now capture) ⌝ }
     requires { ⌜ length (now capture) ≤ longest-capture ⌝ }
     requires { ⌜ k + 9 ≤ length (now text) ⌝ }
-    ensures { λ r. ⌜ Wrote (now (text .entry)) k (lines (entryOf at (run at n (now (capture .entry))))) (now (text .exit)) r ⌝ }
+    ensures { λ r. ⌜ Wrote (now (text .entry)) k (lines (listedFrame at (run at n (now (capture .entry))))) (now (text .exit)) r ⌝ }
     ensures { λ r. ⌜ r ≤ k + 5 * (n + 1) ⌝ }
 {
     if n == 0 {
@@ -78,7 +78,7 @@ fn put_frame(capture: &[u8], at: usize, n: usize, text: &mut [u8], k: usize) -> 
 // The end of a frame's line.
 fn put_answer(text: &mut [u8], k: usize, answer: Answer) -> usize
     requires { ⌜ k + 4 ≤ length (now text) ⌝ }
-    ensures { λ r. ⌜ Wrote (now (text .entry)) k (0x20 ∷ (word (verdictOf answer []) ++ 0x0a ∷ [])) (now (text .exit)) r ⌝ }
+    ensures { λ r. ⌜ Wrote (now (text .entry)) k (0x20 ∷ (word (plainVerdict answer []) ++ 0x0a ∷ [])) (now (text .exit)) r ⌝ }
     ensures { λ r. ⌜ r ≤ k + 4 ⌝ }
 {
     match answer {

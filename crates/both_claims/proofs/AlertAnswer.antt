@@ -11,27 +11,26 @@ use Rattle.octets.proofs.Conditions.{cond-by}
 use Rattle.octets.proofs.Each.{each-append}
 use Rattle.line.specs.Message.{Message}
 use Rattle.line_claims.specs.Pieces.{split}
-use Rattle.requester.specs.State as MainState
-use Rattle.requester.specs.State.{Request, outstanding}
-use Rattle.requester_claims.specs.View as MainView
-use Rattle.requester_claims.specs.Histories as Main
+use Rattle.requester.specs.State.{Request, outstanding, MainState}
+use Rattle.requester_claims.specs.View.{mainView}
+use Rattle.requester_claims.specs.Histories.{MainAnswer, MainCall}
 use Rattle.requester_claims.specs.Numbers.{Frame}
 use Rattle.supervisor.specs.State.{Alert, Retained, State, fresh}
-use Rattle.requests.specs.Requests.{Answer, replyOf, oldest}
+use Rattle.responder.specs.Requests.{ReplyContent, replyOf, oldest}
 use Rattle.supervisor_claims.specs.View.{view, factoryOf}
 use Rattle.supervisor_claims.specs.Sound.{Sound}
 use Rattle.supervisor_claims.specs.Histories as Supervisor
 use Rattle.supervisor_claims.specs.FrameHistory as Received
-use Rattle.supervisor_claims.specs.FrameHistory.{framed}
+use Rattle.supervisor_claims.specs.FrameHistory.{frameCarried}
 use Rattle.supervisor_claims.specs.LastSet.{Origin}
 use Rattle.supervisor_claims.proofs.laws.Progress.{Since}
 use Rattle.supervisor_claims.proofs.claims.AlertClaim.{local-keeps}
 use Rattle.supervisor_claims.proofs.claims.FramesClaim.{made-carried, by-frames}
 use Rattle.supervisor_claims.proofs.claims.History as SupervisorHistory
 use Rattle.both_claims.specs.Ends
-use Rattle.both_claims.specs.Ends.{Any, Handled, Log, CarriedOut, Fresh, AlertTaken, FreshAlert, CallOf, retainedUnder, messageOf, asMessage}
-use Rattle.both_claims.specs.Ends.{MainGoesOn, AlertAgainst, afterAll, handledBy, originBy, Wire}
-use Rattle.both_claims.specs.Ends.{CallTyped, after, Starts, begun, Begun, mainLogged, supervisorLogged, brought, clearedBy, imageOf, restarts}
+use Rattle.both_claims.specs.Ends.{Any, Handled, Log, CarriedOut, Fresh, AlertTaken, AlertFresh, CallOf, retainedUnder, replyMessage, asMessage}
+use Rattle.both_claims.specs.Ends.{MainGoesOn, AlertAgainst, endsAfterAll, handledBy, originBy, Wire}
+use Rattle.both_claims.specs.Ends.{EndCallTyped, endsAfter, BothStarts, endsBegun, Begun, mainLogged, supervisorLogged, brought, clearedBy, imageLent, restarts}
 use Rattle.both_claims.proofs.laws.Lists.{Front, none-some, any-or, each-then, each-any}
 use Rattle.both_claims.proofs.laws.Kept.{Known, Kept, not-asked-by}
 use Rattle.both_claims.proofs.laws.ThatRequest.{answered}
@@ -54,7 +53,7 @@ module _ (x : State) (l : Log) (r : Retains x l) (m : Supervisor.Made) (waiting 
   w = l .received
 
   abbrev fs : List (List ℕ)
-  fs = Received.framesBy w (Received.receivedBy m)
+  fs = Received.framesClosedBy w (Received.bytesReceivedBy m)
 
   abbrev left : State
   left = Supervisor.meantMade x m .state
@@ -62,7 +61,7 @@ module _ (x : State) (l : Log) (r : Retains x l) (m : Supervisor.Made) (waiting 
   carried-left : Received.carriedMade w x m .state ≡ left
   carried-left = ap (λ (y : Supervisor.Means). y .state) (made-carried w x (r .since) m .0)
 
-  left-retained : Received.startsAnew m ≡ false → left .retained ≡ Received.allFramed (imageOf (m .call)) x fs .retained
+  left-retained : Received.startsAnew m ≡ false → left .retained ≡ Received.framesCarried (imageLent (m .call)) x fs .retained
   left-retained e =
       ap (λ (y : State). y .retained) (sym carried-left)
       ∙ made-field (λ (y : State). y .retained) (λ s p. refl) w x (λ s c. local-keeps s c .0) m e
@@ -74,7 +73,7 @@ module _ (x : State) (l : Log) (r : Retains x l) (m : Supervisor.Made) (waiting 
   pub supervisor-retains : Retains left (supervisorLogged l x m waiting)
   unfolding supervisorLogged brought
   supervisor-retains =
-      let k = frames-kept (l .asked) (imageOf (m .call)) fs (l .cleared) x _ _ (l .handled) (r .kept) in
+      let k = frames-kept (l .asked) (imageLent (m .call)) fs (l .cleared) x _ _ (l .handled) (r .kept) in
       record {
         since = made-carried w x (r .since) m .1;
         kept = by (Received.startsAnew m) refl (k .0);
@@ -82,13 +81,13 @@ module _ (x : State) (l : Log) (r : Retains x l) (m : Supervisor.Made) (waiting 
             (each-then _ _ (λ h f c. retained-later (l .handled) (brought l x m) (h .state .retained) (f c)) (l .handled) (r .each)) (k .1);
       }
     where
-      by : (t : Bool) → Received.startsAnew m ≡ t → (clearedBy (l .cleared) fs ≡ true → RetainedBy (l .handled ++ brought l x m) (Received.allFramed (imageOf (m .call)) x fs .retained))
+      by : (t : Bool) → Received.startsAnew m ≡ t → (clearedBy (l .cleared) fs ≡ true → RetainedBy (l .handled ++ brought l x m) (Received.framesCarried (imageLent (m .call)) x fs .retained))
           → (t || clearedBy (l .cleared) fs) ≡ true → RetainedBy (l .handled ++ brought l x m) (left .retained)
       by true e k c = λ t f. absurd (none-some (sym (started-retained e) ∙ f))
       by false e k c = rw (left-retained e) (k c)
 
 -- a call of the main processor's end
-main-retains : (x : State) (l : Log) → Retains x l → (c : Main.Call) (a : Main.Answer) (out : List ℕ) (n : ℕ) → Retains x (mainLogged l c a out n)
+main-retains : (x : State) (l : Log) → Retains x l → (c : MainCall) (a : MainAnswer) (out : List ℕ) (n : ℕ) → Retains x (mainLogged l c a out n)
 unfolding mainLogged
 main-retains x l r c a out n =
     cond-by (Retains x) (restarts c a) _ _
@@ -97,20 +96,20 @@ main-retains x l r c a out n =
 
 -- ---- an answer
 
-reply-data : (n : ℕ) (a : Answer) (r : Message) → messageOf (replyOf n (some a)) ≡ some r → r .payload ≡ a .payload
+reply-data : (n : ℕ) (a : ReplyContent) (r : Message) → replyMessage (replyOf n (some a)) ≡ some r → r .payload ≡ a .payload
 unfolding replyOf
 reply-data n a r e = cc
 
-replied : (k : ℕ) {n : ℕ} → k ≡ n → (o : Option Answer) (z : Answer) → o ≡ some z → replyOf k o ≡ replyOf n (some z)
+replied : (k : ℕ) {n : ℕ} → k ≡ n → (o : Option ReplyContent) (z : ReplyContent) → o ≡ some z → replyOf k o ≡ replyOf n (some z)
 replied k e o z f = rw (e, f)
 
-module _ (s : MainState.State) (l : Log) (kept : Kept s l) (x : State) (retains : Retains x l) (r : Message) (q : Request) (waiting : outstanding s ≡ some q)
+module _ (s : MainState) (l : Log) (kept : Kept s l) (x : State) (retains : Retains x l) (r : Message) (q : Request) (waiting : outstanding s ≡ some q)
     (alert : q .command ≡ 0x0a) where
   abbrev n : ℕ
   n = s .newest
 
   abbrev Replies : ℕ → Alert → Type 0
-  Replies v a = messageOf (replyOf n (some (alertAnswer v a))) ≡ some r
+  Replies v a = replyMessage (replyOf n (some (alertAnswer v a))) ≡ some r
 
   -- a request that took the alert of the retained reply
   took : (t : Retained) → t .sequence ≡ n → Replies (t .version) (t .alert) → (h : Handled) → Known s h → Takes t h → AlertTaken n q r h
@@ -121,7 +120,7 @@ module _ (s : MainState.State) (l : Log) (kept : Kept s l) (x : State) (retains 
       let a = takes-alert (h .image) (h .state) m (z .alert) u .1 in
       let g : Replies (m .version) (oldest (h .state .waiting)) = rw (z .oldest-waiting, ← z .version) at f in
       record {
-        carried-out = answered s (kept .ranged) q waiting r h k m (z .passed) i (ap messageOf (replied (m .sequence) i _ _ a) ∙ g);
+        carried-out = answered s (kept .ranged) q waiting r h k m (z .passed) i (ap replyMessage (replied (m .sequence) i _ _ a) ∙ g);
         none-retained = rw (← e) (z .none-retained);
         oldest-waiting = reply-data n _ r g;
       }
@@ -161,22 +160,22 @@ module _ (s : MainState.State) (l : Log) (kept : Kept s l) (x : State) (retains 
 abbrev RetainsIn : Ends.Ends → Type 0
 RetainsIn e = Retains (view (e .supervisor)) (e .log)
 
-call-retains : (e : Ends.Ends) → Sound (e .supervisor) → RetainsIn e → (t : Ends.Call) → CallTyped t → RetainsIn (after e t)
-unfolding after
+call-retains : (e : Ends.Ends) → Sound (e .supervisor) → RetainsIn e → (t : Ends.EndCall) → EndCallTyped t → RetainsIn (endsAfter e t)
+unfolding endsAfter
 call-retains e s r (Ends.main m) typed = main-retains (view (e .supervisor)) (e .log) r (m .call) _ _ _
 call-retains e s r (Ends.supervisor m) typed =
     let k = SupervisorHistory.one-call (e .supervisor) m s typed .leaves .0 in
     rw k (supervisor-retains (view (e .supervisor)) (e .log) r m _)
 
-call-alert : (e : Ends.Ends) → Both e → RetainsIn e → (t : Ends.Call) → CallTyped t → Wire (after e t .log) → CallOf FreshAlert e t × RetainsIn (after e t)
+call-alert : (e : Ends.Ends) → Both e → RetainsIn e → (t : Ends.EndCall) → EndCallTyped t → Wire (endsAfter e t .log) → CallOf AlertFresh e t × RetainsIn (endsAfter e t)
 call-alert e both r t typed w = (by t, call-retains e (both .supervisor) r t typed)
   where
-    by : (t : Ends.Call) → CallOf FreshAlert e t
-    by (Ends.main m) = λ x o q waiting alert. alert-taken (MainView.view (e .main)) (e .log) (both .kept) (view (e .supervisor)) r x q waiting alert
+    by : (t : Ends.EndCall) → CallOf AlertFresh e t
+    by (Ends.main m) = λ x o q waiting alert. alert-taken (mainView (e .main)) (e .log) (both .kept) (view (e .supervisor)) r x q waiting alert
     by (Ends.supervisor m) = tt
 
-together-retains : (s : Starts) → RetainsIn (begun s)
-unfolding Received.joinedAll Supervisor.leftMeant fresh
+together-retains : (s : BothStarts) → RetainsIn (endsBegun s)
+unfolding Received.receivedSinceAll Supervisor.leftMeant fresh
 together-retains s =
     let k = SupervisorHistory.started (s .supervisor-parts) (s .supervisor-bytes) (s .supervisor-lent) (s .start-data) (s .start-typed) (s .supervisor-accepted) .0 in
     rw k (record { since = by-frames (factoryOf (s .start-data)) [] .2; kept = λ e t f. absurd (none-some f); each = tt })
@@ -185,7 +184,7 @@ begun-retains : (e : Ends.Ends) → Begun e → RetainsIn e
 begun-retains = begun-else RetainsIn together-retains call-retains
 
 pub alert-answer : AlertAnswer
-alert-answer e b ts t w = each-call RetainsIn (CallOf FreshAlert) call-alert e (begun-both e b) (begun-retains e b) ts t w
+alert-answer e b ts t w = each-call RetainsIn (CallOf AlertFresh) call-alert e (begun-both e b) (begun-retains e b) ts t w
 
 -- ---- against an earlier moment
 
@@ -208,26 +207,26 @@ module _ (e₀ : Ends.Ends) where
       → Each Placed (handledBy asked image true x o earlier fs)
   unfolding handledBy
   frames-placed asked image [] x o earlier = tt
-  frames-placed asked image (f ∷ fs) x o earlier = (inl refl, frames-placed asked image fs (framed image x f) (originBy o f) (earlier ++ (f ∷ [])))
+  frames-placed asked image (f ∷ fs) x o earlier = (inl refl, frames-placed asked image fs (frameCarried image x f) (originBy o f) (earlier ++ (f ∷ [])))
 
   supervisor-clears : (x : State) (l : Log) (m : Supervisor.Made) (waiting : List ℕ) → Cleared l → Cleared (supervisorLogged l x m waiting)
   unfolding supervisorLogged brought
   supervisor-clears x l m waiting c = record {
-    now = rw (c .now, cleared-stays (Received.framesBy (l .received) (Received.receivedBy m))) (or-true (Received.startsAnew m));
-    each = each-append Placed (l .handled) _ (c .each) (rw (c .now) (frames-placed (l .asked) (imageOf (m .call)) _ x _ _));
+    now = rw (c .now, cleared-stays (Received.framesClosedBy (l .received) (Received.bytesReceivedBy m))) (or-true (Received.startsAnew m));
+    each = each-append Placed (l .handled) _ (c .each) (rw (c .now) (frames-placed (l .asked) (imageLent (m .call)) _ x _ _));
   }
 
-  main-clears : (l : Log) → Cleared l → (c : Main.Call) (a : Main.Answer) (out : List ℕ) (n : ℕ) → restarts c a ≡ false → Cleared (mainLogged l c a out n)
+  main-clears : (l : Log) → Cleared l → (c : MainCall) (a : MainAnswer) (out : List ℕ) (n : ℕ) → restarts c a ≡ false → Cleared (mainLogged l c a out n)
   unfolding mainLogged
   main-clears l h c a out n e = rw e (record { now = h .now; each = h .each })
 
-  call-clears : (e : Ends.Ends) (t : Ends.Call) → MainGoesOn e t → Cleared (e .log) → Cleared (after e t .log)
-  unfolding after
+  call-clears : (e : Ends.Ends) (t : Ends.EndCall) → MainGoesOn e t → Cleared (e .log) → Cleared (endsAfter e t .log)
+  unfolding endsAfter
   call-clears e (Ends.main m) g c = main-clears (e .log) c (m .call) _ _ _ g
   call-clears e (Ends.supervisor m) g c = supervisor-clears _ (e .log) m _ c
 
   -- a request that had not been put out then was carried out since
-  since : (s : MainState.State) (l : Log) → Cleared l → (r : Message) → Fresh s l r → FreshAlert s l r → AlertAgainst e₀ s l r
+  since : (s : MainState) (l : Log) → Cleared l → (r : Message) → Fresh s l r → AlertFresh s l r → AlertAgainst e₀ s l r
   since s l c r f a q waiting alert new =
       let e : f .request ≡ q = (let w = f .waiting in cc) in
       a q waiting alert (each-any Placed (CarriedOut (s .newest) q r) _ later (l .handled) (c .each) (rw e at (f .made)))
@@ -239,18 +238,18 @@ module _ (e₀ : Ends.Ends) where
   abbrev Keeps : Ends.Ends → Type 0
   Keeps e = RetainsIn e × Cleared (e .log)
 
-  call-since : (e : Ends.Ends) → Both e → Keeps e → (t : Ends.Call) → CallTyped t → Wire (after e t .log) → MainGoesOn e t → CallOf (AlertAgainst e₀) e t × Keeps (after e t)
+  call-since : (e : Ends.Ends) → Both e → Keeps e → (t : Ends.EndCall) → EndCallTyped t → Wire (endsAfter e t .log) → MainGoesOn e t → CallOf (AlertAgainst e₀) e t × Keeps (endsAfter e t)
   call-since e both k t typed w g =
       let a = call-alert e both (k .0) t typed w in
       (by t typed w (a .0), (a .1, call-clears e t g (k .1)))
     where
-      by : (t : Ends.Call) → CallTyped t → Wire (after e t .log) → CallOf FreshAlert e t → CallOf (AlertAgainst e₀) e t
-      by (Ends.main m) typed w a = λ r o. since (MainView.view (e .main)) (e .log) (k .1) r (answer-fresh e both m typed w r o) (a r o)
+      by : (t : Ends.EndCall) → EndCallTyped t → Wire (endsAfter e t .log) → CallOf AlertFresh e t → CallOf (AlertAgainst e₀) e t
+      by (Ends.main m) typed w a = λ r o. since (mainView (e .main)) (e .log) (k .1) r (answer-fresh e both m typed w r o) (a r o)
       by (Ends.supervisor m) typed w a = tt
 
 pub alert-since : AlertSince
 alert-since b begins ts us t u w c g v =
-    let e = afterAll b ts in
-    let k = after-calls RetainsIn (CallOf FreshAlert) call-alert b (begun-both b begins) (begun-retains b begins) ts t w in
+    let e = endsAfterAll b ts in
+    let k = after-calls RetainsIn (CallOf AlertFresh) call-alert b (begun-both b begins) (begun-retains b begins) ts t w in
     let before : Cleared e (e .log) = record { now = c; each = each-then _ _ (λ (h : Handled) f. inr f) (e .log .handled) (k .0 .kept .before) } in
     each-given (Keeps e) MainGoesOn (CallOf (AlertAgainst e)) (call-since e) e (k .0) (k .1, before) us u v g

@@ -19,45 +19,45 @@ use Rattle.line_claims.specs.Pieces.{form, split, nonEmpty}
 use Rattle.line_claims.specs.Loans.{first, enoughPart}
 use Rattle.octets.proofs.Each.{each-append}
 use Rattle.line_claims.specs.Calls.{gathered}
-use Rattle.requester.specs.State as MainState
-use Rattle.requester.specs.State.{Request, isSome, outstanding, requestFrame}
+use Rattle.requester.specs.State.{Request, isSome, outstanding, requestFrame, MainState, mainFresh, mainState}
 use Rattle.requester.specs.Limits.{last-number}
 use Rattle.requester.specs.Layout
 use Rattle.requester.specs.Requester
-use Rattle.requester_claims.specs.View as MainView
+use Rattle.requester_claims.specs.View.{mainView}
+use Rattle.requester_claims.specs.Histories.{mainEnough, mainMeant, mainMeantMade}
 use Rattle.requester_claims.specs.Histories as Main
 use Rattle.requester_claims.proofs.History as MainHistory
 use Rattle.supervisor.specs.State.{State, fresh}
-use Rattle.requests.specs.Commands.{commandOf, withNumber, numberOf, lengthRight}
-use Rattle.requests.specs.Requests.{good, verdict, known, lengthAllowed, carried, effect, keySet, replyOf}
+use Rattle.responder.specs.Commands.{commandOfNumber, withNumber, commandNumber, lengthRight}
+use Rattle.responder.specs.Requests.{good, verdict, known, lengthAllowed, carryOut, effect, keySet, replyOf}
 use Rattle.supervisor_claims.specs.ByPart.{published}
 use Rattle.supervisor_claims.specs.View.{view}
 use Rattle.supervisor_claims.specs.Histories as Supervisor
 use Rattle.supervisor_claims.proofs.calls.SendingClaim.{frame-bytes}
 use Rattle.supervisor_claims.proofs.claims.History as SupervisorHistory
 use Rattle.both_claims.specs.Ends
-use Rattle.both_claims.specs.Ends.{over, InOrderAfter, GoesOn, replyTo, asMessage, Starts, begun, together, after, afterAll, Always, CallTyped}
+use Rattle.both_claims.specs.Ends.{over, InOrderAfter, GoesOn, replyToRequest, asMessage, BothStarts, endsBegun, together, endsAfter, endsAfterAll, Always, EndCallTyped}
 use Rattle.both_claims.proofs.RoundTrip.{allLent, lent-enough, next-number}
 use Rattle.both_claims.proofs.laws.Table.{table-passes}
 use Rattle.both_claims.proofs.laws.Held.{held-parts, reply-in-range}
 use Rattle.both_claims.proofs.laws.Ranges.{ranged-message}
 use Rattle.both_claims.proofs.laws.BothCalls.{begun-both}
-use Rattle.both_claims.specs.Exchanges.{Exchange, requesting, callsOf, Exchanges, finished, next, callHanded, allHanded, requestsOf, repliesOf, Clean}
+use Rattle.both_claims.specs.Exchanges.{Exchange, requestDid, exchangeCalls, Exchanges, finished, next, callHanded, allHanded, requestsExchanged, repliesOf, Clean}
 use Rattle.both_claims.proofs.laws.OneExchange.{AtRest}
 use Rattle.both_claims.proofs.laws.OneExchange.{exchange-goes-on, exchange-number, exchange-typed, exchange-in-order, exchange-handed, exchange-rest}
-use Rattle.both_claims.specs.Exchanges.{Served, Made}
+use Rattle.both_claims.specs.Exchanges.{Served, ExchangesOf}
 use Rattle.both_claims.specs.BothEnds.{CleanExchange, LookupServed, SetServed, ServedExchanges}
 
 -- ---- the claim
 
 -- both ends are at rest after two starts
-pub begun-rest : (s : Starts) → AtRest (begun s)
-unfolding MainState.fresh fresh split nonEmpty gathered
+pub begun-rest : (s : BothStarts) → AtRest (endsBegun s)
+unfolding mainFresh fresh split nonEmpty gathered
 begun-rest s =
     let m = MainHistory.started (s .main-parts) (s .main-lent) (s .main-accepted) .state in
     let v = SupervisorHistory.started (s .supervisor-parts) (s .supervisor-bytes) (s .supervisor-lent) (s .start-data) (s .start-typed) (s .supervisor-accepted) .0 in
     record {
-      both = begun-both (begun s) (together s);
+      both = begun-both (endsBegun s) (together s);
       idle = rw m;
       between = ap (λ (x : State). x .received) v;
       whole = refl;
@@ -66,26 +66,26 @@ begun-rest s =
     }
 
 -- calls behind other calls
-always-append : (C : Ends.Ends → Ends.Call → Type 0) (e : Ends.Ends) (ts us : List Ends.Call) → Always C e ts → Always C (afterAll e ts) us → Always C e (ts ++ us)
-unfolding afterAll
+always-append : (C : Ends.Ends → Ends.EndCall → Type 0) (e : Ends.Ends) (ts us : List Ends.EndCall) → Always C e ts → Always C (endsAfterAll e ts) us → Always C e (ts ++ us)
+unfolding endsAfterAll
 always-append C e [] us h k = k
-always-append C e (t ∷ ts) us h k = (h .0, always-append C (after e t) ts us (h .1) k)
+always-append C e (t ∷ ts) us h k = (h .0, always-append C (endsAfter e t) ts us (h .1) k)
 
-handed-append : (e : Ends.Ends) (ts us : List Ends.Call) → allHanded e (ts ++ us) ≡ allHanded e ts ++ allHanded (afterAll e ts) us
-unfolding allHanded afterAll
+handed-append : (e : Ends.Ends) (ts us : List Ends.EndCall) → allHanded e (ts ++ us) ≡ allHanded e ts ++ allHanded (endsAfterAll e ts) us
+unfolding allHanded endsAfterAll
 handed-append e [] us = refl
-handed-append e (t ∷ ts) us = rw (handed-append (after e t) ts us) (sym (append-assoc (callHanded e t) (allHanded (after e t) ts) (allHanded (afterAll (after e t) ts) us)))
+handed-append e (t ∷ ts) us = rw (handed-append (endsAfter e t) ts us) (sym (append-assoc (callHanded e t) (allHanded (endsAfter e t) ts) (allHanded (endsAfterAll (endsAfter e t) ts) us)))
 
-from-rest : {e : Ends.Ends} {ts : List Ends.Call} → AtRest e → (xs : Exchanges e ts) → Clean xs
+from-rest : {e : Ends.Ends} {ts : List Ends.EndCall} → AtRest e → (xs : Exchanges e ts) → Clean xs
 unfolding repliesOf allHanded
 from-rest rest finished = record { typed = tt; goes-on = tt; in-order = tt; handed = refl }
 from-rest {e} rest (next {ts = ts} x xs) =
     let k = from-rest (exchange-rest e rest x) xs in
     record {
-      typed = each-append CallTyped (callsOf x) ts (exchange-typed e rest x) (k .typed);
-      goes-on = always-append GoesOn e (callsOf x) ts (exchange-goes-on e rest x) (k .goes-on);
-      in-order = always-append InOrderAfter e (callsOf x) ts (exchange-in-order e rest x) (k .in-order);
-      handed = handed-append e (callsOf x) ts ∙ rw (exchange-handed e rest x, k .handed);
+      typed = each-append EndCallTyped (exchangeCalls x) ts (exchange-typed e rest x) (k .typed);
+      goes-on = always-append GoesOn e (exchangeCalls x) ts (exchange-goes-on e rest x) (k .goes-on);
+      in-order = always-append InOrderAfter e (exchangeCalls x) ts (exchange-in-order e rest x) (k .in-order);
+      handed = handed-append e (exchangeCalls x) ts ∙ rw (exchange-handed e rest x, k .handed);
     }
 
 pub clean-exchange : CleanExchange
@@ -94,7 +94,7 @@ clean-exchange s ts xs = from-rest (begun-rest s) xs
 -- ---- there are such exchanges
 
 pub lookup-served : LookupServed
-unfolding known lengthAllowed commandOf withNumber numberOf lengthRight carried effect replyOf
+unfolding known lengthAllowed commandOfNumber withNumber commandNumber lengthRight carryOut effect replyOf
 lookup-served k most =
     let l : length (bytes 1 k ++ bytes 2 most) ≡ 3 = simp (length-append, length-bytes) in
     record {
@@ -105,7 +105,7 @@ lookup-served k most =
     }
 
 pub set-served : SetServed
-unfolding known lengthAllowed commandOf withNumber numberOf lengthRight carried effect keySet replyOf
+unfolding known lengthAllowed commandOfNumber withNumber commandNumber lengthRight carryOut effect keySet replyOf
 set-served k v h f =
     let l : length (bytes 1 k ++ v) ≡ suc (length v) = rw (length-append, length-bytes) (omega arith) in
     record {
@@ -128,32 +128,32 @@ unfolding Supervisor.enough enoughPart
 take-enough space = refl
 
 -- with none outstanding, a request goes out into a room as long as its frame
-idle-puts : (s : MainState.State) → s ≡ MainState.state (s .newest) none none false (some []) → s .newest < last-number → (q : Request) → length (q .payload) ≤ longest-data
+idle-puts : (s : MainState) → s ≡ mainState (s .newest) none none false (some []) → s .newest < last-number → (q : Request) → length (q .payload) ≤ longest-data
     → let f = requestFrame (suc (s .newest)) q in
-    Main.meantMade s (record { lent = allLent; call = Main.request (q .command) (q .payload) f }) .answer ≡ Main.put (length f)
-unfolding Main.meantMade Main.enough enoughPart Main.meant Requester.request
+    mainMeantMade s (record { lent = allLent; call = Main.request (q .command) (q .payload) f }) .answer ≡ Main.put (length f)
+unfolding mainMeantMade mainEnough enoughPart mainMeant Requester.request
 idle-puts s e low q h =
     let f = requestFrame (suc (s .newest)) q in
     let i : isSome (outstanding s) ≡ false = rw e in
     rw (le-ltb longest-data (length (q .payload)) h, i, lt-leb last-number (s .newest) low, le-ltb (length f) (length f) (omega arith))
 
 -- from rest, as long as there is a next number
-module _ (e : Ends.Ends) (rest : AtRest e) (low : MainView.view (e .main) .newest < last-number) (q : Request) (served : Served q) where
+module _ (e : Ends.Ends) (rest : AtRest e) (low : mainView (e .main) .newest < last-number) (q : Request) (served : Served q) where
   abbrev n : ℕ
-  n = suc (MainView.view (e .main) .newest)
+  n = suc (mainView (e .main) .newest)
 
   abbrev room : List ℕ
   room = requestFrame n q
 
-  abbrev reply : (r : Message) × (replyTo [] (view (e .supervisor)) (asMessage n q) ≡ some r) × (r .version ≡ 1)
+  abbrev reply : (r : Message) × (replyToRequest [] (view (e .supervisor)) (asMessage n q) ≡ some r) × (r .version ≡ 1)
   reply = served .replied [] (view (e .supervisor)) n
 
-  puts : requesting e q room allLent .answer ≡ Main.put (length room)
+  puts : requestDid e q room allLent .answer ≡ Main.put (length room)
   puts =
       MainHistory.one-call (e .main) (record { lent = allLent; call = Main.request (q .command) (q .payload) room }) (rest .both .main) .answer
-      ∙ idle-puts (MainView.view (e .main)) (rest .idle) low q (served .ranged .fits)
+      ∙ idle-puts (mainView (e .main)) (rest .idle) low q (served .ranged .fits)
 
-  number : Layout.numberOf (requesting e q room allLent .parts .requester) ≡ n
+  number : Layout.newestNumber (requestDid e q room allLent .parts .requester) ≡ n
   number = next-number (e .main) (rest .both .main) allLent (q .command) (q .payload) room (length room) puts
 
   ranged : InRange (asMessage n q)
@@ -198,26 +198,26 @@ module _ (e : Ends.Ends) (rest : AtRest e) (low : MainView.view (e .main) .newes
   unfolding served-exchange
   exchange-request = refl
 
-made-next : {e : Ends.Ends} (x : Exchange e) (q : Request) (qs : List Request) → x .request ≡ q → Made (afterAll e (callsOf x)) qs → Made e (q ∷ qs)
-unfolding requestsOf
+made-next : {e : Ends.Ends} (x : Exchange e) (q : Request) (qs : List Request) → x .request ≡ q → ExchangesOf (endsAfterAll e (exchangeCalls x)) qs → ExchangesOf e (q ∷ qs)
+unfolding requestsExchanged
 made-next x q qs h k = record {
-  calls = callsOf x ++ k .calls;
+  calls = exchangeCalls x ++ k .calls;
   exchanges = next x (k .exchanges);
-  requests = ap (λ (y : Request). y ∷ requestsOf (k .exchanges)) h ∙ ap (λ (ys : List Request). q ∷ ys) (k .requests);
+  requests = ap (λ (y : Request). y ∷ requestsExchanged (k .exchanges)) h ∙ ap (λ (ys : List Request). q ∷ ys) (k .requests);
 }
 
 -- as many as there are numbers
-served-from : (e : Ends.Ends) → AtRest e → (qs : List Request) → Each Served qs → MainView.view (e .main) .newest + length qs ≤ last-number → Made e qs
-unfolding requestsOf
+served-from : (e : Ends.Ends) → AtRest e → (qs : List Request) → Each Served qs → mainView (e .main) .newest + length qs ≤ last-number → ExchangesOf e qs
+unfolding requestsExchanged
 served-from e rest [] served low = record { calls = []; exchanges = finished; requests = refl }
 served-from e rest (q ∷ qs) served low =
-    let there : MainView.view (e .main) .newest < last-number = omega (arith, low) in
+    let there : mainView (e .main) .newest < last-number = omega (arith, low) in
     let x = served-exchange e rest there q (served .0) in
-    let k = served-from (afterAll e (callsOf x)) (exchange-rest e rest x) qs (served .1) (omega (arith, low, exchange-number e rest x)) in
+    let k = served-from (endsAfterAll e (exchangeCalls x)) (exchange-rest e rest x) qs (served .1) (omega (arith, low, exchange-number e rest x)) in
     made-next x q qs (exchange-request e rest there q (served .0)) k
 
 pub served-exchanges : ServedExchanges
-unfolding MainState.fresh
+unfolding mainFresh
 served-exchanges s qs served low =
     let m = MainHistory.started (s .main-parts) (s .main-lent) (s .main-accepted) .state in
-    served-from (begun s) (begun-rest s) qs served (rw m (omega (arith, low)))
+    served-from (endsBegun s) (begun-rest s) qs served (rw m (omega (arith, low)))

@@ -8,41 +8,42 @@ use Prim.Native.Nat.{ℕ}
 use Rattle.octets.specs.Bytes.{Each}
 use Rattle.line.specs.Message.{Message}
 use Rattle.line.specs.Frame.{frame}
-use Rattle.requester.specs.State as MainState
+use Rattle.requester.specs.State.{MainState}
 use Rattle.requester.specs.Calls as MainCalls
-use Rattle.requester_claims.specs.View as MainView
+use Rattle.requester_claims.specs.View.{mainView}
+use Rattle.requester_claims.specs.Histories.{MainAnswer, MainMade, mainMade}
 use Rattle.requester_claims.specs.Histories as Main
 use Rattle.requester_claims.specs.Numbers.{Frame}
 use Rattle.both_claims.specs.Ends
-use Rattle.both_claims.specs.Ends.{MainTyped, CallTyped, after, Wire, Fresh, FreshReport, FreshBy, CallFresh, messageReported, messageBy, CallOf}
+use Rattle.both_claims.specs.Ends.{MainTyped, EndCallTyped, endsAfter, Wire, Fresh, FreshReport, FreshBy, CallFresh, messageReported, messageHanded, CallOf}
 use Rattle.both_claims.specs.Ends.{Any, Log, got, Among, over, lost, came}
 use Rattle.both_claims.proofs.laws.Lists.{none-some, each-then}
 use Rattle.both_claims.proofs.laws.MainCalls.{main-fresh}
 use Rattle.both_claims.proofs.laws.BothCalls.{Both, main-log, main-answer, each-call, begun-both}
 use Rattle.both_claims.specs.BothEnds.{FreshAnswer, InOrderWire}
 
-pub fresh-call : (e : Ends.Ends) → Both e → (t : Ends.Call) → CallTyped t → Wire (after e t .log) → CallFresh e t
+pub fresh-call : (e : Ends.Ends) → Both e → (t : Ends.EndCall) → EndCallTyped t → Wire (endsAfter e t .log) → CallFresh e t
 fresh-call e both (Ends.main m) typed w =
-    let s = MainView.view (e .main) in
+    let s = mainView (e .main) in
     main-answer e both (FreshBy s (e .log)) m (main-fresh s (e .log) (both .kept) m typed (rw (main-log e both m) at w))
 fresh-call e both (Ends.supervisor m) typed w = tt
 
 -- an answer, or an alert's
-report-fresh : (s : MainState.State) (l : Log) (t : MainCalls.Report) (d : List ℕ) → FreshReport s l t d → (r : Message) → messageReported t d ≡ some r → Fresh s l r
-report-fresh s l (MainCalls.Report.refused n) d h r e = absurd (none-some e)
+report-fresh : (s : MainState) (l : Log) (t : MainCalls.HandedReport) (d : List ℕ) → FreshReport s l t d → (r : Message) → messageReported t d ≡ some r → Fresh s l r
+report-fresh s l (MainCalls.HandedReport.refused n) d h r e = absurd (none-some e)
 report-fresh s l MainCalls.nothing d h r e = absurd (none-some e)
 report-fresh s l (MainCalls.answered v q c n) d h r e = let z : record { version = v; sequence = q; command = c; payload = d } ≡ r = cc in rw (← z) (h .1)
 report-fresh s l (MainCalls.status x o k) d h r e = absurd (none-some e)
 report-fresh s l (MainCalls.alerted v q c n) d h r e = let z : record { version = v; sequence = q; command = c; payload = d } ≡ r = cc in rw (← z) (h .1)
 
-by-fresh : (s : MainState.State) (l : Log) (a : Main.Answer) (d : List ℕ) → FreshBy s l a d → (r : Message) → messageBy a d ≡ some r → Fresh s l r
+by-fresh : (s : MainState) (l : Log) (a : MainAnswer) (d : List ℕ) → FreshBy s l a d → (r : Message) → messageHanded a d ≡ some r → Fresh s l r
 by-fresh s l (Main.refused n) d h r e = absurd (none-some e)
 by-fresh s l Main.done d h r e = absurd (none-some e)
 by-fresh s l (Main.put n) d h r e = absurd (none-some e)
 by-fresh s l (Main.received used t x u) d h r e = report-fresh s l t d h r e
 
-pub answer-fresh : (e : Ends.Ends) → Both e → (m : Main.Made) → MainTyped (m .call) → Wire (after e (Ends.main m) .log) → CallOf Fresh e (Ends.main m)
-answer-fresh e both m typed w r o = let d = Main.made (e .main) m in by-fresh (MainView.view (e .main)) (e .log) (d .answer) (d .out) (fresh-call e both (Ends.main m) typed w) r o
+pub answer-fresh : (e : Ends.Ends) → Both e → (m : MainMade) → MainTyped (m .call) → Wire (endsAfter e (Ends.main m) .log) → CallOf Fresh e (Ends.main m)
+answer-fresh e both m typed w r o = let d = mainMade (e .main) m in by-fresh (mainView (e .main)) (e .log) (d .answer) (d .out) (fresh-call e both (Ends.main m) typed w) r o
 
 pub fresh-answer : FreshAnswer
 fresh-answer e b ts t w = each-call (λ e. Unit {0}) CallFresh (λ e both x t typed v. (fresh-call e both t typed v, tt)) e (begun-both e b) tt ts t w

@@ -14,26 +14,25 @@ use Rattle.octets.specs.Bytes.{Each}
 use Rattle.line.specs.Message.{Message, InRange}
 use Rattle.line.specs.Frame.{frame}
 use Rattle.line.specs.Judge.{judge}
-use Rattle.line_claims.specs.Pieces.{split, nonEmpty, closedBy}
+use Rattle.line_claims.specs.Pieces.{split, nonEmpty, closedBehind}
 use Rattle.line_claims.proofs.Pieces.{nonEmpty-append, closed-join}
 use Rattle.line_claims.specs.Calls.{gathered, goodOf, goodMessages}
 use Rattle.line_claims.proofs.ReaderClaim.{gathered-append}
-use Rattle.requester.specs.State as MainState
-use Rattle.requester.specs.State.{requestFrame}
-use Rattle.requester_claims.specs.View as MainView
+use Rattle.requester.specs.State.{requestFrame, MainState}
+use Rattle.requester_claims.specs.View.{mainView}
 use Rattle.requester_claims.specs.Numbers.{Frame, OnePerNumber}
 use Rattle.supervisor.specs.Limits.{last-edition}
 use Rattle.supervisor.specs.State.{Setting, State}
 use Rattle.supervisor.specs.Local.{entryOf}
-use Rattle.requests.specs.Requests.{Verdict, failure, good, verdict}
+use Rattle.responder.specs.Requests.{Verdict, failure, good, verdict}
 use Rattle.supervisor_claims.specs.View.{view}
 use Rattle.supervisor_claims.specs.Histories as Supervisor
 use Rattle.supervisor_claims.specs.FrameHistory as Received
-use Rattle.supervisor_claims.specs.LastSet.{request, requestsIn, setBy, listedIf, setsOf, successful, lastOr, setAfter, sinceMore}
+use Rattle.supervisor_claims.specs.LastSet.{requestAhead, requestsIn, setBy, listedIf, setsOf, successful, lastOr, setAfter, sinceMore}
 use Rattle.supervisor_claims.proofs.claims.LastSetLaws.{requests-append}
 use Rattle.both_claims.specs.Ends
-use Rattle.both_claims.specs.Ends.{Any, Handled, Log, Among, over, lost, came, InOrder, afterAll, Always, CallTyped, after, WireAfter, mainLogged, supervisorLogged}
-use Rattle.both_claims.specs.Ends.{framesOf, Stays, CallStays, GoesOn, InOrderAfter, NotOlder, ValueAgainst, ValueNotOlder, asMessage}
+use Rattle.both_claims.specs.Ends.{Any, Handled, Log, Among, over, lost, came, InOrder, endsAfterAll, Always, EndCallTyped, endsAfter, WireAfter, mainLogged, supervisorLogged}
+use Rattle.both_claims.specs.Ends.{handledFrames, Stays, CallStays, GoesOn, InOrderAfter, NotOlder, ValueAgainst, ValueNotOlder, asMessage}
 use Rattle.both_claims.proofs.FreshAnswer.{in-order-wire}
 use Rattle.both_claims.proofs.ListAge.{more-none, stays-since, KnownOf, ValueKnown, against}
 use Rattle.both_claims.proofs.laws.Lists.{any-so, any-or, any-then, each-left, each-right, each-then, each-and, each-any}
@@ -122,7 +121,7 @@ heard-pairs (y ∷ ms) r h = (each ms (r .1) (h .0), heard-pairs ms (r .1) (h .1
     each (m ∷ ks) i k = (k .0 y m (r .0) (i .0) refl refl, each ks (i .1) (k .1))
 
 -- numbers never fall, and what comes again under one number is the same message
-pub heard-ordered : (s : MainState.State) (l : Log) → Kept s l → InOrder l → Pairs Ordered (l .heard)
+pub heard-ordered : (s : MainState) (l : Log) → Kept s l → InOrder l → Pairs Ordered (l .heard)
 heard-ordered s l kept o =
     let ranged = each-then (PutOut s) RangedFrame (λ x w. w .ranged) (l .asked) (kept .asked) in
     heard-pairs (l .heard) (kept .heard)
@@ -134,7 +133,7 @@ unfolding gathered requestsIn
 requests-good P [] h = tt
 requests-good P (f ∷ fs) h = by (verdict f) refl (requests-good P fs (each-right P (goodOf (judge f)) (goodMessages fs) h))
   where
-    by : (v : Verdict) → verdict f ≡ v → Each P (requestsIn fs) → Each P (request v (requestsIn fs))
+    by : (v : Verdict) → verdict f ≡ v → Each P (requestsIn fs) → Each P (requestAhead v (requestsIn fs))
     by (failure reason version sequence) e others = others
     by (good m) e others = ((rw (passes f m e .judged) at h) .0, others)
 
@@ -154,48 +153,48 @@ module _ (e₀ : Ends.Ends) where
   -- the frames and the messages read since, and where the keys' values come from
   pub record ReadSince (l : Log) : Type 0 where
     pub later : List (List ℕ)
-    frames : nonEmpty (split (l .received) .closed) ≡ framesOf e₀ ++ later
+    frames : nonEmpty (split (l .received) .closed) ≡ handledFrames e₀ ++ later
     pub heard : l .heard ≡ e₀ .log .heard ++ goodMessages later
     pub origin : (k : ℕ) → l .origin k ≡ sinceMore (e₀ .log .origin k) (requestsIn later)
 
   -- what holds of the messages read since
   pub read-known : (P : Message → Type 0) (l : Log) (r : ReadSince l) → Each P (goodMessages (r .later))
-      → (fs : List (List ℕ)) → nonEmpty (split (l .received) .closed) ≡ framesOf e₀ ++ fs → Each P (requestsIn fs)
+      → (fs : List (List ℕ)) → nonEmpty (split (l .received) .closed) ≡ handledFrames e₀ ++ fs → Each P (requestsIn fs)
   read-known P l r h fs e =
-      let z : r .later ≡ fs = same-rest (framesOf e₀) (r .later) fs (sym (r .frames) ∙ e) in
+      let z : r .later ≡ fs = same-rest (handledFrames e₀) (r .later) fs (sym (r .frames) ∙ e) in
       rw (← z) (requests-good P (r .later) h)
 
-  pub read-not-older : (s : MainState.State) (l : Log) → Kept s l → InOrder l → (r : ReadSince l) → Each (NotOlder e₀) (goodMessages (r .later))
+  pub read-not-older : (s : MainState) (l : Log) → Kept s l → InOrder l → (r : ReadSince l) → Each (NotOlder e₀) (goodMessages (r .later))
   read-not-older s l kept o r = pairs-across Ordered (e₀ .log .heard) (goodMessages (r .later)) (rw (r .heard) at (heard-ordered s l kept o))
 
-  not-older-known : (s : MainState.State) (l : Log) → Kept s l → InOrder l → ReadSince l → KnownOf e₀ NotOlderIn not-older-fewer l
+  not-older-known : (s : MainState) (l : Log) → Kept s l → InOrder l → ReadSince l → KnownOf e₀ NotOlderIn not-older-fewer l
   not-older-known s l kept o r = read-known (NotOlder e₀) l r (read-not-older s l kept o r)
 
   supervisor-reads : (x : State) (l : Log) (m : Supervisor.Made) (waiting : List ℕ) → Stays m → ReadSince l → ReadSince (supervisorLogged l x m waiting)
-  unfolding supervisorLogged Received.joined Received.framesBy
+  unfolding supervisorLogged Received.receivedSince Received.framesClosedBy
   supervisor-reads x l m waiting n r =
       let w = l .received in
-      let bs = Received.receivedBy m in
-      let new = nonEmpty (closedBy w bs) in
+      let bs = Received.bytesReceivedBy m in
+      let new = nonEmpty (closedBehind w bs) in
       record {
         later = r .later ++ new;
-        frames = rw (n .no-start, closed-join w bs, nonEmpty-append (split w .closed) (closedBy w bs), r .frames) (append-assoc (framesOf e₀) (r .later) new);
+        frames = rw (n .no-start, closed-join w bs, nonEmpty-append (split w .closed) (closedBehind w bs), r .frames) (append-assoc (handledFrames e₀) (r .later) new);
         heard = rw (r .heard, gathered-append goodOf (r .later) new) (append-assoc (e₀ .log .heard) (goodMessages (r .later)) (goodMessages new));
         origin = λ k. stays-since k w (l .origin k) m n ∙ rw (r .origin k, requests-append (r .later) new, append-assoc);
       }
 
-  pub call-reads : (e : Ends.Ends) (t : Ends.Call) → GoesOn e t → ReadSince (e .log) → ReadSince (after e t .log)
-  unfolding after mainLogged
+  pub call-reads : (e : Ends.Ends) (t : Ends.EndCall) → GoesOn e t → ReadSince (e .log) → ReadSince (endsAfter e t .log)
+  unfolding endsAfter mainLogged
   call-reads e (Ends.main m) g r = rw g (record { later = r .later; frames = r .frames; heard = r .heard; origin = r .origin })
   call-reads e (Ends.supervisor m) g r = supervisor-reads _ (e .log) m _ g r
 
-  known-calls : (e : Ends.Ends) → Both e → ReadSince (e .log) → (ts : List Ends.Call) → Each CallTyped ts → Always GoesOn e ts → Always InOrderAfter e ts
-      → Always (λ x t. KnownOf e₀ NotOlderIn not-older-fewer (after x t .log)) e ts
+  known-calls : (e : Ends.Ends) → Both e → ReadSince (e .log) → (ts : List Ends.EndCall) → Each EndCallTyped ts → Always GoesOn e ts → Always InOrderAfter e ts
+      → Always (λ x t. KnownOf e₀ NotOlderIn not-older-fewer (endsAfter x t .log)) e ts
   known-calls e both r [] typed g o = tt
   known-calls e both r (t ∷ ts) typed g o =
-      let b = keeps-both e both t (typed .0) (in-order-wire (after e t .log) (o .0)) in
+      let b = keeps-both e both t (typed .0) (in-order-wire (endsAfter e t .log) (o .0)) in
       let k = call-reads e t (g .0) r in
-      (not-older-known (MainView.view (after e t .main)) (after e t .log) (b .kept) (o .0) k, known-calls (after e t) b k ts (typed .1) (g .1) (o .1))
+      (not-older-known (mainView (endsAfter e t .main)) (endsAfter e t .log) (b .kept) (o .0) k, known-calls (endsAfter e t) b k ts (typed .1) (g .1) (o .1))
 
 -- ---- the value
 
@@ -229,22 +228,22 @@ set-by k o (m ∷ ms) h = by (setBy k m) refl (set-by k o ms) h
 
 -- ---- the claim
 
-pub wires : (e : Ends.Ends) (ts : List Ends.Call) → Always InOrderAfter e ts → Always WireAfter e ts
+pub wires : (e : Ends.Ends) (ts : List Ends.EndCall) → Always InOrderAfter e ts → Always WireAfter e ts
 wires e [] o = tt
-wires e (t ∷ ts) o = (in-order-wire (after e t .log) (o .0), wires (after e t) ts (o .1))
+wires e (t ∷ ts) o = (in-order-wire (endsAfter e t .log) (o .0), wires (endsAfter e t) ts (o .1))
 
 pub first-read : (e : Ends.Ends) → ReadSince e (e .log)
 unfolding gathered requestsIn
-first-read e = record { later = []; frames = sym (append-nil (framesOf e)); heard = sym (append-nil (e .log .heard)); origin = λ k. sym (more-none (e .log .origin k)) }
+first-read e = record { later = []; frames = sym (append-nil (handledFrames e)); heard = sym (append-nil (e .log .heard)); origin = λ k. sym (more-none (e .log .origin k)) }
 
 none-not-older : (e : Ends.Ends) → NotOlderIn e []
 unfolding requestsIn
 none-not-older e = tt
 
-pub stays-of : (e : Ends.Ends) (ts : List Ends.Call) → Always GoesOn e ts → Each CallStays ts
+pub stays-of : (e : Ends.Ends) (ts : List Ends.EndCall) → Always GoesOn e ts → Each CallStays ts
 stays-of e [] g = tt
-stays-of e (Ends.main m ∷ ts) g = (tt, stays-of (after e (Ends.main m)) ts (g .1))
-stays-of e (Ends.supervisor m ∷ ts) g = (g .0, stays-of (after e (Ends.supervisor m)) ts (g .1))
+stays-of e (Ends.main m ∷ ts) g = (tt, stays-of (endsAfter e (Ends.main m)) ts (g .1))
+stays-of e (Ends.supervisor m ∷ ts) g = (g .0, stays-of (endsAfter e (Ends.supervisor m)) ts (g .1))
 
 -- the value stayed, or was set by a request of which N holds, where N holds of each set that can succeed unless it sets the value that is there
 pub value-from : (N : Message → Type 0) (k : ℕ) (x : Setting) (ms : List Message)
@@ -288,7 +287,7 @@ value-not-older e n k most r h (v, newer) = record {
 
 pub list-not-older : ListNotOlder
 list-not-older b begins ts us t u w (g, o) =
-    let e = afterAll b ts in
+    let e = endsAfterAll b ts in
     let both = after-calls (λ x. Unit {0}) (λ x y. Unit {0}) (λ x b i y typed v. (tt, tt)) b (begun-both b begins) tt ts t w .0 in
     let first : ReadSince e (e .log) = first-read e in
     always-so _ (ValueAgainst e (ValueNotOlder e)) (λ x l r a k most key i q new. any-then _ _ (λ h v. value-not-older e (x .newest) k most r h v) (l .handled) (a k most key i q new)) e us

@@ -12,27 +12,26 @@ use Rattle.octets.specs.Bytes.{Each}
 use Rattle.octets.proofs.Conditions.{cond-by}
 use Rattle.octets.proofs.Each.{each-append}
 use Rattle.line.specs.Message.{Message}
-use Rattle.line_claims.specs.Pieces.{split, nonEmpty, closedBy}
+use Rattle.line_claims.specs.Pieces.{split, nonEmpty, closedBehind}
 use Rattle.line_claims.proofs.Pieces.{nonEmpty-append, closed-join}
-use Rattle.requester.specs.State as MainState
-use Rattle.requester.specs.State.{isSome}
+use Rattle.requester.specs.State.{isSome, MainState}
 use Rattle.requester.specs.Requester.{replySequence}
-use Rattle.requester_claims.specs.View as MainView
-use Rattle.requester_claims.specs.Histories as Main
+use Rattle.requester_claims.specs.View.{mainView}
+use Rattle.requester_claims.specs.Histories.{MainAnswer, MainCall}
 use Rattle.requester_claims.specs.Numbers.{Frame}
 use Rattle.supervisor.specs.Limits.{SettingsKey, last-edition}
 use Rattle.supervisor.specs.State.{Setting, State}
 use Rattle.supervisor.specs.Local
-use Rattle.saving.specs.Saving.{Entry}
-use Rattle.requests.specs.Requests.{Answer, carried, effect, replyOf}
-use Rattle.requests.specs.Commands.{numberOf, withNumber, commandOf}
+use Rattle.saving.specs.Saving.{SavedEntry}
+use Rattle.responder.specs.Requests.{ReplyContent, carryOut, effect, replyOf}
+use Rattle.responder.specs.Commands.{commandNumber, withNumber, commandOfNumber}
 use Rattle.supervisor.specs.Number.{topSet}
 use Rattle.supervisor_claims.specs.View.{view, factoryOf}
 use Rattle.supervisor_claims.specs.Sound.{Sound}
 use Rattle.supervisor_claims.specs.Histories as Supervisor
 use Rattle.supervisor_claims.specs.FrameHistory as Received
-use Rattle.supervisor_claims.specs.FrameHistory.{framed, allFramed}
-use Rattle.supervisor_claims.specs.LastSet.{requestsIn, setBy, setAfter, restoredBy, Origin, sinceRestore, sinceMore, sinceCall, sinceMade, sinceAll}
+use Rattle.supervisor_claims.specs.FrameHistory.{frameCarried, framesCarried}
+use Rattle.supervisor_claims.specs.LastSet.{requestsIn, setBy, setAfter, recordsRestored, Origin, sinceRestore, sinceMore, sinceCall, sinceMade, sinceAll}
 use Rattle.supervisor_claims.proofs.claims.WithdrawnKeys.{lookup-data, found-value}
 use Rattle.supervisor_claims.specs.LastSet.{fittedOf, ReadBack}
 use Rattle.supervisor_claims.proofs.laws.Progress.{Since}
@@ -40,9 +39,9 @@ use Rattle.supervisor_claims.proofs.claims.FramesClaim.{made-carried, by-frames
 use Rattle.supervisor_claims.proofs.claims.LastSetLaws.{afterSets, after-append, after-sets, onto, onto-low, entry-held, requests-append, frames-have, Holds, fresh-holds, made-holds, since-keeps, in-low, read-low}
 use Rattle.supervisor_claims.proofs.claims.History as SupervisorHistory
 use Rattle.both_claims.specs.Ends
-use Rattle.both_claims.specs.Ends.{Any, Handled, Log, CarriedOut, Fresh, messageOf, asMessage, drops, originBy, handledBy, imageOf, brought, supervisorLogged, mainLogged, restarts}
-use Rattle.both_claims.specs.Ends.{afterAll, framesOf, isRestore, restores, Stays, CallStays, NotAsked, ValueSince, ValueAgainst}
-use Rattle.both_claims.specs.Ends.{CallTyped, after, Starts, begun, Begun, Always, Wire, WireAfter, CallOf, lookupRequest, ValueThen, FreshValue}
+use Rattle.both_claims.specs.Ends.{Any, Handled, Log, CarriedOut, Fresh, replyMessage, asMessage, drops, originBy, handledBy, imageLent, brought, supervisorLogged, mainLogged, restarts}
+use Rattle.both_claims.specs.Ends.{endsAfterAll, handledFrames, isRestore, acceptsRestore, Stays, CallStays, NotAsked, ValueSince, ValueAgainst}
+use Rattle.both_claims.specs.Ends.{EndCallTyped, endsAfter, BothStarts, endsBegun, Begun, Always, Wire, WireAfter, CallOf, lookupRequest, ValueThen, FreshValue}
 use Rattle.both_claims.proofs.laws.Lists.{Front, any-so, any-then, each-then, each-and, each-any}
 use Rattle.both_claims.proofs.laws.Table.{top-set}
 use Rattle.both_claims.proofs.laws.SupervisorFrames.{frames-none}
@@ -61,8 +60,8 @@ pub record SetKey (k : ℕ) (o : Origin) (x : State) : Type 0 where
 abbrev Set : (ℕ → Origin) → State → Type 0
 Set o x = (k : ℕ) → SettingsKey k → SetKey k (o k) x
 
-set-frame : (image : List ℕ) (x : State) (o : ℕ → Origin) (b : ℕ) (bs : List ℕ) → Set o x → Set (originBy o (b ∷ bs)) (framed image x (b ∷ bs))
-unfolding nonEmpty allFramed
+set-frame : (image : List ℕ) (x : State) (o : ℕ → Origin) (b : ℕ) (bs : List ℕ) → Set o x → Set (originBy o (b ∷ bs)) (frameCarried image x (b ∷ bs))
+unfolding nonEmpty framesCarried
 set-frame image x o b bs h k s = record {
   holds = rw (after-append k (o k .setting) (o k .requests) (requestsIn ((b ∷ bs) ∷ []))) (frames-have image s ((b ∷ bs) ∷ []) x _ (h k s .holds));
   low = h k s .low;
@@ -76,7 +75,7 @@ module _ (asked : List Frame) (image : List ℕ) where
   frames-set [] cleared x o earlier h = tt
   frames-set ([] ∷ ps) cleared x o earlier h = frames-set ps cleared x o earlier h
   frames-set ((b ∷ bs) ∷ ps) cleared x o earlier h =
-      (h, frames-set ps (cleared || drops (b ∷ bs)) (framed image x (b ∷ bs)) (originBy o (b ∷ bs)) (earlier ++ ((b ∷ bs) ∷ [])) (set-frame image x o b bs h))
+      (h, frames-set ps (cleared || drops (b ∷ bs)) (frameCarried image x (b ∷ bs)) (originBy o (b ∷ bs)) (earlier ++ ((b ∷ bs) ∷ [])) (set-frame image x o b bs h))
 
 pub record Aged (x : State) (l : Log) : Type 0 where
   since : Since (split (l .received) .rest) x
@@ -100,16 +99,16 @@ module _ (x : State) (l : Log) (a : Aged x l) (m : Supervisor.Made) (typed : Sup
   }
 
   supervisor-ages : Aged left (supervisorLogged l x m waiting)
-  unfolding supervisorLogged brought Received.framesBy
+  unfolding supervisorLogged brought Received.framesClosedBy
   supervisor-ages = record {
     since = made-carried (l .received) x (a .since) m .1;
     set = left-set;
     each = each-append _ (l .handled) (brought l x m) (a .each)
-        (frames-set (l .asked) (imageOf (m .call)) (closedBy (l .received) (Received.receivedBy m)) (l .cleared) x (l .origin) (nonEmpty (split (l .received) .closed)) (a .set));
+        (frames-set (l .asked) (imageLent (m .call)) (closedBehind (l .received) (Received.bytesReceivedBy m)) (l .cleared) x (l .origin) (nonEmpty (split (l .received) .closed)) (a .set));
   }
 
 -- a call of the main processor's end
-main-ages : (x : State) (l : Log) → Aged x l → (c : Main.Call) (a : Main.Answer) (out : List ℕ) (n : ℕ) → Aged x (mainLogged l c a out n)
+main-ages : (x : State) (l : Log) → Aged x l → (c : MainCall) (a : MainAnswer) (out : List ℕ) (n : ℕ) → Aged x (mainLogged l c a out n)
 unfolding mainLogged
 main-ages x l r c a out n =
     cond-by (Aged x) (restarts c a) _ _ (λ _. record { since = r .since; set = r .set; each = tt }) (λ _. record { since = r .since; set = r .set; each = r .each })
@@ -118,8 +117,8 @@ main-ages x l r c a out n =
 
 -- a lookup carried out
 carried-lookup : (image : List ℕ) (x : State) (n k most : ℕ) → ReadBack k → most < 65536 → let f = fittedOf most (Local.entryOf x k) in
-    carried image x (asMessage n (lookupRequest k most)) .reply ≡ some (record { version = 1; command = 0x0a; payload = f .result ∷ f .value })
-unfolding carried commandOf withNumber numberOf effect
+    carryOut image x (asMessage n (lookupRequest k most)) .reply ≡ some (record { version = 1; command = 0x0a; payload = f .result ∷ f .value })
+unfolding carryOut commandOfNumber withNumber commandNumber effect
 carried-lookup image x n k most s i =
     let m = s .key .upper in
     let e = lookup-data k most (omega arith) i in
@@ -131,11 +130,11 @@ record Replied (n : ℕ) (d : List ℕ) (r : Message) : Type 0 where
   command : r .command ≡ 0x0a
   payload : r .payload ≡ d
 
-replied : (n : ℕ) (o : Option Answer) (d : List ℕ) (r : Message) → o ≡ some (record { version = 1; command = 0x0a; payload = d }) → messageOf (replyOf n o) ≡ some r → Replied n d r
+replied : (n : ℕ) (o : Option ReplyContent) (d : List ℕ) (r : Message) → o ≡ some (record { version = 1; command = 0x0a; payload = d }) → replyMessage (replyOf n o) ≡ some r → Replied n d r
 unfolding replyOf
 replied n o d r e f = let g = rw e at f in record { version = cc; sequence = cc; command = cc; payload = cc }
 
-module _ (s : MainState.State) (l : Log) (kept : Kept s l) (x : State) (aged : Aged x l) (r : Message) (k most : ℕ) (key : ReadBack k) (i : most < 65536) where
+module _ (s : MainState) (l : Log) (kept : Kept s l) (x : State) (aged : Aged x l) (r : Message) (k most : ℕ) (key : ReadBack k) (i : most < 65536) where
   -- at the moment at which it was carried out
   at-moment : (h : Handled) → CarriedOut (s .newest) (lookupRequest k most) r h → let f = fittedOf most (Local.entryOf (h .state) k) in Replied (s .newest) (f .result ∷ f .value) r
   at-moment h c = replied (s .newest) _ _ r (carried-lookup (h .image) (h .state) (s .newest) k most key i) (c .reply)
@@ -158,7 +157,7 @@ module _ (s : MainState.State) (l : Log) (kept : Kept s l) (x : State) (aged : A
     each-any _ _ _ value-then (l .handled) (aged .each) a,
   )
 
-value-fresh : (s : MainState.State) (l : Log) → Kept s l → (x : State) → Aged x l → (r : Message) → Fresh s l r → FreshValue s l r
+value-fresh : (s : MainState) (l : Log) → Kept s l → (x : State) → Aged x l → (r : Message) → Fresh s l r → FreshValue s l r
 value-fresh s l kept x aged r f k most key i e =
     let q : f .request ≡ lookupRequest k most = (let w = f .waiting in cc) in
     fresh-value s l kept x aged r k most key i (rw q at (f .made))
@@ -168,22 +167,22 @@ value-fresh s l kept x aged r f k most key i e =
 abbrev pub AgedIn : Ends.Ends → Type 0
 AgedIn e = Aged (view (e .supervisor)) (e .log)
 
-call-ages : (e : Ends.Ends) → Sound (e .supervisor) → AgedIn e → (t : Ends.Call) → CallTyped t → AgedIn (after e t)
-unfolding after
+call-ages : (e : Ends.Ends) → Sound (e .supervisor) → AgedIn e → (t : Ends.EndCall) → EndCallTyped t → AgedIn (endsAfter e t)
+unfolding endsAfter
 call-ages e s a (Ends.main m) typed = main-ages (view (e .supervisor)) (e .log) a (m .call) _ _ _
 call-ages e s a (Ends.supervisor m) typed =
     let k = SupervisorHistory.one-call (e .supervisor) m s typed .leaves .0 in
     rw k (supervisor-ages (view (e .supervisor)) (e .log) a m typed _)
 
-pub call-aged : (e : Ends.Ends) → Both e → AgedIn e → (t : Ends.Call) → CallTyped t → Wire (after e t .log) → CallOf FreshValue e t × AgedIn (after e t)
+pub call-aged : (e : Ends.Ends) → Both e → AgedIn e → (t : Ends.EndCall) → EndCallTyped t → Wire (endsAfter e t .log) → CallOf FreshValue e t × AgedIn (endsAfter e t)
 call-aged e both a t typed w = (by t typed w, call-ages e (both .supervisor) a t typed)
   where
-    by : (t : Ends.Call) → CallTyped t → Wire (after e t .log) → CallOf FreshValue e t
-    by (Ends.main m) typed w = λ r o. value-fresh (MainView.view (e .main)) (e .log) (both .kept) (view (e .supervisor)) a r (answer-fresh e both m typed w r o)
+    by : (t : Ends.EndCall) → EndCallTyped t → Wire (endsAfter e t .log) → CallOf FreshValue e t
+    by (Ends.main m) typed w = λ r o. value-fresh (mainView (e .main)) (e .log) (both .kept) (view (e .supervisor)) a r (answer-fresh e both m typed w r o)
     by (Ends.supervisor m) typed w = tt
 
-together-aged : (s : Starts) → AgedIn (begun s)
-unfolding Received.joinedAll Supervisor.leftMeant
+together-aged : (s : BothStarts) → AgedIn (endsBegun s)
+unfolding Received.receivedSinceAll Supervisor.leftMeant
 together-aged s =
     let f = factoryOf (s .start-data) in
     let k = SupervisorHistory.started (s .supervisor-parts) (s .supervisor-bytes) (s .supervisor-lent) (s .start-data) (s .start-typed) (s .supervisor-accepted) .0 in
@@ -209,28 +208,28 @@ more-none x = rw append-nil
 -- a call that is neither an accepted start nor an accepted restore: the requests that it brings, and nothing else
 module _ (k : ℕ) (w : List ℕ) (x : Origin) where
   abbrev Adds : Origin → List ℕ → Type 0
-  Adds o bs = o ≡ sinceMore x (requestsIn (Received.framesBy w bs))
+  Adds o bs = o ≡ sinceMore x (requestsIn (Received.framesClosedBy w bs))
 
   adds-none : Adds x []
   unfolding requestsIn
   adds-none = rw (frames-none w) (sym (more-none x))
 
-  call-stays : (c : Supervisor.Call) → Received.starts c ≡ false → isRestore c ≡ false → Adds (sinceCall k w x c) (Received.reads c)
-  unfolding sinceCall Received.reads
+  call-stays : (c : Supervisor.Call) → Received.isAcceptedStart c ≡ false → isRestore c ≡ false → Adds (sinceCall k w x c) (Received.pieceRead c)
+  unfolding sinceCall Received.pieceRead
   call-stays (Supervisor.start d) e f = rw e adds-none
   call-stays (Supervisor.receive image piece) e f = refl
   call-stays (Supervisor.step image piece) e f = refl
-  call-stays (Supervisor.local c) e f = by (restoredBy c) f
+  call-stays (Supervisor.local c) e f = by (recordsRestored c) f
     where
-      by : (o : Option (List Entry)) → isSome o ≡ false → Adds (sinceRestore k x o) []
+      by : (o : Option (List SavedEntry)) → isSome o ≡ false → Adds (sinceRestore k x o) []
       by none f = adds-none
       by (some es) f = absurd (false≢true (sym f))
 
-  pub stays-since : (m : Supervisor.Made) → Stays m → Adds (sinceMade k w x m) (Received.receivedBy m)
-  unfolding sinceMade Received.receivedBy Received.startsAnew restores
+  pub stays-since : (m : Supervisor.Made) → Stays m → Adds (sinceMade k w x m) (Received.bytesReceivedBy m)
+  unfolding sinceMade Received.bytesReceivedBy Received.startsAnew acceptsRestore
   stays-since m n = by (Supervisor.enough (m .call) (m .lent)) refl
     where
-      by : (t : Bool) → Supervisor.enough (m .call) (m .lent) ≡ t → Adds (sinceMade k w x m) (Received.receivedBy m)
+      by : (t : Bool) → Supervisor.enough (m .call) (m .lent) ≡ t → Adds (sinceMade k w x m) (Received.bytesReceivedBy m)
       by true f = rw f (call-stays (m .call) (rw f at (n .no-start)) (rw f at (n .no-restore)))
       by false f = rw f adds-none
 
@@ -239,14 +238,14 @@ module _ (e₀ : Ends.Ends) (Is : List (List ℕ) → Type 0) (fewer : (fs gs : 
   -- frames since then, and where the keys' values come from behind them
   record Behind (fs : List (List ℕ)) (o : ℕ → Origin) : Type 0 where
     later : List (List ℕ)
-    frames : fs ≡ framesOf e₀ ++ later
+    frames : fs ≡ handledFrames e₀ ++ later
     origin : (k : ℕ) → o k ≡ sinceMore (e₀ .log .origin k) (requestsIn later)
     known : Is later
 
   behind-more : (fs gs : List (List ℕ)) (o p : ℕ → Origin) → ((k : ℕ) → p k ≡ sinceMore (o k) (requestsIn gs)) → (b : Behind fs o) → Is (b .later ++ gs) → Behind (fs ++ gs) p
   behind-more fs gs o p e b i = record {
     later = b .later ++ gs;
-    frames = rw (b .frames) (append-assoc (framesOf e₀) (b .later) gs);
+    frames = rw (b .frames) (append-assoc (handledFrames e₀) (b .later) gs);
     origin = λ k. e k ∙ rw (b .origin k, requests-append (b .later) gs, append-assoc);
     known = i;
   }
@@ -266,33 +265,33 @@ module _ (e₀ : Ends.Ends) (Is : List (List ℕ) → Type 0) (fewer : (fs gs : 
   frames-placed asked image (f ∷ fs) cleared x o earlier b i =
       let j : Is ((b .later ++ (f ∷ [])) ++ fs) = rw (append-snoc (b .later) f fs) i in
       let c = behind-more earlier (f ∷ []) o (originBy o f) (λ k. refl) b (fewer (b .later ++ (f ∷ [])) fs j) in
-      (inl b, frames-placed asked image fs (cleared || drops f) (framed image x f) (originBy o f) (earlier ++ (f ∷ [])) c j)
+      (inl b, frames-placed asked image fs (cleared || drops f) (frameCarried image x f) (originBy o f) (earlier ++ (f ∷ [])) c j)
 
   -- what is known after a call
   abbrev pub KnownOf : Log → Type 0
-  KnownOf l = (fs : List (List ℕ)) → nonEmpty (split (l .received) .closed) ≡ framesOf e₀ ++ fs → Is fs
+  KnownOf l = (fs : List (List ℕ)) → nonEmpty (split (l .received) .closed) ≡ handledFrames e₀ ++ fs → Is fs
 
   supervisor-later : (x : State) (l : Log) (m : Supervisor.Made) (waiting : List ℕ) → Stays m → Later l → KnownOf (supervisorLogged l x m waiting) → Later (supervisorLogged l x m waiting)
-  unfolding supervisorLogged brought Received.joined Received.framesBy
+  unfolding supervisorLogged brought Received.receivedSince Received.framesClosedBy
   supervisor-later x l m waiting n h known =
       let w = l .received in
-      let bs = Received.receivedBy m in
-      let new = nonEmpty (closedBy w bs) in
+      let bs = Received.bytesReceivedBy m in
+      let new = nonEmpty (closedBehind w bs) in
       let b = h .received in
-      let e : nonEmpty (split (w ++ bs) .closed) ≡ nonEmpty (split w .closed) ++ new = rw (closed-join w bs, nonEmpty-append (split w .closed) (closedBy w bs)) in
-      let i : Is (b .later ++ new) = (rw (n .no-start) at known) (b .later ++ new) (e ∙ rw (b .frames) (append-assoc (framesOf e₀) (b .later) new)) in
+      let e : nonEmpty (split (w ++ bs) .closed) ≡ nonEmpty (split w .closed) ++ new = rw (closed-join w bs, nonEmpty-append (split w .closed) (closedBehind w bs)) in
+      let i : Is (b .later ++ new) = (rw (n .no-start) at known) (b .later ++ new) (e ∙ rw (b .frames) (append-assoc (handledFrames e₀) (b .later) new)) in
       record {
         received = rw (n .no-start, e) (behind-more _ new (l .origin) _ (λ k. stays-since k w (l .origin k) m n) b i);
-        each = each-append Placed (l .handled) _ (h .each) (frames-placed (l .asked) (imageOf (m .call)) new (l .cleared) x _ _ b i);
+        each = each-append Placed (l .handled) _ (h .each) (frames-placed (l .asked) (imageLent (m .call)) new (l .cleared) x _ _ b i);
       }
 
-  main-later : (l : Log) → Later l → (c : Main.Call) (a : Main.Answer) (out : List ℕ) (n : ℕ) → Later (mainLogged l c a out n)
+  main-later : (l : Log) → Later l → (c : MainCall) (a : MainAnswer) (out : List ℕ) (n : ℕ) → Later (mainLogged l c a out n)
   unfolding mainLogged
   main-later l h c a out n =
       cond-by Later (restarts c a) _ _ (λ _. record { received = h .received; each = tt }) (λ _. record { received = h .received; each = h .each })
 
-  call-later : (e : Ends.Ends) (t : Ends.Call) → CallStays t → Later (e .log) → KnownOf (after e t .log) → Later (after e t .log)
-  unfolding after
+  call-later : (e : Ends.Ends) (t : Ends.EndCall) → CallStays t → Later (e .log) → KnownOf (endsAfter e t .log) → Later (endsAfter e t .log)
+  unfolding endsAfter
   call-later e (Ends.main m) n h known = main-later (e .log) h (m .call) _ _ _
   call-later e (Ends.supervisor m) n h known = supervisor-later _ (e .log) m _ n h known
 
@@ -300,7 +299,7 @@ module _ (e₀ : Ends.Ends) (Is : List (List ℕ) → Type 0) (fewer : (fs gs : 
   moment-later : Both e₀ → Is [] → Later (e₀ .log)
   unfolding requestsIn
   moment-later both i = record {
-    received = record { later = []; frames = sym (append-nil (framesOf e₀)); origin = λ k. sym (more-none (e₀ .log .origin k)); known = i };
+    received = record { later = []; frames = sym (append-nil (handledFrames e₀)); origin = λ k. sym (more-none (e₀ .log .origin k)); known = i };
     each = each-then _ _ (λ (h : Handled) f. inr f) (e₀ .log .handled) (both .kept .before);
   }
 
@@ -308,7 +307,7 @@ module _ (e₀ : Ends.Ends) (Is : List (List ℕ) → Type 0) (fewer : (fs gs : 
   abbrev pub ValueKnown : ℕ → ℕ → ℕ → Message → Handled → Type 0
   ValueKnown n k most r h = (v : ValueSince e₀ n k most r h) × Is (v .later)
 
-  module _ (aged₀ : AgedIn e₀) (s : MainState.State) (l : Log) (kept : Kept s l) (x : State) (aged : Aged x l) (later : Later l) (r : Message)
+  module _ (aged₀ : AgedIn e₀) (s : MainState) (l : Log) (kept : Kept s l) (x : State) (aged : Aged x l) (later : Later l) (r : Message)
       (k most : ℕ) (key : ReadBack k) (i : most < 65536) (new : NotAsked e₀ (s .newest)) where
     abbrev Carried : Handled → Type 0
     Carried = CarriedOut (s .newest) (lookupRequest k most) r
@@ -338,44 +337,44 @@ module _ (e₀ : Ends.Ends) (Is : List (List ℕ) → Type 0) (fewer : (fs gs : 
     value-since a =
         each-any _ Carried _ since-at (l .handled) (each-and (λ (h : Handled). Set (h .origin) (h .state)) Placed _ (λ h y z. (y, z)) (l .handled) (aged .each) (later .each)) a
 
-  abbrev pub Against : MainState.State → Log → Message → Type 0
+  abbrev pub Against : MainState → Log → Message → Type 0
   Against = ValueAgainst e₀ ValueKnown
 
-  against-fresh : AgedIn e₀ → (s : MainState.State) (l : Log) → Kept s l → (x : State) → Aged x l → Later l → (r : Message) → Fresh s l r → Against s l r
+  against-fresh : AgedIn e₀ → (s : MainState) (l : Log) → Kept s l → (x : State) → Aged x l → Later l → (r : Message) → Fresh s l r → Against s l r
   against-fresh a₀ s l kept x aged later r f k most key i e new =
       let q : f .request ≡ lookupRequest k most = (let w = f .waiting in cc) in
       value-since a₀ s l kept x aged later r k most key i new (rw q at (f .made))
 
-  call-since : AgedIn e₀ → (e : Ends.Ends) → Both e → AgedIn e → Later (e .log) → (t : Ends.Call) → CallTyped t → Wire (after e t .log)
+  call-since : AgedIn e₀ → (e : Ends.Ends) → Both e → AgedIn e → Later (e .log) → (t : Ends.EndCall) → EndCallTyped t → Wire (endsAfter e t .log)
       → CallOf Against e t
   call-since a₀ e both a h (Ends.main m) typed w =
-      λ r o. against-fresh a₀ (MainView.view (e .main)) (e .log) (both .kept) (view (e .supervisor)) a h r (answer-fresh e both m typed w r o)
+      λ r o. against-fresh a₀ (mainView (e .main)) (e .log) (both .kept) (view (e .supervisor)) a h r (answer-fresh e both m typed w r o)
   call-since a₀ e both a h (Ends.supervisor m) typed w = tt
 
   -- calls after that moment
-  since-calls : AgedIn e₀ → (e : Ends.Ends) → Both e → AgedIn e → Later (e .log) → (ts : List Ends.Call) → Each CallTyped ts
-      → Each CallStays ts → Always WireAfter e ts → Always (λ x t. KnownOf (after x t .log)) e ts → Always (CallOf Against) e ts
+  since-calls : AgedIn e₀ → (e : Ends.Ends) → Both e → AgedIn e → Later (e .log) → (ts : List Ends.EndCall) → Each EndCallTyped ts
+      → Each CallStays ts → Always WireAfter e ts → Always (λ x t. KnownOf (endsAfter x t .log)) e ts → Always (CallOf Against) e ts
   since-calls a₀ e both a h [] typed n w known = tt
   since-calls a₀ e both a h (t ∷ ts) typed n w known =
       let k = call-aged e both a t (typed .0) (w .0) in (
         call-since a₀ e both a h t (typed .0) (w .0),
-        since-calls a₀ (after e t) (keeps-both e both t (typed .0) (w .0)) (k .1) (call-later e t (n .0) h (known .0)) ts (typed .1) (n .1) (w .1) (known .1),
+        since-calls a₀ (endsAfter e t) (keeps-both e both t (typed .0) (w .0)) (k .1) (call-later e t (n .0) h (known .0)) ts (typed .1) (n .1) (w .1) (known .1),
       )
 
   -- from a start of the main processor's end on
-  pub against : (b : Ends.Ends) → Begun b → (ts : List Ends.Call) → e₀ ≡ afterAll b ts → Is [] → Each CallTyped ts → Always WireAfter b ts
-      → (us : List Ends.Call) → Each CallTyped us → Each CallStays us → Always WireAfter e₀ us → Always (λ x t. KnownOf (after x t .log)) e₀ us → Always (CallOf Against) e₀ us
+  pub against : (b : Ends.Ends) → Begun b → (ts : List Ends.EndCall) → e₀ ≡ endsAfterAll b ts → Is [] → Each EndCallTyped ts → Always WireAfter b ts
+      → (us : List Ends.EndCall) → Each EndCallTyped us → Each CallStays us → Always WireAfter e₀ us → Always (λ x t. KnownOf (endsAfter x t .log)) e₀ us → Always (CallOf Against) e₀ us
   against b begins ts e i t w us u n v known =
       let k = rw (← e) at (after-calls AgedIn (CallOf FreshValue) call-aged b (begun-both b begins) (begun-aged b begins) ts t w) in
       since-calls (k .1) e₀ (k .0) (k .1) (moment-later (k .0) i) us u n v known
 
 -- nothing is asked of the frames
-nothing-known : (e₀ e : Ends.Ends) (ts : List Ends.Call) → Always (λ x t. KnownOf e₀ (λ fs. Unit {0}) (λ fs gs i. tt) (after x t .log)) e ts
+nothing-known : (e₀ e : Ends.Ends) (ts : List Ends.EndCall) → Always (λ x t. KnownOf e₀ (λ fs. Unit {0}) (λ fs gs i. tt) (endsAfter x t .log)) e ts
 nothing-known e₀ e [] = tt
-nothing-known e₀ e (t ∷ ts) = (λ fs f. tt, nothing-known e₀ (after e t) ts)
+nothing-known e₀ e (t ∷ ts) = (λ fs f. tt, nothing-known e₀ (endsAfter e t) ts)
 
 pub not-replaced : NotReplaced
 not-replaced b begins ts us t u w n v =
-    let e = afterAll b ts in
+    let e = endsAfterAll b ts in
     always-so _ (ValueAgainst e (ValueSince e)) (λ x l r a k most key i o new. any-then _ _ (λ h v. v .0) (l .handled) (a k most key i o new)) e us
     (against e (λ fs. Unit {0}) (λ fs gs i. tt) b begins ts refl tt t w us u n v (nothing-known e e us))

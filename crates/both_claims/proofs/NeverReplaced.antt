@@ -15,16 +15,16 @@ use Rattle.line.specs.Judge as Line
 use Rattle.line.specs.Judge.{judge}
 use Rattle.line_claims.specs.Pieces.{split, nonEmpty}
 use Rattle.line_claims.specs.Calls.{gathered, goodOf, goodMessages}
-use Rattle.requester_claims.specs.View as MainView
+use Rattle.requester_claims.specs.View.{mainView}
 use Rattle.supervisor.specs.Limits.{SettingsKey, last-edition}
 use Rattle.supervisor.specs.State.{Setting}
 use Rattle.supervisor.specs.Local.{entryOf}
-use Rattle.requests.specs.Requests.{Verdict, failure, good, tested, testedWhere, verdict}
+use Rattle.responder.specs.Requests.{Verdict, failure, good, tested, testedWhere, verdict}
 use Rattle.supervisor_claims.specs.View.{view}
-use Rattle.supervisor_claims.specs.LastSet.{request, requestsIn, setBy}
+use Rattle.supervisor_claims.specs.LastSet.{requestAhead, requestsIn, setBy}
 use Rattle.supervisor_claims.proofs.claims.LastSetLaws.{onto, afterSets, after-append, request-append, entry-held}
 use Rattle.both_claims.specs.Ends
-use Rattle.both_claims.specs.Ends.{Handled, over, InOrder, Begun, together, afterAll, Always, CallTyped, after, mainLogged}
+use Rattle.both_claims.specs.Ends.{Handled, over, InOrder, Begun, together, endsAfterAll, Always, EndCallTyped, endsAfter, mainLogged}
 use Rattle.both_claims.specs.Ends.{GoesOn, InOrderAfter, NotOlder, ValueAgainst, ValueNotOlder, ValueNewer}
 use Rattle.both_claims.proofs.ListAge.{AgedIn, call-aged, begun-aged}
 use Rattle.both_claims.proofs.InOrderAge.{Pairs, Ordered, heard-ordered, requests-good, ReadSince, call-reads, first-read, wires, value-from, list-not-older}
@@ -59,7 +59,7 @@ module _ (k : ℕ) (m : Message) (v : List ℕ) (passed : tested m ≡ good m) (
 
   -- a good message y, and then others: what key k has behind them
   abbrev behindFirst : Setting → Message → List (List ℕ) → Setting
-  behindFirst x y fs = afterSets k (afterSets k x (request (tested y) [])) (requestsIn fs)
+  behindFirst x y fs = afterSets k (afterSets k x (requestAhead (tested y) [])) (requestsIn fs)
 
   -- m itself, with nothing behind it
   itself : (x : Setting) (y : Message) → y ≡ m → (fs : List (List ℕ)) → Each (Ordered y) (goodMessages fs) → Each (Below m) (goodMessages fs)
@@ -82,14 +82,14 @@ module _ (k : ℕ) (m : Message) (v : List ℕ) (passed : tested m ≡ good m) (
   follows [] x p q = λ low. inl tt
   follows (f ∷ fs) x p q = by (judge f) (follows fs) p q
     where
-      by : (j : Line.Verdict)
+      by : (j : Line.LineVerdict)
           → ((x : Setting) → Pairs Ordered (goodMessages fs) → Each (λ (y : Message). Ordered y m) (goodMessages fs) → Follows (goodMessages fs) (afterSets k x (requestsIn fs)))
           → Pairs Ordered (goodOf j ++ goodMessages fs) → Each (λ (y : Message). Ordered y m) (goodOf j ++ goodMessages fs)
-          → Follows (goodOf j ++ goodMessages fs) (afterSets k x (request (testedWhere j) (requestsIn fs)))
+          → Follows (goodOf j ++ goodMessages fs) (afterSets k x (requestAhead (testedWhere j) (requestsIn fs)))
       by (Line.failure reason sequence) rest p q = rest x p q
       by (Line.good y) rest p q =
-          rw (request-append (tested y) [] (requestsIn fs), after-append k x (request (tested y) []) (requestsIn fs))
-          (first x y fs (q .0) (p .0) (rest (afterSets k x (request (tested y) [])) (p .1) (q .1)))
+          rw (request-append (tested y) [] (requestsIn fs), after-append k x (requestAhead (tested y) []) (requestsIn fs))
+          (first x y fs (q .0) (p .0) (rest (afterSets k x (requestAhead (tested y) [])) (p .1) (q .1)))
 
 -- requests pass the whole table
 tested-again : (f : List ℕ) (m : Message) → verdict f ≡ good m → tested m ≡ good m
@@ -101,26 +101,26 @@ unfolding requestsIn
 requests-pass [] = tt
 requests-pass (f ∷ fs) = by (verdict f) refl (requests-pass fs)
   where
-    by : (w : Verdict) → verdict f ≡ w → Each (λ (m : Message). tested m ≡ good m) (requestsIn fs) → Each (λ (m : Message). tested m ≡ good m) (request w (requestsIn fs))
+    by : (w : Verdict) → verdict f ≡ w → Each (λ (m : Message). tested m ≡ good m) (requestsIn fs) → Each (λ (m : Message). tested m ≡ good m) (requestAhead w (requestsIn fs))
     by (failure reason version sequence) e others = others
     by (good m) e others = (tested-again f m e, others)
 
 -- ---- since the main processor's end was started
 
 just-started : (b : Ends.Ends) → Begun b → InOrder (b .log) × (b .log .heard ≡ [])
-unfolding after mainLogged split nonEmpty gathered
+unfolding endsAfter mainLogged split nonEmpty gathered
 just-started b (together s) = (record { to-supervisor = over; to-main = over }, refl)
 just-started b (Ends.later s ts t l a) = rw a (record { to-supervisor = over; to-main = over }, refl)
 
-order-last : (e : Ends.Ends) → InOrder (e .log) → (ts : List Ends.Call) → Always InOrderAfter e ts → InOrder (afterAll e ts .log)
-unfolding afterAll
+order-last : (e : Ends.Ends) → InOrder (e .log) → (ts : List Ends.EndCall) → Always InOrderAfter e ts → InOrder (endsAfterAll e ts .log)
+unfolding endsAfterAll
 order-last e h [] o = h
-order-last e h (t ∷ ts) o = order-last (after e t) (o .0) ts (o .1)
+order-last e h (t ∷ ts) o = order-last (endsAfter e t) (o .0) ts (o .1)
 
-read-last : (b e : Ends.Ends) → ReadSince b (e .log) → (ts : List Ends.Call) → Always GoesOn e ts → ReadSince b (afterAll e ts .log)
-unfolding afterAll
+read-last : (b e : Ends.Ends) → ReadSince b (e .log) → (ts : List Ends.EndCall) → Always GoesOn e ts → ReadSince b (endsAfterAll e ts .log)
+unfolding endsAfterAll
 read-last b e r [] g = r
-read-last b e r (t ∷ ts) g = read-last b (after e t) (call-reads b e t (g .0) r) ts (g .1)
+read-last b e r (t ∷ ts) g = read-last b (endsAfter e t) (call-reads b e t (g .0) r) ts (g .1)
 
 -- a moment since
 pub record Moment (b e : Ends.Ends) : Type 0 where
@@ -130,7 +130,7 @@ pub record Moment (b e : Ends.Ends) : Type 0 where
   read : ReadSince b (e .log)
   ordered : Pairs Ordered (e .log .heard)
 
-pub moment : (b : Ends.Ends) → Begun b → (ts : List Ends.Call) → Each CallTyped ts → Always GoesOn b ts → Always InOrderAfter b ts → Moment b (afterAll b ts)
+pub moment : (b : Ends.Ends) → Begun b → (ts : List Ends.EndCall) → Each EndCallTyped ts → Always GoesOn b ts → Always InOrderAfter b ts → Moment b (endsAfterAll b ts)
 moment b begins ts t g o =
     let start = just-started b begins in
     let known = after-calls AgedIn _ call-aged b (begun-both b begins) (begun-aged b begins) ts t (wires b ts o) in
@@ -139,7 +139,7 @@ moment b begins ts t g o =
       both = known .0;
       aged = known .1;
       read = read-last b b (first-read b) ts g;
-      ordered = heard-ordered (MainView.view (afterAll b ts .main)) (afterAll b ts .log) (known .0 .kept) (order-last b (start .0) ts o);
+      ordered = heard-ordered (mainView (endsAfterAll b ts .main)) (endsAfterAll b ts .log) (known .0 .kept) (order-last b (start .0) ts o);
     }
 
 -- what key k has comes of the good messages read by then, which are in order
@@ -180,7 +180,7 @@ module _ (b e : Ends.Ends) (now : Moment b e) (k : ℕ) (key : SettingsKey k) wh
 
 pub never-replaced : NeverReplaced
 never-replaced b begins ts us t u (g, o) more =
-    let e = afterAll b ts in
+    let e = endsAfterAll b ts in
     let value = value-newer b e (moment b begins ts t g o) in
     always-so _ (ValueAgainst e (ValueNewer e)) (λ x l r a k most key i q new. any-then _ _ (value k (key .key) (x .newest) most r) (l .handled) (a k most key i q new)) e us
     (list-not-older b begins ts us t u (wires b ts o) more)

@@ -13,18 +13,18 @@ use Rattle.octets.specs.Bytes.{Each}
 use Rattle.octets.proofs.Conditions.{cond-by}
 use Rattle.line.specs.Message.{Message}
 use Rattle.line.specs.Frame.{frame}
-use Rattle.line_claims.specs.Pieces.{split, nonEmpty, closedBy}
-use Rattle.requester_claims.specs.Histories as Main
+use Rattle.line_claims.specs.Pieces.{split, nonEmpty, closedBehind}
+use Rattle.requester_claims.specs.Histories.{MainAnswer, MainCall}
 use Rattle.requester_claims.specs.Numbers.{Frame}
 use Rattle.supervisor.specs.Limits
 use Rattle.supervisor.specs.State.{Recorded, State}
 use Rattle.supervisor.specs.Local
 use Rattle.saving.specs.Saving
-use Rattle.requests.specs.Requests.{Reply, verdict, owed, replyFrame}
+use Rattle.responder.specs.Requests.{Reply, verdict, owed, replyFrame}
 use Rattle.supervisor_claims.specs.View.{view, factoryOf}
 use Rattle.supervisor_claims.specs.Histories as Supervisor
 use Rattle.supervisor_claims.specs.FrameHistory as Received
-use Rattle.supervisor_claims.specs.FrameHistory.{framed, allFramed}
+use Rattle.supervisor_claims.specs.FrameHistory.{frameCarried, framesCarried}
 use Rattle.supervisor_claims.specs.LastSet.{Origin}
 use Rattle.supervisor_claims.specs.Replies.{replyBy, takenBytes}
 use Rattle.supervisor_claims.proofs.claims.InOrder.{judged-is}
@@ -32,8 +32,8 @@ use Rattle.supervisor_claims.proofs.laws.Progress.{Since}
 use Rattle.supervisor_claims.proofs.claims.FramesClaim.{made-carried, by-frames}
 use Rattle.supervisor_claims.proofs.claims.History as SupervisorHistory
 use Rattle.both_claims.specs.Ends
-use Rattle.both_claims.specs.Ends.{CallTyped, after, Starts, begun, Always, restarts, mainLogged, imageOf, stillPending, takenBy, brought, supervisorLogged}
-use Rattle.both_claims.specs.Ends.{Log, messageOf, replyMade, originBy, handledBy, newestReply, drops}
+use Rattle.both_claims.specs.Ends.{EndCallTyped, endsAfter, BothStarts, endsBegun, Always, restarts, mainLogged, imageLent, stillPending, takenBy, brought, supervisorLogged}
+use Rattle.both_claims.specs.Ends.{Log, replyMessage, replyMade, originBy, handledBy, newestReply, drops}
 use Rattle.both_claims.proofs.laws.Table.{frame-some}
 use Rattle.both_claims.proofs.laws.SupervisorFrames.{frames-none, LocallyKept, made-kept}
 use Rattle.both_claims.specs.Pending.{Takes, Waits, CallPends, SentBy, CallSends}
@@ -49,26 +49,26 @@ some-bytes true r = let k = frame-some r in omega (arith, k)
 some-bytes false r = frame-some r
 
 -- a reply as it is made
-reply-waits : (b : Bool) (o : Option Reply) → Waits (messageOf o) (owed b ++ replyFrame o)
+reply-waits : (b : Bool) (o : Option Reply) → Waits (replyMessage o) (owed b ++ replyFrame o)
 unfolding replyFrame
 reply-waits b none r e = absurd (none-some e)
 reply-waits b (some y) r e =
     let z : record { version = y .version; sequence = y .sequence; command = y .command; payload = y .payload } ≡ r = cc in
     rw z (record { behind-zero = b; front = []; whole = refl; some-left = some-bytes b r })
 
-frame-waits : (image : List ℕ) (x : State) (b : ℕ) (bs : List ℕ) → Waits (messageOf (replyBy image x (verdict (b ∷ bs)))) (framed image x (b ∷ bs) .pending)
-unfolding framed
+frame-waits : (image : List ℕ) (x : State) (b : ℕ) (bs : List ℕ) → Waits (replyMessage (replyBy image x (verdict (b ∷ bs)))) (frameCarried image x (b ∷ bs) .pending)
+unfolding frameCarried
 frame-waits image x b bs = rw (ap (λ (s : State). s .pending) (judged-is image x (verdict (b ∷ bs)))) (reply-waits (x .terminator-owed) (replyBy image x (verdict (b ∷ bs))))
 
 -- frames, one after the other
 module _ (asked : List Frame) (image : List ℕ) where
   frames-wait : (ps : List (List ℕ)) (cleared : Bool) (x : State) (o : ℕ → Origin) (earlier : List (List ℕ)) (r : Option Message) → Waits r (x .pending)
-      → Waits (newestReply r (handledBy asked image cleared x o earlier (nonEmpty ps))) (allFramed image x (nonEmpty ps) .pending)
-  unfolding nonEmpty handledBy allFramed replyMade
+      → Waits (newestReply r (handledBy asked image cleared x o earlier (nonEmpty ps))) (framesCarried image x (nonEmpty ps) .pending)
+  unfolding nonEmpty handledBy framesCarried replyMade
   frames-wait [] cleared x o earlier r h = h
   frames-wait ([] ∷ ps) cleared x o earlier r h = frames-wait ps cleared x o earlier r h
   frames-wait ((b ∷ bs) ∷ ps) cleared x o earlier r h =
-      frames-wait ps (cleared || drops (b ∷ bs)) (framed image x (b ∷ bs)) (originBy o (b ∷ bs)) (earlier ++ ((b ∷ bs) ∷ [])) _ (frame-waits image x b bs)
+      frames-wait ps (cleared || drops (b ∷ bs)) (frameCarried image x (b ∷ bs)) (originBy o (b ∷ bs)) (earlier ++ ((b ∷ bs) ∷ [])) _ (frame-waits image x b bs)
 
 -- ---- a call takes some of the pending bytes, or is no local call, or leaves them
 
@@ -80,12 +80,12 @@ module _ (s : State) where
   record-leaves none = refl
   record-leaves (some x) = refl
 
-  restore-leaves : (r : Saving.Read) → Same (Supervisor.restoreMeans s (Saving.restoredBy s r))
+  restore-leaves : (r : Saving.ImageRead) → Same (Supervisor.restoreMeans s (Saving.restoreRead s r))
   restore-leaves (Saving.fault n at) = refl
   restore-leaves (Saving.good es) = refl
 
   takes-or : (c : Supervisor.Call) → Takes c ⊎ LocallyKept (λ (y : State). y .pending) s c
-  unfolding Supervisor.meant Local.post Local.posted Local.setOptions Saving.restore
+  unfolding Supervisor.meant Local.post Local.withPosted Local.setOptions Saving.restore
   takes-or (Supervisor.start d) = inr tt
   takes-or (Supervisor.receive image piece) = inr tt
   takes-or (Supervisor.step image piece) = inr tt
@@ -105,11 +105,11 @@ module _ (s : State) where
   takes-or (Supervisor.local Supervisor.flags) = inr refl
   takes-or (Supervisor.local (Supervisor.readRecord k)) = inr (record-leaves (Supervisor.recordKept s k))
   takes-or (Supervisor.local (Supervisor.save room)) = inr (cond-by Same (ltb (length room) (length (Saving.saved (s .settings)))) _ _ (λ _. refl) (λ _. refl))
-  takes-or (Supervisor.local (Supervisor.restore image)) = inr (restore-leaves (Saving.read image))
+  takes-or (Supervisor.local (Supervisor.restore image)) = inr (restore-leaves (Saving.readImage image))
 
 -- a take receives nothing
-takes-nothing : (m : Supervisor.Made) → Takes (m .call) → Received.receivedBy m ≡ []
-unfolding Received.receivedBy Received.reads
+takes-nothing : (m : Supervisor.Made) → Takes (m .call) → Received.bytesReceivedBy m ≡ []
+unfolding Received.bytesReceivedBy Received.pieceRead
 takes-nothing m t = rw (t .1) (cond-by (λ (bs : List ℕ). bs ≡ []) (Supervisor.enough (Supervisor.local (Supervisor.take (t .0))) (m .lent)) _ _ (λ _. refl) (λ _. refl))
 
 -- ---- the newest reply, by what is left
@@ -168,7 +168,7 @@ module _ (x : State) (l : Log) (m : Supervisor.Made) where
 
   -- by the frames that it brings
   abbrev framedPending : List ℕ
-  framedPending = allFramed (imageOf (m .call)) x (Received.framesBy (l .received) (Received.receivedBy m)) .pending
+  framedPending = framesCarried (imageLent (m .call)) x (Received.framesClosedBy (l .received) (Received.bytesReceivedBy m)) .pending
 
   takes-newest : Takes (m .call) → o ≡ l .pending
   unfolding brought handledBy
@@ -184,9 +184,9 @@ module _ (x : State) (l : Log) (m : Supervisor.Made) where
 
   module _ (p : Pends x l) where
     frames-pend : Waits o framedPending
-    unfolding brought Received.framesBy
+    unfolding brought Received.framesClosedBy
     frames-pend =
-        frames-wait (l .asked) (imageOf (m .call)) (closedBy (l .received) (Received.receivedBy m)) (l .cleared) x (l .origin) (nonEmpty (split (l .received) .closed)) (l .pending) (p .waits)
+        frames-wait (l .asked) (imageLent (m .call)) (closedBehind (l .received) (Received.bytesReceivedBy m)) (l .cleared) x (l .origin) (nonEmpty (split (l .received) .closed)) (l .pending) (p .waits)
 
     left-or : Received.startsAnew m ≡ false → Takes (m .call) ⊎ (y .pending ≡ framedPending)
     left-or e = by (takes-or x (m .call))
@@ -224,7 +224,7 @@ module _ (x : State) (l : Log) (m : Supervisor.Made) where
         by true e = inl (none-taken (y .pending))
         by false e = left (left-or e)
 
-main-pends : (x : State) (l : Log) → Pends x l → (c : Main.Call) (a : Main.Answer) (out : List ℕ) (n : ℕ) → Pends x (mainLogged l c a out n)
+main-pends : (x : State) (l : Log) → Pends x l → (c : MainCall) (a : MainAnswer) (out : List ℕ) (n : ℕ) → Pends x (mainLogged l c a out n)
 unfolding mainLogged
 main-pends x l p c a out n =
     cond-by (Pends x) (restarts c a) _ _ (λ _. record { since = p .since; waits = λ r e. absurd (none-some e) }) (λ _. record { since = p .since; waits = p .waits })
@@ -234,33 +234,33 @@ main-pends x l p c a out n =
 abbrev PendsIn : Ends.Ends → Type 0
 PendsIn e = Pends (view (e .supervisor)) (e .log)
 
-call-pends : (e : Ends.Ends) → Sound (e .supervisor) → PendsIn e → (t : Ends.Call) → CallTyped t → Sound (after e t .supervisor) × PendsIn (after e t)
-unfolding after
+call-pends : (e : Ends.Ends) → Sound (e .supervisor) → PendsIn e → (t : Ends.EndCall) → EndCallTyped t → Sound (endsAfter e t .supervisor) × PendsIn (endsAfter e t)
+unfolding endsAfter
 call-pends e s p (Ends.main m) typed = (s, main-pends (view (e .supervisor)) (e .log) p (m .call) _ _ _)
 call-pends e s p (Ends.supervisor m) typed =
     let k = SupervisorHistory.one-call (e .supervisor) m s typed .leaves in
     (k .1, rw (k .0) (supervisor-pends (view (e .supervisor)) (e .log) m p))
 
-begun-pends : (s : Starts) → Sound (begun s .supervisor) × PendsIn (begun s)
-unfolding Received.joinedAll Supervisor.leftMeant
+begun-pends : (s : BothStarts) → Sound (endsBegun s .supervisor) × PendsIn (endsBegun s)
+unfolding Received.receivedSinceAll Supervisor.leftMeant
 begun-pends s =
     let k = SupervisorHistory.started (s .supervisor-parts) (s .supervisor-bytes) (s .supervisor-lent) (s .start-data) (s .start-typed) (s .supervisor-accepted) in
     (k .1, rw (k .0) (record { since = by-frames (factoryOf (s .start-data)) [] .2; waits = λ r e. absurd (none-some e) }))
 
-module _ (C : Ends.Ends → Ends.Call → Type 0) (of-call : (e : Ends.Ends) → Sound (e .supervisor) → PendsIn e → (t : Ends.Call) → CallTyped t → C e t) where
-  calls-pend : (e : Ends.Ends) → Sound (e .supervisor) → PendsIn e → (ts : List Ends.Call) → Each CallTyped ts → Always C e ts
+module _ (C : Ends.Ends → Ends.EndCall → Type 0) (of-call : (e : Ends.Ends) → Sound (e .supervisor) → PendsIn e → (t : Ends.EndCall) → EndCallTyped t → C e t) where
+  calls-pend : (e : Ends.Ends) → Sound (e .supervisor) → PendsIn e → (ts : List Ends.EndCall) → Each EndCallTyped ts → Always C e ts
   calls-pend e s p [] typed = tt
-  calls-pend e s p (t ∷ ts) typed = let k = call-pends e s p t (typed .0) in (of-call e s p t (typed .0), calls-pend (after e t) (k .0) (k .1) ts (typed .1))
+  calls-pend e s p (t ∷ ts) typed = let k = call-pends e s p t (typed .0) in (of-call e s p t (typed .0), calls-pend (endsAfter e t) (k .0) (k .1) ts (typed .1))
 
-  from-starts : (s : Starts) (ts : List Ends.Call) → Each CallTyped ts → Always C (begun s) ts
-  from-starts s ts t = let k = begun-pends s in calls-pend (begun s) (k .0) (k .1) ts t
+  from-starts : (s : BothStarts) (ts : List Ends.EndCall) → Each EndCallTyped ts → Always C (endsBegun s) ts
+  from-starts s ts t = let k = begun-pends s in calls-pend (endsBegun s) (k .0) (k .1) ts t
 
 -- ---- the claims
 
 pub pending-bytes : PendingBytes
 pending-bytes = from-starts CallPends (λ e s p t typed. p .waits)
 
-main-sends : (l : Log) (c : Main.Call) (a : Main.Answer) (out : List ℕ) (n : ℕ) → mainLogged l c a out n .sent ≡ cond (restarts c a) [] (l .sent)
+main-sends : (l : Log) (c : MainCall) (a : MainAnswer) (out : List ℕ) (n : ℕ) → mainLogged l c a out n .sent ≡ cond (restarts c a) [] (l .sent)
 unfolding mainLogged
 main-sends l c a out n = by (restarts c a) refl
   where
@@ -273,18 +273,18 @@ module _ (e : Ends.Ends) (s : Sound (e .supervisor)) (p : PendsIn e) (m : Superv
   x = view (e .supervisor)
 
   abbrev e' : Ends.Ends
-  e' = after e (Ends.supervisor m)
+  e' = endsAfter e (Ends.supervisor m)
 
   left-is : view (e' .supervisor) .pending ≡ y x (e .log) m .pending
-  unfolding after
+  unfolding endsAfter
   left-is = ap (λ (z : State). z .pending) (SupervisorHistory.one-call (e .supervisor) m s typed .leaves .0)
 
   sent-is : e' .log .sent ≡ e .log .sent ++ takenBy (y x (e .log) m .pending) (newest x (e .log) m)
-  unfolding after supervisorLogged
+  unfolding endsAfter supervisorLogged
   sent-is = rw (SupervisorHistory.one-call (e .supervisor) m s typed .leaves .0)
 
   takes-sent : (r : Message) → Takes (m .call) → e .log .pending ≡ some r → length (y x (e .log) m .pending) ≤ 1 → SentBy e m r
-  unfolding after Supervisor.left
+  unfolding endsAfter Supervisor.left
   takes-sent r t q i =
       let f = SupervisorHistory.follows (e .supervisor) s (m ∷ []) (typed, tt) in
       record {
@@ -302,8 +302,8 @@ module _ (e : Ends.Ends) (s : Sound (e .supervisor)) (p : PendsIn e) (m : Superv
       by (inl k) f = inl (f ∙ rw (k, append-nil))
       by (inr (t, (r, q, k, i))) f = inr (r, f ∙ rw k, takes-sent r t q i)
 
-call-sends : (e : Ends.Ends) → Sound (e .supervisor) → PendsIn e → (t : Ends.Call) → CallTyped t → CallSends e t
-unfolding after
+call-sends : (e : Ends.Ends) → Sound (e .supervisor) → PendsIn e → (t : Ends.EndCall) → EndCallTyped t → CallSends e t
+unfolding endsAfter
 call-sends e s p (Ends.main m) typed = main-sends (e .log) (m .call) _ _ _
 call-sends e s p (Ends.supervisor m) typed = supervisor-call e s p m typed
 

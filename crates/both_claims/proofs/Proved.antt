@@ -1,6 +1,6 @@
 -- The claims over both ends, proved: one element of each record of statements in specs/.
 -- Assumes nothing.
-use Rattle.both_claims.specs.BothEnds.{RepliesPutOut, Answers, ListAges, NothingLost, BothEnds}
+use Rattle.both_claims.specs.BothEnds.{RepliesPutOut, Answers, ListAges, NothingLost, OverBothEnds}
 use Rattle.both_claims.proofs.PendingBytes.{pending-bytes, sent-by-take}
 use Rattle.both_claims.proofs.FreshAnswer.{in-order-wire, fresh-answer}
 use Rattle.both_claims.proofs.AlertAnswer.{alert-answer, alert-since}
@@ -36,5 +36,5 @@ nothing-lost = record {
   set-served = set-served;
 }
 
-pub both-ends : BothEnds
+pub both-ends : OverBothEnds
 both-ends = record { replies-put-out = replies-put-out; answers = answers; list-ages = list-ages; nothing-lost = nothing-lost }

@@ -16,10 +16,10 @@ use Rattle.octets.proofs.Overlay.{overlay-inside}
 use Rattle.line.specs.Limits.{longest-data}
 use Rattle.line.specs.Message.{Message, InRange, message}
 use Rattle.requester.specs.Limits.{last-number}
-use Rattle.requester.specs.State as MainState
-use Rattle.requester.specs.State.{Request, requestFrame, outstanding, isSome}
+use Rattle.requester.specs.State.{Request, requestFrame, outstanding, isSome, MainState, mainState}
 use Rattle.requester.specs.Requester
 use Rattle.requester.specs.Requester.{staysOut, replySequence}
+use Rattle.requester_claims.specs.Histories.{MainLent, MainMade, MainMeans, mainEnough, mainLeft, mainMade, mainMeant, mainMeantMade}
 use Rattle.requester_claims.specs.Histories as Main
 use Rattle.line.specs.Cobs.{cobs}
 use Rattle.line.specs.Frame.{frame}
@@ -28,12 +28,12 @@ use Rattle.line_claims.proofs.MessageLaws.{message-each}
 use Rattle.line_claims.specs.Pieces.{form}
 use Rattle.supervisor.specs.State.{State, withReceived}
 use Rattle.supervisor.specs.Calls.{Parts}
-use Rattle.requests.specs.Commands.{commandOf, withNumber, numberOf}
-use Rattle.requests.specs.Requests.{good, verdict, owed, replyOf, carried, carriedBy, effect, reboot, powerOff, bootFailure}
+use Rattle.responder.specs.Commands.{commandOfNumber, withNumber, commandNumber}
+use Rattle.responder.specs.Requests.{good, verdict, owed, replyOf, carryOut, carryOutBy, effect, reboot, powerOff, bootFailure}
 use Rattle.supervisor_claims.specs.View.{view}
 use Rattle.supervisor_claims.specs.Sound.{Sound}
 use Rattle.supervisor_claims.specs.Histories as Supervisor
-use Rattle.supervisor_claims.specs.FrameHistory.{framed}
+use Rattle.supervisor_claims.specs.FrameHistory.{frameCarried}
 use Rattle.supervisor_claims.specs.Replies.{takenBytes}
 use Rattle.supervisor_claims.proofs.claims.History.{history, follows, one-call}
 use Rattle.supervisor_claims.proofs.claims.WithdrawnKeys.{framed-pending}
@@ -42,13 +42,13 @@ use Rattle.line_claims.specs.Loans.{first, enoughPart}
 use Rattle.line_claims.proofs.JudgeClaim.{judge-of-message}
 use Rattle.requester.specs.Layout
 use Rattle.requester.specs.Calls as MainCalls
-use Rattle.requester.specs.Calls.{PartsValid}
-use Rattle.requester_claims.specs.View as MainView
-use Rattle.requester_claims.specs.Cuts.{events, Read, Listener, listening, afterRead, afterReads}
+use Rattle.requester.specs.Calls.{MainPartsValid, MainParts}
+use Rattle.requester_claims.specs.View.{mainView}
+use Rattle.requester_claims.specs.Cuts.{handedEvents, MainRead, Listener, listening, afterMainRead, afterMainReads}
 use Rattle.requester_claims.proofs.Cuts.{cut}
 use Rattle.requester_claims.proofs.History as MainHistory
 use Rattle.requester_claims.proofs.Numbers.{newest-after}
-use Rattle.both_claims.specs.Ends.{Starts, begun, replyTo, messageOf, asMessage}
+use Rattle.both_claims.specs.Ends.{BothStarts, endsBegun, replyToRequest, replyMessage, asMessage}
 use Rattle.line_claims.proofs.SpellingClaim.{good-form}
 use Rattle.both_claims.proofs.laws.Table.{passes, top-set}
 use Rattle.both_claims.proofs.laws.ReplyRange.{reply-of}
@@ -66,14 +66,14 @@ never-put : (k n : ℕ) → Main.refused k ≡ Main.put n → ⊥
 never-put k n e = let z : _≡_ {A = ℕ} 0 1 = cc in omega arith
 
 -- what a request that is put out leaves
-record PutOut (s : MainState.State) (q : Request) (count : ℕ) (x : Main.Means) : Type 0 where
-  state : x .state ≡ MainState.state (suc (s .newest)) (Requester.keep q) none false (s .received)
+record PutOut (s : MainState) (q : Request) (count : ℕ) (x : MainMeans) : Type 0 where
+  state : x .state ≡ mainState (suc (s .newest)) (Requester.keep q) none false (s .received)
   frame : take count (x .out) ≡ requestFrame (suc (s .newest)) q
   number : suc (s .newest) ≤ last-number
   fits : length (q .payload) ≤ longest-data
 
-module _ (s : MainState.State) (q : Request) (room : List ℕ) (count : ℕ) where
-  abbrev Puts : Requester.Done → Type 0
+module _ (s : MainState) (q : Request) (room : List ℕ) (count : ℕ) where
+  abbrev Puts : Requester.MainDone → Type 0
   Puts t = let x = Main.putMeans (t .refusal) room (t .out) (t .state) in x .answer ≡ Main.put count → PutOut s q count x
 
   request-puts : Puts (Requester.request (length room) q s)
@@ -93,37 +93,37 @@ module _ (s : MainState.State) (q : Request) (room : List ℕ) (count : ℕ) whe
       }))))
 
 -- what the parts then are
-pub record Waiting (p : MainCalls.Parts) (q : Request) (frame : List ℕ) : Type 0 where
-  pub valid : PartsValid p
-  pub kept : MainView.view p .kept ≡ some q
-  pub calm : MainView.view p .recovery ≡ none
-  pub between : MainView.view p .received ≡ some []
-  pub newest : Layout.numberOf (p .requester) ≡ MainView.view p .newest
-  pub put : frame ≡ requestFrame (Layout.numberOf (p .requester)) q
-  pub in-range : InRange (asMessage (Layout.numberOf (p .requester)) q)
+pub record Waiting (p : MainParts) (q : Request) (frame : List ℕ) : Type 0 where
+  pub valid : MainPartsValid p
+  pub kept : mainView p .kept ≡ some q
+  pub calm : mainView p .recovery ≡ none
+  pub between : mainView p .received ≡ some []
+  pub newest : Layout.newestNumber (p .requester) ≡ mainView p .newest
+  pub put : frame ≡ requestFrame (Layout.newestNumber (p .requester)) q
+  pub in-range : InRange (asMessage (Layout.newestNumber (p .requester)) q)
 
-module _ (p : MainCalls.Parts) (v : PartsValid p) (j : Main.Lent) (command : ℕ) (d room : List ℕ) (count : ℕ) where
+module _ (p : MainParts) (v : MainPartsValid p) (j : MainLent) (command : ℕ) (d room : List ℕ) (count : ℕ) where
   abbrev q : Request
   q = record { command = command; payload = d }
 
-  abbrev asking : Main.Made
+  abbrev asking : MainMade
   asking = record { lent = j; call = Main.request command d room }
 
-  meant-puts : Main.meantMade (MainView.view p) asking .answer ≡ Main.put count → PutOut (MainView.view p) q count (Main.meantMade (MainView.view p) asking)
-  unfolding Main.meantMade Main.meant
+  meant-puts : mainMeantMade (mainView p) asking .answer ≡ Main.put count → PutOut (mainView p) q count (mainMeantMade (mainView p) asking)
+  unfolding mainMeantMade mainMeant
   meant-puts =
-      cond-by (λ (x : Main.Means). x .answer ≡ Main.put count → PutOut (MainView.view p) q count x) (Main.enough (Main.request command d room) j) _ _
-      (λ _. request-puts (MainView.view p) q room count) (λ _ e. absurd (never-put _ _ e))
+      cond-by (λ (x : MainMeans). x .answer ≡ Main.put count → PutOut (mainView p) q count x) (mainEnough (Main.request command d room) j) _ _
+      (λ _. request-puts (mainView p) q room count) (λ _ e. absurd (never-put _ _ e))
 
-  made-puts : Main.made p asking .answer ≡ Main.put count → PutOut (MainView.view p) q count (Main.meantMade (MainView.view p) asking)
+  made-puts : mainMade p asking .answer ≡ Main.put count → PutOut (mainView p) q count (mainMeantMade (mainView p) asking)
   made-puts put = meant-puts (sym (MainHistory.one-call p asking v .answer) ∙ put)
 
   -- it takes the next number
-  pub next-number : Main.made p asking .answer ≡ Main.put count → Layout.numberOf (Main.made p asking .parts .requester) ≡ suc (MainView.view p .newest)
-  next-number put = newest-after p v asking ∙ ap (λ (y : MainState.State). y .newest) (made-puts put .state)
+  pub next-number : mainMade p asking .answer ≡ Main.put count → Layout.newestNumber (mainMade p asking .parts .requester) ≡ suc (mainView p .newest)
+  next-number put = newest-after p v asking ∙ ap (λ (y : MainState). y .newest) (made-puts put .state)
 
-  module _ (between : MainView.view p .received ≡ some []) (byte : command < 256) (bytes : Each Byte d) (stays : staysOut command ≡ true) where
-    pub waiting : Main.made p asking .answer ≡ Main.put count → Waiting (Main.made p asking .parts) q (take count (Main.made p asking .out))
+  module _ (between : mainView p .received ≡ some []) (byte : command < 256) (bytes : Each Byte d) (stays : staysOut command ≡ true) where
+    pub waiting : mainMade p asking .answer ≡ Main.put count → Waiting (mainMade p asking .parts) q (take count (mainMade p asking .out))
     waiting put =
         let k = MainHistory.one-call p asking v in
         let x = made-puts put in
@@ -131,10 +131,10 @@ module _ (p : MainCalls.Parts) (v : PartsValid p) (j : Main.Lent) (command : ℕ
         let n = next-number put in
         record {
           valid = k .valid;
-          kept = ap (λ (y : MainState.State). y .kept) e ∙ rw stays;
-          calm = ap (λ (y : MainState.State). y .recovery) e;
-          between = ap (λ (y : MainState.State). y .received) e ∙ between;
-          newest = n ∙ sym (ap (λ (y : MainState.State). y .newest) e);
+          kept = ap (λ (y : MainState). y .kept) e ∙ rw stays;
+          calm = ap (λ (y : MainState). y .recovery) e;
+          between = ap (λ (y : MainState). y .received) e ∙ between;
+          newest = n ∙ sym (ap (λ (y : MainState). y .newest) e);
           put = ap (take count) (k .out) ∙ x .frame ∙ rw n;
           in-range = rw n (ranged-message _ q (x .number) (record { command = byte; bytes = bytes; fits = x .fits }));
         }
@@ -142,12 +142,12 @@ module _ (p : MainCalls.Parts) (v : PartsValid p) (j : Main.Lent) (command : ℕ
 -- ---- the same frame again
 
 -- what a send leaves that puts something out
-record PutAgain (s : MainState.State) (q : Request) (count : ℕ) (x : Main.Means) : Type 0 where
-  state : x .state ≡ MainState.state (s .newest) (s .kept) (s .recovery) false (s .received)
+record PutAgain (s : MainState) (q : Request) (count : ℕ) (x : MainMeans) : Type 0 where
+  state : x .state ≡ mainState (s .newest) (s .kept) (s .recovery) false (s .received)
   frame : take count (x .out) ≡ requestFrame (s .newest) q
 
-module _ (s : MainState.State) (q : Request) (room : List ℕ) (count : ℕ) where
-  abbrev PutsAgain : Requester.Done → Type 0
+module _ (s : MainState) (q : Request) (room : List ℕ) (count : ℕ) where
+  abbrev PutsAgain : Requester.MainDone → Type 0
   PutsAgain t = let x = Main.putMeans (t .refusal) room (t .out) (t .state) in x .answer ≡ Main.put (suc count) → PutAgain s q (suc count) x
 
   send-puts : (o : Option Request) → o ≡ some q → PutsAgain (Requester.sentOf (length room) o s)
@@ -159,50 +159,50 @@ module _ (s : MainState.State) (q : Request) (room : List ℕ) (count : ℕ) whe
       record { state = refl; frame = rw (← c) (overlay-inside 0 (requestFrame (s .newest) q) room (omega arith)) }))
       (λ _ e. let z : _≡_ {A = ℕ} 0 (suc count) = cc in absurd (omega arith)))
 
-module _ (p : MainCalls.Parts) (v : PartsValid p) (j : Main.Lent) (q : Request) (room : List ℕ) (count : ℕ) (between : MainView.view p .received ≡ some [])
-    (calm : MainView.view p .recovery ≡ none) (kept : MainView.view p .kept ≡ some q) (bytes : Each Byte (q .payload)) where
-  abbrev sending : Main.Made
+module _ (p : MainParts) (v : MainPartsValid p) (j : MainLent) (q : Request) (room : List ℕ) (count : ℕ) (between : mainView p .received ≡ some [])
+    (calm : mainView p .recovery ≡ none) (kept : mainView p .kept ≡ some q) (bytes : Each Byte (q .payload)) where
+  abbrev sending : MainMade
   sending = record { lent = j; call = Main.send room }
 
-  meant-puts-again : Main.meantMade (MainView.view p) sending .answer ≡ Main.put (suc count) → PutAgain (MainView.view p) q (suc count) (Main.meantMade (MainView.view p) sending)
-  unfolding Main.meantMade Main.meant Requester.send
+  meant-puts-again : mainMeantMade (mainView p) sending .answer ≡ Main.put (suc count) → PutAgain (mainView p) q (suc count) (mainMeantMade (mainView p) sending)
+  unfolding mainMeantMade mainMeant Requester.send
   meant-puts-again =
-      cond-by (λ (x : Main.Means). x .answer ≡ Main.put (suc count) → PutAgain (MainView.view p) q (suc count) x) (Main.enough (Main.send room) j) _ _
-      (λ _. send-puts (MainView.view p) q room count (outstanding (MainView.view p)) (rw (calm, kept))) (λ _ e. absurd (never-put _ _ e))
+      cond-by (λ (x : MainMeans). x .answer ≡ Main.put (suc count) → PutAgain (mainView p) q (suc count) x) (mainEnough (Main.send room) j) _ _
+      (λ _. send-puts (mainView p) q room count (outstanding (mainView p)) (rw (calm, kept))) (λ _ e. absurd (never-put _ _ e))
 
-  waiting-again : Main.made p sending .answer ≡ Main.put (suc count) → let x = Main.made p sending in let m = asMessage (Layout.numberOf (x .parts .requester)) q in
+  waiting-again : mainMade p sending .answer ≡ Main.put (suc count) → let x = mainMade p sending in let m = asMessage (Layout.newestNumber (x .parts .requester)) q in
       verdict (form m) ≡ good m → Waiting (x .parts) q (take (suc count) (x .out))
   waiting-again put passed =
       let k = MainHistory.one-call p sending v in
       let x = meant-puts-again (sym (k .answer) ∙ put) in
       let e = k .state ∙ x .state in
-      let n = newest-after p v sending ∙ ap (λ (y : MainState.State). y .newest) (x .state) in
-      let m = asMessage (Layout.numberOf (Main.made p sending .parts .requester)) q in
+      let n = newest-after p v sending ∙ ap (λ (y : MainState). y .newest) (x .state) in
+      let m = asMessage (Layout.newestNumber (mainMade p sending .parts .requester)) q in
       record {
         valid = k .valid;
-        kept = ap (λ (y : MainState.State). y .kept) e ∙ kept;
-        calm = ap (λ (y : MainState.State). y .recovery) e ∙ calm;
-        between = ap (λ (y : MainState.State). y .received) e ∙ between;
-        newest = n ∙ sym (ap (λ (y : MainState.State). y .newest) e);
+        kept = ap (λ (y : MainState). y .kept) e ∙ kept;
+        calm = ap (λ (y : MainState). y .recovery) e ∙ calm;
+        between = ap (λ (y : MainState). y .received) e ∙ between;
+        newest = n ∙ sym (ap (λ (y : MainState). y .newest) e);
         put = ap (take (suc count)) (k .out) ∙ x .frame ∙ rw n;
         in-range = good-form (form m) m (no-zero (message m) (message-each m bytes)) (passes (form m) m passed .judged) .1;
       }
 
 -- a request that earns a reply stays outstanding
-module _ (image : List ℕ) (s : State) (m r : Message) (earns : replyTo image s m ≡ some r) where
-  not-command : (c : ℕ) → messageOf (replyOf (m .sequence) (carriedBy (commandOf c) image s m .reply)) ≡ none → eqb (m .command) c ≡ false
-  unfolding carried
+module _ (image : List ℕ) (s : State) (m r : Message) (earns : replyToRequest image s m ≡ some r) where
+  not-command : (c : ℕ) → replyMessage (replyOf (m .sequence) (carryOutBy (commandOfNumber c) image s m .reply)) ≡ none → eqb (m .command) c ≡ false
+  unfolding carryOut
   not-command c e = ne-eqb (m .command) c (λ (k : m .command ≡ c). none-some {x = r} (sym e ∙ rw (← k) earns))
 
   pub replied-stays : staysOut (m .command) ≡ true
-  unfolding staysOut commandOf withNumber numberOf effect reboot powerOff bootFailure replyOf
+  unfolding staysOut commandOfNumber withNumber commandNumber effect reboot powerOff bootFailure replyOf
   replied-stays = rw (not-command 0x01 refl, not-command 0x02 refl, not-command 0x06 refl)
 
 -- ---- the delivery of its frame, and of its reply
 
 -- the supervisor's side
 module _ (q : Parts) (s : Sound q) (idle : view q .received ≡ some []) (image : List ℕ) (m : Message) (passed : verdict (form m) ≡ good m)
-    (r : Message) (earns : replyTo image (view q) m ≡ some r) where
+    (r : Message) (earns : replyToRequest image (view q) m ≡ some r) where
   abbrev waits : List ℕ
   waits = owed (view q .terminator-owed) ++ frame r
 
@@ -214,7 +214,7 @@ module _ (q : Parts) (s : Sound q) (idle : view q .received ≡ some []) (image 
     unfolding frame
     delivered-form = snoc-same _ _ (append-assoc (allReceived (b .before)) (b .ahead) (0 ∷ []) ∙ ap (λ (z : List ℕ). allReceived (b .before) ++ z) (sym (b .closed)) ∙ b .whole)
 
-    pub delivered-parts : Sound q' × (view q' ≡ withReceived (framed image (view q) (form m)) (some []))
+    pub delivered-parts : Sound q' × (view q' ≡ withReceived (frameCarried image (view q) (form m)) (some []))
     delivered-parts =
         let f = follows q s (b .before) (b .before-typed) in
         let k = one-call (Supervisor.left q (b .before)) (b .last) (f .2) (b .last-typed) in
@@ -239,11 +239,11 @@ module _ (q : Parts) (s : Sound q) (idle : view q .received ≡ some []) (image 
 -- ---- the main processor's side
 
 -- all that a call takes is lent
-abbrev pub allLent : Main.Lent
-allLent = record { reader = first LineReader.state-length; requester = first Layout.requester-length }
+abbrev pub allLent : MainLent
+allLent = record { reader = first LineReader.reader-length; requester = first Layout.requester-length }
 
-pub lent-enough : (piece : List ℕ) → Main.enough (Main.receive piece) allLent ≡ true
-unfolding Main.enough enoughPart
+pub lent-enough : (piece : List ℕ) → mainEnough (Main.receive piece) allLent ≡ true
+unfolding mainEnough enoughPart
 lent-enough piece = refl
 
 form-some : (xs : List ℕ) → 1 ≤ length (cobs xs)
@@ -251,22 +251,22 @@ unfolding cobs
 form-some xs = omega arith
 
 -- a 00 that was owed, or nothing
-owed-read : (b : Bool) (s : MainState.State) → s .received ≡ some [] → Requester.receive s (owed b) ≡ Requester.received (length (owed b)) (Requester.dropped s)
-unfolding Requester.receive Requester.byte
+owed-read : (b : Bool) (s : MainState) → s .received ≡ some [] → Requester.receive s (owed b) ≡ Requester.receiveResult (length (owed b)) (Requester.dropped s)
+unfolding Requester.receive Requester.mainByte
 owed-read false s e = refl
 owed-read true s e =
-    ap (λ (x : Option (List ℕ)). Requester.received 1 (Requester.closes x (Requester.withReceived s (some [])))) e
-    ∙ ap (λ (x : Option (List ℕ)). Requester.received 1 (Requester.dropped (Requester.withReceived s x))) (sym e)
+    ap (λ (x : Option (List ℕ)). Requester.receiveResult 1 (Requester.mainClosed x (Requester.mainWithReceived s (some [])))) e
+    ∙ ap (λ (x : Option (List ℕ)). Requester.receiveResult 1 (Requester.dropped (Requester.mainWithReceived s x))) (sym e)
 
-module _ (p : MainCalls.Parts) (v : PartsValid p) (q : Request) (kept : MainView.view p .kept ≡ some q) (calm : MainView.view p .recovery ≡ none)
-    (between : MainView.view p .received ≡ some []) (r : Message) (range : InRange r) (version : r .version ≡ 1)
-    (sequence : r .sequence ≡ replySequence (MainView.view p .newest)) (command : r .command ≡ 0x02 → ⊥) where
-  abbrev s : MainState.State
-  s = MainView.view p
+module _ (p : MainParts) (v : MainPartsValid p) (q : Request) (kept : mainView p .kept ≡ some q) (calm : mainView p .recovery ≡ none)
+    (between : mainView p .received ≡ some []) (r : Message) (range : InRange r) (version : r .version ≡ 1)
+    (sequence : r .sequence ≡ replySequence (mainView p .newest)) (command : r .command ≡ 0x02 → ⊥) where
+  abbrev s : MainState
+  s = mainView p
 
   -- the frame, whole
-  pub reply-heard : Requester.receive s (frame r) ≡ Requester.received (length (frame r))
-      (Requester.result (Requester.answered r) (Requester.moved false (MainState.state (s .newest) none none false (some []))))
+  pub reply-heard : Requester.receive s (frame r) ≡ Requester.receiveResult (length (frame r))
+      (Requester.result (Requester.answered r) (Requester.moved false (mainState (s .newest) none none false (some []))))
   unfolding frame
   reply-heard =
       let h = heard-answer (s .newest) r version sequence command in
@@ -274,25 +274,25 @@ module _ (p : MainCalls.Parts) (v : PartsValid p) (q : Request) (kept : MainView
       ∙ rw (judge-of-message r range, h, answers-kept s q r (some []) calm kept)
 
   -- the 00 that may be owed, and the frame, each in a piece
-  abbrev owedRead : Bool → Read
+  abbrev owedRead : Bool → MainRead
   owedRead b = record { lent = allLent; piece = owed b }
 
-  abbrev frameRead : Read
+  abbrev frameRead : MainRead
   frameRead = record { lent = allLent; piece = frame r }
 
   abbrev Answered : List ℕ → Listener → Type 0
   Answered bs x =
       (x .handed ≡ handedOut r ∷ [])
       × (x .bytes ≡ bs)
-      × (MainView.view (x .parts) ≡ MainState.state (s .newest) none none false (some []))
+      × (mainView (x .parts) ≡ mainState (s .newest) none none false (some []))
 
-  in-two : (b : Bool) → Answered (owed b ++ frame r) (afterReads (listening p) (owedRead b ∷ (frameRead ∷ [])))
-  unfolding afterReads events MainCalls.reportOf Main.dataOf
+  in-two : (b : Bool) → Answered (owed b ++ frame r) (afterMainReads (listening p) (owedRead b ∷ (frameRead ∷ [])))
+  unfolding afterMainReads handedEvents MainCalls.handedReportOf Main.handedData
   in-two b =
-      let x = afterRead (listening p) (owedRead b) in
+      let x = afterMainRead (listening p) (owedRead b) in
       let k = one-read (listening p) (owedRead b) v (lent-enough (owed b)) in
       let o = owed-read b s between in
-      let w : MainView.view (x .parts) ≡ s = k .state ∙ rw o in
+      let w : mainView (x .parts) ≡ s = k .state ∙ rw o in
       let l = one-read x frameRead (k .valid) (lent-enough (frame r)) in
       let a = rw (w, reply-heard) at (l .handed) in
       let y = rw (w, reply-heard, take-length) at (l .bytes) in
@@ -302,7 +302,7 @@ module _ (p : MainCalls.Parts) (v : PartsValid p) (q : Request) (kept : MainView
       (a ∙ rw c, y ∙ rw d, z)
 
   -- in any cuts
-  in-any : (b : Bool) (cs : List Read) → afterReads (listening p) cs .bytes ≡ owed b ++ frame r → Answered (owed b ++ frame r) (afterReads (listening p) cs)
+  in-any : (b : Bool) (cs : List MainRead) → afterMainReads (listening p) cs .bytes ≡ owed b ++ frame r → Answered (owed b ++ frame r) (afterMainReads (listening p) cs)
   in-any b cs e =
       let t = in-two b in
       rw (cut p v cs (owedRead b ∷ (frameRead ∷ [])) (e ∙ sym (t .1))) t
@@ -310,16 +310,16 @@ module _ (p : MainCalls.Parts) (v : PartsValid p) (q : Request) (kept : MainView
 -- ---- the claim
 
 -- a request that waits
-module _ (q : Parts) (s : Sound q) (idle : view q .received ≡ some []) (p : MainCalls.Parts) (a : Request) (fr : List ℕ) (w : Waiting p a fr) where
+module _ (q : Parts) (s : Sound q) (idle : view q .received ≡ some []) (p : MainParts) (a : Request) (fr : List ℕ) (w : Waiting p a fr) where
   abbrev n : ℕ
-  n = Layout.numberOf (p .requester)
+  n = Layout.newestNumber (p .requester)
 
   abbrev m : Message
   m = asMessage n a
 
   -- the whole reply is heard as the answer
-  pub whole-heard : (image : List ℕ) → Each Byte image → verdict (form m) ≡ good m → (r : Message) → replyTo image (view q) m ≡ some r
-      → InRange r × (r .sequence ≡ replySequence (MainView.view p .newest)) × (r .command ≡ 0x02 → ⊥)
+  pub whole-heard : (image : List ℕ) → Each Byte image → verdict (form m) ≡ good m → (r : Message) → replyToRequest image (view q) m ≡ some r
+      → InRange r × (r .sequence ≡ replySequence (mainView p .newest)) × (r .command ≡ 0x02 → ⊥)
   whole-heard image each passed r earns =
       let nonzero = no-zero (message m) (message-each m (w .in-range .typed .payload)) in
       let t = reply-of image (view q) m r earns in (
@@ -348,26 +348,26 @@ module _ (q : Parts) (s : Sound q) (idle : view q .received ≡ some []) (p : Ma
       (z .0, z .2 ∙ rw (w .newest))
 
 -- each end after any calls from its start
-module _ (starts : Starts) (mains : List Main.Made) (sups : List Supervisor.Made) (sups-typed : Supervisor.AllTyped sups) where
-  main-valid : PartsValid (Main.left (begun starts .main) mains)
+module _ (starts : BothStarts) (mains : List MainMade) (sups : List Supervisor.Made) (sups-typed : Supervisor.AllTyped sups) where
+  main-valid : MainPartsValid (mainLeft (endsBegun starts .main) mains)
   main-valid = MainHistory.history (starts .main-parts) (starts .main-lent) (starts .main-accepted) mains .2
 
-  supervisor-sound : Sound (Supervisor.left (begun starts .supervisor) sups)
+  supervisor-sound : Sound (Supervisor.left (endsBegun starts .supervisor) sups)
   supervisor-sound =
       history (starts .supervisor-parts) (starts .supervisor-bytes) (starts .supervisor-lent) (starts .start-data) (starts .start-typed) (starts .supervisor-accepted) sups sups-typed .2
 
 pub round-trip : RoundTrip
 round-trip starts mains sups typed between idle j command d room byte bytes count put image each passed r earns version =
-    let p = Main.left (begun starts .main) mains in
-    let q = Supervisor.left (begun starts .supervisor) sups in
+    let p = mainLeft (endsBegun starts .main) mains in
+    let q = Supervisor.left (endsBegun starts .supervisor) sups in
     let w = waiting p (main-valid starts mains sups typed) j command d room count between byte bytes (replied-stays image (view q) _ r earns) put in
-    let asked = Main.made p (record { lent = j; call = Main.request command d room }) .parts in
+    let asked = mainMade p (record { lent = j; call = Main.request command d room }) .parts in
     answered q (supervisor-sound starts mains sups typed) idle asked (record { command = command; payload = d }) _ w image each passed r earns version
 
 pub round-trip-again : RoundTripAgain
 round-trip-again starts mains sups typed between idle j a room calm kept bytes count put image each passed =
-    let p = Main.left (begun starts .main) mains in
-    let q = Supervisor.left (begun starts .supervisor) sups in
+    let p = mainLeft (endsBegun starts .main) mains in
+    let q = Supervisor.left (endsBegun starts .supervisor) sups in
     let w = waiting-again p (main-valid starts mains sups typed) j a room count between calm kept bytes put passed in
-    let sent = Main.made p (record { lent = j; call = Main.send room }) .parts in
+    let sent = mainMade p (record { lent = j; call = Main.send room }) .parts in
     answered q (supervisor-sound starts mains sups typed) idle sent a _ w image each passed

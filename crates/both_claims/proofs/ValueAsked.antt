@@ -16,18 +16,19 @@ use Rattle.octets.proofs.Numbers.{bytes-each}
 use Rattle.line.specs.Message.{Message, InRange}
 use Rattle.line.specs.Frame.{frame}
 use Rattle.line_claims.specs.Calls.{goodMessages}
-use Rattle.requester_claims.specs.View as MainView
+use Rattle.requester_claims.specs.View.{mainView}
+use Rattle.requester_claims.specs.Histories.{MainMade}
 use Rattle.requester_claims.specs.Histories as Main
 use Rattle.requester_claims.specs.Numbers.{Frame}
 use Rattle.supervisor.specs.Limits.{last-edition}
 use Rattle.supervisor.specs.State.{Setting}
 use Rattle.supervisor.specs.Local
 use Rattle.supervisor.specs.Local.{entryOf, fitted}
-use Rattle.requests.specs.Requests.{good, tested}
+use Rattle.responder.specs.Requests.{good, tested}
 use Rattle.supervisor_claims.specs.View.{view}
 use Rattle.supervisor_claims.specs.LastSet.{requestsIn, setBy, fittedOf, ReadBack}
 use Rattle.both_claims.specs.Ends
-use Rattle.both_claims.specs.Ends.{Any, Handled, Log, InOrder, afterAll, Always, CallTyped, after, CallOf}
+use Rattle.both_claims.specs.Ends.{Any, Handled, Log, InOrder, endsAfterAll, Always, EndCallTyped, endsAfter, CallOf}
 use Rattle.both_claims.specs.Ends.{GoesOn, InOrderAfter, NotAsked, NotOlder, NoRequest, HadValue, lookupRequest}
 use Rattle.both_claims.proofs.FreshAnswer.{in-order-wire}
 use Rattle.both_claims.proofs.ListAge.{KnownOf, ValueKnown, Against, against}
@@ -67,7 +68,7 @@ module _ (e : Ends.Ends) where
   asked-fewer = requests-fewer Asked
 
   asked-known : (x : Ends.Ends) → Both x → InOrder (x .log) → ReadSince e (x .log) → SinceMomentIn e x → KnownOf e AskedIn asked-fewer (x .log)
-  asked-known x both o r h = read-known e Asked l r (each-and _ _ Asked (λ m a b. (a, b)) later (read-not-older e (MainView.view (x .main)) l (both .kept) o r) not-newer)
+  asked-known x both o r h = read-known e Asked l r (each-and _ _ Asked (λ m a b. (a, b)) later (read-not-older e (mainView (x .main)) l (both .kept) o r) not-newer)
     where
       l : Log
       l = x .log
@@ -88,14 +89,14 @@ module _ (e : Ends.Ends) where
       not-newer = each-right P (e .log .heard) later (rw (r .heard) at (each-and InRange _ P read (l .heard) (both .kept .heard) (in-order-wire l o .to-supervisor)))
 
   -- calls that put nothing new out
-  asked-calls : (x : Ends.Ends) → Both x → ReadSince e (x .log) → SinceMomentIn e x → (us : List Ends.Call) → Each CallTyped us → Always GoesOn x us → Always NoRequest x us
-      → Always InOrderAfter x us → Always (λ y t. SinceMomentIn e y × KnownOf e AskedIn asked-fewer (after y t .log)) x us
+  asked-calls : (x : Ends.Ends) → Both x → ReadSince e (x .log) → SinceMomentIn e x → (us : List Ends.EndCall) → Each EndCallTyped us → Always GoesOn x us → Always NoRequest x us
+      → Always InOrderAfter x us → Always (λ y t. SinceMomentIn e y × KnownOf e AskedIn asked-fewer (endsAfter y t .log)) x us
   asked-calls x both r h [] typed g n o = tt
   asked-calls x both r h (t ∷ us) typed g n o =
-      let b = keeps-both x both t (typed .0) (in-order-wire (after x t .log) (o .0)) in
+      let b = keeps-both x both t (typed .0) (in-order-wire (endsAfter x t .log) (o .0)) in
       let k = call-reads e x t (g .0) r in
       let i = call-since e x both h t (g .0) (n .0) in
-      ((h, asked-known (after x t) b (o .0) k i), asked-calls (after x t) b k i us (typed .1) (g .1) (n .1) (o .1))
+      ((h, asked-known (endsAfter x t) b (o .0) k i), asked-calls (endsAfter x t) b k i us (typed .1) (g .1) (n .1) (o .1))
 
   -- ---- the value
 
@@ -126,21 +127,21 @@ module _ (e : Ends.Ends) where
         v .value-then .value ∙ rw (w .0, w .1)
 
     -- the lookup's number is new
-    not-asked : (x : Ends.Ends) → SinceMomentIn e x → NotAsked e (MainView.view (x .main) .newest)
-    not-asked x h = each-then (PutOut (MainView.view (e .main))) _ (λ (y : Frame) p n. omega (arith, p .agrees .most, n, h .above)) (e .log .asked) (now .both .kept .asked)
+    not-asked : (x : Ends.Ends) → SinceMomentIn e x → NotAsked e (mainView (x .main) .newest)
+    not-asked x h = each-then (PutOut (mainView (e .main))) _ (λ (y : Frame) p n. omega (arith, p .agrees .most, n, h .above)) (e .log .asked) (now .both .kept .asked)
 
-    asked-values : most < 65536 → (x : Ends.Ends) (us : List Ends.Call) → Always (λ y t. SinceMomentIn e y × KnownOf e AskedIn asked-fewer (after y t .log)) x us
+    asked-values : most < 65536 → (x : Ends.Ends) (us : List Ends.EndCall) → Always (λ y t. SinceMomentIn e y × KnownOf e AskedIn asked-fewer (endsAfter y t .log)) x us
         → Always (CallOf (Against e AskedIn asked-fewer)) x us → Always (CallOf (HadValue e k most)) x us
     asked-values i x [] s h = tt
-    asked-values i x (t ∷ us) s h = (by t (h .0), asked-values i (after x t) us (s .1) (h .1))
+    asked-values i x (t ∷ us) s h = (by t (h .0), asked-values i (endsAfter x t) us (s .1) (h .1))
       where
-        by : (t : Ends.Call) → CallOf (Against e AskedIn asked-fewer) x t → CallOf (HadValue e k most) x t
-        by (Ends.main m) a = λ r o q. any-so _ (value-same (MainView.view (x .main) .newest) r) (x .log .handled) (a r o k most key i q (not-asked x (s .0 .0)))
+        by : (t : Ends.EndCall) → CallOf (Against e AskedIn asked-fewer) x t → CallOf (HadValue e k most) x t
+        by (Ends.main m) a = λ r o q. any-so _ (value-same (mainView (x .main) .newest) r) (x .log .handled) (a r o k most key i q (not-asked x (s .0 .0)))
         by (Ends.supervisor m) a = tt
 
-always-second : (C D : Ends.Ends → Ends.Call → Type 0) (e : Ends.Ends) (ts : List Ends.Call) → Always (λ x t. C x t × D x t) e ts → Always D e ts
+always-second : (C D : Ends.Ends → Ends.EndCall → Type 0) (e : Ends.Ends) (ts : List Ends.EndCall) → Always (λ x t. C x t × D x t) e ts → Always D e ts
 always-second C D e [] h = tt
-always-second C D e (t ∷ ts) h = (h .0 .1, always-second C D (after e t) ts (h .1))
+always-second C D e (t ∷ ts) h = (h .0 .1, always-second C D (endsAfter e t) ts (h .1))
 
 none-asked : (e : Ends.Ends) → AskedIn e []
 unfolding requestsIn
@@ -148,11 +149,11 @@ none-asked e = tt
 
 pub value-asked : ValueAsked
 value-asked b begins ts us t u (g, o) k most key i j room count put-out in-order (goes, in-orders) quiet =
-    let e = afterAll b ts in
-    let c : Main.Made = record { lent = j; call = Main.request 0x0e (bytes 1 k ++ bytes 2 most) room } in
-    let a = after e (Ends.main c) in
+    let e = endsAfterAll b ts in
+    let c : MainMade = record { lent = j; call = Main.request 0x0e (bytes 1 k ++ bytes 2 most) room } in
+    let a = endsAfter e (Ends.main c) in
     let all = Ends.main c ∷ us in
-    let typed : CallTyped (Ends.main c) = (omega arith, each-append _ (bytes 1 k) (bytes 2 most) (bytes-each 1 k) (bytes-each 2 most)) in
+    let typed : EndCallTyped (Ends.main c) = (omega arith, each-append _ (bytes 1 k) (bytes 2 most) (bytes-each 1 k) (bytes-each 2 most)) in
     let goes-on : GoesOn e (Ends.main c) = rw put-out in
     let now = moment b begins ts t g o in
     let sets = sets-known b begins ts t (wires b ts o) in

@@ -11,37 +11,38 @@ use Rattle.line.specs.Limits.{longest-data}
 use Rattle.line.specs.Numbers.{command-key-lookup}
 use Rattle.requester.specs.State.{Request}
 use Rattle.requester.specs.Limits.{last-number}
-use Rattle.requester.specs.Calls as MainCalls
-use Rattle.requester_claims.specs.View as MainView
+use Rattle.requester.specs.Calls.{MainParts}
+use Rattle.requester_claims.specs.View.{mainView}
+use Rattle.requester_claims.specs.Histories.{MainLent, MainMade, mainLeft, mainMade}
 use Rattle.requester_claims.specs.Histories as Main
 use Rattle.supervisor.specs.Calls as SupervisorCalls
 use Rattle.supervisor_claims.specs.View.{view}
 use Rattle.supervisor_claims.specs.Histories as Supervisor
 use Rattle.supervisor_claims.specs.LastSet.{ReadBack}
-use Rattle.both_claims.specs.Ends.{Ends, Call, main, CallTyped, Log, after, afterAll, Starts, begun, Begun, Always, Wire, WireAfter}
-use Rattle.both_claims.specs.Ends.{InOrder, InOrderAfter, CallFresh, CallOf, FreshAlert, MainGoesOn, AlertAgainst, lookupRequest, FreshValue}
+use Rattle.both_claims.specs.Ends.{Ends, EndCall, main, EndCallTyped, Log, endsAfter, endsAfterAll, BothStarts, endsBegun, Begun, Always, Wire, WireAfter}
+use Rattle.both_claims.specs.Ends.{InOrder, InOrderAfter, CallFresh, CallOf, AlertFresh, MainGoesOn, AlertAgainst, lookupRequest, FreshValue}
 use Rattle.both_claims.specs.Ends.{CallStays, GoesOn, ValueAgainst, ValueSince, ValueNotOlder, ValueNewer, NoRequest, HadValue}
 use Rattle.both_claims.specs.Pending.{CallPends, CallSends}
 use Rattle.both_claims.specs.RoundTrip.{Trip}
-use Rattle.both_claims.specs.Exchanges.{Exchanges, Clean, Served, setRequest, Made}
+use Rattle.both_claims.specs.Exchanges.{Exchanges, Clean, Served, setRequest, ExchangesOf}
 
 -- ---- What the claims are over: calls of both ends in any order, with arguments of their types, further starts among them, each lent any run of each part
 
 -- C holds of each call behind a start of each end, over any wire
-abbrev pub FromStarts : (Ends → Call → Type 0) → Type 0
-FromStarts C = (s : Starts) (ts : List Call) → Each CallTyped ts → Always C (begun s) ts
+abbrev pub FromStarts : (Ends → EndCall → Type 0) → Type 0
+FromStarts C = (s : BothStarts) (ts : List EndCall) → Each EndCallTyped ts → Always C (endsBegun s) ts
 
 -- C holds of each call since the main processor's end was just started, where the wire is as `Wire` says at every moment
-abbrev pub OverWire : (Ends → Call → Type 0) → Type 0
-OverWire C = (e : Ends) → Begun e → (ts : List Call) → Each CallTyped ts → Always WireAfter e ts → Always C e ts
+abbrev pub OverWire : (Ends → EndCall → Type 0) → Type 0
+OverWire C = (e : Ends) → Begun e → (ts : List EndCall) → Each EndCallTyped ts → Always WireAfter e ts → Always C e ts
 
 -- no call is an accepted start of either end, nor an accepted restore, and the wire keeps the order at every moment
-abbrev pub GoesOnInOrder : Ends → List Call → Type 0
+abbrev pub GoesOnInOrder : Ends → List EndCall → Type 0
 GoesOnInOrder e ts = Always GoesOn e ts × Always InOrderAfter e ts
 
 -- any moment since the main processor's end was just started, where H holds of the calls by then: P holds of both ends then, and of the calls behind it
-abbrev pub AtMoment : (Ends → List Call → Type 0) → (Ends → List Call → Type 0) → Type 0
-AtMoment H P = (b : Ends) → Begun b → (ts us : List Call) → Each CallTyped ts → Each CallTyped us → H b ts → P (afterAll b ts) us
+abbrev pub AtMoment : (Ends → List EndCall → Type 0) → (Ends → List EndCall → Type 0) → Type 0
+AtMoment H P = (b : Ends) → Begun b → (ts us : List EndCall) → Each EndCallTyped ts → Each EndCallTyped us → H b ts → P (endsAfterAll b ts) us
 
 -- ---- Replies that count as put out
 
@@ -68,7 +69,7 @@ abbrev pub FreshAnswer : Type 0
 FreshAnswer = OverWire CallFresh
 
 abbrev pub AlertAnswer : Type 0
-AlertAnswer = OverWire (CallOf FreshAlert)
+AlertAnswer = OverWire (CallOf AlertFresh)
 
 abbrev pub AlertSince : Type 0
 AlertSince =
@@ -80,7 +81,7 @@ pub record Answers : Type 0 where
   -- what is handed out was made by the supervisor in carrying out exactly the request outstanding, after it was put out under its number
   pub fresh-answer : FreshAnswer
   -- An alert's answer is the oldest alert that waited as that very request was carried out, or action 0 and no data.
-  -- This holds where no alert reply can be retained from before the main processor's end was started (document 02, item 1; `FreshAlert`).
+  -- This holds where no alert reply can be retained from before the main processor's end was started (document 02, item 1; `AlertFresh`).
   pub alert-answer : AlertAnswer
   -- The same of an alert request that had not been put out at a moment by which none could be (`cleared`).
   -- It holds until the main processor's end is started again.
@@ -103,10 +104,10 @@ NeverReplaced = AtMoment GoesOnInOrder (λ e us. GoesOnInOrder e us → Always (
 -- a lookup is put out at the moment, and no further request of the caller's behind it; interrupts, recoveries and repetitions may come in between
 abbrev pub ValueAsked : Type 0
 ValueAsked = AtMoment GoesOnInOrder (λ e us.
-    (k most : ℕ) → ReadBack k → most < 65536 → (j : Main.Lent) (room : List ℕ) (count : ℕ)
-    → let c : Main.Made = record { lent = j; call = Main.request command-key-lookup (bytes 1 k ++ bytes 2 most) room } in
-    Main.made (e .main) c .answer ≡ Main.put count → InOrderAfter e (main c)
-    → let a = after e (main c) in GoesOnInOrder a us → Always NoRequest a us → Always (CallOf (HadValue e k most)) a us)
+    (k most : ℕ) → ReadBack k → most < 65536 → (j : MainLent) (room : List ℕ) (count : ℕ)
+    → let c : MainMade = record { lent = j; call = Main.request command-key-lookup (bytes 1 k ++ bytes 2 most) room } in
+    mainMade (e .main) c .answer ≡ Main.put count → InOrderAfter e (main c)
+    → let a = endsAfter e (main c) in GoesOnInOrder a us → Always NoRequest a us → Always (CallOf (HadValue e k most)) a us)
 
 pub record ListAges : Type 0 where
   -- A lookup's answer is the value of the key's last successful set since the supervisor's start, or what a later restore left.
@@ -127,31 +128,31 @@ pub record ListAges : Type 0 where
 -- ---- Exchanges in which nothing is lost
 
 -- each end after any calls from its start, with its reader between two frames: P holds of the parts
-abbrev pub BetweenFrames : (MainCalls.Parts → SupervisorCalls.Parts → Type 0) → Type 0
+abbrev pub BetweenFrames : (MainParts → SupervisorCalls.Parts → Type 0) → Type 0
 BetweenFrames P =
-    (s : Starts) (mains : List Main.Made) (sups : List Supervisor.Made) → Supervisor.AllTyped sups
-    → let p = Main.left (begun s .main) mains in let q = Supervisor.left (begun s .supervisor) sups in
-    MainView.view p .received ≡ some [] → view q .received ≡ some [] → P p q
+    (s : BothStarts) (mains : List MainMade) (sups : List Supervisor.Made) → Supervisor.AllTyped sups
+    → let p = mainLeft (endsBegun s .main) mains in let q = Supervisor.left (endsBegun s .supervisor) sups in
+    mainView p .received ≡ some [] → view q .received ≡ some [] → P p q
 
 -- a request is put out: any number, any command and data; reboot, power off and boot failure earn no reply
 abbrev pub RoundTrip : Type 0
 RoundTrip = BetweenFrames (λ p q.
-    (j : Main.Lent) (command : ℕ) (d room : List ℕ) → command < 256 → Each Byte d
-    → let asks = Main.made p (record { lent = j; call = Main.request command d room }) in
+    (j : MainLent) (command : ℕ) (d room : List ℕ) → command < 256 → Each Byte d
+    → let asks = mainMade p (record { lent = j; call = Main.request command d room }) in
     (count : ℕ) → asks .answer ≡ Main.put count → Trip q (asks .parts) (record { command = command; payload = d }) (take count (asks .out)))
 
 -- a request that was put out before, with no recovery under way, goes out again
 abbrev pub RoundTripAgain : Type 0
 RoundTripAgain = BetweenFrames (λ p q.
-    (j : Main.Lent) (a : Request) (room : List ℕ) → MainView.view p .recovery ≡ none → MainView.view p .kept ≡ some a → Each Byte (a .payload)
-    → let sends = Main.made p (record { lent = j; call = Main.send room }) in
+    (j : MainLent) (a : Request) (room : List ℕ) → mainView p .recovery ≡ none → mainView p .kept ≡ some a → Each Byte (a .payload)
+    → let sends = mainMade p (record { lent = j; call = Main.send room }) in
     (count : ℕ) → sends .answer ≡ Main.put (suc count) → Trip q (sends .parts) a (take (suc count) (sends .out)))
 
 abbrev pub CleanExchange : Type 0
-CleanExchange = (s : Starts) (ts : List Call) (xs : Exchanges (begun s) ts) → Clean xs
+CleanExchange = (s : BothStarts) (ts : List EndCall) (xs : Exchanges (endsBegun s) ts) → Clean xs
 
 abbrev pub ServedExchanges : Type 0
-ServedExchanges = (s : Starts) (qs : List Request) → Each Served qs → length qs ≤ last-number → Made (begun s) qs
+ServedExchanges = (s : BothStarts) (qs : List Request) → Each Served qs → length qs ≤ last-number → ExchangesOf (endsBegun s) qs
 
 abbrev pub LookupServed : Type 0
 LookupServed = (k most : ℕ) → Served (lookupRequest k most)
@@ -175,7 +176,7 @@ pub record NothingLost : Type 0 where
   pub set-served : SetServed
 
 -- all of it
-pub record BothEnds : Type 0 where
+pub record OverBothEnds : Type 0 where
   pub replies-put-out : RepliesPutOut
   pub answers : Answers
   pub list-ages : ListAges

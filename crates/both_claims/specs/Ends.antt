@@ -15,24 +15,26 @@ use Rattle.line.specs.Message.{Message}
 use Rattle.line.specs.Frame.{frame}
 use Rattle.line_claims.specs.Pieces.{split, nonEmpty}
 use Rattle.line_claims.specs.Calls.{goodMessages}
-use Rattle.requester.specs.State as MainState
-use Rattle.requester.specs.State.{isSome, Request, outstanding, requestFrame}
-use Rattle.requester.specs.Requester.{replySequence, statusOf, optionsOf}
+use Rattle.requester.specs.State as RequesterState
+use Rattle.requester.specs.State.{isSome, Request, outstanding, requestFrame, MainState}
+use Rattle.requester.specs.Requester.{replySequence, messageStatus, messageOptions}
 use Rattle.requester.specs.Layout
+use Rattle.requester.specs.Calls.{MainParts}
 use Rattle.requester.specs.Calls as MainCalls
-use Rattle.requester_claims.specs.View as MainView
+use Rattle.requester_claims.specs.View.{mainView}
+use Rattle.requester_claims.specs.Histories.{MainAnswer, MainCall, MainLent, MainMade, mainMade}
 use Rattle.requester_claims.specs.Histories as Main
-use Rattle.requester_claims.specs.Numbers.{Frame, framesBy, isStart}
+use Rattle.requester_claims.specs.Numbers.{Frame, framesPutOut, isStart}
 use Rattle.supervisor.specs.State.{Retained, State}
 use Rattle.supervisor.specs.Local.{entryOf}
 use Rattle.supervisor.specs.Calls as SupervisorCalls
-use Rattle.requests.specs.Requests.{Verdict, failure, good, Reply, verdict, carried, replyOf, alertData, oldest}
+use Rattle.responder.specs.Requests.{Verdict, failure, good, Reply, verdict, carryOut, replyOf, alertData, oldest}
 use Rattle.supervisor_claims.specs.View.{view}
 use Rattle.supervisor_claims.specs.Sound.{Bytes}
 use Rattle.supervisor_claims.specs.Histories as Supervisor
 use Rattle.supervisor_claims.specs.FrameHistory as Received
-use Rattle.supervisor_claims.specs.FrameHistory.{framed}
-use Rattle.supervisor_claims.specs.LastSet.{requestsIn, setBy, setAfter, restoredBy, Origin, sinceStart, sinceMore, sinceMade, setSince, fittedOf, ReadBack}
+use Rattle.supervisor_claims.specs.FrameHistory.{frameCarried}
+use Rattle.supervisor_claims.specs.LastSet.{requestsIn, setBy, setAfter, recordsRestored, Origin, sinceStart, sinceMore, sinceMade, setSince, fittedOf, ReadBack}
 use Rattle.supervisor_claims.specs.Replies.{replyBy}
 
 -- an element of a list has the property
@@ -43,21 +45,21 @@ Any P (x ∷ xs) = P x ⊎ Any P xs
 -- ---- Calls of both ends, in any order
 
 -- a call of one of them, with what it is lent
-pub data Call : Type 0 where
-  main : Main.Made → Call
-  supervisor : Supervisor.Made → Call
+pub data EndCall : Type 0 where
+  main : MainMade → EndCall
+  supervisor : Supervisor.Made → EndCall
 
 -- the arguments have the types that the calls give them
-abbrev pub MainTyped : Main.Call → Type 0
+abbrev pub MainTyped : MainCall → Type 0
 MainTyped Main.start = Unit {0}
 MainTyped (Main.request command d room) = (command < 256) × Each Byte d
 MainTyped Main.interrupt = Unit {0}
 MainTyped (Main.send room) = Unit {0}
 MainTyped (Main.receive piece) = Each Byte piece
 
-abbrev pub CallTyped : Call → Type 0
-CallTyped (main m) = MainTyped (m .call)
-CallTyped (supervisor m) = Supervisor.Typed (m .call)
+abbrev pub EndCallTyped : EndCall → Type 0
+EndCallTyped (main m) = MainTyped (m .call)
+EndCallTyped (supervisor m) = Supervisor.Typed (m .call)
 
 -- ---- What they have put out and read
 
@@ -80,17 +82,17 @@ pub record Handled : Type 0 where
   pub cleared : Bool
 
 -- the message of a reply
-abbrev pub messageOf : Option Reply → Option Message
-messageOf none = none
-messageOf (some r) = some (record { version = r .version; sequence = r .sequence; command = r .command; payload = r .payload })
+abbrev pub replyMessage : Option Reply → Option Message
+replyMessage none = none
+replyMessage (some r) = some (record { version = r .version; sequence = r .sequence; command = r .command; payload = r .payload })
 
 -- the reply to a request that is carried out in the state s, with this image lent; none where it earns none
-abbrev pub replyTo : List ℕ → State → Message → Option Message
-replyTo image s m = messageOf (replyOf (m .sequence) (carried image s m .reply))
+abbrev pub replyToRequest : List ℕ → State → Message → Option Message
+replyToRequest image s m = replyMessage (replyOf (m .sequence) (carryOut image s m .reply))
 
 -- the reply that the supervisor made to a frame: a valid request is carried out, any other frame earns its numbered failure
 unfoldable pub replyMade : Handled → Option Message
-replyMade h = messageOf (replyBy (h .image) (h .state) (verdict (h .form)))
+replyMade h = replyMessage (replyBy (h .image) (h .state) (verdict (h .form)))
 
 -- all but `received` and `origin` since the main processor's end was last started
 pub record Log : Type 0 where
@@ -130,33 +132,33 @@ got l = goodMessages (nonEmpty (split (l .read) .closed))
 -- ---- A call of the main processor's end
 
 -- the bytes that it reads, by its answer
-abbrev usedBy : List ℕ → Main.Answer → List ℕ
+abbrev usedBy : List ℕ → MainAnswer → List ℕ
 usedBy piece (Main.refused n) = []
 usedBy piece Main.done = []
 usedBy piece (Main.put n) = []
 usedBy piece (Main.received used t e u) = take used piece
 
-abbrev pub readBy : Main.Call → Main.Answer → List ℕ
-readBy Main.start a = []
-readBy (Main.request command d room) a = []
-readBy Main.interrupt a = []
-readBy (Main.send room) a = []
-readBy (Main.receive piece) a = usedBy piece a
+abbrev pub bytesReadBy : MainCall → MainAnswer → List ℕ
+bytesReadBy Main.start a = []
+bytesReadBy (Main.request command d room) a = []
+bytesReadBy Main.interrupt a = []
+bytesReadBy (Main.send room) a = []
+bytesReadBy (Main.receive piece) a = usedBy piece a
 
 -- whether it is a start that was accepted
-abbrev pub restarts : Main.Call → Main.Answer → Bool
+abbrev pub restarts : MainCall → MainAnswer → Bool
 restarts c (Main.refused n) = false
 restarts c Main.done = isStart c
 restarts c (Main.put n) = false
 restarts c (Main.received used t e u) = false
 
 -- by its answer, what it wrote outside the state, and the newest number that it left
-unfoldable pub mainLogged : Log → Main.Call → Main.Answer → List ℕ → ℕ → Log
+unfoldable pub mainLogged : Log → MainCall → MainAnswer → List ℕ → ℕ → Log
 mainLogged l c a out n =
     cond (restarts c a) (emptyLog false (l .received) (l .origin))
     (record {
-      read = l .read ++ readBy c a;
-      asked = l .asked ++ framesBy a out n;
+      read = l .read ++ bytesReadBy c a;
+      asked = l .asked ++ framesPutOut a out n;
       received = l .received;
       origin = l .origin;
       heard = l .heard;
@@ -169,11 +171,11 @@ mainLogged l c a out n =
 -- ---- A call of the supervisor
 
 -- the image that it is lent
-abbrev pub imageOf : Supervisor.Call → List ℕ
-imageOf (Supervisor.start d) = []
-imageOf (Supervisor.receive image piece) = image
-imageOf (Supervisor.step image piece) = image
-imageOf (Supervisor.local c) = []
+abbrev pub imageLent : Supervisor.Call → List ℕ
+imageLent (Supervisor.start d) = []
+imageLent (Supervisor.receive image piece) = image
+imageLent (Supervisor.step image piece) = image
+imageLent (Supervisor.local c) = []
 
 -- whether a frame drops the retained alert reply: a reboot or power-off that is carried out
 abbrev pub dropsBy : Verdict → Bool
@@ -192,7 +194,7 @@ unfoldable pub handledBy : List Frame → List ℕ → Bool → State → (ℕ �
 handledBy asked image cleared s o earlier [] = []
 handledBy asked image cleared s o earlier (f ∷ fs) =
     (record { form = f; image = image; state = s; earlier = earlier; origin = o; asked = asked; cleared = cleared })
-    ∷ handledBy asked image (cleared || drops f) (framed image s f) (originBy o f) (earlier ++ (f ∷ [])) fs
+    ∷ handledBy asked image (cleared || drops f) (frameCarried image s f) (originBy o f) (earlier ++ (f ∷ [])) fs
 
 unfoldable pub clearedBy : Bool → List (List ℕ) → Bool
 clearedBy cleared [] = cleared
@@ -219,8 +221,8 @@ takenBy (b ∷ (c ∷ bs)) (some r) = []
 -- the frames that a call brings, on the state s
 unfoldable pub brought : Log → State → Supervisor.Made → List Handled
 brought l s m =
-    handledBy (l .asked) (imageOf (m .call)) (l .cleared) s (l .origin) (nonEmpty (split (l .received) .closed))
-    (Received.framesBy (l .received) (Received.receivedBy m))
+    handledBy (l .asked) (imageLent (m .call)) (l .cleared) s (l .origin) (nonEmpty (split (l .received) .closed))
+    (Received.framesClosedBy (l .received) (Received.bytesReceivedBy m))
 
 -- by the state before it, and the bytes that are pending after it
 unfoldable pub supervisorLogged : Log → State → Supervisor.Made → List ℕ → Log
@@ -230,11 +232,11 @@ supervisorLogged l s m waiting =
     record {
       read = l .read;
       asked = l .asked;
-      received = Received.joined (l .received) m;
+      received = Received.receivedSince (l .received) m;
       origin = λ k. sinceMade k (l .received) (l .origin k) m;
-      heard = l .heard ++ goodMessages (Received.framesBy (l .received) (Received.receivedBy m));
+      heard = l .heard ++ goodMessages (Received.framesClosedBy (l .received) (Received.bytesReceivedBy m));
       handled = l .handled ++ hs;
-      cleared = Received.startsAnew m || clearedBy (l .cleared) (Received.framesBy (l .received) (Received.receivedBy m));
+      cleared = Received.startsAnew m || clearedBy (l .cleared) (Received.framesClosedBy (l .received) (Received.bytesReceivedBy m));
       pending = stillPending waiting r;
       sent = l .sent ++ takenBy waiting r;
     }
@@ -242,20 +244,20 @@ supervisorLogged l s m waiting =
 -- ---- Both ends after calls
 
 pub record Ends : Type 0 where
-  pub main : MainCalls.Parts
+  pub main : MainParts
   pub supervisor : SupervisorCalls.Parts
   pub log : Log
 
 -- the parts, and what was put out and read, after one call by the definitions that the promises cite
-unfoldable pub after : Ends → Call → Ends
-after e (main m) =
-    let d = Main.made (e .main) m in
+unfoldable pub endsAfter : Ends → EndCall → Ends
+endsAfter e (main m) =
+    let d = mainMade (e .main) m in
     record {
       main = d .parts;
       supervisor = e .supervisor;
-      log = mainLogged (e .log) (m .call) (d .answer) (d .out) (Layout.numberOf (d .parts .requester));
+      log = mainLogged (e .log) (m .call) (d .answer) (d .out) (Layout.newestNumber (d .parts .requester));
     }
-after e (supervisor m) =
+endsAfter e (supervisor m) =
     let d = Supervisor.made (e .supervisor) m in
     record {
       main = e .main;
@@ -264,10 +266,10 @@ after e (supervisor m) =
     }
 
 -- a start of each end that is accepted, on any bytes
-pub record Starts : Type 0 where
-  pub main-parts : MainCalls.Parts
-  pub main-lent : Main.Lent
-  pub main-accepted : Main.made main-parts (record { lent = main-lent; call = Main.start }) .answer ≡ Main.done
+pub record BothStarts : Type 0 where
+  pub main-parts : MainParts
+  pub main-lent : MainLent
+  pub main-accepted : mainMade main-parts (record { lent = main-lent; call = Main.start }) .answer ≡ Main.done
   pub supervisor-parts : SupervisorCalls.Parts
   pub supervisor-bytes : Bytes supervisor-parts
   pub supervisor-lent : Supervisor.Lent
@@ -276,28 +278,28 @@ pub record Starts : Type 0 where
   pub supervisor-accepted : Supervisor.made supervisor-parts (record { lent = supervisor-lent; call = Supervisor.start start-data }) .answer ≡ Supervisor.done
 
 -- both ends then
-abbrev pub begun : Starts → Ends
-begun s = record {
-  main = Main.made (s .main-parts) (record { lent = s .main-lent; call = Main.start }) .parts;
+abbrev pub endsBegun : BothStarts → Ends
+endsBegun s = record {
+  main = mainMade (s .main-parts) (record { lent = s .main-lent; call = Main.start }) .parts;
   supervisor = Supervisor.made (s .supervisor-parts) (record { lent = s .supervisor-lent; call = Supervisor.start (s .start-data) }) .parts;
   log = firstLog;
 }
 
-unfoldable pub afterAll : Ends → List Call → Ends
-afterAll e [] = e
-afterAll e (t ∷ ts) = afterAll (after e t) ts
+unfoldable pub endsAfterAll : Ends → List EndCall → Ends
+endsAfterAll e [] = e
+endsAfterAll e (t ∷ ts) = endsAfterAll (endsAfter e t) ts
 
 -- both ends as the main processor's end was just started: together with the supervisor, or later, after any calls of both over any wire
 pub data Begun : Ends → Type 0 where
-  together : (s : Starts) → Begun (begun s)
-  later : (s : Starts) (ts : List Call) → Each CallTyped ts → (l : Main.Lent)
-      → Main.made (afterAll (begun s) ts .main) (record { lent = l; call = Main.start }) .answer ≡ Main.done
-      → Begun (after (afterAll (begun s) ts) (main (record { lent = l; call = Main.start })))
+  together : (s : BothStarts) → Begun (endsBegun s)
+  later : (s : BothStarts) (ts : List EndCall) → Each EndCallTyped ts → (l : MainLent)
+      → mainMade (endsAfterAll (endsBegun s) ts .main) (record { lent = l; call = Main.start }) .answer ≡ Main.done
+      → Begun (endsAfter (endsAfterAll (endsBegun s) ts) (main (record { lent = l; call = Main.start })))
 
 -- a claim about each call, with both ends as it found them
-abbrev pub Always : (Ends → Call → Type 0) → Ends → List Call → Type 0
+abbrev pub Always : (Ends → EndCall → Type 0) → Ends → List EndCall → Type 0
 Always C e [] = Unit {0}
-Always C e (t ∷ ts) = C e t × Always C (after e t) ts
+Always C e (t ∷ ts) = C e t × Always C (endsAfter e t) ts
 
 -- ---- The wire
 
@@ -320,8 +322,8 @@ pub record InOrder (l : Log) : Type 0 where
   pub to-main : Among (List ℕ) (map frame (got l)) (map frame (l .sent))
 
 -- at every moment
-abbrev pub WireAfter : Ends → Call → Type 0
-WireAfter e t = Wire (after e t .log)
+abbrev pub WireAfter : Ends → EndCall → Type 0
+WireAfter e t = Wire (endsAfter e t .log)
 
 -- ---- What an answer comes from
 
@@ -338,35 +340,35 @@ pub record CarriedOut (n : ℕ) (q : Request) (r : Message) (h : Handled) : Type
   -- it had been put out by then
   pub put-out : Any (λ (x : Frame). (x .number ≡ n) × (x .bytes ≡ requestFrame n q)) (h .asked)
   -- its reply
-  pub reply : replyTo (h .image) (h .state) (asMessage n q) ≡ some r
+  pub reply : replyToRequest (h .image) (h .state) (asMessage n q) ≡ some r
 
 -- a message that the main processor's end takes for the answer to the request that is outstanding, in the state s
-pub record Fresh (s : MainState.State) (l : Log) (r : Message) : Type 0 where
+pub record Fresh (s : MainState) (l : Log) (r : Message) : Type 0 where
   pub request : Request
   pub waiting : outstanding s ≡ some request
   pub made : Any (CarriedOut (s .newest) request r) (l .handled)
 
 -- what is handed out: outside a recovery an answer; in it a status with its number of set bits, to the status request, or an alert's answer, to the alert
 -- request
-abbrev pub FreshReport : MainState.State → Log → MainCalls.Report → List ℕ → Type 0
-FreshReport s l (MainCalls.Report.refused n) d = Unit {0}
+abbrev pub FreshReport : MainState → Log → MainCalls.HandedReport → List ℕ → Type 0
+FreshReport s l (MainCalls.HandedReport.refused n) d = Unit {0}
 FreshReport s l MainCalls.nothing d = Unit {0}
 FreshReport s l (MainCalls.answered v q c n) d = (s .recovery ≡ none) × Fresh s l (record { version = v; sequence = q; command = c; payload = d })
 FreshReport s l (MainCalls.status x o k) d =
-    (s .recovery ≡ some MainState.fetch) × (r : Message) × Fresh s l r × (statusOf r ≡ x) × (optionsOf r ≡ o) × (ones x ≡ k) × (r .command ≡ reply-status)
+    (s .recovery ≡ some RequesterState.fetch) × (r : Message) × Fresh s l r × (messageStatus r ≡ x) × (messageOptions r ≡ o) × (ones x ≡ k) × (r .command ≡ reply-status)
     × (length (r .payload) ≡ status-length)
 FreshReport s l (MainCalls.alerted v q c n) d =
-    (s .recovery ≡ some MainState.alert) × Fresh s l (record { version = v; sequence = q; command = c; payload = d })
+    (s .recovery ≡ some RequesterState.alert) × Fresh s l (record { version = v; sequence = q; command = c; payload = d })
 
-abbrev pub FreshBy : MainState.State → Log → Main.Answer → List ℕ → Type 0
+abbrev pub FreshBy : MainState → Log → MainAnswer → List ℕ → Type 0
 FreshBy s l (Main.refused n) d = Unit {0}
 FreshBy s l Main.done d = Unit {0}
 FreshBy s l (Main.put n) d = Unit {0}
 FreshBy s l (Main.received used t e u) d = FreshReport s l t d
 
 -- of each call, with what was put out and read before it
-abbrev pub CallFresh : Ends → Call → Type 0
-CallFresh e (main m) = let d = Main.made (e .main) m in FreshBy (MainView.view (e .main)) (e .log) (d .answer) (d .out)
+abbrev pub CallFresh : Ends → EndCall → Type 0
+CallFresh e (main m) = let d = mainMade (e .main) m in FreshBy (mainView (e .main)) (e .log) (d .answer) (d .out)
 CallFresh e (supervisor m) = Unit {0}
 
 -- ---- What an alert's answer comes from
@@ -385,28 +387,28 @@ pub record AlertTaken (n : ℕ) (q : Request) (r : Message) (h : Handled) : Type
 -- an answer to an alert request holds an alert that was taken in carrying out that request, after it was put out, if no alert reply from before the main
 -- processor's end was started was still retained: if the supervisor was started together with it or since, or carried out a reboot or power-off since, and
 -- then this request
-abbrev pub FreshAlert : MainState.State → Log → Message → Type 0
-FreshAlert s l r =
+abbrev pub AlertFresh : MainState → Log → Message → Type 0
+AlertFresh s l r =
     (q : Request) → outstanding s ≡ some q → q .command ≡ command-alert → Any (λ (h : Handled). CarriedOut (s .newest) q r h × (h .cleared ≡ true)) (l .handled)
     → Any (AlertTaken (s .newest) q r) (l .handled)
 
 -- the message that is handed out as an answer or an alert's answer
-abbrev pub messageReported : MainCalls.Report → List ℕ → Option Message
-messageReported (MainCalls.Report.refused n) d = none
+abbrev pub messageReported : MainCalls.HandedReport → List ℕ → Option Message
+messageReported (MainCalls.HandedReport.refused n) d = none
 messageReported MainCalls.nothing d = none
 messageReported (MainCalls.answered v q c n) d = some (record { version = v; sequence = q; command = c; payload = d })
 messageReported (MainCalls.status x o k) d = none
 messageReported (MainCalls.alerted v q c n) d = some (record { version = v; sequence = q; command = c; payload = d })
 
-abbrev pub messageBy : Main.Answer → List ℕ → Option Message
-messageBy (Main.refused n) d = none
-messageBy Main.done d = none
-messageBy (Main.put n) d = none
-messageBy (Main.received used t e u) d = messageReported t d
+abbrev pub messageHanded : MainAnswer → List ℕ → Option Message
+messageHanded (Main.refused n) d = none
+messageHanded Main.done d = none
+messageHanded (Main.put n) d = none
+messageHanded (Main.received used t e u) d = messageReported t d
 
 -- of each message that a call hands out so, with both ends as it found them
-abbrev pub CallOf : (MainState.State → Log → Message → Type 0) → Ends → Call → Type 0
-CallOf P e (main m) = let d = Main.made (e .main) m in (r : Message) → messageBy (d .answer) (d .out) ≡ some r → P (MainView.view (e .main)) (e .log) r
+abbrev pub CallOf : (MainState → Log → Message → Type 0) → Ends → EndCall → Type 0
+CallOf P e (main m) = let d = mainMade (e .main) m in (r : Message) → messageHanded (d .answer) (d .out) ≡ some r → P (mainView (e .main)) (e .log) r
 CallOf P e (supervisor m) = Unit {0}
 
 -- ---- What a lookup's answer comes from
@@ -425,32 +427,32 @@ pub record ValueThen (n k most : ℕ) (r : Message) (h : Handled) : Type 0 where
   pub last-set : entryOf (h .state) k ≡ setSince k (h .origin k)
 
 -- of a lookup that is outstanding, of a settings key that is read back
-abbrev pub FreshValue : MainState.State → Log → Message → Type 0
+abbrev pub FreshValue : MainState → Log → Message → Type 0
 FreshValue s l r =
     (k most : ℕ) → ReadBack k → most < 65536 → outstanding s ≡ some (lookupRequest k most)
     → (r .version ≡ first-version) × (r .sequence ≡ replySequence (s .newest)) × (r .command ≡ reply-key-lookup) × Any (ValueThen (s .newest) k most r) (l .handled)
 
 -- the frames that the supervisor has received since its last accepted start, without the empty ones
-abbrev pub framesOf : Ends → List (List ℕ)
-framesOf e = nonEmpty (split (e .log .received) .closed)
+abbrev pub handledFrames : Ends → List (List ℕ)
+handledFrames e = nonEmpty (split (e .log .received) .closed)
 
 -- whether a call restores an image that is good
 abbrev pub isRestore : Supervisor.Call → Bool
 isRestore (Supervisor.start d) = false
 isRestore (Supervisor.receive image piece) = false
 isRestore (Supervisor.step image piece) = false
-isRestore (Supervisor.local c) = isSome (restoredBy c)
+isRestore (Supervisor.local c) = isSome (recordsRestored c)
 
 -- whether it is a restore that is accepted: one that is lent too little is not
-unfoldable pub restores : Supervisor.Made → Bool
-restores m = Supervisor.enough (m .call) (m .lent) && isRestore (m .call)
+unfoldable pub acceptsRestore : Supervisor.Made → Bool
+acceptsRestore m = Supervisor.enough (m .call) (m .lent) && isRestore (m .call)
 
 -- a call of the supervisor that is neither an accepted start nor an accepted restore: a restore can bring an older value back
 pub record Stays (m : Supervisor.Made) : Type 0 where
   pub no-start : Received.startsAnew m ≡ false
-  pub no-restore : restores m ≡ false
+  pub no-restore : acceptsRestore m ≡ false
 
-abbrev pub CallStays : Call → Type 0
+abbrev pub CallStays : EndCall → Type 0
 CallStays (main m) = Unit {0}
 CallStays (supervisor m) = Stays m
 
@@ -463,35 +465,35 @@ pub record ValueSince (e : Ends) (n k most : ℕ) (r : Message) (h : Handled) : 
   pub value-then : ValueThen n k most r h
   -- the frames since that moment
   pub later : List (List ℕ)
-  pub behind : h .earlier ≡ framesOf e ++ later
+  pub behind : h .earlier ≡ handledFrames e ++ later
   -- the value is that of the last successful set since then, or else the one that key k had then
   pub last-since : entryOf (h .state) k ≡ setAfter k (entryOf (view (e .supervisor)) k) (requestsIn later)
 
 -- of a lookup that is outstanding under a number under which nothing had been put out by the moment e: P holds of a moment at which it was carried out
-abbrev pub ValueAgainst : Ends → (ℕ → ℕ → ℕ → Message → Handled → Type 0) → MainState.State → Log → Message → Type 0
+abbrev pub ValueAgainst : Ends → (ℕ → ℕ → ℕ → Message → Handled → Type 0) → MainState → Log → Message → Type 0
 ValueAgainst e P s l r =
     (k most : ℕ) → ReadBack k → most < 65536 → outstanding s ≡ some (lookupRequest k most) → NotAsked e (s .newest) → Any (P (s .newest) k most r) (l .handled)
 
 -- ---- What an alert's answer comes from, against an earlier moment
 
 -- a call that is no accepted start of the main processor's end
-abbrev pub MainGoesOn : Ends → Call → Type 0
-MainGoesOn e (main m) = restarts (m .call) (Main.made (e .main) m .answer) ≡ false
+abbrev pub MainGoesOn : Ends → EndCall → Type 0
+MainGoesOn e (main m) = restarts (m .call) (mainMade (e .main) m .answer) ≡ false
 MainGoesOn e (supervisor m) = Unit {0}
 
 -- an answer to an alert request that had not been put out at that moment holds an alert that was taken in carrying out that request, after it was put out
-abbrev pub AlertAgainst : Ends → MainState.State → Log → Message → Type 0
+abbrev pub AlertAgainst : Ends → MainState → Log → Message → Type 0
 AlertAgainst e s l r = (q : Request) → outstanding s ≡ some q → q .command ≡ command-alert → NotAsked e (s .newest) → Any (AlertTaken (s .newest) q r) (l .handled)
 
 -- ---- On a wire that keeps the order
 
 -- a call that is no accepted start of either end, nor an accepted restore
-abbrev pub GoesOn : Ends → Call → Type 0
+abbrev pub GoesOn : Ends → EndCall → Type 0
 GoesOn e (main m) = MainGoesOn e (main m)
 GoesOn e (supervisor m) = Stays m
 
-abbrev pub InOrderAfter : Ends → Call → Type 0
-InOrderAfter e t = InOrder (after e t .log)
+abbrev pub InOrderAfter : Ends → EndCall → Type 0
+InOrderAfter e t = InOrder (endsAfter e t .log)
 
 -- a request with a higher number than all that the supervisor had read by an earlier moment, since the main processor's last accepted start; or the newest
 -- of those once more
@@ -517,7 +519,7 @@ pub record ValueNewer (e : Ends) (n k most : ℕ) (r : Message) (h : Handled) : 
 -- ---- What a lookup's answer is where nothing more is put out
 
 -- the request that a call is to put out
-abbrev pub requestOf : Main.Call → Option Request
+abbrev pub requestOf : MainCall → Option Request
 requestOf Main.start = none
 requestOf (Main.request command d room) = some (record { command = command; payload = d })
 requestOf Main.interrupt = none
@@ -525,19 +527,19 @@ requestOf (Main.send room) = none
 requestOf (Main.receive piece) = none
 
 -- whether it is one that was put out: a refused one changes nothing
-abbrev pub requests : Main.Call → Main.Answer → Bool
-requests c (Main.refused n) = false
-requests c Main.done = false
-requests c (Main.put n) = isSome (requestOf c)
-requests c (Main.received used t e u) = false
+abbrev pub putsRequest : MainCall → MainAnswer → Bool
+putsRequest c (Main.refused n) = false
+putsRequest c Main.done = false
+putsRequest c (Main.put n) = isSome (requestOf c)
+putsRequest c (Main.received used t e u) = false
 
 -- a call that puts no new request of the caller's out
-abbrev pub NoRequest : Ends → Call → Type 0
-NoRequest e (main m) = requests (m .call) (Main.made (e .main) m .answer) ≡ false
+abbrev pub NoRequest : Ends → EndCall → Type 0
+NoRequest e (main m) = putsRequest (m .call) (mainMade (e .main) m .answer) ≡ false
 NoRequest e (supervisor m) = Unit {0}
 
 -- the answer to this lookup is the value that key k had at an earlier moment: result 2 where it had none, 3 where the value is longer than maxresponse, else
 -- 0 and the value
-abbrev pub HadValue : Ends → ℕ → ℕ → MainState.State → Log → Message → Type 0
+abbrev pub HadValue : Ends → ℕ → ℕ → MainState → Log → Message → Type 0
 HadValue e k most s l r =
     outstanding s ≡ some (lookupRequest k most) → let f = fittedOf most (entryOf (view (e .supervisor)) k) in r .payload ≡ f .result ∷ f .value

@@ -19,12 +19,12 @@ use Rattle.line.specs.Numbers.{first-version}
 use Rattle.line.specs.Reader as LineReader
 use Rattle.supervisor.specs.Valid.{validFactory}
 use Rattle.supervisor.specs.Calls.{Parts}
-use Rattle.requests.specs.Requests.{Verdict, failure, good, served, known, lengthAllowed, tested}
-use Rattle.requests.specs.Receive as Receive
-use Rattle.requests.specs.declared.receive.Received.{Received}
-use Rattle.requests.specs.declared.receive.Received.the-variants as received
-use Rattle.requests.proofs.KeptLaws.{answering-valid, carried-valid}
-use Rattle.requests.proofs.StepLaws.{parts-valid, valid-parts, read-valid, data-short, served-small, Held, begun, over, valid-step-used, went}
+use Rattle.responder.specs.Requests.{Verdict, failure, good, versionServed, known, lengthAllowed, tested}
+use Rattle.responder.specs.Receive as Receive
+use Rattle.responder.specs.declared.receive.Received.{Received}
+use Rattle.responder.specs.declared.receive.Received.the-variants as received
+use Rattle.responder.proofs.KeptLaws.{answering-valid, carried-valid}
+use Rattle.responder.proofs.StepLaws.{parts-valid, valid-parts, read-valid, data-short, served-small, Held, begun, over, valid-step-used, went}
 use Rattle.counters.specs.declared.Counters.{Counters}
 use Rattle.counters.specs.Count.{bumpedFor, bumpedForAll}
 use Rattle.counters.specs.Counting.{endings, counting}
@@ -37,8 +37,8 @@ bytes-each [] h = tt
 bytes-each (b ∷ bs) h = (h 0, bytes-each bs (λ i. h (suc i)))
 
 -- the data that a reader of bytes hands out begin with a byte
-data-byte : (reader : List ℕ) (n : ℕ) → Each Byte reader → Each Byte (LineReader.dataOf reader n)
-unfolding LineReader.dataOf LineReader.partOf
+data-byte : (reader : List ℕ) (n : ℕ) → Each Byte reader → Each Byte (LineReader.dataPromise reader n)
+unfolding LineReader.dataPromise LineReader.partOf
 data-byte reader n h = by (LineReader.dataRefusal reader n)
   where
     by : (x : Option ℕ) → Each Byte (LineReader.partOf x (run LineReader.data-offset n reader))
@@ -58,9 +58,9 @@ module _ (image f : List ℕ) (i : Receive.Inner) (factory : validFactory f ≡ 
       → Stays (tested (Receive.messageBy version sequence command d))
   unfolding tested Receive.innerBy
   message-stays version sequence command d short h =
-      by (served version) (leb (2 ^ 63) sequence) (not (known command)) (not (lengthAllowed command (length d))) refl
+      by (versionServed version) (leb (2 ^ 63) sequence) (not (known command)) (not (lengthAllowed command (length d))) refl
     where
-      by : (a b c e : Bool) → served version ≡ a → Stays (cond (not a) (failure 5 first-version (some sequence)) (cond b (failure 6 version (some sequence))
+      by : (a b c e : Bool) → versionServed version ≡ a → Stays (cond (not a) (failure 5 first-version (some sequence)) (cond b (failure 6 version (some sequence))
           (cond c (failure 3 first-version none) (cond e (failure 7 version (some sequence)) (good (Receive.messageBy version sequence command d))))))
       by false b c e k = failure-stays 5 first-version (some sequence)
       by true true c e k = failure-stays 6 version (some sequence)
@@ -69,7 +69,7 @@ module _ (image f : List ℕ) (i : Receive.Inner) (factory : validFactory f ≡ 
       by true false false false k =
           carried-valid image f i version sequence d (served-small version k) factory valid short (number-small 1 0 d h) command
 
-  answer-stays : (reader : List ℕ) → Each Byte reader → (a : LineReader.Report)
+  answer-stays : (reader : List ℕ) → Each Byte reader → (a : LineReader.ReadReport)
       → Receive.validInner (Receive.innerAfter image f i (Receive.verdictOf reader a)) ≡ true
   unfolding Receive.innerAfter Receive.verdictOf
   answer-stays reader h (LineReader.refused n) = valid
@@ -77,24 +77,24 @@ module _ (image f : List ℕ) (i : Receive.Inner) (factory : validFactory f ≡ 
   answer-stays reader h LineReader.empty = valid
   answer-stays reader h (LineReader.failed reason sequence) = failure-stays reason first-version sequence
   answer-stays reader h (LineReader.message version sequence command n) =
-      message-stays version sequence command (LineReader.dataOf reader n) (data-short reader n) (data-byte reader n h)
+      message-stays version sequence command (LineReader.dataPromise reader n) (data-short reader n) (data-byte reader n h)
 
 module _ (image piece : List ℕ) (p : Parts) {q : Parts} {n : ℕ} {g : Receive.Ended} (valid : Receive.validParts p ≡ true)
-    (e : record { used = n; ended = g; parts = q } ≡ Receive.stepping image p piece) where
+    (e : record { used = n; ended = g; parts = q } ≡ Receive.stepPromise image p piece) where
   -- a step on valid parts is carried out
   stepping-valid : record { used = n; ended = g; parts = q } ≡ Receive.validStep image p piece
-  unfolding Receive.stepping
+  unfolding Receive.stepPromise
   stepping-valid = e ∙ rw valid
 
   step-valid : Each Byte (q .reader) → Receive.validParts q ≡ true
-  unfolding Receive.validStep Receive.answered
+  unfolding Receive.validStep Receive.afterAnswer
   step-valid h =
       let v = parts-valid p valid in
       let o = LineReader.readPiece (p .reader) piece in
-      let s : q ≡ Receive.answered image p (o .state) (o .answer) = ap (λ (x : Receive.StepDone). x .parts) stepping-valid in
+      let s : q ≡ Receive.afterAnswer image p (o .state) (o .answer) = ap (λ (x : Receive.StepOutcome). x .parts) stepping-valid in
       let k : Each Byte (o .state) = rw s at h in
       rw s
-      (valid-parts (Receive.answered image p (o .state) (o .answer))
+      (valid-parts (Receive.afterAnswer image p (o .state) (o .answer))
       (record {
         reader = read-valid (p .reader) piece (v .reader);
         factory = v .factory;
@@ -112,25 +112,25 @@ abbrev Tested : Parts → Parts → Bool → Type 0
 Tested p q refused = (q ≡ p) × (refused ≡ not (Receive.validParts p))
 
 -- an empty piece that is received changes nothing, and is refused where the parts are
-pub tested-parts : (image : List ℕ) (p : Parts) {q : Parts} {n : Option ℕ} → record { refusal = n; parts = q } ≡ Receive.receiving image p []
+pub tested-parts : (image : List ℕ) (p : Parts) {q : Parts} {n : Option ℕ} → record { refusal = n; parts = q } ≡ Receive.receivePromise image p []
     → Tested p q (isSome n)
-unfolding Receive.receiving Receive.fed
+unfolding Receive.receivePromise Receive.feedBytes
 tested-parts image p {q} {n} e =
-    cond-by (λ (x : Receive.Receipt). record { refusal = n; parts = q } ≡ x → Tested p q (isSome n)) (Receive.validParts p) _ _
-    (λ v k. (ap (λ (x : Receive.Receipt). x .parts) k, ap (λ (x : Receive.Receipt). isSome (x .refusal)) k ∙ rw v))
-    (λ v k. (ap (λ (x : Receive.Receipt). x .parts) k, ap (λ (x : Receive.Receipt). isSome (x .refusal)) k ∙ rw v)) e
+    cond-by (λ (x : Receive.ReceiveOutcome). record { refusal = n; parts = q } ≡ x → Tested p q (isSome n)) (Receive.validParts p) _ _
+    (λ v k. (ap (λ (x : Receive.ReceiveOutcome). x .parts) k, ap (λ (x : Receive.ReceiveOutcome). isSome (x .refusal)) k ∙ rw v))
+    (λ v k. (ap (λ (x : Receive.ReceiveOutcome). x .parts) k, ap (λ (x : Receive.ReceiveOutcome). isSome (x .refusal)) k ∙ rw v)) e
 
 -- ---- the frames of a piece
 
 module _ (s : List ℕ) (b : ℕ) (bs : List ℕ) where
-  read-next : LineReader.readPiece s (suc b ∷ bs) ≡ LineReader.next (LineReader.readPiece (LineReader.pushed s (suc b)) bs)
+  read-next : LineReader.readPiece s (suc b ∷ bs) ≡ LineReader.oneByteLater (LineReader.readPiece (LineReader.pushed s (suc b)) bs)
   unfolding LineReader.readPiece
   read-next = rw (ne-eqb (suc b) 0 (λ e. omega arith))
 
 -- what is left of a piece is counted on from what a step counts
 valid-step-counts : (piece s : List ℕ) (c : Counters) → let o = LineReader.readPiece s piece in
-    bumpedForAll c (endings s piece) ≡ bumpedForAll (bumpedFor c (Receive.ended (o .state) (o .answer))) (endings (o .state) (drop (o .used) piece))
-unfolding LineReader.readPiece LineReader.next Receive.ended endings bumpedFor bumpedForAll
+    bumpedForAll c (endings s piece) ≡ bumpedForAll (bumpedFor c (Receive.endedByReader (o .state) (o .answer))) (endings (o .state) (drop (o .used) piece))
+unfolding LineReader.readPiece LineReader.oneByteLater Receive.endedByReader endings bumpedFor bumpedForAll
 valid-step-counts [] s c = refl
 valid-step-counts (zero ∷ bs) s c = refl
 valid-step-counts (suc b ∷ bs) s c = rw (read-next s b bs, ne-eqb (suc b) 0 (λ e. omega arith)) (valid-step-counts bs (LineReader.pushed s (suc b)) c)
@@ -141,11 +141,11 @@ pub record Counted (image piece : List ℕ) (p₀ p : Parts) (c t : Counters) (a
   pub same : counting c p₀ piece ≡ bumpedForAll t (endings (p .reader) (drop at piece))
 
 abbrev Done : List ℕ → List ℕ → Parts → Counters → Received → Counters → Parts → Type 0
-Done image piece p c a t q = (Receive.receiptOf a q ≡ Receive.receiving image p piece) × (t ≡ counting c p piece)
+Done image piece p c a t q = (Receive.receiveOutcome a q ≡ Receive.receivePromise image p piece) × (t ≡ counting c p piece)
 
 pub refused-so : (image piece : List ℕ) (p : Parts) (c : Counters) {q : Parts} {b : Bool} → Tested p q b → b ≡ true
     → Done image piece p c received.Refused c q
-unfolding Receive.receiving Receive.receiptReport counting
+unfolding Receive.receivePromise Receive.receiveReport counting
 refused-so image piece p c h e = let v : Receive.validParts p ≡ false = not-true _ (sym (h .1) ∙ e) in rw (v, h .0) (refl, refl)
 
 pub counted-none : (image piece : List ℕ) {p q : Parts} (c : Counters) {b : Bool} → Tested p q b → b ≡ false → Counted image piece q q c c 0
@@ -163,7 +163,7 @@ counted-all {piece = piece} {c = c} {t = t} e h l =
 
 -- a step at an offset of the piece
 module _ {image piece : List ℕ} {p₀ p p' : Parts} {c t : Counters} {at : ℕ} {n : ℕ} {g : Receive.Ended} (h : Counted image piece p₀ p c t at) (l : at < length piece)
-    (e : record { used = n; ended = g; parts = p' } ≡ Receive.stepping image p (take (length piece - at) (drop at piece))) where
+    (e : record { used = n; ended = g; parts = p' } ≡ Receive.stepPromise image p (take (length piece - at) (drop at piece))) where
   abbrev left : List ℕ
   left = drop at piece
 
@@ -176,13 +176,13 @@ module _ {image piece : List ℕ} {p₀ p p' : Parts} {c t : Counters} {at : ℕ
   pub counted-on : {t' : Counters} → t' ≡ bumpedFor t g → ((i : ℕ) → getD (p' .reader) i 0 < 256)
       → length (p' .reader) ≡ length (p .reader) → length (p' .outbox) ≡ length (p .outbox)
       → length (p' .settings) ≡ length (p .settings) → length (p' .registers) ≡ length (p .registers) → Counted image piece p₀ p' c t' (at + n)
-  unfolding Receive.validStep Receive.answered
+  unfolding Receive.validStep Receive.afterAnswer
   counted-on b k r o s m =
       let whole : length left ≤ length piece - at = rw length-drop (omega arith) in
       let done = rw (take-all _ _ whole) at validStep in
-      let u : n ≡ LineReader.readPiece (p .reader) left .used = ap (λ (x : Receive.StepDone). x .used) done in
-      let q : p' .reader ≡ LineReader.readPiece (p .reader) left .state = ap (λ (x : Receive.StepDone). x .parts .reader) done in
-      let f = ap (λ (x : Receive.StepDone). x .ended) done in
+      let u : n ≡ LineReader.readPiece (p .reader) left .used = ap (λ (x : Receive.StepOutcome). x .used) done in
+      let q : p' .reader ≡ LineReader.readPiece (p .reader) left .state = ap (λ (x : Receive.StepOutcome). x .parts .reader) done in
+      let f = ap (λ (x : Receive.StepOutcome). x .ended) done in
       record {
         held = went (h .held) l validStep (step-valid image _ p (h .held .valid) e (bytes-each (p' .reader) k)) r o s m;
         same = h .same ∙ valid-step-counts left (p .reader) t ∙ rw (← f, ← u, ← q, b, drop-drop);

@@ -4,8 +4,8 @@ use mathlib.Core.Bool.{Bool, true, false, cond}
 use mathlib.Core.List.{List, [], _∷_}
 use Prim.Native.Nat.{ℕ, _+_, min}
 use lib.Dec.{ltb, eqb}
-use Rattle.requests.specs.Requests.{verdict}
-use Rattle.requests.specs.Receive.{Ended, endedBy}
+use Rattle.responder.specs.Requests.{verdict}
+use Rattle.responder.specs.Receive.{Ended, endedByVerdict}
 use Rattle.counters.specs.declared.Counters.{Counters}
 
 -- the largest number of a counter
@@ -15,9 +15,9 @@ most-counted = 4294967295
 -- ---- Frames
 
 -- how a frame ended, by the bytes before its 00: an empty one, a request that the whole table passes, or a failure by the table's reason
-unfoldable pub frameEnded : List ℕ → Ended
-frameEnded [] = Ended.empty
-frameEnded (b ∷ bs) = endedBy (verdict (b ∷ bs))
+unfoldable pub endedByFrame : List ℕ → Ended
+endedByFrame [] = Ended.empty
+endedByFrame (b ∷ bs) = endedByVerdict (verdict (b ∷ bs))
 
 -- ---- Which counter a frame bumps
 
@@ -57,8 +57,8 @@ eachBy n = record {
 }
 
 -- nothing is counted
-abbrev pub zeros : Counters
-zeros = eachBy (λ counts. 0)
+abbrev pub clearedCounters : Counters
+clearedCounters = eachBy (λ counts. 0)
 
 -- ---- One more
 

@@ -6,7 +6,7 @@ use Prim.Native.Nat.{ℕ}
 use lib.Dec.{eqb}
 use Rattle.line.specs.Reader as LineReader
 use Rattle.supervisor.specs.Calls.{Parts}
-use Rattle.requests.specs.Receive.{Ended, ended, validParts}
+use Rattle.responder.specs.Receive.{Ended, endedByReader, validParts}
 use Rattle.counters.specs.declared.Counters.{Counters}
 use Rattle.counters.specs.Count.{bumpedForAll}
 
@@ -15,7 +15,7 @@ unfoldable pub endings : List ℕ → List ℕ → List Ended
 endings reader [] = []
 endings reader (b ∷ bs) =
     cond (eqb b 0)
-    (ended (LineReader.finish reader .state) (LineReader.finish reader .answer) ∷ endings (LineReader.finish reader .state) bs)
+    (endedByReader (LineReader.finish reader .state) (LineReader.finish reader .answer) ∷ endings (LineReader.finish reader .state) bs)
     (endings (LineReader.pushed reader b) bs)
 
 -- the block after a receive: a call that is refused as 12 leaves it

@@ -1,14 +1,14 @@
 // The field counters: a block of nine counters, lent by the caller, which a call that receives changes in place.
 // Assumes nothing: no function has a `requires`, and no block is refused.
-use requests::outcome::Outcome;
-use requests::receive::Received;
-use requests::receive::Stepped;
+use responder::outcome::Outcome;
+use responder::receive::Received;
+use responder::receive::Stepped;
 ghost use mathlib.Core.Path.{_≡_};
 ghost use mathlib.Core.Bool.{not};
 ghost use Rattle.supervisor.specs.Calls.{parts};
-ghost use Rattle.requests.specs.Receive.{endedReport, validParts, stepOf, stepping, receiptOf, receiving};
-ghost use Rattle.requests.specs.declared.outcome.Outcome.the-variants as report;
-ghost use Rattle.counters.specs.Count.{oneMore, zeros, bumpedFor};
+ghost use Rattle.responder.specs.Receive.{stepReport, validParts, stepOutcome, stepPromise, receiveOutcome, receivePromise};
+ghost use Rattle.responder.specs.declared.outcome.Outcome.the-variants as report;
+ghost use Rattle.counters.specs.Count.{oneMore, clearedCounters, bumpedFor};
 ghost use Rattle.counters.specs.Counting.{counting};
 
 // The largest number of a counter.
@@ -36,7 +36,7 @@ pub struct Tallied {
 
 // A block in which nothing is counted.
 pub fn cleared() -> Counters
-    ensures { λ r. ⌜ r ≡ zeros ⌝ }
+    ensures { λ r. ⌜ r ≡ clearedCounters ⌝ }
 {
     Counters {
         good: 0,
@@ -53,14 +53,14 @@ pub fn cleared() -> Counters
 
 // Clears a block.
 pub fn clear(block: &mut Counters)
-    ensures { λ _. ⌜ now (block .exit) ≡ zeros ⌝ }
+    ensures { λ _. ⌜ now (block .exit) ≡ clearedCounters ⌝ }
 {
     *block = cleared();
 }
 
 // The counters after a frame that ended so; as they are where none ended.
 pub fn bumped(counters: Counters, outcome: Outcome) -> Counters
-    ensures { λ r. ⌜ r ≡ bumpedFor counters (endedReport outcome) ⌝ }
+    ensures { λ r. ⌜ r ≡ bumpedFor counters (stepReport outcome) ⌝ }
 {
     let mut bumped = counters;
     match outcome {
@@ -80,7 +80,7 @@ pub fn bumped(counters: Counters, outcome: Outcome) -> Counters
 
 // The counters after a failure with this reason.
 fn failed(counters: Counters, reason: u8) -> Counters
-    ensures { λ r. ⌜ r ≡ bumpedFor counters (endedReport (report.Failure reason)) ⌝ }
+    ensures { λ r. ⌜ r ≡ bumpedFor counters (stepReport (report.Failure reason)) ⌝ }
 {
     let mut bumped = counters;
     if reason == 1 {
@@ -125,7 +125,7 @@ fn one_more(count: u32) -> u32
 
 // Bumps the counter of a frame's outcome in place.
 pub fn bump(block: &mut Counters, outcome: Outcome)
-    ensures { λ _. ⌜ now (block .exit) ≡ bumpedFor (now (block .entry)) (endedReport outcome) ⌝ }
+    ensures { λ _. ⌜ now (block .exit) ≡ bumpedFor (now (block .entry)) (stepReport outcome) ⌝ }
 {
     *block = bumped(*block, outcome);
 }
@@ -141,9 +141,9 @@ pub fn step_counted(
     settings: &mut [u8],
     registers: &mut [u8],
 ) -> Stepped
-    ensures { λ r. ⌜ (stepOf r (parts (now (reader .exit)) (now (outbox .exit)) (now (factory .entry)) (now (settings .exit)) (now (registers .exit))) ≡ stepping (now (image .entry)) (parts (now (reader .entry)) (now (outbox .entry)) (now (factory .entry)) (now (settings .entry)) (now (registers .entry))) (now (piece .entry))) × (now (block .exit) ≡ bumpedFor (now (block .entry)) (endedReport (r .outcome))) ⌝ }
+    ensures { λ r. ⌜ (stepOutcome r (parts (now (reader .exit)) (now (outbox .exit)) (now (factory .entry)) (now (settings .exit)) (now (registers .exit))) ≡ stepPromise (now (image .entry)) (parts (now (reader .entry)) (now (outbox .entry)) (now (factory .entry)) (now (settings .entry)) (now (registers .entry))) (now (piece .entry))) × (now (block .exit) ≡ bumpedFor (now (block .entry)) (stepReport (r .outcome))) ⌝ }
 {
-    let done = requests::receive::step(image, piece, reader, outbox, factory, settings, registers);
+    let done = responder::receive::step(image, piece, reader, outbox, factory, settings, registers);
     bump(block, done.outcome);
     done
 }
@@ -159,7 +159,7 @@ pub fn receive_tallied(
     settings: &mut [u8],
     registers: &mut [u8],
 ) -> Tallied
-    ensures { λ r. ⌜ (receiptOf (r .answer) (parts (now (reader .exit)) (now (outbox .exit)) (now (factory .entry)) (now (settings .exit)) (now (registers .exit))) ≡ receiving (now (image .entry)) (parts (now (reader .entry)) (now (outbox .entry)) (now (factory .entry)) (now (settings .entry)) (now (registers .entry))) (now (piece .entry))) × (r .counters ≡ counting counters (parts (now (reader .entry)) (now (outbox .entry)) (now (factory .entry)) (now (settings .entry)) (now (registers .entry))) (now (piece .entry))) ⌝ }
+    ensures { λ r. ⌜ (receiveOutcome (r .answer) (parts (now (reader .exit)) (now (outbox .exit)) (now (factory .entry)) (now (settings .exit)) (now (registers .exit))) ≡ receivePromise (now (image .entry)) (parts (now (reader .entry)) (now (outbox .entry)) (now (factory .entry)) (now (settings .entry)) (now (registers .entry))) (now (piece .entry))) × (r .counters ≡ counting counters (parts (now (reader .entry)) (now (outbox .entry)) (now (factory .entry)) (now (settings .entry)) (now (registers .entry))) (now (piece .entry))) ⌝ }
 {
     let mut tally = counters;
     if are_refused(image, piece, reader, outbox, factory, settings, registers) {
@@ -171,7 +171,7 @@ pub fn receive_tallied(
     }
     let mut at = 0;
     while at < piece.len() {
-        let done = requests::receive::step(
+        let done = responder::receive::step(
             image,
             &piece[at..],
             reader,
@@ -204,7 +204,7 @@ fn are_refused(
 ) -> bool
     ensures { λ r. ⌜ (parts (now (reader .exit)) (now (outbox .exit)) (now (factory .entry)) (now (settings .exit)) (now (registers .exit)) ≡ parts (now (reader .entry)) (now (outbox .entry)) (now (factory .entry)) (now (settings .entry)) (now (registers .entry))) × (r ≡ not (validParts (parts (now (reader .entry)) (now (outbox .entry)) (now (factory .entry)) (now (settings .entry)) (now (registers .entry))))) ⌝ }
 {
-    let received = requests::receive::receive(
+    let received = responder::receive::receive(
         image,
         &piece[0..0],
         reader,
@@ -230,7 +230,7 @@ pub fn receive_counted(
     settings: &mut [u8],
     registers: &mut [u8],
 ) -> Received
-    ensures { λ r. ⌜ (receiptOf r (parts (now (reader .exit)) (now (outbox .exit)) (now (factory .entry)) (now (settings .exit)) (now (registers .exit))) ≡ receiving (now (image .entry)) (parts (now (reader .entry)) (now (outbox .entry)) (now (factory .entry)) (now (settings .entry)) (now (registers .entry))) (now (piece .entry))) × (now (block .exit) ≡ counting (now (block .entry)) (parts (now (reader .entry)) (now (outbox .entry)) (now (factory .entry)) (now (settings .entry)) (now (registers .entry))) (now (piece .entry))) ⌝ }
+    ensures { λ r. ⌜ (receiveOutcome r (parts (now (reader .exit)) (now (outbox .exit)) (now (factory .entry)) (now (settings .exit)) (now (registers .exit))) ≡ receivePromise (now (image .entry)) (parts (now (reader .entry)) (now (outbox .entry)) (now (factory .entry)) (now (settings .entry)) (now (registers .entry))) (now (piece .entry))) × (now (block .exit) ≡ counting (now (block .entry)) (parts (now (reader .entry)) (now (outbox .entry)) (now (factory .entry)) (now (settings .entry)) (now (registers .entry))) (now (piece .entry))) ⌝ }
 {
     let tallied = receive_tallied(
         *block,

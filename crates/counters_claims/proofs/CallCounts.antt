@@ -13,19 +13,19 @@ use Rattle.octets.specs.Bytes.{Each}
 use Rattle.octets.proofs.Each.{each-append}
 use Rattle.line.specs.Reader as LineReader
 use Rattle.line.proofs.State.{valid-ready, ready-valid, ready-pushed}
-use Rattle.line_claims.specs.Pieces.{split, closedBy}
+use Rattle.line_claims.specs.Pieces.{split, closedBehind}
 use Rattle.line_claims.proofs.Pieces.{split-at, split-none, closed-rest}
 use Rattle.supervisor.specs.State.{State}
 use Rattle.supervisor.specs.Calls.{Parts}
-use Rattle.requests.specs.Requests.{verdictSince}
-use Rattle.requests.specs.Receive as Receive
+use Rattle.responder.specs.Requests.{verdictSince}
+use Rattle.responder.specs.Receive as Receive
 use Rattle.counters.specs.declared.Counters.{Counters}
-use Rattle.counters.specs.Count.{frameEnded, bumpedFor, bumpedForAll}
+use Rattle.counters.specs.Count.{endedByFrame, bumpedFor, bumpedForAll}
 use Rattle.counters.specs.Counting.{endings, counting}
 use Rattle.supervisor_claims.specs.View.{view}
 use Rattle.supervisor_claims.specs.Histories
-use Rattle.supervisor_claims.specs.Histories.{Call, Answer, refused, Did, did, upTo, endedMeant, frameEnds, Lent, lentOf, enough, Made, made}
-use Rattle.supervisor_claims.specs.FrameHistory.{reads, receivedBy, endedBy, tailOf}
+use Rattle.supervisor_claims.specs.Histories.{Call, Answer, refused, Did, did, upTo, endedMeant, endedInPiece, Lent, lentOf, enough, Made, made}
+use Rattle.supervisor_claims.specs.FrameHistory.{pieceRead, bytesReceivedBy, endedByFrames, progressOf}
 use Rattle.supervisor_claims.specs.Sound.{Sound}
 use Rattle.supervisor_claims.proofs.Sound.{valid-long}
 use Rattle.supervisor_claims.proofs.laws.Locality.{EnoughOfAll, lent-sound, lent-view}
@@ -42,18 +42,18 @@ use Rattle.counters_claims.proofs.FrameLaws.{closed-none}
 -- ---- the frames of a piece
 
 -- the 00 behind the bytes p
-frame-ends : (p : List ℕ) → endedMeant (verdictSince (tailOf p)) ≡ frameEnded p
-unfolding frameEnded endedBy
+frame-ends : (p : List ℕ) → endedMeant (verdictSince (progressOf p)) ≡ endedByFrame p
+unfolding endedByFrame endedByFrames
 frame-ends [] = closed-ends [] []
 frame-ends (b ∷ bs) = closed-ends (b ∷ bs) []
 
 -- the reader's part s holds the bytes p since the last 00
-finish-ends : (s p : List ℕ) → LineReader.valid s ≡ true → receivedOf s ≡ tailOf p
-    → Receive.ended (LineReader.finish s .state) (LineReader.finish s .answer) ≡ frameEnded p
-unfolding LineReader.readPiece frameEnds
+finish-ends : (s p : List ℕ) → LineReader.validReader s ≡ true → receivedOf s ≡ progressOf p
+    → Receive.endedByReader (LineReader.finish s .state) (LineReader.finish s .answer) ≡ endedByFrame p
+unfolding LineReader.readPiece endedInPiece
 finish-ends s p v e = step-ends (0 ∷ []) s v ∙ rw e (frame-ends p)
 
-endings-frames : (bs s p : List ℕ) → LineReader.valid s ≡ true → receivedOf s ≡ tailOf p → Each (λ b. 1 ≤ b) p
+endings-frames : (bs s p : List ℕ) → LineReader.validReader s ≡ true → receivedOf s ≡ progressOf p → Each (λ b. 1 ≤ b) p
     → endings s bs ≡ endedAll (split (p ++ bs) .closed)
 unfolding endings endedAll split
 endings-frames [] s p v e h = rw (append-nil, split-none p h)
@@ -70,8 +70,8 @@ endings-frames (suc b ∷ bs) s p v e h =
 
 -- a step bumps the block for the frame, if any, that ends in the bytes that it reads
 step-endings : (piece s : List ℕ) (c : Counters) → let o = LineReader.readPiece s piece in
-    bumpedFor c (Receive.ended (o .state) (o .answer)) ≡ bumpedForAll c (endings s (ListN.take (upTo piece) piece))
-unfolding LineReader.readPiece LineReader.next Receive.ended endings upTo bumpedFor bumpedForAll
+    bumpedFor c (Receive.endedByReader (o .state) (o .answer)) ≡ bumpedForAll c (endings s (ListN.take (upTo piece) piece))
+unfolding LineReader.readPiece LineReader.oneByteLater Receive.endedByReader endings upTo bumpedFor bumpedForAll
 step-endings [] s c = refl
 step-endings (zero ∷ bs) s c = refl
 step-endings (suc b ∷ bs) s c = rw (eqb·suc-zero, eqb·suc-zero) (step-endings bs (LineReader.pushed s (suc b)) c)
@@ -80,7 +80,7 @@ step-endings (suc b ∷ bs) s c = rw (eqb·suc-zero, eqb·suc-zero) (step-ending
 
 -- enough is lent of sound parts
 lent-enough : (l : Lent) (p : Parts) → Sound p → EnoughOfAll l
-    → (Receive.validParts (lentOf l p) ≡ true) × (LineReader.valid (lentOf l p .reader) ≡ true) × (receivedOf (lentOf l p .reader) ≡ view p .received)
+    → (Receive.validParts (lentOf l p) ≡ true) × (LineReader.validReader (lentOf l p .reader) ≡ true) × (receivedOf (lentOf l p .reader) ≡ view p .received)
 unfolding view
 lent-enough l p s w =
     let v = lent-sound l p w s .valid in
@@ -95,7 +95,7 @@ module _ (image piece : List ℕ) (l : Lent) (p : Parts) where
   q = lentOf l p
 
   receive-refused : enough (Histories.receive image piece) l ≡ false → Receive.validParts q ≡ false
-  unfolding made did Receive.receiving
+  unfolding made did Receive.receivePromise
   receive-refused e = by (Receive.validParts q) refl
     where
       by : (t : Bool) → Receive.validParts q ≡ t → t ≡ false
@@ -103,7 +103,7 @@ module _ (image piece : List ℕ) (l : Lent) (p : Parts) where
       by false v = refl
 
   step-refused : enough (Histories.step image piece) l ≡ false → Receive.validParts q ≡ false
-  unfolding made did Receive.stepping
+  unfolding made did Receive.stepPromise
   step-refused e = by (Receive.validParts q) refl
     where
       by : (t : Bool) → Receive.validParts q ≡ t → t ≡ false
@@ -116,7 +116,7 @@ module _ (image piece : List ℕ) (l : Lent) (p : Parts) where
 module _ (w : List ℕ) (p : Parts) (s : Sound p) (h : Since (split w .rest) (view p)) (c : Counters) where
   -- lent enough, bytes are read
   read-counts : (l : Lent) (bs : List ℕ) → EnoughOfAll l
-      → bumpedForAll c (endings (lentOf l p .reader) bs) ≡ bumpedForAll c (endedAll (closedBy w bs))
+      → bumpedForAll c (endings (lentOf l p .reader) bs) ≡ bumpedForAll c (endedAll (closedBehind w bs))
   read-counts l bs k =
       let v = lent-enough l p s k in
       rw (closed-rest w bs, endings-frames bs (lentOf l p .reader) (split w .rest) (v .1) (v .2 ∙ h .received) (h .nonzero))
@@ -126,35 +126,35 @@ module _ (w : List ℕ) (p : Parts) (s : Sound p) (h : Since (split w .rest) (vi
   unfolding bumpedFor
   refused-none n = refl
 
-  none-counts : (t : Bool) → c ≡ bumpedForAll c (endedAll (closedBy w (cond t [] [])))
+  none-counts : (t : Bool) → c ≡ bumpedForAll c (endedAll (closedBehind w (cond t [] [])))
   unfolding bumpedForAll endedAll
   none-counts true = rw (closed-none w)
   none-counts false = rw (closed-none w)
 
   abbrev Counts : Lent → Call → Type 0
-  Counts l k = didCounted c (lentOf l p) k .block ≡ bumpedForAll c (endedAll (closedBy w (cond (enough k l) (reads k) [])))
+  Counts l k = didCounted c (lentOf l p) k .block ≡ bumpedForAll c (endedAll (closedBehind w (cond (enough k l) (pieceRead k) [])))
 
   receive-counts : (image piece : List ℕ) (l : Lent) (t : Bool) → enough (Histories.receive image piece) l ≡ t → Counts l (Histories.receive image piece)
-  unfolding didCounted reads counting
+  unfolding didCounted pieceRead counting
   receive-counts image piece l true e =
       let k = widened-enough l p (valid-long {p = p} (s .valid)) (Histories.receive image piece) e in
       rw (e, lent-enough l p s k .0) (read-counts l piece k)
   receive-counts image piece l false e = rw (e, receive-refused image piece l p e) (none-counts true)
 
   step-counts : (image piece : List ℕ) (l : Lent) (t : Bool) → enough (Histories.step image piece) l ≡ t → Counts l (Histories.step image piece)
-  unfolding didCounted reads Receive.stepping Receive.validStep
+  unfolding didCounted pieceRead Receive.stepPromise Receive.validStep
   step-counts image piece l true e =
       let k = widened-enough l p (valid-long {p = p} (s .valid)) (Histories.step image piece) e in
       rw (e, lent-enough l p s k .0) (step-endings piece (lentOf l p .reader) c ∙ read-counts l (ListN.take (upTo piece) piece) k)
   step-counts image piece l false e = rw (e, step-refused image piece l p e) (refused-none 12 ∙ none-counts true)
 
   any-counts : (l : Lent) (k : Call) → Counts l k
-  unfolding didCounted reads
+  unfolding didCounted pieceRead
   any-counts l (Histories.start d) = none-counts (enough (Histories.start d) l)
   any-counts l (Histories.receive image piece) = receive-counts image piece l _ refl
   any-counts l (Histories.step image piece) = step-counts image piece l _ refl
   any-counts l (Histories.local k) = none-counts (enough (Histories.local k) l)
 
-  pub call-counts : (m : Made) → madeCounted c p m .block ≡ bumpedForAll c (endedAll (closedBy w (receivedBy m)))
-  unfolding madeCounted receivedBy
+  pub call-counts : (m : Made) → madeCounted c p m .block ≡ bumpedForAll c (endedAll (closedBehind w (bytesReceivedBy m)))
+  unfolding madeCounted bytesReceivedBy
   call-counts m = any-counts (m .lent) (m .call)

@@ -7,12 +7,12 @@ use Prim.Native.Nat.{ℕ}
 use native.Mathlib.Omega.{arith}
 use lib.ListN.{length, drop-of-length-le}
 use lib.Seq.{drop-append-seam}
-use Rattle.line_claims.specs.Pieces.{split, closedBy}
+use Rattle.line_claims.specs.Pieces.{split, closedBehind}
 use Rattle.line_claims.proofs.Pieces.{closed-join}
 use Rattle.supervisor_claims.specs.Histories
 use Rattle.supervisor_claims.specs.Histories.{Call, Made, enough}
-use Rattle.supervisor_claims.specs.FrameHistory.{reads, starts, receivedBy, startsAnew, joined}
-use Rattle.counters_claims.specs.CountHistory.{stretches, framesOf, framesSince, endedAll}
+use Rattle.supervisor_claims.specs.FrameHistory.{pieceRead, isAcceptedStart, bytesReceivedBy, startsAnew, receivedSince}
+use Rattle.counters_claims.specs.CountHistory.{stretches, framesOfStretches, framesSince, endedAll}
 
 pub ended-append : (fs gs : List (List ℕ)) → endedAll (fs ++ gs) ≡ endedAll fs ++ endedAll gs
 unfolding endedAll
@@ -20,16 +20,16 @@ ended-append [] gs = refl
 ended-append (f ∷ fs) gs = rw (ended-append fs gs)
 
 -- no byte, no frame
-pub closed-none : (w : List ℕ) → closedBy w [] ≡ []
-unfolding closedBy
+pub closed-none : (w : List ℕ) → closedBehind w [] ≡ []
+unfolding closedBehind
 closed-none w = rw append-nil (drop-of-length-le (split w .closed) {i = length (split w .closed)} (omega arith))
 
 -- a start reads nothing
-start-reads : (m : Made) → startsAnew m ≡ true → receivedBy m ≡ []
-unfolding startsAnew receivedBy starts reads
+start-reads : (m : Made) → startsAnew m ≡ true → bytesReceivedBy m ≡ []
+unfolding startsAnew bytesReceivedBy isAcceptedStart pieceRead
 start-reads m e = by (enough (m .call) (m .lent)) (m .call) e
   where
-    by : (t : Bool) (c : Call) → (t && starts c) ≡ true → cond t (reads c) [] ≡ []
+    by : (t : Bool) (c : Call) → (t && isAcceptedStart c) ≡ true → cond t (pieceRead c) [] ≡ []
     by false c e = refl
     by true (Histories.start d) e = refl
     by true (Histories.receive image piece) e = absurd (false≢true e)
@@ -39,21 +39,21 @@ start-reads m e = by (enough (m .call) (m .lent)) (m .call) e
 -- call after call
 unfoldable pub closedSince : List ℕ → List Made → List (List ℕ)
 closedSince w [] = []
-closedSince w (m ∷ ms) = closedBy w (receivedBy m) ++ closedSince (joined w m) ms
+closedSince w (m ∷ ms) = closedBehind w (bytesReceivedBy m) ++ closedSince (receivedSince w m) ms
 
-frames-so : (ms : List Made) (w : List ℕ) → framesOf (stretches w ms) ≡ split w .closed ++ closedSince w ms
-unfolding framesOf stretches closedSince joined split
+frames-so : (ms : List Made) (w : List ℕ) → framesOfStretches (stretches w ms) ≡ split w .closed ++ closedSince w ms
+unfolding framesOfStretches stretches closedSince receivedSince split
 frames-so [] w = refl
-frames-so (m ∷ ms) w = by (startsAnew m) refl (frames-so ms []) (frames-so ms (w ++ receivedBy m))
+frames-so (m ∷ ms) w = by (startsAnew m) refl (frames-so ms []) (frames-so ms (w ++ bytesReceivedBy m))
   where
     bs : List ℕ
-    bs = receivedBy m
+    bs = bytesReceivedBy m
 
-    by : (t : Bool) → startsAnew m ≡ t → framesOf (stretches [] ms) ≡ closedSince [] ms
-        → framesOf (stretches (w ++ bs) ms) ≡ split (w ++ bs) .closed ++ closedSince (w ++ bs) ms
-        → framesOf (cond t (w ∷ stretches [] ms) (stretches (w ++ bs) ms)) ≡ split w .closed ++ (closedBy w bs ++ closedSince (cond t [] (w ++ bs)) ms)
+    by : (t : Bool) → startsAnew m ≡ t → framesOfStretches (stretches [] ms) ≡ closedSince [] ms
+        → framesOfStretches (stretches (w ++ bs) ms) ≡ split (w ++ bs) .closed ++ closedSince (w ++ bs) ms
+        → framesOfStretches (cond t (w ∷ stretches [] ms) (stretches (w ++ bs) ms)) ≡ split w .closed ++ (closedBehind w bs ++ closedSince (cond t [] (w ++ bs)) ms)
     by true e i j = rw (start-reads m e, closed-none w, i)
-    by false e i j = rw (j, closed-join w bs, append-assoc (split w .closed) (closedBy w bs))
+    by false e i j = rw (j, closed-join w bs, append-assoc (split w .closed) (closedBehind w bs))
 
 pub frames-since : (w : List ℕ) (ms : List Made) → framesSince w ms ≡ closedSince w ms
 unfolding framesSince

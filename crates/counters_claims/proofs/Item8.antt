@@ -8,18 +8,18 @@ use native.Mathlib.Omega.{arith}
 use Rattle.line_claims.specs.Pieces.{split}
 use Rattle.supervisor.specs.Calls.{Parts}
 use Rattle.counters.specs.declared.Counters.{Counters}
-use Rattle.counters.specs.Count.{frameEnded, zeros, bumpedForAll}
+use Rattle.counters.specs.Count.{endedByFrame, clearedCounters, bumpedForAll}
 use Rattle.supervisor_claims.specs.View.{factoryOf, view}
 use Rattle.supervisor_claims.specs.Histories
 use Rattle.supervisor_claims.specs.Histories.{Call, Did, Made, made, outputs, left, AllTyped, OfStart}
-use Rattle.supervisor_claims.specs.FrameHistory.{joined, joinedAll}
+use Rattle.supervisor_claims.specs.FrameHistory.{receivedSince, receivedSinceAll}
 use Rattle.supervisor_claims.specs.Sound.{Sound}
 use Rattle.supervisor_claims.proofs.laws.Progress.{Since}
 use Rattle.supervisor_claims.proofs.claims.History.{one-call, history}
 use Rattle.supervisor_claims.proofs.claims.InOrder.{verdict-over}
 use Rattle.supervisor_claims.proofs.claims.FramesClaim.{made-carried, by-frames}
-use Rattle.counters_claims.specs.CountHistory.{didCounted, madeCounted, Lending, doneBy, outputsLending, leftLending, unlent}
-use Rattle.counters_claims.specs.CountHistory.{Event, plain, counted, clear, Held, after, afterAll, callsOf, allCounted, endedAll}
+use Rattle.counters_claims.specs.CountHistory.{didCounted, madeCounted, Lending, didLending, outputsLending, leftLending, unlent}
+use Rattle.counters_claims.specs.CountHistory.{CountEvent, plain, counted, clear, Held, afterEvent, afterEvents, callsOfEvents, allCounted, endedAll}
 use Rattle.counters_claims.specs.Item8.{CountersCount, CountersFromStart, OverlongOnce, BlocksAlone}
 use Rattle.counters_claims.proofs.FrameLaws.{ended-append, closedSince, frames-since}
 use Rattle.counters_claims.proofs.TallyLaws.{bumped-tally, bumped-append}
@@ -39,7 +39,7 @@ pub same-made : (c : Counters) (p : Parts) (m : Made) → madeCounted c p m .did
 unfolding madeCounted made
 same-made c p m = rw (same-did c (Histories.lentOf (m .lent) p) (m .call))
 
-pub same-by : (p : Parts) (m : Made) (block : Option Counters) → doneBy p m block ≡ made p m
+pub same-by : (p : Parts) (m : Made) (block : Option Counters) → didLending p m block ≡ made p m
 same-by p m none = refl
 same-by p m (some c) = same-made c p m
 
@@ -59,54 +59,54 @@ blocks-alone p xs ys e =
 -- ---- the calls of a history
 
 -- a call that is lent the block leaves the parts that it leaves without
-after-counted : (h : Held) (m : Made) → after h (counted m) ≡ record { parts = made (h .parts) m .parts; block = madeCounted (h .block) (h .parts) m .block }
-unfolding after
+after-counted : (h : Held) (m : Made) → afterEvent h (counted m) ≡ record { parts = made (h .parts) m .parts; block = madeCounted (h .block) (h .parts) m .block }
+unfolding afterEvent
 after-counted h m = ap (λ (d : Did). record { parts = d .parts; block = madeCounted (h .block) (h .parts) m .block }) (same-made (h .block) (h .parts) m)
 
-parts-so : (es : List Event) (h : Held) → afterAll h es .parts ≡ left (h .parts) (callsOf es)
-unfolding afterAll after callsOf left
+parts-so : (es : List CountEvent) (h : Held) → afterEvents h es .parts ≡ left (h .parts) (callsOfEvents es)
+unfolding afterEvents afterEvent callsOfEvents left
 parts-so [] h = refl
-parts-so (plain m ∷ es) h = parts-so es (after h (plain m))
-parts-so (counted m ∷ es) h = parts-so es (after h (counted m)) ∙ ap (λ (x : Held). left (x .parts) (callsOf es)) (after-counted h m)
-parts-so (clear ∷ es) h = parts-so es (after h clear)
+parts-so (plain m ∷ es) h = parts-so es (afterEvent h (plain m))
+parts-so (counted m ∷ es) h = parts-so es (afterEvent h (counted m)) ∙ ap (λ (x : Held). left (x .parts) (callsOfEvents es)) (after-counted h m)
+parts-so (clear ∷ es) h = parts-so es (afterEvent h clear)
 
-after-append : (es fs : List Event) (h : Held) → afterAll h (es ++ fs) ≡ afterAll (afterAll h es) fs
-unfolding afterAll
+after-append : (es fs : List CountEvent) (h : Held) → afterEvents h (es ++ fs) ≡ afterEvents (afterEvents h es) fs
+unfolding afterEvents
 after-append [] fs h = refl
-after-append (e ∷ es) fs h = after-append es fs (after h e)
+after-append (e ∷ es) fs h = after-append es fs (afterEvent h e)
 
 -- ---- each counter
 
 -- calls that are lent the block, on sound parts that hold what stands behind the last 00 of the bytes w
 since-counts : (ms : List Made) → AllTyped ms → (w : List ℕ) (p : Parts) → Sound p → Since (split w .rest) (view p) → (c : Counters)
-    → afterAll (record { parts = p; block = c }) (allCounted ms) .block ≡ bumpedForAll c (endedAll (closedSince w ms))
-unfolding afterAll after allCounted closedSince endedAll bumpedForAll
+    → afterEvents (record { parts = p; block = c }) (allCounted ms) .block ≡ bumpedForAll c (endedAll (closedSince w ms))
+unfolding afterEvents afterEvent allCounted closedSince endedAll bumpedForAll
 since-counts [] t w p s h c = refl
 since-counts (m ∷ ms) t w p s h c =
     let k = one-call p m s (t .0) .leaves in
-    let g : Since (split (joined w m) .rest) (view (made p m .parts)) = rw (k .0) (made-carried w (view p) h m .1) in
-    let i = since-counts ms (t .1) (joined w m) (made p m .parts) (k .1) g (madeCounted c p m .block) in
-    ap (λ (x : Held). afterAll x (allCounted ms) .block) (after-counted (record { parts = p; block = c }) m)
+    let g : Since (split (receivedSince w m) .rest) (view (made p m .parts)) = rw (k .0) (made-carried w (view p) h m .1) in
+    let i = since-counts ms (t .1) (receivedSince w m) (made p m .parts) (k .1) g (madeCounted c p m .block) in
+    ap (λ (x : Held). afterEvents x (allCounted ms) .block) (after-counted (record { parts = p; block = c }) m)
     ∙ (i ∙ rw (call-counts w p s h c m, ended-append, bumped-append))
 
 pub counters-count : OfStart CountersCount
-unfolding afterAll after
+unfolding afterEvents afterEvent
 counters-count p b l d typed e block before t ms u =
     let q = made p (record { lent = l; call = Histories.start d }) .parts in
-    let w = joinedAll [] (callsOf before) in
-    let k = history p b l d typed e (callsOf before) t in
-    let h = by-frames (factoryOf d) (callsOf before) .2 in
+    let w = receivedSinceAll [] (callsOfEvents before) in
+    let k = history p b l d typed e (callsOfEvents before) t in
+    let h = by-frames (factoryOf d) (callsOfEvents before) .2 in
     let x = after-append before (clear ∷ allCounted ms) (record { parts = q; block = block }) in
-    let y = since-counts ms u w (left q (callsOf before)) (k .2) (rw (k .1) h) zeros in
+    let y = since-counts ms u w (left q (callsOfEvents before)) (k .2) (rw (k .1) h) clearedCounters in
     ap (λ (z : Held). z .block) x
-    ∙ (ap (λ (r : Parts). afterAll (record { parts = r; block = zeros }) (allCounted ms) .block) (parts-so before (record { parts = q; block = block }))
+    ∙ (ap (λ (r : Parts). afterEvents (record { parts = r; block = clearedCounters }) (allCounted ms) .block) (parts-so before (record { parts = q; block = block }))
     ∙ (y ∙ rw (frames-since w ms) (bumped-tally (endedAll (closedSince w ms)))))
 
 pub counters-from-start : OfStart CountersFromStart
-unfolding afterAll after callsOf joinedAll
+unfolding afterEvents afterEvent callsOfEvents receivedSinceAll
 counters-from-start p b l d typed e block ms u = counters-count p b l d typed e block [] tt ms u
 
 pub overlong-once : OverlongOnce
-unfolding frameEnded
+unfolding endedByFrame
 overlong-once [] h = absurd (omega arith)
 overlong-once (b ∷ bs) h = rw (verdict-over (b ∷ bs) h)

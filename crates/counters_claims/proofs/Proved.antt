@@ -1,12 +1,12 @@
 -- The field counters' claims, proved: one element of each record of statements in specs/.
 -- Assumes nothing.
-use Rattle.counters_claims.specs.Item8.{Item8}
-use Rattle.counters_claims.specs.Item14.{Item14}
+use Rattle.counters_claims.specs.Item8.{CountersItem8}
+use Rattle.counters_claims.specs.Item14.{CountersItem14}
 use Rattle.counters_claims.proofs.TallyLaws.{each-counted-once}
 use Rattle.counters_claims.proofs.Item8.{counters-count, counters-from-start, overlong-once, blocks-alone}
 use Rattle.counters_claims.proofs.Item14.{two-counted-states, two-counted-runs}
 
-pub item-8 : Item8
+pub item-8 : CountersItem8
 item-8 = record {
   counters-count = counters-count;
   counters-from-start = counters-from-start;
@@ -15,5 +15,5 @@ item-8 = record {
   blocks-alone = blocks-alone;
 }
 
-pub item-14 : Item14
+pub item-14 : CountersItem14
 item-14 = record { two-counted-states = two-counted-states; two-counted-runs = two-counted-runs }

@@ -15,10 +15,10 @@ use Rattle.line.specs.Numbers.{first-version}
 use Rattle.line.specs.Message.{Message}
 use Rattle.line.specs.Judge as Line
 use Rattle.line.specs.Judge.{sequenceOf, fields, decoded, wrongLength, wrongChecksum, wrongMagic, judgeForm, judge}
-use Rattle.requests.specs.Requests.{Verdict, failure, good, served, known, lengthAllowed, tested, testedWhere, verdict}
-use Rattle.requests.specs.Receive.{Ended, endedBy}
+use Rattle.responder.specs.Requests.{Verdict, failure, good, versionServed, known, lengthAllowed, tested, testedWhere, verdict}
+use Rattle.responder.specs.Receive.{Ended, endedByVerdict}
 use Rattle.counters.specs.declared.Counters.{Counters}
-use Rattle.counters.specs.Count.{most-counted, frameEnded, oneMore, raised, isGood, isEmpty, isReason, zeros, bumpedFor, bumpedForAll, howMany, tallyOf}
+use Rattle.counters.specs.Count.{most-counted, endedByFrame, oneMore, raised, isGood, isEmpty, isReason, clearedCounters, bumpedFor, bumpedForAll, howMany, tallyOf}
 use Rattle.counters_claims.specs.CountHistory.{endedAll}
 use Rattle.counters_claims.specs.Item8.{nine, EachCountedOnce}
 
@@ -70,10 +70,10 @@ bumped-each [] c = refl
 bumped-each (e ∷ es) c = bumped-each es (bumpedFor c e)
 
 -- since it was cleared
-pub bumped-tally : (es : List Ended) → bumpedForAll zeros es ≡ tallyOf es
+pub bumped-tally : (es : List Ended) → bumpedForAll clearedCounters es ≡ tallyOf es
 unfolding tallyOf
 bumped-tally es =
-    bumped-each es zeros
+    bumped-each es clearedCounters
     ∙ rw (one isGood, one isEmpty, one (isReason 1), one (isReason 2), one (isReason 3), one (isReason 4), one (isReason 5), one (isReason 6), one (isReason 7))
   where
     one : (counts : Ended → Bool) → raisedAll counts 0 es ≡ min (howMany counts es) most-counted
@@ -93,12 +93,12 @@ bumps e = nine (λ counts. cond (counts e) 1 0)
 
 -- one of the table's reasons, or a request
 abbrev Once : Verdict → Type 0
-Once v = bumps (endedBy v) ≡ 1
+Once v = bumps (endedByVerdict v) ≡ 1
 
 tested-once : (m : Message) → Once (tested m)
 unfolding tested
 tested-once m =
-    by (not (served (m .version))) (leb (2 ^ 63) (m .sequence)) (not (known (m .command))) (not (lengthAllowed (m .command) (length (m .payload))))
+    by (not (versionServed (m .version))) (leb (2 ^ 63) (m .sequence)) (not (known (m .command))) (not (lengthAllowed (m .command) (length (m .payload))))
   where
     by : (a b c d : Bool) → Once (cond a (failure 5 first-version (some (m .sequence))) (cond b (failure 6 (m .version) (some (m .sequence)))
         (cond c (failure 3 first-version none) (cond d (failure 7 (m .version) (some (m .sequence))) (good m)))))
@@ -123,8 +123,8 @@ verdict-once form = by-form (decoded form)
     by-form none = refl
     by-form (some xs) = by (wrongLength xs) (wrongChecksum xs) (wrongMagic xs) xs
 
-frame-once : (f : List ℕ) → bumps (frameEnded f) ≡ 1
-unfolding frameEnded
+frame-once : (f : List ℕ) → bumps (endedByFrame f) ≡ 1
+unfolding endedByFrame
 frame-once [] = refl
 frame-once (b ∷ bs) = verdict-once (b ∷ bs)
 

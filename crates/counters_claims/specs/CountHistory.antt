@@ -7,13 +7,13 @@ use Prim.Native.Nat.{ℕ}
 use lib.ListN.{length, drop}
 use Rattle.line_claims.specs.Pieces.{split}
 use Rattle.supervisor.specs.Calls.{Parts}
-use Rattle.requests.specs.Receive.{Ended, receiving, stepping}
+use Rattle.responder.specs.Receive.{Ended, receivePromise, stepPromise}
 use Rattle.counters.specs.declared.Counters.{Counters}
-use Rattle.counters.specs.Count.{frameEnded, zeros, bumpedFor}
+use Rattle.counters.specs.Count.{endedByFrame, clearedCounters, bumpedFor}
 use Rattle.counters.specs.Counting.{counting}
 use Rattle.supervisor_claims.specs.Histories
 use Rattle.supervisor_claims.specs.Histories.{Call, Did, didBy, refusal, stepAnswer, did, lentOf, givenBack, Made, made, Output}
-use Rattle.supervisor_claims.specs.FrameHistory.{receivedBy, startsAnew}
+use Rattle.supervisor_claims.specs.FrameHistory.{bytesReceivedBy, startsAnew}
 
 -- ---- A call that is lent a block
 
@@ -26,9 +26,9 @@ pub record DidCounted : Type 0 where
 unfoldable pub didCounted : Counters → Parts → Call → DidCounted
 didCounted c p (Histories.start d) = record { did = did p (Histories.start d); block = c }
 didCounted c p (Histories.receive image piece) =
-    let r = receiving image p piece in record { did = didBy (refusal (r .refusal)) [] (r .parts); block = counting c p piece }
+    let r = receivePromise image p piece in record { did = didBy (refusal (r .refusal)) [] (r .parts); block = counting c p piece }
 didCounted c p (Histories.step image piece) =
-    let r = stepping image p piece in record { did = didBy (stepAnswer (r .used) (r .ended)) [] (r .parts); block = bumpedFor c (r .ended) }
+    let r = stepPromise image p piece in record { did = didBy (stepAnswer (r .used) (r .ended)) [] (r .parts); block = bumpedFor c (r .ended) }
 didCounted c p (Histories.local k) = record { did = did p (Histories.local k); block = c }
 
 -- lent some of the parts' bytes
@@ -43,14 +43,14 @@ pub record Lending : Type 0 where
   pub call : Made
   pub block : Option Counters
 
-abbrev pub doneBy : Parts → Made → Option Counters → Did
-doneBy p m none = made p m
-doneBy p m (some c) = madeCounted c p m .did
+abbrev pub didLending : Parts → Made → Option Counters → Did
+didLending p m none = made p m
+didLending p m (some c) = madeCounted c p m .did
 
 unfoldable pub outputsLending : Parts → List Lending → List Output
 outputsLending p [] = []
 outputsLending p (x ∷ xs) =
-    let d = doneBy p (x .call) (x .block) in record { answer = d .answer; out = d .out } ∷ outputsLending (d .parts) xs
+    let d = didLending p (x .call) (x .block) in record { answer = d .answer; out = d .out } ∷ outputsLending (d .parts) xs
 
 -- the block that a call leaves, where it is lent one, and those that a list leaves
 abbrev pub blockBy : Parts → Made → Option Counters → Option Counters
@@ -59,11 +59,11 @@ blockBy p m (some c) = some (madeCounted c p m .block)
 
 unfoldable pub blocksLending : Parts → List Lending → List (Option Counters)
 blocksLending p [] = []
-blocksLending p (x ∷ xs) = blockBy p (x .call) (x .block) ∷ blocksLending (doneBy p (x .call) (x .block) .parts) xs
+blocksLending p (x ∷ xs) = blockBy p (x .call) (x .block) ∷ blocksLending (didLending p (x .call) (x .block) .parts) xs
 
 unfoldable pub leftLending : Parts → List Lending → Parts
 leftLending p [] = p
-leftLending p (x ∷ xs) = leftLending (doneBy p (x .call) (x .block) .parts) xs
+leftLending p (x ∷ xs) = leftLending (didLending p (x .call) (x .block) .parts) xs
 
 -- the calls without the blocks
 unfoldable pub unlent : List Lending → List Made
@@ -72,36 +72,36 @@ unlent (x ∷ xs) = x .call ∷ unlent xs
 
 -- ---- A history with one block, which nobody else writes
 
-pub data Event : Type 0 where
+pub data CountEvent : Type 0 where
   -- a call that is not lent the block, and one that is
-  plain : Made → Event
-  counted : Made → Event
+  plain : Made → CountEvent
+  counted : Made → CountEvent
   -- the block is cleared
-  clear : Event
+  clear : CountEvent
 
 -- the parts and the block
 pub record Held : Type 0 where
   pub parts : Parts
   pub block : Counters
 
-unfoldable pub after : Held → Event → Held
-after h (plain m) = record { parts = made (h .parts) m .parts; block = h .block }
-after h (counted m) = let d = madeCounted (h .block) (h .parts) m in record { parts = d .did .parts; block = d .block }
-after h clear = record { parts = h .parts; block = zeros }
+unfoldable pub afterEvent : Held → CountEvent → Held
+afterEvent h (plain m) = record { parts = made (h .parts) m .parts; block = h .block }
+afterEvent h (counted m) = let d = madeCounted (h .block) (h .parts) m in record { parts = d .did .parts; block = d .block }
+afterEvent h clear = record { parts = h .parts; block = clearedCounters }
 
-unfoldable pub afterAll : Held → List Event → Held
-afterAll h [] = h
-afterAll h (e ∷ es) = afterAll (after h e) es
+unfoldable pub afterEvents : Held → List CountEvent → Held
+afterEvents h [] = h
+afterEvents h (e ∷ es) = afterEvents (afterEvent h e) es
 
 -- the calls of a history
-unfoldable pub callsOf : List Event → List Made
-callsOf [] = []
-callsOf (plain m ∷ es) = m ∷ callsOf es
-callsOf (counted m ∷ es) = m ∷ callsOf es
-callsOf (clear ∷ es) = callsOf es
+unfoldable pub callsOfEvents : List CountEvent → List Made
+callsOfEvents [] = []
+callsOfEvents (plain m ∷ es) = m ∷ callsOfEvents es
+callsOfEvents (counted m ∷ es) = m ∷ callsOfEvents es
+callsOfEvents (clear ∷ es) = callsOfEvents es
 
 -- calls that are all lent the block
-unfoldable pub allCounted : List Made → List Event
+unfoldable pub allCounted : List Made → List CountEvent
 allCounted [] = []
 allCounted (m ∷ ms) = counted m ∷ allCounted ms
 
@@ -110,18 +110,18 @@ allCounted (m ∷ ms) = counted m ∷ allCounted ms
 -- the bytes received between two accepted starts, joined, one stretch after the other; w came before in the first
 unfoldable pub stretches : List ℕ → List Made → List (List ℕ)
 stretches w [] = w ∷ []
-stretches w (m ∷ ms) = cond (startsAnew m) (w ∷ stretches [] ms) (stretches (w ++ receivedBy m) ms)
+stretches w (m ∷ ms) = cond (startsAnew m) (w ∷ stretches [] ms) (stretches (w ++ bytesReceivedBy m) ms)
 
 -- the frames of each stretch, in order: what stands behind a stretch's last 00 is no frame
-unfoldable pub framesOf : List (List ℕ) → List (List ℕ)
-framesOf [] = []
-framesOf (w ∷ ws) = split w .closed ++ framesOf ws
+unfoldable pub framesOfStretches : List (List ℕ) → List (List ℕ)
+framesOfStretches [] = []
+framesOfStretches (w ∷ ws) = split w .closed ++ framesOfStretches ws
 
 -- those whose 00 the calls received: all but those that were closed in w
 unfoldable pub framesSince : List ℕ → List Made → List (List ℕ)
-framesSince w ms = drop (length (split w .closed)) (framesOf (stretches w ms))
+framesSince w ms = drop (length (split w .closed)) (framesOfStretches (stretches w ms))
 
 -- how each ended
 unfoldable pub endedAll : List (List ℕ) → List Ended
 endedAll [] = []
-endedAll (f ∷ fs) = frameEnded f ∷ endedAll fs
+endedAll (f ∷ fs) = endedByFrame f ∷ endedAll fs

@@ -6,23 +6,23 @@ use Prim.Native.Nat.{_+_, _<_}
 use Rattle.supervisor.specs.Limits.{last-edition}
 use Rattle.supervisor_claims.specs.View.{view}
 use Rattle.supervisor_claims.specs.Histories.{AllTyped}
-use Rattle.supervisor_claims.specs.TwoRuns.{Run, leftBy, receivedIn, SameBut, withoutPassphrase, passphraseEdition, setsToCome}
+use Rattle.supervisor_claims.specs.TwoRuns.{Run, leftByRun, receivedInRun, SameButPassphrase, withoutPassphrase, passphraseEdition, setsToCome}
 use Rattle.counters_claims.specs.CountHistory.{Lending, outputsLending, blocksLending, unlent}
 
 -- behind both runs any calls, each lent any block or none, the same in both, with the edition below its end in both by more than the sets to come:
 -- they give the same, and leave each block the same
 abbrev pub CountedAlike : Run → Run → Type 0
-CountedAlike r s = (xs : List Lending) → AllTyped (unlent xs) → let n = setsToCome (receivedIn r) (unlent xs) in
-    passphraseEdition (leftBy r) + n < last-edition → passphraseEdition (leftBy s) + n < last-edition
-    → (outputsLending (leftBy r) xs ≡ outputsLending (leftBy s) xs) × (blocksLending (leftBy r) xs ≡ blocksLending (leftBy s) xs)
+CountedAlike r s = (xs : List Lending) → AllTyped (unlent xs) → let n = setsToCome (receivedInRun r) (unlent xs) in
+    passphraseEdition (leftByRun r) + n < last-edition → passphraseEdition (leftByRun s) + n < last-edition
+    → (outputsLending (leftByRun r) xs ≡ outputsLending (leftByRun s) xs) × (blocksLending (leftByRun r) xs ≡ blocksLending (leftByRun s) xs)
 
 abbrev pub TwoCountedRuns : Type 0
-TwoCountedRuns = (r s : Run) → SameBut (leftBy r) (leftBy s) → CountedAlike r s
+TwoCountedRuns = (r s : Run) → SameButPassphrase (leftByRun r) (leftByRun s) → CountedAlike r s
 
 abbrev pub TwoCountedStates : Type 0
-TwoCountedStates = (r s : Run) → withoutPassphrase (view (leftBy r)) ≡ withoutPassphrase (view (leftBy s)) → CountedAlike r s
+TwoCountedStates = (r s : Run) → withoutPassphrase (view (leftByRun r)) ≡ withoutPassphrase (view (leftByRun s)) → CountedAlike r s
 
-pub record Item14 : Type 0 where
+pub record CountersItem14 : Type 0 where
   -- two runs whose states differ only in the passphrase's value, length, presence and edition answer, write and count the same
   pub two-counted-states : TwoCountedStates
   -- so where all bytes of the parts outside the passphrase's record are equal

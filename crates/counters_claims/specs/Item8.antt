@@ -7,29 +7,29 @@ use Prim.Native.Nat.{ℕ, _+_, _<_}
 use lib.ListN.{length}
 use Rattle.line.specs.Limits.{longest-form}
 use Rattle.supervisor.specs.Calls.{Parts}
-use Rattle.requests.specs.Receive.{Ended}
+use Rattle.responder.specs.Receive.{Ended}
 use Rattle.counters.specs.declared.Counters.{Counters}
-use Rattle.counters.specs.Count.{frameEnded, isGood, isEmpty, isReason, howMany, tallyOf}
+use Rattle.counters.specs.Count.{endedByFrame, isGood, isEmpty, isReason, howMany, tallyOf}
 use Rattle.supervisor_claims.specs.Histories.{Lent, Made, made, AllTyped, startWith, OfStart}
-use Rattle.supervisor_claims.specs.FrameHistory.{joinedAll}
+use Rattle.supervisor_claims.specs.FrameHistory.{receivedSinceAll}
 use Rattle.counters_claims.specs.CountHistory.{Lending, outputsLending, leftLending, unlent}
-use Rattle.counters_claims.specs.CountHistory.{Event, plain, clear, afterAll, callsOf, allCounted, framesSince, endedAll}
+use Rattle.counters_claims.specs.CountHistory.{CountEvent, plain, clear, afterEvents, callsOfEvents, allCounted, framesSince, endedAll}
 
 -- a number for each of the nine kinds of frames that a block counts, all together
 abbrev pub nine : ((Ended → Bool) → ℕ) → ℕ
 nine n = n isGood + (n isEmpty + (n (isReason 1) + (n (isReason 2) + (n (isReason 3) + (n (isReason 4) + (n (isReason 5) + (n (isReason 6) + n (isReason 7))))))))
 
 abbrev pub CountersCount : Parts → Lent → List ℕ → Type 0
-CountersCount p l d = (block : Counters) (before : List Event) → AllTyped (callsOf before) → (ms : List Made) → AllTyped ms
-    → afterAll (record { parts = made p (startWith l d) .parts; block = block }) (before ++ clear ∷ allCounted ms) .block
-    ≡ tallyOf (endedAll (framesSince (joinedAll [] (callsOf before)) ms))
+CountersCount p l d = (block : Counters) (before : List CountEvent) → AllTyped (callsOfEvents before) → (ms : List Made) → AllTyped ms
+    → afterEvents (record { parts = made p (startWith l d) .parts; block = block }) (before ++ clear ∷ allCounted ms) .block
+    ≡ tallyOf (endedAll (framesSince (receivedSinceAll [] (callsOfEvents before)) ms))
 
 abbrev pub CountersFromStart : Parts → Lent → List ℕ → Type 0
 CountersFromStart p l d = (block : Counters) (ms : List Made) → AllTyped ms
-    → afterAll (record { parts = p; block = block }) (clear ∷ plain (startWith l d) ∷ allCounted ms) .block ≡ tallyOf (endedAll (framesSince [] ms))
+    → afterEvents (record { parts = p; block = block }) (clear ∷ plain (startWith l d) ∷ allCounted ms) .block ≡ tallyOf (endedAll (framesSince [] ms))
 
 abbrev pub OverlongOnce : Type 0
-OverlongOnce = (f : List ℕ) → longest-form < length f → frameEnded f ≡ Ended.failed 1
+OverlongOnce = (f : List ℕ) → longest-form < length f → endedByFrame f ≡ Ended.failed 1
 
 abbrev pub EachCountedOnce : Type 0
 EachCountedOnce = (fs : List (List ℕ)) → nine (λ counts. howMany counts (endedAll fs)) ≡ length fs
@@ -38,7 +38,7 @@ abbrev pub BlocksAlone : Type 0
 BlocksAlone = (p : Parts) (xs ys : List Lending) → unlent xs ≡ unlent ys
     → (outputsLending p xs ≡ outputsLending p ys) × (leftLending p xs ≡ leftLending p ys)
 
-pub record Item8 : Type 0 where
+pub record CountersItem8 : Type 0 where
   -- After an accepted start: any calls, lent the block or not, and clears of it; a clear; then any calls, lent the block wherever they take one.
   -- Each counter is the number of such frames whose 00 was received since that clear, or 4,294,967,295 where that is more (`tallyOf`).
   -- What had come of a frame before the clear counts with it; what a start drops does not (`framesSince`).

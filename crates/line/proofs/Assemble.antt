@@ -13,7 +13,7 @@ use Rattle.octets.proofs.Overlay.{length-overlay, overlay-inside, overlay-next,
 use Rattle.line.specs.Limits.{header-length, longest-data}
 use Rattle.line.specs.Checksum.{checksum}
 use Rattle.line.specs.Message.{magic, body, message}
-use Rattle.line.specs.Writer.{messageOf}
+use Rattle.line.specs.Writer.{messageOfParts}
 use Rattle.line.proofs.Message.{length-body}
 
 -- t is s with the bytes xs laid at its start; at is the offset after them
@@ -50,7 +50,7 @@ header v q k = ((bytes 4 magic ++ bytes 4 v) ++ bytes 8 q) ++ k ∷ []
 length-header : (v q k : ℕ) → length (header v q k) ≡ header-length
 length-header v q k = simp (length-append, length-bytes)
 
-header-body : (v q k : ℕ) (h r : List ℕ) → k < 256 → (header v q k ++ h) ++ r ≡ body (messageOf v q k h r)
+header-body : (v q k : ℕ) (h r : List ℕ) → k < 256 → (header v q k ++ h) ++ r ≡ body (messageOfParts v q k h r)
 unfolding body bytes
 header-body v q k h r l =
     let e : k % 256 ≡ k = omega arith in
@@ -66,10 +66,10 @@ pub assembled : (v q k : ℕ) (h r s : List ℕ) {s₁ s₂ s₃ s₄ s₅ s₆ 
     → s₁ ≡ put 0 (bytes 4 magic) s → s₂ ≡ put 4 (bytes 4 v) s₁ → s₃ ≡ put 8 (bytes 8 q) s₂
     → s₄ ≡ copied h 0 (length h) (set s₃ 16 k) header-length → s₅ ≡ copied r 0 (length r) s₄ (header-length + length h)
     → sum ≡ checksum (take (end h r) s₅) → s₆ ≡ put (end h r) (bytes 2 sum) s₅
-    → take (end h r + 2) s₆ ≡ message (messageOf v q k h r)
+    → take (end h r + 2) s₆ ≡ message (messageOfParts v q k h r)
 unfolding message
 assembled v q k h r s {sum} l f n e₁ e₂ e₃ e₄ e₅ c e₆ =
-    let b = body (messageOf v q k h r) in
+    let b = body (messageOfParts v q k h r) in
     let i₁ = e₁ ∙ lay [] s 0 refl (sym (overlay-none 0 s)) (bytes 4 magic) (simp length-bytes (omega arith)) in
     let i₂ = e₂ ∙ lay _ s 4 (simp length-bytes) i₁ (bytes 4 v) (simp length-bytes (omega arith)) in
     let i₃ = e₃ ∙ lay _ s 8 (simp (length-append, length-bytes)) i₂ (bytes 8 q) (simp length-bytes (omega arith)) in
@@ -77,7 +77,7 @@ assembled v q k h r s {sum} l f n e₁ e₂ e₃ e₄ e₅ c e₆ =
     let i₄ = e₄ ∙ lay-copy (header v q k) s header-length (length-header v q k) i h (omega arith) in
     let i₅ = e₅ ∙ lay-copy _ s (header-length + length h) (simp (length-append, length-bytes)) i₄ r (omega arith) in
     let j = rw (header-body v q k h r l) at i₅ in
-    let w : length b ≡ end h r = omega (arith, length-body (messageOf v q k h r), length-append h r) in
+    let w : length b ≡ end h r = omega (arith, length-body (messageOfParts v q k h r), length-append h r) in
     let y = laid-bytes b s _ w j in
     let i₆ = e₆ ∙ lay b s _ w j (bytes 2 sum) (simp length-bytes (omega arith)) in
     let z = laid-bytes (b ++ bytes 2 sum) s (end h r + 2) (simp (length-append, length-bytes, w)) i₆ in

@@ -11,7 +11,7 @@ use lib.Seq.{drop-cons, drop-drop, take-all, take-suc, take-suc-set, drop-set-lt
 use Rattle.octets.specs.Bytes.{run}
 use Rattle.octets.proofs.Overlay.{run-more, run-add, length-run}
 use Rattle.line.specs.Checksum.{sums}
-use Rattle.line.specs.Columns.{columns, rows, block-length, total, weighted, added, AtMost, Addable}
+use Rattle.line.specs.Columns.{columns, column-rows, block-length, total, weighted, addedRow, AtMost, Addable}
 use Rattle.line.specs.Columns.{most}
 use Rattle.line.specs.Item3.{SumsAppend, AllFit}
 
@@ -99,36 +99,36 @@ at-most-set most (x ∷ xs) (suc i) v h e zero = e zero
 at-most-set most (x ∷ xs) (suc i) v h e (suc k) = at-most-set most xs i v h (λ j. e (suc j)) k
 
 pub added-next : (xs cs : List ℕ) (i v : ℕ) {all : List ℕ} → i < length xs → i < length cs → v ≡ getD cs i 0 + getD xs i 0
-    → all ≡ take i cs ++ added (drop i xs) (drop i cs) → all ≡ take (i + 1) (set cs i v) ++ added (drop (i + 1) xs) (drop (i + 1) (set cs i v))
-unfolding added
+    → all ≡ take i cs ++ addedRow (drop i xs) (drop i cs) → all ≡ take (i + 1) (set cs i v) ++ addedRow (drop (i + 1) xs) (drop (i + 1) (set cs i v))
+unfolding addedRow
 added-next xs cs i v h k e f =
     rw (add-one, take-suc-set cs i v k, drop-set-lt (suc i) cs i v (omega arith), append-snoc, e) (rw (drop-cons xs i 0 h, drop-cons cs i 0 k) at f)
 
-pub added-end : (xs cs : List ℕ) (i : ℕ) {all : List ℕ} → length xs ≤ i → length cs ≤ i → all ≡ take i cs ++ added (drop i xs) (drop i cs) → cs ≡ all
-unfolding added
+pub added-end : (xs cs : List ℕ) (i : ℕ) {all : List ℕ} → length xs ≤ i → length cs ≤ i → all ≡ take i cs ++ addedRow (drop i xs) (drop i cs) → cs ≡ all
+unfolding addedRow
 added-end xs cs i h k e = sym (rw (drop-of-length-le xs h, drop-of-length-le cs k, take-all i cs k, append-nil) at e)
 
-length-added : (xs cs : List ℕ) → length (added xs cs) ≡ length cs
-unfolding added
+length-added : (xs cs : List ℕ) → length (addedRow xs cs) ≡ length cs
+unfolding addedRow
 length-added [] cs = refl
 length-added (x ∷ xs) [] = refl
 length-added (x ∷ xs) (c ∷ cs) = ap suc (length-added xs cs)
 
-total-added : (xs cs : List ℕ) → length xs ≡ length cs → total (added xs cs) ≡ total xs + total cs
-unfolding total added
+total-added : (xs cs : List ℕ) → length xs ≡ length cs → total (addedRow xs cs) ≡ total xs + total cs
+unfolding total addedRow
 total-added [] cs h = omega arith
 total-added (x ∷ xs) [] h = omega arith
 total-added (x ∷ xs) (c ∷ cs) h = omega (arith, total-added xs cs (omega arith))
 
-weighted-added : (xs cs : List ℕ) → length xs ≡ length cs → weighted (added xs cs) ≡ weighted xs + weighted cs
-unfolding weighted added
+weighted-added : (xs cs : List ℕ) → length xs ≡ length cs → weighted (addedRow xs cs) ≡ weighted xs + weighted cs
+unfolding weighted addedRow
 weighted-added [] cs h = omega arith
 weighted-added (x ∷ xs) [] h = omega arith
 weighted-added (x ∷ xs) (c ∷ cs) h =
     let e : length xs ≡ length cs = omega arith in rw (length-added xs cs, e, mul-add) (omega (arith, weighted-added xs cs (omega arith)))
 
-at-most-added : (a b : ℕ) (xs cs : List ℕ) → AtMost a xs → AtMost b cs → AtMost (a + b) (added xs cs)
-unfolding added
+at-most-added : (a b : ℕ) (xs cs : List ℕ) → AtMost a xs → AtMost b cs → AtMost (a + b) (addedRow xs cs)
+unfolding addedRow
 at-most-added a b [] cs h e k = omega (arith, e k)
 at-most-added a b (x ∷ xs) [] h e k = omega (arith, e k)
 at-most-added a b (x ∷ xs) (c ∷ cs) h e zero = omega (arith, h zero, e zero)
@@ -171,39 +171,39 @@ summed-none =
       second = refl;
     }
 
-module _ (n : ℕ) (bs xs firsts seconds : List ℕ) (h : n < rows) (k : length xs ≡ columns) (l : AtMost 255 xs) (e : Summed n bs firsts seconds) where
+module _ (n : ℕ) (bs xs firsts seconds : List ℕ) (h : n < column-rows) (k : length xs ≡ columns) (l : AtMost 255 xs) (e : Summed n bs firsts seconds) where
   -- both sums have room for a row more
   pub first-addable : Addable firsts xs
   first-addable = (e .first-length, k, λ j. omega (arith, e .first-most j, l j))
 
-  first-more : AtMost (255 * (n + 1)) (added xs firsts)
+  first-more : AtMost (255 * (n + 1)) (addedRow xs firsts)
   first-more j = omega (arith, at-most-added 255 (255 * n) xs firsts l (e .first-most) j)
 
-  pub second-addable : (ones : List ℕ) → ones ≡ added xs firsts → Addable seconds ones
+  pub second-addable : (ones : List ℕ) → ones ≡ addedRow xs firsts → Addable seconds ones
   second-addable ones f =
       rw f (
         e .second-length,
         length-added xs firsts ∙ e .first-length,
-        λ j. omega (arith, e .second-most j, first-more j, most-more n, most-up (n + 1) rows (omega arith), all-fit),
+        λ j. omega (arith, e .second-most j, first-more j, most-more n, most-up (n + 1) column-rows (omega arith), all-fit),
       )
 
-  summed-row : Summed (n + 1) (bs ++ xs) (added xs firsts) (added (added xs firsts) seconds)
+  summed-row : Summed (n + 1) (bs ++ xs) (addedRow xs firsts) (addedRow (addedRow xs firsts) seconds)
   summed-row =
-      let t : total (added xs firsts) ≡ total xs + total firsts = total-added xs firsts (omega arith) in
-      let w : weighted (added xs firsts) ≡ weighted xs + weighted firsts = weighted-added xs firsts (omega arith) in
+      let t : total (addedRow xs firsts) ≡ total xs + total firsts = total-added xs firsts (omega arith) in
+      let w : weighted (addedRow xs firsts) ≡ weighted xs + weighted firsts = weighted-added xs firsts (omega arith) in
       record {
         first-length = length-added xs firsts ∙ e .first-length;
-        second-length = length-added (added xs firsts) seconds ∙ e .second-length;
+        second-length = length-added (addedRow xs firsts) seconds ∙ e .second-length;
         first-most = first-more;
-        second-most = rw (most-more n) (at-most-added (255 * (n + 1)) (most n) (added xs firsts) seconds first-more (e .second-most));
+        second-most = rw (most-more n) (at-most-added (255 * (n + 1)) (most n) (addedRow xs firsts) seconds first-more (e .second-most));
         first = omega (arith, total-append bs xs);
         second =
-            omega (arith, total-added (added xs firsts) seconds (omega (arith, length-added xs firsts)), rw k at (weighted-append bs xs));
+            omega (arith, total-added (addedRow xs firsts) seconds (omega (arith, length-added xs firsts)), rw k at (weighted-append bs xs));
       }
 
 -- one row more of the block from an offset on
-pub summed-next : (n at : ℕ) (s xs firsts seconds ones twos : List ℕ) → n < rows → xs ≡ run (at + n * columns) columns s → length xs ≡ columns
-    → AtMost 255 xs → ones ≡ added xs firsts → twos ≡ added ones seconds → Summed n (run at (n * columns) s) firsts seconds
+pub summed-next : (n at : ℕ) (s xs firsts seconds ones twos : List ℕ) → n < column-rows → xs ≡ run (at + n * columns) columns s → length xs ≡ columns
+    → AtMost 255 xs → ones ≡ addedRow xs firsts → twos ≡ addedRow ones seconds → Summed n (run at (n * columns) s) firsts seconds
     → Summed (n + 1) (run at ((n + 1) * columns) s) ones twos
 summed-next n at s xs firsts seconds ones twos h e k l f g i =
     let m : (n + 1) * columns ≡ n * columns + columns = omega arith in
@@ -211,7 +211,7 @@ summed-next n at s xs firsts seconds ones twos h e k l f g i =
 
 -- all rows of the block from an offset on: what the definition's sums are behind it
 pub summed-block : (s firsts seconds : List ℕ) (at first second one two weight : ℕ) → at + block-length ≤ length s → first < 255 → second < 255
-    → Summed rows (run at block-length s) firsts seconds → one ≡ total firsts → weight ≡ weighted firsts → two ≡ total seconds
+    → Summed column-rows (run at block-length s) firsts seconds → one ≡ total firsts → weight ≡ weighted firsts → two ≡ total seconds
     → sums ((first + one) % 255) ((second + first * block-length + (two * columns + weight - one * columns)) % 255) (drop (at + block-length) s)
     ≡ sums first second (drop at s)
 summed-block s firsts seconds at first second one two weight h k l e f g i =

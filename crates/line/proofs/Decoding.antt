@@ -14,7 +14,7 @@ use borrow.Author.Tests.{eq-eqb, ne-eqb}
 use Rattle.octets.specs.Bytes.{run, equal}
 use Rattle.line.specs.declared.cobs.Measured.{Measured}
 use Rattle.line.specs.declared.cobs.Measured.the-variants.{Bad, Length}
-use Rattle.line.specs.Cobs.{zeros, lastOneAfterFull, groupBytes, uncobs}
+use Rattle.line.specs.Cobs.{impliedZero, lastOneAfterFull, groupBytes, uncobs}
 use Rattle.line.specs.Decoding.{one-if, measured, plainGroup, plain}
 use Rattle.line.proofs.Alike.{alike-next}
 
@@ -43,7 +43,7 @@ gives-end (suc left) z = tt
 gives-plain : (left : ℕ) (z : Bool) (bs : List ℕ) → Gives (groupBytes left z bs) (plainGroup left z bs)
 unfolding groupBytes plainGroup
 gives-plain left z [] = gives-end left z
-gives-plain zero z (c ∷ cs) = gives-unless (eqb c 0 || lastOneAfterFull c cs) _ _ (gives-map (zeros z) _ _ (gives-plain (c - 1) (ltb c 255) cs))
+gives-plain zero z (c ∷ cs) = gives-unless (eqb c 0 || lastOneAfterFull c cs) _ _ (gives-map (impliedZero z) _ _ (gives-plain (c - 1) (ltb c 255) cs))
 gives-plain (suc left) z (b ∷ bs) = gives-map (b ∷ []) _ _ (gives-plain left z bs)
 
 bad-none : (r : Option (List ℕ)) → Bad ≡ measured r → r ≡ none
@@ -69,7 +69,7 @@ pub one-if-most : (z : Bool) → one-if z ≤ 1
 one-if-most true = omega arith
 one-if-most false = omega arith
 
-pub length-zeros : (z : Bool) → length (zeros z) ≡ one-if z
+pub length-zeros : (z : Bool) → length (impliedZero z) ≡ one-if z
 length-zeros true = refl
 length-zeros false = refl
 
@@ -141,7 +141,7 @@ unfolding groupBytes
 code-last z c cs e = rw (e, or-true)
 
 code-other : (z : Bool) (c : ℕ) (cs : List ℕ) → (c ≡ 0 → ⊥) → lastOneAfterFull c cs ≡ false
-    → groupBytes 0 z (c ∷ cs) ≡ Option·map (λ xs. zeros z ++ xs) (groupBytes (c - 1) (ltb c 255) cs)
+    → groupBytes 0 z (c ∷ cs) ≡ Option·map (λ xs. impliedZero z ++ xs) (groupBytes (c - 1) (ltb c 255) cs)
 unfolding groupBytes
 code-other z c cs e l = rw (ne-eqb c 0 e, l)
 
@@ -159,7 +159,7 @@ ones-behind (suc j) o cs =
 ones-counted : (z : Bool) (j o : ℕ) (cs : List ℕ)
     → counted o (groupBytes 0 z (replicate (suc j) 1 ++ cs)) ≡ counted (o + one-if z + j) (groupBytes 0 true cs)
 unfolding groupBytes
-ones-counted z j o cs = counted-map o (zeros z) (groupBytes 0 true (replicate j 1 ++ cs)) ∙ rw length-zeros (ones-behind j (o + one-if z) cs)
+ones-counted z j o cs = counted-map o (impliedZero z) (groupBytes 0 true (replicate j 1 ++ cs)) ∙ rw length-zeros (ones-behind j (o + one-if z) cs)
 
 -- ---- the group at an offset of the first n bytes of s
 
@@ -205,7 +205,7 @@ module _ (s : List ℕ) (n i : ℕ) where
           rw (
             at-code,
             code-other z c (slice (i + 1) n s) f (sym g),
-            counted-map o (zeros z),
+            counted-map o (impliedZero z),
             length-zeros,
             counted-run (c - 1) (o + one-if z) (ltb c 255) (slice (i + 1) n s) (omega arith),
             drop-drop,

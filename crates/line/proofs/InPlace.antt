@@ -11,7 +11,7 @@ use lib.ListN.{length, take, drop, getD, set, replicate, length-append, length-r
 use lib.Seq.{slice, length-slice, drop-drop}
 use Rattle.octets.specs.Bytes.{run, overlay, movedDown}
 use Rattle.octets.proofs.Overlay.{length-run, length-overlay, overlay-none, overlay-after, overlay-next, overlay-more, overlay-getD-after, movedDown-fits}
-use Rattle.line.specs.Cobs.{zeros}
+use Rattle.line.specs.Cobs.{impliedZero}
 use Rattle.line.specs.Decoding.{one-if, plainGroup, plain}
 use Rattle.line.proofs.Alike.{run-within, alike-next}
 use Rattle.line.proofs.Decoding.{one-if-most, length-zeros, holds-test, slice-next, slice-past}
@@ -29,13 +29,13 @@ plain-run (suc left) (suc k) z (b ∷ bs) e = ap (λ (l : List ℕ). b ∷ l) (p
 
 -- a code byte and the bytes of its group
 plain-code : (z : Bool) (c k : ℕ) (cs : List ℕ) → k ≡ min (c - 1) (length cs)
-    → plainGroup 0 z (c ∷ cs) ≡ zeros z ++ (take k cs ++ plainGroup 0 (ltb c 255) (drop k cs))
+    → plainGroup 0 z (c ∷ cs) ≡ impliedZero z ++ (take k cs ++ plainGroup 0 (ltb c 255) (drop k cs))
 unfolding plainGroup
-plain-code z c k cs e = ap (λ (l : List ℕ). zeros z ++ l) (plain-run (c - 1) k (ltb c 255) cs e)
+plain-code z c k cs e = ap (λ (l : List ℕ). impliedZero z ++ l) (plain-run (c - 1) k (ltb c 255) cs e)
 
 -- a held zero, put after the bytes decoded
 zero-put : (z : Bool) (d s : List ℕ) → length d < length s
-    → cond z (set (overlay 0 d s) (length d) 0) (overlay 0 d s) ≡ overlay 0 (d ++ zeros z) s
+    → cond z (set (overlay 0 d s) (length d) 0) (overlay 0 d s) ≡ overlay 0 (d ++ impliedZero z) s
 zero-put true d s h = rw zero-add at (overlay-more 0 0 d s (omega arith))
 zero-put false d s h = rw append-nil
 
@@ -48,20 +48,20 @@ run-moved d s from k h l =
     movedDown-fits (overlay 0 d s) from (length d) k h (omega arith)
     ∙ rw (overlay-after 0 from k d s (omega arith) (omega arith)) (rw zero-add at n)
 
-length-held : (d : List ℕ) (z : Bool) → length (d ++ zeros z) ≡ length d + one-if z
+length-held : (d : List ℕ) (z : Bool) → length (d ++ impliedZero z) ≡ length d + one-if z
 length-held d z = simp (length-append, length-zeros)
 
 -- one group, put after the bytes decoded
 group-put : (z : Bool) (d s : List ℕ) (from k : ℕ) → length d + one-if z ≤ from → length d < length s → from + k ≤ length s
     → movedDown (cond z (set (overlay 0 d s) (length d) 0) (overlay 0 d s)) from (length d + one-if z) k
-    ≡ overlay 0 ((d ++ zeros z) ++ run from k s) s
+    ≡ overlay 0 ((d ++ impliedZero z) ++ run from k s) s
 group-put z d s from k h l f =
     let e = length-held d z in
-    rw (zero-put z d s l, ← e) (run-moved (d ++ zeros z) s from k (omega arith) f)
+    rw (zero-put z d s l, ← e) (run-moved (d ++ impliedZero z) s from k (omega arith) f)
 
 -- one group, read at an offset of the first n bytes of s
 group-read : (z : Bool) (s : List ℕ) (n i c k : ℕ) → i < n → n ≤ length s → c ≡ getD s i 0 → k ≡ min (c - 1) (n - (i + 1))
-    → plainGroup 0 z (slice i n s) ≡ zeros z ++ (run (i + 1) k s ++ plainGroup 0 (leb c 254) (slice (i + 1 + k) n s))
+    → plainGroup 0 z (slice i n s) ≡ impliedZero z ++ (run (i + 1) k s ++ plainGroup 0 (leb c 254) (slice (i + 1 + k) n s))
 group-read z s n i c k h l e f =
     let u = length-slice (i + 1) n s l in
     let p = plain-code z c k (slice (i + 1) n s) (omega arith) in
@@ -96,8 +96,8 @@ middle-next s n t z o i c k m h l e f =
     let q = length-held d z in
     let r = length-run (i + 1) k s (omega arith) in
     record {
-      decoded = (d ++ zeros z) ++ run (i + 1) k s;
-      long = length-append (d ++ zeros z) (run (i + 1) k s) ∙ rw (q, r, m .long);
+      decoded = (d ++ impliedZero z) ++ run (i + 1) k s;
+      long = length-append (d ++ impliedZero z) (run (i + 1) k s) ∙ rw (q, r, m .long);
       behind = omega (arith, one-if-most (leb c 254));
       stands = rw (m .stands, ← m .long) (group-put z d s (i + 1) k (omega arith) (omega arith) (omega arith));
       whole = m .whole ∙ rw (group-read z s n i c k h l (e ∙ p) f) (simp append-assoc);

@@ -18,7 +18,7 @@ use Rattle.line.specs.Message.{magic}
 use Rattle.line.specs.Judge.{bodyOf, checksumOf, magicOf, versionOf, sequenceOf, commandOf, payloadOf, fields, wrongLength, judgeForm, judge}
 use Rattle.line.specs.Cobs.{uncobs}
 use Rattle.line.specs.Decoding.{measured, plain}
-use Rattle.line.specs.Reader.{frame-offset, state-length, Report, failed, message, verdictReport, settled, unpacked, settle}
+use Rattle.line.specs.Reader.{frame-offset, reader-length, ReadReport, failed, message, verdictReport, frameOutcome, unpacked, finishForm}
 use Rattle.line.specs.declared.cobs.Measured.{Measured}
 use Rattle.line.specs.declared.cobs.Measured.the-variants.{Bad, Length}
 use Rattle.line.proofs.Decoding.{measured-bad, measured-length}
@@ -56,7 +56,7 @@ module _ (xs : List ℕ) (k : ℕ) (e : length xs ≡ k) (h : shortest-message �
 
 -- ---- a frame of at most 4,140 bytes
 
-pub form-fits : (s : List ℕ) (n : ℕ) → state-length ≤ length s → n ≤ longest-form → length (run frame-offset n s) ≤ longest-form
+pub form-fits : (s : List ℕ) (n : ℕ) → reader-length ≤ length s → n ≤ longest-form → length (run frame-offset n s) ≤ longest-form
 form-fits s n h l = omega (arith, length-run frame-offset n s (omega arith))
 
 module _ (form s : List ℕ) (l : length form ≤ longest-form) where
@@ -64,39 +64,39 @@ module _ (form s : List ℕ) (l : length form ≤ longest-form) where
   unfolding judge
   judge-form = rw (le-ltb longest-form (length form) l)
 
-  settle-none : uncobs form ≡ none → settled (failed 1 none) s ≡ settle form s
-  unfolding settle verdictReport judgeForm unpacked
-  settle-none e = rw (judge-form, e)
+  finish-none : uncobs form ≡ none → frameOutcome (failed 1 none) s ≡ finishForm form s
+  unfolding finishForm verdictReport judgeForm unpacked
+  finish-none e = rw (judge-form, e)
 
   module _ (xs : List ℕ) (e : uncobs form ≡ some xs) where
-    settle-length : wrongLength xs ≡ true → settled (failed 3 none) s ≡ settle form s
-    unfolding settle verdictReport judgeForm unpacked
-    settle-length t = rw (judge-form, e, t)
+    finish-length : wrongLength xs ≡ true → frameOutcome (failed 3 none) s ≡ finishForm form s
+    unfolding finishForm verdictReport judgeForm unpacked
+    finish-length t = rw (judge-form, e, t)
 
-    settle-message : wrongLength xs ≡ false → settled (verdictReport (judgeForm (some xs))) (overlay frame-offset xs s) ≡ settle form s
-    unfolding settle unpacked
-    settle-message t = rw (judge-form, e, t)
+    finish-message : wrongLength xs ≡ false → frameOutcome (verdictReport (judgeForm (some xs))) (overlay frame-offset xs s) ≡ finishForm form s
+    unfolding finishForm unpacked
+    finish-message t = rw (judge-form, e, t)
 
   -- as the length of what the frame decodes to is found
   module _ {m : Measured} (e : m ≡ measured (uncobs form)) where
-    pub settle-bad : m ≡ Bad → settled (failed 1 none) s ≡ settle form s
-    settle-bad b = settle-none (measured-bad form (sym b ∙ e))
+    pub finish-bad : m ≡ Bad → frameOutcome (failed 1 none) s ≡ finishForm form s
+    finish-bad b = finish-none (measured-bad form (sym b ∙ e))
 
     module _ {k : ℕ} (b : m ≡ Length k) where
-      pub settle-short : k < shortest-message → settled (failed 3 none) s ≡ settle form s
-      settle-short h =
+      pub finish-short : k < shortest-message → frameOutcome (failed 3 none) s ≡ finishForm form s
+      finish-short h =
           let p = measured-length form k (sym b ∙ e) in
-          settle-length (plain form) (p .0) (rw (p .1, lt-ltb k shortest-message h))
+          finish-length (plain form) (p .0) (rw (p .1, lt-ltb k shortest-message h))
 
-      pub settle-long : longest-message < k → settled (failed 3 none) s ≡ settle form s
-      settle-long h =
+      pub finish-long : longest-message < k → frameOutcome (failed 3 none) s ≡ finishForm form s
+      finish-long h =
           let p = measured-length form k (sym b ∙ e) in
-          settle-length (plain form) (p .0) (rw (p .1, lt-ltb longest-message k h, or-true))
+          finish-length (plain form) (p .0) (rw (p .1, lt-ltb longest-message k h, or-true))
 
-      pub settle-fits : shortest-message ≤ k → k ≤ longest-message → frame-offset ≤ length s → {t : List ℕ} {a : Report}
-          → t ≡ overlay frame-offset (plain form) s → a ≡ verdictReport (judgeForm (some (run frame-offset k t))) → settled a t ≡ settle form s
-      settle-fits h j i u v =
+      pub finish-fits : shortest-message ≤ k → k ≤ longest-message → frame-offset ≤ length s → {t : List ℕ} {a : ReadReport}
+          → t ≡ overlay frame-offset (plain form) s → a ≡ verdictReport (judgeForm (some (run frame-offset k t))) → frameOutcome a t ≡ finishForm form s
+      finish-fits h j i u v =
           let p = measured-length form k (sym b ∙ e) in
-          let w = settle-message (plain form) (p .0) (rw (p .1, le-ltb k shortest-message h, le-ltb longest-message k j)) in
+          let w = finish-message (plain form) (p .0) (rw (p .1, le-ltb k shortest-message h, le-ltb longest-message k j)) in
           let o = rw (p .1) at (overlay-inside frame-offset (plain form) s i) in
           cc

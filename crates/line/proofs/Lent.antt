@@ -16,8 +16,8 @@ use Rattle.octets.proofs.Overlay.{length-overlay, overlay-append, run-append}
 use Rattle.line.specs.Limits.{shortest-message, longest-message, longest-data, longest-form}
 use Rattle.line.specs.Judge.{wrongLength}
 use Rattle.line.specs.Cobs.{uncobs}
-use Rattle.line.specs.Reader.{frame-offset, state-length, overlong, count, counted, kept, valid, pushed}
-use Rattle.line.specs.Reader.{Settled, settled, unpacked, settle, finish, data-offset, dataRefusal, partOf, dataOf}
+use Rattle.line.specs.Reader.{frame-offset, reader-length, overlong, receivedCount, withCount, receivedBytes, validReader, pushed}
+use Rattle.line.specs.Reader.{FrameOutcome, frameOutcome, unpacked, finishForm, finish, data-offset, dataRefusal, partOf, dataPromise}
 use Rattle.line.proofs.State.{length-counted}
 
 -- bytes with a message's length
@@ -33,31 +33,31 @@ fit-length xs e =
 -- ---- a state in two parts
 
 -- what a 00 gives, with bytes behind the state
-abbrev behind : List ℕ → Settled → Settled
-behind u x = settled (x .answer) (x .state ++ u)
+abbrev behind : List ℕ → FrameOutcome → FrameOutcome
+behind u x = frameOutcome (x .answer) (x .state ++ u)
 
-module _ (t u : List ℕ) (h : state-length ≤ length t) where
-  pub count-append : count (t ++ u) ≡ count t
-  unfolding count
+module _ (t u : List ℕ) (h : reader-length ≤ length t) where
+  pub count-append : receivedCount (t ++ u) ≡ receivedCount t
+  unfolding receivedCount
   count-append = rw (run-append t u 0 2 (omega arith))
 
-  counted-append : (n : ℕ) → counted n (t ++ u) ≡ counted n t ++ u
-  unfolding counted
+  counted-append : (n : ℕ) → withCount n (t ++ u) ≡ withCount n t ++ u
+  unfolding withCount
   counted-append n = let l = length-bytes 2 n in overlay-append t u 0 (bytes 2 n) (omega arith)
 
-  kept-append : count t ≤ longest-form → kept (t ++ u) ≡ kept t
-  unfolding kept
-  kept-append k = rw (count-append, run-append t u frame-offset (count t) (omega arith))
+  kept-append : receivedCount t ≤ longest-form → receivedBytes (t ++ u) ≡ receivedBytes t
+  unfolding receivedBytes
+  kept-append k = rw (count-append, run-append t u frame-offset (receivedCount t) (omega arith))
 
-  pub valid-append : valid (t ++ u) ≡ valid t
-  unfolding valid
-  valid-append = rw (count-append, le-leb state-length (length t) h, le-leb state-length (length (t ++ u)) (simp length-append (omega arith)))
+  pub valid-append : validReader (t ++ u) ≡ validReader t
+  unfolding validReader
+  valid-append = rw (count-append, le-leb reader-length (length t) h, le-leb reader-length (length (t ++ u)) (simp length-append (omega arith)))
 
-  pub dataOf-append : (n : ℕ) → dataOf (t ++ u) n ≡ dataOf t n
-  unfolding dataOf dataRefusal partOf
+  pub dataOf-append : (n : ℕ) → dataPromise (t ++ u) n ≡ dataPromise t n
+  unfolding dataPromise dataRefusal partOf
   dataOf-append n =
       rw valid-append
-      (cond-by Same (valid t) _ _
+      (cond-by Same (validReader t) _ _
       (λ v. cond-by Same (ltb longest-data n) _ _ (λ e. refl) (λ e.
       let k = ltb-false longest-data n e in
       run-append t u data-offset n (omega arith)))
@@ -74,23 +74,23 @@ module _ (t u : List ℕ) (h : state-length ≤ length t) where
       let l = fit-length xs e in
       overlay-append t u frame-offset xs (omega arith))
 
-module _ (t u : List ℕ) (h : state-length ≤ length t) where
+module _ (t u : List ℕ) (h : reader-length ≤ length t) where
   pub pushed-append : (b : ℕ) → pushed (t ++ u) b ≡ pushed t b ++ u
   unfolding pushed
   pushed-append b =
       rw (count-append t u h)
-      (cond-map (λ (x : List ℕ). x ++ u) (ltb (count t) longest-form)
+      (cond-map (λ (x : List ℕ). x ++ u) (ltb (receivedCount t) longest-form)
       (λ e.
-      let k = ltb-true (count t) longest-form e in
-      let l = length-overlay (frame-offset + count t) (b ∷ []) t (omega arith) in
-      rw (overlay-append t u (frame-offset + count t) (b ∷ []) (omega arith)) (counted-append _ u (omega arith) (count t + 1)))
+      let k = ltb-true (receivedCount t) longest-form e in
+      let l = length-overlay (frame-offset + receivedCount t) (b ∷ []) t (omega arith) in
+      rw (overlay-append t u (frame-offset + receivedCount t) (b ∷ []) (omega arith)) (counted-append _ u (omega arith) (receivedCount t + 1)))
       (λ e. counted-append t u h overlong))
 
   pub finish-append : finish (t ++ u) ≡ behind u (finish t)
-  unfolding finish settle
+  unfolding finish finishForm
   finish-append =
-      let l : length (counted 0 t) ≡ length t = length-counted 0 t (omega arith) in
+      let l : length (withCount 0 t) ≡ length t = length-counted 0 t (omega arith) in
       rw (count-append t u h, counted-append t u h 0)
-      (cond-map (behind u) (eqb (count t) 0) (λ e. refl) (λ e.
-      cond-map (behind u) (ltb longest-form (count t)) (λ f. refl) (λ f.
-      rw (kept-append t u h (ltb-false longest-form (count t) f), unpacked-append (counted 0 t) u (omega arith) (uncobs (kept t))))))
+      (cond-map (behind u) (eqb (receivedCount t) 0) (λ e. refl) (λ e.
+      cond-map (behind u) (ltb longest-form (receivedCount t)) (λ f. refl) (λ f.
+      rw (kept-append t u h (ltb-false longest-form (receivedCount t) f), unpacked-append (withCount 0 t) u (omega arith) (uncobs (receivedBytes t))))))

@@ -10,11 +10,11 @@ use lib.ListN.{length, take}
 use lib.Seq.{take-length}
 use borrow.Author.Tests.{ne-eqb}
 use Rattle.line.specs.Runs.{nonzero}
-use Rattle.line.specs.Reader.{Report, refused, more, valid, pushed, pushes, Settled, settled, finish, Outcome, next, readPiece, reading}
+use Rattle.line.specs.Reader.{ReadReport, refused, more, validReader, pushed, pushedAll, FrameOutcome, frameOutcome, finish, ReadOutcome, oneByteLater, readPiece, readPromise}
 use Rattle.line.proofs.Runs.{nonzero-length}
 use Rattle.line.proofs.State.{Ready, valid-ready, ready-pushes}
 
-abbrev pub outcomeOf : ℕ → Report → List ℕ → Outcome
+abbrev pub outcomeOf : ℕ → ReadReport → List ℕ → ReadOutcome
 outcomeOf n a s = record { used = n; answer = a; state = s }
 
 -- the bytes ahead of a piece's first 00
@@ -24,36 +24,36 @@ ahead p = nonzero (length p) p
 pub ahead-most : (p : List ℕ) → length (ahead p) ≤ length p
 ahead-most p = nonzero-length (length p) p
 
-read-next : (s : List ℕ) (b : ℕ) (p : List ℕ) → readPiece s (suc b ∷ p) ≡ next (readPiece (pushed s (suc b)) p)
+read-next : (s : List ℕ) (b : ℕ) (p : List ℕ) → readPiece s (suc b ∷ p) ≡ oneByteLater (readPiece (pushed s (suc b)) p)
 unfolding readPiece
 read-next s b p = rw (ne-eqb (suc b) 0 (λ e. omega arith))
 
-pub read-more : (s p : List ℕ) → length (ahead p) ≡ length p → outcomeOf (length p) more (pushes s p) ≡ readPiece s p
-unfolding readPiece next pushes nonzero
+pub read-more : (s p : List ℕ) → length (ahead p) ≡ length p → outcomeOf (length p) more (pushedAll s p) ≡ readPiece s p
+unfolding readPiece oneByteLater pushedAll nonzero
 read-more s [] e = refl
 read-more s (zero ∷ p) e = absurd (omega arith)
-read-more s (suc b ∷ p) e = ap next (read-more (pushed s (suc b)) p (omega arith)) ∙ sym (read-next s b p)
+read-more s (suc b ∷ p) e = ap oneByteLater (read-more (pushed s (suc b)) p (omega arith)) ∙ sym (read-next s b p)
 
 -- what the 00 behind the first n bytes of a piece gives
-abbrev pub stopped : List ℕ → ℕ → List ℕ → Outcome
-stopped s n p = outcomeOf (suc n) (finish (pushes s (take n p)) .answer) (finish (pushes s (take n p)) .state)
+abbrev pub stopped : List ℕ → ℕ → List ℕ → ReadOutcome
+stopped s n p = outcomeOf (suc n) (finish (pushedAll s (take n p)) .answer) (finish (pushedAll s (take n p)) .state)
 
 pub read-stop : (s p : List ℕ) → length (ahead p) < length p → stopped s (length (ahead p)) p ≡ readPiece s p
-unfolding readPiece next pushes nonzero
+unfolding readPiece oneByteLater pushedAll nonzero
 read-stop s [] h = absurd (omega arith)
 read-stop s (zero ∷ p) h = refl
-read-stop s (suc b ∷ p) h = ap next (read-stop (pushed s (suc b)) p (omega arith)) ∙ sym (read-next s b p)
+read-stop s (suc b ∷ p) h = ap oneByteLater (read-stop (pushed s (suc b)) p (omega arith)) ∙ sym (read-next s b p)
 
 -- ---- a call
 
-pub reading-refused : (s p : List ℕ) → valid s ≡ false → outcomeOf 0 (refused 12) s ≡ reading s p
-unfolding reading
+pub reading-refused : (s p : List ℕ) → validReader s ≡ false → outcomeOf 0 (refused 12) s ≡ readPromise s p
+unfolding readPromise
 reading-refused s p e = rw e
 
 -- n bytes of a piece, as far as its first 00, are kept in the state t
-module _ (s p : List ℕ) (v : valid s ≡ true) {n : ℕ} (e : n ≡ length (ahead p)) {t : List ℕ} (kept : t ≡ pushes s (take n p)) where
-  accepted : reading s p ≡ readPiece s p
-  unfolding reading
+module _ (s p : List ℕ) (v : validReader s ≡ true) {n : ℕ} (e : n ≡ length (ahead p)) {t : List ℕ} (kept : t ≡ pushedAll s (take n p)) where
+  accepted : readPromise s p ≡ readPiece s p
+  unfolding readPromise
   accepted = rw v
 
   pub reading-ready : Ready t
@@ -62,13 +62,13 @@ module _ (s p : List ℕ) (v : valid s ≡ true) {n : ℕ} (e : n ≡ length (ah
       let q = ready-pushes (take n p) s r in
       rw kept (omega arith, q .1)
 
-  pub reading-more : n ≡ length p → outcomeOf n more t ≡ reading s p
+  pub reading-more : n ≡ length p → outcomeOf n more t ≡ readPromise s p
   reading-more f =
       let m = read-more s p (sym e ∙ f) in
       cc (accepted, take-length p)
 
-  pub reading-stop : (n ≡ length p → ⊥) → {a : Report} {u : List ℕ} → settled a u ≡ finish t → outcomeOf (n + 1) a u ≡ reading s p
+  pub reading-stop : (n ≡ length p → ⊥) → {a : ReadReport} {u : List ℕ} → frameOutcome a u ≡ finish t → outcomeOf (n + 1) a u ≡ readPromise s p
   reading-stop f w =
       let l = ahead-most p in
       let m = read-stop s p (omega arith) in
-      cc (accepted, add-one n, ap (λ (o : Settled). o .answer) w, ap (λ (o : Settled). o .state) w)
+      cc (accepted, add-one n, ap (λ (o : FrameOutcome). o .answer) w, ap (λ (o : FrameOutcome). o .state) w)

@@ -10,7 +10,7 @@ use native.Mathlib.Omega.{arith}
 use lib.ListN.{length, take, drop, getD, length-drop}
 use lib.Seq.{drop-cons, drop-drop, take-length}
 use Rattle.octets.specs.Bytes.{Each}
-use Rattle.line.specs.Runs.{nonzero, reached}
+use Rattle.line.specs.Runs.{nonzero, runLength}
 
 -- ---- what a run is
 
@@ -62,7 +62,7 @@ nonzero-take (suc m) (suc n) (suc b ∷ xs) = simp (unary-clauses, nonzero-take 
 
 -- ---- a run byte by byte
 
-pub reached-none : (most : ℕ) (xs : List ℕ) → length (nonzero most xs) ≡ reached most 0 xs
+pub reached-none : (most : ℕ) (xs : List ℕ) → length (nonzero most xs) ≡ runLength most 0 xs
 reached-none most xs = simp (sub-zero, zero-add)
 
 nonzero-more : (most b : ℕ) (xs : List ℕ) → 0 < most → 0 < b → length (nonzero most (b ∷ xs)) ≡ suc (length (nonzero (most - 1) xs))
@@ -78,16 +78,16 @@ nonzero-zero (suc most) xs = refl
 
 -- a byte that is not zero is next, or a zero, or the run's end
 module _ (most k : ℕ) (xs : List ℕ) where
-  pub reached-more : k < most → k < length xs → 0 < getD xs k 0 → reached most k xs ≡ reached most (k + 1) xs
+  pub reached-more : k < most → k < length xs → 0 < getD xs k 0 → runLength most k xs ≡ runLength most (k + 1) xs
   reached-more h l b =
       let e : most - k - 1 ≡ most - (k + 1) = omega arith in
       let n = nonzero-more (most - k) (getD xs k 0) (drop (k + 1) xs) (omega arith) b in
       rw (drop-cons xs k 0 l, ← add-one k) (omega (arith, rw e at n))
 
-  pub reached-zero : k < length xs → getD xs k 0 ≡ 0 → reached most k xs ≡ k
+  pub reached-zero : k < length xs → getD xs k 0 ≡ 0 → runLength most k xs ≡ k
   reached-zero l e = rw (drop-cons xs k 0 l, e, nonzero-zero, add-zero)
 
-  pub reached-end : min most (length xs) ≤ k → reached most k xs ≡ k
+  pub reached-end : min most (length xs) ≤ k → runLength most k xs ≡ k
   reached-end h =
       let m = nonzero-most (most - k) (drop k xs) in
       let n = nonzero-length (most - k) (drop k xs) in
@@ -114,7 +114,7 @@ nonzero-one k xs h l b =
     nonzero-add k 1 xs h ∙ rw (drop-cons xs k 0 l) (omega (arith, m, nonzero-most 0 (drop (suc k) xs)))
 
 -- j bytes that are not zero are next
-pub reached-block : (most k j : ℕ) (xs : List ℕ) → k + j ≤ most → length (nonzero j (drop k xs)) ≡ j → reached most k xs ≡ reached most (k + j) xs
+pub reached-block : (most k j : ℕ) (xs : List ℕ) → k + j ≤ most → length (nonzero j (drop k xs)) ≡ j → runLength most k xs ≡ runLength most (k + j) xs
 reached-block most k j xs h l =
     let e : j + (most - (k + j)) ≡ most - k = omega arith in
     omega (arith, rw (e, drop-drop) at (nonzero-add j (most - (k + j)) (drop k xs) l))
@@ -124,5 +124,5 @@ pub nonzero-within : (most : ℕ) (xs : List ℕ) → nonzero most xs ≡ nonzer
 nonzero-within most xs = rw (← nonzero-take most (length xs) xs, take-length xs)
 
 -- no byte is passed
-pub reached-start : (most end : ℕ) (xs : List ℕ) → end ≡ min most (length xs) → length (nonzero most xs) ≡ reached end 0 xs
+pub reached-start : (most end : ℕ) (xs : List ℕ) → end ≡ min most (length xs) → length (nonzero most xs) ≡ runLength end 0 xs
 reached-start most end xs e = rw (nonzero-within most xs, ← e) (reached-none end xs)

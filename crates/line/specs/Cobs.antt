@@ -27,8 +27,8 @@ abbrev pub coded : Group → List ℕ
 coded g = suc (g .count) ∷ g .after
 
 -- a byte ahead of a group's others
-abbrev pub joined : ℕ → Group → Group
-joined b g = record { count = suc (g .count); after = b ∷ g .after }
+abbrev pub joinedGroups : ℕ → Group → Group
+joinedGroups b g = record { count = suc (g .count); after = b ∷ g .after }
 
 -- nothing where the message ends
 abbrev pub unlessEnd : List ℕ → List ℕ → List ℕ
@@ -40,16 +40,16 @@ unlessEnd (x ∷ xs) ys = ys
 unfoldable pub groups : ℕ → List ℕ → Group
 groups room [] = record { count = 0; after = [] }
 groups room (zero ∷ xs) = record { count = 0; after = coded (groups places-left xs) }
-groups zero (suc b ∷ xs) = joined (suc b) (record { count = 0; after = unlessEnd xs (coded (groups places-left xs)) })
-groups (suc room) (suc b ∷ xs) = joined (suc b) (groups room xs)
+groups zero (suc b ∷ xs) = joinedGroups (suc b) (record { count = 0; after = unlessEnd xs (coded (groups places-left xs)) })
+groups (suc room) (suc b ∷ xs) = joinedGroups (suc b) (groups room xs)
 
 -- the COBS form of a message
 unfoldable pub cobs : List ℕ → List ℕ
 cobs xs = coded (groups places-left xs)
 
 -- Reading. The zero that follows a group, where it holds one.
-abbrev pub zeros : Bool → List ℕ
-zeros holds = cond holds (0 ∷ []) []
+abbrev pub impliedZero : Bool → List ℕ
+impliedZero holds = cond holds (0 ∷ []) []
 
 -- whether these bytes, which follow a code byte c, are its full group and a last 01
 abbrev pub lastOneAfterFull : ℕ → List ℕ → Bool
@@ -63,7 +63,7 @@ groupBytes zero holds [] = some []
 groupBytes (suc left) holds [] = none
 groupBytes (suc left) holds (b ∷ bs) = Option·map (λ xs. b ∷ xs) (groupBytes left holds bs)
 groupBytes zero holds (c ∷ cs) =
-    cond (eqb c 0 || lastOneAfterFull c cs) none (Option·map (λ xs. zeros holds ++ xs) (groupBytes (c - 1) (ltb c full-code) cs))
+    cond (eqb c 0 || lastOneAfterFull c cs) none (Option·map (λ xs. impliedZero holds ++ xs) (groupBytes (c - 1) (ltb c full-code) cs))
 
 -- the bytes of a COBS form, unless it is none
 unfoldable pub uncobs : List ℕ → Option (List ℕ)

@@ -11,11 +11,11 @@ use Rattle.line.specs.Checksum.{sums}
 abbrev pub columns : ℕ
 columns = 16
 
-abbrev pub rows : ℕ
-rows = 16
+abbrev pub column-rows : ℕ
+column-rows = 16
 
 abbrev pub block-length : ℕ
-block-length = rows * columns
+block-length = column-rows * columns
 
 -- what bytes add to the first sum
 unfoldable pub total : List ℕ → ℕ
@@ -28,10 +28,10 @@ weighted [] = 0
 weighted (x ∷ xs) = suc (length xs) * x + weighted xs
 
 -- a row added to the columns' sums
-unfoldable pub added : List ℕ → List ℕ → List ℕ
-added [] sums = sums
-added (x ∷ xs) [] = []
-added (x ∷ xs) (sum ∷ sums) = (sum + x) ∷ added xs sums
+unfoldable pub addedRow : List ℕ → List ℕ → List ℕ
+addedRow [] sums = sums
+addedRow (x ∷ xs) [] = []
+addedRow (x ∷ xs) (sum ∷ sums) = (sum + x) ∷ addedRow xs sums
 
 abbrev pub AtMost : ℕ → List ℕ → Type 0
 AtMost most xs = (k : ℕ) → getD xs k 0 ≤ most

@@ -6,7 +6,7 @@ use mathlib.Core.Option.{Option, none, some}
 use Prim.Native.Nat.{ℕ, zero, suc, _-_}
 use lib.Dec.{ltb}
 use lib.ListN.{length}
-use Rattle.line.specs.Cobs.{full-code, zeros}
+use Rattle.line.specs.Cobs.{full-code, impliedZero}
 use Rattle.line.specs.declared.cobs.Measured.{Measured}
 use Rattle.line.specs.declared.cobs.Measured.the-variants.{Bad, Length}
 
@@ -21,7 +21,7 @@ measured (some xs) = Length (length xs)
 unfoldable pub plainGroup : ℕ → Bool → List ℕ → List ℕ
 plainGroup left holds [] = []
 plainGroup (suc left) holds (b ∷ bs) = b ∷ plainGroup left holds bs
-plainGroup zero holds (c ∷ cs) = zeros holds ++ plainGroup (c - 1) (ltb c full-code) cs
+plainGroup zero holds (c ∷ cs) = impliedZero holds ++ plainGroup (c - 1) (ltb c full-code) cs
 
 unfoldable pub plain : List ℕ → List ℕ
 plain form = plainGroup 0 false form

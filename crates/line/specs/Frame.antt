@@ -10,7 +10,7 @@ unfoldable pub frame : Message → List ℕ
 frame m = cobs (message m) ++ (0 ∷ [])
 
 -- any number of 00, then for each message its frame and any number of 00
-pub data Wire : List Message → List ℕ → Type 0 where
-  over : Wire [] []
-  idle : {ms : List Message} {w : List ℕ} → Wire ms w → Wire ms (0 ∷ w)
-  sent : {m : Message} {ms : List Message} {w : List ℕ} → InRange m → Wire ms w → Wire (m ∷ ms) (frame m ++ w)
+pub data WireBytes : List Message → List ℕ → Type 0 where
+  over : WireBytes [] []
+  idle : {ms : List Message} {w : List ℕ} → WireBytes ms w → WireBytes ms (0 ∷ w)
+  sent : {m : Message} {ms : List Message} {w : List ℕ} → InRange m → WireBytes ms w → WireBytes (m ∷ ms) (frame m ++ w)

@@ -15,9 +15,9 @@ use Rattle.line.specs.Cobs.{uncobs}
 
 -- a failure has its reason in the table, and the sequence of the request where the table's reply carries it;
 -- none where the reply's sequence is all ones
-pub data Verdict : Type 0 where
-  failure : ℕ → Option ℕ → Verdict
-  good : Message → Verdict
+pub data LineVerdict : Type 0 where
+  failure : ℕ → Option ℕ → LineVerdict
+  good : Message → LineVerdict
 
 -- the parts of a message's bytes
 abbrev pub bodyOf : List ℕ → List ℕ
@@ -63,7 +63,7 @@ abbrev pub wrongMagic : List ℕ → Bool
 wrongMagic xs = not (eqb (magicOf xs) magic)
 
 -- the verdict: the first row whose test fails, or else a good message
-unfoldable pub judgeForm : Option (List ℕ) → Verdict
+unfoldable pub judgeForm : Option (List ℕ) → LineVerdict
 judgeForm none = failure reason-form none
 judgeForm (some xs) =
     cond (wrongLength xs) (failure reason-length none)
@@ -71,5 +71,5 @@ judgeForm (some xs) =
     (cond (wrongMagic xs) (failure reason-magic (some (sequenceOf xs)))
     (good (fields xs))))
 
-unfoldable pub judge : List ℕ → Verdict
+unfoldable pub judge : List ℕ → LineVerdict
 judge form = judgeForm (decoded form)

@@ -18,7 +18,7 @@ pub record Message : Type 0 where
   pub payload : List ℕ
 
 -- each field fits its width
-pub record Typed (m : Message) : Type 0 where
+pub record MessageTyped (m : Message) : Type 0 where
   pub version : m .version < 2 ^ 32
   pub sequence : m .sequence < 2 ^ 64
   pub command : m .command < 2 ^ 8
@@ -26,7 +26,7 @@ pub record Typed (m : Message) : Type 0 where
 
 -- and there are at most 4,104 bytes of data
 pub record InRange (m : Message) : Type 0 where
-  pub typed : Typed m
+  pub typed : MessageTyped m
   pub fits : length (m .payload) ≤ longest-data
 
 -- the bytes ahead of the checksum

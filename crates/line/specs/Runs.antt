@@ -12,5 +12,5 @@ nonzero (suc most) (zero ∷ bs) = []
 nonzero (suc most) (suc b ∷ bs) = suc b ∷ nonzero most bs
 
 -- the length of a run of which k bytes are passed
-abbrev pub reached : ℕ → ℕ → List ℕ → ℕ
-reached most k xs = k + length (nonzero (most - k) (drop k xs))
+abbrev pub runLength : ℕ → ℕ → List ℕ → ℕ
+runLength most k xs = k + length (nonzero (most - k) (drop k xs))

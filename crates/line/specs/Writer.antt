@@ -13,33 +13,33 @@ use Rattle.line.specs.declared.writer.Written.{Written}
 use Rattle.line.specs.declared.writer.Written.the-variants as answer
 
 -- document 01's number and values of an answer: how many bytes were written, or the table's number
-pub data Report : Type 0 where
-  wrote : ℕ → Report
-  refused : ℕ → Report
+pub data WriteReport : Type 0 where
+  wrote : ℕ → WriteReport
+  refused : ℕ → WriteReport
 
-unfoldable pub report : Written → Report
-report (answer.Done n) = wrote n
-report answer.NoRoom = refused 8
-report answer.TooLong = refused 9
+unfoldable pub writeReport : Written → WriteReport
+writeReport (answer.Done n) = wrote n
+writeReport answer.NoRoom = refused 8
+writeReport answer.TooLong = refused 9
 
 -- what a call answered, and the room as it left it
-pub record Outcome : Type 0 where
-  pub answer : Report
+pub record WriteOutcome : Type 0 where
+  pub answer : WriteReport
   pub out : List ℕ
 
-abbrev pub outcome : Written → List ℕ → Outcome
-outcome r out = record { answer = report r; out = out }
+abbrev pub writeOutcome : Written → List ℕ → WriteOutcome
+writeOutcome r out = record { answer = writeReport r; out = out }
 
 -- the message of a call: its data stand in two parts
-abbrev pub messageOf : ℕ → ℕ → ℕ → List ℕ → List ℕ → Message
-messageOf version sequence command head rest = record { version = version; sequence = sequence; command = command; payload = head ++ rest }
+abbrev pub messageOfParts : ℕ → ℕ → ℕ → List ℕ → List ℕ → Message
+messageOfParts version sequence command head rest = record { version = version; sequence = sequence; command = command; payload = head ++ rest }
 
 -- bytes at the start of the room, where they fit
-unfoldable pub sending : List ℕ → List ℕ → Outcome
-sending bs out =
+unfoldable pub writeInto : List ℕ → List ℕ → WriteOutcome
+writeInto bs out =
     cond (ltb (length out) (length bs)) (record { answer = refused 8; out = out })
     (record { answer = wrote (length bs); out = overlay 0 bs out })
 
 -- the frame; too much data, or else too little room, changes nothing
-unfoldable pub writing : Message → List ℕ → Outcome
-writing m out = cond (ltb longest-data (length (m .payload))) (record { answer = refused 9; out = out }) (sending (frame m) out)
+unfoldable pub writePromise : Message → List ℕ → WriteOutcome
+writePromise m out = cond (ltb longest-data (length (m .payload))) (record { answer = refused 9; out = out }) (writeInto (frame m) out)

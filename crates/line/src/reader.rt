@@ -14,7 +14,7 @@ ghost use Rattle.line.specs.Limits.{shortest-message, longest-message, l
 ghost use Rattle.line.specs.Cobs.{uncobs};
 ghost use Rattle.line.specs.Decoding.{measured, plain};
 ghost use Rattle.line.specs.Judge.{judgeForm};
-ghost use Rattle.line.specs.Reader.{frame-offset, state-length, overlong, count, counted, valid, report, verdictReport, pushes, settled, settle, finish, outcome, reading, started, starting, tailReport, tailOf, dataReport, dataRefusal, dataOf};
+ghost use Rattle.line.specs.Reader.{frame-offset, reader-length, overlong, receivedCount, withCount, validReader, readReport, verdictReport, pushedAll, frameOutcome, finishForm, finish, readOutcome, readPromise, readerStartOutcome, readerStartPromise, tailReport, tailPromise, dataReport, dataRefusal, dataPromise};
 
 const FRAME_OFFSET: usize = 2;
 
@@ -34,7 +34,7 @@ pub struct Head {
     pub length: usize,
 }
 
-// What a call of `read` answers; `report` in specs/Reader.antt gives document 01's numbers and values.
+// What a call of `read` answers; `readReport` in specs/Reader.antt gives document 01's numbers and values.
 pub enum Answer {
     Refused,
     More,
@@ -74,7 +74,7 @@ pub enum Handed {
 
 // Begins a fresh reader in a room of any contents.
 pub fn start(state: &mut [u8]) -> Started
-    ensures { λ r. ⌜ started r (now (state .exit)) ≡ starting (now (state .entry)) ⌝ }
+    ensures { λ r. ⌜ readerStartOutcome r (now (state .exit)) ≡ readerStartPromise (now (state .entry)) ⌝ }
 {
     if state.len() < STATE_LENGTH {
         return Started::Refused;
@@ -85,7 +85,7 @@ pub fn start(state: &mut [u8]) -> Started
 
 // Reads a piece to its end, or up to and with its first 00.
 pub fn read(state: &mut [u8], piece: &[u8]) -> Reading
-    ensures { λ r. ⌜ outcome r (now (state .exit)) ≡ reading (now (state .entry)) (now (piece .entry)) ⌝ }
+    ensures { λ r. ⌜ readOutcome r (now (state .exit)) ≡ readPromise (now (state .entry)) (now (piece .entry)) ⌝ }
 {
     if !is_valid(state) {
         return Reading {
@@ -109,26 +109,26 @@ pub fn read(state: &mut [u8], piece: &[u8]) -> Reading
 }
 
 // The data of the message that `read` handed out with this length; an empty part where `message_data_given` refuses.
-pub fn message_data<'a>(state: &'a [u8], length: usize) -> &'a [u8]
-    ensures { λ r. ⌜ now r ≡ dataOf (now (state .entry)) length ⌝ }
+pub fn message_data<'a>(state: &'a [u8], count: usize) -> &'a [u8]
+    ensures { λ r. ⌜ now r ≡ dataPromise (now (state .entry)) count ⌝ }
 {
     if !is_valid(state) {
         return &state[..0];
     }
-    if limits::LONGEST_DATA < length {
+    if limits::LONGEST_DATA < count {
         return &state[..0];
     }
-    &state[DATA_OFFSET..DATA_OFFSET + length]
+    &state[DATA_OFFSET..DATA_OFFSET + count]
 }
 
 // Whether `message_data` hands out what was asked.
-pub fn message_data_given(state: &[u8], length: usize) -> Handed
-    ensures { λ r. ⌜ dataReport r ≡ dataRefusal (now (state .entry)) length ⌝ }
+pub fn message_data_given(state: &[u8], count: usize) -> Handed
+    ensures { λ r. ⌜ dataReport r ≡ dataRefusal (now (state .entry)) count ⌝ }
 {
     if !is_valid(state) {
         return Handed::Refused;
     }
-    if limits::LONGEST_DATA < length {
+    if limits::LONGEST_DATA < count {
         return Handed::TooLong;
     }
     Handed::Given
@@ -136,7 +136,7 @@ pub fn message_data_given(state: &[u8], length: usize) -> Handed
 
 // How many bytes of an unfinished frame have come.
 pub fn tail(state: &[u8]) -> Unfinished
-    ensures { λ r. ⌜ tailReport r ≡ tailOf (now (state .entry)) ⌝ }
+    ensures { λ r. ⌜ tailReport r ≡ tailPromise (now (state .entry)) ⌝ }
 {
     if !is_valid(state) {
         return Unfinished::Refused;
@@ -149,7 +149,7 @@ pub fn tail(state: &[u8]) -> Unfinished
 }
 
 fn get_count(state: &[u8]) -> usize
-    ensures { λ r. ⌜ (r ≡ count (now (state .entry))) × (r < 65536) ⌝ }
+    ensures { λ r. ⌜ (r ≡ receivedCount (now (state .entry))) × (r < 65536) ⌝ }
 {
     octets::read_u16(state, 0) as usize
 }
@@ -157,14 +157,14 @@ fn get_count(state: &[u8]) -> usize
 fn set_count(state: &mut [u8], n: usize)
     requires { ⌜ 2 ≤ length (now state) ⌝ }
     requires { ⌜ n ≤ overlong ⌝ }
-    ensures { λ _. ⌜ now (state .exit) ≡ counted n (now (state .entry)) ⌝ }
+    ensures { λ _. ⌜ now (state .exit) ≡ withCount n (now (state .entry)) ⌝ }
 {
     octets::write_u16(state, 0, n as u16);
 }
 
 // Whether a state passes the tests for 12.
 pub fn is_valid(state: &[u8]) -> bool
-    ensures { λ r. ⌜ r ≡ valid (now (state .entry)) ⌝ }
+    ensures { λ r. ⌜ r ≡ validReader (now (state .entry)) ⌝ }
 {
     if state.len() < STATE_LENGTH {
         return false;
@@ -174,10 +174,10 @@ pub fn is_valid(state: &[u8]) -> bool
 
 // The first n bytes of a piece, none of them zero, as far as they fit.
 fn append(state: &mut [u8], piece: &[u8], n: usize)
-    requires { ⌜ state-length ≤ length (now state) ⌝ }
-    requires { ⌜ count (now state) ≤ overlong ⌝ }
+    requires { ⌜ reader-length ≤ length (now state) ⌝ }
+    requires { ⌜ receivedCount (now state) ≤ overlong ⌝ }
     requires { ⌜ n ≤ length (now piece) ⌝ }
-    ensures { λ _. ⌜ now (state .exit) ≡ pushes (now (state .entry)) (take n (now (piece .entry))) ⌝ }
+    ensures { λ _. ⌜ now (state .exit) ≡ pushedAll (now (state .entry)) (take n (now (piece .entry))) ⌝ }
 {
     if n == 0 {
         return;
@@ -199,9 +199,9 @@ fn append(state: &mut [u8], piece: &[u8], n: usize)
 
 // The 00 of a frame.
 fn finish_frame(state: &mut [u8]) -> Answer
-    requires { ⌜ state-length ≤ length (now state) ⌝ }
-    requires { ⌜ count (now state) ≤ overlong ⌝ }
-    ensures { λ r. ⌜ settled (report r) (now (state .exit)) ≡ finish (now (state .entry)) ⌝ }
+    requires { ⌜ reader-length ≤ length (now state) ⌝ }
+    requires { ⌜ receivedCount (now state) ≤ overlong ⌝ }
+    ensures { λ r. ⌜ frameOutcome (readReport r) (now (state .exit)) ≡ finish (now (state .entry)) ⌝ }
 {
     let n = get_count(state);
     set_count(state, 0); // for the next frame
@@ -211,7 +211,7 @@ fn finish_frame(state: &mut [u8]) -> Answer
     if limits::LONGEST_FORM < n {
         return Answer::BadForm;
     }
-    settle_form(state, n)
+    finish_form(state, n)
 }
 
 // The length that the frame's n bytes decode to, unless they are no COBS form.
@@ -231,10 +231,10 @@ fn decode_frame(state: &mut [u8], n: usize)
 }
 
 // A frame of n bytes.
-fn settle_form(state: &mut [u8], n: usize) -> Answer
-    requires { ⌜ state-length ≤ length (now state) ⌝ }
+fn finish_form(state: &mut [u8], n: usize) -> Answer
+    requires { ⌜ reader-length ≤ length (now state) ⌝ }
     requires { ⌜ n ≤ longest-form ⌝ }
-    ensures { λ r. ⌜ settled (report r) (now (state .exit)) ≡ settle (run frame-offset n (now (state .entry))) (now (state .entry)) ⌝ }
+    ensures { λ r. ⌜ frameOutcome (readReport r) (now (state .exit)) ≡ finishForm (run frame-offset n (now (state .entry))) (now (state .entry)) ⌝ }
 {
     let m = frame_length(state, n);
     match m {
@@ -254,10 +254,10 @@ fn settle_form(state: &mut [u8], n: usize) -> Answer
 
 // A decoded message of k bytes.
 fn inspect(state: &[u8], k: usize) -> Answer
-    requires { ⌜ state-length ≤ length (now state) ⌝ }
+    requires { ⌜ reader-length ≤ length (now state) ⌝ }
     requires { ⌜ shortest-message ≤ k ⌝ }
     requires { ⌜ k ≤ longest-message ⌝ }
-    ensures { λ r. ⌜ report r ≡ verdictReport (judgeForm (some (run frame-offset k (now (state .entry))))) ⌝ }
+    ensures { λ r. ⌜ readReport r ≡ verdictReport (judgeForm (some (run frame-offset k (now (state .entry))))) ⌝ }
 {
     let message = &state[FRAME_OFFSET..FRAME_OFFSET + k];
     let sequence = octets::read_u64(message, 8);

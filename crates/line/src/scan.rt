@@ -5,7 +5,7 @@ ghost use mathlib.Core.Bool.{true, false};
 ghost use Prim.Native.Nat.{_+_, _≤_, min};
 ghost use lib.ListN.{length, drop, replicate};
 ghost use Rattle.octets.specs.Bytes.{run, overlay};
-ghost use Rattle.line.specs.Runs.{nonzero, reached};
+ghost use Rattle.line.specs.Runs.{nonzero, runLength};
 
 // How many bytes are tested together.
 pub(crate) const BLOCK: usize = 32;
@@ -37,7 +37,7 @@ fn pass_blocks(s: &[u8], from: usize, end: usize, passed: usize, width: usize) -
     requires { ⌜ from + end ≤ length (now s) ⌝ }
     requires { ⌜ passed ≤ end ⌝ }
     requires { ⌜ 1 ≤ width ⌝ }
-    ensures { λ r. ⌜ (r ≤ end) × (reached end passed (drop from (now (s .entry))) ≡ reached end r (drop from (now (s .entry)))) ⌝ }
+    ensures { λ r. ⌜ (r ≤ end) × (runLength end passed (drop from (now (s .entry))) ≡ runLength end r (drop from (now (s .entry)))) ⌝ }
 {
     let mut k = passed;
     while width <= end - k {

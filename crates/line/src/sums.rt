@@ -5,7 +5,7 @@ ghost use Prim.Native.Nat.{_+_, _≤_, _<_};
 ghost use lib.ListN.{length, take, drop};
 ghost use Rattle.octets.specs.Bytes.{run};
 ghost use Rattle.line.specs.Checksum.{sums as sumsOf, checksum};
-ghost use Rattle.line.specs.Columns.{columns, block-length, total, weighted, added, AtMost, Addable};
+ghost use Rattle.line.specs.Columns.{columns, block-length, total, weighted, addedRow, AtMost, Addable};
 
 const COLUMNS: usize = 16;
 
@@ -50,7 +50,7 @@ fn row(body: &[u8], at: usize) -> [u16; COLUMNS]
 // Adds a row to the columns' sums.
 fn add(sums: &mut [u16; COLUMNS], row: &[u16; COLUMNS])
     requires { ⌜ Addable (now sums) (now row) ⌝ }
-    ensures { λ r. ⌜ now (sums .exit) ≡ added (now (row .entry)) (now (sums .entry)) ⌝ }
+    ensures { λ r. ⌜ now (sums .exit) ≡ addedRow (now (row .entry)) (now (sums .entry)) ⌝ }
 {
     let mut i = 0;
     while i < COLUMNS {

@@ -11,7 +11,7 @@ ghost use lib.ListN.{length, take};
 ghost use Rattle.line.specs.Limits.{shortest-message, longest-message, longest-data};
 ghost use Rattle.line.specs.Message.{message};
 ghost use Rattle.line.specs.Cobs.{cobs};
-ghost use Rattle.line.specs.Writer.{messageOf, outcome, writing, sending};
+ghost use Rattle.line.specs.Writer.{messageOfParts, writeOutcome, writePromise, writeInto};
 
 // A message with few data is put together in an array of its own.
 const SHORT_MESSAGE: usize = 64;
@@ -34,7 +34,7 @@ pub fn write(
     rest: &[u8],
     out: &mut [u8],
 ) -> Written
-    ensures { λ r. ⌜ outcome r (now (out .exit)) ≡ writing (messageOf version sequence command (now (head .entry)) (now (rest .entry))) (now (out .entry)) ⌝ }
+    ensures { λ r. ⌜ writeOutcome r (now (out .exit)) ≡ writePromise (messageOfParts version sequence command (now (head .entry)) (now (rest .entry))) (now (out .entry)) ⌝ }
 {
     if limits::LONGEST_DATA < head.len() {
         return Written::TooLong;
@@ -62,7 +62,7 @@ fn write_by(
 ) -> Written
     requires { ⌜ length (now head) + length (now rest) ≤ longest-data ⌝ }
     requires { ⌜ shortest-message + length (now head) + length (now rest) ≤ length (now m) ⌝ }
-    ensures { λ r. ⌜ outcome r (now (out .exit)) ≡ writing (messageOf version sequence command (now (head .entry)) (now (rest .entry))) (now (out .entry)) ⌝ }
+    ensures { λ r. ⌜ writeOutcome r (now (out .exit)) ≡ writePromise (messageOfParts version sequence command (now (head .entry)) (now (rest .entry))) (now (out .entry)) ⌝ }
 {
     let n = assemble(version, sequence, command, head, rest, m);
     send(m, n, out)
@@ -80,7 +80,7 @@ fn assemble(
     requires { ⌜ length (now head) + length (now rest) ≤ longest-data ⌝ }
     requires { ⌜ shortest-message + length (now head) + length (now rest) ≤ length (now m) ⌝ }
     ensures { λ r. ⌜ r ≡ shortest-message + length (now (head .entry)) + length (now (rest .entry)) ⌝ }
-    ensures { λ r. ⌜ take r (now (m .exit)) ≡ message (messageOf version sequence command (now (head .entry)) (now (rest .entry))) ⌝ }
+    ensures { λ r. ⌜ take r (now (m .exit)) ≡ message (messageOfParts version sequence command (now (head .entry)) (now (rest .entry))) ⌝ }
 {
     octets::write_u32(m, 0, limits::MAGIC);
     octets::write_u32(m, 4, version);
@@ -99,7 +99,7 @@ fn assemble(
 fn send(m: &[u8], n: usize, out: &mut [u8]) -> Written
     requires { ⌜ n ≤ longest-message ⌝ }
     requires { ⌜ n ≤ length (now m) ⌝ }
-    ensures { λ r. ⌜ outcome r (now (out .exit)) ≡ sending (cobs (take n (now (m .entry))) ++ (0 ∷ [])) (now (out .entry)) ⌝ }
+    ensures { λ r. ⌜ writeOutcome r (now (out .exit)) ≡ writeInto (cobs (take n (now (m .entry))) ++ (0 ∷ [])) (now (out .entry)) ⌝ }
 {
     if !has_room(m, n, out.len()) {
         return Written::NoRoom;

@@ -8,7 +8,7 @@ use native.Mathlib.Omega.{arith}
 use lib.ListN.{length, getD}
 use Rattle.octets.specs.Bytes.{Byte, Each}
 use Rattle.line.specs.Checksum.{sums, checksum}
-use Rattle.line_claims.specs.Changes.{Multiple, changes, SameBut, changeAt, Missed}
+use Rattle.line_claims.specs.Changes.{Multiple, byteChanges, SameButAt, changeAt, Missed}
 use Rattle.line_claims.proofs.Changes.{checksum-changes, changes-at, times, two-weighed}
 use Rattle.line_claims.specs.Item12.{ChecksumApart, Checksum255Apart, Opposite255Apart, Exchanged255Apart}
 
@@ -23,10 +23,10 @@ two-changes : (k p c d : ℕ) → (Multiple (1 * c + 1 * d) × Multiple (p * c +
 two-changes k p c d = (λ m. omega (arith, times (p + k) (c + d) (omega arith)), λ m. omega (arith, times (p + k) (c + d) (m .0)))
 
 -- lists that are the same but at two places, whether or not they differ there
-pub same-but-two : (k p : ℕ) (xs ys : List ℕ) → 1 ≤ k → length xs ≡ length ys → SameBut p (p + k) xs ys → Each Byte xs
+pub same-but-two : (k p : ℕ) (xs ys : List ℕ) → 1 ≤ k → length xs ≡ length ys → SameButAt p (p + k) xs ys → Each Byte xs
     → (checksum xs ≡ checksum ys) ↔ Missed k (changeAt p xs ys) (changeAt (p + k) xs ys)
 same-but-two k p xs ys h l same b =
-    let cs = changes xs ys in
+    let cs = byteChanges xs ys in
     let none : (i : ℕ) → (i ≡ p → ⊥) → (i ≡ p + k → ⊥) → Multiple (getD cs i 255) =
     λ i u v. rw (changes-at xs ys i l) (omega (arith, same i u v)) in
     let r = rw (two-weighed (λ i. 1) k p cs h none, two-weighed (λ i. i) k p cs h none) at (checksum-changes xs ys l b) in

@@ -9,16 +9,16 @@ use native.Mathlib.Omega.{arith}
 use lib.ListN.{length, getD}
 use Rattle.octets.specs.Bytes.{Byte, Each}
 use Rattle.line.specs.Checksum.{sums, checksum}
-use Rattle.line_claims.specs.Changes.{Multiple, change, changes, weighed, summed, placed}
+use Rattle.line_claims.specs.Changes.{Multiple, byteChange, byteChanges, weighed, summed, placed}
 use Rattle.line_claims.specs.Item12.{ChecksumChanges}
 
 -- ---- When the checksums agree
 
 -- first sums that differ by d, then bytes x and y
-first-on : (s d x y : ℕ) → Byte x → ((s + d) % 255 + y) % 255 ≡ ((s + x) % 255 + (d + change x y)) % 255
+first-on : (s d x y : ℕ) → Byte x → ((s + d) % 255 + y) % 255 ≡ ((s + x) % 255 + (d + byteChange x y)) % 255
 first-on s d x y h =
-    let e : s + x + (d + change x y) ≡ s + d + y + 255 = omega arith in
-    mod-add-mod (s + d) 255 y ∙ omega (arith, e) ∙ sym (mod-add-mod (s + x) 255 (d + change x y))
+    let e : s + x + (d + byteChange x y) ≡ s + d + y + 255 = omega arith in
+    mod-add-mod (s + d) 255 y ∙ omega (arith, e) ∙ sym (mod-add-mod (s + x) 255 (d + byteChange x y))
 
 -- second sums that differ by e, then first sums that differ by d
 second-on : (t e n d : ℕ) → ((t + e) % 255 + (n + d) % 255) % 255 ≡ ((t + n) % 255 + (e + d)) % 255
@@ -46,8 +46,8 @@ no-difference s d h = omega arith
 
 -- ahead of these bytes the first sums differ by d and the second ones by e
 differing : (xs ys : List ℕ) (s t d e : ℕ) → length xs ≡ length ys → Each Byte xs → s < 255 → t < 255
-    → (sums s t xs ≡ sums ((s + d) % 255) ((t + e) % 255) ys) ↔ (Multiple (d + summed (changes xs ys)) × (e % 255 ≡ placed (changes xs ys) % 255))
-unfolding sums changes weighed
+    → (sums s t xs ≡ sums ((s + d) % 255) ((t + e) % 255) ys) ↔ (Multiple (d + summed (byteChanges xs ys)) × (e % 255 ≡ placed (byteChanges xs ys) % 255))
+unfolding sums byteChanges weighed
 differing [] [] s t d e l b h k = rw add-zero (
   λ f. let r = both s t ((s + d) % 255) ((t + e) % 255) h (omega arith) f in (no-difference s d h .0 (r .0), no-difference t e k .0 (r .1)),
   λ m. rw (sym (no-difference s d h .1 (m .0)), sym (no-difference t e k .1 (m .1))),
@@ -55,10 +55,10 @@ differing [] [] s t d e l b h k = rw add-zero (
 differing [] (y ∷ ys) s t d e l b h k = absurd (omega arith)
 differing (x ∷ xs) [] s t d e l b h k = absurd (omega arith)
 differing (x ∷ xs) (y ∷ ys) s t d e l b h k =
-    let c = change x y in
+    let c = byteChange x y in
     let r = differing xs ys ((s + x) % 255) ((t + (s + x) % 255) % 255) (d + c) (e + (d + c)) (omega arith) (b .1) (omega arith) (omega arith) in
-    rw (first-on s d x y (b .0), second-on t e ((s + x) % 255) (d + c), weighed-suc (λ i. i) (changes xs ys))
-    (Iff·trans r (one-more d e c (summed (changes xs ys)) (placed (changes xs ys))))
+    rw (first-on s d x y (b .0), second-on t e ((s + x) % 255) (d + c), weighed-suc (λ i. i) (byteChanges xs ys))
+    (Iff·trans r (one-more d e c (summed (byteChanges xs ys)) (placed (byteChanges xs ys))))
 
 pub checksum-changes : ChecksumChanges
 unfolding checksum
@@ -67,8 +67,8 @@ checksum-changes xs ys l b = Iff·trans (differing xs ys 0 0 0 0 l b (omega arit
 -- ---- Changes at few places
 
 -- a change is read as 255, that is none, past the end
-pub changes-at : (xs ys : List ℕ) (i : ℕ) → length xs ≡ length ys → getD (changes xs ys) i 255 ≡ change (getD xs i 0) (getD ys i 0)
-unfolding changes
+pub changes-at : (xs ys : List ℕ) (i : ℕ) → length xs ≡ length ys → getD (byteChanges xs ys) i 255 ≡ byteChange (getD xs i 0) (getD ys i 0)
+unfolding byteChanges
 changes-at [] [] i l = refl
 changes-at [] (y ∷ ys) i l = absurd (omega arith)
 changes-at (x ∷ xs) [] i l = absurd (omega arith)

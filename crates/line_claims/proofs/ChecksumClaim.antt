@@ -6,12 +6,12 @@ use native.Mathlib.Omega.{arith}
 use native.Mathlib.Decide.{ℕ-discrete}
 use lib.ListN.{getD}
 use Rattle.octets.specs.Bytes.{Byte}
-use Rattle.line_claims.specs.Changes.{Multiple, change, changeAt, SameOr00Ff}
+use Rattle.line_claims.specs.Changes.{Multiple, byteChange, changeAt, SameOr00Ff}
 use Rattle.line_claims.proofs.ApartClaim.{byte-at, same-but-two}
 use Rattle.line_claims.specs.Demand3.{ChecksumClaim}
 
 -- the change from one byte to another is a multiple of 255 exactly then
-alike : (x y : ℕ) → Byte x → Byte y → Multiple (change x y) ↔ SameOr00Ff x y
+alike : (x y : ℕ) → Byte x → Byte y → Multiple (byteChange x y) ↔ SameOr00Ff x y
 alike x y h k = (
   λ m. elim (ℕ-discrete x y) [
     | yes p ↦ inl p

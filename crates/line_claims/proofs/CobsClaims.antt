@@ -15,10 +15,10 @@ use Rattle.octets.specs.Bytes.{Byte, Each, equal}
 use Rattle.octets.proofs.Conditions.{cond-by}
 use Rattle.octets.proofs.Each.{each-append}
 use Rattle.line.specs.Limits.{longest-group}
-use Rattle.line.specs.Cobs.{full-code, places-left, coded, groups, cobs, zeros, lastOneAfterFull, groupBytes, uncobs}
+use Rattle.line.specs.Cobs.{full-code, places-left, coded, groups, cobs, impliedZero, lastOneAfterFull, groupBytes, uncobs}
 use Rattle.line.proofs.FrameLength
 use Rattle.line_claims.specs.Pieces.{NonZero}
-use Rattle.line_claims.specs.Demand3.{RoundTrip, NoZero, FormFits, FrameFits}
+use Rattle.line_claims.specs.Demand3.{LineRoundTrip, NoZero, FormFits, FrameFits}
 
 -- ---- no last 01 is written after a full group
 
@@ -59,7 +59,7 @@ groups-read (suc b ∷ x ∷ xs) zero done n h e =
     rw (eqb·suc-zero, no-last-one (x ∷ xs), sub-one, groups-read (x ∷ xs) places-left 0 _ refl (add-zero _), le-ltb (suc n) full-code (omega arith))
 groups-read (suc b ∷ xs) (suc room) done n h e = rw (groups-read xs room (suc done) n (omega arith) (omega arith))
 
-pub round-trip : RoundTrip
+pub round-trip : LineRoundTrip
 unfolding uncobs cobs groupBytes
 round-trip xs = rw (eqb·suc-zero, no-last-one xs, sub-one, groups-read xs places-left 0 _ refl (add-zero _))
 
@@ -104,7 +104,7 @@ module _ (P : ℕ → Type 0) (of-zero : P 0) where
   then-each f h none r = tt
   then-each f h (some xs) r = h xs r
 
-  zeros-each : (holds : Bool) → Each P (zeros holds)
+  zeros-each : (holds : Bool) → Each P (impliedZero holds)
   zeros-each true = (of-zero, tt)
   zeros-each false = tt
 
@@ -115,7 +115,7 @@ module _ (P : ℕ → Type 0) (of-zero : P 0) where
   group-each (b ∷ bs) (suc left) holds h = then-each (λ xs. b ∷ xs) (λ xs k. (h .0, k)) (groupBytes left holds bs) (group-each bs left holds (h .1))
   group-each (c ∷ cs) zero holds h =
       cond-by EachRead (eqb c 0 || lastOneAfterFull c cs) _ _ (λ e. tt) (λ e.
-      then-each (λ xs. zeros holds ++ xs) (λ xs k. each-append P (zeros holds) xs (zeros-each holds) k)
+      then-each (λ xs. impliedZero holds ++ xs) (λ xs k. each-append P (impliedZero holds) xs (zeros-each holds) k)
       (groupBytes (c - 1) (ltb c full-code) cs) (group-each cs (c - 1) (ltb c full-code) (h .1)))
 
 -- bytes are read from bytes

@@ -7,20 +7,20 @@ use native.Mathlib.Omega.{arith}
 use lib.ListN.{length}
 use Rattle.octets.specs.Bytes.{Byte, Each}
 use Rattle.line.specs.Message.{Message}
-use Rattle.line.specs.Frame.{frame, Wire, over, idle, sent}
-use Rattle.line.specs.Judge.{Verdict, failure, good, judge}
-use Rattle.line.specs.Reader.{verdictReport, state-length}
+use Rattle.line.specs.Frame.{frame, WireBytes, over, idle, sent}
+use Rattle.line.specs.Judge.{LineVerdict, failure, good, judge}
+use Rattle.line.specs.Reader.{verdictReport, reader-length}
 use Rattle.line_claims.specs.Pieces.{nonEmpty, withZeros, NonZero}
 use Rattle.line_claims.proofs.Pieces.{split-each, split-whole}
 use Rattle.line_claims.proofs.SpellingClaim.{good-form, good-frame}
-use Rattle.line_claims.specs.Calls.{Call, afterAll, begun, frameReport, gathered, goodOf, reasonOf, goodMessages, failureReasons}
+use Rattle.line_claims.specs.Calls.{LineCall, afterLineCalls, freshReader, frameReport, gathered, goodOf, reasonOf, goodMessages, failureReasons}
 use Rattle.line_claims.proofs.ReaderClaim.{any-stream, any-messages, any-failures}
 use Rattle.line_claims.specs.Calls.{Reader, frameOf, goodFrames, reportedBytes}
 use Rattle.line_claims.specs.Item6.{piecesRead, HandedFrames, HandedWire, AnswersDetermine}
 
 -- ---- pieces of bytes 1 to 255
 
-frame-of : (p : List ℕ) → Each NonZero p → (v : Verdict) → judge p ≡ v → frameOf p v ≡ map frame (goodOf v)
+frame-of : (p : List ℕ) → Each NonZero p → (v : LineVerdict) → judge p ≡ v → frameOf p v ≡ map frame (goodOf v)
 frame-of p n (failure reason sequence) e = refl
 frame-of p n (good m) e = rw (good-frame p m n e)
 
@@ -35,21 +35,21 @@ frame-ahead : (p : List ℕ) (m : Message) (w : List ℕ) → Each NonZero p →
 frame-ahead p m w n e = sym (append-assoc p (0 ∷ []) w) ∙ rw (good-frame p m n e)
 
 -- where none fails, the first is good
-module _ (p : List ℕ) (rs : List ℕ) (P : Verdict → Type 0) where
+module _ (p : List ℕ) (rs : List ℕ) (P : LineVerdict → Type 0) where
   first-good : reasonOf (judge p) ++ rs ≡ [] → ((m : Message) → judge p ≡ good m → rs ≡ [] → P (good m)) → P (judge p)
   first-good = by (judge p) refl
     where
-      by : (v : Verdict) → judge p ≡ v → reasonOf v ++ rs ≡ [] → ((m : Message) → judge p ≡ good m → rs ≡ [] → P (good m)) → P v
+      by : (v : LineVerdict) → judge p ≡ v → reasonOf v ++ rs ≡ [] → ((m : Message) → judge p ≡ good m → rs ≡ [] → P (good m)) → P v
       by (failure reason sequence) j e h = let z : _≡_ {A = ℕ} 0 1 = cc in absurd (omega arith)
       by (good m) j e h = h m j e
 
 -- wire bytes, where none fails
-pieces-wire : (ps : List (List ℕ)) → Each (Each NonZero) ps → failureReasons (nonEmpty ps) ≡ [] → Wire (goodMessages (nonEmpty ps)) (withZeros ps)
+pieces-wire : (ps : List (List ℕ)) → Each (Each NonZero) ps → failureReasons (nonEmpty ps) ≡ [] → WireBytes (goodMessages (nonEmpty ps)) (withZeros ps)
 unfolding withZeros nonEmpty gathered
 pieces-wire [] n e = over
 pieces-wire ([] ∷ ps) n e = idle (pieces-wire ps (n .1) e)
 pieces-wire ((b ∷ bs) ∷ ps) n e =
-    first-good (b ∷ bs) (failureReasons (nonEmpty ps)) (λ v. Wire (goodOf v ++ goodMessages (nonEmpty ps)) ((b ∷ bs) ++ 0 ∷ withZeros ps)) e
+    first-good (b ∷ bs) (failureReasons (nonEmpty ps)) (λ v. WireBytes (goodOf v ++ goodMessages (nonEmpty ps)) ((b ∷ bs) ++ 0 ∷ withZeros ps)) e
     (λ m j f. rw (frame-ahead (b ∷ bs) m (withZeros ps) (n .0) j) (sent (good-form (b ∷ bs) m (n .0) j .1) (pieces-wire ps (n .1) f)))
 
 pieces-reported : (ps : List (List ℕ)) → Each (Each NonZero) ps → failureReasons (nonEmpty ps) ≡ []
@@ -64,9 +64,9 @@ pieces-reported ((b ∷ bs) ∷ ps) n e =
 
 -- ---- the claims
 
-module _ (room : List ℕ) (enough : state-length ≤ length room) (cs : List Call) where
+module _ (room : List ℕ) (enough : reader-length ≤ length room) (cs : List LineCall) where
   abbrev reader : Reader
-  reader = afterAll (begun room) cs
+  reader = afterLineCalls (freshReader room) cs
 
   pieces-each : Each Byte (reader .bytes) → Each (Each NonZero) (piecesRead reader)
   pieces-each each = split-each Byte NonZero (λ b h. omega arith) (reader .bytes) each .0
@@ -74,16 +74,16 @@ module _ (room : List ℕ) (enough : state-length ≤ length room) (cs : List Ca
   none-failed : reader .failures ≡ [] → failureReasons (nonEmpty (piecesRead reader)) ≡ []
   none-failed e = sym (any-failures room enough cs) ∙ e
 
-  pub handed-frames : HandedFrames (afterAll (begun room) cs)
+  pub handed-frames : HandedFrames (afterLineCalls (freshReader room) cs)
   handed-frames each = good-frames (piecesRead reader) (pieces-each each) ∙ rw (any-messages room enough cs)
 
-  pub handed-wire : HandedWire (afterAll (begun room) cs)
+  pub handed-wire : HandedWire (afterLineCalls (freshReader room) cs)
   handed-wire each e = (
     rw (any-messages room enough cs) (pieces-wire (piecesRead reader) (pieces-each each) (none-failed e)),
     sym (split-whole (reader .bytes)),
   )
 
-  pub answers-determine : AnswersDetermine (afterAll (begun room) cs)
+  pub answers-determine : AnswersDetermine (afterLineCalls (freshReader room) cs)
   answers-determine each e =
       rw (any-stream room enough cs, any-messages room enough cs, ← pieces-reported (piecesRead reader) (pieces-each each) (none-failed e))
       (sym (split-whole (reader .bytes)))

@@ -15,7 +15,7 @@ use Rattle.line.specs.Limits.{shortest-message, longest-message, longest-form}
 use Rattle.line.specs.Checksum.{checksum}
 use Rattle.line.specs.Message.{magic, Message, InRange, body, message}
 use Rattle.line.specs.Cobs.{cobs, uncobs}
-use Rattle.line.specs.Judge.{Verdict, failure, good, bodyOf, checksumOf, magicOf, fields, wrongLength, wrongChecksum, wrongMagic, judgeForm, judge}
+use Rattle.line.specs.Judge.{LineVerdict, failure, good, bodyOf, checksumOf, magicOf, fields, wrongLength, wrongChecksum, wrongMagic, judgeForm, judge}
 use Rattle.line_claims.proofs.CobsClaims.{round-trip, form-fits}
 use Rattle.line.proofs.Checksum.{checksum-low}
 use Rattle.line.proofs.Message.{length-message}
@@ -57,7 +57,7 @@ pub judge-good : (form : List ℕ) (m : Message) → judge form ≡ good m → G
 unfolding judge judgeForm
 judge-good form m = cond-by (λ o. judgeForm o ≡ good m → Good form m) (ltb longest-form (length form)) _ _ (λ e p. never p) (λ e. by (uncobs form) refl)
   where
-    Gives : Verdict → Type 0
+    Gives : LineVerdict → Type 0
     Gives v = v ≡ good m → Good form m
 
     by : (o : Option (List ℕ)) → uncobs form ≡ o → Gives (judgeForm o)

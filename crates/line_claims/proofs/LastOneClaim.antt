@@ -12,7 +12,7 @@ use lib.Seq.{drop-at}
 use Rattle.octets.specs.Bytes.{equal}
 use Rattle.octets.proofs.Conditions.{cond-by}
 use Rattle.line.specs.Limits.{longest-form, longest-group}
-use Rattle.line.specs.Cobs.{full-code, zeros, lastOneAfterFull, groupBytes, uncobs}
+use Rattle.line.specs.Cobs.{full-code, impliedZero, lastOneAfterFull, groupBytes, uncobs}
 use Rattle.line.specs.Judge.{failure, judgeForm, judge}
 use Rattle.line_claims.specs.Item6.{LastOneReason1}
 
@@ -41,9 +41,9 @@ module _ (g : List ℕ) (h : length g ≡ longest-group) where
       map-none (λ xs. b ∷ xs) (groupBytes left holds (bs ++ last)) (behind bs left holds (m .0) (m .1))
   behind (c ∷ cs) zero holds ys e =
       let o = groupBytes (c - 1) (ltb c full-code) cs in
-      let m = map-eq-some-iff (λ xs. zeros holds ++ xs) o .0 (by (eqb c 0 || lastOneAfterFull c cs) _ e) in
+      let m = map-eq-some-iff (λ xs. impliedZero holds ++ xs) o .0 (by (eqb c 0 || lastOneAfterFull c cs) _ e) in
       cond-by (λ (o : Option (List ℕ)). o ≡ none) (eqb c 0 || lastOneAfterFull c (cs ++ last)) _ _ (λ _. refl)
-      (λ _. map-none (λ xs. zeros holds ++ xs) (groupBytes (c - 1) (ltb c full-code) (cs ++ last))
+      (λ _. map-none (λ xs. impliedZero holds ++ xs) (groupBytes (c - 1) (ltb c full-code) (cs ++ last))
       (behind cs (c - 1) (ltb c full-code) (m .0) (m .1)))
     where
       by : (t : Bool) (o : Option (List ℕ)) → cond t none o ≡ some ys → o ≡ some ys

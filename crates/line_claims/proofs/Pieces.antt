@@ -6,7 +6,7 @@ use Prim.Native.Nat.{ℕ, zero, suc, _≤_}
 use native.Mathlib.Omega.{arith}
 use lib.Seq.{drop-append-seam}
 use Rattle.octets.specs.Bytes.{Each}
-use Rattle.line_claims.specs.Pieces.{ahead, split, nonEmpty, closedBy, withZeros}
+use Rattle.line_claims.specs.Pieces.{aheadOfPieces, split, nonEmpty, closedBehind, withZeros}
 
 -- up to the first zero
 pub split-at : (p w : List ℕ) → Each (λ b. 1 ≤ b) p → split (p ++ 0 ∷ w) ≡ record { closed = p ∷ split w .closed; rest = split w .rest }
@@ -23,7 +23,7 @@ split-none (zero ∷ p) h = absurd (omega arith)
 split-none (suc b ∷ p) h = rw (split-none p (h .1))
 
 ahead-closed : (b : ℕ) (ps : List (List ℕ)) (rest : List ℕ)
-    → ahead b (ps ++ rest ∷ []) [] ≡ record { closed = ahead b ps rest .closed ++ ahead b ps rest .rest ∷ []; rest = [] }
+    → aheadOfPieces b (ps ++ rest ∷ []) [] ≡ record { closed = aheadOfPieces b ps rest .closed ++ aheadOfPieces b ps rest .rest ∷ []; rest = [] }
 ahead-closed b [] rest = refl
 ahead-closed b (p ∷ ps) rest = refl
 
@@ -35,7 +35,7 @@ split-close (zero ∷ w) = rw (split-close w)
 split-close (suc b ∷ w) = rw (split-close w) (ahead-closed (suc b) (split w .closed) (split w .rest))
 
 ahead-more : (b : ℕ) (ps : List (List ℕ)) (rest more : List ℕ)
-    → ahead b ps (rest ++ more) ≡ record { closed = ahead b ps rest .closed; rest = ahead b ps rest .rest ++ more }
+    → aheadOfPieces b ps (rest ++ more) ≡ record { closed = aheadOfPieces b ps rest .closed; rest = aheadOfPieces b ps rest .rest ++ more }
 ahead-more b [] rest more = refl
 ahead-more b (p ∷ ps) rest more = refl
 
@@ -54,8 +54,8 @@ nonEmpty-append ((b ∷ bs) ∷ ps) qs = rw (nonEmpty-append ps qs)
 
 -- ---- joined pieces
 
-ahead-join : (b : ℕ) (ps : List (List ℕ)) (rest more : List ℕ) → let z = ahead (suc b) ps rest in let x = split (rest ++ more) in
-    ahead (suc b) (ps ++ x .closed) (x .rest) ≡ record { closed = z .closed ++ split (z .rest ++ more) .closed; rest = split (z .rest ++ more) .rest }
+ahead-join : (b : ℕ) (ps : List (List ℕ)) (rest more : List ℕ) → let z = aheadOfPieces (suc b) ps rest in let x = split (rest ++ more) in
+    aheadOfPieces (suc b) (ps ++ x .closed) (x .rest) ≡ record { closed = z .closed ++ split (z .rest ++ more) .closed; rest = split (z .rest ++ more) .rest }
 unfolding split
 ahead-join b [] rest more = refl
 ahead-join b (p ∷ ps) rest more = refl
@@ -69,17 +69,17 @@ split-join (zero ∷ w) more = rw (split-join w more)
 split-join (suc b ∷ w) more = rw (split-join w more) (ahead-join b (split w .closed) (split w .rest) more)
 
 -- the first of them began with what stood after the last zero
-pub closed-rest : (w more : List ℕ) → closedBy w more ≡ split (split w .rest ++ more) .closed
-unfolding closedBy
+pub closed-rest : (w more : List ℕ) → closedBehind w more ≡ split (split w .rest ++ more) .closed
+unfolding closedBehind
 closed-rest w more = rw (split-join w more) (drop-append-seam (split w .closed) (split (split w .rest ++ more) .closed))
 
 -- each piece of the joined bytes is closed once, in order
-pub closed-join : (w more : List ℕ) → split (w ++ more) .closed ≡ split w .closed ++ closedBy w more
+pub closed-join : (w more : List ℕ) → split (w ++ more) .closed ≡ split w .closed ++ closedBehind w more
 closed-join w more = rw (closed-rest w more, split-join w more)
 
 -- ---- the list again
 
-ahead-whole : (b : ℕ) (ps : List (List ℕ)) (rest : List ℕ) → let z = ahead b ps rest in withZeros (z .closed) ++ z .rest ≡ b ∷ (withZeros ps ++ rest)
+ahead-whole : (b : ℕ) (ps : List (List ℕ)) (rest : List ℕ) → let z = aheadOfPieces b ps rest in withZeros (z .closed) ++ z .rest ≡ b ∷ (withZeros ps ++ rest)
 unfolding withZeros
 ahead-whole b [] rest = refl
 ahead-whole b (p ∷ ps) rest = refl
@@ -93,7 +93,7 @@ split-whole (suc b ∷ w) = ahead-whole (suc b) (split w .closed) (split w .rest
 -- Q holds of each element of a piece if it holds of each element above 0 that has P
 module _ (P Q : ℕ → Type 0) (kept : (b : ℕ) → P (suc b) → Q (suc b)) where
   ahead-each : (b : ℕ) (ps : List (List ℕ)) (rest : List ℕ) → Q b → Each (Each Q) ps → Each Q rest
-      → Each (Each Q) (ahead b ps rest .closed) × Each Q (ahead b ps rest .rest)
+      → Each (Each Q) (aheadOfPieces b ps rest .closed) × Each Q (aheadOfPieces b ps rest .rest)
   ahead-each b [] rest q h k = (tt, (q, k))
   ahead-each b (p ∷ ps) rest q h k = (((q, h .0), h .1), k)
 

@@ -1,9 +1,9 @@
 -- The line layer's claims, proved: one element of each record of statements in specs/.
 -- Assumes nothing.
 use Rattle.line_claims.specs.Demand3.{LineSamples, WireDetermines, FreshReader, BlindSpots}
-use Rattle.line_claims.specs.Demand1.{NumberDue, AsItWas}
-use Rattle.line_claims.specs.Item6.{Item6}
-use Rattle.line_claims.specs.Item12.{Item12}
+use Rattle.line_claims.specs.Demand1.{LineNumberDue, LineAsItWas}
+use Rattle.line_claims.specs.Item6.{LineItem6}
+use Rattle.line_claims.specs.Item12.{LineItem12}
 use Rattle.line_claims.proofs.Samples.{samples-hold}
 use Rattle.line_claims.proofs.LoanLaws.{any-run}
 use Rattle.line_claims.proofs.Refusals.{refused-exactly, refused-nothing, accepted-stops, too-little-12, too-little-nothing, never-12, sent-handed, room-enough}
@@ -25,7 +25,7 @@ use Rattle.line_claims.proofs.Changes.{checksum-changes}
 pub line-samples : LineSamples
 line-samples = record { samples-hold = samples-hold }
 
-pub number-due : NumberDue
+pub number-due : LineNumberDue
 number-due = record {
   refused-exactly = refused-exactly;
   tail-refused-exactly = tail-refused-exactly;
@@ -38,7 +38,7 @@ number-due = record {
   any-run = any-run;
 }
 
-pub as-it-was : AsItWas
+pub as-it-was : LineAsItWas
 as-it-was = record {
   refused-nothing = refused-nothing;
   too-little-nothing = too-little-nothing;
@@ -76,7 +76,7 @@ fresh-reader = record {
 pub blind-spots : BlindSpots
 blind-spots = record { checksum-claim = checksum-claim; ff-never-matches = ff-never-matches; ff-reason-2 = ff-reason-2 }
 
-pub item-6 : Item6
+pub item-6 : LineItem6
 item-6 = record {
   last-one-reason-1 = last-one-reason-1;
   one-spelling = one-spelling;
@@ -87,7 +87,7 @@ item-6 = record {
   answers-determine = answers-determine;
 }
 
-pub item-12 : Item12
+pub item-12 : LineItem12
 item-12 = record {
   checksum-apart = checksum-apart;
   checksum-255-apart = checksum-255-apart;

@@ -13,20 +13,20 @@ use borrow.Author.Tests.{le-leb, lt-leb, le-ltb, lt-ltb, leb-true, leb-false}
 use Rattle.octets.proofs.Conditions.{cond-by}
 use Rattle.line.specs.Limits.{longest-data, longest-form}
 use Rattle.line.specs.Frame.{frame}
-use Rattle.line.specs.Judge.{Verdict, failure, good}
-use Rattle.line.specs.Reader.{Report, refused, more, empty, message, failed, verdictReport, state-length, count, valid, pushed, Settled, settle, finish}
-use Rattle.line.specs.Reader.{Outcome, next, readPiece, reading, Start, starting, TailReport, unfinished, longer, tailOf}
-use Rattle.line.specs.Reader.{dataRefusal, partOf, dataOf}
+use Rattle.line.specs.Judge.{LineVerdict, failure, good}
+use Rattle.line.specs.Reader.{ReadReport, refused, more, empty, message, failed, verdictReport, reader-length, receivedCount, validReader, pushed, FrameOutcome, finishForm, finish}
+use Rattle.line.specs.Reader.{ReadOutcome, oneByteLater, readPiece, readPromise, ReaderStartOutcome, readerStartPromise, TailReport, unfinished, longer, tailPromise}
+use Rattle.line.specs.Reader.{dataRefusal, partOf, dataPromise}
 use Rattle.line.specs.Writer
 use Rattle.line.proofs.State.{valid-ready}
 use Rattle.line.proofs.Lent.{valid-append}
 use Rattle.line_claims.proofs.CobsClaims.{frame-fits}
 use Rattle.line_claims.proofs.LoanLaws.{back-same, lent-long, lent-short, front}
-use Rattle.line_claims.specs.Calls.{Call, read, start, lentState, handed, reasons, answers, afterRead, afterOutcome}
-use Rattle.line_claims.specs.Calls.{restarted, afterStart, after, afterAll, begun}
+use Rattle.line_claims.specs.Calls.{LineCall, read, start, lentState, messagesHanded, reasonsReported, answersTo00, afterLineRead, afterOutcome}
+use Rattle.line_claims.specs.Calls.{afterRestart, afterStart, afterLineCall, afterLineCalls, freshReader}
 use Rattle.line_claims.proofs.WriterClaim.{sent-wire}
 use Rattle.line_claims.proofs.ReaderClaim.{hands-out, stays-valid}
-use Rattle.line_claims.specs.Demand1.{NotRefused, RefusedExactly, RefusedNothing, TooLittle12, TooLittleNothing, Never12}
+use Rattle.line_claims.specs.Demand1.{NotRefused, LineRefusedExactly, RefusedNothing, TooLittle12, TooLittleNothing, LineNever12}
 use Rattle.line_claims.specs.Demand1.{TailRefusedExactly, DataRefusedExactly, DataNotHanded, StartRefusedExactly, StartUntouched}
 use Rattle.line_claims.specs.Demand3.{Stops, AcceptedStops, SentHanded, RoomEnough}
 use Rattle.line_claims.specs.TableTests.{firstFailing}
@@ -38,43 +38,43 @@ later b bs used (inl e) = inl (omega arith)
 later b bs used (inr q) = inr (suc (q .0), omega arith, omega arith, q .3)
 
 stops : (s piece : List ℕ) → Stops piece (readPiece s piece .used)
-unfolding readPiece next
+unfolding readPiece oneByteLater
 stops s [] = inl refl
 stops s (zero ∷ bs) = inr (0, refl, omega arith, refl)
 stops s (suc b ∷ bs) = rw eqb·suc-zero (later (suc b) bs (readPiece (pushed s (suc b)) bs .used) (stops (pushed s (suc b)) bs))
 
 pub refused-nothing : RefusedNothing
-unfolding reading
+unfolding readPromise
 refused-nothing s piece e = rw e
 
 pub accepted-stops : AcceptedStops
-unfolding reading
+unfolding readPromise
 accepted-stops s piece e = rw e (stops s piece)
 
 -- ---- When a call is refused
 
-abbrev isRefused : Report → Bool
+abbrev isRefused : ReadReport → Bool
 isRefused (refused number) = true
 isRefused more = false
 isRefused empty = false
 isRefused (message version sequence command n) = false
 isRefused (failed reason sequence) = false
 
-verdict-report : (v : Verdict) → isRefused (verdictReport v) ≡ false
+verdict-report : (v : LineVerdict) → isRefused (verdictReport v) ≡ false
 unfolding verdictReport
 verdict-report (failure reason sequence) = refl
 verdict-report (good m) = refl
 
 finish-report : (s : List ℕ) → isRefused (finish s .answer) ≡ false
-unfolding finish settle
+unfolding finish finishForm
 finish-report s =
-    cond-by Says (eqb (count s) 0) _ _ (λ e. refl) (λ e. cond-by Says (ltb longest-form (count s)) _ _ (λ f. refl) (λ f. verdict-report _))
+    cond-by Says (eqb (receivedCount s) 0) _ _ (λ e. refl) (λ e. cond-by Says (ltb longest-form (receivedCount s)) _ _ (λ f. refl) (λ f. verdict-report _))
   where
-    Says : Settled → Type 0
+    Says : FrameOutcome → Type 0
     Says x = isRefused (x .answer) ≡ false
 
 piece-report : (s piece : List ℕ) → isRefused (readPiece s piece .answer) ≡ false
-unfolding readPiece next
+unfolding readPiece oneByteLater
 piece-report s [] = refl
 piece-report s (zero ∷ bs) = finish-report s
 piece-report s (suc b ∷ bs) = rw eqb·suc-zero (piece-report (pushed s (suc b)) bs)
@@ -82,10 +82,10 @@ piece-report s (suc b ∷ bs) = rw eqb·suc-zero (piece-report (pushed s (suc b)
 not-both : {b : Bool} → b ≡ false → b ≡ true → ⊥
 not-both p q = let z : _≡_ {A = ℕ} 0 1 = cc in omega arith
 
-pub refused-exactly : RefusedExactly
-unfolding reading
+pub refused-exactly : LineRefusedExactly
+unfolding readPromise
 refused-exactly s piece = (
-  cond-by (λ (o : Outcome). o .answer ≡ refused 12 → valid s ≡ false) (valid s) _ _ (λ e a. absurd (not-both (piece-report s piece) (ap isRefused a))) (λ e a. e),
+  cond-by (λ (o : ReadOutcome). o .answer ≡ refused 12 → validReader s ≡ false) (validReader s) _ _ (λ e a. absurd (not-both (piece-report s piece) (ap isRefused a))) (λ e a. e),
   λ e. rw e,
 )
 
@@ -96,8 +96,8 @@ tailRefused longer = false
 
 -- a tail has no number, and a refused one its own
 pub tail-refused-exactly : TailRefusedExactly
-unfolding tailOf firstFailing
-tail-refused-exactly s n = by (valid s)
+unfolding tailPromise firstFailing
+tail-refused-exactly s n = by (validReader s)
   where
     Refused : TailReport → Option ℕ → Type 0
     Refused t k = (t ≡ TailReport.refused n) ↔ (k ≡ some n)
@@ -106,17 +106,17 @@ tail-refused-exactly s n = by (valid s)
     reported t f = (λ e. absurd (not-both f (ap tailRefused e)), λ e. absurd (let z : _≡_ {A = ℕ} 0 1 = cc in omega arith))
 
     Tail : TailReport
-    Tail = cond (ltb longest-form (count s)) longer (unfinished (count s))
+    Tail = cond (ltb longest-form (receivedCount s)) longer (unfinished (receivedCount s))
 
     by : (b : Bool) → Refused (cond b Tail (TailReport.refused 12)) (cond (not b) (some 12) none)
     by true =
-        cond-by (λ t. Refused t none) (ltb longest-form (count s)) _ _ (λ _. reported longer refl)
-        (λ _. reported (unfinished (count s)) refl)
+        cond-by (λ t. Refused t none) (ltb longest-form (receivedCount s)) _ _ (λ _. reported longer refl)
+        (λ _. reported (unfinished (receivedCount s)) refl)
     by false = (λ e. cc, λ e. cc)
 
 pub data-refused-exactly : DataRefusedExactly
 unfolding dataRefusal firstFailing
-data-refused-exactly s k = by (valid s)
+data-refused-exactly s k = by (validReader s)
   where
     Nine : Option ℕ
     Nine = cond (ltb longest-data k) (some 9) none
@@ -126,60 +126,60 @@ data-refused-exactly s k = by (valid s)
     by false = refl
 
 pub data-not-handed : DataNotHanded
-unfolding dataOf partOf
+unfolding dataPromise partOf
 data-not-handed s k n e = rw e
 
 pub start-refused-exactly : StartRefusedExactly
-unfolding starting firstFailing
+unfolding readerStartPromise firstFailing
 start-refused-exactly room =
-    cond-by (λ (x : Start). x .refusal ≡ cond (ltb (length room) state-length) (some 12) none) (leb state-length (length room)) _ _
-    (λ e. rw (le-ltb (length room) state-length (leb-true _ _ e)))
-    (λ e. rw (lt-ltb (length room) state-length (leb-false _ _ e)))
+    cond-by (λ (x : ReaderStartOutcome). x .refusal ≡ cond (ltb (length room) reader-length) (some 12) none) (leb reader-length (length room)) _ _
+    (λ e. rw (le-ltb (length room) reader-length (leb-true _ _ e)))
+    (λ e. rw (lt-ltb (length room) reader-length (leb-false _ _ e)))
 
 pub start-untouched : StartUntouched
-unfolding starting
+unfolding readerStartPromise
 start-untouched room n =
-    cond-by (λ (x : Start). x .refusal ≡ some n → x .state ≡ room) (leb state-length (length room)) _ _
+    cond-by (λ (x : ReaderStartOutcome). x .refusal ≡ some n → x .state ≡ room) (leb reader-length (length room)) _ _
     (λ _ e. absurd (let z : _≡_ {A = ℕ} 0 1 = cc in omega arith)) (λ _ _. refl)
 
 abbrev twelve : Option ℕ → Bool
 twelve none = false
 twelve (some n) = eqb n 12
 
-valid-answers : (part : List ℕ) → valid part ≡ true → NotRefused part
-unfolding tailOf dataRefusal starting
+valid-answers : (part : List ℕ) → validReader part ≡ true → NotRefused part
+unfolding tailPromise dataRefusal readerStartPromise
 valid-answers part v = record {
   reads = λ piece a. not-both (refused-exactly part piece .0 a) v;
-  tails = rw v (λ a. not-both (cond-by (λ x. tailRefused x ≡ false) (ltb longest-form (count part)) longer (unfinished (count part)) (λ e. refl) (λ e. refl)) (ap tailRefused a));
+  tails = rw v (λ a. not-both (cond-by (λ x. tailRefused x ≡ false) (ltb longest-form (receivedCount part)) longer (unfinished (receivedCount part)) (λ e. refl) (λ e. refl)) (ap tailRefused a));
   hands = λ n. rw v (λ a. not-both (cond-by (λ x. twelve x ≡ false) (ltb longest-data n) (some 9) none (λ e. refl) (λ e. refl)) (ap twelve a));
-  starts = rw (le-leb state-length (length part) (valid-ready part v .0));
+  starts = rw (le-leb reader-length (length part) (valid-ready part v .0));
 }
 
 pub too-little-12 : TooLittle12
-unfolding valid tailOf dataRefusal starting
+unfolding validReader tailPromise dataRefusal readerStartPromise
 too-little-12 s l e =
-    let short = lt-leb state-length (length (lentState l s)) (lent-short state-length s l (omega arith) e) in
+    let short = lt-leb reader-length (length (lentState l s)) (lent-short reader-length s l (omega arith) e) in
     record { reads = λ piece. refused-nothing (lentState l s) piece (rw short); tails = rw short; hands = λ n. rw short; starts = rw short }
 
 pub too-little-nothing : TooLittleNothing
-unfolding after afterRead afterOutcome afterStart restarted handed reasons answers
+unfolding afterLineCall afterLineRead afterOutcome afterStart afterRestart messagesHanded reasonsReported answersTo00
 too-little-nothing r (read c) e = rw (too-little-12 (r .state) (c .lent) e .reads (c .piece)) (simp (append-nil, back-same))
 too-little-nothing r (start l) e = rw (too-little-12 (r .state) l e .starts)
 
-module _ (room : List ℕ) (enough : state-length ≤ length room) (cs : List Call) where
-  pub never-12 : Never12 (afterAll (begun room) cs)
+module _ (room : List ℕ) (enough : reader-length ≤ length room) (cs : List LineCall) where
+  pub never-12 : LineNever12 (afterLineCalls (freshReader room) cs)
   never-12 l e =
-      let s = afterAll (begun room) cs .state in
+      let s = afterLineCalls (freshReader room) cs .state in
       let v = stays-valid room enough cs in
-      let f = front state-length l s e in
-      let h = lent-long state-length s l e (valid-ready s v .0) in
+      let f = front reader-length l s e in
+      let h = lent-long reader-length s l e (valid-ready s v .0) in
       valid-answers (lentState l s) (sym (valid-append (lentState l s) (f .rest) h) ∙ rw (f .whole) v)
 
   -- ---- What was written is what is handed out
 
-  pub sent-handed : SentHanded (afterAll (begun room) cs)
+  pub sent-handed : SentHanded (afterLineCalls (freshReader room) cs)
   sent-handed ms s = hands-out room enough cs ms (sent-wire s)
 
 pub room-enough : RoomEnough
-unfolding Writer.writing Writer.sending
+unfolding Writer.writePromise Writer.writeInto
 room-enough m out r h = rw (le-ltb longest-data (length (m .payload)) (r .fits), le-ltb (length out) (length (frame m)) (omega (arith, frame-fits m r)))

@@ -7,9 +7,9 @@ use Rattle.line.specs.Message.{body, message}
 use Rattle.line.specs.Cobs.{groups, cobs, groupBytes, uncobs}
 use Rattle.line.specs.Frame.{frame}
 use Rattle.line.specs.Judge.{fields, judgeForm, judge}
-use Rattle.line_claims.specs.Samples.{meant, status-request, samples}
-use Rattle.line_claims.specs.Demand3.{SamplesHold}
+use Rattle.line_claims.specs.Samples.{lineSampleMeant, status-request, lineSamples}
+use Rattle.line_claims.specs.Demand3.{LineSamplesHold}
 
-pub samples-hold : SamplesHold
-unfolding meant samples status-request number bytes equal sums checksum body message groups cobs groupBytes uncobs frame fields judgeForm judge
+pub samples-hold : LineSamplesHold
+unfolding lineSampleMeant lineSamples status-request number bytes equal sums checksum body message groups cobs groupBytes uncobs frame fields judgeForm judge
 samples-hold = refl

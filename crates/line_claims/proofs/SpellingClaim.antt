@@ -13,7 +13,7 @@ use borrow.Author.Tests.{ltb-true, ltb-false, eq-eqb}
 use Rattle.octets.specs.Bytes.{Byte, Each, equal}
 use Rattle.line.specs.Limits.{longest-group}
 use Rattle.line.specs.Message.{Message, InRange, message}
-use Rattle.line.specs.Cobs.{full-code, places-left, Group, coded, unlessEnd, groups, cobs, zeros, lastOneAfterFull, groupBytes, uncobs}
+use Rattle.line.specs.Cobs.{full-code, places-left, Group, coded, unlessEnd, groups, cobs, impliedZero, lastOneAfterFull, groupBytes, uncobs}
 use Rattle.line.specs.Frame.{frame}
 use Rattle.line.specs.Judge.{good, judgeForm, judge}
 use Rattle.line.proofs.Lent.{fit-length}
@@ -38,7 +38,7 @@ byte-read b left holds bs xs e = map-eq-some-iff (λ ys. b ∷ ys) (groupBytes l
 record Coded (k : ℕ) (holds : Bool) (cs xs : List ℕ) : Type 0 where
   rest : List ℕ
   read : groupBytes k (ltb (suc k) full-code) cs ≡ some rest
-  whole : zeros holds ++ rest ≡ xs
+  whole : impliedZero holds ++ rest ≡ xs
   spelled : lastOneAfterFull (suc k) cs ≡ false
 
 code-read : (k : ℕ) (holds : Bool) (cs xs : List ℕ) → groupBytes 0 holds (suc k ∷ cs) ≡ some xs → Coded k holds cs xs
@@ -46,10 +46,10 @@ unfolding groupBytes
 code-read k holds cs xs e = go (lastOneAfterFull (suc k) cs) refl (rw (eqb·suc-zero, sub-one) at e)
   where
     go : (t : Bool) → lastOneAfterFull (suc k) cs ≡ t
-        → cond t none (Option·map (λ ys. zeros holds ++ ys) (groupBytes k (ltb (suc k) full-code) cs)) ≡ some xs → Coded k holds cs xs
+        → cond t none (Option·map (λ ys. impliedZero holds ++ ys) (groupBytes k (ltb (suc k) full-code) cs)) ≡ some xs → Coded k holds cs xs
     go true f g = never g
     go false f g =
-        let m = map-eq-some-iff (λ ys. zeros holds ++ ys) (groupBytes k (ltb (suc k) full-code) cs) .0 g in
+        let m = map-eq-some-iff (λ ys. impliedZero holds ++ ys) (groupBytes k (ltb (suc k) full-code) cs) .0 g in
         record { rest = m .0; read = m .1; whole = m .2; spelled = f }
 
 -- ---- what is read was written

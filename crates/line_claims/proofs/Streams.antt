@@ -7,13 +7,13 @@ use native.Mathlib.Omega.{arith}
 use lib.Dec.{eqb·suc-zero}
 use lib.ListN.{length, take}
 use lib.Seq.{append-snoc}
-use Rattle.line.specs.Reader.{Report, refused, more, empty, message, failed, state-length, valid, pushed, finish, Outcome, next, readPiece, reading}
+use Rattle.line.specs.Reader.{ReadReport, refused, more, empty, message, failed, reader-length, validReader, pushed, finish, ReadOutcome, oneByteLater, readPiece, readPromise}
 use Rattle.octets.proofs.Conditions.{cond-by}
 use Rattle.line.proofs.State.{Ready, valid-ready, ready-pushed}
 use Rattle.line.proofs.Lent.{dataOf-append, pushed-append, finish-append}
 use Rattle.line.proofs.Held.{finish-leaves}
 use Rattle.line_claims.proofs.LoanLaws.{back-same, lent-enough, front}
-use Rattle.line_claims.specs.Calls.{Read, lentState, handed, reasons, answers, Reader, extended, afterOutcome, afterRead, after, afterAll, afterReads}
+use Rattle.line_claims.specs.Calls.{LineRead, lentState, messagesHanded, reasonsReported, answersTo00, Reader, extended, afterOutcome, afterLineRead, afterLineCall, afterLineCalls, afterLineReads}
 
 -- a reader after one byte
 unfoldable pub afterByte : Reader → ℕ → Reader
@@ -49,8 +49,8 @@ stream-read r (b ∷ bs) = stream-read (afterByte r b) bs ∙ rw (byte-read r b)
 -- ---- one call
 
 -- what is handed out stands in the bytes lent
-handed-append : (a : Report) (t u : List ℕ) → state-length ≤ length t → handed a (t ++ u) ≡ handed a t
-unfolding handed
+handed-append : (a : ReadReport) (t u : List ℕ) → reader-length ≤ length t → messagesHanded a (t ++ u) ≡ messagesHanded a t
+unfolding messagesHanded
 handed-append (refused number) t u h = refl
 handed-append more t u h = refl
 handed-append empty t u h = refl
@@ -58,12 +58,12 @@ handed-append (message version sequence command n) t u h = rw (dataOf-append t u
 handed-append (failed reason sequence) t u h = refl
 
 -- the reader after a piece, where u stands behind the bytes lent
-abbrev joined : Reader → List ℕ → List ℕ → Outcome → Reader
+abbrev joined : Reader → List ℕ → List ℕ → ReadOutcome → Reader
 joined r piece u o = extended r (o .answer) (o .state) (take (o .used) piece) (o .state ++ u)
 
 piece-stream : (piece : List ℕ) (r : Reader) (t u : List ℕ) → Ready t → r .state ≡ t ++ u
     → joined r piece u (readPiece t piece) ≡ stream r (take (readPiece t piece .used) piece)
-unfolding readPiece stream next afterByte handed reasons answers
+unfolding readPiece stream oneByteLater afterByte messagesHanded reasonsReported answersTo00
 piece-stream [] r t u h e = simp (append-nil, ← e)
 piece-stream (zero ∷ bs) r t u h e =
     let l = finish-leaves t (h .0) in
@@ -74,27 +74,27 @@ piece-stream (suc b ∷ bs) r t u h e =
     rw eqb·suc-zero (rw append-snoc at i)
 
 -- the bytes that a call reads
-abbrev pub bytesRead : Reader → Read → List ℕ
-bytesRead r c = take (reading (lentState (c .lent) (r .state)) (c .piece) .used) (c .piece)
+abbrev pub bytesRead : Reader → LineRead → List ℕ
+bytesRead r c = take (readPromise (lentState (c .lent) (r .state)) (c .piece) .used) (c .piece)
 
 -- a call, whatever it is lent of the state, refused or not
-pub call-stream : (r : Reader) (c : Read) → afterRead r c ≡ stream r (bytesRead r c)
-unfolding afterRead afterOutcome reading stream handed reasons answers
+pub call-stream : (r : Reader) (c : LineRead) → afterLineRead r c ≡ stream r (bytesRead r c)
+unfolding afterLineRead afterOutcome readPromise stream messagesHanded reasonsReported answersTo00
 call-stream r c =
     let t = lentState (c .lent) (r .state) in
-    cond-by (λ o. afterOutcome r c o ≡ stream r (take (o .used) (c .piece))) (valid t) _ _
+    cond-by (λ o. afterOutcome r c o ≡ stream r (take (o .used) (c .piece))) (validReader t) _ _
     (λ e.
     let h = valid-ready t e in
-    let f = front state-length (c .lent) (r .state) (lent-enough state-length (r .state) (c .lent) (omega arith) (h .0)) in
+    let f = front reader-length (c .lent) (r .state) (lent-enough reader-length (r .state) (c .lent) (omega arith) (h .0)) in
     rw (f .back) (piece-stream (c .piece) r t (f .rest) h (sym (f .whole))))
     (λ e. simp (append-nil, back-same))
 
 -- ---- calls
 
 -- calls that are given pieces give what some bytes give, one by one: those that they read
-pub reads-stream : (r : Reader) (cs : List Read) → (bs : List ℕ) × (afterReads r cs ≡ stream r bs)
-unfolding afterAll after stream
+pub reads-stream : (r : Reader) (cs : List LineRead) → (bs : List ℕ) × (afterLineReads r cs ≡ stream r bs)
+unfolding afterLineCalls afterLineCall stream
 reads-stream r [] = ([], refl)
 reads-stream r (c ∷ cs) =
-    let q = reads-stream (afterRead r c) cs in
+    let q = reads-stream (afterLineRead r c) cs in
     (bytesRead r c ++ q .0, q .1 ∙ ap (λ x. stream x (q .0)) (call-stream r c) ∙ sym (stream-append r (bytesRead r c) (q .0)))

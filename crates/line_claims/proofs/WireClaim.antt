@@ -6,7 +6,7 @@ use Prim.Native.Nat.{ℕ}
 use Rattle.octets.specs.Bytes.{Each}
 use Rattle.line.specs.Message.{Message, InRange, message}
 use Rattle.line.specs.Cobs.{cobs}
-use Rattle.line.specs.Frame.{frame, Wire, over, idle, sent}
+use Rattle.line.specs.Frame.{frame, WireBytes, over, idle, sent}
 use Rattle.line_claims.specs.Pieces.{split, nonEmpty, form}
 use Rattle.line_claims.proofs.Pieces.{split-at}
 use Rattle.line_claims.proofs.CobsClaims.{above-zero}
@@ -20,21 +20,21 @@ unfolding frame
 split-frame m w = rw append-assoc (split-at (form m) w (above-zero (message m)))
 
 -- the pieces of wire bytes that are not empty are the messages' COBS forms
-pub wire-forms : {ms : List Message} {w : List ℕ} → Wire ms w → nonEmpty (split w .closed) ≡ map form ms
+pub wire-forms : {ms : List Message} {w : List ℕ} → WireBytes ms w → nonEmpty (split w .closed) ≡ map form ms
 unfolding split nonEmpty cobs
 wire-forms over = refl
 wire-forms (idle w) = wire-forms w
 wire-forms (sent {m = m} {w = w} r ws) = rw (split-frame m w, wire-forms ws)
 
 -- wire bytes end with a zero, if there are any
-pub wire-rest : {ms : List Message} {w : List ℕ} → Wire ms w → split w .rest ≡ []
+pub wire-rest : {ms : List Message} {w : List ℕ} → WireBytes ms w → split w .rest ≡ []
 unfolding split
 wire-rest over = refl
 wire-rest (idle w) = wire-rest w
 wire-rest (sent {m = m} {w = w} r ws) = rw (split-frame m w) (wire-rest ws)
 
 -- what was sent is in range
-pub wire-range : {ms : List Message} {w : List ℕ} → Wire ms w → Each InRange ms
+pub wire-range : {ms : List Message} {w : List ℕ} → WireBytes ms w → Each InRange ms
 wire-range over = tt
 wire-range (idle w) = wire-range w
 wire-range (sent r w) = (r, wire-range w)

@@ -12,14 +12,14 @@ Multiple n = n % 255 ≡ 0
 
 -- the change from byte x to byte y is y - x, which may be negative; 255 more is never below 0, since a byte is at most 255, and adds only multiples
 -- of 255 to a sum of changes and to a change times a number
-abbrev pub change : ℕ → ℕ → ℕ
-change x y = y + 255 - x
+abbrev pub byteChange : ℕ → ℕ → ℕ
+byteChange x y = y + 255 - x
 
 -- the changes place by place, of lists of one length
-unfoldable pub changes : List ℕ → List ℕ → List ℕ
-changes [] ys = []
-changes (x ∷ xs) [] = []
-changes (x ∷ xs) (y ∷ ys) = change x y ∷ changes xs ys
+unfoldable pub byteChanges : List ℕ → List ℕ → List ℕ
+byteChanges [] ys = []
+byteChanges (x ∷ xs) [] = []
+byteChanges (x ∷ xs) (y ∷ ys) = byteChange x y ∷ byteChanges xs ys
 
 -- the sum of all changes, each times the weight of its place; places count from 0
 unfoldable pub weighed : (ℕ → ℕ) → List ℕ → ℕ
@@ -34,12 +34,12 @@ abbrev pub placed : List ℕ → ℕ
 placed = weighed (λ i. i)
 
 -- the same byte at every place but p and q; past its end a list reads 0
-abbrev pub SameBut : ℕ → ℕ → List ℕ → List ℕ → Type 0
-SameBut p q xs ys = (i : ℕ) → (i ≡ p → ⊥) → (i ≡ q → ⊥) → getD xs i 0 ≡ getD ys i 0
+abbrev pub SameButAt : ℕ → ℕ → List ℕ → List ℕ → Type 0
+SameButAt p q xs ys = (i : ℕ) → (i ≡ p → ⊥) → (i ≡ q → ⊥) → getD xs i 0 ≡ getD ys i 0
 
 -- the change at a place
 abbrev pub changeAt : ℕ → List ℕ → List ℕ → ℕ
-changeAt i xs ys = change (getD xs i 0) (getD ys i 0)
+changeAt i xs ys = byteChange (getD xs i 0) (getD ys i 0)
 
 -- of one length, and different at exactly two places: p, and p + k
 pub record DifferApart (k p : ℕ) (xs ys : List ℕ) : Type 0 where
@@ -47,7 +47,7 @@ pub record DifferApart (k p : ℕ) (xs ys : List ℕ) : Type 0 where
   pub lengths : length xs ≡ length ys
   pub first : getD xs p 0 ≡ getD ys p 0 → ⊥
   pub second : getD xs (p + k) 0 ≡ getD ys (p + k) 0 → ⊥
-  pub elsewhere : SameBut p (p + k) xs ys
+  pub elsewhere : SameButAt p (p + k) xs ys
 
 -- the two changes sum to a multiple of 255, and k times the first change is one too
 abbrev pub Missed : ℕ → ℕ → ℕ → Type 0
@@ -57,7 +57,7 @@ Missed k first second = Multiple (first + second) × Multiple (k * first)
 pub record Near (xs ys : List ℕ) : Type 0 where
   pub place : ℕ
   pub lengths : length xs ≡ length ys
-  pub elsewhere : SameBut place (place + 1) xs ys
+  pub elsewhere : SameButAt place (place + 1) xs ys
 
 -- equal, or one is 00 and the other ff
 abbrev pub SameOr00Ff : ℕ → ℕ → Type 0

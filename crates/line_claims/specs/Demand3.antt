@@ -10,16 +10,16 @@ use lib.ListN.{length, take, getD}
 use Rattle.octets.specs.Bytes.{Byte, Each}
 use Rattle.line.specs.Limits.{longest-data, longest-form}
 use Rattle.line.specs.Checksum.{checksum}
-use Rattle.line.specs.Message.{Message, Typed, InRange, message}
+use Rattle.line.specs.Message.{Message, MessageTyped, InRange, message}
 use Rattle.line.specs.Cobs.{cobs, uncobs}
-use Rattle.line.specs.Frame.{frame, Wire}
+use Rattle.line.specs.Frame.{frame, WireBytes}
 use Rattle.line.specs.Judge.{failure, sequenceOf, checksumOf, wrongLength, wrongChecksum, judgeForm}
-use Rattle.line.specs.Reader.{valid, reading, tailOf}
-use Rattle.line.specs.Writer.{Report, writing}
+use Rattle.line.specs.Reader.{validReader, readPromise, tailPromise}
+use Rattle.line.specs.Writer.{WriteReport, writePromise}
 use Rattle.line_claims.specs.Pieces.{NonZero, split, nonEmpty}
-use Rattle.line_claims.specs.Calls.{Read, Reader, fresh, afterReads, OfFreshReader, frameReport, goodMessages, failureReasons, tailMeant}
+use Rattle.line_claims.specs.Calls.{LineRead, Reader, readerOn, afterLineReads, OfFreshReader, frameReport, goodMessages, failureReasons, tailMeant}
 use Rattle.line_claims.specs.Changes.{Near, AllSameOr00Ff}
-use Rattle.line_claims.specs.Samples.{meant, samples}
+use Rattle.line_claims.specs.Samples.{lineSampleMeant, lineSamples}
 use Rattle.line_claims.specs.Demand1.{WriterWrites}
 
 -- ---- Wire bytes determine the list of messages
@@ -28,24 +28,24 @@ use Rattle.line_claims.specs.Demand1.{WriterWrites}
 pub data Sent : List Message → List ℕ → Type 0 where
   over : Sent [] []
   idle : {ms : List Message} {w : List ℕ} → Sent ms w → Sent ms (0 ∷ w)
-  wrote : {m : Message} {ms : List Message} {w : List ℕ} (room : List ℕ) (n : ℕ) → Typed m → writing m room .answer ≡ Report.wrote n → Sent ms w
-      → Sent (m ∷ ms) (take n (writing m room .out) ++ w)
+  wrote : {m : Message} {ms : List Message} {w : List ℕ} (room : List ℕ) (n : ℕ) → MessageTyped m → writePromise m room .answer ≡ WriteReport.wrote n → Sent ms w
+      → Sent (m ∷ ms) (take n (writePromise m room .out) ++ w)
 
 abbrev pub OneMeaning : Type 0
-OneMeaning = (ms ns : List Message) (w : List ℕ) → Wire ms w → Wire ns w → ms ≡ ns
+OneMeaning = (ms ns : List Message) (w : List ℕ) → WireBytes ms w → WireBytes ns w → ms ≡ ns
 
 abbrev pub WrittenFrame : Type 0
-WrittenFrame = (m : Message) (room : List ℕ) (n : ℕ) → writing m room .answer ≡ Report.wrote n
-    → (n ≡ length (frame m)) × (take n (writing m room .out) ≡ frame m) × (length (m .payload) ≤ longest-data)
+WrittenFrame = (m : Message) (room : List ℕ) (n : ℕ) → writePromise m room .answer ≡ WriteReport.wrote n
+    → (n ≡ length (frame m)) × (take n (writePromise m room .out) ≡ frame m) × (length (m .payload) ≤ longest-data)
 
 abbrev pub RoomEnough : Type 0
-RoomEnough = (m : Message) (out : List ℕ) → InRange m → longest-form + 1 ≤ length out → writing m out .answer ≡ Report.wrote (length (frame m))
+RoomEnough = (m : Message) (out : List ℕ) → InRange m → longest-form + 1 ≤ length out → writePromise m out .answer ≡ WriteReport.wrote (length (frame m))
 
 abbrev pub OneMeaningSent : Type 0
 OneMeaningSent = (ms ns : List Message) (w : List ℕ) → Sent ms w → Sent ns w → ms ≡ ns
 
-abbrev pub RoundTrip : Type 0
-RoundTrip = (xs : List ℕ) → uncobs (cobs xs) ≡ some xs
+abbrev pub LineRoundTrip : Type 0
+LineRoundTrip = (xs : List ℕ) → uncobs (cobs xs) ≡ some xs
 
 abbrev pub NoZero : Type 0
 NoZero = (xs : List ℕ) → Each Byte xs → Each NonZero (cobs xs)
@@ -68,7 +68,7 @@ pub record WireDetermines : Type 0 where
   -- so the bytes that the writer's calls put out determine the messages
   pub one-meaning-sent : OneMeaningSent
   -- a COBS form reads back as its bytes
-  pub round-trip : RoundTrip
+  pub round-trip : LineRoundTrip
   -- holds no 00
   pub no-zero : NoZero
   -- and has at most 4,140 bytes, 4,141 with its terminator
@@ -78,7 +78,7 @@ pub record WireDetermines : Type 0 where
 -- ---- Any list of calls of a fresh line reader hands out exactly the messages read
 
 abbrev pub HandsOut : Reader → Type 0
-HandsOut r = (ms : List Message) → Wire ms (r .bytes) → (r .messages ≡ ms) × (r .failures ≡ [])
+HandsOut r = (ms : List Message) → WireBytes ms (r .bytes) → (r .messages ≡ ms) × (r .failures ≡ [])
 
 abbrev pub SentHanded : Reader → Type 0
 SentHanded r = (ms : List Message) → Sent ms (r .bytes) → (r .messages ≡ ms) × (r .failures ≡ [])
@@ -93,17 +93,17 @@ abbrev pub AnyFailures : Reader → Type 0
 AnyFailures r = r .failures ≡ failureReasons (nonEmpty (split (r .bytes) .closed))
 
 abbrev pub AnyTail : Reader → Type 0
-AnyTail r = tailOf (r .state) ≡ tailMeant (split (r .bytes) .rest)
+AnyTail r = tailPromise (r .state) ≡ tailMeant (split (r .bytes) .rest)
 
 -- the whole piece, or up to and with a 00 of that piece
 abbrev pub Stops : List ℕ → ℕ → Type 0
 Stops piece used = (used ≡ length piece) ⊎ ((at : ℕ) × (used ≡ suc at) × (at < length piece) × (getD piece at 0 ≡ 0))
 
 abbrev pub AcceptedStops : Type 0
-AcceptedStops = (s piece : List ℕ) → valid s ≡ true → Stops piece (reading s piece .used)
+AcceptedStops = (s piece : List ℕ) → validReader s ≡ true → Stops piece (readPromise s piece .used)
 
-abbrev pub Cut : Type 0
-Cut = (s : List ℕ) (cs ds : List Read) → afterReads (fresh s) cs .bytes ≡ afterReads (fresh s) ds .bytes → afterReads (fresh s) cs ≡ afterReads (fresh s) ds
+abbrev pub LineCut : Type 0
+LineCut = (s : List ℕ) (cs ds : List LineRead) → afterLineReads (readerOn s) cs .bytes ≡ afterLineReads (readerOn s) ds .bytes → afterLineReads (readerOn s) cs ≡ afterLineReads (readerOn s) ds
 
 pub record FreshReader : Type 0 where
   -- where the bytes read are wire bytes, the messages handed out are exactly theirs, in order, and no failure is reported
@@ -121,7 +121,7 @@ pub record FreshReader : Type 0 where
   -- a call that is not refused reads its whole piece, or stops behind a 00 of that piece
   pub accepted-stops : AcceptedStops
   -- cutting the stream elsewhere changes nothing: calls that read the same bytes leave the same reader
-  pub cut : Cut
+  pub cut : LineCut
 
 -- ---- The checksum's blind spots at one or two neighbouring bytes are exactly 00 against ff
 
@@ -148,9 +148,9 @@ pub record BlindSpots : Type 0 where
 
 -- ---- Document 01's line samples
 
-abbrev pub SamplesHold : Type 0
-SamplesHold = map meant samples ≡ samples
+abbrev pub LineSamplesHold : Type 0
+LineSamplesHold = map lineSampleMeant lineSamples ≡ lineSamples
 
 pub record LineSamples : Type 0 where
   -- L1 to L12 together, as a single table, over the meaning itself
-  pub samples-hold : SamplesHold
+  pub samples-hold : LineSamplesHold

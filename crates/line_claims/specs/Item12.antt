@@ -7,7 +7,7 @@ use Prim.Native.Nat.{ℕ, _+_}
 use lib.ListN.{length, getD, replicate}
 use Rattle.octets.specs.Bytes.{Byte, Each}
 use Rattle.line.specs.Checksum.{checksum}
-use Rattle.line_claims.specs.Changes.{Multiple, changes, summed, placed, changeAt, DifferApart, Missed, Factors}
+use Rattle.line_claims.specs.Changes.{Multiple, byteChanges, summed, placed, changeAt, DifferApart, Missed, Factors}
 
 -- bodies that differ at places p and p + k alone, and a condition on these under which their checksums agree
 abbrev pub AgreeExactly : (ℕ → ℕ → List ℕ → List ℕ → Type 0) → Type 0
@@ -32,9 +32,9 @@ Exchanged255Apart = checksum (1 ∷ (replicate 254 0 ++ (0 ∷ []))) ≡ checksu
 
 abbrev pub ChecksumChanges : Type 0
 ChecksumChanges = (xs ys : List ℕ) → length xs ≡ length ys → Each Byte xs
-    → (checksum xs ≡ checksum ys) ↔ (Multiple (summed (changes xs ys)) × Multiple (placed (changes xs ys)))
+    → (checksum xs ≡ checksum ys) ↔ (Multiple (summed (byteChanges xs ys)) × Multiple (placed (byteChanges xs ys)))
 
-pub record Item12 : Type 0 where
+pub record LineItem12 : Type 0 where
   -- the checksums agree exactly when the two changes sum to a multiple of 255 and k times the first change is one too, for every length and place
   pub checksum-apart : ChecksumApart
   -- the case k = 255: exactly when the two changes sum to a multiple of 255

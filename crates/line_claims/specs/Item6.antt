@@ -8,7 +8,7 @@ use lib.ListN.{length}
 use Rattle.octets.specs.Bytes.{Byte, Each}
 use Rattle.line.specs.Message.{Message}
 use Rattle.line.specs.Cobs.{cobs, uncobs}
-use Rattle.line.specs.Frame.{frame, Wire}
+use Rattle.line.specs.Frame.{frame, WireBytes}
 use Rattle.line.specs.Judge.{failure, good, judge}
 use Rattle.line_claims.specs.Pieces.{NonZero, split, nonEmpty, withZeros}
 use Rattle.line_claims.specs.Calls.{Reader, OfFreshReader, goodFrames, reportedBytes}
@@ -21,6 +21,7 @@ pub record Form (form : List ℕ) : Type 0 where
 abbrev pub LastOneReason1 : Type 0
 LastOneReason1 = (f g ys : List ℕ) → uncobs f ≡ some ys → length g ≡ 254 → judge (f ++ 0xff ∷ (g ++ 0x01 ∷ [])) ≡ failure 1 none
 
+-- one spelling: what the field calls a unique or canonical encoding
 abbrev pub OneSpelling : Type 0
 OneSpelling = (f g xs : List ℕ) → Form f → Form g → uncobs f ≡ some xs → uncobs g ≡ some xs → f ≡ g
 
@@ -39,12 +40,12 @@ HandedFrames r = Each Byte (r .bytes) → goodFrames (nonEmpty (piecesRead r)) �
 
 abbrev pub HandedWire : Reader → Type 0
 HandedWire r = Each Byte (r .bytes) → r .failures ≡ []
-    → Wire (r .messages) (withZeros (piecesRead r)) × (r .bytes ≡ withZeros (piecesRead r) ++ split (r .bytes) .rest)
+    → WireBytes (r .messages) (withZeros (piecesRead r)) × (r .bytes ≡ withZeros (piecesRead r) ++ split (r .bytes) .rest)
 
 abbrev pub AnswersDetermine : Reader → Type 0
 AnswersDetermine r = Each Byte (r .bytes) → r .failures ≡ [] → r .bytes ≡ reportedBytes (r .answered) (r .messages) ++ split (r .bytes) .rest
 
-pub record Item6 : Type 0 where
+pub record LineItem6 : Type 0 where
   -- a last 01 after a full group, behind any groups or none, is reason 1 ahead of the length test: whatever the decoded length
   pub last-one-reason-1 : LastOneReason1
   -- forms that are read as equal bytes are the same form

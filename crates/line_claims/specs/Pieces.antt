@@ -12,14 +12,14 @@ pub record Pieces : Type 0 where
   pub rest : List ℕ
 
 -- a byte ahead of the first piece
-abbrev pub ahead : ℕ → List (List ℕ) → List ℕ → Pieces
-ahead b [] rest = record { closed = []; rest = b ∷ rest }
-ahead b (p ∷ ps) rest = record { closed = (b ∷ p) ∷ ps; rest = rest }
+abbrev pub aheadOfPieces : ℕ → List (List ℕ) → List ℕ → Pieces
+aheadOfPieces b [] rest = record { closed = []; rest = b ∷ rest }
+aheadOfPieces b (p ∷ ps) rest = record { closed = (b ∷ p) ∷ ps; rest = rest }
 
 unfoldable pub split : List ℕ → Pieces
 split [] = record { closed = []; rest = [] }
 split (zero ∷ w) = record { closed = [] ∷ split w .closed; rest = split w .rest }
-split (suc b ∷ w) = ahead (suc b) (split w .closed) (split w .rest)
+split (suc b ∷ w) = aheadOfPieces (suc b) (split w .closed) (split w .rest)
 
 -- the pieces that are not empty
 unfoldable pub nonEmpty : List (List ℕ) → List (List ℕ)
@@ -28,8 +28,8 @@ nonEmpty ([] ∷ ps) = nonEmpty ps
 nonEmpty ((b ∷ bs) ∷ ps) = (b ∷ bs) ∷ nonEmpty ps
 
 -- of the joined bytes, the pieces whose zero is one of the bytes that came behind w
-unfoldable pub closedBy : List ℕ → List ℕ → List (List ℕ)
-closedBy w more = drop (length (split w .closed)) (split (w ++ more) .closed)
+unfoldable pub closedBehind : List ℕ → List ℕ → List (List ℕ)
+closedBehind w more = drop (length (split w .closed)) (split (w ++ more) .closed)
 
 -- each piece with its zero
 unfoldable pub withZeros : List (List ℕ) → List ℕ

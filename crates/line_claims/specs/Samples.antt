@@ -8,23 +8,23 @@ use Rattle.line.specs.Checksum.{checksum}
 use Rattle.line.specs.Message.{Message}
 use Rattle.line.specs.Cobs.{cobs, uncobs}
 use Rattle.line.specs.Frame.{frame}
-use Rattle.line.specs.Judge.{Verdict, failure, good, judge}
+use Rattle.line.specs.Judge.{LineVerdict, failure, good, judge}
 
 -- a rule's input, and what it gives
-pub data Sample : Type 0 where
-  sum : List ℕ → ℕ → Sample
-  form : List ℕ → List ℕ → Sample
-  decoded : List ℕ → Option (List ℕ) → Sample
-  read : List ℕ → Verdict → Sample
-  sent : Message → List ℕ → Sample
+pub data LineSample : Type 0 where
+  sum : List ℕ → ℕ → LineSample
+  form : List ℕ → List ℕ → LineSample
+  decoded : List ℕ → Option (List ℕ) → LineSample
+  read : List ℕ → LineVerdict → LineSample
+  sent : Message → List ℕ → LineSample
 
 -- the sample as the meaning has it
-unfoldable pub meant : Sample → Sample
-meant (sum bs n) = sum bs (checksum bs)
-meant (form bs ys) = form bs (cobs bs)
-meant (decoded ys bs) = decoded ys (uncobs ys)
-meant (read f v) = read f (judge f)
-meant (sent m w) = sent m (frame m)
+unfoldable pub lineSampleMeant : LineSample → LineSample
+lineSampleMeant (sum bs n) = sum bs (checksum bs)
+lineSampleMeant (form bs ys) = form bs (cobs bs)
+lineSampleMeant (decoded ys bs) = decoded ys (uncobs ys)
+lineSampleMeant (read f v) = read f (judge f)
+lineSampleMeant (sent m w) = sent m (frame m)
 
 -- L12: a status request with sequence 1
 unfoldable pub status-request : Message
@@ -34,8 +34,8 @@ abbrev pub status-form : List ℕ
 status-form =
     0x06 ∷ 0xcc ∷ 0x19 ∷ 0xde ∷ 0x01 ∷ 0x01 ∷ 0x01 ∷ 0x01 ∷ 0x02 ∷ 0x01 ∷ 0x01 ∷ 0x01 ∷ 0x01 ∷ 0x01 ∷ 0x01 ∷ 0x01 ∷ 0x04 ∷ 0x08 ∷ 0xcf ∷ 0x66 ∷ []
 
-unfoldable pub samples : List Sample
-samples =
+unfoldable pub lineSamples : List LineSample
+lineSamples =
     -- L1 to L5
     sum (0x61 ∷ 0x62 ∷ 0x63 ∷ 0x64 ∷ 0x65 ∷ []) 0xC8F0
     ∷ sum (0x61 ∷ 0x62 ∷ 0x63 ∷ 0x64 ∷ 0x65 ∷ 0x66 ∷ []) 0x2057

@@ -21,10 +21,10 @@ use Rattle.requester.specs.Requester
 use Rattle.requester.specs.Layout
 use Rattle.requester.specs.Valid.{validRequester}
 use Rattle.requester.specs.Calls
-use Rattle.requester.specs.Calls.{Parts, putInto, withRequest, requesting, sending, reportOf, heardOf, outcomeOf, received, receiving, validParts}
+use Rattle.requester.specs.Calls.{MainParts, putInto, withRequest, requestPromise, sendPromise, handedReportOf, heardOf, heardOutcomeOf, mainReceiveValid, mainReceivePromise, mainValidParts}
 use Rattle.requester.specs.declared.receive.Received.{Received}
-use Rattle.oatcastle.specs.Answers.{outcome, Report, writingAnswer, answering}
-use Rattle.oatcastle.specs.RequesterCalls.{putGiven, putAnswered, requestCall, sendCall, shortPut, receiptGiven, receiptAnswered, listenCall, shortReceipt}
+use Rattle.oatcastle.specs.Answers.{callOutcome, CallReport, writingAnswer, writingAfter}
+use Rattle.oatcastle.specs.RequesterCalls.{putGiven, putCallOutcome, requestCall, sendCall, shortPut, receiptGiven, receiptCallOutcome, listenCall, shortReceipt}
 use Rattle.oatcastle.proofs.AnswerLaws.{Says, Leaves, Writes, writes-says, writes-leaves, answering-short, answering-given}
 
 -- ---- Request and send
@@ -36,19 +36,19 @@ some-bytes n q = simp length-append (omega arith)
 
 module _ (r out answer : List ℕ) where
   -- what a call leaves with no room, and what the same call answers with room and too short an answer
-  abbrev Short : Calls.Put → Calls.Put → Type 0
-  Short x y = outcome (shortPut (x .report)) ((x .requester, out), answer) ≡ putAnswered y r out answer
+  abbrev Short : Calls.PutOutcome → Calls.PutOutcome → Type 0
+  Short x y = callOutcome (shortPut (x .report)) ((x .requester, out), answer) ≡ putCallOutcome y r out answer
 
-  abbrev Kept : Calls.Put → Type 0
+  abbrev Kept : Calls.PutOutcome → Type 0
   Kept o = Leaves {A = List ℕ × List ℕ} 1 (r, out) (o .requester, o .out) (putGiven (o .report))
 
-  refused-short : (n : ℕ) (z : List ℕ) → Short (Calls.putBy (Calls.PutReport.refused n) z r) (Calls.putBy (Calls.PutReport.refused n) out r)
-  unfolding shortPut putGiven answering
+  refused-short : (n : ℕ) (z : List ℕ) → Short (Calls.putOutcome (Calls.PutReport.refused n) z r) (Calls.putOutcome (Calls.PutReport.refused n) out r)
+  unfolding shortPut putGiven writingAfter
   refused-short n z = refl
 
   put-says : (bs after : List ℕ) → Says 1 (putGiven (putInto bs out r after .report))
   unfolding putInto putGiven
-  put-says bs after = cond-by (λ (o : Calls.Put). Says 1 (putGiven (o .report))) (ltb (length out) (length bs)) _ _ (λ _. refl) (λ _. refl)
+  put-says bs after = cond-by (λ (o : Calls.PutOutcome). Says 1 (putGiven (o .report))) (ltb (length out) (length bs)) _ _ (λ _. refl) (λ _. refl)
 
   put-short : (bs after z : List ℕ) → length answer < 1 → length z < length bs → Short (putInto bs z r after) (putInto bs out r after)
   unfolding putInto shortPut
@@ -56,7 +56,7 @@ module _ (r out answer : List ℕ) where
       rw (lt-ltb (length z) (length bs) h)
       (answering-short (r, out) _ answer (putGiven (putInto bs out r after .report)) (put-says bs after) l)
 
-  refused-kept : (n : ℕ) → Kept (Calls.putBy (Calls.PutReport.refused n) out r)
+  refused-kept : (n : ℕ) → Kept (Calls.putOutcome (Calls.PutReport.refused n) out r)
   unfolding putGiven
   refused-kept n = refl
 
@@ -65,70 +65,70 @@ module _ (r out answer : List ℕ) where
   put-kept bs after = cond-by Kept (ltb (length out) (length bs)) _ _ (λ _. refl) (λ _. refl)
 
   -- the answer to the caller, of what a call answered and left
-  put-given : (o : Calls.Put) → Kept o → {a : Calls.PutReport} {r' out' : List ℕ} {n : ℕ} {answer' : List ℕ} → 1 ≤ length answer → Calls.putBy a out' r' ≡ o
-      → outcome n answer' ≡ writingAnswer (putGiven a) answer → outcome n ((r', out'), answer') ≡ putAnswered o r out answer
+  put-given : (o : Calls.PutOutcome) → Kept o → {a : Calls.PutReport} {r' out' : List ℕ} {n : ℕ} {answer' : List ℕ} → 1 ≤ length answer → Calls.putOutcome a out' r' ≡ o
+      → callOutcome n answer' ≡ writingAnswer (putGiven a) answer → callOutcome n ((r', out'), answer') ≡ putCallOutcome o r out answer
   put-given o k {a} h e f = rw (← e) (answering-given (r, out) _ answer (putGiven a) (rw (← e) at k) h f)
 
   module _ (command : ℕ) (d : List ℕ) where
     abbrev asked : List ℕ
-    asked = requestFrame (suc (Layout.numberOf r)) (record { command = command; payload = d })
+    asked = requestFrame (suc (Layout.newestNumber r)) (record { command = command; payload = d })
 
     abbrev kept : List ℕ
-    kept = withRequest (suc (Layout.numberOf r)) command d r
+    kept = withRequest (suc (Layout.newestNumber r)) command d r
 
-    pub request-short : (z : List ℕ) {a : Calls.PutReport} {r' z' : List ℕ} {n : ℕ} → length answer < 1 → length z ≡ 1 → Calls.putBy a z' r' ≡ requesting r command d z
-        → n ≡ shortPut a → outcome n ((r', out), answer) ≡ requestCall r command d out answer
-    unfolding requestCall requesting
+    pub request-short : (z : List ℕ) {a : Calls.PutReport} {r' z' : List ℕ} {n : ℕ} → length answer < 1 → length z ≡ 1 → Calls.putOutcome a z' r' ≡ requestPromise r command d z
+        → n ≡ shortPut a → callOutcome n ((r', out), answer) ≡ requestCall r command d out answer
+    unfolding requestCall requestPromise
     request-short z l h e f =
-        let b = some-bytes (suc (Layout.numberOf r)) (record { command = command; payload = d }) in
-        rw (f, ap (λ (o : Calls.Put). o .report) e, ap (λ (o : Calls.Put). o .requester) e)
+        let b = some-bytes (suc (Layout.newestNumber r)) (record { command = command; payload = d }) in
+        rw (f, ap (λ (o : Calls.PutOutcome). o .report) e, ap (λ (o : Calls.PutOutcome). o .requester) e)
         (cond-both Short (validRequester r) (λ _.
         cond-both Short (ltb longest-data (length d)) (λ _. refused-short 9 z) (λ _.
         cond-both Short (Layout.isOutstanding r) (λ _. refused-short 17 z) (λ _.
-        cond-both Short (leb last-number (Layout.numberOf r)) (λ _. refused-short 14 z) (λ _. put-short asked kept z l (omega arith)))))
+        cond-both Short (leb last-number (Layout.newestNumber r)) (λ _. refused-short 14 z) (λ _. put-short asked kept z l (omega arith)))))
         (λ _. refused-short 12 z))
 
-    pub request-given : {a : Calls.PutReport} {r' out' : List ℕ} {n : ℕ} {answer' : List ℕ} → 1 ≤ length answer → Calls.putBy a out' r' ≡ requesting r command d out
-        → outcome n answer' ≡ writingAnswer (putGiven a) answer → outcome n ((r', out'), answer') ≡ requestCall r command d out answer
-    unfolding requestCall requesting
+    pub request-given : {a : Calls.PutReport} {r' out' : List ℕ} {n : ℕ} {answer' : List ℕ} → 1 ≤ length answer → Calls.putOutcome a out' r' ≡ requestPromise r command d out
+        → callOutcome n answer' ≡ writingAnswer (putGiven a) answer → callOutcome n ((r', out'), answer') ≡ requestCall r command d out answer
+    unfolding requestCall requestPromise
     request-given h e f =
-        put-given (requesting r command d out)
+        put-given (requestPromise r command d out)
         (cond-by Kept (validRequester r) _ _ (λ _.
         cond-by Kept (ltb longest-data (length d)) _ _ (λ _. refused-kept 9) (λ _.
         cond-by Kept (Layout.isOutstanding r) _ _ (λ _. refused-kept 17) (λ _.
-        cond-by Kept (leb last-number (Layout.numberOf r)) _ _ (λ _. refused-kept 14) (λ _. put-kept asked kept))))
+        cond-by Kept (leb last-number (Layout.newestNumber r)) _ _ (λ _. refused-kept 14) (λ _. put-kept asked kept))))
         (λ _. refused-kept 12))
         h e f
 
   abbrev sent : List ℕ
-  sent = requestFrame (Layout.numberOf r) (Layout.outRequest r)
+  sent = requestFrame (Layout.newestNumber r) (Layout.outRequest r)
 
   abbrev flagged : List ℕ
   flagged = overlay Layout.unsent-offset (0 ∷ []) r
 
-  nothing-short : (z : List ℕ) → length answer < 1 → Short (Calls.putBy (Calls.wrote 0) z r) (Calls.putBy (Calls.wrote 0) out r)
+  nothing-short : (z : List ℕ) → length answer < 1 → Short (Calls.putOutcome (Calls.wrote 0) z r) (Calls.putOutcome (Calls.wrote 0) out r)
   unfolding shortPut putGiven
   nothing-short z l = answering-short (r, out) (r, out) answer (putGiven (Calls.wrote 0)) refl l
 
-  nothing-kept : Kept (Calls.putBy (Calls.wrote 0) out r)
+  nothing-kept : Kept (Calls.putOutcome (Calls.wrote 0) out r)
   unfolding putGiven
   nothing-kept = refl
 
-  pub send-short : (z : List ℕ) {a : Calls.PutReport} {r' z' : List ℕ} {n : ℕ} → length answer < 1 → length z ≡ 1 → Calls.putBy a z' r' ≡ sending r z
-      → n ≡ shortPut a → outcome n ((r', out), answer) ≡ sendCall r out answer
-  unfolding sendCall sending
+  pub send-short : (z : List ℕ) {a : Calls.PutReport} {r' z' : List ℕ} {n : ℕ} → length answer < 1 → length z ≡ 1 → Calls.putOutcome a z' r' ≡ sendPromise r z
+      → n ≡ shortPut a → callOutcome n ((r', out), answer) ≡ sendCall r out answer
+  unfolding sendCall sendPromise
   send-short z l h e f =
-      let b = some-bytes (Layout.numberOf r) (Layout.outRequest r) in
-      rw (f, ap (λ (o : Calls.Put). o .report) e, ap (λ (o : Calls.Put). o .requester) e)
+      let b = some-bytes (Layout.newestNumber r) (Layout.outRequest r) in
+      rw (f, ap (λ (o : Calls.PutOutcome). o .report) e, ap (λ (o : Calls.PutOutcome). o .requester) e)
       (cond-both Short (validRequester r)
       (λ _. cond-both Short (Layout.isUnsent r) (λ _. put-short sent flagged z l (omega arith)) (λ _. nothing-short z l))
       (λ _. refused-short 12 z))
 
-  pub send-given : {a : Calls.PutReport} {r' out' : List ℕ} {n : ℕ} {answer' : List ℕ} → 1 ≤ length answer → Calls.putBy a out' r' ≡ sending r out
-      → outcome n answer' ≡ writingAnswer (putGiven a) answer → outcome n ((r', out'), answer') ≡ sendCall r out answer
-  unfolding sendCall sending
+  pub send-given : {a : Calls.PutReport} {r' out' : List ℕ} {n : ℕ} {answer' : List ℕ} → 1 ≤ length answer → Calls.putOutcome a out' r' ≡ sendPromise r out
+      → callOutcome n answer' ≡ writingAnswer (putGiven a) answer → callOutcome n ((r', out'), answer') ≡ sendCall r out answer
+  unfolding sendCall sendPromise
   send-given h e f =
-      put-given (sending r out)
+      put-given (sendPromise r out)
       (cond-by Kept (validRequester r) _ _
       (λ _. cond-by Kept (Layout.isUnsent r) _ _ (λ _. put-kept sent flagged) (λ _. nothing-kept))
       (λ _. refused-kept 12))
@@ -137,59 +137,59 @@ module _ (r out answer : List ℕ) where
 -- ---- Receive
 
 -- what is handed out is written as seven numbers
-handed-writes : (used : ℕ) (h : Requester.Handed) (e u : Bool) → Writes 7 (receiptGiven used (reportOf h) e u)
-unfolding receiptGiven reportOf
+handed-writes : (used : ℕ) (h : Requester.Handed) (e u : Bool) → Writes 7 (receiptGiven used (handedReportOf h) e u)
+unfolding receiptGiven handedReportOf
 handed-writes used Requester.nothing e u = refl
 handed-writes used (Requester.answered m) e u = refl
 handed-writes used (Requester.status s o n) e u = refl
 handed-writes used (Requester.alerted m) e u = refl
 
-abbrev givenBy : Calls.Receipt → Report
+abbrev givenBy : Calls.MainReceiveOutcome → CallReport
 givenBy x = receiptGiven (x .used) (x .report) (x .ended) (x .unsent)
 
-module _ (p : Parts) (answer : List ℕ) where
-  receipt-writes : (piece : List ℕ) → Writes 7 (givenBy (received p piece))
-  unfolding received
+module _ (p : MainParts) (answer : List ℕ) where
+  receipt-writes : (piece : List ℕ) → Writes 7 (givenBy (mainReceiveValid p piece))
+  unfolding mainReceiveValid
   receipt-writes piece = handed-writes _ _ _ _
 
   -- an empty piece changes nothing
-  none-received : received p [] .parts ≡ p
-  unfolding received LineReader.readPiece heardOf outcomeOf Calls.movedTo
+  none-received : mainReceiveValid p [] .parts ≡ p
+  unfolding mainReceiveValid LineReader.readPiece heardOf heardOutcomeOf Calls.partMovedTo
   none-received = by (Calls.isOverlong (p .reader)) refl
     where
-      by : (x : Bool) → Calls.isOverlong (p .reader) ≡ x → received p [] .parts ≡ p
+      by : (x : Bool) → Calls.isOverlong (p .reader) ≡ x → mainReceiveValid p [] .parts ≡ p
       by true e = rw e
       by false e = rw (e, take-nil) (rw e)
 
-  none-handed : shortReceipt (received p [] .report) ≡ 8
-  unfolding received LineReader.readPiece heardOf outcomeOf Calls.reportOf shortReceipt
+  none-handed : shortReceipt (mainReceiveValid p [] .report) ≡ 8
+  unfolding mainReceiveValid LineReader.readPiece heardOf heardOutcomeOf Calls.handedReportOf shortReceipt
   none-handed = by (Calls.isOverlong (p .reader)) refl
     where
-      by : (x : Bool) → Calls.isOverlong (p .reader) ≡ x → shortReceipt (received p [] .report) ≡ 8
+      by : (x : Bool) → Calls.isOverlong (p .reader) ≡ x → shortReceipt (mainReceiveValid p [] .report) ≡ 8
       by true e = rw e
       by false e = rw (e, take-nil) (rw e)
 
-  pub listen-short : (t : Received) (piece : List ℕ) {q : Parts} {n : ℕ} → length answer < 7 → Calls.receiptOf t q ≡ receiving p []
-      → n ≡ shortReceipt (Calls.receiveReport (t .handed)) → outcome n (q, answer) ≡ listenCall p piece answer
-  unfolding receiving listenCall shortReceipt receiptGiven answering
+  pub listen-short : (t : Received) (piece : List ℕ) {q : MainParts} {n : ℕ} → length answer < 7 → Calls.mainReceiveOutcome t q ≡ mainReceivePromise p []
+      → n ≡ shortReceipt (Calls.handedReport (t .handed)) → callOutcome n (q, answer) ≡ listenCall p piece answer
+  unfolding mainReceivePromise listenCall shortReceipt receiptGiven writingAfter
   listen-short t piece l e f =
-      let x = received p piece in
-      rw (f, ap (λ (y : Calls.Receipt). y .report) e, ap (λ (y : Calls.Receipt). y .parts) e)
-      (cond-both (λ (y z : Calls.Receipt). outcome (shortReceipt (y .report)) (y .parts, answer) ≡ receiptAnswered z p answer) (validParts p)
+      let x = mainReceiveValid p piece in
+      rw (f, ap (λ (y : Calls.MainReceiveOutcome). y .report) e, ap (λ (y : Calls.MainReceiveOutcome). y .parts) e)
+      (cond-both (λ (y z : Calls.MainReceiveOutcome). callOutcome (shortReceipt (y .report)) (y .parts, answer) ≡ receiptCallOutcome z p answer) (mainValidParts p)
       (λ _. rw (none-received, none-handed)
       (answering-short p (x .parts) answer (givenBy x) (writes-says 7 (givenBy x) (receipt-writes piece)) l))
       (λ _. refl))
 
-  listen-kept : (piece : List ℕ) → let x = receiving p piece in Leaves 7 p (x .parts) (givenBy x)
-  unfolding receiving receiptGiven
+  listen-kept : (piece : List ℕ) → let x = mainReceivePromise p piece in Leaves 7 p (x .parts) (givenBy x)
+  unfolding mainReceivePromise receiptGiven
   listen-kept piece =
-      let x = received p piece in
-      cond-by (λ (y : Calls.Receipt). Leaves 7 p (y .parts) (givenBy y)) (validParts p) _ _
+      let x = mainReceiveValid p piece in
+      cond-by (λ (y : Calls.MainReceiveOutcome). Leaves 7 p (y .parts) (givenBy y)) (mainValidParts p) _ _
       (λ _. writes-leaves 7 p (x .parts) (givenBy x) (receipt-writes piece)) (λ _. refl)
 
-  pub listen-given : (t : Received) (piece : List ℕ) {q : Parts} {n : ℕ} {answer' : List ℕ} → 7 ≤ length answer → Calls.receiptOf t q ≡ receiving p piece
-      → outcome n answer' ≡ writingAnswer (receiptGiven (t .used) (Calls.receiveReport (t .handed)) (t .ended) (t .unsent)) answer → outcome n (q, answer') ≡ listenCall p piece answer
+  pub listen-given : (t : Received) (piece : List ℕ) {q : MainParts} {n : ℕ} {answer' : List ℕ} → 7 ≤ length answer → Calls.mainReceiveOutcome t q ≡ mainReceivePromise p piece
+      → callOutcome n answer' ≡ writingAnswer (receiptGiven (t .used) (Calls.handedReport (t .handed)) (t .ended) (t .unsent)) answer → callOutcome n (q, answer') ≡ listenCall p piece answer
   unfolding listenCall
   listen-given t piece {q} h e f =
       rw (← e)
-      (answering-given p q answer (receiptGiven (t .used) (Calls.receiveReport (t .handed)) (t .ended) (t .unsent)) (rw (← e) at (listen-kept piece)) h f)
+      (answering-given p q answer (receiptGiven (t .used) (Calls.handedReport (t .handed)) (t .ended) (t .unsent)) (rw (← e) at (listen-kept piece)) h f)

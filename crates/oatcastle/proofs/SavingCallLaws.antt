@@ -12,48 +12,48 @@ use Rattle.supervisor.specs.Valid.{validSettings}
 use Rattle.saving.specs.Calls
 use Rattle.saving.specs.declared.save.Saved.{Saved}
 use Rattle.saving.specs.declared.restore.Restored.{Restored}
-use Rattle.oatcastle.specs.Answers.{outcome, writingAnswer, answering}
-use Rattle.oatcastle.specs.SavingCalls.{saveGiven, saveCall, restoreAnswered, restoreCall}
+use Rattle.oatcastle.specs.Answers.{callOutcome, writingAnswer, writingAfter}
+use Rattle.oatcastle.specs.SavingCalls.{saveGiven, saveCall, restoreCallOutcome, restoreCall}
 use Rattle.oatcastle.proofs.AnswerLaws.{Says, Leaves, answering-short, answering-given}
 
 -- ---- Save
 
 module _ (s out answer : List ℕ) where
-  pub save-refused : validSettings s ≡ false → outcome 12 (out, answer) ≡ saveCall s out answer
-  unfolding saveCall Calls.saving saveGiven answering
+  pub save-refused : validSettings s ≡ false → callOutcome 12 (out, answer) ≡ saveCall s out answer
+  unfolding saveCall Calls.savePromise saveGiven writingAfter
   save-refused v = rw v
 
   -- what the call of saving says and leaves
-  abbrev Settles : Calls.Save → Type 0
+  abbrev Settles : Calls.SaveOutcome → Type 0
   Settles o = Says 1 (saveGiven (o .report)) × Leaves 1 out (o .room) (saveGiven (o .report))
 
   module _ (v : validSettings s ≡ true) where
-    settles : Settles (Calls.saving s out)
-    unfolding Calls.saving saveGiven
+    settles : Settles (Calls.savePromise s out)
+    unfolding Calls.savePromise saveGiven
     settles = rw v (cond-by Settles (ltb (length out) (length (Calls.imageBytes s))) _ _ (λ _. (refl, refl)) (λ _. (refl, refl)))
 
-    pub save-short : length answer < 1 → outcome 8 (out, answer) ≡ saveCall s out answer
+    pub save-short : length answer < 1 → callOutcome 8 (out, answer) ≡ saveCall s out answer
     unfolding saveCall
-    save-short h = answering-short out (Calls.saving s out .room) answer (saveGiven (Calls.saving s out .report)) (settles .0) h
+    save-short h = answering-short out (Calls.savePromise s out .room) answer (saveGiven (Calls.savePromise s out .report)) (settles .0) h
 
-    pub save-given : (w : Saved) {r : ℕ} {after answer' : List ℕ} → 1 ≤ length answer → Calls.saveOf w after ≡ Calls.saving s out
-        → outcome r answer' ≡ writingAnswer (saveGiven (Calls.saveReport w)) answer → outcome r (after, answer') ≡ saveCall s out answer
+    pub save-given : (w : Saved) {r : ℕ} {after answer' : List ℕ} → 1 ≤ length answer → Calls.saveOutcome w after ≡ Calls.savePromise s out
+        → callOutcome r answer' ≡ writingAnswer (saveGiven (Calls.saveReport w)) answer → callOutcome r (after, answer') ≡ saveCall s out answer
     unfolding saveCall
     save-given w {after} h e f = rw (← e) (answering-given out after answer (saveGiven (Calls.saveReport w)) (rw (← e) at settles .1) h f)
 
 -- ---- Restore
 
 module _ (s image answer : List ℕ) where
-  pub restore-refused : validSettings s ≡ false → outcome 12 (s, answer) ≡ restoreCall s image answer
+  pub restore-refused : validSettings s ≡ false → callOutcome 12 (s, answer) ≡ restoreCall s image answer
   unfolding restoreCall
   restore-refused v = rw v
 
   module _ (v : validSettings s ≡ true) where
-    pub restore-short : length answer < 1 → outcome 8 (s, answer) ≡ restoreCall s image answer
+    pub restore-short : length answer < 1 → callOutcome 8 (s, answer) ≡ restoreCall s image answer
     unfolding restoreCall
     restore-short h = rw (v, lt-ltb (length answer) 1 h)
 
-    pub restore-answered : {w r : Restored} {after : List ℕ} → w ≡ r → 1 ≤ length answer → Calls.restoreOf w after ≡ Calls.restoring s image
-        → restoreAnswered (Calls.restoreReport r) after answer ≡ restoreCall s image answer
+    pub restore-answered : {w r : Restored} {after : List ℕ} → w ≡ r → 1 ≤ length answer → Calls.restoreOutcome w after ≡ Calls.restorePromise s image
+        → restoreCallOutcome (Calls.restoreReport r) after answer ≡ restoreCall s image answer
     unfolding restoreCall
     restore-answered q h e = rw (v, le-ltb (length answer) 1 h, ← e, q)

@@ -10,30 +10,30 @@ use Rattle.supervisor.specs.Valid.{validOutbox}
 use Rattle.supervisor.specs.Calls
 use Rattle.supervisor.specs.Calls.{takeReport}
 use Rattle.supervisor.specs.declared.outbox.Taken.{Taken}
-use Rattle.oatcastle.specs.Answers.{outcome, writingAnswer, answering, flag}
+use Rattle.oatcastle.specs.Answers.{callOutcome, writingAnswer, writingAfter, flag}
 use Rattle.oatcastle.specs.SupervisorCalls.{takeGiven, takeCall}
 use Rattle.oatcastle.proofs.AnswerLaws.{Writes, writes-says, writes-leaves, answering-short, answering-given}
 
 -- ---- Take
 
 module _ (outbox room answer : List ℕ) where
-  pub take-refused : validOutbox outbox ≡ false → outcome 12 ((outbox, room), answer) ≡ takeCall outbox room answer
-  unfolding takeCall Calls.taking takeGiven answering
+  pub take-refused : validOutbox outbox ≡ false → callOutcome 12 ((outbox, room), answer) ≡ takeCall outbox room answer
+  unfolding takeCall Calls.takePromise takeGiven writingAfter
   take-refused v = rw v
 
   module _ (v : validOutbox outbox ≡ true) where
-    writes : Writes 1 (takeGiven (Calls.taking outbox room .report))
-    unfolding Calls.taking takeGiven
+    writes : Writes 1 (takeGiven (Calls.takePromise outbox room .report))
+    unfolding Calls.takePromise takeGiven
     writes = rw v refl
 
-    pub take-short : length answer < 1 → outcome 8 ((outbox, room), answer) ≡ takeCall outbox room answer
+    pub take-short : length answer < 1 → callOutcome 8 ((outbox, room), answer) ≡ takeCall outbox room answer
     unfolding takeCall
     take-short h =
-        let report = takeGiven (Calls.taking outbox room .report) in
+        let report = takeGiven (Calls.takePromise outbox room .report) in
         answering-short (outbox, room) _ answer report (writes-says 1 report writes) h
 
-    pub take-given : (t : Taken) {r : ℕ} {o s answer' : List ℕ} → 1 ≤ length answer → Calls.takeOf t o s ≡ Calls.taking outbox room
-        → outcome r answer' ≡ writingAnswer (takeGiven (takeReport t)) answer → outcome r ((o, s), answer') ≡ takeCall outbox room answer
+    pub take-given : (t : Taken) {r : ℕ} {o s answer' : List ℕ} → 1 ≤ length answer → Calls.takeOutcome t o s ≡ Calls.takePromise outbox room
+        → callOutcome r answer' ≡ writingAnswer (takeGiven (takeReport t)) answer → callOutcome r ((o, s), answer') ≡ takeCall outbox room answer
     unfolding takeCall
     take-given t {o} {s} h e f =
         let report = takeGiven (takeReport t) in

@@ -7,21 +7,21 @@ use Rattle.line.specs.Checksum.{checksum}
 use Rattle.line.specs.Message.{Message}
 use Rattle.line.specs.Reader as LineReader
 use Rattle.line.specs.Writer as LineWriter
-use Rattle.oatcastle.specs.Answers.{Outcome, outcome, numbered, Report, refused, given, writingAnswer, answering}
+use Rattle.oatcastle.specs.Answers.{CallOutcome, callOutcome, callNumber, CallReport, refused, given, writingAnswer, writingAfter}
 
 -- ---- Start
 
 -- by what the line layer's call answers and leaves, here and below
-abbrev pub lineStarted : LineReader.Start → Outcome (List ℕ)
-lineStarted o = outcome (numbered (o .refusal)) (o .state)
+abbrev pub lineStarted : LineReader.ReaderStartOutcome → CallOutcome (List ℕ)
+lineStarted o = callOutcome (callNumber (o .refusal)) (o .state)
 
-unfoldable pub lineStartCall : List ℕ → Outcome (List ℕ)
-lineStartCall s = lineStarted (LineReader.starting s)
+unfoldable pub lineStartCall : List ℕ → CallOutcome (List ℕ)
+lineStartCall s = lineStarted (LineReader.readerStartPromise s)
 
 -- ---- Read: used, kind, reason, version, sequence, command, length
 -- kind 0: more bytes are wanted; 1: an empty frame; 2: a message; 3: a failure, with its reason, and the request's sequence where the reply carries it
 
-unfoldable pub readGiven : ℕ → LineReader.Report → Report
+unfoldable pub readGiven : ℕ → LineReader.ReadReport → CallReport
 readGiven used (LineReader.refused n) = refused n
 readGiven used LineReader.more = given (used ∷ 0 ∷ 0 ∷ 0 ∷ 0 ∷ 0 ∷ 0 ∷ [])
 readGiven used LineReader.empty = given (used ∷ 1 ∷ 0 ∷ 0 ∷ 0 ∷ 0 ∷ 0 ∷ [])
@@ -29,44 +29,44 @@ readGiven used (LineReader.message version sequence command n) = given (used ∷
 readGiven used (LineReader.failed reason none) = given (used ∷ 3 ∷ reason ∷ 0 ∷ 0 ∷ 0 ∷ 0 ∷ [])
 readGiven used (LineReader.failed reason (some sequence)) = given (used ∷ 3 ∷ reason ∷ 0 ∷ sequence ∷ 0 ∷ 0 ∷ [])
 
-abbrev pub readAnswered : LineReader.Outcome → List ℕ → List ℕ → Outcome (List ℕ × List ℕ)
-readAnswered o s answer = answering (readGiven (o .used) (o .answer)) s (o .state) answer
+abbrev pub readCallOutcome : LineReader.ReadOutcome → List ℕ → List ℕ → CallOutcome (List ℕ × List ℕ)
+readCallOutcome o s answer = writingAfter (readGiven (o .used) (o .answer)) s (o .state) answer
 
-unfoldable pub lineReadCall : List ℕ → List ℕ → List ℕ → Outcome (List ℕ × List ℕ)
-lineReadCall s piece answer = readAnswered (LineReader.reading s piece) s answer
+unfoldable pub lineReadCall : List ℕ → List ℕ → List ℕ → CallOutcome (List ℕ × List ℕ)
+lineReadCall s piece answer = readCallOutcome (LineReader.readPromise s piece) s answer
 
 -- ---- The data of the message just handed out, to a room
 
-unfoldable pub dataGiven : Option ℕ → List ℕ → Report
-dataGiven none bs = given bs
-dataGiven (some n) bs = refused n
+unfoldable pub lineDataGiven : Option ℕ → List ℕ → CallReport
+lineDataGiven none bs = given bs
+lineDataGiven (some n) bs = refused n
 
-unfoldable pub lineDataCall : List ℕ → ℕ → List ℕ → Outcome (List ℕ)
-lineDataCall s n room = writingAnswer (dataGiven (LineReader.dataRefusal s n) (LineReader.dataOf s n)) room
+unfoldable pub lineDataCall : List ℕ → ℕ → List ℕ → CallOutcome (List ℕ)
+lineDataCall s n room = writingAnswer (lineDataGiven (LineReader.dataRefusal s n) (LineReader.dataPromise s n)) room
 
 -- ---- An unfinished frame: 1 if longer than any form, and how many bytes of it have come
 
-unfoldable pub tailGiven : LineReader.TailReport → Report
+unfoldable pub tailGiven : LineReader.TailReport → CallReport
 tailGiven (LineReader.TailReport.refused n) = refused n
 tailGiven (LineReader.unfinished n) = given (0 ∷ n ∷ [])
 tailGiven LineReader.longer = given (1 ∷ 0 ∷ [])
 
-unfoldable pub lineTailCall : List ℕ → List ℕ → Outcome (List ℕ)
-lineTailCall s answer = writingAnswer (tailGiven (LineReader.tailOf s)) answer
+unfoldable pub lineTailCall : List ℕ → List ℕ → CallOutcome (List ℕ)
+lineTailCall s answer = writingAnswer (tailGiven (LineReader.tailPromise s)) answer
 
 -- ---- Write: the frame's length
 
-unfoldable pub writeGiven : LineWriter.Report → Report
+unfoldable pub writeGiven : LineWriter.WriteReport → CallReport
 writeGiven (LineWriter.wrote n) = given (n ∷ [])
 writeGiven (LineWriter.refused n) = refused n
 
-abbrev pub writeAnswered : LineWriter.Outcome → List ℕ → List ℕ → Outcome (List ℕ × List ℕ)
-writeAnswered o out answer = answering (writeGiven (o .answer)) out (o .out) answer
+abbrev pub writeCallOutcome : LineWriter.WriteOutcome → List ℕ → List ℕ → CallOutcome (List ℕ × List ℕ)
+writeCallOutcome o out answer = writingAfter (writeGiven (o .answer)) out (o .out) answer
 
-unfoldable pub lineWriteCall : Message → List ℕ → List ℕ → Outcome (List ℕ × List ℕ)
-lineWriteCall m out answer = writeAnswered (LineWriter.writing m out) out answer
+unfoldable pub lineWriteCall : Message → List ℕ → List ℕ → CallOutcome (List ℕ × List ℕ)
+lineWriteCall m out answer = writeCallOutcome (LineWriter.writePromise m out) out answer
 
 -- ---- The checksum of a message's body
 
-unfoldable pub lineChecksumCall : List ℕ → List ℕ → Outcome (List ℕ)
+unfoldable pub lineChecksumCall : List ℕ → List ℕ → CallOutcome (List ℕ)
 lineChecksumCall body answer = writingAnswer (given (checksum body ∷ [])) answer

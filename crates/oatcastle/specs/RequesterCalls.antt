@@ -4,32 +4,32 @@ use mathlib.Core.Bool.{Bool}
 use mathlib.Core.List.{List, [], _∷_}
 use Prim.Native.Nat.{ℕ}
 use Rattle.requester.specs.Calls
-use Rattle.requester.specs.Calls.{Parts}
-use Rattle.oatcastle.specs.Answers.{Outcome, outcome, numbered, Report, refused, given, answering, flag}
+use Rattle.requester.specs.Calls.{MainParts}
+use Rattle.oatcastle.specs.Answers.{CallOutcome, callOutcome, callNumber, CallReport, refused, given, writingAfter, flag}
 
 -- ---- Start
 
-abbrev pub requesterStarted : Calls.Start → Outcome Parts
-requesterStarted o = outcome (numbered (o .refusal)) (o .parts)
+abbrev pub requesterStarted : Calls.MainStartOutcome → CallOutcome MainParts
+requesterStarted o = callOutcome (callNumber (o .refusal)) (o .parts)
 
-unfoldable pub requesterStartCall : Parts → Outcome Parts
-requesterStartCall p = requesterStarted (Calls.starting p)
+unfoldable pub requesterStartCall : MainParts → CallOutcome MainParts
+requesterStartCall p = requesterStarted (Calls.mainStartPromise p)
 
 -- ---- Request, send: how many bytes were put out
 
-unfoldable pub putGiven : Calls.PutReport → Report
+unfoldable pub putGiven : Calls.PutReport → CallReport
 putGiven (Calls.wrote n) = given (n ∷ [])
 putGiven (Calls.PutReport.refused n) = refused n
 
 -- by what the call answers and leaves; the main processor's part and the room change
-abbrev pub putAnswered : Calls.Put → List ℕ → List ℕ → List ℕ → Outcome ((List ℕ × List ℕ) × List ℕ)
-putAnswered o r out answer = answering (putGiven (o .report)) (r, out) (o .requester, o .out) answer
+abbrev pub putCallOutcome : Calls.PutOutcome → List ℕ → List ℕ → List ℕ → CallOutcome ((List ℕ × List ℕ) × List ℕ)
+putCallOutcome o r out answer = writingAfter (putGiven (o .report)) (r, out) (o .requester, o .out) answer
 
-unfoldable pub requestCall : List ℕ → ℕ → List ℕ → List ℕ → List ℕ → Outcome ((List ℕ × List ℕ) × List ℕ)
-requestCall r command d out answer = putAnswered (Calls.requesting r command d out) r out answer
+unfoldable pub requestCall : List ℕ → ℕ → List ℕ → List ℕ → List ℕ → CallOutcome ((List ℕ × List ℕ) × List ℕ)
+requestCall r command d out answer = putCallOutcome (Calls.requestPromise r command d out) r out answer
 
-unfoldable pub sendCall : List ℕ → List ℕ → List ℕ → Outcome ((List ℕ × List ℕ) × List ℕ)
-sendCall r out answer = putAnswered (Calls.sending r out) r out answer
+unfoldable pub sendCall : List ℕ → List ℕ → List ℕ → CallOutcome ((List ℕ × List ℕ) × List ℕ)
+sendCall r out answer = putCallOutcome (Calls.sendPromise r out) r out answer
 
 -- the number of a call with too short an answer: a refusal's own, else 8
 unfoldable pub shortPut : Calls.PutReport → ℕ
@@ -38,30 +38,30 @@ shortPut (Calls.PutReport.refused n) = n
 
 -- ---- Interrupt
 
-abbrev pub interruptDone : Calls.Interrupt → Outcome (List ℕ)
-interruptDone o = outcome (numbered (o .refusal)) (o .requester)
+abbrev pub interruptDone : Calls.InterruptOutcome → CallOutcome (List ℕ)
+interruptDone o = callOutcome (callNumber (o .refusal)) (o .requester)
 
-unfoldable pub interruptCall : List ℕ → Outcome (List ℕ)
-interruptCall r = interruptDone (Calls.interrupting r)
+unfoldable pub interruptCall : List ℕ → CallOutcome (List ℕ)
+interruptCall r = interruptDone (Calls.interruptPromise r)
 
 -- ---- Receive: used, kind, ended, unsent, and three numbers
 -- kind 0: nothing; 1: the answer, and 3: the answer to a recovery's 0x0a, each with sequence, command and length; 2: status, options, set bits
 
-unfoldable pub receiptGiven : ℕ → Calls.Report → Bool → Bool → Report
-receiptGiven used (Calls.Report.refused n) e u = refused n
+unfoldable pub receiptGiven : ℕ → Calls.HandedReport → Bool → Bool → CallReport
+receiptGiven used (Calls.HandedReport.refused n) e u = refused n
 receiptGiven used Calls.nothing e u = given (used ∷ 0 ∷ flag e ∷ flag u ∷ 0 ∷ 0 ∷ 0 ∷ [])
 receiptGiven used (Calls.answered version sequence command n) e u = given (used ∷ 1 ∷ flag e ∷ flag u ∷ sequence ∷ command ∷ n ∷ [])
 receiptGiven used (Calls.status s o n) e u = given (used ∷ 2 ∷ flag e ∷ flag u ∷ s ∷ o ∷ n ∷ [])
 receiptGiven used (Calls.alerted version sequence command n) e u = given (used ∷ 3 ∷ flag e ∷ flag u ∷ sequence ∷ command ∷ n ∷ [])
 
-abbrev pub receiptAnswered : Calls.Receipt → Parts → List ℕ → Outcome (Parts × List ℕ)
-receiptAnswered x p answer = answering (receiptGiven (x .used) (x .report) (x .ended) (x .unsent)) p (x .parts) answer
+abbrev pub receiptCallOutcome : Calls.MainReceiveOutcome → MainParts → List ℕ → CallOutcome (MainParts × List ℕ)
+receiptCallOutcome x p answer = writingAfter (receiptGiven (x .used) (x .report) (x .ended) (x .unsent)) p (x .parts) answer
 
-unfoldable pub listenCall : Parts → List ℕ → List ℕ → Outcome (Parts × List ℕ)
-listenCall p piece answer = receiptAnswered (Calls.receiving p piece) p answer
+unfoldable pub listenCall : MainParts → List ℕ → List ℕ → CallOutcome (MainParts × List ℕ)
+listenCall p piece answer = receiptCallOutcome (Calls.mainReceivePromise p piece) p answer
 
-unfoldable pub shortReceipt : Calls.Report → ℕ
-shortReceipt (Calls.Report.refused n) = n
+unfoldable pub shortReceipt : Calls.HandedReport → ℕ
+shortReceipt (Calls.HandedReport.refused n) = n
 shortReceipt Calls.nothing = 8
 shortReceipt (Calls.answered version sequence command n) = 8
 shortReceipt (Calls.status s o n) = 8

@@ -8,33 +8,33 @@ use lib.ListN.{length}
 use Rattle.octets.specs.Bytes.{overlay}
 use Rattle.supervisor.specs.Valid.{validSettings}
 use Rattle.saving.specs.Calls
-use Rattle.oatcastle.specs.Answers.{Outcome, outcome, Report, refused, given, answering}
+use Rattle.oatcastle.specs.Answers.{CallOutcome, callOutcome, CallReport, refused, given, writingAfter}
 
 -- ---- Save: the image's length
 
-unfoldable pub saveGiven : Calls.SaveReport → Report
+unfoldable pub saveGiven : Calls.SaveReport → CallReport
 saveGiven (Calls.written n) = given (n ∷ [])
 saveGiven (Calls.SaveReport.refused n) = refused n
 
-abbrev pub saveAnswered : Calls.Save → List ℕ → List ℕ → Outcome (List ℕ × List ℕ)
-saveAnswered o out answer = answering (saveGiven (o .report)) out (o .room) answer
+abbrev pub saveCallOutcome : Calls.SaveOutcome → List ℕ → List ℕ → CallOutcome (List ℕ × List ℕ)
+saveCallOutcome o out answer = writingAfter (saveGiven (o .report)) out (o .room) answer
 
-unfoldable pub saveCall : List ℕ → List ℕ → List ℕ → Outcome (List ℕ × List ℕ)
-saveCall settings out answer = saveAnswered (Calls.saving settings out) out answer
+unfoldable pub saveCall : List ℕ → List ℕ → List ℕ → CallOutcome (List ℕ × List ℕ)
+saveCall settings out answer = saveCallOutcome (Calls.savePromise settings out) out answer
 
 -- ---- Restore: a fault's number, and its offset as the answer; else the answer stays
 
-unfoldable pub restoreAnswered : Calls.RestoreReport → List ℕ → List ℕ → Outcome (List ℕ × List ℕ)
-restoreAnswered Calls.done settings answer = outcome 0 (settings, answer)
-restoreAnswered (Calls.RestoreReport.refused n) settings answer = outcome n (settings, answer)
-restoreAnswered (Calls.faulty n at) settings answer = outcome n (settings, overlay 0 (at ∷ []) answer)
+unfoldable pub restoreCallOutcome : Calls.RestoreReport → List ℕ → List ℕ → CallOutcome (List ℕ × List ℕ)
+restoreCallOutcome Calls.done settings answer = callOutcome 0 (settings, answer)
+restoreCallOutcome (Calls.RestoreReport.refused n) settings answer = callOutcome n (settings, answer)
+restoreCallOutcome (Calls.faulty n at) settings answer = callOutcome n (settings, overlay 0 (at ∷ []) answer)
 
-abbrev pub restoreDone : Calls.Restore → List ℕ → Outcome (List ℕ × List ℕ)
-restoreDone o answer = restoreAnswered (o .report) (o .settings) answer
+abbrev pub restoreDone : Calls.RestoreOutcome → List ℕ → CallOutcome (List ℕ × List ℕ)
+restoreDone o answer = restoreCallOutcome (o .report) (o .settings) answer
 
 -- tests 12, then 8 for an empty answer, then the image
-unfoldable pub restoreCall : List ℕ → List ℕ → List ℕ → Outcome (List ℕ × List ℕ)
+unfoldable pub restoreCall : List ℕ → List ℕ → List ℕ → CallOutcome (List ℕ × List ℕ)
 restoreCall settings image answer =
     cond (validSettings settings)
-    (cond (ltb (length answer) 1) (outcome 8 (settings, answer)) (restoreDone (Calls.restoring settings image) answer))
-    (outcome 12 (settings, answer))
+    (cond (ltb (length answer) 1) (callOutcome 8 (settings, answer)) (restoreDone (Calls.restorePromise settings image) answer))
+    (callOutcome 12 (settings, answer))

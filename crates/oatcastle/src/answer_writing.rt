@@ -4,14 +4,14 @@ use crate::refusals;
 ghost use mathlib.Core.Path.{_≡_};
 ghost use Prim.Native.Nat.{_≤_};
 ghost use lib.ListN.{take};
-ghost use Rattle.oatcastle.specs.Answers.{most-numbers, outcome, given, writingAnswer, writingBoth};
+ghost use Rattle.oatcastle.specs.Answers.{most-numbers, callOutcome, given, writingAnswer, writingBoth};
 
 pub(crate) const MOST_NUMBERS: usize = 7;
 
 // Puts the first `count` of some numbers.
 pub(crate) fn write_answer(answer: &mut [u64], numbers: [u64; MOST_NUMBERS], count: usize) -> u32
     requires { ⌜ count ≤ most-numbers ⌝ }
-    ensures { λ r. ⌜ outcome r (now (answer .exit)) ≡ writingAnswer (given (take count numbers)) (now (answer .entry)) ⌝ }
+    ensures { λ r. ⌜ callOutcome r (now (answer .exit)) ≡ writingAnswer (given (take count numbers)) (now (answer .entry)) ⌝ }
 {
     if answer.len() < count {
         return refusals::NO_ROOM;
@@ -26,7 +26,7 @@ pub(crate) fn write_answer(answer: &mut [u64], numbers: [u64; MOST_NUMBERS], cou
 
 // Puts bytes.
 pub(crate) fn write_bytes(bytes: &[u8], room: &mut [u8]) -> u32
-    ensures { λ r. ⌜ outcome r (now (room .exit)) ≡ writingAnswer (given (now («bytes» .entry))) (now (room .entry)) ⌝ }
+    ensures { λ r. ⌜ callOutcome r (now (room .exit)) ≡ writingAnswer (given (now («bytes» .entry))) (now (room .entry)) ⌝ }
 {
     if room.len() < bytes.len() {
         return refusals::NO_ROOM;
@@ -44,7 +44,7 @@ pub(crate) fn write_both(
     answer: &mut [u64],
 ) -> u32
     requires { ⌜ count ≤ most-numbers ⌝ }
-    ensures { λ r. ⌜ outcome r (now (room .exit), now (answer .exit)) ≡ writingBoth (given (take count numbers)) (now («bytes» .entry)) (now (room .entry)) (now (answer .entry)) ⌝ }
+    ensures { λ r. ⌜ callOutcome r (now (room .exit), now (answer .exit)) ≡ writingBoth (given (take count numbers)) (now («bytes» .entry)) (now (room .entry)) (now (answer .entry)) ⌝ }
 {
     if answer.len() < count {
         return refusals::NO_ROOM;

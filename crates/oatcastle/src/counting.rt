@@ -2,13 +2,13 @@
 // Assumes nothing: no exported function has a `requires`, and no block is refused.
 use crate::refusals;
 use counters::Counters;
-use requests::receive::Received;
+use responder::receive::Received;
 ghost use mathlib.Core.Path.{_≡_};
 ghost use Rattle.supervisor.specs.Calls.{parts};
-ghost use Rattle.requests.specs.Receive.{receiptReport};
-ghost use Rattle.counters.specs.Count.{zeros};
+ghost use Rattle.responder.specs.Receive.{receiveReport};
+ghost use Rattle.counters.specs.Count.{clearedCounters};
 ghost use Rattle.counters.specs.Counting.{counting};
-ghost use Rattle.oatcastle.specs.Answers.{outcome, numbered};
+ghost use Rattle.oatcastle.specs.Answers.{callOutcome, callNumber};
 ghost use Rattle.oatcastle.specs.ReceiveCalls.{receiveCall};
 
 // The number that a receive with counters by value returns, and the counters that it leaves.
@@ -20,7 +20,7 @@ struct Numbered {
 // Makes every counter of a block 0.
 #[no_mangle]
 pub extern "C" fn oatcastle_clear_counters(counters: &mut Counters) -> u32
-    ensures { λ r. ⌜ (r ≡ 0) × (now (counters .exit) ≡ zeros) ⌝ }
+    ensures { λ r. ⌜ (r ≡ 0) × (now (counters .exit) ≡ clearedCounters) ⌝ }
 {
     *counters = counters::cleared();
     0
@@ -38,7 +38,7 @@ pub extern "C" fn oatcastle_receive_counted(
     settings: &mut [u8],
     registers: &mut [u8],
 ) -> u32
-    ensures { λ r. ⌜ (outcome r (parts (now (reader .exit)) (now (outbox .exit)) (now (factory .entry)) (now (settings .exit)) (now (registers .exit))) ≡ receiveCall (now (image .entry)) (parts (now (reader .entry)) (now (outbox .entry)) (now (factory .entry)) (now (settings .entry)) (now (registers .entry))) (now (piece .entry))) × (now (counters .exit) ≡ counting (now (counters .entry)) (parts (now (reader .entry)) (now (outbox .entry)) (now (factory .entry)) (now (settings .entry)) (now (registers .entry))) (now (piece .entry))) ⌝ }
+    ensures { λ r. ⌜ (callOutcome r (parts (now (reader .exit)) (now (outbox .exit)) (now (factory .entry)) (now (settings .exit)) (now (registers .exit))) ≡ receiveCall (now (image .entry)) (parts (now (reader .entry)) (now (outbox .entry)) (now (factory .entry)) (now (settings .entry)) (now (registers .entry))) (now (piece .entry))) × (now (counters .exit) ≡ counting (now (counters .entry)) (parts (now (reader .entry)) (now (outbox .entry)) (now (factory .entry)) (now (settings .entry)) (now (registers .entry))) (now (piece .entry))) ⌝ }
 {
     let numbered = receive_numbered(
         *counters,
@@ -65,7 +65,7 @@ fn receive_numbered(
     settings: &mut [u8],
     registers: &mut [u8],
 ) -> Numbered
-    ensures { λ r. ⌜ (outcome (r .answer) (parts (now (reader .exit)) (now (outbox .exit)) (now (factory .entry)) (now (settings .exit)) (now (registers .exit))) ≡ receiveCall (now (image .entry)) (parts (now (reader .entry)) (now (outbox .entry)) (now (factory .entry)) (now (settings .entry)) (now (registers .entry))) (now (piece .entry))) × (r .counters ≡ counting counters (parts (now (reader .entry)) (now (outbox .entry)) (now (factory .entry)) (now (settings .entry)) (now (registers .entry))) (now (piece .entry))) ⌝ }
+    ensures { λ r. ⌜ (callOutcome (r .answer) (parts (now (reader .exit)) (now (outbox .exit)) (now (factory .entry)) (now (settings .exit)) (now (registers .exit))) ≡ receiveCall (now (image .entry)) (parts (now (reader .entry)) (now (outbox .entry)) (now (factory .entry)) (now (settings .entry)) (now (registers .entry))) (now (piece .entry))) × (r .counters ≡ counting counters (parts (now (reader .entry)) (now (outbox .entry)) (now (factory .entry)) (now (settings .entry)) (now (registers .entry))) (now (piece .entry))) ⌝ }
 {
     let tallied = counters::receive_tallied(
         counters,
@@ -84,7 +84,7 @@ fn receive_numbered(
 }
 
 fn number(received: Received) -> u32
-    ensures { λ r. ⌜ r ≡ numbered (receiptReport received) ⌝ }
+    ensures { λ r. ⌜ r ≡ callNumber (receiveReport received) ⌝ }
 {
     match received {
         Received::Done => refusals::DONE,

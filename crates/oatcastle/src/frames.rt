@@ -18,10 +18,10 @@ use line::reader::Started;
 use line::reader::Unfinished;
 use line::writer::Written;
 ghost use mathlib.Core.Path.{_≡_};
-ghost use Rattle.line.specs.Reader.{report};
+ghost use Rattle.line.specs.Reader.{readReport};
 ghost use Rattle.line.specs.Writer as LineWriter;
-ghost use Rattle.line.specs.Writer.{messageOf};
-ghost use Rattle.oatcastle.specs.Answers.{outcome, writingAnswer};
+ghost use Rattle.line.specs.Writer.{messageOfParts};
+ghost use Rattle.oatcastle.specs.Answers.{callOutcome, writingAnswer};
 ghost use Rattle.oatcastle.specs.LineCalls.{lineStartCall, readGiven, lineReadCall, lineDataCall, lineTailCall, writeGiven, lineWriteCall, lineChecksumCall};
 
 // How many numbers `oatcastle_line_read` answers.
@@ -30,7 +30,7 @@ const READ_NUMBERS: usize = 7;
 // Begins a fresh reader in a state of any contents.
 #[no_mangle]
 pub extern "C" fn oatcastle_line_start(state: &mut [u8]) -> u32
-    ensures { λ r. ⌜ outcome r (now (state .exit)) ≡ lineStartCall (now (state .entry)) ⌝ }
+    ensures { λ r. ⌜ callOutcome r (now (state .exit)) ≡ lineStartCall (now (state .entry)) ⌝ }
 {
     let started = line::reader::start(state);
     match started {
@@ -42,7 +42,7 @@ pub extern "C" fn oatcastle_line_start(state: &mut [u8]) -> u32
 // Reads a piece to its end, or up to and with its first 00.
 #[no_mangle]
 pub extern "C" fn oatcastle_line_read(state: &mut [u8], piece: &[u8], answer: &mut [u64]) -> u32
-    ensures { λ r. ⌜ outcome r (now (state .exit), now (answer .exit)) ≡ lineReadCall (now (state .entry)) (now (piece .entry)) (now (answer .entry)) ⌝ }
+    ensures { λ r. ⌜ callOutcome r (now (state .exit), now (answer .exit)) ≡ lineReadCall (now (state .entry)) (now (piece .entry)) (now (answer .entry)) ⌝ }
 {
     if !line::reader::is_valid(state) {
         return refusals::BAD_STATE;
@@ -57,7 +57,7 @@ pub extern "C" fn oatcastle_line_read(state: &mut [u8], piece: &[u8], answer: &m
 
 // The numbers of the reader's answer.
 fn answer_reading(answer: &mut [u64], used: u64, read: Answer) -> u32
-    ensures { λ r. ⌜ outcome r (now (answer .exit)) ≡ writingAnswer (readGiven used (report read)) (now (answer .entry)) ⌝ }
+    ensures { λ r. ⌜ callOutcome r (now (answer .exit)) ≡ writingAnswer (readGiven used (readReport read)) (now (answer .entry)) ⌝ }
 {
     match read {
         Answer::Refused => refusals::BAD_STATE,
@@ -98,7 +98,7 @@ fn answer_reading(answer: &mut [u64], used: u64, read: Answer) -> u32
 // Copies the data of the message that was just handed out with this length.
 #[no_mangle]
 pub extern "C" fn oatcastle_line_data(state: &[u8], length: u64, room: &mut [u8]) -> u32
-    ensures { λ r. ⌜ outcome r (now (room .exit)) ≡ lineDataCall (now (state .entry)) length (now (room .entry)) ⌝ }
+    ensures { λ r. ⌜ callOutcome r (now (room .exit)) ≡ lineDataCall (now (state .entry)) length (now (room .entry)) ⌝ }
 {
     let given = line::reader::message_data_given(state, length as usize);
     match given {
@@ -111,7 +111,7 @@ pub extern "C" fn oatcastle_line_data(state: &[u8], length: u64, room: &mut [u8]
 // How many bytes of an unfinished frame have come.
 #[no_mangle]
 pub extern "C" fn oatcastle_line_tail(state: &[u8], answer: &mut [u64]) -> u32
-    ensures { λ r. ⌜ outcome r (now (answer .exit)) ≡ lineTailCall (now (state .entry)) (now (answer .entry)) ⌝ }
+    ensures { λ r. ⌜ callOutcome r (now (answer .exit)) ≡ lineTailCall (now (state .entry)) (now (answer .entry)) ⌝ }
 {
     let tail = line::reader::tail(state);
     match tail {
@@ -132,7 +132,7 @@ pub extern "C" fn oatcastle_line_write(
     out: &mut [u8],
     answer: &mut [u64],
 ) -> u32
-    ensures { λ r. ⌜ outcome r (now (out .exit), now (answer .exit)) ≡ lineWriteCall (messageOf version sequence command (now (head .entry)) (now (rest .entry))) (now (out .entry)) (now (answer .entry)) ⌝ }
+    ensures { λ r. ⌜ callOutcome r (now (out .exit), now (answer .exit)) ≡ lineWriteCall (messageOfParts version sequence command (now (head .entry)) (now (rest .entry))) (now (out .entry)) (now (answer .entry)) ⌝ }
 {
     if limits::LONGEST_DATA < head.len() {
         return refusals::TOO_LONG;
@@ -149,7 +149,7 @@ pub extern "C" fn oatcastle_line_write(
 
 // The number of the writer's answer.
 fn answer_written(answer: &mut [u64], written: Written) -> u32
-    ensures { λ r. ⌜ outcome r (now (answer .exit)) ≡ writingAnswer (writeGiven (LineWriter.report written)) (now (answer .entry)) ⌝ }
+    ensures { λ r. ⌜ callOutcome r (now (answer .exit)) ≡ writingAnswer (writeGiven (LineWriter.writeReport written)) (now (answer .entry)) ⌝ }
 {
     match written {
         Written::Done(n) => write_answer(answer, [n as u64, 0, 0, 0, 0, 0, 0], 1),
@@ -161,7 +161,7 @@ fn answer_written(answer: &mut [u64], written: Written) -> u32
 // The checksum of a message's body.
 #[no_mangle]
 pub extern "C" fn oatcastle_line_checksum(body: &[u8], answer: &mut [u64]) -> u32
-    ensures { λ r. ⌜ outcome r (now (answer .exit)) ≡ lineChecksumCall (now (body .entry)) (now (answer .entry)) ⌝ }
+    ensures { λ r. ⌜ callOutcome r (now (answer .exit)) ≡ lineChecksumCall (now (body .entry)) (now (answer .entry)) ⌝ }
 {
     let sum = line::sums::checksum(body) as u64;
     write_answer(answer, [sum, 0, 0, 0, 0, 0, 0], 1)

@@ -9,7 +9,7 @@ ghost use mathlib.Core.Path.{_≡_};
 ghost use mathlib.Core.List.{flatten};
 ghost use lib.ListN.{length};
 ghost use Rattle.octets.specs.Bytes.{put};
-ghost use Rattle.oatcastle.specs.Answers.{outcome};
+ghost use Rattle.oatcastle.specs.Answers.{callOutcome};
 ghost use Rattle.oatcastle.specs.AddressCalls.{addressesCall, planCall};
 
 // How many bytes the rows have.
@@ -23,7 +23,7 @@ pub extern "C" fn oatcastle_addresses(
     stride: u8,
     room: &mut [u8],
 ) -> u32
-    ensures { λ r. ⌜ outcome r (now (room .exit)) ≡ addressesCall (now (base .entry)) count stride (now (room .entry)) ⌝ }
+    ensures { λ r. ⌜ callOutcome r (now (room .exit)) ≡ addressesCall (now (base .entry)) count stride (now (room .entry)) ⌝ }
 {
     let rows = addresses::addresses(*base, count, stride);
     let bytes = joined(rows);

@@ -4,8 +4,8 @@ use crate::refusals;
 use probes::Probe;
 use probes::Updated;
 ghost use mathlib.Core.Path.{_≡_};
-ghost use Rattle.probes.specs.Probes.{updatedReport};
-ghost use Rattle.oatcastle.specs.Answers.{outcome, numbered};
+ghost use Rattle.probes.specs.Probes.{updateReport};
+ghost use Rattle.oatcastle.specs.Answers.{callOutcome, callNumber};
 ghost use Rattle.oatcastle.specs.ProbeCalls.{probeUpdateCall};
 
 // Gives each part named by its index its new result; 15, and nothing changed, where one change is not allowed.
@@ -15,13 +15,13 @@ pub extern "C" fn oatcastle_probe_update(
     indices: &[usize],
     results: &[u8],
 ) -> u32
-    ensures { λ r. ⌜ outcome r (now (list .exit)) ≡ probeUpdateCall (now (list .entry)) (now (indices .entry)) (now (results .entry)) ⌝ }
+    ensures { λ r. ⌜ callOutcome r (now (list .exit)) ≡ probeUpdateCall (now (list .entry)) (now (indices .entry)) (now (results .entry)) ⌝ }
 {
     update_number(probes::update(list, indices, results))
 }
 
 fn update_number(updated: Updated) -> u32
-    ensures { λ r. ⌜ r ≡ numbered (updatedReport updated) ⌝ }
+    ensures { λ r. ⌜ r ≡ callNumber (updateReport updated) ⌝ }
 {
     match updated {
         Updated::Done => refusals::DONE,

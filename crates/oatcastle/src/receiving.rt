@@ -6,12 +6,12 @@ use crate::kinds::FAILURE;
 use crate::kinds::MESSAGE;
 use crate::kinds::MORE;
 use crate::refusals;
-use requests::outcome::Outcome;
-use requests::receive::Received;
+use responder::outcome::Outcome;
+use responder::receive::Received;
 ghost use mathlib.Core.Path.{_≡_};
 ghost use Rattle.supervisor.specs.Calls.{parts};
-ghost use Rattle.requests.specs.Receive.{endedReport, receiptReport};
-ghost use Rattle.oatcastle.specs.Answers.{outcome, writingAnswer};
+ghost use Rattle.responder.specs.Receive.{stepReport, receiveReport};
+ghost use Rattle.oatcastle.specs.Answers.{callOutcome, writingAnswer};
 ghost use Rattle.oatcastle.specs.ReceiveCalls.{receiveCall, stepGiven, stepCall, shortNumber};
 
 // How many numbers `oatcastle_step` answers.
@@ -28,9 +28,9 @@ pub extern "C" fn oatcastle_receive(
     settings: &mut [u8],
     registers: &mut [u8],
 ) -> u32
-    ensures { λ r. ⌜ outcome r (parts (now (reader .exit)) (now (outbox .exit)) (now (factory .entry)) (now (settings .exit)) (now (registers .exit))) ≡ receiveCall (now (image .entry)) (parts (now (reader .entry)) (now (outbox .entry)) (now (factory .entry)) (now (settings .entry)) (now (registers .entry))) (now (piece .entry)) ⌝ }
+    ensures { λ r. ⌜ callOutcome r (parts (now (reader .exit)) (now (outbox .exit)) (now (factory .entry)) (now (settings .exit)) (now (registers .exit))) ≡ receiveCall (now (image .entry)) (parts (now (reader .entry)) (now (outbox .entry)) (now (factory .entry)) (now (settings .entry)) (now (registers .entry))) (now (piece .entry)) ⌝ }
 {
-    let received = requests::receive::receive(
+    let received = responder::receive::receive(
         image,
         piece,
         reader,
@@ -58,10 +58,10 @@ pub extern "C" fn oatcastle_step(
     registers: &mut [u8],
     answer: &mut [u64],
 ) -> u32
-    ensures { λ r. ⌜ outcome r (parts (now (reader .exit)) (now (outbox .exit)) (now (factory .entry)) (now (settings .exit)) (now (registers .exit)), now (answer .exit)) ≡ stepCall (now (image .entry)) (parts (now (reader .entry)) (now (outbox .entry)) (now (factory .entry)) (now (settings .entry)) (now (registers .entry))) (now (piece .entry)) (now (answer .entry)) ⌝ }
+    ensures { λ r. ⌜ callOutcome r (parts (now (reader .exit)) (now (outbox .exit)) (now (factory .entry)) (now (settings .exit)) (now (registers .exit)), now (answer .exit)) ≡ stepCall (now (image .entry)) (parts (now (reader .entry)) (now (outbox .entry)) (now (factory .entry)) (now (settings .entry)) (now (registers .entry))) (now (piece .entry)) (now (answer .entry)) ⌝ }
 {
     if answer.len() < STEP_NUMBERS {
-        let received = requests::receive::receive(
+        let received = responder::receive::receive(
             image,
             &piece[0..0],
             reader,
@@ -72,7 +72,7 @@ pub extern "C" fn oatcastle_step(
         );
         return short_number(received);
     }
-    let stepped = requests::receive::step(
+    let stepped = responder::receive::step(
         image,
         piece,
         reader,
@@ -86,7 +86,7 @@ pub extern "C" fn oatcastle_step(
 }
 
 fn short_number(received: Received) -> u32
-    ensures { λ r. ⌜ r ≡ shortNumber (receiptReport received) ⌝ }
+    ensures { λ r. ⌜ r ≡ shortNumber (receiveReport received) ⌝ }
 {
     match received {
         Received::Done => refusals::NO_ROOM,
@@ -96,7 +96,7 @@ fn short_number(received: Received) -> u32
 
 // The numbers of a step's answer.
 fn answer_step(answer: &mut [u64], used: u64, ended: Outcome) -> u32
-    ensures { λ r. ⌜ outcome r (now (answer .exit)) ≡ writingAnswer (stepGiven used (endedReport ended)) (now (answer .entry)) ⌝ }
+    ensures { λ r. ⌜ callOutcome r (now (answer .exit)) ≡ writingAnswer (stepGiven used (stepReport ended)) (now (answer .entry)) ⌝ }
 {
     match ended {
         Outcome::Refused => refusals::BAD_STATE,

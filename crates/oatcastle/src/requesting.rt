@@ -13,8 +13,8 @@ use requester::sending::Requested;
 use requester::sending::Sent;
 use requester::start::Started;
 ghost use mathlib.Core.Path.{_≡_};
-ghost use Rattle.requester.specs.Calls.{parts, requestReport, sendReport, receiveReport};
-ghost use Rattle.oatcastle.specs.Answers.{outcome, writingAnswer, flag};
+ghost use Rattle.requester.specs.Calls.{mainParts, requestReport, sendReport, handedReport};
+ghost use Rattle.oatcastle.specs.Answers.{callOutcome, writingAnswer, flag};
 ghost use Rattle.oatcastle.specs.RequesterCalls.{requesterStartCall, putGiven, requestCall, sendCall, shortPut, interruptCall, receiptGiven, listenCall, shortReceipt};
 
 // How many numbers `oatcastle_requester_receive` answers.
@@ -26,7 +26,7 @@ const NO_ROOM: usize = 1;
 // Begins the main processor's end.
 #[no_mangle]
 pub extern "C" fn oatcastle_requester_start(reader: &mut [u8], requester: &mut [u8]) -> u32
-    ensures { λ r. ⌜ outcome r (parts (now (reader .exit)) (now (requester .exit))) ≡ requesterStartCall (parts (now (reader .entry)) (now (requester .entry))) ⌝ }
+    ensures { λ r. ⌜ callOutcome r (mainParts (now (reader .exit)) (now (requester .exit))) ≡ requesterStartCall (mainParts (now (reader .entry)) (now (requester .entry))) ⌝ }
 {
     let started = requester::start::start(reader, requester);
     match started {
@@ -44,7 +44,7 @@ pub extern "C" fn oatcastle_requester_request(
     out: &mut [u8],
     answer: &mut [u64],
 ) -> u32
-    ensures { λ r. ⌜ outcome r ((now (requester .exit), now (out .exit)), now (answer .exit)) ≡ requestCall (now (requester .entry)) command (now («data» .entry)) (now (out .entry)) (now (answer .entry)) ⌝ }
+    ensures { λ r. ⌜ callOutcome r ((now (requester .exit), now (out .exit)), now (answer .exit)) ≡ requestCall (now (requester .entry)) command (now («data» .entry)) (now (out .entry)) (now (answer .entry)) ⌝ }
 {
     if answer.len() < 1 {
         let mut none = [0u8; NO_ROOM];
@@ -56,7 +56,7 @@ pub extern "C" fn oatcastle_requester_request(
 
 // The number of a request's answer.
 fn answer_requested(answer: &mut [u64], requested: Requested) -> u32
-    ensures { λ r. ⌜ outcome r (now (answer .exit)) ≡ writingAnswer (putGiven (requestReport requested)) (now (answer .entry)) ⌝ }
+    ensures { λ r. ⌜ callOutcome r (now (answer .exit)) ≡ writingAnswer (putGiven (requestReport requested)) (now (answer .entry)) ⌝ }
 {
     match requested {
         Requested::Refused => refusals::BAD_STATE,
@@ -84,7 +84,7 @@ fn short_requested(requested: Requested) -> u32
 // Begins a recovery, unless one is under way.
 #[no_mangle]
 pub extern "C" fn oatcastle_requester_interrupt(requester: &mut [u8]) -> u32
-    ensures { λ r. ⌜ outcome r (now (requester .exit)) ≡ interruptCall (now (requester .entry)) ⌝ }
+    ensures { λ r. ⌜ callOutcome r (now (requester .exit)) ≡ interruptCall (now (requester .entry)) ⌝ }
 {
     let interrupted = requester::recovery::interrupt(requester);
     match interrupted {
@@ -101,7 +101,7 @@ pub extern "C" fn oatcastle_requester_send(
     out: &mut [u8],
     answer: &mut [u64],
 ) -> u32
-    ensures { λ r. ⌜ outcome r ((now (requester .exit), now (out .exit)), now (answer .exit)) ≡ sendCall (now (requester .entry)) (now (out .entry)) (now (answer .entry)) ⌝ }
+    ensures { λ r. ⌜ callOutcome r ((now (requester .exit), now (out .exit)), now (answer .exit)) ≡ sendCall (now (requester .entry)) (now (out .entry)) (now (answer .entry)) ⌝ }
 {
     if answer.len() < 1 {
         let mut none = [0u8; NO_ROOM];
@@ -113,7 +113,7 @@ pub extern "C" fn oatcastle_requester_send(
 
 // The number of a send's answer.
 fn answer_put(answer: &mut [u64], sent: Sent) -> u32
-    ensures { λ r. ⌜ outcome r (now (answer .exit)) ≡ writingAnswer (putGiven (sendReport sent)) (now (answer .entry)) ⌝ }
+    ensures { λ r. ⌜ callOutcome r (now (answer .exit)) ≡ writingAnswer (putGiven (sendReport sent)) (now (answer .entry)) ⌝ }
 {
     match sent {
         Sent::Refused => refusals::BAD_STATE,
@@ -141,7 +141,7 @@ pub extern "C" fn oatcastle_requester_receive(
     requester: &mut [u8],
     answer: &mut [u64],
 ) -> u32
-    ensures { λ r. ⌜ outcome r (parts (now (reader .exit)) (now (requester .exit)), now (answer .exit)) ≡ listenCall (parts (now (reader .entry)) (now (requester .entry))) (now (piece .entry)) (now (answer .entry)) ⌝ }
+    ensures { λ r. ⌜ callOutcome r (mainParts (now (reader .exit)) (now (requester .exit)), now (answer .exit)) ≡ listenCall (mainParts (now (reader .entry)) (now (requester .entry))) (now (piece .entry)) (now (answer .entry)) ⌝ }
 {
     if answer.len() < RECEIVE_NUMBERS {
         let received = requester::receive::receive(&piece[0..0], reader, requester);
@@ -153,7 +153,7 @@ pub extern "C" fn oatcastle_requester_receive(
 }
 
 fn short_received(handed: Handed) -> u32
-    ensures { λ r. ⌜ r ≡ shortReceipt (receiveReport handed) ⌝ }
+    ensures { λ r. ⌜ r ≡ shortReceipt (handedReport handed) ⌝ }
 {
     match handed {
         Handed::Refused => refusals::BAD_STATE,
@@ -166,7 +166,7 @@ fn short_received(handed: Handed) -> u32
 
 // The numbers of a receive's answer.
 fn answer_received(answer: &mut [u64], received: Received) -> u32
-    ensures { λ r. ⌜ outcome r (now (answer .exit)) ≡ writingAnswer (receiptGiven (received .used) (receiveReport (received .handed)) (received .ended) (received .unsent)) (now (answer .entry)) ⌝ }
+    ensures { λ r. ⌜ callOutcome r (now (answer .exit)) ≡ writingAnswer (receiptGiven (received .used) (handedReport (received .handed)) (received .ended) (received .unsent)) (now (answer .entry)) ⌝ }
 {
     let used = received.used as u64;
     let ended = flag_number(received.ended);

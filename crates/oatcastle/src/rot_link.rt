@@ -12,9 +12,9 @@ use rot::writer::Written;
 ghost use mathlib.Core.Path.{_≡_};
 ghost use Rattle.rot.specs.Reading as RotReading;
 ghost use Rattle.rot.specs.Writing as RotWriting;
-ghost use Rattle.rot.specs.Writing.{messageOf};
-ghost use Rattle.oatcastle.specs.Answers.{outcome, writingAnswer};
-ghost use Rattle.oatcastle.specs.RotCalls.{shortNumber, rotReadGiven, rotReadCall, rotPayloadCall, rotWriteGiven, rotWriteCall, rotCrcCall};
+ghost use Rattle.rot.specs.Writing.{rotMessageOf};
+ghost use Rattle.oatcastle.specs.Answers.{callOutcome, writingAnswer};
+ghost use Rattle.oatcastle.specs.RotCalls.{rotShortNumber, rotReadGiven, rotReadCall, rotPayloadCall, rotWriteGiven, rotWriteCall, rotCrcCall};
 
 // How many numbers `oatcastle_rot_read` answers.
 const ROT_READ_NUMBERS: usize = 3;
@@ -25,7 +25,7 @@ const NO_ROOM: usize = 1;
 // Reads what came over the link. With too short an answer it is read with no room for the echo's answer.
 #[no_mangle]
 pub extern "C" fn oatcastle_rot_read(input: &[u8], out: &mut [u8], answer: &mut [u64]) -> u32
-    ensures { λ r. ⌜ outcome r (now (out .exit), now (answer .exit)) ≡ rotReadCall (now (input .entry)) (now (out .entry)) (now (answer .entry)) ⌝ }
+    ensures { λ r. ⌜ callOutcome r (now (out .exit), now (answer .exit)) ≡ rotReadCall (now (input .entry)) (now (out .entry)) (now (answer .entry)) ⌝ }
 {
     if answer.len() < ROT_READ_NUMBERS {
         let mut none = [0u8; NO_ROOM];
@@ -38,7 +38,7 @@ pub extern "C" fn oatcastle_rot_read(input: &[u8], out: &mut [u8], answer: &mut 
 // Copies the payload of the message that `oatcastle_rot_read` hands out.
 #[no_mangle]
 pub extern "C" fn oatcastle_rot_payload(input: &[u8], room: &mut [u8]) -> u32
-    ensures { λ r. ⌜ outcome r (now (room .exit)) ≡ rotPayloadCall (now (input .entry)) (now (room .entry)) ⌝ }
+    ensures { λ r. ⌜ callOutcome r (now (room .exit)) ≡ rotPayloadCall (now (input .entry)) (now (room .entry)) ⌝ }
 {
     write_bytes(rot::reader::payload(input), room)
 }
@@ -51,7 +51,7 @@ pub extern "C" fn oatcastle_rot_write(
     out: &mut [u8],
     answer: &mut [u64],
 ) -> u32
-    ensures { λ r. ⌜ outcome r (now (out .exit), now (answer .exit)) ≡ rotWriteCall (messageOf kind (now (payload .entry))) (now (out .entry)) (now (answer .entry)) ⌝ }
+    ensures { λ r. ⌜ callOutcome r (now (out .exit), now (answer .exit)) ≡ rotWriteCall (rotMessageOf kind (now (payload .entry))) (now (out .entry)) (now (answer .entry)) ⌝ }
 {
     if answer.len() < 1 {
         let mut none = [0u8; NO_ROOM];
@@ -64,7 +64,7 @@ pub extern "C" fn oatcastle_rot_write(
 // The CRC of some bytes.
 #[no_mangle]
 pub extern "C" fn oatcastle_rot_crc(bytes: &[u8], answer: &mut [u64]) -> u32
-    ensures { λ r. ⌜ outcome r (now (answer .exit)) ≡ rotCrcCall (now («bytes» .entry)) (now (answer .entry)) ⌝ }
+    ensures { λ r. ⌜ callOutcome r (now (answer .exit)) ≡ rotCrcCall (now («bytes» .entry)) (now (answer .entry)) ⌝ }
 {
     let sum = rot::crc::crc(bytes) as u64;
     write_answer(answer, [sum, 0, 0, 0, 0, 0, 0], 1)
@@ -72,7 +72,7 @@ pub extern "C" fn oatcastle_rot_crc(bytes: &[u8], answer: &mut [u64]) -> u32
 
 // The numbers of the reader's answer.
 fn answer_read(answer: &mut [u64], read: Answer) -> u32
-    ensures { λ r. ⌜ outcome r (now (answer .exit)) ≡ writingAnswer (rotReadGiven (RotReading.report read)) (now (answer .entry)) ⌝ }
+    ensures { λ r. ⌜ callOutcome r (now (answer .exit)) ≡ writingAnswer (rotReadGiven (RotReading.rotReadReport read)) (now (answer .entry)) ⌝ }
 {
     match read {
         Answer::Refused(why) => number(why),
@@ -100,7 +100,7 @@ fn answer_read(answer: &mut [u64], read: Answer) -> u32
 
 // The number of the writer's answer.
 fn answer_sent(answer: &mut [u64], written: Written) -> u32
-    ensures { λ r. ⌜ outcome r (now (answer .exit)) ≡ writingAnswer (rotWriteGiven (RotWriting.report written)) (now (answer .entry)) ⌝ }
+    ensures { λ r. ⌜ callOutcome r (now (answer .exit)) ≡ writingAnswer (rotWriteGiven (RotWriting.rotWriteReport written)) (now (answer .entry)) ⌝ }
 {
     match written {
         Written::Done(n) => write_answer(answer, [n as u64, 0, 0, 0, 0, 0, 0], 1),
@@ -110,7 +110,7 @@ fn answer_sent(answer: &mut [u64], written: Written) -> u32
 
 // A refusal's own number, and 8 for any other answer.
 fn short_read(read: Answer) -> u32
-    ensures { λ r. ⌜ r ≡ shortNumber (RotReading.report read) ⌝ }
+    ensures { λ r. ⌜ r ≡ rotShortNumber (RotReading.rotReadReport read) ⌝ }
 {
     match read {
         Answer::Refused(why) => number(why),
@@ -121,7 +121,7 @@ fn short_read(read: Answer) -> u32
 }
 
 fn short_written(written: Written) -> u32
-    ensures { λ r. ⌜ r ≡ shortNumber (RotWriting.report written) ⌝ }
+    ensures { λ r. ⌜ r ≡ rotShortNumber (RotWriting.rotWriteReport written) ⌝ }
 {
     match written {
         Written::Done(_) => refusals::NO_ROOM,

@@ -6,13 +6,13 @@ use saving::restore::Restored;
 use saving::save::Saved;
 ghost use mathlib.Core.Path.{_≡_};
 ghost use Rattle.saving.specs.Calls.{saveReport};
-ghost use Rattle.oatcastle.specs.Answers.{outcome, writingAnswer};
+ghost use Rattle.oatcastle.specs.Answers.{callOutcome, writingAnswer};
 ghost use Rattle.oatcastle.specs.SavingCalls.{saveGiven, saveCall, restoreCall};
 
 // Writes the settings that have a value as an image.
 #[no_mangle]
 pub extern "C" fn oatcastle_save(settings: &[u8], out: &mut [u8], answer: &mut [u64]) -> u32
-    ensures { λ r. ⌜ outcome r (now (out .exit), now (answer .exit)) ≡ saveCall (now (settings .entry)) (now (out .entry)) (now (answer .entry)) ⌝ }
+    ensures { λ r. ⌜ callOutcome r (now (out .exit), now (answer .exit)) ≡ saveCall (now (settings .entry)) (now (out .entry)) (now (answer .entry)) ⌝ }
 {
     if !supervisor::valid::settings_are_valid(settings) {
         return refusals::BAD_STATE;
@@ -26,7 +26,7 @@ pub extern "C" fn oatcastle_save(settings: &[u8], out: &mut [u8], answer: &mut [
 
 // The number of a save's answer.
 fn answer_saved(answer: &mut [u64], saved: Saved) -> u32
-    ensures { λ r. ⌜ outcome r (now (answer .exit)) ≡ writingAnswer (saveGiven (saveReport saved)) (now (answer .entry)) ⌝ }
+    ensures { λ r. ⌜ callOutcome r (now (answer .exit)) ≡ writingAnswer (saveGiven (saveReport saved)) (now (answer .entry)) ⌝ }
 {
     match saved {
         Saved::Done(n) => write_answer(answer, [n as u64, 0, 0, 0, 0, 0, 0], 1),
@@ -38,7 +38,7 @@ fn answer_saved(answer: &mut [u64], saved: Saved) -> u32
 // Replaces the saved settings by those of an image, if it has no fault.
 #[no_mangle]
 pub extern "C" fn oatcastle_restore(settings: &mut [u8], image: &[u8], answer: &mut [u64]) -> u32
-    ensures { λ r. ⌜ outcome r (now (settings .exit), now (answer .exit)) ≡ restoreCall (now (settings .entry)) (now (image .entry)) (now (answer .entry)) ⌝ }
+    ensures { λ r. ⌜ callOutcome r (now (settings .exit), now (answer .exit)) ≡ restoreCall (now (settings .entry)) (now (image .entry)) (now (answer .entry)) ⌝ }
 {
     if !supervisor::valid::settings_are_valid(settings) {
         return refusals::BAD_STATE;

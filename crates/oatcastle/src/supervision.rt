@@ -9,7 +9,7 @@ use supervisor::outbox::Taken;
 use supervisor::start::Started;
 ghost use mathlib.Core.Path.{_≡_};
 ghost use Rattle.supervisor.specs.Calls.{parts, startReport, takeReport};
-ghost use Rattle.oatcastle.specs.Answers.{outcome, numbered, writingAnswer};
+ghost use Rattle.oatcastle.specs.Answers.{callOutcome, callNumber, writingAnswer};
 ghost use Rattle.oatcastle.specs.SupervisorCalls.{startCall, takeGiven, takeCall, postCall, optionsCall};
 
 // Begins the supervisor with start data.
@@ -22,14 +22,14 @@ pub extern "C" fn oatcastle_start(
     settings: &mut [u8],
     registers: &mut [u8],
 ) -> u32
-    ensures { λ r. ⌜ outcome r (parts (now (reader .exit)) (now (outbox .exit)) (now (factory .exit)) (now (settings .exit)) (now (registers .exit))) ≡ startCall (now («data» .entry)) (parts (now (reader .entry)) (now (outbox .entry)) (now (factory .entry)) (now (settings .entry)) (now (registers .entry))) ⌝ }
+    ensures { λ r. ⌜ callOutcome r (parts (now (reader .exit)) (now (outbox .exit)) (now (factory .exit)) (now (settings .exit)) (now (registers .exit))) ≡ startCall (now («data» .entry)) (parts (now (reader .entry)) (now (outbox .entry)) (now (factory .entry)) (now (settings .entry)) (now (registers .entry))) ⌝ }
 {
     let started = supervisor::start::start(data, reader, outbox, factory, settings, registers);
     start_number(started)
 }
 
 fn start_number(started: Started) -> u32
-    ensures { λ r. ⌜ r ≡ numbered (startReport started) ⌝ }
+    ensures { λ r. ⌜ r ≡ callNumber (startReport started) ⌝ }
 {
     match started {
         Started::Done => refusals::DONE,
@@ -41,7 +41,7 @@ fn start_number(started: Started) -> u32
 // Moves the smaller of the room and the bytes pending.
 #[no_mangle]
 pub extern "C" fn oatcastle_take(outbox: &mut [u8], room: &mut [u8], answer: &mut [u64]) -> u32
-    ensures { λ r. ⌜ outcome r ((now (outbox .exit), now (room .exit)), now (answer .exit)) ≡ takeCall (now (outbox .entry)) (now (room .entry)) (now (answer .entry)) ⌝ }
+    ensures { λ r. ⌜ callOutcome r ((now (outbox .exit), now (room .exit)), now (answer .exit)) ≡ takeCall (now (outbox .entry)) (now (room .entry)) (now (answer .entry)) ⌝ }
 {
     if !supervisor::valid::outbox_is_valid(outbox) {
         return refusals::BAD_STATE;
@@ -55,7 +55,7 @@ pub extern "C" fn oatcastle_take(outbox: &mut [u8], room: &mut [u8], answer: &mu
 
 // The number of a take's answer.
 fn answer_taken(answer: &mut [u64], taken: Taken) -> u32
-    ensures { λ r. ⌜ outcome r (now (answer .exit)) ≡ writingAnswer (takeGiven (takeReport taken)) (now (answer .entry)) ⌝ }
+    ensures { λ r. ⌜ callOutcome r (now (answer .exit)) ≡ writingAnswer (takeGiven (takeReport taken)) (now (answer .entry)) ⌝ }
 {
     match taken {
         Taken::Moved(n) => write_answer(answer, [n as u64, 0, 0, 0, 0, 0, 0], 1),
@@ -66,7 +66,7 @@ fn answer_taken(answer: &mut [u64], taken: Taken) -> u32
 // Posts an alert.
 #[no_mangle]
 pub extern "C" fn oatcastle_post(registers: &mut [u8], action: u8, text: &[u8]) -> u32
-    ensures { λ r. ⌜ outcome r (now (registers .exit)) ≡ postCall (now (registers .entry)) action (now (text .entry)) ⌝ }
+    ensures { λ r. ⌜ callOutcome r (now (registers .exit)) ≡ postCall (now (registers .entry)) action (now (text .entry)) ⌝ }
 {
     let posted = supervisor::alerts::post(registers, action, text);
     match posted {
@@ -81,7 +81,7 @@ pub extern "C" fn oatcastle_post(registers: &mut [u8], action: u8, text: &[u8]) 
 // Sets the options.
 #[no_mangle]
 pub extern "C" fn oatcastle_set_options(registers: &mut [u8], options: u64) -> u32
-    ensures { λ r. ⌜ outcome r (now (registers .exit)) ≡ optionsCall (now (registers .entry)) options ⌝ }
+    ensures { λ r. ⌜ callOutcome r (now (registers .exit)) ≡ optionsCall (now (registers .entry)) options ⌝ }
 {
     let set = supervisor::options::set_options(registers, options);
     match set {

@@ -15,8 +15,8 @@ use lib.Seq.{drop-cons, drop-drop}
 use Rattle.octets.specs.Bytes.{overlay, equal}
 use Rattle.octets.proofs.Conditions.{cond-by, cond-map}
 use Rattle.octets.proofs.Overlay.{overlay-none, overlay-more, overlay-next}
-use Rattle.line.specs.Cobs.{zeros, lastOneAfterFull, groupBytes, uncobs}
-use Rattle.plain.specs.Answers.{Decoding, behind, decodeGroup, decoding}
+use Rattle.line.specs.Cobs.{impliedZero, lastOneAfterFull, groupBytes, uncobs}
+use Rattle.plain.specs.Answers.{Decoding, behind, decodeGroup, decodeForm}
 use Rattle.plain.specs.Inner.{decodedReport}
 use Rattle.plain.specs.declared.Decoded.the-variants.{Bad, Length}
 
@@ -40,11 +40,11 @@ group-bytes (suc left) holds (b ∷ bs) =
     rw (group-bytes left holds bs) (bytes-behind (b ∷ []) (d .whole) (d .bytes))
 group-bytes zero holds (c ∷ cs) =
     let d = decodeGroup (c - 1) (ltb c 255) cs in
-    rw (group-bytes (c - 1) (ltb c 255) cs, bytes-behind (zeros holds) (d .whole) (d .bytes))
+    rw (group-bytes (c - 1) (ltb c 255) cs, bytes-behind (impliedZero holds) (d .whole) (d .bytes))
     (cond-map formBytes (eqb c 0 || lastOneAfterFull c cs) (λ e. refl) (λ e. refl))
 
-pub decoding-bytes : (form : List ℕ) → uncobs form ≡ formBytes (decoding form)
-unfolding uncobs decoding
+pub decoding-bytes : (form : List ℕ) → uncobs form ≡ formBytes (decodeForm form)
+unfolding uncobs decodeForm
 decoding-bytes form = group-bytes 0 false form
 
 -- ---- one byte of a form
@@ -71,26 +71,26 @@ module _ (z : Bool) (c : ℕ) (cs : List ℕ) where
   unfolding decodeGroup
   code-last e = rw (← e, or-true)
 
-  code-other : (c ≡ 0 → ⊥) → false ≡ lastOneAfterFull c cs → decodeGroup 0 z (c ∷ cs) ≡ behind (zeros z) (decodeGroup (c - 1) (ltb c 255) cs)
+  code-other : (c ≡ 0 → ⊥) → false ≡ lastOneAfterFull c cs → decodeGroup 0 z (c ∷ cs) ≡ behind (impliedZero z) (decodeGroup (c - 1) (ltb c 255) cs)
   unfolding decodeGroup
   code-other e l = rw (ne-eqb c 0 e, ← l)
 
-zeros-most : (z : Bool) → length (zeros z) ≤ 1
+zeros-most : (z : Bool) → length (impliedZero z) ≤ 1
 zeros-most true = omega arith
 zeros-most false = omega arith
 
-group-length : (left : ℕ) (z : Bool) (bs : List ℕ) → length (decodeGroup left z bs .bytes) ≤ length bs + length (zeros z)
+group-length : (left : ℕ) (z : Bool) (bs : List ℕ) → length (decodeGroup left z bs .bytes) ≤ length bs + length (impliedZero z)
 unfolding decodeGroup
 group-length zero z [] = omega arith
 group-length (suc left) z [] = omega arith
 group-length (suc left) z (b ∷ bs) = omega (arith, group-length left z bs)
 group-length zero z (c ∷ cs) =
-    cond-by (λ (d : Decoding). length (d .bytes) ≤ suc (length cs) + length (zeros z)) (eqb c 0 || lastOneAfterFull c cs) _ _ (λ e. omega arith)
+    cond-by (λ (d : Decoding). length (d .bytes) ≤ suc (length cs) + length (impliedZero z)) (eqb c 0 || lastOneAfterFull c cs) _ _ (λ e. omega arith)
     (λ e. rw length-append (omega (arith, group-length (c - 1) (ltb c 255) cs, zeros-most (ltb c 255))))
 
 -- a form decodes to no more bytes than it has
-pub decoding-length : (form : List ℕ) → length (decoding form .bytes) ≤ length form
-unfolding decoding
+pub decoding-length : (form : List ℕ) → length (decodeForm form .bytes) ≤ length form
+unfolding decodeForm
 decoding-length form = omega (arith, group-length 0 false form)
 
 -- ---- what the decoding says
@@ -104,14 +104,14 @@ report-not true k e = let z : _≡_ {A = ℕ} 0 1 = cc in absurd (omega arith)
 report-not false k e = refl
 
 module _ (form : List ℕ) where
-  pub bad-none : Bad ≡ decodedReport (decoding form) → uncobs form ≡ none
+  pub bad-none : Bad ≡ decodedReport (decodeForm form) → uncobs form ≡ none
   unfolding decodedReport
-  bad-none e = decoding-bytes form ∙ rw (report-not (decoding form .whole) (length (decoding form .bytes)) e)
+  bad-none e = decoding-bytes form ∙ rw (report-not (decodeForm form .whole) (length (decodeForm form .bytes)) e)
 
-  pub length-some : {k : ℕ} → Length k ≡ decodedReport (decoding form) → (uncobs form ≡ some (decoding form .bytes)) × (length (decoding form .bytes) ≡ k)
+  pub length-some : {k : ℕ} → Length k ≡ decodedReport (decodeForm form) → (uncobs form ≡ some (decodeForm form .bytes)) × (length (decodeForm form .bytes) ≡ k)
   unfolding decodedReport
   length-some {k} e =
-      let s = report-by (decoding form .whole) (decoding form .bytes) k e in
+      let s = report-by (decodeForm form .whole) (decodeForm form .bytes) k e in
       (decoding-bytes form ∙ rw (s .0), s .1)
 
 -- ---- in the middle of a form
@@ -120,28 +120,28 @@ module _ (form : List ℕ) where
 pub record Middle (form m₀ m : List ℕ) (left : ℕ) (z : Bool) (n i : ℕ) : Type 0 where
   pub decoded : List ℕ
   pub long : length decoded ≡ n
-  pub fits : n + length (zeros z) ≤ i
+  pub fits : n + length (impliedZero z) ≤ i
   pub stands : m ≡ overlay 0 decoded m₀
-  pub whole : decoding form ≡ behind decoded (decodeGroup left z (drop i form))
+  pub whole : decodeForm form ≡ behind decoded (decodeGroup left z (drop i form))
 
 pub middle-start : (form m : List ℕ) → Middle form m m 0 false 0 0
-unfolding decoding
+unfolding decodeForm
 middle-start form m = record { decoded = []; long = refl; fits = omega arith; stands = sym (overlay-none 0 m); whole = refl }
 
 module _ (form m₀ m : List ℕ) (left : ℕ) (z : Bool) (n i : ℕ) (mid : Middle form m₀ m left z n i) where
   -- no more bytes come
   module _ (w : Bool) (e : decodeGroup left z (drop i form) ≡ record { whole = w; bytes = [] }) where
-    stopped : decoding form ≡ record { whole = w; bytes = mid .decoded }
+    stopped : decodeForm form ≡ record { whole = w; bytes = mid .decoded }
     stopped = mid .whole ∙ rw (e, append-nil)
 
-    pub stop : (cond w (Length n) Bad ≡ decodedReport (decoding form)) × (m ≡ overlay 0 (decoding form .bytes) m₀)
+    pub stop : (cond w (Length n) Bad ≡ decodedReport (decodeForm form)) × (m ≡ overlay 0 (decodeForm form .bytes) m₀)
     unfolding decodedReport
     stop = (rw (stopped, mid .long), rw stopped (mid .stands))
 
-  pub stop-past : length form ≤ i → 0 < left → (Bad ≡ decodedReport (decoding form)) × (m ≡ overlay 0 (decoding form .bytes) m₀)
+  pub stop-past : length form ≤ i → 0 < left → (Bad ≡ decodedReport (decodeForm form)) × (m ≡ overlay 0 (decodeForm form .bytes) m₀)
   stop-past h l = stop false (rw (drop-of-length-le form h) (group-past left z l))
 
-  pub stop-end : length form ≤ i → left ≤ 0 → (Length n ≡ decodedReport (decoding form)) × (m ≡ overlay 0 (decoding form .bytes) m₀)
+  pub stop-end : length form ≤ i → left ≤ 0 → (Length n ≡ decodedReport (decodeForm form)) × (m ≡ overlay 0 (decodeForm form .bytes) m₀)
   unfolding decodeGroup
   stop-end h l =
       let e : left ≡ 0 = omega arith in
@@ -169,22 +169,22 @@ module _ (form m₀ m : List ℕ) (left : ℕ) (z : Bool) (n i : ℕ) (mid : Mid
       none-left : left ≡ 0
       none-left = omega arith
 
-      pub stop-zero : b ≡ 0 → (Bad ≡ decodedReport (decoding form)) × (m ≡ overlay 0 (decoding form .bytes) m₀)
+      pub stop-zero : b ≡ 0 → (Bad ≡ decodedReport (decodeForm form)) × (m ≡ overlay 0 (decodeForm form .bytes) m₀)
       stop-zero f = stop false (rw (at-byte, none-left) (code-zero z b (drop (i + 1) form) f))
 
-      pub stop-last : true ≡ lastOneAfterFull b (drop (i + 1) form) → (Bad ≡ decodedReport (decoding form)) × (m ≡ overlay 0 (decoding form .bytes) m₀)
+      pub stop-last : true ≡ lastOneAfterFull b (drop (i + 1) form) → (Bad ≡ decodedReport (decodeForm form)) × (m ≡ overlay 0 (decodeForm form .bytes) m₀)
       stop-last f = stop false (rw (at-byte, none-left) (code-last z b (drop (i + 1) form) f))
 
       pub middle-code : (b ≡ 0 → ⊥) → false ≡ lastOneAfterFull b (drop (i + 1) form) → i < length m₀
-          → {m′ : List ℕ} {n′ : ℕ} → n′ ≡ n + length (zeros z) → m′ ≡ overlay n (zeros z) m
+          → {m′ : List ℕ} {n′ : ℕ} → n′ ≡ n + length (impliedZero z) → m′ ≡ overlay n (impliedZero z) m
           → Middle form m₀ m′ (b - 1) (ltb b 255) n′ (i + 1)
       middle-code f g r p q =
           let d = mid .decoded in
           let u = mid .fits in
-          let o = rw zero-add at (overlay-next 0 d (zeros z) m₀ (omega arith)) in
+          let o = rw zero-add at (overlay-next 0 d (impliedZero z) m₀ (omega arith)) in
           record {
-            decoded = d ++ zeros z;
-            long = length-append d (zeros z) ∙ rw (p, mid .long);
+            decoded = d ++ impliedZero z;
+            long = length-append d (impliedZero z) ∙ rw (p, mid .long);
             fits = omega (arith, zeros-most (ltb b 255));
             stands = q ∙ rw (mid .stands, ← mid .long) o;
             whole = mid .whole ∙ rw (at-byte, none-left, code-other z b (drop (i + 1) form) f g) (simp append-assoc);

@@ -8,7 +8,7 @@ use native.Mathlib.Numerals.{add-one}
 use native.Mathlib.Omega.{arith}
 use lib.ListN.{length, drop, getD, drop-of-length-le}
 use lib.Seq.{drop-cons}
-use Rattle.line_claims.specs.Pieces.{ahead, split}
+use Rattle.line_claims.specs.Pieces.{aheadOfPieces, split}
 use Rattle.plain.specs.Answers.{firstOf, firstPiece, pieceAt}
 use Rattle.plain.specs.declared.Piece.{Piece}
 use Rattle.plain.specs.declared.Piece.the-variants.{Frame, Tail}
@@ -26,7 +26,7 @@ longer-more : (j k : ℕ) (p : Piece) → longer j (longer k p) ≡ longer (j + 
 longer-more j k (Frame n) = ap Frame (omega arith)
 longer-more j k (Tail n) = ap Tail (omega arith)
 
-first-ahead : (b : ℕ) (ps : List (List ℕ)) (rest : List ℕ) → firstPiece (ahead b ps rest) ≡ longer 1 (firstOf ps rest)
+first-ahead : (b : ℕ) (ps : List (List ℕ)) (rest : List ℕ) → firstPiece (aheadOfPieces b ps rest) ≡ longer 1 (firstOf ps rest)
 unfolding firstOf
 first-ahead b [] rest = ap Tail (omega arith)
 first-ahead b (p ∷ ps) rest = ap Frame (omega arith)

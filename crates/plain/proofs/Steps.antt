@@ -9,16 +9,16 @@ use lib.Seq.{take-at, drop-at, drop-drop}
 use Rattle.octets.specs.Bytes.{Each, run}
 use Rattle.line_claims.specs.Pieces.{split, withZeros}
 use Rattle.line_claims.proofs.Pieces.{split-at, split-each, split-whole}
-use Rattle.plain.specs.Listing.{Entry, Listing, entryOf, entriesFrom, listed}
+use Rattle.plain.specs.Listing.{ListedFrame, Listing, listedFrame, listedFrames, listingFrom}
 use Rattle.plain.specs.Answers.{firstOf, pieceAt}
 use Rattle.plain.specs.declared.Piece.the-variants.{Frame, Tail}
 
 -- what is listed from an offset on
 abbrev pub listedFrom : List ℕ → ℕ → Listing
-listedFrom w at = listed at (split (drop at w))
+listedFrom w at = listingFrom at (split (drop at w))
 
 -- entries ahead of a listing
-abbrev pub added : List Entry → Listing → Listing
+abbrev pub added : List ListedFrame → Listing → Listing
 added es l = record { entries = es ++ l .entries; tail = l .tail }
 
 -- ---- the first piece of a list
@@ -47,7 +47,7 @@ first v p ps e =
 
 pub record AtFrame (w : List ℕ) (at n : ℕ) : Type 0 where
   pub within : at + n < length w
-  pub step : listedFrom w at ≡ added (entryOf at (run at n w)) (listedFrom w (at + n + 1))
+  pub step : listedFrom w at ≡ added (listedFrame at (run at n w)) (listedFrom w (at + n + 1))
 
 pub record AtTail (w : List ℕ) (at n : ℕ) : Type 0 where
   pub within : n ≤ length w
@@ -55,7 +55,7 @@ pub record AtTail (w : List ℕ) (at n : ℕ) : Type 0 where
 
 module _ (w : List ℕ) (at : ℕ) where
   at-first : (p : List ℕ) (ps : List (List ℕ)) → split (drop at w) .closed ≡ p ∷ ps → AtFrame w at (length p)
-  unfolding entriesFrom
+  unfolding listedFrames
   at-first p ps e =
       let f = first (drop at w) p ps e in
       let a = f .after in
@@ -76,7 +76,7 @@ module _ (w : List ℕ) (at : ℕ) where
   at-frame h = frame-by (split (drop at w) .closed) refl h
 
   tail-by : (ps : List (List ℕ)) {n : ℕ} → split (drop at w) .closed ≡ ps → Tail n ≡ firstOf ps (split (drop at w) .rest) → AtTail w at n
-  unfolding firstOf entriesFrom
+  unfolding firstOf listedFrames
   tail-by [] {n} e h =
       let l : n ≡ length (split (drop at w) .rest) = cc in
       let s = ap length (split-whole (drop at w)) in

@@ -16,8 +16,8 @@ use Rattle.line.specs.Limits.{header-length, shortest-message, longest-message,
 use Rattle.line.specs.Checksum.{sums, checksum}
 use Rattle.line.specs.Message.{magic}
 use Rattle.line.specs.Cobs.{uncobs}
-use Rattle.line.specs.Judge.{Verdict, failure, good, bodyOf, checksumOf, magicOf, sequenceOf, payloadOf, fields, wrongLength, judgeForm, judge}
-use Rattle.plain.specs.Answers.{decoding, decodedInto}
+use Rattle.line.specs.Judge.{LineVerdict, failure, good, bodyOf, checksumOf, magicOf, sequenceOf, payloadOf, fields, wrongLength, judgeForm, judge}
+use Rattle.plain.specs.Answers.{decodeForm, decodedInto}
 use Rattle.plain.specs.Inner.{decodedReport}
 use Rattle.plain.specs.declared.Decoded.{Decoded}
 use Rattle.plain.specs.declared.Decoded.the-variants.{Bad, Length}
@@ -95,7 +95,7 @@ module _ (form m : List ℕ) where
   over-judged h = rw (lt-ltb longest-form (length form) h) (refl, refl)
 
   -- and any other, which was decoded
-  module _ (h : length form ≤ longest-form) {d : Decoded} (report : d ≡ decodedReport (decoding form)) {m′ : List ℕ} (left : m′ ≡ overlay 0 (decoding form .bytes) m) where
+  module _ (h : length form ≤ longest-form) {d : Decoded} (report : d ≡ decodedReport (decodeForm form)) {m′ : List ℕ} (left : m′ ≡ overlay 0 (decodeForm form .bytes) m) where
     judge-form : judge form ≡ judgeForm (uncobs form)
     unfolding judge
     judge-form = rw (le-ltb longest-form (length form) h)
@@ -112,8 +112,8 @@ module _ (form m : List ℕ) where
       pub decoded-fits : length form ≤ length m → length m′ ≡ length m → k ≤ length m′
       decoded-fits r s = omega (arith, length-some form (sym e ∙ report) .1, decoding-length form)
 
-      pub tested-judged : {v : Verdict} → v ≡ judgeForm (some (take k m′)) → (v ≡ judge form) × (m′ ≡ decodedInto form m)
+      pub tested-judged : {v : LineVerdict} → v ≡ judgeForm (some (take k m′)) → (v ≡ judge form) × (m′ ≡ decodedInto form m)
       tested-judged t =
           let p = length-some form (sym e ∙ report) in
-          let o = rw (p .1) at (overlay-inside 0 (decoding form .bytes) m (omega arith)) in
+          let o = rw (p .1) at (overlay-inside 0 (decodeForm form .bytes) m (omega arith)) in
           (t ∙ rw (judge-form, p .0, left, o), form-left)

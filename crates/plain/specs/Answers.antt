@@ -8,8 +8,8 @@ use lib.Dec.{eqb, ltb}
 use lib.ListN.{length, drop}
 use Rattle.octets.specs.Bytes.{run, overlay}
 use Rattle.line.specs.Limits.{header-length, longest-form}
-use Rattle.line.specs.Cobs.{full-code, zeros, lastOneAfterFull}
-use Rattle.line.specs.Judge.{Verdict, failure, good}
+use Rattle.line.specs.Cobs.{full-code, impliedZero, lastOneAfterFull}
+use Rattle.line.specs.Judge.{LineVerdict, failure, good}
 use Rattle.line_claims.specs.Pieces.{Pieces, split}
 use Rattle.plain.specs.declared.Piece.{Piece}
 use Rattle.plain.specs.declared.Piece.the-variants.{Frame, Tail}
@@ -29,13 +29,13 @@ unfoldable pub pieceAt : List ℕ → ℕ → Piece
 pieceAt w at = firstPiece (split (drop at w))
 
 -- the verdict that an answer stands for; the data stand in the array behind the message's header
-unfoldable pub verdictOf : Answer → List ℕ → Verdict
-verdictOf (Message h) m =
+unfoldable pub plainVerdict : Answer → List ℕ → LineVerdict
+plainVerdict (Message h) m =
     good (record { version = h .version; sequence = h .sequence; command = h .command; payload = run header-length (h .length) m })
-verdictOf BadForm m = failure 1 none
-verdictOf BadLength m = failure 3 none
-verdictOf (BadChecksum sequence) m = failure 2 (some sequence)
-verdictOf (BadMagic sequence) m = failure 4 (some sequence)
+plainVerdict BadForm m = failure 1 none
+plainVerdict BadLength m = failure 3 none
+plainVerdict (BadChecksum sequence) m = failure 2 (some sequence)
+plainVerdict (BadMagic sequence) m = failure 4 (some sequence)
 
 -- `groupBytes` with the bytes that come ahead of a failure: whether the form is one, and its bytes up to the code byte that fails or to the end
 pub record Decoding : Type 0 where
@@ -50,11 +50,11 @@ decodeGroup zero holds [] = record { whole = true; bytes = [] }
 decodeGroup (suc left) holds [] = record { whole = false; bytes = [] }
 decodeGroup (suc left) holds (b ∷ bs) = behind (b ∷ []) (decodeGroup left holds bs)
 decodeGroup zero holds (c ∷ cs) =
-    cond (eqb c 0 || lastOneAfterFull c cs) (record { whole = false; bytes = [] }) (behind (zeros holds) (decodeGroup (c - 1) (ltb c full-code) cs))
+    cond (eqb c 0 || lastOneAfterFull c cs) (record { whole = false; bytes = [] }) (behind (impliedZero holds) (decodeGroup (c - 1) (ltb c full-code) cs))
 
-unfoldable pub decoding : List ℕ → Decoding
-decoding form = decodeGroup 0 false form
+unfoldable pub decodeForm : List ℕ → Decoding
+decodeForm form = decodeGroup 0 false form
 
 -- what `judged` leaves in the array: the decoded bytes at its start, all else as it was; a frame of more than 4,140 bytes is not decoded
 unfoldable pub decodedInto : List ℕ → List ℕ → List ℕ
-decodedInto form m = cond (ltb longest-form (length form)) m (overlay 0 (decoding form .bytes) m)
+decodedInto form m = cond (ltb longest-form (length form)) m (overlay 0 (decodeForm form .bytes) m)

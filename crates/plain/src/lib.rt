@@ -6,9 +6,9 @@ ghost use Prim.Native.Nat.{_+_, _≤_, _<_};
 ghost use lib.ListN.{length, take, drop};
 ghost use Rattle.octets.specs.Bytes.{overlay};
 ghost use Rattle.line.specs.Checksum.{checksum};
-ghost use Rattle.line.specs.Cobs.{zeros, lastOneAfterFull};
+ghost use Rattle.line.specs.Cobs.{impliedZero, lastOneAfterFull};
 ghost use Rattle.line.specs.Judge.{judgeForm, judge};
-ghost use Rattle.plain.specs.Answers.{pieceAt, verdictOf, decoding, decodedInto};
+ghost use Rattle.plain.specs.Answers.{pieceAt, plainVerdict, decodeForm, decodedInto};
 ghost use Rattle.plain.specs.Inner.{decodedReport};
 
 // Document 01's numbers stand here by themselves: the second reader takes nothing of the line layer's code, these neither.
@@ -62,7 +62,7 @@ pub fn next(capture: &[u8], at: usize) -> Piece
 
 // What the bytes before a 00 are.
 pub fn judged(frame: &[u8], message: &mut [u8; LONGEST_FORM]) -> Answer
-    ensures { λ r. ⌜ verdictOf r (now (message .exit)) ≡ judge (now (frame .entry)) ⌝ }
+    ensures { λ r. ⌜ plainVerdict r (now (message .exit)) ≡ judge (now (frame .entry)) ⌝ }
     ensures { λ r. ⌜ now (message .exit) ≡ decodedInto (now (frame .entry)) (now (message .entry)) ⌝ }
 {
     if LONGEST_FORM < frame.len() {
@@ -84,8 +84,8 @@ enum Decoded {
 // Decodes a COBS form to the start of out, which has room for as many bytes as the form.
 fn decode(form: &[u8], out: &mut [u8]) -> Decoded
     requires { ⌜ length (now form) ≤ length (now out) ⌝ }
-    ensures { λ r. ⌜ r ≡ decodedReport (decoding (now (form .entry))) ⌝ }
-    ensures { λ r. ⌜ now (out .exit) ≡ overlay 0 (decoding (now (form .entry)) .bytes) (now (out .entry)) ⌝ }
+    ensures { λ r. ⌜ r ≡ decodedReport (decodeForm (now (form .entry))) ⌝ }
+    ensures { λ r. ⌜ now (out .exit) ≡ overlay 0 (decodeForm (now (form .entry)) .bytes) (now (out .entry)) ⌝ }
 {
     let mut left: usize = 0; // bytes of the group that are to come
     let mut zero = false; // whether a zero follows the group, unless the form ends there
@@ -119,7 +119,7 @@ fn decode(form: &[u8], out: &mut [u8]) -> Decoded
 // Puts the zero that follows a group, where one does; how many bytes are decoded then.
 fn put_zero(out: &mut [u8], n: usize, zero: bool) -> usize
     requires { ⌜ n < length (now out) ⌝ }
-    ensures { λ r. ⌜ (r ≡ n + length (zeros zero)) × (now (out .exit) ≡ overlay n (zeros zero) (now (out .entry))) ⌝ }
+    ensures { λ r. ⌜ (r ≡ n + length (impliedZero zero)) × (now (out .exit) ≡ overlay n (impliedZero zero) (now (out .entry))) ⌝ }
 {
     if zero {
         out[n] = 0;
@@ -145,7 +145,7 @@ fn last_one_after_full(code: u8, form: &[u8], i: usize) -> bool
 // The tests on the first n bytes, which a form decoded to.
 fn tested(message: &[u8], n: usize) -> Answer
     requires { ⌜ n ≤ length (now message) ⌝ }
-    ensures { λ r. ⌜ verdictOf r (now (message .entry)) ≡ judgeForm (some (take n (now (message .entry)))) ⌝ }
+    ensures { λ r. ⌜ plainVerdict r (now (message .entry)) ≡ judgeForm (some (take n (now (message .entry)))) ⌝ }
 {
     if n < SHORTEST_MESSAGE {
         return Answer::BadLength;

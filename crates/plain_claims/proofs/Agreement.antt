@@ -4,34 +4,34 @@ use mathlib.Core.Path.{_≡_, refl, ap, _∙_}
 use mathlib.Core.List.{List, [], _∷_, map}
 use Prim.Native.Nat.{ℕ, _+_}
 use lib.ListN.{length}
-use Rattle.line.specs.Judge.{Verdict, failure, good, judge}
+use Rattle.line.specs.Judge.{LineVerdict, failure, good, judge}
 use Rattle.line.specs.Reader.{verdictReport}
 use Rattle.line_claims.specs.Pieces.{split, nonEmpty}
 use Rattle.line_claims.specs.Calls.{frameReport, gathered, goodOf, reasonOf, tailMeant}
 use Rattle.line_claims.proofs.ReaderClaim.{any-stream, any-messages, any-failures, any-tail}
-use Rattle.plain.specs.Listing.{entryOf, entriesFrom, listing}
-use Rattle.plain_claims.specs.Agreement.{listedBy, reportsOf, nonEmptyReport, nonEmptyReports, tailReported}
+use Rattle.plain.specs.Listing.{listedFrame, listedFrames, listing}
+use Rattle.plain_claims.specs.Agreement.{listedBy, reportsOf, nonEmptyReport, nonEmptyReports, tailOfLength}
 use Rattle.plain_claims.specs.Item13.{Agreement}
 
-listed-gathered : {A : Type 0} (f : Verdict → List A) (at : ℕ) (ps : List (List ℕ)) → gathered f (nonEmpty ps) ≡ listedBy f (entriesFrom at ps)
-unfolding gathered nonEmpty listedBy entriesFrom entryOf
+listed-gathered : {A : Type 0} (f : LineVerdict → List A) (at : ℕ) (ps : List (List ℕ)) → gathered f (nonEmpty ps) ≡ listedBy f (listedFrames at ps)
+unfolding gathered nonEmpty listedBy listedFrames listedFrame
 listed-gathered f at [] = refl
 listed-gathered f at ([] ∷ ps) = listed-gathered f (at + 0 + 1) ps
 listed-gathered f at ((b ∷ bs) ∷ ps) = rw (listed-gathered f (at + length (b ∷ bs) + 1) ps)
 
-report-verdict : (v : Verdict) → nonEmptyReport (verdictReport v) ≡ verdictReport v ∷ []
+report-verdict : (v : LineVerdict) → nonEmptyReport (verdictReport v) ≡ verdictReport v ∷ []
 unfolding verdictReport
 report-verdict (failure reason sequence) = refl
 report-verdict (good m) = refl
 
-reports-listed : (at : ℕ) (ps : List (List ℕ)) → nonEmptyReports (map frameReport ps) ≡ listedBy reportsOf (entriesFrom at ps)
-unfolding nonEmptyReports frameReport listedBy entriesFrom entryOf
+reports-listed : (at : ℕ) (ps : List (List ℕ)) → nonEmptyReports (map frameReport ps) ≡ listedBy reportsOf (listedFrames at ps)
+unfolding nonEmptyReports frameReport listedBy listedFrames listedFrame
 reports-listed at [] = refl
 reports-listed at ([] ∷ ps) = reports-listed (at + 0 + 1) ps
 reports-listed at ((b ∷ bs) ∷ ps) = rw (report-verdict (judge (b ∷ bs)), reports-listed (at + length (b ∷ bs) + 1) ps)
 
-tail-is : {v w : List ℕ} → v ≡ w → tailMeant (split v .rest) ≡ tailReported (length (split w .rest))
-unfolding tailMeant tailReported
+tail-is : {v w : List ℕ} → v ≡ w → tailMeant (split v .rest) ≡ tailOfLength (length (split w .rest))
+unfolding tailMeant tailOfLength
 tail-is e = rw e
 
 pub agreement : Agreement

@@ -9,23 +9,23 @@ use lib.ListN.{length}
 use Rattle.octets.specs.Bytes.{run}
 use Rattle.octets.proofs.Overlay.{length-run}
 use Rattle.line.specs.Judge.{judge}
-use Rattle.plain.specs.Listing.{Listing, entryOf, listing}
-use Rattle.plain.specs.Answers.{pieceAt, verdictOf}
+use Rattle.plain.specs.Listing.{Listing, listedFrame, listing}
+use Rattle.plain.specs.Answers.{pieceAt, plainVerdict}
 use Rattle.plain.specs.declared.Piece.{Piece}
 use Rattle.plain.specs.declared.Piece.the-variants.{Frame, Tail}
 use Rattle.plain.specs.declared.Answer.{Answer}
 use Rattle.plain.proofs.Steps.{listedFrom, added, at-frame, at-tail}
-use Rattle.plain_claims.specs.Item13.{RepeatedFrom, tail, empty, frame, Repeated, Ends}
+use Rattle.plain_claims.specs.Item13.{RepeatedFrom, tail, empty, frame, Repeated, EndsReached}
 
-entry-some : (at : ℕ) (p : List ℕ) → 0 < length p → entryOf at p ≡ (record { start = at; verdict = judge p }) ∷ []
-unfolding entryOf
+entry-some : (at : ℕ) (p : List ℕ) → 0 < length p → listedFrame at p ≡ (record { start = at; verdict = judge p }) ∷ []
+unfolding listedFrame
 entry-some at [] h = absurd (omega arith)
 entry-some at (b ∷ bs) h = refl
 
 module _ (w : List ℕ) where
   -- an empty frame, and any other
   step-empty : (at : ℕ) → Frame 0 ≡ pieceAt w at → listedFrom w at ≡ listedFrom w (at + 1)
-  unfolding entryOf
+  unfolding listedFrame
   step-empty at e = rw add-zero at (at-frame w at e .step)
 
   step-frame : (at n : ℕ) → Frame (suc n) ≡ pieceAt w at
@@ -42,7 +42,7 @@ module _ (w : List ℕ) where
   repeated-from (frame {at = at} {n = n} answer array e v r) = rw (step-frame at n e, v, repeated-from r)
 
   -- there is such a listing
-  module _ (answer : List ℕ → Answer) (array : List ℕ → List ℕ) (promise : (form : List ℕ) → verdictOf (answer form) (array form) ≡ judge form) where
+  module _ (answer : List ℕ → Answer) (array : List ℕ → List ℕ) (promise : (form : List ℕ) → plainVerdict (answer form) (array form) ≡ judge form) where
     ends-by : (left at : ℕ) → length w - at < left → (p : Piece) → p ≡ pieceAt w at → RepeatedFrom w at (listedFrom w at)
     ends-by zero at h p e = absurd (omega arith)
     ends-by (suc left) at h (Tail n) e = rw (at-tail w at e .step) (tail e)
@@ -60,6 +60,6 @@ pub repeated : Repeated
 unfolding listing
 repeated w l r = repeated-from w r
 
-pub ends : Ends
+pub ends : EndsReached
 unfolding listing
 ends w answer array promise = ends-by w answer array promise (suc (length w)) 0 (omega arith) (pieceAt w 0) refl

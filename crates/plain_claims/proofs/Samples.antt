@@ -7,10 +7,10 @@ use Rattle.line.specs.Cobs.{groupBytes, uncobs}
 use Rattle.line.specs.Judge.{fields, judgeForm, judge}
 use Rattle.line_claims.specs.Pieces.{split}
 use Rattle.line_claims.specs.Samples.{status-request}
-use Rattle.plain.specs.Listing.{entryOf, entriesFrom, listing}
-use Rattle.plain_claims.specs.Samples.{samples}
-use Rattle.plain_claims.specs.Item13.{SamplesHold}
+use Rattle.plain.specs.Listing.{listedFrame, listedFrames, listing}
+use Rattle.plain_claims.specs.Samples.{plainSamples}
+use Rattle.plain_claims.specs.Item13.{PlainSamplesHold}
 
-pub samples-hold : SamplesHold
-unfolding samples status-request listing split entriesFrom entryOf number equal sums checksum groupBytes uncobs fields judgeForm judge
+pub samples-hold : PlainSamplesHold
+unfolding plainSamples status-request listing split listedFrames listedFrame number equal sums checksum groupBytes uncobs fields judgeForm judge
 samples-hold = refl

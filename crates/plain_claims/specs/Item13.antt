@@ -7,15 +7,15 @@ use Prim.Native.Nat.{ℕ, suc, _+_, _≤_}
 use lib.ListN.{length}
 use Rattle.octets.specs.Bytes.{run}
 use Rattle.line.specs.Judge.{judge}
-use Rattle.line.specs.Reader.{state-length}
+use Rattle.line.specs.Reader.{reader-length}
 use Rattle.line_claims.specs.Loans.{Loan, enoughPart}
-use Rattle.line_claims.specs.Calls.{afterAll, begun, OfFreshReader}
+use Rattle.line_claims.specs.Calls.{afterLineCalls, freshReader, OfFreshReader}
 use Rattle.plain.specs.Listing.{Listing, listing}
-use Rattle.plain.specs.Answers.{pieceAt, verdictOf}
+use Rattle.plain.specs.Answers.{pieceAt, plainVerdict}
 use Rattle.plain.specs.declared.Piece.the-variants.{Frame, Tail}
 use Rattle.plain.specs.declared.Answer.{Answer}
-use Rattle.plain_claims.specs.Samples.{samples, meant}
-use Rattle.plain_claims.specs.Agreement.{Agrees, joined, callsFor}
+use Rattle.plain_claims.specs.Samples.{plainSamples, plainSampleMeant}
+use Rattle.plain_claims.specs.Agreement.{Agrees, joinedPieces, callsFor}
 
 -- What is listed from an offset on: `next` is asked there; at the tail the listing ends; an empty frame is passed over; any other is handed to `judged`,
 -- whose answer and array give the verdict; it goes on behind the frame's 00.
@@ -23,29 +23,29 @@ pub data RepeatedFrom (w : List ℕ) : ℕ → Listing → Type 0 where
   tail : {at n : ℕ} → Tail n ≡ pieceAt w at → RepeatedFrom w at (record { entries = []; tail = n })
   empty : {at : ℕ} {l : Listing} → Frame 0 ≡ pieceAt w at → RepeatedFrom w (at + 1) l → RepeatedFrom w at l
   frame : {at n : ℕ} {l : Listing} (answer : Answer) (array : List ℕ) → Frame (suc n) ≡ pieceAt w at
-      → verdictOf answer array ≡ judge (run at (suc n) w) → RepeatedFrom w (at + suc n + 1) l
-      → RepeatedFrom w at (record { entries = (record { start = at; verdict = verdictOf answer array }) ∷ l .entries; tail = l .tail })
+      → plainVerdict answer array ≡ judge (run at (suc n) w) → RepeatedFrom w (at + suc n + 1) l
+      → RepeatedFrom w at (record { entries = (record { start = at; verdict = plainVerdict answer array }) ∷ l .entries; tail = l .tail })
 
-abbrev pub SamplesHold : Type 0
-SamplesHold = map meant samples ≡ samples
+abbrev pub PlainSamplesHold : Type 0
+PlainSamplesHold = map plainSampleMeant plainSamples ≡ plainSamples
 
 abbrev pub Agreement : Type 0
 Agreement = (w : List ℕ) → OfFreshReader (λ r. r .bytes ≡ w → Agrees (listing w) r)
 
 abbrev pub CutReads : Type 0
-CutReads = (room : List ℕ) → state-length ≤ length room → (l : Loan) → enoughPart state-length l ≡ true → (ps : List (List ℕ))
-    → afterAll (begun room) (callsFor l ps) .bytes ≡ joined ps
+CutReads = (room : List ℕ) → reader-length ≤ length room → (l : Loan) → enoughPart reader-length l ≡ true → (ps : List (List ℕ))
+    → afterLineCalls (freshReader room) (callsFor l ps) .bytes ≡ joinedPieces ps
 
 abbrev pub Repeated : Type 0
 Repeated = (w : List ℕ) (l : Listing) → RepeatedFrom w 0 l → l ≡ listing w
 
-abbrev pub Ends : Type 0
-Ends = (w : List ℕ) (answer : List ℕ → Answer) (array : List ℕ → List ℕ) → ((form : List ℕ) → verdictOf (answer form) (array form) ≡ judge form)
+abbrev pub EndsReached : Type 0
+EndsReached = (w : List ℕ) (answer : List ℕ → Answer) (array : List ℕ → List ℕ) → ((form : List ℕ) → plainVerdict (answer form) (array form) ≡ judge form)
     → RepeatedFrom w 0 (listing w)
 
-pub record Item13 : Type 0 where
+pub record PlainItem13 : Type 0 where
   -- L10 then L12, and the edges of a listing, as a single table, over the meaning itself
-  pub samples-hold : SamplesHold
+  pub samples-hold : PlainSamplesHold
   -- for every stream: any calls of a fresh line reader that read exactly that stream since its last accepted start give what the listing has.
   -- Refused calls, empty pieces and further starts may be among them, whatever each is lent and however the stream is cut.
   pub agreement : Agreement
@@ -54,4 +54,4 @@ pub record Item13 : Type 0 where
   -- whoever repeats `next` and `judged` over a capture gets its listing
   pub repeated : Repeated
   -- and it ends: whatever `judged` answers and leaves, as its promise has it, there is such a listing
-  pub ends : Ends
+  pub ends : EndsReached

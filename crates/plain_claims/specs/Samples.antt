@@ -6,17 +6,17 @@ use Prim.Native.Nat.{ℕ}
 use lib.ListN.{replicate}
 use Rattle.line.specs.Judge.{failure, good}
 use Rattle.line_claims.specs.Samples.{status-request, status-form}
-use Rattle.plain.specs.Listing.{Entry, Listing, listing}
+use Rattle.plain.specs.Listing.{ListedFrame, Listing, listing}
 
-pub record Sample : Type 0 where
+pub record PlainSample : Type 0 where
   pub stream : List ℕ
   pub is : Listing
 
-abbrev pub badForm : ℕ → Entry
+abbrev pub badForm : ℕ → ListedFrame
 badForm at = record { start = at; verdict = failure 1 none }
 
-unfoldable pub samples : List Sample
-samples =
+unfoldable pub plainSamples : List PlainSample
+plainSamples =
     -- nothing, and zeros alone
     (record { stream = []; is = record { entries = []; tail = 0 } })
     ∷ (record { stream = 0 ∷ 0 ∷ []; is = record { entries = []; tail = 0 } })
@@ -31,5 +31,5 @@ samples =
     ∷ (record { stream = replicate 4141 1 ++ 0x00 ∷ 0x02 ∷ 0x00 ∷ replicate 4141 1; is = record { entries = badForm 0 ∷ badForm 4142 ∷ []; tail = 4141 } })
     ∷ []
 
-abbrev pub meant : Sample → Sample
-meant s = record { stream = s .stream; is = listing (s .stream) }
+abbrev pub plainSampleMeant : PlainSample → PlainSample
+plainSampleMeant s = record { stream = s .stream; is = listing (s .stream) }

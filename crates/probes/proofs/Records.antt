@@ -9,7 +9,7 @@ use lib.ListN.{length, getD}
 use lib.Seq.{getD-set-other}
 use borrow.Author.Tests.{eq-eqb, ne-eqb}
 use Rattle.probes.specs.declared.Probe.{Probe}
-use Rattle.probes.specs.Probes.{Change, withResult, latest, recordsFrom, no-probe}
+use Rattle.probes.specs.Probes.{ProbeChange, withResult, latest, probesFrom, no-probe}
 use Rattle.probes.specs.Item4.{LastNamed, UnnamedStays, RecordAt, AsLong, AddressesStay, OthersStay}
 
 pub unnamed-stays : UnnamedStays
@@ -25,13 +25,13 @@ last-named k [] c behind own e u =
 last-named k (b ∷ before) c behind own e u = last-named k before c behind _ e u
 
 pub as-long : AsLong
-unfolding recordsFrom
+unfolding probesFrom
 as-long k [] cs = refl
 as-long k (p ∷ ps) cs = ap suc (as-long (suc k) ps cs)
 
-record-from : (j k : ℕ) (l : List Probe) (cs : List Change) → k < length l
-    → getD (recordsFrom j l cs) k no-probe ≡ withResult (getD l k no-probe) (latest (k + j) cs (getD l k no-probe .result))
-unfolding recordsFrom
+record-from : (j k : ℕ) (l : List Probe) (cs : List ProbeChange) → k < length l
+    → getD (probesFrom j l cs) k no-probe ≡ withResult (getD l k no-probe) (latest (k + j) cs (getD l k no-probe .result))
+unfolding probesFrom
 record-from j k [] cs h = absurd (not-suc-le-zero h)
 record-from j zero (p ∷ ps) cs h = ap (λ (m : ℕ). withResult p (latest m cs (p .result))) (sym (zero-add j))
 record-from j (suc k) (p ∷ ps) cs h =
@@ -43,7 +43,7 @@ record-at k l cs h =
     record-from 0 k l cs h ∙ ap (λ (m : ℕ). withResult (getD l k no-probe) (latest m cs (getD l k no-probe .result))) (add-zero k)
 
 pub addresses-stay : AddressesStay
-unfolding recordsFrom
+unfolding probesFrom
 addresses-stay k [] cs = refl
 addresses-stay k (p ∷ ps) cs = ap (λ (us : List ℕ). p .address ∷ us) (addresses-stay (suc k) ps cs)
 

@@ -7,11 +7,11 @@ use Prim.Native.Nat.{ℕ, _+_, _≤_, _<_}
 use lib.ListN.{length, getD, drop}
 use lib.Dec.{T, eqb, eqb→eq}
 use borrow.Author.Tests.{lt-ltb, le-ltb, eq-eqb, ne-eqb}
-use Rattle.probes.specs.Probes.{change, changes, goodChange, allGood, good}
+use Rattle.probes.specs.Probes.{probeChange, probeChanges, goodChange, allGood, good}
 use Rattle.probes.proofs.Changes.{changes-more, changes-end}
 
 -- an index at or past the list's length, whatever the result
-pub past-list : (n i r : ℕ) → n ≤ i → false ≡ goodChange n (change i r)
+pub past-list : (n i r : ℕ) → n ≤ i → false ≡ goodChange n (probeChange i r)
 past-list n i r h = sym (ap (λ (b : Bool). b && (eqb r 0 || (eqb r 2 || eqb r 3))) (le-ltb i n h))
 
 module _ (n : ℕ) (is rs : List ℕ) where
@@ -19,15 +19,15 @@ module _ (n : ℕ) (is rs : List ℕ) where
 
   pub other-lengths : (length is ≡ length rs → ⊥) → good n is rs ≡ false
   unfolding good
-  other-lengths f = ap (λ (b : Bool). b && allGood n (changes is rs)) (ne-eqb (length is) (length rs) f)
+  other-lengths f = ap (λ (b : Bool). b && allGood n (probeChanges is rs)) (ne-eqb (length is) (length rs) f)
 
-  pub equal-lengths : length is ≡ length rs → good n is rs ≡ allGood n (changes is rs)
+  pub equal-lengths : length is ≡ length rs → good n is rs ≡ allGood n (probeChanges is rs)
   unfolding good
-  equal-lengths e = ap (λ (b : Bool). b && allGood n (changes is rs)) (eq-eqb (length is) (length rs) e)
+  equal-lengths e = ap (λ (b : Bool). b && allGood n (probeChanges is rs)) (eq-eqb (length is) (length rs) e)
 
   pub good-lengths : T (good n is rs) → length is ≡ length rs
   unfolding good
-  good-lengths t = eqb→eq (length is) (length rs) (left (eqb (length is) (length rs)) (allGood n (changes is rs)) t)
+  good-lengths t = eqb→eq (length is) (length rs) (left (eqb (length is) (length rs)) (allGood n (probeChanges is rs)) t)
     where
       left : (b c : Bool) → T (b && c) → T b
       left true c t = tt
@@ -37,16 +37,16 @@ module _ (n : ℕ) (is rs : List ℕ) where
 
   module _ (i : ℕ) where
     abbrev rest : ℕ → Bool
-    rest j = allGood n (changes (drop j is) (drop j rs))
+    rest j = allGood n (probeChanges (drop j is) (drop j rs))
 
-    here : i < length is → i < length rs → rest i ≡ (goodChange n (change (getD is i 0) (getD rs i 0)) && rest (i + 1))
+    here : i < length is → i < length rs → rest i ≡ (goodChange n (probeChange (getD is i 0) (getD rs i 0)) && rest (i + 1))
     unfolding allGood
     here h k = ap (allGood n) (changes-more is rs i h k)
 
-    pub good-here : i < length is → i < length rs → goodChange n (change (getD is i 0) (getD rs i 0)) ≡ true → rest i ≡ rest (i + 1)
+    pub good-here : i < length is → i < length rs → goodChange n (probeChange (getD is i 0) (getD rs i 0)) ≡ true → rest i ≡ rest (i + 1)
     good-here h k e = here h k ∙ ap (λ (b : Bool). b && rest (i + 1)) e
 
-    pub bad-here : i < length is → i < length rs → goodChange n (change (getD is i 0) (getD rs i 0)) ≡ false → rest i ≡ false
+    pub bad-here : i < length is → i < length rs → goodChange n (probeChange (getD is i 0) (getD rs i 0)) ≡ false → rest i ≡ false
     bad-here h k e = here h k ∙ ap (λ (b : Bool). b && rest (i + 1)) e
 
     pub good-end : length is ≤ i → rest i ≡ true

@@ -10,7 +10,7 @@ use lib.Dec.{ltb, eqb}
 use lib.ListN.{length}
 use borrow.Author.Tests.{lt-ltb, ltb-true, eq-eqb, eqb-true}
 use Rattle.probes.specs.declared.Probe.{Probe}
-use Rattle.probes.specs.Probes.{Change, changes, goodChange, allGood, good, updating}
+use Rattle.probes.specs.Probes.{ProbeChange, probeChanges, goodChange, allGood, good, updatePromise}
 use Rattle.probes.specs.Item4.{AllGoodChanges, GoodUpdate, UpdateDone, UpdateRefused}
 
 -- ---- the tests say it
@@ -28,12 +28,12 @@ good-result r = by (eqb r 0) (eqb r 2) (eqb r 3) refl refl refl
     by false true c e f g t = inr (inl (eqb-true r 2 f))
     by false false c e f g t = inr (inr (eqb-true r 3 (g ∙ t)))
 
-all-good : (n : ℕ) (cs : List Change) → AllGoodChanges n cs → allGood n cs ≡ true
+all-good : (n : ℕ) (cs : List ProbeChange) → AllGoodChanges n cs → allGood n cs ≡ true
 unfolding allGood
 all-good n [] h = refl
 all-good n (c ∷ cs) h = rw (lt-ltb (c .index) n (h .0 .0), result-good (c .result) (h .0 .1)) (all-good n cs (h .1))
 
-good-all : (n : ℕ) (cs : List Change) → allGood n cs ≡ true → AllGoodChanges n cs
+good-all : (n : ℕ) (cs : List ProbeChange) → allGood n cs ≡ true → AllGoodChanges n cs
 unfolding allGood
 good-all n [] e = tt
 good-all n (c ∷ cs) e =
@@ -44,20 +44,20 @@ good-all n (c ∷ cs) e =
 -- ---- the call
 
 pub update-done : UpdateDone
-unfolding updating good
+unfolding updatePromise good
 update-done l indices results h =
-    rw (eq-eqb (length indices) (length results) (h .0), all-good (length l) (changes indices results) (h .1))
+    rw (eq-eqb (length indices) (length results) (h .0), all-good (length l) (probeChanges indices results) (h .1))
 
 holds : (l : List Probe) (indices results : List ℕ) → good (length l) indices results ≡ true → GoodUpdate l indices results
 unfolding good
 holds l indices results e =
     let a = and-eq-true-iff (eqb (length indices) (length results)) _ .0 e in
-    (eqb-true (length indices) (length results) (a .0), good-all (length l) (changes indices results) (a .1))
+    (eqb-true (length indices) (length results) (a .0), good-all (length l) (probeChanges indices results) (a .1))
 
 pub update-refused : UpdateRefused
-unfolding updating
+unfolding updatePromise
 update-refused l indices results f = by (good (length l) indices results) refl
   where
-    by : (b : Bool) → good (length l) indices results ≡ b → updating l indices results ≡ record { refusal = some 15; list = l }
+    by : (b : Bool) → good (length l) indices results ≡ b → updatePromise l indices results ≡ record { refusal = some 15; list = l }
     by true e = absurd (f (holds l indices results e))
     by false e = rw e

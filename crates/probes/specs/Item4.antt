@@ -8,61 +8,61 @@ use Prim.Native.Nat.{ℕ, _<_}
 use lib.ListN.{length, getD}
 use Rattle.probes.specs.declared.Probe.{Probe}
 use Rattle.probes.specs.declared.Updated.the-variants.{Done, Refused}
-use Rattle.probes.specs.Probes.{Change, changes, withResult, latest, recordsFrom, outcomeOf, updating, no-probe, resultSet}
-use Rattle.probes.specs.Samples.{three, Sample, samples}
+use Rattle.probes.specs.Probes.{ProbeChange, probeChanges, withResult, latest, probesFrom, updateOutcome, updatePromise, no-probe, resultSet}
+use Rattle.probes.specs.Samples.{three, ProbeSample, probeSamples}
 
 -- no change of a list names part k
-abbrev pub Unnamed : ℕ → List Change → Type 0
+abbrev pub Unnamed : ℕ → List ProbeChange → Type 0
 Unnamed k [] = Unit {0}
 Unnamed k (c ∷ cs) = (c .index ≡ k → ⊥) × Unnamed k cs
 
 abbrev pub LastNamed : Type 0
-LastNamed = (k : ℕ) (before : List Change) (c : Change) (behind : List Change) (own : ℕ) → c .index ≡ k → Unnamed k behind
+LastNamed = (k : ℕ) (before : List ProbeChange) (c : ProbeChange) (behind : List ProbeChange) (own : ℕ) → c .index ≡ k → Unnamed k behind
     → latest k (before ++ c ∷ behind) own ≡ c .result
 
 abbrev pub UnnamedStays : Type 0
-UnnamedStays = (k : ℕ) (cs : List Change) (own : ℕ) → Unnamed k cs → latest k cs own ≡ own
+UnnamedStays = (k : ℕ) (cs : List ProbeChange) (own : ℕ) → Unnamed k cs → latest k cs own ≡ own
 
 abbrev pub RecordAt : Type 0
-RecordAt = (k : ℕ) (l : List Probe) (cs : List Change) → k < length l
-    → getD (recordsFrom 0 l cs) k no-probe ≡ withResult (getD l k no-probe) (latest k cs (getD l k no-probe .result))
+RecordAt = (k : ℕ) (l : List Probe) (cs : List ProbeChange) → k < length l
+    → getD (probesFrom 0 l cs) k no-probe ≡ withResult (getD l k no-probe) (latest k cs (getD l k no-probe .result))
 
 abbrev pub AsLong : Type 0
-AsLong = (k : ℕ) (l : List Probe) (cs : List Change) → length (recordsFrom k l cs) ≡ length l
+AsLong = (k : ℕ) (l : List Probe) (cs : List ProbeChange) → length (probesFrom k l cs) ≡ length l
 
 abbrev pub AddressesStay : Type 0
-AddressesStay = (k : ℕ) (l : List Probe) (cs : List Change) → map (λ (p : Probe). p .address) (recordsFrom k l cs) ≡ map (λ (p : Probe). p .address) l
+AddressesStay = (k : ℕ) (l : List Probe) (cs : List ProbeChange) → map (λ (p : Probe). p .address) (probesFrom k l cs) ≡ map (λ (p : Probe). p .address) l
 
 abbrev pub OthersStay : Type 0
 OthersStay = (l : List Probe) (i r k : ℕ) → (k ≡ i → ⊥) → getD (resultSet l i r) k no-probe ≡ getD l k no-probe
 
-abbrev pub SamplesHold : Type 0
-SamplesHold = map (λ (s : Sample). updating three (s .indices) (s .results)) samples ≡ map (λ (s : Sample). s .outcome) samples
+abbrev pub ProbeSamplesHold : Type 0
+ProbeSamplesHold = map (λ (s : ProbeSample). updatePromise three (s .indices) (s .results)) probeSamples ≡ map (λ (s : ProbeSample). s .outcome) probeSamples
 
 abbrev pub EmptyList : Type 0
-EmptyList = (updating [] [] [] ≡ outcomeOf Done []) × (updating [] (0 ∷ []) (0 ∷ []) ≡ outcomeOf Refused [])
+EmptyList = (updatePromise [] [] [] ≡ updateOutcome Done []) × (updatePromise [] (0 ∷ []) (0 ∷ []) ≡ updateOutcome Refused [])
 
 -- the list of n records has the part, and the result is 0, 2 or 3
-abbrev pub GoodChange : ℕ → Change → Type 0
+abbrev pub GoodChange : ℕ → ProbeChange → Type 0
 GoodChange n c = (c .index < n) × ((c .result ≡ 0) ⊎ (c .result ≡ 2) ⊎ (c .result ≡ 3))
 
-abbrev pub AllGoodChanges : ℕ → List Change → Type 0
+abbrev pub AllGoodChanges : ℕ → List ProbeChange → Type 0
 AllGoodChanges n [] = Unit {0}
 AllGoodChanges n (c ∷ cs) = GoodChange n c × AllGoodChanges n cs
 
 -- each index has its result, and each change is good
 abbrev pub GoodUpdate : List Probe → List ℕ → List ℕ → Type 0
-GoodUpdate l indices results = (length indices ≡ length results) × AllGoodChanges (length l) (changes indices results)
+GoodUpdate l indices results = (length indices ≡ length results) × AllGoodChanges (length l) (probeChanges indices results)
 
 abbrev pub UpdateDone : Type 0
 UpdateDone = (l : List Probe) (indices results : List ℕ) → GoodUpdate l indices results
-    → updating l indices results ≡ record { refusal = none; list = recordsFrom 0 l (changes indices results) }
+    → updatePromise l indices results ≡ record { refusal = none; list = probesFrom 0 l (probeChanges indices results) }
 
 abbrev pub UpdateRefused : Type 0
 UpdateRefused = (l : List Probe) (indices results : List ℕ) → (GoodUpdate l indices results → ⊥)
-    → updating l indices results ≡ record { refusal = some 15; list = l }
+    → updatePromise l indices results ≡ record { refusal = some 15; list = l }
 
-pub record Item4 : Type 0 where
+pub record ProbesItem4 : Type 0 where
   -- a call whose indices are all below the list's length, and whose results are all 0, 2 or 3, is done, and the list's records are these
   pub update-done : UpdateDone
   -- any other changes nothing and is refused as 15, the call's only refusal
@@ -80,6 +80,6 @@ pub record Item4 : Type 0 where
   -- one record written leaves every other
   pub others-stay : OthersStay
   -- a call that is done, and one that is refused as 15, on a list of three
-  pub samples-hold : SamplesHold
+  pub samples-hold : ProbeSamplesHold
   -- on a list of no records, no changes at all are done, and one is refused
   pub empty-list : EmptyList

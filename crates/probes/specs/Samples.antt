@@ -4,7 +4,7 @@ use mathlib.Core.List.{List, [], _∷_}
 use Prim.Native.Nat.{ℕ}
 use Rattle.probes.specs.declared.Probe.{Probe}
 use Rattle.probes.specs.declared.Updated.the-variants.{Done, Refused}
-use Rattle.probes.specs.Probes.{Outcome, outcomeOf}
+use Rattle.probes.specs.Probes.{UpdateOutcome, updateOutcome}
 
 abbrev pub probe : ℕ → ℕ → Probe
 probe a r = record { address = a; result = r }
@@ -13,19 +13,19 @@ abbrev pub three : List Probe
 three = probe 80 9 ∷ probe 81 9 ∷ probe 82 9 ∷ []
 
 -- indices, results, and what a call with them on the three records answers and leaves
-pub record Sample : Type 0 where
+pub record ProbeSample : Type 0 where
   pub indices : List ℕ
   pub results : List ℕ
-  pub outcome : Outcome
+  pub outcome : UpdateOutcome
 
-abbrev pub done : List ℕ → List ℕ → List Probe → Sample
-done is rs l = record { indices = is; results = rs; outcome = outcomeOf Done l }
+abbrev pub done : List ℕ → List ℕ → List Probe → ProbeSample
+done is rs l = record { indices = is; results = rs; outcome = updateOutcome Done l }
 
-abbrev pub refused : List ℕ → List ℕ → Sample
-refused is rs = record { indices = is; results = rs; outcome = outcomeOf Refused three }
+abbrev pub refused : List ℕ → List ℕ → ProbeSample
+refused is rs = record { indices = is; results = rs; outcome = updateOutcome Refused three }
 
-abbrev pub samples : List Sample
-samples =
+abbrev pub probeSamples : List ProbeSample
+probeSamples =
     -- no changes
     done [] [] three
     -- each allowed result

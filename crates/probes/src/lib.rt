@@ -1,7 +1,7 @@
 // The bus driver's probe list: one record per part, lent by the caller and brought up to date in place.
 // Assumes nothing: no function has a `requires`.
 ghost use mathlib.Core.Path.{_≡_};
-ghost use Rattle.probes.specs.Probes.{change, goodChange, good, resultSet, outcomeOf, updating};
+ghost use Rattle.probes.specs.Probes.{probeChange, goodChange, good, resultSet, updateOutcome, updatePromise};
 
 // A part's address on the bus, and the result of its probe.
 #[repr(C)]
@@ -19,7 +19,7 @@ pub enum Updated {
 // Gives each part that `indices` names the result at the same index of `results`, the later one where a part is named
 // twice. All changes are tested before the first is made.
 pub fn update(list: &mut [Probe], indices: &[usize], results: &[u8]) -> Updated
-    ensures { λ r. ⌜ outcomeOf r (now (list .exit)) ≡ updating (now (list .entry)) (now (indices .entry)) (now (results .entry)) ⌝ }
+    ensures { λ r. ⌜ updateOutcome r (now (list .exit)) ≡ updatePromise (now (list .entry)) (now (indices .entry)) (now (results .entry)) ⌝ }
 {
     if !changes_are_good(list.len(), indices, results) {
         return Updated::Refused;
@@ -60,7 +60,7 @@ fn changes_are_good(length: usize, indices: &[usize], results: &[u8]) -> bool
 
 // Whether one change may be made: the list has the part, and the result is 0, 2 or 3.
 fn is_good(length: usize, index: usize, result: u8) -> bool
-    ensures { λ r. ⌜ r ≡ goodChange length (change index result) ⌝ }
+    ensures { λ r. ⌜ r ≡ goodChange length (probeChange index result) ⌝ }
 {
     if index >= length {
         return false;

@@ -1,6 +1,6 @@
 // The replay program of document 01: standard input goes to a fresh supervisor byte by byte, and what it sends to standard output.
 // Assumes nothing: output that cannot be written is lost.
-use requests::receive::receive;
+use responder::receive::receive;
 use supervisor::layout;
 use supervisor::outbox::Taken;
 use supervisor::outbox::take;

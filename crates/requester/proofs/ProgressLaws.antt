@@ -10,7 +10,7 @@ use lib.Seq.{take-length}
 use Rattle.octets.specs.Bytes.{bytes, overlay, put, copied}
 use Rattle.octets.proofs.Overlay.{length-overlay, overlay-one, overlay-more, overlay-next, put-fits, copied-fits}
 use Rattle.line.specs.Limits.{longest-data}
-use Rattle.requester.specs.State.{Step, fetch, acknowledge, alert}
+use Rattle.requester.specs.State.{RecoveryStep, fetch, acknowledge, alert}
 use Rattle.requester.specs.Layout
 use Rattle.requester.specs.Calls.{progressed}
 
@@ -34,7 +34,7 @@ module _ (r : List ℕ) (long : Layout.requester-length ≤ length r) where
 
   -- zeros, one field after the other
   pub fields-cleared : {t u v : List ℕ} → t ≡ put 0 (bytes 8 0) r → u ≡ put 8 (bytes 4 0) t → v ≡ put 12 (bytes 2 0) u
-      → v ≡ overlay 0 (replicate Layout.data-offset 0) r
+      → v ≡ overlay 0 (replicate Layout.kept-data-offset 0) r
   unfolding bytes
   fields-cleared a b c =
       let l = length-overlay 0 (bytes 8 0) r (omega arith) in
@@ -52,7 +52,7 @@ module _ (r : List ℕ) (long : Layout.requester-length ≤ length r) where
 
   -- a request behind the first fields
   pub request-kept : (command : ℕ) (d : List ℕ) {t u : List ℕ} → length d ≤ longest-data
-      → t ≡ put Layout.length-offset (bytes 2 (length d)) (set r Layout.command-offset command) → u ≡ copied d 0 (length d) t Layout.data-offset
+      → t ≡ put Layout.length-offset (bytes 2 (length d)) (set r Layout.command-offset command) → u ≡ copied d 0 (length d) t Layout.kept-data-offset
       → u ≡ overlay Layout.command-offset (command ∷ bytes 2 (length d) ++ d) r
   unfolding bytes
   request-kept command d h a b =
@@ -65,7 +65,7 @@ module _ (r : List ℕ) (long : Layout.requester-length ≤ length r) where
         overlay-one Layout.command-offset command r (omega arith),
         put-fits Layout.length-offset (bytes 2 (length d)) (overlay Layout.command-offset (command ∷ []) r) (omega arith),
         overlay-next Layout.command-offset (command ∷ []) (bytes 2 (length d)) r (omega arith),
-        copied-fits d 0 (length d) (overlay Layout.command-offset head r) Layout.data-offset (omega arith) (omega arith),
+        copied-fits d 0 (length d) (overlay Layout.command-offset head r) Layout.kept-data-offset (omega arith) (omega arith),
         take-length d,
         overlay-next Layout.command-offset head d r (omega arith),
       )
@@ -80,7 +80,7 @@ step-number (suc (suc zero)) h = refl
 step-number (suc (suc (suc zero))) h = refl
 step-number (suc (suc (suc (suc n)))) h = absurd (omega arith)
 
-pub step-at : (t : Option Step) → Layout.stepAt (Layout.stepNumber t) ≡ t
+pub step-at : (t : Option RecoveryStep) → Layout.stepAt (Layout.stepNumber t) ≡ t
 unfolding Layout.stepNumber Layout.stepAt
 step-at none = refl
 step-at (some fetch) = refl

@@ -13,7 +13,7 @@ use borrow.Author.Tests.{le-leb, le-ltb, leb-true, leb-false, ltb-true, ltb-fals
 use Rattle.octets.proofs.Conditions.{cond-by}
 use Rattle.octets.proofs.Overlay.{length-run}
 use Rattle.line.specs.Limits.{longest-data, longest-form}
-use Rattle.line.specs.Judge.{Verdict, payloadOf, fields, decoded, wrongLength, wrongChecksum, wrongMagic, judgeForm, judge}
+use Rattle.line.specs.Judge.{LineVerdict, payloadOf, fields, decoded, wrongLength, wrongChecksum, wrongMagic, judgeForm, judge}
 use Rattle.line.specs.Reader as LineReader
 use Rattle.line.proofs.State.{Ready, valid-ready, ready-valid, ready-pushed}
 use Rattle.line.proofs.Lent.{fit-length}
@@ -22,7 +22,7 @@ use Rattle.requester.specs.Hearing.{dataFit}
 
 -- ---- the data of a message
 
-abbrev Fits : Verdict → Type 0
+abbrev Fits : LineVerdict → Type 0
 Fits v = dataFit (LineReader.verdictReport v) ≡ true
 
 form-fit : (form : Option (List ℕ)) → Fits (judgeForm form)
@@ -41,24 +41,24 @@ unfolding judge
 judge-fit form = form-fit (decoded form)
 
 finish-fit : (s : List ℕ) → dataFit (LineReader.finish s .answer) ≡ true
-unfolding LineReader.finish LineReader.settle dataFit
+unfolding LineReader.finish LineReader.finishForm dataFit
 finish-fit s =
-    cond-by P (eqb (LineReader.count s) 0) _ _ (λ e. refl) (λ e.
-    cond-by P (ltb longest-form (LineReader.count s)) _ _ (λ f. refl) (λ f. judge-fit (LineReader.kept s)))
+    cond-by P (eqb (LineReader.receivedCount s) 0) _ _ (λ e. refl) (λ e.
+    cond-by P (ltb longest-form (LineReader.receivedCount s)) _ _ (λ f. refl) (λ f. judge-fit (LineReader.receivedBytes s)))
   where
-    P : LineReader.Settled → Type 0
+    P : LineReader.FrameOutcome → Type 0
     P x = dataFit (x .answer) ≡ true
 
 -- ---- a piece
 
 -- the state stays one that is read and keeps its length, and the reported data fit
-pub record Read (s : List ℕ) (o : LineReader.Outcome) : Type 0 where
+pub record Read (s : List ℕ) (o : LineReader.ReadOutcome) : Type 0 where
   pub ready : Ready (o .state)
   pub long : length (o .state) ≡ length s
   pub fit : dataFit (o .answer) ≡ true
 
 pub read-leaves : (piece s : List ℕ) → Ready s → Read s (LineReader.readPiece s piece)
-unfolding LineReader.readPiece LineReader.next dataFit
+unfolding LineReader.readPiece LineReader.oneByteLater dataFit
 read-leaves [] s r = record { ready = r; long = refl; fit = refl }
 read-leaves (zero ∷ bs) s r =
     let f = finish-leaves s (r .0) in
@@ -69,13 +69,13 @@ read-leaves (suc b ∷ bs) s r =
     rw eqb·suc-zero (record { ready = q .ready; long = q .long ∙ p .0; fit = q .fit })
 
 -- a call of `read` on a valid state
-pub read-by : (s piece : List ℕ) {o : LineReader.Outcome} → LineReader.valid s ≡ true → o ≡ LineReader.reading s piece
+pub read-by : (s piece : List ℕ) {o : LineReader.ReadOutcome} → LineReader.validReader s ≡ true → o ≡ LineReader.readPromise s piece
     → o ≡ LineReader.readPiece s piece
-unfolding LineReader.reading
+unfolding LineReader.readPromise
 read-by s piece v e = rw v at e
 
-pub read-valid : (s piece : List ℕ) {o : LineReader.Outcome} → LineReader.valid s ≡ true → o ≡ LineReader.readPiece s piece
-    → (LineReader.valid (o .state) ≡ true) × (dataFit (o .answer) ≡ true)
+pub read-valid : (s piece : List ℕ) {o : LineReader.ReadOutcome} → LineReader.validReader s ≡ true → o ≡ LineReader.readPiece s piece
+    → (LineReader.validReader (o .state) ≡ true) × (dataFit (o .answer) ≡ true)
 read-valid s piece v e =
     let w = read-leaves piece s (valid-ready s v) in
     rw e (ready-valid _ (w .ready), w .fit)
@@ -92,8 +92,8 @@ take-min n piece = by (leb n (length piece)) refl
         rw (m, take-all (length piece) piece (omega arith), take-all n piece (omega arith))
 
 -- the data that a valid state hands out, of a length that fits
-pub data-length : (s : List ℕ) (n : ℕ) → LineReader.valid s ≡ true → n ≤ longest-data → length (LineReader.dataOf s n) ≡ n
-unfolding LineReader.dataOf LineReader.dataRefusal LineReader.partOf
+pub data-length : (s : List ℕ) (n : ℕ) → LineReader.validReader s ≡ true → n ≤ longest-data → length (LineReader.dataPromise s n) ≡ n
+unfolding LineReader.dataPromise LineReader.dataRefusal LineReader.partOf
 data-length s n v h =
     let r = valid-ready s v in
     rw (v, le-ltb longest-data n h) (length-run LineReader.data-offset n s (omega arith))
@@ -102,14 +102,14 @@ data-length s n v h =
 
 -- what holds of a state by an answer of `tail`
 abbrev pub TailHolds : List ℕ → LineReader.TailReport → Type 0
-TailHolds s (LineReader.TailReport.refused n) = LineReader.valid s ≡ false
-TailHolds s (LineReader.unfinished n) = (LineReader.valid s ≡ true) × (n ≡ LineReader.count s) × (LineReader.count s ≤ longest-form)
-TailHolds s LineReader.longer = (LineReader.valid s ≡ true) × (longest-form < LineReader.count s)
+TailHolds s (LineReader.TailReport.refused n) = LineReader.validReader s ≡ false
+TailHolds s (LineReader.unfinished n) = (LineReader.validReader s ≡ true) × (n ≡ LineReader.receivedCount s) × (LineReader.receivedCount s ≤ longest-form)
+TailHolds s LineReader.longer = (LineReader.validReader s ≡ true) × (longest-form < LineReader.receivedCount s)
 
-pub tail-holds : (s : List ℕ) {x : LineReader.TailReport} → x ≡ LineReader.tailOf s → TailHolds s x
-unfolding LineReader.tailOf
+pub tail-holds : (s : List ℕ) {x : LineReader.TailReport} → x ≡ LineReader.tailPromise s → TailHolds s x
+unfolding LineReader.tailPromise
 tail-holds s e =
     rw e
-    (cond-by (TailHolds s) (LineReader.valid s) _ _
-    (λ v. cond-by (TailHolds s) (ltb longest-form (LineReader.count s)) _ _ (λ f. (v, ltb-true _ _ f)) (λ f. (v, refl, ltb-false _ _ f)))
+    (cond-by (TailHolds s) (LineReader.validReader s) _ _
+    (λ v. cond-by (TailHolds s) (ltb longest-form (LineReader.receivedCount s)) _ _ (λ f. (v, ltb-true _ _ f)) (λ f. (v, refl, ltb-false _ _ f)))
     (λ v. v))

@@ -12,63 +12,63 @@ use Rattle.requester.specs.Requester
 use Rattle.requester.specs.Layout
 use Rattle.requester.specs.Valid.{validRequester}
 use Rattle.requester.specs.Calls
-use Rattle.requester.specs.Calls.{Parts, parts, Report, Receipt, heardOf, outcomeOf, movedBy, movedTo, received, receiving, validParts, readable}
+use Rattle.requester.specs.Calls.{MainParts, mainParts, HandedReport, MainReceiveOutcome, heardOf, heardOutcomeOf, partMoved, partMovedTo, mainReceiveValid, mainReceivePromise, mainValidParts, readable}
 use Rattle.requester.specs.Hearing.{OutcomeReport, outcomeReportOf}
 use Rattle.requester.proofs.ValidLaws.{parts-valid}
 use Rattle.requester.proofs.ReaderLaws.{read-by, take-min}
 
-pub invalid-reader : (p : Parts) → LineReader.valid (p .reader) ≡ false → validParts p ≡ false
-unfolding validParts
+pub invalid-reader : (p : MainParts) → LineReader.validReader (p .reader) ≡ false → mainValidParts p ≡ false
+unfolding mainValidParts
 invalid-reader p e = rw e
 
-pub invalid-requester : (p : Parts) → validRequester (p .requester) ≡ false → validParts p ≡ false
-unfolding validParts
+pub invalid-requester : (p : MainParts) → validRequester (p .requester) ≡ false → mainValidParts p ≡ false
+unfolding mainValidParts
 invalid-requester p e = rw (e, and-false)
 
-abbrev pub receipt : ℕ → Report → Bool → Bool → Parts → Receipt
+abbrev pub receipt : ℕ → HandedReport → Bool → Bool → MainParts → MainReceiveOutcome
 receipt used t ended unsent p = record { used = used; report = t; ended = ended; unsent = unsent; parts = p }
 
-pub receive-refused : (p : Parts) (piece : List ℕ) → validParts p ≡ false → receipt 0 (Report.refused 12) false false p ≡ receiving p piece
-unfolding receiving
+pub receive-refused : (p : MainParts) (piece : List ℕ) → mainValidParts p ≡ false → receipt 0 (HandedReport.refused 12) false false p ≡ mainReceivePromise p piece
+unfolding mainReceivePromise
 receive-refused p piece e = rw e
 
-pub receive-received : (p : Parts) (piece : List ℕ) {x : Receipt} → validParts p ≡ true → x ≡ received p piece → x ≡ receiving p piece
-unfolding receiving
+pub receive-received : (p : MainParts) (piece : List ℕ) {x : MainReceiveOutcome} → mainValidParts p ≡ true → x ≡ mainReceiveValid p piece → x ≡ mainReceivePromise p piece
+unfolding mainReceivePromise
 receive-received p piece v e = rw v e
 
-abbrev outcomeBy : ℕ → LineReader.Report → List ℕ → LineReader.Outcome
+abbrev outcomeBy : ℕ → LineReader.ReadReport → List ℕ → LineReader.ReadOutcome
 outcomeBy used a reader = record { used = used; answer = a; state = reader }
 
 -- by the reader's answer and the state that it left
-module _ (p : Parts) (piece : List ℕ) (v : validParts p ≡ true) {used : ℕ} {a : LineReader.Report} {reader : List ℕ} where
-  module _ {n end : ℕ} (e : n ≡ LineReader.count (p .reader)) (l : n ≤ longest-form) (f : end ≡ min (LineReader.overlong - n) (length piece))
-      (w : outcomeBy used a reader ≡ LineReader.reading (p .reader) (take end piece)) where
-    short : LineReader.count (p .reader) ≤ longest-form
+module _ (p : MainParts) (piece : List ℕ) (v : mainValidParts p ≡ true) {used : ℕ} {a : LineReader.ReadReport} {reader : List ℕ} where
+  module _ {n end : ℕ} (e : n ≡ LineReader.receivedCount (p .reader)) (l : n ≤ longest-form) (f : end ≡ min (LineReader.overlong - n) (length piece))
+      (w : outcomeBy used a reader ≡ LineReader.readPromise (p .reader) (take end piece)) where
+    short : LineReader.receivedCount (p .reader) ≤ longest-form
     short = rw e at l
 
     read : outcomeBy used a reader ≡ LineReader.readPiece (p .reader) (readable (p .reader) piece)
     read =
-        rw (le-ltb longest-form (LineReader.count (p .reader)) short, ← take-min, ← e, ← f)
+        rw (le-ltb longest-form (LineReader.receivedCount (p .reader)) short, ← take-min, ← e, ← f)
         (read-by (p .reader) (take end piece) (parts-valid p v .reader) w)
 
-    pub heard-received : {t : Report} {x : Requester.Next} {ended unsent : Bool} {r : List ℕ}
-        → record { report = t; next = x } ≡ outcomeReportOf (outcomeOf (p .requester) (heardOf (Layout.numberOf (p .requester)) reader a))
-        → movedBy ended r ≡ movedTo x (p .requester) → unsent ≡ Layout.isUnsent r
-        → receipt used t ended unsent (parts reader r) ≡ received p piece
-    unfolding received
+    pub heard-received : {t : HandedReport} {x : Requester.Next} {ended unsent : Bool} {r : List ℕ}
+        → record { report = t; next = x } ≡ outcomeReportOf (heardOutcomeOf (p .requester) (heardOf (Layout.newestNumber (p .requester)) reader a))
+        → partMoved ended r ≡ partMovedTo x (p .requester) → unsent ≡ Layout.isUnsent r
+        → receipt used t ended unsent (mainParts reader r) ≡ mainReceiveValid p piece
+    unfolding mainReceiveValid
     heard-received o m u =
         rw (
           ← read,
-          le-ltb longest-form (LineReader.count (p .reader)) short,
+          le-ltb longest-form (LineReader.receivedCount (p .reader)) short,
           ← ap (λ (y : OutcomeReport). y .report) o,
           ← ap (λ (y : OutcomeReport). y .next) o,
           ← m,
           u,
         )
 
-  pub rest-received : {unsent : Bool} → longest-form < LineReader.count (p .reader) → outcomeBy used a reader ≡ LineReader.reading (p .reader) piece
-      → unsent ≡ Layout.isUnsent (p .requester) → receipt used Calls.nothing false unsent (parts reader (p .requester)) ≡ received p piece
-  unfolding received outcomeOf movedTo Calls.reportOf
+  pub rest-received : {unsent : Bool} → longest-form < LineReader.receivedCount (p .reader) → outcomeBy used a reader ≡ LineReader.readPromise (p .reader) piece
+      → unsent ≡ Layout.isUnsent (p .requester) → receipt used Calls.nothing false unsent (mainParts reader (p .requester)) ≡ mainReceiveValid p piece
+  unfolding mainReceiveValid heardOutcomeOf partMovedTo Calls.handedReportOf
   rest-received l w u =
       let q = read-by (p .reader) piece (parts-valid p v .reader) w in
-      rw (lt-ltb longest-form (LineReader.count (p .reader)) l, ← q, u)
+      rw (lt-ltb longest-form (LineReader.receivedCount (p .reader)) l, ← q, u)

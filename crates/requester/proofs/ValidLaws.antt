@@ -14,20 +14,20 @@ use Rattle.requester.specs.Limits.{last-number}
 use Rattle.requester.specs.Requester.{staysOut}
 use Rattle.requester.specs.Layout
 use Rattle.requester.specs.Valid.{validRequester}
-use Rattle.requester.specs.Calls.{Parts, longEnough, validParts, startOf, starting}
+use Rattle.requester.specs.Calls.{MainParts, mainLongEnough, mainValidParts, mainStartOutcome, mainStartPromise}
 use Rattle.requester.specs.Calls
 use Rattle.requester.specs.declared.start.Started.the-variants as started
 use Rattle.requester.proofs.Cases.{untrue, le-and, and-le}
-use Rattle.requester.specs.Calls.{PartsValid, LongEnough}
+use Rattle.requester.specs.Calls.{MainPartsValid, MainLongEnough}
 
 pub record RequesterValid (r : List ℕ) : Type 0 where
   pub long : Layout.requester-length ≤ length r
-  pub number : Layout.numberOf r ≤ last-number
+  pub number : Layout.newestNumber r ≤ last-number
   pub recovery : Layout.recoveryOf r ≤ 3
   pub unsent : Layout.unsentOf r ≤ 1
-  pub kept : Layout.keptOf r ≤ 1
-  pub size : Layout.lengthOf r ≤ longest-data
-  pub command : staysOut (Layout.commandOf r) ≡ true
+  pub kept : Layout.keptFlag r ≤ 1
+  pub size : Layout.keptLength r ≤ longest-data
+  pub command : staysOut (Layout.keptCommand r) ≡ true
 
 pub requester-valid : (r : List ℕ) → validRequester r ≡ true → RequesterValid r
 unfolding validRequester
@@ -51,29 +51,29 @@ valid-requester r v =
 
 -- ---- all parts
 
-pub parts-valid : (p : Parts) → validParts p ≡ true → PartsValid p
-unfolding validParts
-parts-valid p e = let t = and-eq-true-iff (LineReader.valid (p .reader)) _ .0 e in record { reader = t .0; requester = t .1 }
+pub parts-valid : (p : MainParts) → mainValidParts p ≡ true → MainPartsValid p
+unfolding mainValidParts
+parts-valid p e = let t = and-eq-true-iff (LineReader.validReader (p .reader)) _ .0 e in record { reader = t .0; requester = t .1 }
 
-pub valid-parts : (p : Parts) → PartsValid p → validParts p ≡ true
-unfolding validParts
+pub valid-parts : (p : MainParts) → MainPartsValid p → mainValidParts p ≡ true
+unfolding mainValidParts
 valid-parts p v = rw (v .reader) (v .requester)
 
 -- ---- room for a start
 
-pub is-long-enough : (p : Parts) → longEnough p ≡ true → LongEnough p
-unfolding longEnough
+pub is-long-enough : (p : MainParts) → mainLongEnough p ≡ true → MainLongEnough p
+unfolding mainLongEnough
 is-long-enough p e = let t = le-and _ _ _ e in record { reader = t .0; requester = leb-true _ _ (t .1) }
 
-pub long-enough-is : (p : Parts) → LongEnough p → longEnough p ≡ true
-unfolding longEnough
+pub long-enough-is : (p : MainParts) → MainLongEnough p → mainLongEnough p ≡ true
+unfolding mainLongEnough
 long-enough-is p r = and-le _ _ _ (r .reader) (le-leb _ _ (r .requester))
 
-pub cramped : (p : Parts) → (LongEnough p → ⊥) → startOf started.Refused p ≡ starting p
-unfolding starting Calls.startReport
-cramped p f = rw (sym (untrue (longEnough p) (λ e. f (is-long-enough p e))))
+pub cramped : (p : MainParts) → (MainLongEnough p → ⊥) → mainStartOutcome started.Refused p ≡ mainStartPromise p
+unfolding mainStartPromise Calls.mainStartReport
+cramped p f = rw (sym (untrue (mainLongEnough p) (λ e. f (is-long-enough p e))))
 
-pub begun : (p : Parts) → LongEnough p → {a : Option ℕ} {reader requester : List ℕ} → record { refusal = a; state = reader } ≡ LineReader.starting (p .reader)
-    → requester ≡ overlay 0 (replicate Layout.data-offset 0) (p .requester) → startOf started.Done (Calls.parts reader requester) ≡ starting p
-unfolding starting Calls.startReport Calls.freshParts
-begun p r e f = rw (long-enough-is p r, f, ap (λ (x : LineReader.Start). x .state) e)
+pub begun : (p : MainParts) → MainLongEnough p → {a : Option ℕ} {reader requester : List ℕ} → record { refusal = a; state = reader } ≡ LineReader.readerStartPromise (p .reader)
+    → requester ≡ overlay 0 (replicate Layout.kept-data-offset 0) (p .requester) → mainStartOutcome started.Done (Calls.mainParts reader requester) ≡ mainStartPromise p
+unfolding mainStartPromise Calls.mainStartReport Calls.mainFreshParts
+begun p r e f = rw (long-enough-is p r, f, ap (λ (x : LineReader.ReaderStartOutcome). x .state) e)

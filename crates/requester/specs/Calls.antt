@@ -13,7 +13,7 @@ use Rattle.line.specs.Reader as LineReader
 use Rattle.requester.specs.Limits.{last-number}
 use Rattle.requester.specs.State.{fetch, requestFrame}
 use Rattle.requester.specs.Requester
-use Rattle.requester.specs.Requester.{Heard, ground, Outcome, staysOut, heard, settled}
+use Rattle.requester.specs.Requester.{Heard, ground, HeardOutcome, staysOut, hear, settle}
 use Rattle.requester.specs.Layout
 use Rattle.requester.specs.Valid.{validRequester}
 use Rattle.requester.specs.declared.start.Started.{Started}
@@ -32,36 +32,36 @@ use Prim.Native.Nat.{_≤_}
 
 -- ---- Start
 
-pub record Parts : Type 0 where
+pub record MainParts : Type 0 where
   pub reader : List ℕ
   pub requester : List ℕ
 
-abbrev pub parts : List ℕ → List ℕ → Parts
-parts reader requester = record { reader = reader; requester = requester }
+abbrev pub mainParts : List ℕ → List ℕ → MainParts
+mainParts reader requester = record { reader = reader; requester = requester }
 
 -- every part has its published length
-unfoldable pub longEnough : Parts → Bool
-longEnough p = leb LineReader.state-length (length (p .reader)) && leb Layout.requester-length (length (p .requester))
+unfoldable pub mainLongEnough : MainParts → Bool
+mainLongEnough p = leb LineReader.reader-length (length (p .reader)) && leb Layout.requester-length (length (p .requester))
 
 -- no number used, nothing kept, no recovery, nothing to go out
-unfoldable pub freshParts : Parts → Parts
-freshParts p = parts (LineReader.starting (p .reader) .state) (overlay 0 (replicate Layout.data-offset 0) (p .requester))
+unfoldable pub mainFreshParts : MainParts → MainParts
+mainFreshParts p = mainParts (LineReader.readerStartPromise (p .reader) .state) (overlay 0 (replicate Layout.kept-data-offset 0) (p .requester))
 
 -- the table's number of a refusal; none where the call is carried out
-unfoldable pub startReport : Started → Option ℕ
-startReport started.Done = none
-startReport started.Refused = some 12
+unfoldable pub mainStartReport : Started → Option ℕ
+mainStartReport started.Done = none
+mainStartReport started.Refused = some 12
 
-pub record Start : Type 0 where
+pub record MainStartOutcome : Type 0 where
   pub refusal : Option ℕ
-  pub parts : Parts
+  pub parts : MainParts
 
-abbrev pub startOf : Started → Parts → Start
-startOf r p = record { refusal = startReport r; parts = p }
+abbrev pub mainStartOutcome : Started → MainParts → MainStartOutcome
+mainStartOutcome r p = record { refusal = mainStartReport r; parts = p }
 
 -- the room alone is tested
-unfoldable pub starting : Parts → Start
-starting p = cond (longEnough p) (record { refusal = none; parts = freshParts p }) (record { refusal = some 12; parts = p })
+unfoldable pub mainStartPromise : MainParts → MainStartOutcome
+mainStartPromise p = cond (mainLongEnough p) (record { refusal = none; parts = mainFreshParts p }) (record { refusal = some 12; parts = p })
 
 -- ---- The part's first fields: newest number, recovery, whether the frame is to go out, whether a request is kept
 
@@ -89,17 +89,17 @@ sendReport sent.NoRoom = refused 8
 sendReport (sent.Done n) = wrote n
 
 -- what a call answered, the room and the part as it left them
-pub record Put : Type 0 where
+pub record PutOutcome : Type 0 where
   pub report : PutReport
   pub out : List ℕ
   pub requester : List ℕ
 
-abbrev pub putBy : PutReport → List ℕ → List ℕ → Put
-putBy a out r = record { report = a; out = out; requester = r }
+abbrev pub putOutcome : PutReport → List ℕ → List ℕ → PutOutcome
+putOutcome a out r = record { report = a; out = out; requester = r }
 
 -- bytes at the start of the room, where they fit
-unfoldable pub putInto : List ℕ → List ℕ → List ℕ → List ℕ → Put
-putInto bs out before after = cond (ltb (length out) (length bs)) (putBy (refused 8) out before) (putBy (wrote (length bs)) (overlay 0 bs out) after)
+unfoldable pub putInto : List ℕ → List ℕ → List ℕ → List ℕ → PutOutcome
+putInto bs out before after = cond (ltb (length out) (length bs)) (putOutcome (refused 8) out before) (putOutcome (wrote (length bs)) (overlay 0 bs out) after)
 
 -- a request under the newest number, kept unless it never stays outstanding
 unfoldable pub withRequest : ℕ → ℕ → List ℕ → List ℕ → List ℕ
@@ -109,24 +109,24 @@ withRequest number command d r =
     (progressed number 0 0 0 r)
 
 -- tests 12, 9, 17, 14, 8
-unfoldable pub requesting : List ℕ → ℕ → List ℕ → List ℕ → Put
-requesting r command d out =
+unfoldable pub requestPromise : List ℕ → ℕ → List ℕ → List ℕ → PutOutcome
+requestPromise r command d out =
     cond (validRequester r)
-    (cond (ltb longest-data (length d)) (putBy (refused 9) out r)
-    (cond (Layout.isOutstanding r) (putBy (refused 17) out r)
-    (cond (leb last-number (Layout.numberOf r)) (putBy (refused 14) out r)
-    (putInto (requestFrame (suc (Layout.numberOf r)) (record { command = command; payload = d })) out r
-    (withRequest (suc (Layout.numberOf r)) command d r)))))
-    (putBy (refused 12) out r)
+    (cond (ltb longest-data (length d)) (putOutcome (refused 9) out r)
+    (cond (Layout.isOutstanding r) (putOutcome (refused 17) out r)
+    (cond (leb last-number (Layout.newestNumber r)) (putOutcome (refused 14) out r)
+    (putInto (requestFrame (suc (Layout.newestNumber r)) (record { command = command; payload = d })) out r
+    (withRequest (suc (Layout.newestNumber r)) command d r)))))
+    (putOutcome (refused 12) out r)
 
 -- tests 12, 8; nothing goes out where nothing is to
-unfoldable pub sending : List ℕ → List ℕ → Put
-sending r out =
+unfoldable pub sendPromise : List ℕ → List ℕ → PutOutcome
+sendPromise r out =
     cond (validRequester r)
     (cond (Layout.isUnsent r)
-    (putInto (requestFrame (Layout.numberOf r) (Layout.outRequest r)) out r (overlay Layout.unsent-offset (0 ∷ []) r))
-    (putBy (wrote 0) out r))
-    (putBy (refused 12) out r)
+    (putInto (requestFrame (Layout.newestNumber r) (Layout.outRequest r)) out r (overlay Layout.unsent-offset (0 ∷ []) r))
+    (putOutcome (wrote 0) out r))
+    (putOutcome (refused 12) out r)
 
 -- ---- Interrupt
 
@@ -135,132 +135,132 @@ interruptReport interrupted.Done = none
 interruptReport interrupted.Refused = some 12
 interruptReport interrupted.NoNumber = some 14
 
-pub record Interrupt : Type 0 where
+pub record InterruptOutcome : Type 0 where
   pub refusal : Option ℕ
   pub requester : List ℕ
 
-abbrev pub interruptBy : Option ℕ → List ℕ → Interrupt
-interruptBy n r = record { refusal = n; requester = r }
+abbrev pub interruptOutcome : Option ℕ → List ℕ → InterruptOutcome
+interruptOutcome n r = record { refusal = n; requester = r }
 
 -- tests 12, and 14 where it would begin a recovery
-unfoldable pub interrupting : List ℕ → Interrupt
-interrupting r =
+unfoldable pub interruptPromise : List ℕ → InterruptOutcome
+interruptPromise r =
     cond (validRequester r)
     (cond (eqb (Layout.recoveryOf r) 0)
-    (cond (leb last-number (Layout.numberOf r)) (interruptBy (some 14) r)
-    (interruptBy none (progressed (suc (Layout.numberOf r)) (Layout.stepNumber (some fetch)) 1 (Layout.keptOf r) r)))
-    (interruptBy none r))
-    (interruptBy (some 12) r)
+    (cond (leb last-number (Layout.newestNumber r)) (interruptOutcome (some 14) r)
+    (interruptOutcome none (progressed (suc (Layout.newestNumber r)) (Layout.stepNumber (some fetch)) 1 (Layout.keptFlag r) r)))
+    (interruptOutcome none r))
+    (interruptOutcome (some 12) r)
 
 -- ---- Receive
 
 -- what is handed out, in numbers
-pub data Report : Type 0 where
+pub data HandedReport : Type 0 where
   -- the table's number
-  refused : ℕ → Report
-  nothing : Report
+  refused : ℕ → HandedReport
+  nothing : HandedReport
   -- version, sequence, command and how many bytes of data
-  answered : ℕ → ℕ → ℕ → ℕ → Report
+  answered : ℕ → ℕ → ℕ → ℕ → HandedReport
   -- status, options, and how many bits of the status are set
-  status : ℕ → ℕ → ℕ → Report
-  alerted : ℕ → ℕ → ℕ → ℕ → Report
+  status : ℕ → ℕ → ℕ → HandedReport
+  alerted : ℕ → ℕ → ℕ → ℕ → HandedReport
 
-unfoldable pub receiveReport : Handed → Report
-receiveReport handed.Refused = Report.refused 12
-receiveReport handed.Nothing = nothing
-receiveReport (handed.Answer h) = answered (h .version) (h .sequence) (h .command) (h .length)
-receiveReport (handed.Status s) = status (s .status) (s .options) (s .«set_bits»)
-receiveReport (handed.Alert h) = alerted (h .version) (h .sequence) (h .command) (h .length)
+unfoldable pub handedReport : Handed → HandedReport
+handedReport handed.Refused = HandedReport.refused 12
+handedReport handed.Nothing = nothing
+handedReport (handed.Answer h) = answered (h .version) (h .sequence) (h .command) (h .length)
+handedReport (handed.Status s) = status (s .status) (s .options) (s .«set_bits»)
+handedReport (handed.Alert h) = alerted (h .version) (h .sequence) (h .command) (h .length)
 
-unfoldable pub reportOf : Requester.Handed → Report
-reportOf Requester.nothing = nothing
-reportOf (Requester.answered m) = answered (m .version) (m .sequence) (m .command) (length (m .payload))
-reportOf (Requester.status s o n) = status s o n
-reportOf (Requester.alerted m) = alerted (m .version) (m .sequence) (m .command) (length (m .payload))
+unfoldable pub handedReportOf : Requester.Handed → HandedReport
+handedReportOf Requester.nothing = nothing
+handedReportOf (Requester.answered m) = answered (m .version) (m .sequence) (m .command) (length (m .payload))
+handedReportOf (Requester.status s o n) = status s o n
+handedReportOf (Requester.alerted m) = alerted (m .version) (m .sequence) (m .command) (length (m .payload))
 
 -- more than 4,140 bytes of a frame have come
 abbrev pub isOverlong : List ℕ → Bool
-isOverlong reader = ltb longest-form (LineReader.count reader)
+isOverlong reader = ltb longest-form (LineReader.receivedCount reader)
 
 -- the bytes of a piece that may be read: to a frame's 4,141st, unless it has passed
 abbrev pub readable : List ℕ → List ℕ → List ℕ
-readable reader piece = cond (isOverlong reader) piece (take (LineReader.overlong - LineReader.count reader) piece)
+readable reader piece = cond (isOverlong reader) piece (take (LineReader.overlong - LineReader.receivedCount reader) piece)
 
 -- what is heard under the newest number, by the line reader's answer and the state that it left
-unfoldable pub heardOf : ℕ → List ℕ → LineReader.Report → Option Heard
+unfoldable pub heardOf : ℕ → List ℕ → LineReader.ReadReport → Option Heard
 heardOf n reader (LineReader.refused k) = none
 heardOf n reader LineReader.more = cond (isOverlong reader) (some ground) none
 heardOf n reader LineReader.empty = none
-heardOf n reader (LineReader.failed reason sequence) = some (heard n (failure reason sequence))
+heardOf n reader (LineReader.failed reason sequence) = some (hear n (failure reason sequence))
 heardOf n reader (LineReader.message version sequence command k) =
-    some (heard n (good (record { version = version; sequence = sequence; command = command; payload = LineReader.dataOf reader k })))
+    some (hear n (good (record { version = version; sequence = sequence; command = command; payload = LineReader.dataPromise reader k })))
 
 -- what comes of it
-unfoldable pub outcomeOf : List ℕ → Option Heard → Outcome
-outcomeOf r none = Requester.outcome Requester.nothing Requester.same
-outcomeOf r (some h) = settled (Layout.stepOf r) (Layout.isKept r) h
+unfoldable pub heardOutcomeOf : List ℕ → Option Heard → HeardOutcome
+heardOutcomeOf r none = Requester.heardOutcome Requester.nothing Requester.same
+heardOutcomeOf r (some h) = settle (Layout.recoveryStep r) (Layout.isKept r) h
 
 -- whether 14 ended a recovery; the part
-pub record Moved : Type 0 where
+pub record PartMoved : Type 0 where
   pub ended : Bool
   pub requester : List ℕ
 
-abbrev pub movedBy : Bool → List ℕ → Moved
-movedBy e r = record { ended = e; requester = r }
+abbrev pub partMoved : Bool → List ℕ → PartMoved
+partMoved e r = record { ended = e; requester = r }
 
-abbrev pub idled : List ℕ → List ℕ
-idled r = progressed (Layout.numberOf r) 0 0 0 r
+abbrev pub idlePart : List ℕ → List ℕ
+idlePart r = progressed (Layout.newestNumber r) 0 0 0 r
 
-unfoldable pub movedTo : Requester.Next → List ℕ → Moved
-movedTo Requester.same r = movedBy false r
-movedTo Requester.again r = movedBy false (overlay Layout.unsent-offset (1 ∷ []) r)
-movedTo (Requester.anew t) r =
-    cond (leb last-number (Layout.numberOf r)) (movedBy true (idled r))
-    (movedBy false (progressed (suc (Layout.numberOf r)) (Layout.stepNumber t) 1 (Layout.keptOf r) r))
-movedTo Requester.idle r = movedBy false (idled r)
+unfoldable pub partMovedTo : Requester.Next → List ℕ → PartMoved
+partMovedTo Requester.same r = partMoved false r
+partMovedTo Requester.again r = partMoved false (overlay Layout.unsent-offset (1 ∷ []) r)
+partMovedTo (Requester.anew t) r =
+    cond (leb last-number (Layout.newestNumber r)) (partMoved true (idlePart r))
+    (partMoved false (progressed (suc (Layout.newestNumber r)) (Layout.stepNumber t) 1 (Layout.keptFlag r) r))
+partMovedTo Requester.idle r = partMoved false (idlePart r)
 
 -- how many bytes were read, what is handed out, whether 14 ended a recovery, whether a frame is to go out; the parts
-pub record Receipt : Type 0 where
+pub record MainReceiveOutcome : Type 0 where
   pub used : ℕ
-  pub report : Report
+  pub report : HandedReport
   pub ended : Bool
   pub unsent : Bool
-  pub parts : Parts
+  pub parts : MainParts
 
-abbrev pub receiptOf : Received → Parts → Receipt
-receiptOf r p = record { used = r .used; report = receiveReport (r .handed); ended = r .ended; unsent = r .unsent; parts = p }
+abbrev pub mainReceiveOutcome : Received → MainParts → MainReceiveOutcome
+mainReceiveOutcome r p = record { used = r .used; report = handedReport (r .handed); ended = r .ended; unsent = r .unsent; parts = p }
 
-abbrev pub receiptBy : ℕ → List ℕ → Report → Moved → Receipt
-receiptBy used reader t m = record {
+abbrev pub mainReceiveBy : ℕ → List ℕ → HandedReport → PartMoved → MainReceiveOutcome
+mainReceiveBy used reader t m = record {
   used = used;
   report = t;
   ended = m .ended;
   unsent = Layout.isUnsent (m .requester);
-  parts = parts reader (m .requester);
+  parts = mainParts reader (m .requester);
 }
 
 -- what is left of a frame of more than 4,140 bytes is dropped, with its 00
-unfoldable pub received : Parts → List ℕ → Receipt
-received p piece =
+unfoldable pub mainReceiveValid : MainParts → List ℕ → MainReceiveOutcome
+mainReceiveValid p piece =
     let o = LineReader.readPiece (p .reader) (readable (p .reader) piece) in
     let r = p .requester in
-    let x = outcomeOf r (cond (isOverlong (p .reader)) none (heardOf (Layout.numberOf r) (o .state) (o .answer))) in
-    receiptBy (o .used) (o .state) (reportOf (x .handed)) (movedTo (x .next) r)
+    let x = heardOutcomeOf r (cond (isOverlong (p .reader)) none (heardOf (Layout.newestNumber r) (o .state) (o .answer))) in
+    mainReceiveBy (o .used) (o .state) (handedReportOf (x .handed)) (partMovedTo (x .next) r)
 
-unfoldable pub validParts : Parts → Bool
-validParts p = LineReader.valid (p .reader) && validRequester (p .requester)
+unfoldable pub mainValidParts : MainParts → Bool
+mainValidParts p = LineReader.validReader (p .reader) && validRequester (p .requester)
 
-unfoldable pub receiving : Parts → List ℕ → Receipt
-receiving p piece =
-    cond (validParts p) (received p piece)
-    (record { used = 0; report = Report.refused 12; ended = false; unsent = false; parts = p })
+unfoldable pub mainReceivePromise : MainParts → List ℕ → MainReceiveOutcome
+mainReceivePromise p piece =
+    cond (mainValidParts p) (mainReceiveValid p piece)
+    (record { used = 0; report = HandedReport.refused 12; ended = false; unsent = false; parts = p })
 
 -- both parts are as 12 requires
-pub record PartsValid (p : Parts) : Type 0 where
-  pub reader : LineReader.valid (p .reader) ≡ true
+pub record MainPartsValid (p : MainParts) : Type 0 where
+  pub reader : LineReader.validReader (p .reader) ≡ true
   pub requester : validRequester (p .requester) ≡ true
 
 -- both parts have their published lengths
-pub record LongEnough (p : Parts) : Type 0 where
-  pub reader : LineReader.state-length ≤ length (p .reader)
+pub record MainLongEnough (p : MainParts) : Type 0 where
+  pub reader : LineReader.reader-length ≤ length (p .reader)
   pub requester : Layout.requester-length ≤ length (p .requester)

@@ -12,7 +12,7 @@ use Rattle.line.specs.Reader as LineReader
 use Rattle.line.specs.declared.reader.Head.{Head}
 use Rattle.requester.specs.State.{fetch, acknowledge, alert}
 use Rattle.requester.specs.Requester
-use Rattle.requester.specs.Calls.{Report, receiveReport, reportOf}
+use Rattle.requester.specs.Calls.{HandedReport, handedReport, handedReportOf}
 use Rattle.requester.specs.declared.hearing.Heard.{Heard}
 use Rattle.requester.specs.declared.hearing.Heard.the-variants as heard
 use Rattle.requester.specs.declared.outcome.Next.{Next}
@@ -39,17 +39,17 @@ nextOf next.Idle = Requester.idle
 
 -- what is handed out, in numbers, and what comes next
 pub record OutcomeReport : Type 0 where
-  pub report : Report
+  pub report : HandedReport
   pub next : Requester.Next
 
 abbrev pub outcomeReport : Outcome → OutcomeReport
-outcomeReport o = record { report = receiveReport (o .handed); next = nextOf (o .next) }
+outcomeReport o = record { report = handedReport (o .handed); next = nextOf (o .next) }
 
-abbrev pub outcomeReportOf : Requester.Outcome → OutcomeReport
-outcomeReportOf o = record { report = reportOf (o .handed); next = o .next }
+abbrev pub outcomeReportOf : Requester.HeardOutcome → OutcomeReport
+outcomeReportOf o = record { report = handedReportOf (o .handed); next = o .next }
 
 -- the data's length in an answer of the line reader fits a message
-unfoldable pub dataFit : LineReader.Report → Bool
+unfoldable pub dataFit : LineReader.ReadReport → Bool
 dataFit (LineReader.refused n) = true
 dataFit LineReader.more = true
 dataFit LineReader.empty = true

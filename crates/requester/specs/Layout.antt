@@ -7,7 +7,7 @@ use Prim.Native.Nat.{ℕ, _+_}
 use lib.Dec.{eqb}
 use Rattle.octets.specs.Bytes.{numberAt, run}
 use Rattle.line.specs.Limits.{longest-data}
-use Rattle.requester.specs.State.{Request, Step, fetch, acknowledge, alert, stepRequest}
+use Rattle.requester.specs.State.{Request, RecoveryStep, fetch, acknowledge, alert, stepRequest}
 
 -- the newest number, u64
 abbrev pub number-offset : ℕ
@@ -31,15 +31,15 @@ command-offset = 11
 abbrev pub length-offset : ℕ
 length-offset = 12
 
-abbrev pub data-offset : ℕ
-data-offset = 14
+abbrev pub kept-data-offset : ℕ
+kept-data-offset = 14
 
 -- the part's published length: 4,118 bytes
 abbrev pub requester-length : ℕ
-requester-length = data-offset + longest-data
+requester-length = kept-data-offset + longest-data
 
-abbrev pub numberOf : List ℕ → ℕ
-numberOf r = numberAt 8 r number-offset
+abbrev pub newestNumber : List ℕ → ℕ
+newestNumber r = numberAt 8 r number-offset
 
 abbrev pub recoveryOf : List ℕ → ℕ
 recoveryOf r = numberAt 1 r recovery-offset
@@ -47,44 +47,44 @@ recoveryOf r = numberAt 1 r recovery-offset
 abbrev pub unsentOf : List ℕ → ℕ
 unsentOf r = numberAt 1 r unsent-offset
 
-abbrev pub keptOf : List ℕ → ℕ
-keptOf r = numberAt 1 r kept-offset
+abbrev pub keptFlag : List ℕ → ℕ
+keptFlag r = numberAt 1 r kept-offset
 
-abbrev pub commandOf : List ℕ → ℕ
-commandOf r = numberAt 1 r command-offset
+abbrev pub keptCommand : List ℕ → ℕ
+keptCommand r = numberAt 1 r command-offset
 
-abbrev pub lengthOf : List ℕ → ℕ
-lengthOf r = numberAt 2 r length-offset
+abbrev pub keptLength : List ℕ → ℕ
+keptLength r = numberAt 2 r length-offset
 
 -- the step of a number, and the number of a step
-unfoldable pub stepAt : ℕ → Option Step
+unfoldable pub stepAt : ℕ → Option RecoveryStep
 stepAt n = cond (eqb n 0) none (cond (eqb n 1) (some fetch) (cond (eqb n 2) (some acknowledge) (some alert)))
 
-unfoldable pub stepNumber : Option Step → ℕ
+unfoldable pub stepNumber : Option RecoveryStep → ℕ
 stepNumber none = 0
 stepNumber (some fetch) = 1
 stepNumber (some acknowledge) = 2
 stepNumber (some alert) = 3
 
 -- what the part holds: the recovery's step, whether a request is kept and whether one is outstanding, and that request
-abbrev pub stepOf : List ℕ → Option Step
-stepOf r = stepAt (recoveryOf r)
+abbrev pub recoveryStep : List ℕ → Option RecoveryStep
+recoveryStep r = stepAt (recoveryOf r)
 
 abbrev pub isKept : List ℕ → Bool
-isKept r = eqb (keptOf r) 1
+isKept r = eqb (keptFlag r) 1
 
 unfoldable pub isOutstanding : List ℕ → Bool
 isOutstanding r = not (eqb (recoveryOf r) 0) || isKept r
 
 unfoldable pub keptRequest : List ℕ → Request
-keptRequest r = record { command = commandOf r; payload = run data-offset (lengthOf r) r }
+keptRequest r = record { command = keptCommand r; payload = run kept-data-offset (keptLength r) r }
 
-abbrev pub requestIn : Option Step → Request → Request
+abbrev pub requestIn : Option RecoveryStep → Request → Request
 requestIn none q = q
 requestIn (some t) q = stepRequest t
 
 unfoldable pub outRequest : List ℕ → Request
-outRequest r = requestIn (stepOf r) (keptRequest r)
+outRequest r = requestIn (recoveryStep r) (keptRequest r)
 
 -- whether its frame is to go out
 unfoldable pub isUnsent : List ℕ → Bool

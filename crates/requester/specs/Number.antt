@@ -4,5 +4,5 @@ use Rattle.requester.specs.Requester.{replySequence}
 use Rattle.requester.specs.declared.number.RequestNumber.{RequestNumber}
 use Rattle.requester.specs.declared.number.ReplyNumber.{ReplyNumber}
 
-abbrev pub replyTo : RequestNumber → ReplyNumber
-replyTo n = record { 0 = replySequence (n .0) }
+abbrev pub mainReplyNumber : RequestNumber → ReplyNumber
+mainReplyNumber n = record { 0 = replySequence (n .0) }

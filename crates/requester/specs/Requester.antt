@@ -11,26 +11,26 @@ use Rattle.octets.specs.Bytes.{numberAt, bit}
 use Rattle.line.specs.Limits.{longest-data, longest-form}
 use Rattle.line.specs.Numbers.{first-version, top-bit, all-ones, status-length, command-reboot, command-power-off, command-boot-failure, reply-decode-failure, reply-status}
 use Rattle.line.specs.Message.{Message}
-use Rattle.line.specs.Judge.{Verdict, failure, good, judge}
+use Rattle.line.specs.Judge.{LineVerdict, failure, good, judge}
 use Rattle.requester.specs.Limits.{last-number}
-use Rattle.requester.specs.State.{Request, Step, fetch, acknowledge, alert, State, state, isSome, outstanding, requestFrame}
+use Rattle.requester.specs.State.{Request, RecoveryStep, fetch, acknowledge, alert, MainState, mainState, isSome, outstanding, requestFrame}
 
 -- ---- The caller's calls
 
 -- the table's number of a refusal, none where the call is carried out; the bytes put out; the state
-pub record Done : Type 0 where
+pub record MainDone : Type 0 where
   pub refusal : Option ℕ
   pub out : List ℕ
-  pub state : State
+  pub state : MainState
 
-abbrev pub refusedAs : ℕ → State → Done
+abbrev pub refusedAs : ℕ → MainState → MainDone
 refusedAs n s = record { refusal = some n; out = []; state = s }
 
-abbrev pub doneWith : List ℕ → State → Done
+abbrev pub doneWith : List ℕ → MainState → MainDone
 doneWith bs s = record { refusal = none; out = bs; state = s }
 
 -- bytes into a room of so many
-abbrev pub putOut : ℕ → List ℕ → State → State → Done
+abbrev pub putOut : ℕ → List ℕ → MainState → MainState → MainDone
 putOut room bs before after = cond (ltb room (length bs)) (refusedAs 8 before) (doneWith bs after)
 
 -- reboot, power off and boot failure never stay outstanding
@@ -41,32 +41,32 @@ abbrev pub keep : Request → Option Request
 keep q = cond (staysOut (q .command)) (some q) none
 
 -- a request under the next number; tests 9, 17, 14, 8
-unfoldable pub request : ℕ → Request → State → Done
+unfoldable pub request : ℕ → Request → MainState → MainDone
 request room q s =
     cond (ltb longest-data (length (q .payload))) (refusedAs 9 s)
     (cond (isSome (outstanding s)) (refusedAs 17 s)
     (cond (leb last-number (s .newest)) (refusedAs 14 s)
-    (putOut room (requestFrame (suc (s .newest)) q) s (state (suc (s .newest)) (keep q) none false (s .received)))))
+    (putOut room (requestFrame (suc (s .newest)) q) s (mainState (suc (s .newest)) (keep q) none false (s .received)))))
 
 -- in a recovery an interrupt adds nothing; else it begins one, whose fetch is to go out under a new number
-abbrev pub interruptedIn : Option Step → State → Done
+abbrev pub interruptedIn : Option RecoveryStep → MainState → MainDone
 interruptedIn (some t) s = doneWith [] s
 interruptedIn none s =
     cond (leb last-number (s .newest)) (refusedAs 14 s)
-    (doneWith [] (state (suc (s .newest)) (s .kept) (some fetch) true (s .received)))
+    (doneWith [] (mainState (suc (s .newest)) (s .kept) (some fetch) true (s .received)))
 
-unfoldable pub interrupt : State → Done
+unfoldable pub interrupt : MainState → MainDone
 interrupt s = interruptedIn (s .recovery) s
 
 -- the frame of the one outstanding, where it is to go out
-abbrev pub sentOf : ℕ → Option Request → State → Done
+abbrev pub sentOf : ℕ → Option Request → MainState → MainDone
 sentOf room none s = doneWith [] s
 sentOf room (some q) s =
     cond (s .unsent)
-    (putOut room (requestFrame (s .newest) q) s (state (s .newest) (s .kept) (s .recovery) false (s .received)))
+    (putOut room (requestFrame (s .newest) q) s (mainState (s .newest) (s .kept) (s .recovery) false (s .received)))
     (doneWith [] s)
 
-unfoldable pub send : ℕ → State → Done
+unfoldable pub send : ℕ → MainState → MainDone
 send room s = sentOf room (outstanding s) s
 
 -- ---- What a frame is to the one outstanding
@@ -87,9 +87,9 @@ abbrev pub failsDecode : ℕ → Message → Bool
 failsDecode n m = eqb (m .command) reply-decode-failure && (eqb (m .sequence) (replySequence n) || eqb (m .sequence) all-ones)
 
 -- n is the newest number
-unfoldable pub heard : ℕ → Verdict → Heard
-heard n (failure reason sequence) = ground
-heard n (good m) =
+unfoldable pub hear : ℕ → LineVerdict → Heard
+hear n (failure reason sequence) = ground
+hear n (good m) =
     cond (not (eqb (m .version) first-version)) ground
     (cond (ltb (m .sequence) top-bit) ground
     (cond (failsDecode n m) ground
@@ -110,75 +110,75 @@ pub data Next : Type 0 where
   -- the same bytes go out again
   again : Next
   -- a step of the recovery, or the original (no step), goes out under a new number
-  anew : Option Step → Next
+  anew : Option RecoveryStep → Next
   -- none is outstanding
   idle : Next
 
-pub record Outcome : Type 0 where
+pub record HeardOutcome : Type 0 where
   pub handed : Handed
   pub next : Next
 
-abbrev pub outcome : Handed → Next → Outcome
-outcome h x = record { handed = h; next = x }
+abbrev pub heardOutcome : Handed → Next → HeardOutcome
+heardOutcome h x = record { handed = h; next = x }
 
 -- the lowest set bit first; bits above 1 are not served; once bits 0 and 1 are clear the original goes out, if any
-unfoldable pub served : Bool → ℕ → Next
-served original n =
+unfoldable pub serve : Bool → ℕ → Next
+serve original n =
     cond (eqb (bit n 0) 1) (anew (some acknowledge))
     (cond (eqb (bit n 1) 1) (anew (some alert))
     (cond original (anew none) idle))
 
-abbrev pub statusOf : Message → ℕ
-statusOf m = numberAt 8 (m .payload) 0
+abbrev pub messageStatus : Message → ℕ
+messageStatus m = numberAt 8 (m .payload) 0
 
-abbrev pub optionsOf : Message → ℕ
-optionsOf m = numberAt 8 (m .payload) 8
+abbrev pub messageOptions : Message → ℕ
+messageOptions m = numberAt 8 (m .payload) 8
 
 -- an answer to the fetch: 0x06 with 16 bytes, or the fetch is sent again
-unfoldable pub fetched : Bool → Message → Outcome
+unfoldable pub fetched : Bool → Message → HeardOutcome
 fetched original m =
     cond (eqb (m .command) reply-status && eqb (length (m .payload)) status-length)
-    (outcome (status (statusOf m) (optionsOf m) (ones (statusOf m))) (served original (statusOf m)))
-    (outcome nothing again)
+    (heardOutcome (status (messageStatus m) (messageOptions m) (ones (messageStatus m))) (serve original (messageStatus m)))
+    (heardOutcome nothing again)
 
 -- any answer to a service ends it, and the status is read again; only 0x0a's is handed out
-abbrev pub answeredIn : Option Step → Bool → Message → Outcome
-answeredIn none original m = outcome (answered m) idle
+abbrev pub answeredIn : Option RecoveryStep → Bool → Message → HeardOutcome
+answeredIn none original m = heardOutcome (answered m) idle
 answeredIn (some fetch) original m = fetched original m
-answeredIn (some acknowledge) original m = outcome nothing (anew (some fetch))
-answeredIn (some alert) original m = outcome (alerted m) (anew (some fetch))
+answeredIn (some acknowledge) original m = heardOutcome nothing (anew (some fetch))
+answeredIn (some alert) original m = heardOutcome (alerted m) (anew (some fetch))
 
-abbrev pub heardIn : Option Step → Bool → Heard → Outcome
-heardIn t original ground = outcome nothing again
-heardIn t original other = outcome nothing same
-heardIn t original (answer m) = answeredIn t original m
+abbrev pub hearIn : Option RecoveryStep → Bool → Heard → HeardOutcome
+hearIn t original ground = heardOutcome nothing again
+hearIn t original other = heardOutcome nothing same
+hearIn t original (answer m) = answeredIn t original m
 
 -- by the recovery's step, and whether a request is kept; with none outstanding, all is dropped
-unfoldable pub settled : Option Step → Bool → Heard → Outcome
-settled none false h = outcome nothing same
-settled none true h = heardIn none true h
-settled (some t) original h = heardIn (some t) original h
+unfoldable pub settle : Option RecoveryStep → Bool → Heard → HeardOutcome
+settle none false h = heardOutcome nothing same
+settle none true h = hearIn none true h
+settle (some t) original h = hearIn (some t) original h
 
 -- ---- The state that comes next
 
 -- whether a recovery, and any original, ended with 14; the state
 pub record Moved : Type 0 where
   pub ended : Bool
-  pub state : State
+  pub state : MainState
 
-abbrev pub moved : Bool → State → Moved
+abbrev pub moved : Bool → MainState → Moved
 moved e s = record { ended = e; state = s }
 
-abbrev pub idling : State → State
-idling s = state (s .newest) none none false (s .received)
+abbrev pub idleState : MainState → MainState
+idleState s = mainState (s .newest) none none false (s .received)
 
-unfoldable pub movedTo : Next → State → Moved
+unfoldable pub movedTo : Next → MainState → Moved
 movedTo same s = moved false s
-movedTo again s = moved false (state (s .newest) (s .kept) (s .recovery) true (s .received))
+movedTo again s = moved false (mainState (s .newest) (s .kept) (s .recovery) true (s .received))
 movedTo (anew t) s =
-    cond (leb last-number (s .newest)) (moved true (idling s))
-    (moved false (state (suc (s .newest)) (s .kept) t true (s .received)))
-movedTo idle s = moved false (idling s)
+    cond (leb last-number (s .newest)) (moved true (idleState s))
+    (moved false (mainState (suc (s .newest)) (s .kept) t true (s .received)))
+movedTo idle s = moved false (idleState s)
 
 -- ---- One received byte
 
@@ -186,33 +186,33 @@ movedTo idle s = moved false (idling s)
 pub record Result : Type 0 where
   pub handed : Handed
   pub ended : Bool
-  pub state : State
+  pub state : MainState
 
 abbrev pub result : Handed → Moved → Result
 result h m = record { handed = h; ended = m .ended; state = m .state }
 
-abbrev pub dropped : State → Result
+abbrev pub dropped : MainState → Result
 dropped s = result nothing (moved false s)
 
-abbrev pub hears : Heard → State → Result
-hears h s = let o = settled (s .recovery) (isSome (s .kept)) h in result (o .handed) (movedTo (o .next) s)
+abbrev pub afterHeard : Heard → MainState → Result
+afterHeard h s = let o = settle (s .recovery) (isSome (s .kept)) h in result (o .handed) (movedTo (o .next) s)
 
-abbrev pub withReceived : State → Option (List ℕ) → State
-withReceived s bs = state (s .newest) (s .kept) (s .recovery) (s .unsent) bs
+abbrev pub mainWithReceived : MainState → Option (List ℕ) → MainState
+mainWithReceived s bs = mainState (s .newest) (s .kept) (s .recovery) (s .unsent) bs
 
 -- the 00 behind these bytes: an empty frame is ignored, and so is what is left of one of more than 4,140 bytes
-abbrev pub closes : Option (List ℕ) → State → Result
-closes none s = dropped s
-closes (some []) s = dropped s
-closes (some (b ∷ bs)) s = hears (heard (s .newest) (judge (b ∷ bs))) s
+abbrev pub mainClosed : Option (List ℕ) → MainState → Result
+mainClosed none s = dropped s
+mainClosed (some []) s = dropped s
+mainClosed (some (b ∷ bs)) s = afterHeard (hear (s .newest) (judge (b ∷ bs))) s
 
 -- one byte more; the 4,141st without a 00 is a ground
-abbrev pub more : Option (List ℕ) → ℕ → State → Result
-more none b s = dropped s
-more (some bs) b s = cond (ltb (length bs) longest-form) (dropped (withReceived s (some (bs ++ b ∷ [])))) (hears ground (withReceived s none))
+abbrev pub mainMore : Option (List ℕ) → ℕ → MainState → Result
+mainMore none b s = dropped s
+mainMore (some bs) b s = cond (ltb (length bs) longest-form) (dropped (mainWithReceived s (some (bs ++ b ∷ [])))) (afterHeard ground (mainWithReceived s none))
 
-unfoldable pub byte : State → ℕ → Result
-byte s b = cond (eqb b 0) (closes (s .received) (withReceived s (some []))) (more (s .received) b s)
+unfoldable pub mainByte : MainState → ℕ → Result
+mainByte s b = cond (eqb b 0) (mainClosed (s .received) (mainWithReceived s (some []))) (mainMore (s .received) b s)
 
 -- ---- A piece of the received stream
 
@@ -221,24 +221,24 @@ abbrev pub fills : Option (List ℕ) → Bool
 fills none = false
 fills (some bs) = leb longest-form (length bs)
 
-abbrev pub stops : State → ℕ → Bool
+abbrev pub stops : MainState → ℕ → Bool
 stops s b = eqb b 0 || fills (s .received)
 
 -- how many bytes are read, and what comes of them
-pub record Received : Type 0 where
+pub record ReceiveResult : Type 0 where
   pub used : ℕ
   pub result : Result
 
-abbrev pub received : ℕ → Result → Received
-received n r = record { used = n; result = r }
+abbrev pub receiveResult : ℕ → Result → ReceiveResult
+receiveResult n r = record { used = n; result = r }
 
 -- up to and with the first 00 or a frame's 4,141st byte, or to the end
-unfoldable pub receive : State → List ℕ → Received
-receive s [] = received 0 (dropped s)
+unfoldable pub receive : MainState → List ℕ → ReceiveResult
+receive s [] = receiveResult 0 (dropped s)
 receive s (b ∷ bs) =
-    cond (stops s b) (received 1 (byte s b))
-    (let r = receive (byte s b .state) bs in received (suc (r .used)) (r .result))
+    cond (stops s b) (receiveResult 1 (mainByte s b))
+    (let r = receive (mainByte s b .state) bs in receiveResult (suc (r .used)) (r .result))
 
 -- whether the frame of the one outstanding is to go out
-abbrev pub toGoOut : State → Bool
+abbrev pub toGoOut : MainState → Bool
 toGoOut s = isSome (outstanding s) && s .unsent

@@ -13,32 +13,32 @@ pub record Request : Type 0 where
   pub payload : List ℕ
 
 -- what a recovery has outstanding: its fetch of the status, or the service of bit 0 or of bit 1
-pub data Step : Type 0 where
-  fetch : Step
-  acknowledge : Step
-  alert : Step
+pub data RecoveryStep : Type 0 where
+  fetch : RecoveryStep
+  acknowledge : RecoveryStep
+  alert : RecoveryStep
 
-pub record State : Type 0 where
+pub record MainState : Type 0 where
   -- the newest number, 0 before the first
   pub newest : ℕ
   -- the caller's request that is outstanding, or a recovery's original
   pub kept : Option Request
-  pub recovery : Option Step
+  pub recovery : Option RecoveryStep
   -- whether the frame of the one outstanding is to go out
   pub unsent : Bool
   -- the bytes since the last 00; none where they are more than 4,140
   pub received : Option (List ℕ)
 
 -- a state by its fields, in this order
-abbrev pub state : ℕ → Option Request → Option Step → Bool → Option (List ℕ) → State
-state n k t u bs = record { newest = n; kept = k; recovery = t; unsent = u; received = bs }
+abbrev pub mainState : ℕ → Option Request → Option RecoveryStep → Bool → Option (List ℕ) → MainState
+mainState n k t u bs = record { newest = n; kept = k; recovery = t; unsent = u; received = bs }
 
 -- after a start
-unfoldable pub fresh : State
-fresh = state 0 none none false (some [])
+unfoldable pub mainFresh : MainState
+mainFresh = mainState 0 none none false (some [])
 
 -- 0x08, 0x09 and 0x0a have no data
-unfoldable pub stepRequest : Step → Request
+unfoldable pub stepRequest : RecoveryStep → Request
 stepRequest fetch = record { command = command-status; payload = [] }
 stepRequest acknowledge = record { command = command-start-acknowledged; payload = [] }
 stepRequest alert = record { command = command-alert; payload = [] }
@@ -47,12 +47,12 @@ abbrev pub isSome : {A : Type 0} → Option A → Bool
 isSome none = false
 isSome (some x) = true
 
-abbrev pub outstandingOf : Option Step → Option Request → Option Request
+abbrev pub outstandingOf : Option RecoveryStep → Option Request → Option Request
 outstandingOf none k = k
 outstandingOf (some t) k = some (stepRequest t)
 
 -- the one outstanding: it has the newest number
-abbrev pub outstanding : State → Option Request
+abbrev pub outstanding : MainState → Option Request
 outstanding s = outstandingOf (s .recovery) (s .kept)
 
 -- a request's frame: version 1

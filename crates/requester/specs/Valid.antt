@@ -14,9 +14,9 @@ use Rattle.requester.specs.Layout
 unfoldable pub validRequester : List ℕ → Bool
 validRequester r =
     leb Layout.requester-length (length r)
-    && (leb (Layout.numberOf r) last-number
+    && (leb (Layout.newestNumber r) last-number
     && (leb (Layout.recoveryOf r) 3
     && (leb (Layout.unsentOf r) 1
-    && (leb (Layout.keptOf r) 1
-    && (leb (Layout.lengthOf r) longest-data
-    && staysOut (Layout.commandOf r))))))
+    && (leb (Layout.keptFlag r) 1
+    && (leb (Layout.keptLength r) longest-data
+    && staysOut (Layout.keptCommand r))))))

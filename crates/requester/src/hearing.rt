@@ -22,11 +22,11 @@ ghost use lib.Dec.{eqb};
 ghost use Rattle.line.specs.Limits.{longest-data};
 ghost use Rattle.line.specs.Numbers.{top-bit, all-ones, reply-decode-failure};
 ghost use Rattle.line.specs.Judge.{good};
-ghost use Rattle.line.specs.Reader.{report, dataOf, valid as readerValid};
-ghost use Rattle.requester.specs.Requester.{heard, ground, nothing, same, outcome, served, fetched, answeredIn};
-ghost use Rattle.requester.specs.Layout.{numberOf, stepOf, isKept};
+ghost use Rattle.line.specs.Reader.{readReport, dataPromise, validReader as readerValid};
+ghost use Rattle.requester.specs.Requester.{hear, ground, nothing, same, heardOutcome, serve, fetched, answeredIn};
+ghost use Rattle.requester.specs.Layout.{newestNumber, recoveryStep, isKept};
 ghost use Rattle.requester.specs.Valid.{validRequester};
-ghost use Rattle.requester.specs.Calls.{isOverlong, heardOf, outcomeOf};
+ghost use Rattle.requester.specs.Calls.{isOverlong, heardOf, heardOutcomeOf};
 ghost use Rattle.requester.specs.Hearing.{headMessage, heardReport, nextOf, outcomeReport, outcomeReportOf, dataFit};
 
 // What a good message is to the one outstanding.
@@ -52,7 +52,7 @@ fn fails_decode(expected: ReplyNumber, sequence: u64, command: u8) -> bool
 // By the newest number: a ground for sending the same bytes again, another reply, or the answer.
 fn hear(newest: RequestNumber, head: Head) -> Heard
     requires { ⌜ newest .0 < top-bit ⌝ }
-    ensures { λ r. ⌜ ((d : List ℕ) → heardReport r (headMessage head d) ≡ heard (newest .0) (good (headMessage head d))) ⌝ }
+    ensures { λ r. ⌜ ((d : List ℕ) → heardReport r (headMessage head d) ≡ hear (newest .0) (good (headMessage head d))) ⌝ }
 {
     if head.version != numbers::FIRST_VERSION {
         return Heard::Ground;
@@ -72,7 +72,7 @@ fn hear(newest: RequestNumber, head: Head) -> Heard
 
 // What comes after a status: the service of its lowest set bit, or the original.
 fn serve(original: bool, status: u64) -> Next
-    ensures { λ r. ⌜ nextOf r ≡ served original status ⌝ }
+    ensures { λ r. ⌜ nextOf r ≡ serve original status ⌝ }
 {
     if status % 2 == 1 {
         return Next::Acknowledge;
@@ -90,7 +90,7 @@ fn serve(original: bool, status: u64) -> Next
 fn settle_fetch(reader: &[u8], original: bool, head: Head) -> Outcome
     requires { ⌜ readerValid (now reader) ≡ true ⌝ }
     requires { ⌜ head .length ≤ longest-data ⌝ }
-    ensures { λ r. ⌜ outcomeReport r ≡ outcomeReportOf (fetched original (headMessage head (dataOf (now (reader .entry)) (head .length)))) ⌝ }
+    ensures { λ r. ⌜ outcomeReport r ≡ outcomeReportOf (fetched original (headMessage head (dataPromise (now (reader .entry)) (head .length)))) ⌝ }
 {
     if head.command != numbers::REPLY_STATUS {
         return Outcome {
@@ -123,7 +123,7 @@ fn settle_fetch(reader: &[u8], original: bool, head: Head) -> Outcome
 fn settle_answer(reader: &[u8], requester: &[u8], head: Head) -> Outcome
     requires { ⌜ readerValid (now reader) ≡ true ⌝ }
     requires { ⌜ head .length ≤ longest-data ⌝ }
-    ensures { λ r. ⌜ outcomeReport r ≡ outcomeReportOf (answeredIn (stepOf (now (requester .entry))) (isKept (now (requester .entry))) (headMessage head (dataOf (now (reader .entry)) (head .length)))) ⌝ }
+    ensures { λ r. ⌜ outcomeReport r ≡ outcomeReportOf (answeredIn (recoveryStep (now (requester .entry))) (isKept (now (requester .entry))) (headMessage head (dataPromise (now (reader .entry)) (head .length)))) ⌝ }
 {
     let step = octets::read_u8(requester, layout::RECOVERY_OFFSET);
     if step == layout::NO_STEP {
@@ -152,7 +152,7 @@ fn settle_message(reader: &[u8], requester: &[u8], head: Head) -> Outcome
     requires { ⌜ readerValid (now reader) ≡ true ⌝ }
     requires { ⌜ validRequester (now requester) ≡ true ⌝ }
     requires { ⌜ head .length ≤ longest-data ⌝ }
-    ensures { λ r. ⌜ outcomeReport r ≡ outcomeReportOf (outcomeOf (now (requester .entry)) (some (heard (numberOf (now (requester .entry))) (good (headMessage head (dataOf (now (reader .entry)) (head .length))))))) ⌝ }
+    ensures { λ r. ⌜ outcomeReport r ≡ outcomeReportOf (heardOutcomeOf (now (requester .entry)) (some (hear (newestNumber (now (requester .entry))) (good (headMessage head (dataPromise (now (reader .entry)) (head .length))))))) ⌝ }
 {
     if !progress::is_outstanding(requester) {
         return Outcome {
@@ -177,7 +177,7 @@ fn settle_message(reader: &[u8], requester: &[u8], head: Head) -> Outcome
 
 // A ground for sending the same bytes again.
 fn settle_ground(requester: &[u8]) -> Outcome
-    ensures { λ r. ⌜ outcomeReport r ≡ outcomeReportOf (outcomeOf (now (requester .entry)) (some ground)) ⌝ }
+    ensures { λ r. ⌜ outcomeReport r ≡ outcomeReportOf (heardOutcomeOf (now (requester .entry)) (some ground)) ⌝ }
 {
     if progress::is_outstanding(requester) {
         return Outcome {
@@ -194,7 +194,7 @@ fn settle_ground(requester: &[u8]) -> Outcome
 // No 00 has come: a ground where the frame has passed 4,140 bytes.
 fn settle_more(reader: &[u8], requester: &[u8]) -> Outcome
     requires { ⌜ readerValid (now reader) ≡ true ⌝ }
-    ensures { λ r. ⌜ outcomeReport r ≡ outcomeReportOf (outcomeOf (now (requester .entry)) (cond (isOverlong (now (reader .entry))) (some ground) none)) ⌝ }
+    ensures { λ r. ⌜ outcomeReport r ≡ outcomeReportOf (heardOutcomeOf (now (requester .entry)) (cond (isOverlong (now (reader .entry))) (some ground) none)) ⌝ }
 {
     let tail = line::reader::tail(reader);
     match tail {
@@ -206,7 +206,7 @@ fn settle_more(reader: &[u8], requester: &[u8]) -> Outcome
 
 // Nothing is heard.
 fn settle_none() -> Outcome
-    ensures { λ r. ⌜ outcomeReport r ≡ outcomeReportOf (outcome nothing same) ⌝ }
+    ensures { λ r. ⌜ outcomeReport r ≡ outcomeReportOf (heardOutcome nothing same) ⌝ }
 {
     Outcome {
         handed: Handed::Nothing,
@@ -218,8 +218,8 @@ fn settle_none() -> Outcome
 pub(crate) fn settle(reader: &[u8], requester: &[u8], answer: Answer) -> Outcome
     requires { ⌜ readerValid (now reader) ≡ true ⌝ }
     requires { ⌜ validRequester (now requester) ≡ true ⌝ }
-    requires { ⌜ dataFit (report answer) ≡ true ⌝ }
-    ensures { λ r. ⌜ outcomeReport r ≡ outcomeReportOf (outcomeOf (now (requester .entry)) (heardOf (numberOf (now (requester .entry))) (now (reader .entry)) (report answer))) ⌝ }
+    requires { ⌜ dataFit (readReport answer) ≡ true ⌝ }
+    ensures { λ r. ⌜ outcomeReport r ≡ outcomeReportOf (heardOutcomeOf (now (requester .entry)) (heardOf (newestNumber (now (requester .entry))) (now (reader .entry)) (readReport answer))) ⌝ }
 {
     match answer {
         Answer::Refused => settle_none(),

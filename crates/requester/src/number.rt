@@ -4,7 +4,7 @@ use line::numbers;
 ghost use mathlib.Core.Path.{_≡_};
 ghost use Prim.Native.Nat.{_<_};
 ghost use Rattle.line.specs.Numbers.{top-bit};
-ghost use Rattle.requester.specs.Number.{replyTo};
+ghost use Rattle.requester.specs.Number.{mainReplyNumber};
 
 pub struct RequestNumber(pub u64);
 
@@ -13,7 +13,7 @@ pub struct ReplyNumber(pub u64);
 // The sequence of a reply to a request.
 pub(crate) fn reply_to(n: RequestNumber) -> ReplyNumber
     requires { ⌜ n .0 < top-bit ⌝ }
-    ensures { λ r. ⌜ r ≡ replyTo n ⌝ }
+    ensures { λ r. ⌜ r ≡ mainReplyNumber n ⌝ }
 {
     ReplyNumber(n.0 + numbers::TOP_BIT)
 }

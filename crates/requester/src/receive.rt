@@ -10,8 +10,8 @@ ghost use mathlib.Core.Path.{_≡_};
 ghost use mathlib.Core.Bool.{true};
 ghost use Prim.Native.Nat.{_≤_, _<_, min};
 ghost use Rattle.line.specs.Limits.{longest-form};
-ghost use Rattle.line.specs.Reader.{count};
-ghost use Rattle.requester.specs.Calls.{parts, validParts, receiptOf, received, receiving};
+ghost use Rattle.line.specs.Reader.{receivedCount};
+ghost use Rattle.requester.specs.Calls.{mainParts, mainValidParts, mainReceiveOutcome, mainReceiveValid, mainReceivePromise};
 
 // How many bytes of the piece were read, what is handed out, whether 14 ended a recovery, and whether a frame is to go out.
 pub struct Received {
@@ -23,7 +23,7 @@ pub struct Received {
 
 // Reads a piece up to and with its first 00 or a frame's 4,141st byte, or to its end, and goes by what was heard.
 pub fn receive(piece: &[u8], reader: &mut [u8], requester: &mut [u8]) -> Received
-    ensures { λ r. ⌜ receiptOf r (parts (now (reader .exit)) (now (requester .exit))) ≡ receiving (parts (now (reader .entry)) (now (requester .entry))) (now (piece .entry)) ⌝ }
+    ensures { λ r. ⌜ mainReceiveOutcome r (mainParts (now (reader .exit)) (now (requester .exit))) ≡ mainReceivePromise (mainParts (now (reader .entry)) (now (requester .entry))) (now (piece .entry)) ⌝ }
 {
     if !valid::requester_is_valid(requester) {
         return Received {
@@ -48,10 +48,10 @@ pub fn receive(piece: &[u8], reader: &mut [u8], requester: &mut [u8]) -> Receive
 
 // A frame of which n bytes have come, n at most 4,140.
 fn listen(piece: &[u8], reader: &mut [u8], requester: &mut [u8], n: usize) -> Received
-    requires { ⌜ validParts (parts (now reader) (now requester)) ≡ true ⌝ }
-    requires { ⌜ n ≡ count (now reader) ⌝ }
+    requires { ⌜ mainValidParts (mainParts (now reader) (now requester)) ≡ true ⌝ }
+    requires { ⌜ n ≡ receivedCount (now reader) ⌝ }
     requires { ⌜ n ≤ longest-form ⌝ }
-    ensures { λ r. ⌜ receiptOf r (parts (now (reader .exit)) (now (requester .exit))) ≡ received (parts (now (reader .entry)) (now (requester .entry))) (now (piece .entry)) ⌝ }
+    ensures { λ r. ⌜ mainReceiveOutcome r (mainParts (now (reader .exit)) (now (requester .exit))) ≡ mainReceiveValid (mainParts (now (reader .entry)) (now (requester .entry))) (now (piece .entry)) ⌝ }
 {
     let end = octets::min(layout::OVERLONG - n, piece.len());
     let read = line::reader::read(reader, &piece[..end]);
@@ -72,9 +72,9 @@ fn listen(piece: &[u8], reader: &mut [u8], requester: &mut [u8], n: usize) -> Re
 
 // What is left of a frame of more than 4,140 bytes.
 fn skip(piece: &[u8], reader: &mut [u8], requester: &[u8]) -> Received
-    requires { ⌜ validParts (parts (now reader) (now requester)) ≡ true ⌝ }
-    requires { ⌜ longest-form < count (now reader) ⌝ }
-    ensures { λ r. ⌜ receiptOf r (parts (now (reader .exit)) (now (requester .entry))) ≡ received (parts (now (reader .entry)) (now (requester .entry))) (now (piece .entry)) ⌝ }
+    requires { ⌜ mainValidParts (mainParts (now reader) (now requester)) ≡ true ⌝ }
+    requires { ⌜ longest-form < receivedCount (now reader) ⌝ }
+    ensures { λ r. ⌜ mainReceiveOutcome r (mainParts (now (reader .exit)) (now (requester .entry))) ≡ mainReceiveValid (mainParts (now (reader .entry)) (now (requester .entry))) (now (piece .entry)) ⌝ }
 {
     let read = line::reader::read(reader, piece);
     let used = read.used;

@@ -4,7 +4,7 @@ use crate::layout;
 use crate::progress;
 use crate::valid;
 ghost use mathlib.Core.Path.{_≡_};
-ghost use Rattle.requester.specs.Calls.{interruptReport, interruptBy, interrupting};
+ghost use Rattle.requester.specs.Calls.{interruptReport, interruptOutcome, interruptPromise};
 
 pub enum Interrupted {
     Done,
@@ -14,7 +14,7 @@ pub enum Interrupted {
 
 // Begins a recovery, whose fetch is to go out under a new number; in a recovery it adds nothing.
 pub fn interrupt(requester: &mut [u8]) -> Interrupted
-    ensures { λ r. ⌜ interruptBy (interruptReport r) (now (requester .exit)) ≡ interrupting (now (requester .entry)) ⌝ }
+    ensures { λ r. ⌜ interruptOutcome (interruptReport r) (now (requester .exit)) ≡ interruptPromise (now (requester .entry)) ⌝ }
 {
     if !valid::requester_is_valid(requester) {
         return Interrupted::Refused;

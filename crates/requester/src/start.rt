@@ -5,8 +5,8 @@ ghost use mathlib.Core.Path.{_≡_};
 ghost use Prim.Native.Nat.{_≤_};
 ghost use lib.ListN.{length, replicate};
 ghost use Rattle.octets.specs.Bytes.{overlay};
-ghost use Rattle.requester.specs.Layout.{requester-length, data-offset};
-ghost use Rattle.requester.specs.Calls.{parts, startOf, starting};
+ghost use Rattle.requester.specs.Layout.{requester-length, kept-data-offset};
+ghost use Rattle.requester.specs.Calls.{mainParts, mainStartOutcome, mainStartPromise};
 
 pub enum Started {
     Done,
@@ -15,7 +15,7 @@ pub enum Started {
 
 // Begins the main processor's end: no number used, nothing outstanding.
 pub fn start(reader: &mut [u8], requester: &mut [u8]) -> Started
-    ensures { λ r. ⌜ startOf r (parts (now (reader .exit)) (now (requester .exit))) ≡ starting (parts (now (reader .entry)) (now (requester .entry))) ⌝ }
+    ensures { λ r. ⌜ mainStartOutcome r (mainParts (now (reader .exit)) (now (requester .exit))) ≡ mainStartPromise (mainParts (now (reader .entry)) (now (requester .entry))) ⌝ }
 {
     if reader.len() < line::reader::STATE_LENGTH {
         return Started::Refused;
@@ -31,7 +31,7 @@ pub fn start(reader: &mut [u8], requester: &mut [u8]) -> Started
 // Every field ahead of the data 0.
 fn clear_fields(requester: &mut [u8])
     requires { ⌜ requester-length ≤ length (now requester) ⌝ }
-    ensures { λ _. ⌜ now (requester .exit) ≡ overlay 0 (replicate data-offset 0) (now (requester .entry)) ⌝ }
+    ensures { λ _. ⌜ now (requester .exit) ≡ overlay 0 (replicate kept-data-offset 0) (now (requester .entry)) ⌝ }
 {
     octets::write_u64(requester, 0, 0);
     octets::write_u32(requester, 8, 0);

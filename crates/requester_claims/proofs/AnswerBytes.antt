@@ -14,14 +14,14 @@ use Rattle.octets.proofs.Conditions.{cond-by}
 use Rattle.line.specs.Limits.{longest-form}
 use Rattle.line.specs.Numbers.{status-length}
 use Rattle.line.specs.Message.{Message}
-use Rattle.line.specs.Judge.{Verdict, failure, good, judge}
-use Rattle.requester.specs.State.{Step, fetch, acknowledge, alert, State, isSome}
+use Rattle.line.specs.Judge.{LineVerdict, failure, good, judge}
+use Rattle.requester.specs.State.{RecoveryStep, fetch, acknowledge, alert, MainState, isSome}
 use Rattle.requester.specs.Requester
-use Rattle.requester.specs.Requester.{Handed, Heard, ground, other, answer, heard, failsDecode, replySequence, settled}
-use Rattle.requester.specs.Calls.{reportOf}
-use Rattle.requester_claims.specs.View.{view}
+use Rattle.requester.specs.Requester.{Handed, Heard, ground, other, answer, hear, failsDecode, replySequence, settle}
+use Rattle.requester.specs.Calls.{handedReportOf}
+use Rattle.requester_claims.specs.View.{mainView}
 use Rattle.requester_claims.specs.Histories
-use Rattle.requester_claims.specs.Histories.{received, Means, meant, meantMade, enough, OfValid}
+use Rattle.requester_claims.specs.Histories.{received, MainMeans, mainMeant, mainMeantMade, mainEnough, OfValid}
 use Rattle.requester_claims.proofs.MeaningLaws.{grown, quiet-byte, quiet-positive}
 use Rattle.requester_claims.proofs.History.{one-call}
 use Rattle.requester_claims.specs.Answers.{OfReport, OfAnswer}
@@ -30,13 +30,13 @@ use Rattle.requester_claims.specs.Item6.{Comes, AnswerBytes}
 -- ---- a frame
 
 -- an answer is a good message
-abbrev pub HeardGood : Verdict → Heard → Type 0
+abbrev pub HeardGood : LineVerdict → Heard → Type 0
 HeardGood v ground = Unit {0}
 HeardGood v other = Unit {0}
 HeardGood v (answer m) = v ≡ good m
 
-pub heard-good : (n : ℕ) (v : Verdict) → HeardGood v (heard n v)
-unfolding heard
+pub heard-good : (n : ℕ) (v : LineVerdict) → HeardGood v (hear n v)
+unfolding hear
 heard-good n (failure reason sequence) = tt
 heard-good n (good m) =
     cond-by P (not (eqb (m .version) 1)) _ _ (λ _. tt) (λ _.
@@ -60,8 +60,8 @@ module _ (P : Message → Type 0) where
   HeardHas other = Unit {0}
   HeardHas (answer m) = P m
 
-  settled-hands : (t : Option Step) (k : Bool) (h : Heard) → HeardHas h → Hands P (settled t k h .handed)
-  unfolding settled Requester.fetched
+  settled-hands : (t : Option RecoveryStep) (k : Bool) (h : Heard) → HeardHas h → Hands P (settle t k h .handed)
+  unfolding settle Requester.fetched
   settled-hands none false h w = tt
   settled-hands none true ground w = tt
   settled-hands none true other w = tt
@@ -69,7 +69,7 @@ module _ (P : Message → Type 0) where
   settled-hands (some t) k ground w = tt
   settled-hands (some t) k other w = tt
   settled-hands (some fetch) k (answer m) w =
-      cond-by (λ (o : Requester.Outcome). Hands P (o .handed)) (eqb (m .command) 0x06 && eqb (length (m .payload)) status-length) _ _ (λ _. tt) (λ _. tt)
+      cond-by (λ (o : Requester.HeardOutcome). Hands P (o .handed)) (eqb (m .command) 0x06 && eqb (length (m .payload)) status-length) _ _ (λ _. tt) (λ _. tt)
   settled-hands (some acknowledge) k (answer m) w = tt
   settled-hands (some alert) k (answer m) w = w
 
@@ -79,26 +79,26 @@ module _ (P : Message → Type 0) where
 abbrev Closes : Option (List ℕ) → ℕ → Message → Type 0
 Closes bs b m = (b ≡ 0) × (xs : List ℕ) × (bs ≡ some xs) × (judge xs ≡ good m)
 
-module _ (s : State) where
-  closes-hands : (b : ℕ) → b ≡ 0 → (bs : Option (List ℕ)) → Hands (Closes bs b) (Requester.closes bs (Requester.withReceived s (some [])) .handed)
+module _ (s : MainState) where
+  closes-hands : (b : ℕ) → b ≡ 0 → (bs : Option (List ℕ)) → Hands (Closes bs b) (Requester.mainClosed bs (Requester.mainWithReceived s (some [])) .handed)
   closes-hands b z none = tt
   closes-hands b z (some []) = tt
   closes-hands b z (some (x ∷ xs)) =
-      settled-hands (Closes (some (x ∷ xs)) b) (s .recovery) (isSome (s .kept)) _ (by (heard (s .newest) (judge (x ∷ xs))) (heard-good (s .newest) (judge (x ∷ xs))))
+      settled-hands (Closes (some (x ∷ xs)) b) (s .recovery) (isSome (s .kept)) _ (by (hear (s .newest) (judge (x ∷ xs))) (heard-good (s .newest) (judge (x ∷ xs))))
     where
       by : (h : Heard) → HeardGood (judge (x ∷ xs)) h → HeardHas (Closes (some (x ∷ xs)) b) h
       by ground g = tt
       by other g = tt
       by (answer m) g = (z, x ∷ xs, refl, g)
 
-  more-hands : (bs : Option (List ℕ)) (b : ℕ) → Hands (Closes (s .received) b) (Requester.more bs b s .handed)
+  more-hands : (bs : Option (List ℕ)) (b : ℕ) → Hands (Closes (s .received) b) (Requester.mainMore bs b s .handed)
   more-hands none b = tt
   more-hands (some bs) b =
       cond-by (λ (x : Requester.Result). Hands (Closes (s .received) b) (x .handed)) (ltb (length bs) longest-form) _ _ (λ _. tt)
       (λ _. settled-hands (Closes (s .received) b) (s .recovery) (isSome (s .kept)) ground tt)
 
-  byte-hands : (b : ℕ) → Hands (Closes (s .received) b) (Requester.byte s b .handed)
-  unfolding Requester.byte
+  byte-hands : (b : ℕ) → Hands (Closes (s .received) b) (Requester.mainByte s b .handed)
+  unfolding Requester.mainByte
   byte-hands b =
       cond-by (λ (x : Requester.Result). Hands (Closes (s .received) b) (x .handed)) (eqb b 0) _ _
       (λ e. closes-hands b (eqb-true b 0 e) (s .received)) (λ _. more-hands (s .received) b)
@@ -128,39 +128,39 @@ later b bs z (some xs) used m w =
       judged = rw append-snoc at (rw f at (w .judged));
     }
 
-receive-hands : (piece : List ℕ) (s : State) → Hands (Comes piece (s .received) (Requester.receive s piece .used)) (Requester.receive s piece .result .handed)
+receive-hands : (piece : List ℕ) (s : MainState) → Hands (Comes piece (s .received) (Requester.receive s piece .used)) (Requester.receive s piece .result .handed)
 unfolding Requester.receive
 receive-hands [] s = tt
-receive-hands (b ∷ bs) s = by (Requester.stops s b) refl (λ x. receive-hands bs (Requester.withReceived s x))
+receive-hands (b ∷ bs) s = by (Requester.stops s b) refl (λ x. receive-hands bs (Requester.mainWithReceived s x))
   where
-    P : Requester.Received → Type 0
+    P : Requester.ReceiveResult → Type 0
     P x = Hands (Comes (b ∷ bs) (s .received) (x .used)) (x .result .handed)
 
     by : (t : Bool) → Requester.stops s b ≡ t
-        → ((x : Option (List ℕ)) → let r = Requester.receive (Requester.withReceived s x) bs in Hands (Comes bs x (r .used)) (r .result .handed))
-        → let r = Requester.receive (Requester.byte s b .state) bs in P (cond t (Requester.received 1 (Requester.byte s b)) (Requester.received (suc (r .used)) (r .result)))
-    by true e i = hands-then (Closes (s .received) b) _ (at-once b bs (s .received)) (Requester.byte s b .handed) (byte-hands s b)
+        → ((x : Option (List ℕ)) → let r = Requester.receive (Requester.mainWithReceived s x) bs in Hands (Comes bs x (r .used)) (r .result .handed))
+        → let r = Requester.receive (Requester.mainByte s b .state) bs in P (cond t (Requester.receiveResult 1 (Requester.mainByte s b)) (Requester.receiveResult (suc (r .used)) (r .result)))
+    by true e i = hands-then (Closes (s .received) b) _ (at-once b bs (s .received)) (Requester.mainByte s b .handed) (byte-hands s b)
     by false e i =
         let x = grown (s .received) b in
-        let r = Requester.receive (Requester.withReceived s x) bs in
+        let r = Requester.receive (Requester.mainWithReceived s x) bs in
         rw (quiet-byte s b e)
         (hands-then (Comes bs x (r .used)) _ (later b bs (quiet-positive s b e) (s .received) (r .used)) (r .result .handed) (i x))
 
 -- ---- a call
 
-hands-report : (P : Message → Type 0) (h : Handed) → Hands P h → OfReport P (reportOf h) (Histories.dataOf h)
-unfolding reportOf Histories.dataOf
+hands-report : (P : Message → Type 0) (h : Handed) → Hands P h → OfReport P (handedReportOf h) (Histories.handedData h)
+unfolding handedReportOf Histories.handedData
 hands-report P Requester.nothing w = tt
 hands-report P (Requester.answered m) w = w
 hands-report P (Requester.status s o n) w = tt
 hands-report P (Requester.alerted m) w = w
 
 pub answer-bytes : OfValid AnswerBytes
-unfolding meantMade meant
+unfolding mainMeantMade mainMeant
 answer-bytes p v l piece =
     let k = one-call p (record { lent = l; call = Histories.receive piece }) v in
-    let r = Requester.receive (view p) piece in
+    let r = Requester.receive (mainView p) piece in
     rw (k .answer, k .out)
-    (cond-by (λ (x : Means). OfAnswer (Comes piece (view p .received)) (x .answer) (x .out)) (enough (Histories.receive piece) l) _ _
-    (λ _. hands-report (Comes piece (view p .received) (r .used)) (r .result .handed) (receive-hands piece (view p)))
+    (cond-by (λ (x : MainMeans). OfAnswer (Comes piece (mainView p .received)) (x .answer) (x .out)) (mainEnough (Histories.receive piece) l) _ _
+    (λ _. hands-report (Comes piece (mainView p .received) (r .used)) (r .result .handed) (receive-hands piece (mainView p)))
     (λ _. tt))

@@ -17,20 +17,20 @@ use Rattle.line.specs.Judge.{judge}
 use Rattle.line_claims.specs.Pieces.{NonZero}
 use Rattle.line_claims.proofs.SpellingClaim.{good-frame}
 use Rattle.requester.specs.Limits.{last-number}
-use Rattle.requester.specs.State.{Request, Step, State, fresh, isSome, outstanding, requestFrame}
+use Rattle.requester.specs.State.{Request, RecoveryStep, MainState, mainFresh, isSome, outstanding, requestFrame}
 use Rattle.requester.specs.Requester
-use Rattle.requester.specs.Requester.{Heard, ground, heard, settled}
+use Rattle.requester.specs.Requester.{Heard, ground, hear, settle}
 use Rattle.requester.specs.Calls
-use Rattle.requester.specs.Calls.{Report}
-use Rattle.requester_claims.specs.View.{view}
+use Rattle.requester.specs.Calls.{HandedReport}
+use Rattle.requester_claims.specs.View.{mainView}
 use Rattle.requester_claims.specs.Histories
-use Rattle.requester_claims.specs.Histories.{Call, Answer, refused, done, put, received, Means, meant, Made, made, meantMade, enough, left, leftMeant}
+use Rattle.requester_claims.specs.Histories.{MainCall, MainAnswer, refused, done, put, received, MainMeans, mainMeant, MainMade, mainMade, mainMeantMade, mainEnough, mainLeft, mainLeftMeant}
 use Rattle.requester_claims.proofs.MeaningLaws.{positive}
 use Rattle.requester_claims.proofs.History.{history}
-use Rattle.requester_claims.specs.Histories.{begun, OfStarted}
+use Rattle.requester_claims.specs.Histories.{mainStarted, OfStarted}
 use Rattle.requester_claims.specs.Answers.{OfReport, OfAnswer}
 use Rattle.requester_claims.proofs.AnswerBytes.{answer-bytes}
-use Rattle.requester_claims.specs.Item6.{Comes, Framed, Typed, AllTyped, AnswerFrame}
+use Rattle.requester_claims.specs.Item6.{Comes, Framed, PieceTyped, AllPiecesTyped, AnswerFrame}
 
 -- ---- the bytes since the last 00 are not 00
 
@@ -38,7 +38,7 @@ abbrev Since : Option (List ℕ) → Type 0
 Since none = Unit {0}
 Since (some xs) = Each NonZero xs
 
-pub moved-received : (x : Requester.Next) (s : State) → Requester.movedTo x s .state .received ≡ s .received
+pub moved-received : (x : Requester.Next) (s : MainState) → Requester.movedTo x s .state .received ≡ s .received
 unfolding Requester.movedTo
 moved-received Requester.same s = refl
 moved-received Requester.again s = refl
@@ -46,36 +46,36 @@ moved-received (Requester.anew t) s =
     cond-by (λ (m : Requester.Moved). m .state .received ≡ s .received) (leb last-number (s .newest)) _ _ (λ _. refl) (λ _. refl)
 moved-received Requester.idle s = refl
 
-hears-since : (h : Heard) (s : State) → Since (s .received) → Since (Requester.hears h s .state .received)
-hears-since h s w = rw (moved-received (settled (s .recovery) (isSome (s .kept)) h .next) s) w
+hears-since : (h : Heard) (s : MainState) → Since (s .received) → Since (Requester.afterHeard h s .state .received)
+hears-since h s w = rw (moved-received (settle (s .recovery) (isSome (s .kept)) h .next) s) w
 
-closes-since : (bs : Option (List ℕ)) (s : State) → Since (Requester.closes bs (Requester.withReceived s (some [])) .state .received)
+closes-since : (bs : Option (List ℕ)) (s : MainState) → Since (Requester.mainClosed bs (Requester.mainWithReceived s (some [])) .state .received)
 closes-since none s = tt
 closes-since (some []) s = tt
-closes-since (some (b ∷ bs)) s = hears-since (heard (s .newest) (judge (b ∷ bs))) (Requester.withReceived s (some [])) tt
+closes-since (some (b ∷ bs)) s = hears-since (hear (s .newest) (judge (b ∷ bs))) (Requester.mainWithReceived s (some [])) tt
 
-more-since : (bs : Option (List ℕ)) (b : ℕ) (s : State) → NonZero b → Since bs → Since (s .received) → Since (Requester.more bs b s .state .received)
+more-since : (bs : Option (List ℕ)) (b : ℕ) (s : MainState) → NonZero b → Since bs → Since (s .received) → Since (Requester.mainMore bs b s .state .received)
 more-since none b s z w h = h
 more-since (some bs) b s z w h =
     cond-by (λ (x : Requester.Result). Since (x .state .received)) (ltb (length bs) longest-form) _ _
-    (λ _. each-append NonZero bs (b ∷ []) w (z, tt)) (λ _. hears-since ground (Requester.withReceived s none) tt)
+    (λ _. each-append NonZero bs (b ∷ []) w (z, tt)) (λ _. hears-since ground (Requester.mainWithReceived s none) tt)
 
-byte-since : (s : State) (b : ℕ) → Byte b → Since (s .received) → Since (Requester.byte s b .state .received)
-unfolding Requester.byte
+byte-since : (s : MainState) (b : ℕ) → Byte b → Since (s .received) → Since (Requester.mainByte s b .state .received)
+unfolding Requester.mainByte
 byte-since s b h w =
     cond-by (λ (x : Requester.Result). Since (x .state .received)) (eqb b 0) _ _
     (λ _. closes-since (s .received) s) (λ e. more-since (s .received) b s (positive b (eqb-false b 0 e), omega arith) w w)
 
-receive-since : (piece : List ℕ) (s : State) → Each Byte piece → Since (s .received) → Since (Requester.receive s piece .result .state .received)
+receive-since : (piece : List ℕ) (s : MainState) → Each Byte piece → Since (s .received) → Since (Requester.receive s piece .result .state .received)
 unfolding Requester.receive
 receive-since [] s h w = w
 receive-since (b ∷ bs) s h w =
     let v = byte-since s b (h .0) w in
-    cond-by (λ (x : Requester.Received). Since (x .result .state .received)) (Requester.stops s b) _ _ (λ _. v) (λ _. receive-since bs (Requester.byte s b .state) (h .1) v)
+    cond-by (λ (x : Requester.ReceiveResult). Since (x .result .state .received)) (Requester.stops s b) _ _ (λ _. v) (λ _. receive-since bs (Requester.mainByte s b .state) (h .1) v)
 
 -- the calls that receive nothing keep them
-module _ (s : State) where
-  abbrev pub DoneKeeps : Requester.Done → Type 0
+module _ (s : MainState) where
+  abbrev pub DoneKeeps : Requester.MainDone → Type 0
   DoneKeeps x = x .state .received ≡ s .received
 
   pub request-keeps : (room : ℕ) (q : Request) → DoneKeeps (Requester.request room q s)
@@ -86,7 +86,7 @@ module _ (s : State) where
       cond-by DoneKeeps (leb last-number (s .newest)) _ _ (λ _. refl) (λ _.
       cond-by DoneKeeps (ltb room (length (requestFrame (suc (s .newest)) q))) _ _ (λ _. refl) (λ _. refl))))
 
-  pub interrupt-keeps : (t : Option Step) → DoneKeeps (Requester.interruptedIn t s)
+  pub interrupt-keeps : (t : Option RecoveryStep) → DoneKeeps (Requester.interruptedIn t s)
   interrupt-keeps (some t) = refl
   interrupt-keeps none = cond-by DoneKeeps (leb last-number (s .newest)) _ _ (λ _. refl) (λ _. refl)
 
@@ -95,15 +95,15 @@ module _ (s : State) where
   send-keeps room (some q) =
       cond-by DoneKeeps (s .unsent) _ _ (λ _. cond-by DoneKeeps (ltb room (length (requestFrame (s .newest) q))) _ _ (λ _. refl) (λ _. refl)) (λ _. refl)
 
-  pub put-keeps : (x : Requester.Done) (room : List ℕ) → Histories.putMeans (x .refusal) room (x .out) (x .state) .state ≡ x .state
+  pub put-keeps : (x : Requester.MainDone) (room : List ℕ) → Histories.putMeans (x .refusal) room (x .out) (x .state) .state ≡ x .state
   put-keeps x room = by (x .refusal)
     where
       by : (k : Option ℕ) → Histories.putMeans k room (x .out) (x .state) .state ≡ x .state
       by none = refl
       by (some k) = refl
 
-  meant-since : (c : Call) → Typed c → Since (s .received) → Since (meant s c .state .received)
-  unfolding meant fresh Requester.interrupt Requester.send
+  meant-since : (c : MainCall) → PieceTyped c → Since (s .received) → Since (mainMeant s c .state .received)
+  unfolding mainMeant mainFresh Requester.interrupt Requester.send
   meant-since Histories.start h w = tt
   meant-since (Histories.request command d room) h w =
       let x = Requester.request (length room) (record { command = command; payload = d }) s in
@@ -112,17 +112,17 @@ module _ (s : State) where
   meant-since (Histories.send room) h w = rw (put-keeps (Requester.sentOf (length room) (outstanding s) s) room, send-keeps (length room) (outstanding s)) w
   meant-since (Histories.receive piece) h w = receive-since piece s h w
 
-  made-since : (m : Made) → Typed (m .call) → Since (s .received) → Since (meantMade s m .state .received)
-  unfolding meantMade
-  made-since m h w = cond-by (λ (x : Means). Since (x .state .received)) (enough (m .call) (m .lent)) _ _ (λ _. meant-since (m .call) h w) (λ _. w)
+  made-since : (m : MainMade) → PieceTyped (m .call) → Since (s .received) → Since (mainMeantMade s m .state .received)
+  unfolding mainMeantMade
+  made-since m h w = cond-by (λ (x : MainMeans). Since (x .state .received)) (mainEnough (m .call) (m .lent)) _ _ (λ _. meant-since (m .call) h w) (λ _. w)
 
-left-since : (s : State) (ms : List Made) → AllTyped ms → Since (s .received) → Since (leftMeant s ms .received)
-unfolding leftMeant
+left-since : (s : MainState) (ms : List MainMade) → AllPiecesTyped ms → Since (s .received) → Since (mainLeftMeant s ms .received)
+unfolding mainLeftMeant
 left-since s [] h w = w
-left-since s (m ∷ ms) h w = left-since (meantMade s m .state) ms (h .1) (made-since s m (h .0) w)
+left-since s (m ∷ ms) h w = left-since (mainMeantMade s m .state) ms (h .1) (made-since s m (h .0) w)
 
-fresh-since : Since (fresh .received)
-unfolding fresh
+fresh-since : Since (mainFresh .received)
+unfolding mainFresh
 fresh-since = tt
 
 -- ---- the claim
@@ -141,14 +141,14 @@ module _ (piece : List ℕ) (h : Each Byte piece) (bs : Option (List ℕ)) (w : 
 
 -- a property that follows from another
 module _ (P Q : ℕ → Message → Type 0) (f : (used : ℕ) (m : Message) → P used m → Q used m) where
-  report-then : (used : ℕ) (t : Report) (d : List ℕ) → OfReport (P used) t d → OfReport (Q used) t d
-  report-then used (Report.refused n) d c = tt
+  report-then : (used : ℕ) (t : HandedReport) (d : List ℕ) → OfReport (P used) t d → OfReport (Q used) t d
+  report-then used (HandedReport.refused n) d c = tt
   report-then used Calls.nothing d c = tt
   report-then used (Calls.answered v q k n) d c = f used _ c
   report-then used (Calls.status s o n) d c = tt
   report-then used (Calls.alerted v q k n) d c = f used _ c
 
-  answer-then : (a : Answer) (d : List ℕ) → OfAnswer P a d → OfAnswer Q a d
+  answer-then : (a : MainAnswer) (d : List ℕ) → OfAnswer P a d → OfAnswer Q a d
   answer-then (refused n) d c = tt
   answer-then done d c = tt
   answer-then (put n) d c = tt
@@ -157,7 +157,7 @@ module _ (P Q : ℕ → Message → Type 0) (f : (used : ℕ) (m : Message) → 
 pub answer-frame : OfStarted AnswerFrame
 answer-frame p l h ms t k piece b =
     let i = history p l h ms in
-    let q = left (begun p l) ms in
-    let w : Since (view q .received) = rw (i .1) (left-since fresh ms t fresh-since) in
-    let m : Made = record { lent = k; call = Histories.receive piece } in
-    answer-then _ _ (comes-framed piece b (view q .received) w) (made q m .answer) (made q m .out) (answer-bytes q (i .2) k piece)
+    let q = mainLeft (mainStarted p l) ms in
+    let w : Since (mainView q .received) = rw (i .1) (left-since mainFresh ms t fresh-since) in
+    let m : MainMade = record { lent = k; call = Histories.receive piece } in
+    answer-then _ _ (comes-framed piece b (mainView q .received) w) (mainMade q m .answer) (mainMade q m .out) (answer-bytes q (i .2) k piece)

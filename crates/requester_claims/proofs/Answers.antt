@@ -13,21 +13,21 @@ use borrow.Author.Tests.{not-false, eqb-true, eq-eqb}
 use Rattle.octets.proofs.Conditions.{cond-by}
 use Rattle.line.specs.Limits.{longest-data, longest-form}
 use Rattle.line.specs.Numbers.{status-length}
-use Rattle.line.specs.Judge.{Verdict, failure, good, judge}
+use Rattle.line.specs.Judge.{LineVerdict, failure, good, judge}
 use Rattle.requester.specs.Limits.{last-number}
-use Rattle.requester.specs.State.{Request, Step, fetch, acknowledge, alert, State, fresh, isSome, outstanding, requestFrame}
+use Rattle.requester.specs.State.{Request, RecoveryStep, fetch, acknowledge, alert, MainState, mainFresh, isSome, outstanding, requestFrame}
 use Rattle.requester.specs.Requester
-use Rattle.requester.specs.Requester.{Heard, ground, other, answer, heard, failsDecode, replySequence, settled, staysOut}
+use Rattle.requester.specs.Requester.{Heard, ground, other, answer, hear, failsDecode, replySequence, settle, staysOut}
 use Rattle.requester.specs.Layout
-use Rattle.requester.specs.Calls.{Parts, reportOf}
-use Rattle.requester_claims.specs.View.{view, keptOf}
+use Rattle.requester.specs.Calls.{MainParts, handedReportOf}
+use Rattle.requester_claims.specs.View.{mainView, keptRequestOf}
 use Rattle.requester_claims.specs.Histories
-use Rattle.requester_claims.specs.Histories.{Call, received, Means, putMeans, doneMeans, meant, Made, made, meantMade, left, enough}
+use Rattle.requester_claims.specs.Histories.{MainCall, received, MainMeans, putMeans, mainDoneMeans, mainMeant, MainMade, mainMade, mainMeantMade, mainLeft, mainEnough}
 use Rattle.requester_claims.proofs.MeaningLaws.{grown, quiet-byte}
 use Rattle.requester_claims.proofs.History.{one-call, started}
-use Rattle.requester_claims.specs.Histories.{begun, OfStarted, OfValid}
+use Rattle.requester_claims.specs.Histories.{mainStarted, OfStarted, OfValid}
 use Rattle.requester_claims.specs.Item2.{AnswerMatches, AnswersCounted, OneAnswerEach}
-use Rattle.requester_claims.specs.Answers.{OfReport, OfAnswer, MessageMatching, answersReported, answersIn, requestsIn, answers, requests, keptNumber}
+use Rattle.requester_claims.specs.Answers.{OfReport, OfAnswer, MessageMatching, answersReported, answersIn, requestsByCall, answersCounted, requestsCounted, keptNumber}
 
 -- ---- answers that match
 
@@ -36,8 +36,8 @@ HeardMatches n ground = Unit {0}
 HeardMatches n other = Unit {0}
 HeardMatches n (answer m) = MessageMatching n m
 
-pub heard-matches : (n : ℕ) (v : Verdict) → HeardMatches n (heard n v)
-unfolding heard
+pub heard-matches : (n : ℕ) (v : LineVerdict) → HeardMatches n (hear n v)
+unfolding hear
 heard-matches n (failure reason sequence) = tt
 heard-matches n (good m) =
     cond-by (HeardMatches n) (not (eqb (m .version) 1)) _ _ (λ _. tt) (λ a.
@@ -51,12 +51,12 @@ heard-matches n (good m) =
 
 -- of what is handed out
 abbrev HandedMatches : ℕ → Requester.Handed → Type 0
-HandedMatches n h = OfReport (MessageMatching n) (reportOf h) (Histories.dataOf h)
+HandedMatches n h = OfReport (MessageMatching n) (handedReportOf h) (Histories.handedData h)
 
 -- whatever is outstanding
 module _ (n : ℕ) where
-  settled-matches : (t : Option Step) (k : Bool) (h : Heard) → HeardMatches n h → HandedMatches n (settled t k h .handed)
-  unfolding settled reportOf Histories.dataOf Requester.fetched
+  settled-matches : (t : Option RecoveryStep) (k : Bool) (h : Heard) → HeardMatches n h → HandedMatches n (settle t k h .handed)
+  unfolding settle handedReportOf Histories.handedData Requester.fetched
   settled-matches none false h w = tt
   settled-matches none true ground w = tt
   settled-matches none true other w = tt
@@ -64,95 +64,95 @@ module _ (n : ℕ) where
   settled-matches (some t) k ground w = tt
   settled-matches (some t) k other w = tt
   settled-matches (some fetch) k (answer m) w =
-      cond-by (λ (o : Requester.Outcome). HandedMatches n (o .handed)) (eqb (m .command) 0x06 && eqb (length (m .payload)) status-length) _ _ (λ _. tt) (λ _. tt)
+      cond-by (λ (o : Requester.HeardOutcome). HandedMatches n (o .handed)) (eqb (m .command) 0x06 && eqb (length (m .payload)) status-length) _ _ (λ _. tt) (λ _. tt)
   settled-matches (some acknowledge) k (answer m) w = tt
   settled-matches (some alert) k (answer m) w = w
 
-module _ (s : State) where
+module _ (s : MainState) where
   abbrev ResultMatches : Requester.Result → Type 0
   ResultMatches x = HandedMatches (s .newest) (x .handed)
 
   nothing-matches : HandedMatches (s .newest) Requester.nothing
-  unfolding reportOf
+  unfolding handedReportOf
   nothing-matches = tt
 
-  closes-matches : (bs : Option (List ℕ)) → ResultMatches (Requester.closes bs (Requester.withReceived s (some [])))
+  closes-matches : (bs : Option (List ℕ)) → ResultMatches (Requester.mainClosed bs (Requester.mainWithReceived s (some [])))
   closes-matches none = nothing-matches
   closes-matches (some []) = nothing-matches
   closes-matches (some (b ∷ bs)) = settled-matches (s .newest) (s .recovery) (isSome (s .kept)) _ (heard-matches (s .newest) (judge (b ∷ bs)))
 
-  more-matches : (bs : Option (List ℕ)) (b : ℕ) → ResultMatches (Requester.more bs b s)
+  more-matches : (bs : Option (List ℕ)) (b : ℕ) → ResultMatches (Requester.mainMore bs b s)
   more-matches none b = nothing-matches
   more-matches (some bs) b =
       cond-by ResultMatches (ltb (length bs) longest-form) _ _ (λ _. nothing-matches) (λ _. settled-matches (s .newest) (s .recovery) (isSome (s .kept)) ground tt)
 
-  byte-matches : (b : ℕ) → ResultMatches (Requester.byte s b)
-  unfolding Requester.byte
+  byte-matches : (b : ℕ) → ResultMatches (Requester.mainByte s b)
+  unfolding Requester.mainByte
   byte-matches b = cond-by ResultMatches (eqb b 0) _ _ (λ _. closes-matches (s .received)) (λ _. more-matches (s .received) b)
 
-receive-matches : (piece : List ℕ) (s : State) → HandedMatches (s .newest) (Requester.receive s piece .result .handed)
+receive-matches : (piece : List ℕ) (s : MainState) → HandedMatches (s .newest) (Requester.receive s piece .result .handed)
 unfolding Requester.receive
 receive-matches [] s = nothing-matches s
-receive-matches (b ∷ bs) s = by (Requester.stops s b) refl (λ x. receive-matches bs (Requester.withReceived s x))
+receive-matches (b ∷ bs) s = by (Requester.stops s b) refl (λ x. receive-matches bs (Requester.mainWithReceived s x))
   where
-    P : Requester.Received → Type 0
+    P : Requester.ReceiveResult → Type 0
     P x = HandedMatches (s .newest) (x .result .handed)
 
-    by : (t : Bool) → Requester.stops s b ≡ t → ((x : Option (List ℕ)) → HandedMatches (s .newest) (Requester.receive (Requester.withReceived s x) bs .result .handed))
-        → let r = Requester.receive (Requester.byte s b .state) bs in P (cond t (Requester.received 1 (Requester.byte s b)) (Requester.received (suc (r .used)) (r .result)))
+    by : (t : Bool) → Requester.stops s b ≡ t → ((x : Option (List ℕ)) → HandedMatches (s .newest) (Requester.receive (Requester.mainWithReceived s x) bs .result .handed))
+        → let r = Requester.receive (Requester.mainByte s b .state) bs in P (cond t (Requester.receiveResult 1 (Requester.mainByte s b)) (Requester.receiveResult (suc (r .used)) (r .result)))
     by true e i = byte-matches s b
     by false e i = rw (quiet-byte s b e) (i (grown (s .received) b))
 
-module _ (s : State) where
-  abbrev MeansMatches : Means → Type 0
+module _ (s : MainState) where
+  abbrev MeansMatches : MainMeans → Type 0
   MeansMatches x = OfAnswer (λ used. MessageMatching (s .newest)) (x .answer) (x .out)
 
-  put-matches : (room : List ℕ) (x : Requester.Done) → MeansMatches (putMeans (x .refusal) room (x .out) (x .state))
+  put-matches : (room : List ℕ) (x : Requester.MainDone) → MeansMatches (putMeans (x .refusal) room (x .out) (x .state))
   put-matches room x = by (x .refusal)
     where
       by : (k : Option ℕ) → MeansMatches (putMeans k room (x .out) (x .state))
       by none = tt
       by (some k) = tt
 
-  done-matches : (k : Option ℕ) (t : State) → MeansMatches (doneMeans k t)
+  done-matches : (k : Option ℕ) (t : MainState) → MeansMatches (mainDoneMeans k t)
   done-matches none t = tt
   done-matches (some k) t = tt
 
-  meant-matches : (c : Call) → MeansMatches (meant s c)
-  unfolding meant
+  meant-matches : (c : MainCall) → MeansMatches (mainMeant s c)
+  unfolding mainMeant
   meant-matches Histories.start = tt
   meant-matches (Histories.request command d room) = put-matches room (Requester.request (length room) (record { command = command; payload = d }) s)
   meant-matches Histories.interrupt = done-matches (Requester.interrupt s .refusal) s
   meant-matches (Histories.send room) = put-matches room (Requester.send (length room) s)
   meant-matches (Histories.receive piece) = receive-matches piece s
 
-  made-matches : (m : Made) → MeansMatches (meantMade s m)
-  unfolding meantMade
-  made-matches m = cond-by MeansMatches (enough (m .call) (m .lent)) _ _ (λ _. meant-matches (m .call)) (λ _. tt)
+  made-matches : (m : MainMade) → MeansMatches (mainMeantMade s m)
+  unfolding mainMeantMade
+  made-matches m = cond-by MeansMatches (mainEnough (m .call) (m .lent)) _ _ (λ _. meant-matches (m .call)) (λ _. tt)
 
-newest-is : (p : Parts) → Layout.numberOf (p .requester) ≡ view p .newest
-unfolding view
+newest-is : (p : MainParts) → Layout.newestNumber (p .requester) ≡ mainView p .newest
+unfolding mainView
 newest-is p = refl
 
 pub answer-matches : OfValid AnswerMatches
 answer-matches p v [] = tt
 answer-matches p v (m ∷ ms) =
     let k = one-call p m v in
-    (rw (k .answer, k .out, newest-is p) (made-matches (view p) m), answer-matches (made p m .parts) (k .valid) ms)
+    (rw (k .answer, k .out, newest-is p) (made-matches (mainView p) m), answer-matches (mainMade p m .parts) (k .valid) ms)
 
 -- ---- at most one answer for each request: what a byte does to it
 
 -- handed out as an answer, or not
 abbrev answersOut : Requester.Handed → ℕ
-answersOut h = answersReported (reportOf h)
+answersOut h = answersReported (handedReportOf h)
 
 -- an answer leaves none outstanding, and one was
-data Counted (k : Bool) (o : Requester.Outcome) : Type 0 where
+data Counted (k : Bool) (o : Requester.HeardOutcome) : Type 0 where
   no-answer : answersOut (o .handed) ≡ 0 → Counted k o
   one-answer : answersOut (o .handed) ≡ 1 → k ≡ true → o .next ≡ Requester.idle → Counted k o
 
-settled-counted : (t : Option Step) (k : Bool) (h : Heard) → Counted k (settled t k h)
-unfolding settled reportOf Requester.fetched
+settled-counted : (t : Option RecoveryStep) (k : Bool) (h : Heard) → Counted k (settle t k h)
+unfolding settle handedReportOf Requester.fetched
 settled-counted none false h = no-answer refl
 settled-counted none true ground = no-answer refl
 settled-counted none true other = no-answer refl
@@ -168,7 +168,7 @@ kept-one : (k : Option Request) → isSome k ≡ true → keptNumber k ≡ 1
 kept-one none e = absurd (false≢true e)
 kept-one (some q) e = refl
 
-moved-kept : (x : Requester.Next) (s : State) → keptNumber (Requester.movedTo x s .state .kept) ≤ keptNumber (s .kept)
+moved-kept : (x : Requester.Next) (s : MainState) → keptNumber (Requester.movedTo x s .state .kept) ≤ keptNumber (s .kept)
 unfolding Requester.movedTo
 moved-kept Requester.same s = omega arith
 moved-kept Requester.again s = omega arith
@@ -176,59 +176,59 @@ moved-kept (Requester.anew t) s =
     cond-by (λ (m : Requester.Moved). keptNumber (m .state .kept) ≤ keptNumber (s .kept)) (leb last-number (s .newest)) _ _ (λ _. omega arith) (λ _. omega arith)
 moved-kept Requester.idle s = omega arith
 
-idle-kept : (s : State) → keptNumber (Requester.movedTo Requester.idle s .state .kept) ≡ 0
+idle-kept : (s : MainState) → keptNumber (Requester.movedTo Requester.idle s .state .kept) ≡ 0
 unfolding Requester.movedTo
 idle-kept s = refl
 
 -- what came of a byte: answers out and kept behind it, against kept ahead of it
-abbrev Balanced : State → Requester.Result → Type 0
+abbrev Balanced : MainState → Requester.Result → Type 0
 Balanced s x = answersOut (x .handed) + keptNumber (x .state .kept) ≤ keptNumber (s .kept)
 
-module _ (s : State) where
-  hears-balanced : (h : Heard) → Balanced s (Requester.hears h s)
-  hears-balanced h = by (settled (s .recovery) (isSome (s .kept)) h) (settled-counted (s .recovery) (isSome (s .kept)) h)
+module _ (s : MainState) where
+  hears-balanced : (h : Heard) → Balanced s (Requester.afterHeard h s)
+  hears-balanced h = by (settle (s .recovery) (isSome (s .kept)) h) (settled-counted (s .recovery) (isSome (s .kept)) h)
     where
-      by : (o : Requester.Outcome) → Counted (isSome (s .kept)) o → answersOut (o .handed) + keptNumber (Requester.movedTo (o .next) s .state .kept) ≤ keptNumber (s .kept)
+      by : (o : Requester.HeardOutcome) → Counted (isSome (s .kept)) o → answersOut (o .handed) + keptNumber (Requester.movedTo (o .next) s .state .kept) ≤ keptNumber (s .kept)
       by o (no-answer e) = omega (arith, moved-kept (o .next) s)
       by o (one-answer e k n) = rw (n, idle-kept s, e) (omega (arith, kept-one (s .kept) k))
 
-nothing-balanced : (s t : State) → t .kept ≡ s .kept → Balanced s (Requester.dropped t)
-unfolding reportOf
+nothing-balanced : (s t : MainState) → t .kept ≡ s .kept → Balanced s (Requester.dropped t)
+unfolding handedReportOf
 nothing-balanced s t e = rw e (omega arith)
 
-module _ (s : State) where
-  closes-balanced : (bs : Option (List ℕ)) → Balanced s (Requester.closes bs (Requester.withReceived s (some [])))
-  closes-balanced none = nothing-balanced s (Requester.withReceived s (some [])) refl
-  closes-balanced (some []) = nothing-balanced s (Requester.withReceived s (some [])) refl
-  closes-balanced (some (b ∷ bs)) = hears-balanced (Requester.withReceived s (some [])) (heard (s .newest) (judge (b ∷ bs)))
+module _ (s : MainState) where
+  closes-balanced : (bs : Option (List ℕ)) → Balanced s (Requester.mainClosed bs (Requester.mainWithReceived s (some [])))
+  closes-balanced none = nothing-balanced s (Requester.mainWithReceived s (some [])) refl
+  closes-balanced (some []) = nothing-balanced s (Requester.mainWithReceived s (some [])) refl
+  closes-balanced (some (b ∷ bs)) = hears-balanced (Requester.mainWithReceived s (some [])) (hear (s .newest) (judge (b ∷ bs)))
 
-  more-balanced : (bs : Option (List ℕ)) (b : ℕ) → Balanced s (Requester.more bs b s)
+  more-balanced : (bs : Option (List ℕ)) (b : ℕ) → Balanced s (Requester.mainMore bs b s)
   more-balanced none b = nothing-balanced s s refl
   more-balanced (some bs) b =
       cond-by (Balanced s) (ltb (length bs) longest-form) _ _
-      (λ _. nothing-balanced s (Requester.withReceived s (some (bs ++ b ∷ []))) refl) (λ _. hears-balanced (Requester.withReceived s none) ground)
+      (λ _. nothing-balanced s (Requester.mainWithReceived s (some (bs ++ b ∷ []))) refl) (λ _. hears-balanced (Requester.mainWithReceived s none) ground)
 
-  byte-balanced : (b : ℕ) → Balanced s (Requester.byte s b)
-  unfolding Requester.byte
+  byte-balanced : (b : ℕ) → Balanced s (Requester.mainByte s b)
+  unfolding Requester.mainByte
   byte-balanced b = cond-by (Balanced s) (eqb b 0) _ _ (λ _. closes-balanced (s .received)) (λ _. more-balanced (s .received) b)
 
-receive-balanced : (piece : List ℕ) (s : State) → Balanced s (Requester.receive s piece .result)
+receive-balanced : (piece : List ℕ) (s : MainState) → Balanced s (Requester.receive s piece .result)
 unfolding Requester.receive
 receive-balanced [] s = nothing-balanced s s refl
-receive-balanced (b ∷ bs) s = by (Requester.stops s b) refl (λ x. receive-balanced bs (Requester.withReceived s x))
+receive-balanced (b ∷ bs) s = by (Requester.stops s b) refl (λ x. receive-balanced bs (Requester.mainWithReceived s x))
   where
-    by : (t : Bool) → Requester.stops s b ≡ t → ((x : Option (List ℕ)) → Balanced s (Requester.receive (Requester.withReceived s x) bs .result))
-        → let r = Requester.receive (Requester.byte s b .state) bs in Balanced s (cond t (Requester.received 1 (Requester.byte s b)) (Requester.received (suc (r .used)) (r .result)) .result)
+    by : (t : Bool) → Requester.stops s b ≡ t → ((x : Option (List ℕ)) → Balanced s (Requester.receive (Requester.mainWithReceived s x) bs .result))
+        → let r = Requester.receive (Requester.mainByte s b .state) bs in Balanced s (cond t (Requester.receiveResult 1 (Requester.mainByte s b)) (Requester.receiveResult (suc (r .used)) (r .result)) .result)
     by true e i = byte-balanced s b
     by false e i = rw (quiet-byte s b e) (i (grown (s .received) b))
 
 -- ---- what a call does to it
 
-module _ (s : State) where
-  abbrev MeansBalanced : Call → Means → Type 0
-  MeansBalanced c x = answersIn (x .answer) + keptNumber (x .state .kept) ≤ requestsIn c (x .answer) + keptNumber (s .kept)
+module _ (s : MainState) where
+  abbrev MeansBalanced : MainCall → MainMeans → Type 0
+  MeansBalanced c x = answersIn (x .answer) + keptNumber (x .state .kept) ≤ requestsByCall c (x .answer) + keptNumber (s .kept)
 
-  abbrev PutBalanced : Call → List ℕ → Requester.Done → Type 0
+  abbrev PutBalanced : MainCall → List ℕ → Requester.MainDone → Type 0
   PutBalanced c room x = MeansBalanced c (putMeans (x .refusal) room (x .out) (x .state))
 
   request-balanced : (command : ℕ) (d room : List ℕ) → let c = Histories.request command d room in
@@ -249,10 +249,10 @@ module _ (s : State) where
           by true = omega arith
           by false = omega arith
 
-  interrupt-balanced : (t : Option Step) → MeansBalanced Histories.interrupt (doneMeans (Requester.interruptedIn t s .refusal) (Requester.interruptedIn t s .state))
+  interrupt-balanced : (t : Option RecoveryStep) → MeansBalanced Histories.interrupt (mainDoneMeans (Requester.interruptedIn t s .refusal) (Requester.interruptedIn t s .state))
   interrupt-balanced (some t) = omega arith
   interrupt-balanced none =
-      cond-by (λ (x : Requester.Done). MeansBalanced Histories.interrupt (doneMeans (x .refusal) (x .state))) (leb last-number (s .newest)) _ _ (λ _. omega arith) (λ _. omega arith)
+      cond-by (λ (x : Requester.MainDone). MeansBalanced Histories.interrupt (mainDoneMeans (x .refusal) (x .state))) (leb last-number (s .newest)) _ _ (λ _. omega arith) (λ _. omega arith)
 
   send-balanced : (room : List ℕ) (q : Option Request) → PutBalanced (Histories.send room) room (Requester.sentOf (length room) q s)
   send-balanced room none = omega arith
@@ -262,42 +262,42 @@ module _ (s : State) where
       (λ _. cond-by (PutBalanced c room) (ltb (length room) (length (requestFrame (s .newest) q))) _ _ (λ _. omega arith) (λ _. omega arith))
       (λ _. omega arith)
 
-  meant-balanced : (c : Call) → MeansBalanced c (meant s c)
-  unfolding meant Requester.interrupt Requester.send fresh
+  meant-balanced : (c : MainCall) → MeansBalanced c (mainMeant s c)
+  unfolding mainMeant Requester.interrupt Requester.send mainFresh
   meant-balanced Histories.start = omega arith
   meant-balanced (Histories.request command d room) = request-balanced command d room
   meant-balanced Histories.interrupt = interrupt-balanced (s .recovery)
   meant-balanced (Histories.send room) = send-balanced room (outstanding s)
   meant-balanced (Histories.receive piece) = rw zero-add (receive-balanced piece s)
 
-  made-balanced : (m : Made) → MeansBalanced (m .call) (meantMade s m)
-  unfolding meantMade
-  made-balanced m = cond-by (MeansBalanced (m .call)) (enough (m .call) (m .lent)) _ _ (λ _. meant-balanced (m .call)) (λ _. omega arith)
+  made-balanced : (m : MainMade) → MeansBalanced (m .call) (mainMeantMade s m)
+  unfolding mainMeantMade
+  made-balanced m = cond-by (MeansBalanced (m .call)) (mainEnough (m .call) (m .lent)) _ _ (λ _. meant-balanced (m .call)) (λ _. omega arith)
 
-kept-is : (p : Parts) → view p .kept ≡ keptOf (p .requester)
-unfolding view
+kept-is : (p : MainParts) → mainView p .kept ≡ keptRequestOf (p .requester)
+unfolding mainView
 kept-is p = refl
 
 -- ---- the claim
 
 pub answers-counted : OfValid AnswersCounted
-unfolding answers requests left
+unfolding answersCounted requestsCounted mainLeft
 answers-counted p v [] = omega arith
 answers-counted p v (m ∷ ms) =
     let k = one-call p m v in
-    let i = answers-counted (made p m .parts) (k .valid) ms in
-    let b = rw (← k .answer, ← k .state, kept-is, kept-is) at (made-balanced (view p) m) in
+    let i = answers-counted (mainMade p m .parts) (k .valid) ms in
+    let b = rw (← k .answer, ← k .state, kept-is, kept-is) at (made-balanced (mainView p) m) in
     omega arith
 
-fresh-none : fresh .kept ≡ none
-unfolding fresh
+fresh-none : mainFresh .kept ≡ none
+unfolding mainFresh
 fresh-none = refl
 
 pub one-answer-each : OfStarted OneAnswerEach
 one-answer-each p l h ms =
     let k = started p l h in
-    let q = begun p l in
-    let e : keptOf (q .requester) ≡ none = sym (kept-is q) ∙ rw (k .state) fresh-none in
+    let q = mainStarted p l in
+    let e : keptRequestOf (q .requester) ≡ none = sym (kept-is q) ∙ rw (k .state) fresh-none in
     let i = rw e at (answers-counted q (k .valid) ms) in
     omega arith
 

@@ -10,24 +10,24 @@ use lib.Seq.{append-snoc}
 use borrow.Author.Tests.{eqb-false}
 use Rattle.line.proofs.State.{valid-ready}
 use Rattle.requester.specs.Calls
-use Rattle.requester.specs.Calls.{Parts, parts, reportOf, PartsValid}
+use Rattle.requester.specs.Calls.{MainParts, handedReportOf, MainPartsValid}
 use Rattle.requester.proofs.ValidLaws.{valid-parts}
 use Rattle.requester_claims.specs.Histories
-use Rattle.requester_claims.specs.Histories.{Call, Answer, refused, done, put, received, Did, did, dataGiven, receiptDid, enough, Made, made}
+use Rattle.requester_claims.specs.Histories.{MainCall, MainAnswer, refused, done, put, received, MainDid, mainDid, handedDataIn, receiptDid, mainEnough, MainMade, mainMade}
 use Rattle.requester_claims.proofs.OneByte.{Fed, feed, stopsAt, Walked, walked, walk}
 use Rattle.requester_claims.proofs.ByteClaim.{feed-follows, feed-quiet, received-walk}
 use Rattle.requester_claims.proofs.CallClaims.{report-received}
 use Rattle.requester_claims.proofs.LentCalls.{whole, too-little}
 use Rattle.requester_claims.proofs.History.{one-call, valid-long-enough, started}
 use Rattle.requester_claims.specs.Histories.{OfStarted, OfValid}
-use Rattle.requester_claims.specs.Item2.{Cut, CutBetween}
-use Rattle.requester_claims.specs.Cuts.{events, Read, Listener, listening, answeredBy, afterRead, afterReads, heard, leftBy}
+use Rattle.requester_claims.specs.Item2.{MainCut, CutBetween}
+use Rattle.requester_claims.specs.Cuts.{handedEvents, MainRead, Listener, listening, answeredBy, afterMainRead, afterMainReads, stretchOutputs, leftByStretches}
 
 -- ---- byte by byte
 
 fedTo : Listener → List ℕ → Fed → Listener
 fedTo x bs f = record {
-  handed = x .handed ++ events (reportOf (f .handed)) (dataGiven (reportOf (f .handed)) (f .parts .reader)) (f .ended);
+  handed = x .handed ++ handedEvents (handedReportOf (f .handed)) (handedDataIn (handedReportOf (f .handed)) (f .parts .reader)) (f .ended);
   bytes = x .bytes ++ bs;
   parts = f .parts;
 }
@@ -50,21 +50,21 @@ stream-read x [] = sym (append-nil (x .bytes))
 stream-read x (b ∷ bs) = stream-read (afterByte x b) bs ∙ append-snoc (x .bytes) b bs
 
 -- a byte that does not stop a call hands nothing out
-quiet : (x : Listener) (b : ℕ) → PartsValid (x .parts) → stopsAt (x .parts .reader) b ≡ false
+quiet : (x : Listener) (b : ℕ) → MainPartsValid (x .parts) → stopsAt (x .parts .reader) b ≡ false
     → afterByte x b ≡ record { handed = x .handed; bytes = x .bytes ++ b ∷ []; parts = feed (x .parts) b .parts }
-unfolding afterByte fedTo events reportOf
+unfolding afterByte fedTo handedEvents handedReportOf
 quiet x zero v e = absurd (false≢true (sym e))
 quiet x (suc b) v e =
     let p = x .parts in
     rw (feed-quiet p (valid-ready (p .reader) (v .reader)) b (eqb-false _ _ (rw eqb·suc-zero at e)), append-nil)
 
 -- more bytes behind those of a byte that hands nothing out
-fed-later : (x : Listener) (b : ℕ) (cs : List ℕ) (f : Fed) → PartsValid (x .parts) → stopsAt (x .parts .reader) b ≡ false → fedTo x (b ∷ cs) f ≡ fedTo (afterByte x b) cs f
+fed-later : (x : Listener) (b : ℕ) (cs : List ℕ) (f : Fed) → MainPartsValid (x .parts) → stopsAt (x .parts .reader) b ≡ false → fedTo x (b ∷ cs) f ≡ fedTo (afterByte x b) cs f
 unfolding fedTo
 fed-later x b cs f v e = rw (quiet x b v e) (rw append-snoc)
 
-walk-stream : (piece : List ℕ) (x : Listener) → PartsValid (x .parts) → let w = walk (x .parts) piece in fedTo x (take (w .used) piece) (w .fed) ≡ stream x (take (w .used) piece)
-unfolding walk stream fedTo afterByte events reportOf
+walk-stream : (piece : List ℕ) (x : Listener) → MainPartsValid (x .parts) → let w = walk (x .parts) piece in fedTo x (take (w .used) piece) (w .fed) ≡ stream x (take (w .used) piece)
+unfolding walk stream fedTo afterByte handedEvents handedReportOf
 walk-stream [] x v = rw (append-nil, append-nil)
 walk-stream (b ∷ bs) x v =
     by (stopsAt (x .parts .reader) b) refl (walk-stream bs (afterByte x b) (feed-follows (x .parts) v b .valid))
@@ -82,70 +82,70 @@ walk-stream (b ∷ bs) x v =
 
 -- ---- one call
 
-abbrev usedOf : Answer → ℕ
+abbrev usedOf : MainAnswer → ℕ
 usedOf (refused n) = 0
 usedOf done = 0
 usedOf (put n) = 0
 usedOf (received used t e u) = used
 
 -- the bytes that a call reads
-abbrev pub bytesRead : Listener → Read → List ℕ
-bytesRead x c = take (usedOf (made (x .parts) (record { lent = c .lent; call = Histories.receive (c .piece) }) .answer)) (c .piece)
+abbrev pub bytesRead : Listener → MainRead → List ℕ
+bytesRead x c = take (usedOf (mainMade (x .parts) (record { lent = c .lent; call = Histories.receive (c .piece) }) .answer)) (c .piece)
 
-did-stream : (x : Listener) (c : Read) → PartsValid (x .parts) → let d = did (x .parts) (Histories.receive (c .piece)) in
+did-stream : (x : Listener) (c : MainRead) → MainPartsValid (x .parts) → let d = mainDid (x .parts) (Histories.receive (c .piece)) in
     answeredBy x c (d .answer) (d .out) (d .parts) ≡ stream x (take (usedOf (d .answer)) (c .piece))
-unfolding did Calls.receiving receiptDid fedTo
+unfolding mainDid Calls.mainReceivePromise receiptDid fedTo
 did-stream x c v =
     let p = x .parts in
     let w = walk p (c .piece) in
     rw (valid-parts p v, received-walk (c .piece) p (valid-ready (p .reader) (v .reader)), report-received (w .used) (w .fed .handed) (w .fed .ended) _)
     (walk-stream (c .piece) x v)
 
-call-stream : (x : Listener) (c : Read) → PartsValid (x .parts) → afterRead x c ≡ stream x (bytesRead x c)
-unfolding afterRead stream
-call-stream x c v = by (enough call (c .lent)) refl
+call-stream : (x : Listener) (c : MainRead) → MainPartsValid (x .parts) → afterMainRead x c ≡ stream x (bytesRead x c)
+unfolding afterMainRead stream
+call-stream x c v = by (mainEnough call (c .lent)) refl
   where
-    call : Call
+    call : MainCall
     call = Histories.receive (c .piece)
 
-    p : Parts
+    p : MainParts
     p = x .parts
 
     -- what a call did, and the bytes that it read
-    P : Did → Type 0
+    P : MainDid → Type 0
     P d = answeredBy x c (d .answer) (d .out) (d .parts) ≡ stream x (take (usedOf (d .answer)) (c .piece))
 
-    by : (t : Bool) → enough call (c .lent) ≡ t → P (made p (record { lent = c .lent; call = call }))
+    by : (t : Bool) → mainEnough call (c .lent) ≡ t → P (mainMade p (record { lent = c .lent; call = call }))
     by true e = rw (whole (c .lent) p (valid-long-enough p v) call e) (did-stream x c v)
     by false e = rw (too-little (c .lent) p call e) refl
 
 -- ---- receives, one after the other
 
-call-valid : (x : Listener) (c : Read) → PartsValid (x .parts) → PartsValid (afterRead x c .parts)
-unfolding afterRead
+call-valid : (x : Listener) (c : MainRead) → MainPartsValid (x .parts) → MainPartsValid (afterMainRead x c .parts)
+unfolding afterMainRead
 call-valid x c v =
-    let m : Made = record { lent = c .lent; call = Histories.receive (c .piece) } in
-    by (made (x .parts) m .answer) (made (x .parts) m .out) (one-call (x .parts) m v .valid)
+    let m : MainMade = record { lent = c .lent; call = Histories.receive (c .piece) } in
+    by (mainMade (x .parts) m .answer) (mainMade (x .parts) m .out) (one-call (x .parts) m v .valid)
   where
-    by : (a : Answer) (d : List ℕ) {p : Parts} → PartsValid p → PartsValid (answeredBy x c a d p .parts)
+    by : (a : MainAnswer) (d : List ℕ) {p : MainParts} → MainPartsValid p → MainPartsValid (answeredBy x c a d p .parts)
     by (refused n) d w = w
     by done d w = w
     by (put n) d w = w
     by (received used t e u) d w = w
 
-reads-valid : (x : Listener) (cs : List Read) → PartsValid (x .parts) → PartsValid (afterReads x cs .parts)
-unfolding afterReads
+reads-valid : (x : Listener) (cs : List MainRead) → MainPartsValid (x .parts) → MainPartsValid (afterMainReads x cs .parts)
+unfolding afterMainReads
 reads-valid x [] v = v
-reads-valid x (c ∷ cs) v = reads-valid (afterRead x c) cs (call-valid x c v)
+reads-valid x (c ∷ cs) v = reads-valid (afterMainRead x c) cs (call-valid x c v)
 
-reads-stream : (x : Listener) (cs : List Read) → PartsValid (x .parts) → (bs : List ℕ) × (afterReads x cs ≡ stream x bs)
-unfolding afterReads stream
+reads-stream : (x : Listener) (cs : List MainRead) → MainPartsValid (x .parts) → (bs : List ℕ) × (afterMainReads x cs ≡ stream x bs)
+unfolding afterMainReads stream
 reads-stream x [] v = ([], refl)
 reads-stream x (c ∷ cs) v =
-    let q = reads-stream (afterRead x c) cs (call-valid x c v) in
+    let q = reads-stream (afterMainRead x c) cs (call-valid x c v) in
     (bytesRead x c ++ q .0, q .1 ∙ ap (λ y. stream y (q .0)) (call-stream x c v) ∙ sym (stream-append x (bytesRead x c) (q .0)))
 
-pub cut : OfValid Cut
+pub cut : OfValid MainCut
 cut p v cs ds e =
     let x = reads-stream (listening p) cs v in
     let y = reads-stream (listening p) ds v in
@@ -155,15 +155,15 @@ cut p v cs ds e =
 -- ---- between other calls
 
 pub cut-between : OfValid CutBetween
-unfolding heard leftBy
+unfolding stretchOutputs leftByStretches
 cut-between p v [] [] h = (refl, refl)
 cut-between p v [] (t ∷ ts) h = absurd h
 cut-between p v (s ∷ ss) [] h = absurd h
 cut-between p v (s ∷ ss) (t ∷ ts) h =
     let c = cut p v (s .reads) (t .reads) (h .0) in
-    let x = afterReads (listening p) (s .reads) in
+    let x = afterMainReads (listening p) (s .reads) in
     let w = one-call (x .parts) (s .behind) (reads-valid (listening p) (s .reads) v) .valid in
-    let i = cut-between (made (x .parts) (s .behind) .parts) w ss ts (h .2) in
+    let i = cut-between (mainMade (x .parts) (s .behind) .parts) w ss ts (h .2) in
     rw (← c, ← h .1) (rw (i .0), i .1)
 
 pub cut-between-started : OfStarted CutBetween

@@ -15,12 +15,12 @@ use Rattle.octets.proofs.Overlay.{length-overlay, overlay-inside, overlay-part}
 use Rattle.octets.proofs.SameBytes.{Same, same-within, number-same, same-before, same-after}
 use Rattle.line.specs.Limits.{longest-data}
 use Rattle.requester.specs.Limits.{last-number}
-use Rattle.requester.specs.State.{state}
+use Rattle.requester.specs.State.{mainState}
 use Rattle.requester.specs.Requester.{staysOut}
 use Rattle.requester.specs.Layout
 use Rattle.requester.specs.Calls.{progressed}
 use Rattle.requester.proofs.ValidLaws.{RequesterValid}
-use Rattle.requester_claims.specs.View.{keptOf, held}
+use Rattle.requester_claims.specs.View.{keptRequestOf, held}
 
 -- the number of one byte
 number-byte : (v : ℕ) → number (v ∷ []) ≡ v
@@ -28,16 +28,16 @@ unfolding number
 number-byte v = omega arith
 
 -- the request kept lies behind the first fields
-module _ {r s : List ℕ} (same : Same Layout.command-offset Layout.requester-length r s) (size : Layout.lengthOf r ≤ longest-data) where
-  command-same : Layout.commandOf s ≡ Layout.commandOf r
+module _ {r s : List ℕ} (same : Same Layout.command-offset Layout.requester-length r s) (size : Layout.keptLength r ≤ longest-data) where
+  command-same : Layout.keptCommand s ≡ Layout.keptCommand r
   command-same = number-same same 1 Layout.command-offset (omega arith)
 
-  length-same : Layout.lengthOf s ≡ Layout.lengthOf r
+  length-same : Layout.keptLength s ≡ Layout.keptLength r
   length-same = number-same same 2 Layout.length-offset (omega arith)
 
   request-same : Layout.keptRequest s ≡ Layout.keptRequest r
   unfolding Layout.keptRequest
-  request-same = rw (command-same, length-same, same .runs Layout.data-offset (Layout.lengthOf r) (omega arith))
+  request-same = rw (command-same, length-same, same .runs Layout.kept-data-offset (Layout.keptLength r) (omega arith))
 
 -- ---- the first fields
 
@@ -46,7 +46,7 @@ module _ (n t u k : ℕ) (r : List ℕ) (v : RequesterValid r) where
   fields = progressed n t u k r
 
   module _ (small : n ≤ last-number) where
-    pub progressed-number : Layout.numberOf fields ≡ n
+    pub progressed-number : Layout.newestNumber fields ≡ n
     unfolding progressed bytes
     progressed-number =
         ap number (overlay-part 0 0 8 (bytes 8 n ++ t ∷ u ∷ k ∷ []) r (omega arith) (omega arith)) ∙ number-bytes 8 n (omega arith)
@@ -59,7 +59,7 @@ module _ (n t u k : ℕ) (r : List ℕ) (v : RequesterValid r) where
   unfolding progressed bytes
   progressed-unsent = ap number (overlay-part 0 9 1 (bytes 8 n ++ t ∷ u ∷ k ∷ []) r (omega arith) (omega arith)) ∙ number-byte u
 
-  pub progressed-kept : Layout.keptOf fields ≡ k
+  pub progressed-kept : Layout.keptFlag fields ≡ k
   unfolding progressed bytes
   progressed-kept = ap number (overlay-part 0 10 1 (bytes 8 n ++ t ∷ u ∷ k ∷ []) r (omega arith) (omega arith)) ∙ number-byte k
 
@@ -74,8 +74,8 @@ module _ (n t u k : ℕ) (r : List ℕ) (v : RequesterValid r) where
   -- what they hold, with the request kept where there is one
   module _ (small : n ≤ last-number) where
     pub progressed-held : (bs : Option (List ℕ))
-        → held fields bs ≡ state n (cond (eqb k 1) (some (Layout.keptRequest r)) none) (Layout.stepAt t) (eqb u 1) bs
-    unfolding keptOf
+        → held fields bs ≡ mainState n (cond (eqb k 1) (some (Layout.keptRequest r)) none) (Layout.stepAt t) (eqb u 1) bs
+    unfolding keptRequestOf
     progressed-held bs =
         rw (progressed-number small, progressed-recovery, progressed-unsent, progressed-kept, request-same progressed-same (v .size))
 
@@ -111,8 +111,8 @@ module _ (u : ℕ) (r : List ℕ) (v : RequesterValid r) where
   flagged-unsent : Layout.unsentOf flagged ≡ u
   flagged-unsent = ap number (overlay-inside Layout.unsent-offset (u ∷ []) r (omega (arith, v .long))) ∙ number-byte u
 
-  pub flagged-held : (bs : Option (List ℕ)) → held flagged bs ≡ state (Layout.numberOf r) (keptOf r) (Layout.stepOf r) (eqb u 1) bs
-  unfolding keptOf
+  pub flagged-held : (bs : Option (List ℕ)) → held flagged bs ≡ mainState (Layout.newestNumber r) (keptRequestOf r) (Layout.recoveryStep r) (eqb u 1) bs
+  unfolding keptRequestOf
   flagged-held bs =
       rw (
         number-same before 8 Layout.number-offset (omega arith),
@@ -151,17 +151,17 @@ module _ (command : ℕ) (d r : List ℕ) (v : RequesterValid r) (l : length d �
   ahead : Same 0 Layout.command-offset r asked
   ahead = same-before Layout.command-offset (command ∷ bytes 2 (length d) ++ d) r (omega (arith, v .long)) (omega arith)
 
-  asked-command : Layout.commandOf asked ≡ command
+  asked-command : Layout.keptCommand asked ≡ command
   unfolding bytes
   asked-command =
       ap number (overlay-part Layout.command-offset 0 1 (command ∷ bytes 2 (length d) ++ d) r (omega (arith, v .long)) (omega arith)) ∙ number-byte command
 
-  asked-length : Layout.lengthOf asked ≡ length d
+  asked-length : Layout.keptLength asked ≡ length d
   unfolding bytes
   asked-length =
       ap number (overlay-part Layout.command-offset 1 2 (command ∷ bytes 2 (length d) ++ d) r (omega (arith, v .long)) (omega arith)) ∙ number-bytes 2 (length d) (omega arith)
 
-  asked-data : run Layout.data-offset (length d) asked ≡ d
+  asked-data : run Layout.kept-data-offset (length d) asked ≡ d
   unfolding bytes
   asked-data =
       overlay-part Layout.command-offset 3 (length d) (command ∷ bytes 2 (length d) ++ d) r (omega (arith, v .long)) (omega arith) ∙ take-length d
@@ -171,8 +171,8 @@ module _ (command : ℕ) (d r : List ℕ) (v : RequesterValid r) (l : length d �
   asked-long = length-overlay Layout.command-offset (command ∷ bytes 2 (length d) ++ d) r (omega (arith, v .long))
 
   pub asked-held : (bs : Option (List ℕ))
-      → held asked bs ≡ state (Layout.numberOf r) (cond (Layout.isKept r) (some (record { command = command; payload = d })) none) (Layout.stepOf r) (eqb (Layout.unsentOf r) 1) bs
-  unfolding keptOf Layout.keptRequest
+      → held asked bs ≡ mainState (Layout.newestNumber r) (cond (Layout.isKept r) (some (record { command = command; payload = d })) none) (Layout.recoveryStep r) (eqb (Layout.unsentOf r) 1) bs
+  unfolding keptRequestOf Layout.keptRequest
   asked-held bs =
       rw (
         number-same ahead 8 Layout.number-offset (omega arith),

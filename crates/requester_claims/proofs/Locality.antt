@@ -23,7 +23,7 @@ use Rattle.requester.specs.Requester.{Heard, staysOut}
 use Rattle.requester.specs.Layout
 use Rattle.requester.specs.Valid.{validRequester}
 use Rattle.requester.specs.Calls
-use Rattle.requester.specs.Calls.{Parts, parts, progressed, heardOf, outcomeOf}
+use Rattle.requester.specs.Calls.{MainParts, mainParts, progressed, heardOf, heardOutcomeOf}
 use Rattle.requester.proofs.ValidLaws.{requester-valid, parts-valid}
 use Rattle.requester.proofs.ProgressLaws.{length-progressed}
 use Rattle.requester.proofs.ReaderLaws.{read-leaves}
@@ -31,14 +31,14 @@ use Rattle.requester.proofs.ReaderLaws.{read-leaves}
 -- ---- the main processor's part
 
 -- the same answer and room, and the part with more behind it
-abbrev putBehind : List ℕ → Calls.Put → Calls.Put
-putBehind u t = Calls.putBy (t .report) (t .out) (t .requester ++ u)
+abbrev putBehind : List ℕ → Calls.PutOutcome → Calls.PutOutcome
+putBehind u t = Calls.putOutcome (t .report) (t .out) (t .requester ++ u)
 
-abbrev interruptBehind : List ℕ → Calls.Interrupt → Calls.Interrupt
-interruptBehind u t = Calls.interruptBy (t .refusal) (t .requester ++ u)
+abbrev interruptBehind : List ℕ → Calls.InterruptOutcome → Calls.InterruptOutcome
+interruptBehind u t = Calls.interruptOutcome (t .refusal) (t .requester ++ u)
 
-abbrev movedBehind : List ℕ → Calls.Moved → Calls.Moved
-movedBehind u m = Calls.movedBy (m .ended) (m .requester ++ u)
+abbrev movedBehind : List ℕ → Calls.PartMoved → Calls.PartMoved
+movedBehind u m = Calls.partMoved (m .ended) (m .requester ++ u)
 
 module _ (t u : List ℕ) (long : Layout.requester-length ≤ length t) where
   number-behind : (k at : ℕ) → at + k ≤ Layout.requester-length → numberAt k (t ++ u) at ≡ numberAt k t at
@@ -66,14 +66,14 @@ module _ (t u : List ℕ) (long : Layout.requester-length ≤ length t) where
   unfolding Layout.isUnsent
   unsent-behind = rw (outstanding-behind, number-behind 1 Layout.unsent-offset (omega arith))
 
-  request-behind : Layout.lengthOf t ≤ longest-data → Layout.outRequest (t ++ u) ≡ Layout.outRequest t
+  request-behind : Layout.keptLength t ≤ longest-data → Layout.outRequest (t ++ u) ≡ Layout.outRequest t
   unfolding Layout.outRequest Layout.keptRequest
   request-behind h =
       rw (
         number-behind 1 Layout.recovery-offset (omega arith),
         number-behind 1 Layout.command-offset (omega arith),
         number-behind 2 Layout.length-offset (omega arith),
-        run-append t u Layout.data-offset (Layout.lengthOf t) (omega arith),
+        run-append t u Layout.kept-data-offset (Layout.keptLength t) (omega arith),
       )
 
   progressed-behind : (a b c d : ℕ) → progressed a b c d (t ++ u) ≡ progressed a b c d t ++ u
@@ -94,74 +94,74 @@ module _ (t u : List ℕ) (long : Layout.requester-length ≤ length t) where
   unfolding Calls.putInto
   put-behind bs room x e = cond-map (putBehind u) (ltb (length room) (length bs)) (λ _. refl) (λ _. rw e)
 
-  pub requesting-behind : (command : ℕ) (d room : List ℕ) → Calls.requesting (t ++ u) command d room ≡ putBehind u (Calls.requesting t command d room)
-  unfolding Calls.requesting
+  pub requesting-behind : (command : ℕ) (d room : List ℕ) → Calls.requestPromise (t ++ u) command d room ≡ putBehind u (Calls.requestPromise t command d room)
+  unfolding Calls.requestPromise
   requesting-behind command d room =
       rw (valid-behind, outstanding-behind, number-behind 8 Layout.number-offset (omega arith))
       (cond-map (putBehind u) (validRequester t) (λ _.
       cond-map (putBehind u) (ltb longest-data (length d)) (λ _. refl) (λ e.
       cond-map (putBehind u) (Layout.isOutstanding t) (λ _. refl) (λ _.
-      cond-map (putBehind u) (leb last-number (Layout.numberOf t)) (λ _. refl) (λ _.
-      put-behind (requestFrame (suc (Layout.numberOf t)) (record { command = command; payload = d })) room _ (kept-behind (suc (Layout.numberOf t)) command d (ltb-false _ _ e))))))
+      cond-map (putBehind u) (leb last-number (Layout.newestNumber t)) (λ _. refl) (λ _.
+      put-behind (requestFrame (suc (Layout.newestNumber t)) (record { command = command; payload = d })) room _ (kept-behind (suc (Layout.newestNumber t)) command d (ltb-false _ _ e))))))
       (λ _. refl))
 
-  pub sending-behind : (room : List ℕ) → Calls.sending (t ++ u) room ≡ putBehind u (Calls.sending t room)
-  unfolding Calls.sending
+  pub sending-behind : (room : List ℕ) → Calls.sendPromise (t ++ u) room ≡ putBehind u (Calls.sendPromise t room)
+  unfolding Calls.sendPromise
   sending-behind room =
       rw (valid-behind, unsent-behind, number-behind 8 Layout.number-offset (omega arith))
       (cond-map (putBehind u) (validRequester t) (λ v.
       rw (request-behind (requester-valid t v .size))
-      (cond-map (putBehind u) (Layout.isUnsent t) (λ _. put-behind (requestFrame (Layout.numberOf t) (Layout.outRequest t)) room _ (flag-behind 0)) (λ _. refl)))
+      (cond-map (putBehind u) (Layout.isUnsent t) (λ _. put-behind (requestFrame (Layout.newestNumber t) (Layout.outRequest t)) room _ (flag-behind 0)) (λ _. refl)))
       (λ _. refl))
 
-  pub interrupting-behind : Calls.interrupting (t ++ u) ≡ interruptBehind u (Calls.interrupting t)
-  unfolding Calls.interrupting
+  pub interrupting-behind : Calls.interruptPromise (t ++ u) ≡ interruptBehind u (Calls.interruptPromise t)
+  unfolding Calls.interruptPromise
   interrupting-behind =
       rw (valid-behind, number-behind 1 Layout.recovery-offset (omega arith), number-behind 8 Layout.number-offset (omega arith), number-behind 1 Layout.kept-offset (omega arith))
       (cond-map (interruptBehind u) (validRequester t) (λ _.
       cond-map (interruptBehind u) (eqb (Layout.recoveryOf t) 0) (λ _.
-      cond-map (interruptBehind u) (leb last-number (Layout.numberOf t)) (λ _. refl) (λ _. rw (progressed-behind (suc (Layout.numberOf t)) _ 1 (Layout.keptOf t))))
+      cond-map (interruptBehind u) (leb last-number (Layout.newestNumber t)) (λ _. refl) (λ _. rw (progressed-behind (suc (Layout.newestNumber t)) _ 1 (Layout.keptFlag t))))
       (λ _. refl))
       (λ _. refl))
 
-  outcome-behind : (h : Option Heard) → outcomeOf (t ++ u) h ≡ outcomeOf t h
-  unfolding outcomeOf
+  outcome-behind : (h : Option Heard) → heardOutcomeOf (t ++ u) h ≡ heardOutcomeOf t h
+  unfolding heardOutcomeOf
   outcome-behind none = refl
   outcome-behind (some h) = rw (number-behind 1 Layout.recovery-offset (omega arith), number-behind 1 Layout.kept-offset (omega arith))
 
-  moved-behind : (x : Requester.Next) → Calls.movedTo x (t ++ u) ≡ movedBehind u (Calls.movedTo x t)
-  unfolding Calls.movedTo
+  moved-behind : (x : Requester.Next) → Calls.partMovedTo x (t ++ u) ≡ movedBehind u (Calls.partMovedTo x t)
+  unfolding Calls.partMovedTo
   moved-behind Requester.same = refl
   moved-behind Requester.again = rw (flag-behind 1)
   moved-behind (Requester.anew s) =
       rw (number-behind 8 Layout.number-offset (omega arith), number-behind 1 Layout.kept-offset (omega arith))
-      (cond-map (movedBehind u) (leb last-number (Layout.numberOf t)) (λ _. rw (progressed-behind (Layout.numberOf t) 0 0 0))
-      (λ _. rw (progressed-behind (suc (Layout.numberOf t)) _ 1 (Layout.keptOf t))))
-  moved-behind Requester.idle = rw (number-behind 8 Layout.number-offset (omega arith), progressed-behind (Layout.numberOf t) 0 0 0)
+      (cond-map (movedBehind u) (leb last-number (Layout.newestNumber t)) (λ _. rw (progressed-behind (Layout.newestNumber t) 0 0 0))
+      (λ _. rw (progressed-behind (suc (Layout.newestNumber t)) _ 1 (Layout.keptFlag t))))
+  moved-behind Requester.idle = rw (number-behind 8 Layout.number-offset (omega arith), progressed-behind (Layout.newestNumber t) 0 0 0)
 
-  moved-long : (x : Requester.Next) → length (Calls.movedTo x t .requester) ≡ length t
-  unfolding Calls.movedTo
+  moved-long : (x : Requester.Next) → length (Calls.partMovedTo x t .requester) ≡ length t
+  unfolding Calls.partMovedTo
   moved-long Requester.same = refl
   moved-long Requester.again = length-overlay Layout.unsent-offset (1 ∷ []) t (omega arith)
   moved-long (Requester.anew s) =
-      cond-by (λ (m : Calls.Moved). length (m .requester) ≡ length t) (leb last-number (Layout.numberOf t)) _ _
+      cond-by (λ (m : Calls.PartMoved). length (m .requester) ≡ length t) (leb last-number (Layout.newestNumber t)) _ _
       (λ _. length-progressed t long _ 0 0 0) (λ _. length-progressed t long _ _ 1 _)
   moved-long Requester.idle = length-progressed t long _ 0 0 0
 
 -- ---- the line reader's part
 
-abbrev outcomeBehind : List ℕ → LineReader.Outcome → LineReader.Outcome
+abbrev outcomeBehind : List ℕ → LineReader.ReadOutcome → LineReader.ReadOutcome
 outcomeBehind u o = record { used = o .used; answer = o .answer; state = o .state ++ u }
 
 read-behind : (piece s u : List ℕ) → Ready s → LineReader.readPiece (s ++ u) piece ≡ outcomeBehind u (LineReader.readPiece s piece)
-unfolding LineReader.readPiece LineReader.next
+unfolding LineReader.readPiece LineReader.oneByteLater
 read-behind [] s u r = refl
 read-behind (zero ∷ bs) s u r = rw (finish-append s u (r .0))
 read-behind (suc b ∷ bs) s u r =
     let p = ready-pushed s (suc b) r in
     rw (eqb·suc-zero, pushed-append s u (r .0) (suc b)) (rw (read-behind bs (LineReader.pushed s (suc b)) u (omega (arith, r .0), p .1)))
 
-heard-behind : (n : ℕ) (s u : List ℕ) → LineReader.state-length ≤ length s → (a : LineReader.Report) → heardOf n (s ++ u) a ≡ heardOf n s a
+heard-behind : (n : ℕ) (s u : List ℕ) → LineReader.reader-length ≤ length s → (a : LineReader.ReadReport) → heardOf n (s ++ u) a ≡ heardOf n s a
 unfolding heardOf
 heard-behind n s u h (LineReader.refused k) = refl
 heard-behind n s u h LineReader.more = rw (count-append s u h)
@@ -171,49 +171,49 @@ heard-behind n s u h (LineReader.message version sequence command k) = rw (dataO
 
 -- ---- both parts
 
-abbrev pub partsBehind : List ℕ → List ℕ → Parts → Parts
-partsBehind a u p = parts (p .reader ++ a) (p .requester ++ u)
+abbrev pub partsBehind : List ℕ → List ℕ → MainParts → MainParts
+partsBehind a u p = mainParts (p .reader ++ a) (p .requester ++ u)
 
-abbrev receiptBehind : List ℕ → List ℕ → Calls.Receipt → Calls.Receipt
+abbrev receiptBehind : List ℕ → List ℕ → Calls.MainReceiveOutcome → Calls.MainReceiveOutcome
 receiptBehind a u x = record { used = x .used; report = x .report; ended = x .ended; unsent = x .unsent; parts = partsBehind a u (x .parts) }
 
-module _ (p : Parts) (a u : List ℕ) (reader : LineReader.state-length ≤ length (p .reader)) (requester : Layout.requester-length ≤ length (p .requester)) where
-  valid-parts-behind : Calls.validParts (partsBehind a u p) ≡ Calls.validParts p
-  unfolding Calls.validParts
+module _ (p : MainParts) (a u : List ℕ) (reader : LineReader.reader-length ≤ length (p .reader)) (requester : Layout.requester-length ≤ length (p .requester)) where
+  valid-parts-behind : Calls.mainValidParts (partsBehind a u p) ≡ Calls.mainValidParts p
+  unfolding Calls.mainValidParts
   valid-parts-behind = rw (valid-append (p .reader) a reader, valid-behind (p .requester) u requester)
 
-  received-behind : Calls.validParts p ≡ true → (piece : List ℕ) → Calls.received (partsBehind a u p) piece ≡ receiptBehind a u (Calls.received p piece)
-  unfolding Calls.received
+  received-behind : Calls.mainValidParts p ≡ true → (piece : List ℕ) → Calls.mainReceiveValid (partsBehind a u p) piece ≡ receiptBehind a u (Calls.mainReceiveValid p piece)
+  unfolding Calls.mainReceiveValid
   received-behind v piece =
       let r = valid-ready (p .reader) (parts-valid p v .reader) in
       let q = Calls.readable (p .reader) piece in
       let o = LineReader.readPiece (p .reader) q in
       let w = read-leaves q (p .reader) r in
-      let h = cond (Calls.isOverlong (p .reader)) none (heardOf (Layout.numberOf (p .requester)) (o .state) (o .answer)) in
-      let x = outcomeOf (p .requester) h in
+      let h = cond (Calls.isOverlong (p .reader)) none (heardOf (Layout.newestNumber (p .requester)) (o .state) (o .answer)) in
+      let x = heardOutcomeOf (p .requester) h in
       rw (
         count-append (p .reader) a reader,
         read-behind q (p .reader) a r,
         number-behind (p .requester) u requester 8 Layout.number-offset (omega arith),
-        heard-behind (Layout.numberOf (p .requester)) (o .state) a (w .ready .0) (o .answer),
+        heard-behind (Layout.newestNumber (p .requester)) (o .state) a (w .ready .0) (o .answer),
         outcome-behind (p .requester) u requester h,
         moved-behind (p .requester) u requester (x .next),
-        unsent-behind (Calls.movedTo (x .next) (p .requester) .requester) u (omega (arith, moved-long (p .requester) u requester (x .next))),
+        unsent-behind (Calls.partMovedTo (x .next) (p .requester) .requester) u (omega (arith, moved-long (p .requester) u requester (x .next))),
       )
 
-  pub receiving-behind : (piece : List ℕ) → Calls.receiving (partsBehind a u p) piece ≡ receiptBehind a u (Calls.receiving p piece)
-  unfolding Calls.receiving
+  pub receiving-behind : (piece : List ℕ) → Calls.mainReceivePromise (partsBehind a u p) piece ≡ receiptBehind a u (Calls.mainReceivePromise p piece)
+  unfolding Calls.mainReceivePromise
   receiving-behind piece =
-      rw valid-parts-behind (cond-map (receiptBehind a u) (Calls.validParts p) (λ v. received-behind v piece) (λ _. refl))
+      rw valid-parts-behind (cond-map (receiptBehind a u) (Calls.mainValidParts p) (λ v. received-behind v piece) (λ _. refl))
 
-  pub starting-behind : Calls.starting (partsBehind a u p) ≡ record { refusal = Calls.starting p .refusal; parts = partsBehind a u (Calls.starting p .parts) }
-  unfolding Calls.starting Calls.longEnough Calls.freshParts LineReader.starting LineReader.counted bytes
+  pub starting-behind : Calls.mainStartPromise (partsBehind a u p) ≡ record { refusal = Calls.mainStartPromise p .refusal; parts = partsBehind a u (Calls.mainStartPromise p .parts) }
+  unfolding Calls.mainStartPromise Calls.mainLongEnough Calls.mainFreshParts LineReader.readerStartPromise LineReader.withCount bytes
   starting-behind =
       rw (
-        le-leb LineReader.state-length (length (p .reader)) reader,
-        le-leb LineReader.state-length (length (p .reader ++ a)) (simp length-append (omega arith)),
+        le-leb LineReader.reader-length (length (p .reader)) reader,
+        le-leb LineReader.reader-length (length (p .reader ++ a)) (simp length-append (omega arith)),
         le-leb Layout.requester-length (length (p .requester)) requester,
         le-leb Layout.requester-length (length (p .requester ++ u)) (simp length-append (omega arith)),
         overlay-append (p .reader) a 0 (bytes 2 0) (omega arith),
-        overlay-append (p .requester) u 0 (replicate Layout.data-offset 0) (omega arith),
+        overlay-append (p .requester) u 0 (replicate Layout.kept-data-offset 0) (omega arith),
       )

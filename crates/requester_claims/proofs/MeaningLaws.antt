@@ -10,9 +10,9 @@ use lib.Dec.{eqb}
 use lib.ListN.{length}
 use borrow.Author.Tests.{eqb-false, leb-false, lt-ltb}
 use Rattle.line.specs.Limits.{longest-form}
-use Rattle.requester.specs.State.{State}
+use Rattle.requester.specs.State.{MainState}
 use Rattle.requester.specs.Requester
-use Rattle.requester.specs.Requester.{byte, dropped}
+use Rattle.requester.specs.Requester.{mainByte, dropped}
 
 either : (a b : Bool) → (a || b) ≡ false → (a ≡ false) × (b ≡ false)
 either true b e = absurd (false≢true (sym e))
@@ -23,18 +23,18 @@ unfoldable pub grown : Option (List ℕ) → ℕ → Option (List ℕ)
 grown none b = none
 grown (some bs) b = some (bs ++ b ∷ [])
 
-quiet-more : (s : State) (b : ℕ) (bs : Option (List ℕ)) → s .received ≡ bs → Requester.fills bs ≡ false
-    → Requester.more bs b s ≡ dropped (Requester.withReceived s (grown bs b))
+quiet-more : (s : MainState) (b : ℕ) (bs : Option (List ℕ)) → s .received ≡ bs → Requester.fills bs ≡ false
+    → Requester.mainMore bs b s ≡ dropped (Requester.mainWithReceived s (grown bs b))
 unfolding grown
-quiet-more s b none e f = ap (λ (x : Option (List ℕ)). dropped (Requester.withReceived s x)) e
+quiet-more s b none e f = ap (λ (x : Option (List ℕ)). dropped (Requester.mainWithReceived s x)) e
 quiet-more s b (some bs) e f = rw (lt-ltb (length bs) longest-form (leb-false longest-form (length bs) f))
 
-byte-more : (s : State) (b : ℕ) → eqb b 0 ≡ false → byte s b ≡ Requester.more (s .received) b s
-unfolding byte
+byte-more : (s : MainState) (b : ℕ) → eqb b 0 ≡ false → mainByte s b ≡ Requester.mainMore (s .received) b s
+unfolding mainByte
 byte-more s b e = rw e
 
 -- it changes the receive progress alone, and hands nothing out
-pub quiet-byte : (s : State) (b : ℕ) → Requester.stops s b ≡ false → byte s b ≡ dropped (Requester.withReceived s (grown (s .received) b))
+pub quiet-byte : (s : MainState) (b : ℕ) → Requester.stops s b ≡ false → mainByte s b ≡ dropped (Requester.mainWithReceived s (grown (s .received) b))
 quiet-byte s b e =
     let h = either (eqb b 0) (Requester.fills (s .received)) e in
     byte-more s b (h .0) ∙ quiet-more s b (s .received) refl (h .1)
@@ -44,5 +44,5 @@ positive zero f = absurd (f refl)
 positive (suc n) f = omega arith
 
 -- it is not 00
-pub quiet-positive : (s : State) (b : ℕ) → Requester.stops s b ≡ false → 1 ≤ b
+pub quiet-positive : (s : MainState) (b : ℕ) → Requester.stops s b ≡ false → 1 ≤ b
 quiet-positive s b e = let f = eqb-false b 0 (either (eqb b 0) (Requester.fills (s .received)) e .0) in positive b f

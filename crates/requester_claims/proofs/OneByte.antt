@@ -11,40 +11,40 @@ use Rattle.requester.specs.Requester
 use Rattle.requester.specs.Requester.{Heard}
 use Rattle.requester.specs.Layout
 use Rattle.requester.specs.Calls
-use Rattle.requester.specs.Calls.{Parts, parts, isOverlong, heardOf, outcomeOf, reportOf}
+use Rattle.requester.specs.Calls.{MainParts, mainParts, isOverlong, heardOf, heardOutcomeOf, handedReportOf}
 
 -- what is handed out, whether 14 ended a recovery, and the parts
 pub record Fed : Type 0 where
   pub handed : Requester.Handed
   pub ended : Bool
-  pub parts : Parts
+  pub parts : MainParts
 
-abbrev pub fed : Requester.Handed → Bool → Parts → Fed
+abbrev pub fed : Requester.Handed → Bool → MainParts → Fed
 fed h e p = record { handed = h; ended = e; parts = p }
 
 -- by what is heard, and the state that the line reader left
-unfoldable pub fedBy : Parts → List ℕ → Option Heard → Fed
+unfoldable pub fedBy : MainParts → List ℕ → Option Heard → Fed
 fedBy p reader h =
-    let x = outcomeOf (p .requester) h in
-    let m = Calls.movedTo (x .next) (p .requester) in
-    fed (x .handed) (m .ended) (parts reader (m .requester))
+    let x = heardOutcomeOf (p .requester) h in
+    let m = Calls.partMovedTo (x .next) (p .requester) in
+    fed (x .handed) (m .ended) (mainParts reader (m .requester))
 
 abbrev pub readerAfter : List ℕ → ℕ → List ℕ
 readerAfter s zero = LineReader.finish s .state
 readerAfter s (suc b) = LineReader.pushed s (suc b)
 
-abbrev pub reportAfter : List ℕ → ℕ → LineReader.Report
+abbrev pub reportAfter : List ℕ → ℕ → LineReader.ReadReport
 reportAfter s zero = LineReader.finish s .answer
 reportAfter s (suc b) = LineReader.more
 
-unfoldable pub feed : Parts → ℕ → Fed
+unfoldable pub feed : MainParts → ℕ → Fed
 feed p b =
     let s = readerAfter (p .reader) b in
-    fedBy p s (cond (isOverlong (p .reader)) none (heardOf (Layout.numberOf (p .requester)) s (reportAfter (p .reader) b)))
+    fedBy p s (cond (isOverlong (p .reader)) none (heardOf (Layout.newestNumber (p .requester)) s (reportAfter (p .reader) b)))
 
 -- whether a byte is a 00, or the 4,141st of its frame
 abbrev pub stopsAt : List ℕ → ℕ → Bool
-stopsAt s b = eqb b 0 || eqb (LineReader.count s) longest-form
+stopsAt s b = eqb b 0 || eqb (LineReader.receivedCount s) longest-form
 
 -- how many bytes were read, and what came of them
 pub record Walked : Type 0 where
@@ -54,17 +54,17 @@ pub record Walked : Type 0 where
 abbrev pub walked : ℕ → Fed → Walked
 walked n f = record { used = n; fed = f }
 
-unfoldable pub walk : Parts → List ℕ → Walked
+unfoldable pub walk : MainParts → List ℕ → Walked
 walk p [] = walked 0 (fed Requester.nothing false p)
 walk p (b ∷ bs) =
     cond (stopsAt (p .reader) b) (walked 1 (feed p b))
     (let w = walk (feed p b .parts) bs in walked (suc (w .used)) (w .fed))
 
 -- the receipt of what came of some bytes
-abbrev pub receiptOf : Walked → Calls.Receipt
+abbrev pub receiptOf : Walked → Calls.MainReceiveOutcome
 receiptOf w = record {
   used = w .used;
-  report = reportOf (w .fed .handed);
+  report = handedReportOf (w .fed .handed);
   ended = w .fed .ended;
   unsent = Layout.isUnsent (w .fed .parts .requester);
   parts = w .fed .parts;

@@ -1,8 +1,8 @@
 -- The claims of the main processor's end, proved: one element of each record of statements in specs/.
 -- Assumes nothing.
-use Rattle.requester_claims.specs.Demand1.{NumberDue, AsItWas}
-use Rattle.requester_claims.specs.Item2.{Item2}
-use Rattle.requester_claims.specs.Item6.{Item6}
+use Rattle.requester_claims.specs.Demand1.{MainNumberDue, MainAsItWas}
+use Rattle.requester_claims.specs.Item2.{MainItem2}
+use Rattle.requester_claims.specs.Item6.{MainItem6}
 use Rattle.requester_claims.proofs.LentCalls.{too-little, whole}
 use Rattle.requester_claims.proofs.History.{call-as-meant, history, no-12, refused-holds, refused-made}
 use Rattle.requester_claims.proofs.TableNumber.{main-refused-exactly, main-start-accepted}
@@ -12,7 +12,7 @@ use Rattle.requester_claims.proofs.Answers.{answer-matches, answer-matc
 use Rattle.requester_claims.proofs.AnswerBytes.{answer-bytes}
 use Rattle.requester_claims.proofs.AnswerFrame.{answer-frame}
 
-pub number-due : NumberDue
+pub number-due : MainNumberDue
 number-due = record {
   main-refused-exactly = main-refused-exactly;
   main-start-accepted = main-start-accepted;
@@ -23,10 +23,10 @@ number-due = record {
   whole = whole;
 }
 
-pub as-it-was : AsItWas
+pub as-it-was : MainAsItWas
 as-it-was = record { refused-holds = refused-holds; refused-made = refused-made }
 
-pub item-2 : Item2
+pub item-2 : MainItem2
 item-2 = record {
   history = history;
   main-refused-exactly = main-refused-exactly;
@@ -47,5 +47,5 @@ item-2 = record {
   one-answer-each = one-answer-each;
 }
 
-pub item-6 : Item6
+pub item-6 : MainItem6
 item-6 = record { answer-bytes = answer-bytes; answer-frame = answer-frame }

@@ -14,27 +14,27 @@ use Rattle.octets.proofs.Conditions.{cond-by, cond-both}
 use Rattle.octets.proofs.Overlay.{run-more, length-run, length-overlay, overlay-before, overlay-getD-inside}
 use Rattle.line.specs.Limits.{longest-form}
 use Rattle.line.specs.Cobs.{uncobs}
-use Rattle.line.specs.Judge.{Verdict, fields, wrongLength, wrongChecksum, wrongMagic, judgeForm, judge}
+use Rattle.line.specs.Judge.{LineVerdict, fields, wrongLength, wrongChecksum, wrongMagic, judgeForm, judge}
 use Rattle.line.specs.Reader as LineReader
 use Rattle.line.proofs.State.{Ready, length-counted, count-counted, run-counted}
 use Rattle.line.proofs.Held.{data-unpacked, finish-leaves}
-use Rattle.requester.specs.Requester.{heard}
+use Rattle.requester.specs.Requester.{hear}
 use Rattle.requester.specs.Calls.{heardOf}
 
 -- ---- the bytes since the last 00
 
 module _ (s : List ℕ) where
-  pub received-none : longest-form < LineReader.count s → receivedOf s ≡ none
+  pub received-none : longest-form < LineReader.receivedCount s → receivedOf s ≡ none
   unfolding receivedOf
-  received-none h = rw (lt-ltb longest-form (LineReader.count s) h)
+  received-none h = rw (lt-ltb longest-form (LineReader.receivedCount s) h)
 
-  pub received-some : LineReader.count s ≤ longest-form → receivedOf s ≡ some (LineReader.kept s)
+  pub received-some : LineReader.receivedCount s ≤ longest-form → receivedOf s ≡ some (LineReader.receivedBytes s)
   unfolding receivedOf
-  received-some h = rw (le-ltb longest-form (LineReader.count s) h)
+  received-some h = rw (le-ltb longest-form (LineReader.receivedCount s) h)
 
-  pub length-kept : LineReader.state-length ≤ length s → LineReader.count s ≤ longest-form → length (LineReader.kept s) ≡ LineReader.count s
-  unfolding LineReader.kept
-  length-kept h l = length-run LineReader.frame-offset (LineReader.count s) s (omega arith)
+  pub length-kept : LineReader.reader-length ≤ length s → LineReader.receivedCount s ≤ longest-form → length (LineReader.receivedBytes s) ≡ LineReader.receivedCount s
+  unfolding LineReader.receivedBytes
+  length-kept h l = length-run LineReader.frame-offset (LineReader.receivedCount s) s (omega arith)
 
 -- a byte put behind a run
 run-put : (at n b : ℕ) (s : List ℕ) → at + n < length s → run at (n + 1) (overlay (at + n) (b ∷ []) s) ≡ run at n s ++ (b ∷ [])
@@ -47,7 +47,7 @@ run-put at n b s h =
 -- a byte that is not 00
 module _ (s : List ℕ) (b : ℕ) (r : Ready s) where
   abbrev n : ℕ
-  n = LineReader.count s
+  n = LineReader.receivedCount s
 
   abbrev put : List ℕ
   put = overlay (LineReader.frame-offset + n) (b ∷ []) s
@@ -56,25 +56,25 @@ module _ (s : List ℕ) (b : ℕ) (r : Ready s) where
     put-long : length put ≡ length s
     put-long = length-overlay (LineReader.frame-offset + n) (b ∷ []) s (omega (arith, r .0))
 
-    pub pushed-count : LineReader.count (LineReader.pushed s b) ≡ n + 1
+    pub pushed-count : LineReader.receivedCount (LineReader.pushed s b) ≡ n + 1
     unfolding LineReader.pushed
     pushed-count = let l = put-long in rw (lt-ltb n longest-form h) (count-counted (n + 1) put (omega (arith, r .0)) (omega arith))
 
-    pub pushed-received : receivedOf (LineReader.pushed s b) ≡ some (LineReader.kept s ++ b ∷ [])
-    unfolding LineReader.kept LineReader.pushed
+    pub pushed-received : receivedOf (LineReader.pushed s b) ≡ some (LineReader.receivedBytes s ++ b ∷ [])
+    unfolding LineReader.receivedBytes LineReader.pushed
     pushed-received =
         let l = put-long in
         let c = count-counted (n + 1) put (omega (arith, r .0)) (omega arith) in
         rw (
           lt-ltb n longest-form h,
-          received-some (LineReader.counted (n + 1) put) (omega arith),
+          received-some (LineReader.withCount (n + 1) put) (omega arith),
           c,
           run-counted (n + 1) put (omega (arith, r .0)) (n + 1),
           run-put LineReader.frame-offset n b s (omega (arith, r .0)),
         )
 
   module _ (h : longest-form ≤ n) where
-    pub over-count : LineReader.count (LineReader.pushed s b) ≡ LineReader.overlong
+    pub over-count : LineReader.receivedCount (LineReader.pushed s b) ≡ LineReader.overlong
     unfolding LineReader.pushed
     over-count = rw (le-ltb n longest-form h) (count-counted LineReader.overlong s (omega (arith, r .0)) (omega arith))
 
@@ -83,7 +83,7 @@ module _ (s : List ℕ) (b : ℕ) (r : Ready s) where
 
 -- a 00: nothing is left of the frame
 pub finished-received : (s : List ℕ) → Ready s → receivedOf (LineReader.finish s .state) ≡ some []
-unfolding LineReader.kept
+unfolding LineReader.receivedBytes
 finished-received s r =
     let l = finish-leaves s (r .0) in
     rw (received-some (LineReader.finish s .state) (omega arith), l .1)
@@ -92,8 +92,8 @@ finished-received s r =
 
 -- by the answer of the line reader and the state that it leaves, in which the data of a message stand
 module _ (number : ℕ) (s : List ℕ) (r : Ready s) where
-  abbrev Says : List ℕ → Verdict → Type 0
-  Says t v = heardOf number t (LineReader.verdictReport v) ≡ some (heard number v)
+  abbrev Says : List ℕ → LineVerdict → Type 0
+  Says t v = heardOf number t (LineReader.verdictReport v) ≡ some (hear number v)
 
   verdict-bytes : (form : Option (List ℕ)) → Says (LineReader.unpacked form s) (judgeForm form)
   unfolding judgeForm fields heardOf LineReader.unpacked LineReader.verdictReport
@@ -110,17 +110,17 @@ module _ (number : ℕ) (s : List ℕ) (r : Ready s) where
 
 module _ (number : ℕ) (s : List ℕ) (r : Ready s) where
   -- an empty frame is not heard
-  pub finished-empty : LineReader.count s ≡ 0 → heardOf number (LineReader.finish s .state) (LineReader.finish s .answer) ≡ none
+  pub finished-empty : LineReader.receivedCount s ≡ 0 → heardOf number (LineReader.finish s .state) (LineReader.finish s .answer) ≡ none
   unfolding LineReader.finish heardOf
-  finished-empty e = rw (eq-eqb (LineReader.count s) 0 e)
+  finished-empty e = rw (eq-eqb (LineReader.receivedCount s) 0 e)
 
   -- any other is heard by the tests' verdict on it
-  pub finished-heard : (LineReader.count s ≡ 0 → ⊥) → LineReader.count s ≤ longest-form
-      → heardOf number (LineReader.finish s .state) (LineReader.finish s .answer) ≡ some (heard number (judge (LineReader.kept s)))
-  unfolding LineReader.finish LineReader.settle
+  pub finished-heard : (LineReader.receivedCount s ≡ 0 → ⊥) → LineReader.receivedCount s ≤ longest-form
+      → heardOf number (LineReader.finish s .state) (LineReader.finish s .answer) ≡ some (hear number (judge (LineReader.receivedBytes s)))
+  unfolding LineReader.finish LineReader.finishForm
   finished-heard z h =
       let l = length-counted 0 s (omega (arith, r .0)) in
       let c = count-counted 0 s (omega (arith, r .0)) (omega arith) in
       let k = length-kept s (r .0) h in
-      rw (ne-eqb (LineReader.count s) 0 z, le-ltb longest-form (LineReader.count s) h)
-      (verdict-form number (LineReader.counted 0 s) (omega (arith, r .0), omega arith) (LineReader.kept s) (omega arith))
+      rw (ne-eqb (LineReader.receivedCount s) 0 z, le-ltb longest-form (LineReader.receivedCount s) h)
+      (verdict-form number (LineReader.withCount 0 s) (omega (arith, r .0), omega arith) (LineReader.receivedBytes s) (omega arith))

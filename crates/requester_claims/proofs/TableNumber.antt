@@ -14,15 +14,15 @@ use Rattle.octets.proofs.Conditions.{cond-by, cond-both}
 use Rattle.line.specs.Limits.{longest-data}
 use Rattle.line_claims.specs.TableTests.{firstFailing}
 use Rattle.requester.specs.Limits.{last-number}
-use Rattle.requester.specs.State.{Request, Step, fetch, acknowledge, alert, isSome, requestFrame}
+use Rattle.requester.specs.State.{Request, RecoveryStep, fetch, acknowledge, alert, isSome, requestFrame}
 use Rattle.requester.specs.Layout
 use Rattle.requester.specs.Valid.{validRequester}
 use Rattle.requester.specs.Calls
-use Rattle.requester.specs.Calls.{Parts, LongEnough}
+use Rattle.requester.specs.Calls.{MainParts, MainLongEnough}
 use Rattle.requester.proofs.ValidLaws.{is-long-enough, long-enough-is}
-use Rattle.requester_claims.specs.View.{view}
+use Rattle.requester_claims.specs.View.{mainView}
 use Rattle.requester_claims.specs.Histories
-use Rattle.requester_claims.specs.Histories.{Answer, refused, done, did, refusal, receiptDid}
+use Rattle.requester_claims.specs.Histories.{MainAnswer, refused, done, mainDid, mainRefusal, receiptDid}
 use Rattle.requester_claims.specs.Item2.{frameOut, mainTests, MainRefusedExactly, MainStartAccepted}
 use Rattle.requester_claims.proofs.CallClaims.{report-received, outstanding-is, outstanding-some}
 
@@ -35,7 +35,7 @@ clash : _≡_ {A = ℕ} 0 1 → ⊥
 clash z = omega arith
 
 module _ (n : ℕ) where
-  abbrev Numbered : Answer → Option ℕ → Type 0
+  abbrev Numbered : MainAnswer → Option ℕ → Type 0
   Numbered a k = (a ≡ refused n) ↔ (k ≡ some n)
 
   same : (k : ℕ) → Numbered (refused k) (some k)
@@ -47,19 +47,19 @@ module _ (n : ℕ) where
   none-put : (k : ℕ) → Numbered (Histories.put k) none
   none-put k = (λ e. absurd (clash cc), λ e. absurd (clash cc))
 
-  none-received : (used : ℕ) (t : Calls.Report) (e u : Bool) → Numbered (Histories.received used t e u) none
+  none-received : (used : ℕ) (t : Calls.HandedReport) (e u : Bool) → Numbered (Histories.received used t e u) none
   none-received used t e u = (λ f. absurd (clash cc), λ f. absurd (clash cc))
 
-  abbrev PutBy : Calls.Put → Option ℕ → Type 0
+  abbrev PutBy : Calls.PutOutcome → Option ℕ → Type 0
   PutBy t k = Numbered (Histories.putAnswer (t .report)) k
 
-  abbrev StartBy : Calls.Start → Option ℕ → Type 0
-  StartBy t k = Numbered (refusal (t .refusal)) k
+  abbrev StartBy : Calls.MainStartOutcome → Option ℕ → Type 0
+  StartBy t k = Numbered (mainRefusal (t .refusal)) k
 
-  abbrev InterruptBy : Calls.Interrupt → Option ℕ → Type 0
-  InterruptBy t k = Numbered (refusal (t .refusal)) k
+  abbrev InterruptBy : Calls.InterruptOutcome → Option ℕ → Type 0
+  InterruptBy t k = Numbered (mainRefusal (t .refusal)) k
 
-  abbrev ReceiptBy : Calls.Receipt → Option ℕ → Type 0
+  abbrev ReceiptBy : Calls.MainReceiveOutcome → Option ℕ → Type 0
   ReceiptBy x k = Numbered (receiptDid x .answer) k
 
 -- a step is none exactly where its number is 0
@@ -67,10 +67,10 @@ step-none : (t : ℕ) → isSome (Layout.stepAt t) ≡ not (eqb t 0)
 unfolding Layout.stepAt
 step-none t = by (eqb t 0)
   where
-    Some : Option Step → Type 0
+    Some : Option RecoveryStep → Type 0
     Some x = isSome x ≡ true
 
-    later : Option Step
+    later : Option RecoveryStep
     later = cond (eqb t 1) (some fetch) (cond (eqb t 2) (some acknowledge) (some alert))
 
     by : (b : Bool) → isSome (cond b none later) ≡ not b
@@ -79,7 +79,7 @@ step-none t = by (eqb t 0)
 
 -- 14 where no recovery runs and there is no number
 interrupt-number : (n : ℕ) (r t : List ℕ) (b c : Bool)
-    → InterruptBy n (cond b (cond c (Calls.interruptBy (some 14) r) (Calls.interruptBy none t)) (Calls.interruptBy none r))
+    → InterruptBy n (cond b (cond c (Calls.interruptOutcome (some 14) r) (Calls.interruptOutcome none t)) (Calls.interruptOutcome none r))
     (cond (not (not b) && c) (some 14) none)
 interrupt-number n r t true true = same n 14
 interrupt-number n r t true false = none-done n
@@ -87,7 +87,7 @@ interrupt-number n r t false c = none-done n
 
 -- 8 where a frame is to go out and does not fit
 send-number : (n : ℕ) (room r t : List ℕ) (k : ℕ) (q : Request) (a u : Bool)
-    → PutBy n (cond (a && u) (Calls.putInto (requestFrame k q) room r t) (Calls.putBy (Calls.wrote 0) room r))
+    → PutBy n (cond (a && u) (Calls.putInto (requestFrame k q) room r t) (Calls.putOutcome (Calls.wrote 0) room r))
     (cond (ltb (length room) (length (cond u (frameOut k (cond a (some q) none)) []))) (some 8) none)
 unfolding Calls.putInto
 send-number n room r t k q true true =
@@ -96,39 +96,39 @@ send-number n room r t k q true false = rw (le-ltb (length room) 0 (omega arith)
 send-number n room r t k q false true = rw (le-ltb (length room) 0 (omega arith)) (none-put n 0)
 send-number n room r t k q false false = rw (le-ltb (length room) 0 (omega arith)) (none-put n 0)
 
-receive-number : (n : ℕ) (p : Parts) (piece : List ℕ)
-    → ReceiptBy n (Calls.receiving p piece) (cond (not (Calls.validParts p)) (some 12) none)
-unfolding receiptDid Calls.receiving Calls.received
-receive-number n p piece = cond-not (ReceiptBy n) (Calls.validParts p) (rw report-received (none-received n _ _ _ _)) (same n 12)
+receive-number : (n : ℕ) (p : MainParts) (piece : List ℕ)
+    → ReceiptBy n (Calls.mainReceivePromise p piece) (cond (not (Calls.mainValidParts p)) (some 12) none)
+unfolding receiptDid Calls.mainReceivePromise Calls.mainReceiveValid
+receive-number n p piece = cond-not (ReceiptBy n) (Calls.mainValidParts p) (rw report-received (none-received n _ _ _ _)) (same n 12)
 
 pub main-refused-exactly : MainRefusedExactly
-unfolding did mainTests firstFailing view Calls.starting Calls.requesting Calls.putInto Calls.interrupting Calls.sending Layout.isUnsent
-main-refused-exactly p Histories.start n = cond-not (StartBy n) (Calls.longEnough p) (none-done n) (same n 12)
+unfolding mainDid mainTests firstFailing mainView Calls.mainStartPromise Calls.requestPromise Calls.putInto Calls.interruptPromise Calls.sendPromise Layout.isUnsent
+main-refused-exactly p Histories.start n = cond-not (StartBy n) (Calls.mainLongEnough p) (none-done n) (same n 12)
 main-refused-exactly p (Histories.request command d room) n =
     let r = p .requester in
     rw (outstanding-some r)
     (cond-not (PutBy n) (validRequester r)
     (cond-both (PutBy n) (ltb longest-data (length d)) (λ _. same n 9) (λ _.
     cond-both (PutBy n) (Layout.isOutstanding r) (λ _. same n 17) (λ _.
-    cond-both (PutBy n) (leb last-number (Layout.numberOf r)) (λ _. same n 14) (λ _.
+    cond-both (PutBy n) (leb last-number (Layout.newestNumber r)) (λ _. same n 14) (λ _.
     cond-both (PutBy n) (ltb (length room) _) (λ _. same n 8) (λ _. none-put n _)))))
     (same n 12))
 main-refused-exactly p Histories.interrupt n =
     let r = p .requester in
     rw (step-none (Layout.recoveryOf r))
     (cond-not (InterruptBy n) (validRequester r)
-    (interrupt-number n r _ (eqb (Layout.recoveryOf r) 0) (leb last-number (Layout.numberOf r))) (same n 12))
+    (interrupt-number n r _ (eqb (Layout.recoveryOf r) 0) (leb last-number (Layout.newestNumber r))) (same n 12))
 main-refused-exactly p (Histories.send room) n =
     let r = p .requester in
     rw (outstanding-is r)
     (cond-not (PutBy n) (validRequester r)
-    (send-number n room r _ (Layout.numberOf r) (Layout.outRequest r) (Layout.isOutstanding r) (eqb (Layout.unsentOf r) 1)) (same n 12))
+    (send-number n room r _ (Layout.newestNumber r) (Layout.outRequest r) (Layout.isOutstanding r) (eqb (Layout.unsentOf r) 1)) (same n 12))
 main-refused-exactly p (Histories.receive piece) n = receive-number n p piece
 
 pub main-start-accepted : MainStartAccepted
-unfolding did Calls.starting
+unfolding mainDid Calls.mainStartPromise
 main-start-accepted p = (
-  cond-by (λ (t : Calls.Start). refusal (t .refusal) ≡ done → LongEnough p) (Calls.longEnough p) _ _ (λ e _. is-long-enough p e)
+  cond-by (λ (t : Calls.MainStartOutcome). mainRefusal (t .refusal) ≡ done → MainLongEnough p) (Calls.mainLongEnough p) _ _ (λ e _. is-long-enough p e)
       (λ _ e. absurd (clash cc)),
   λ l. rw (long-enough-is p l),
 )

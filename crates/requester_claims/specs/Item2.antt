@@ -12,31 +12,31 @@ use Rattle.octets.specs.Bytes.{Each}
 use Rattle.line.specs.Limits.{longest-data}
 use Rattle.line_claims.specs.TableTests.{TableTest, test, firstFailing}
 use Rattle.requester.specs.Limits.{last-number}
-use Rattle.requester.specs.State.{Request, State, fresh, isSome, outstanding, requestFrame}
+use Rattle.requester.specs.State.{Request, MainState, mainFresh, isSome, outstanding, requestFrame}
 use Rattle.requester.specs.Valid.{validRequester}
 use Rattle.requester.specs.Calls
-use Rattle.requester.specs.Calls.{Parts, PartsValid, LongEnough}
-use Rattle.requester_claims.specs.View.{keptOf, view}
+use Rattle.requester.specs.Calls.{MainParts, MainPartsValid, MainLongEnough}
+use Rattle.requester_claims.specs.View.{keptRequestOf, mainView}
 use Rattle.requester_claims.specs.Histories
-use Rattle.requester_claims.specs.Histories.{Call, refused, done, didBy, did, Lent, enough, Made, untouched, made}
-use Rattle.requester_claims.specs.Histories.{outputs, left, outputsMeant, leftMeant}
-use Rattle.requester_claims.specs.Histories.{Lengths, Accepted, begun, OfStarted, OfReached, OfValid}
-use Rattle.requester_claims.specs.Cuts.{Read, listening, afterReads, Stretch, heard, leftBy, SameBytes}
+use Rattle.requester_claims.specs.Histories.{MainCall, refused, done, mainDidBy, mainDid, MainLent, mainEnough, MainMade, mainUntouched, mainMade}
+use Rattle.requester_claims.specs.Histories.{mainOutputs, mainLeft, mainOutputsMeant, mainLeftMeant}
+use Rattle.requester_claims.specs.Histories.{MainLengths, Accepted, mainStarted, OfStarted, OfReached, OfValid}
+use Rattle.requester_claims.specs.Cuts.{MainRead, listening, afterMainReads, Stretch, stretchOutputs, leftByStretches, SameBytes}
 use Rattle.requester_claims.specs.Numbers.{frames, Between, OnePerNumber, OneAbove, RequestFrame}
-use Rattle.requester_claims.specs.Answers.{AllMatch, answers, requests, keptNumber}
+use Rattle.requester_claims.specs.Answers.{AllMatch, answersCounted, requestsCounted, keptNumber}
 
 -- calls on q do what document 02 has of the same calls on the state s, and leave valid parts, as long as p's
-abbrev pub Follow : Parts → Parts → State → List Made → Type 0
-Follow p q s ms = (outputs q ms ≡ outputsMeant s ms) × (view (left q ms) ≡ leftMeant s ms) × PartsValid (left q ms) × Lengths p (left q ms)
+abbrev pub Follow : MainParts → MainParts → MainState → List MainMade → Type 0
+Follow p q s ms = (mainOutputs q ms ≡ mainOutputsMeant s ms) × (mainView (mainLeft q ms) ≡ mainLeftMeant s ms) × MainPartsValid (mainLeft q ms) × MainLengths p (mainLeft q ms)
 
-abbrev pub History : Type 0
-History = (p : Parts) (l : Lent) → Accepted p l → (ms : List Made) → Follow p (begun p l) fresh ms
+abbrev pub MainCallsMeant : Type 0
+MainCallsMeant = (p : MainParts) (l : MainLent) → Accepted p l → (ms : List MainMade) → Follow p (mainStarted p l) mainFresh ms
 
-abbrev pub No12 : Parts → Type 0
-No12 p = (m : Made) → enough (m .call) (m .lent) ≡ true → made p m .answer ≡ refused 12 → ⊥
+abbrev pub MainNo12 : MainParts → Type 0
+MainNo12 p = (m : MainMade) → mainEnough (m .call) (m .lent) ≡ true → mainMade p m .answer ≡ refused 12 → ⊥
 
 -- 12 of a call that takes the main processor's part alone
-abbrev pub partTest : Parts → TableTest
+abbrev pub partTest : MainParts → TableTest
 partTest p = test 12 (not (validRequester (p .requester)))
 
 -- the bytes that a send is to put out
@@ -44,82 +44,82 @@ abbrev pub frameOut : ℕ → Option Request → List ℕ
 frameOut n none = []
 frameOut n (some q) = requestFrame n q
 
-abbrev pub toPutOut : State → List ℕ
+abbrev pub toPutOut : MainState → List ℕ
 toPutOut s = cond (s .unsent) (frameOut (s .newest) (outstanding s)) []
 
 -- the tests of a call on any parts whatever, in document 02's order: 12, 9, 17, 14, 8; a start tests the lengths alone
-unfoldable pub mainTests : Parts → Call → List TableTest
-mainTests p Histories.start = test 12 (not (Calls.longEnough p)) ∷ []
+unfoldable pub mainTests : MainParts → MainCall → List TableTest
+mainTests p Histories.start = test 12 (not (Calls.mainLongEnough p)) ∷ []
 mainTests p (Histories.request command d room) =
     partTest p
     ∷ test 9 (ltb longest-data (length d))
-    ∷ test 17 (isSome (outstanding (view p)))
-    ∷ test 14 (leb last-number (view p .newest))
-    ∷ test 8 (ltb (length room) (length (requestFrame (suc (view p .newest)) (record { command = command; payload = d }))))
+    ∷ test 17 (isSome (outstanding (mainView p)))
+    ∷ test 14 (leb last-number (mainView p .newest))
+    ∷ test 8 (ltb (length room) (length (requestFrame (suc (mainView p .newest)) (record { command = command; payload = d }))))
     ∷ []
-mainTests p Histories.interrupt = partTest p ∷ test 14 (not (isSome (view p .recovery)) && leb last-number (view p .newest)) ∷ []
-mainTests p (Histories.send room) = partTest p ∷ test 8 (ltb (length room) (length (toPutOut (view p)))) ∷ []
-mainTests p (Histories.receive piece) = test 12 (not (Calls.validParts p)) ∷ []
+mainTests p Histories.interrupt = partTest p ∷ test 14 (not (isSome (mainView p .recovery)) && leb last-number (mainView p .newest)) ∷ []
+mainTests p (Histories.send room) = partTest p ∷ test 8 (ltb (length room) (length (toPutOut (mainView p)))) ∷ []
+mainTests p (Histories.receive piece) = test 12 (not (Calls.mainValidParts p)) ∷ []
 
 abbrev pub MainRefusedExactly : Type 0
-MainRefusedExactly = (p : Parts) (c : Call) (n : ℕ) → (did p c .answer ≡ refused n) ↔ (firstFailing (mainTests p c) ≡ some n)
+MainRefusedExactly = (p : MainParts) (c : MainCall) (n : ℕ) → (mainDid p c .answer ≡ refused n) ↔ (firstFailing (mainTests p c) ≡ some n)
 
 abbrev pub MainStartAccepted : Type 0
-MainStartAccepted = (p : Parts) → (did p Histories.start .answer ≡ done) ↔ LongEnough p
+MainStartAccepted = (p : MainParts) → (mainDid p Histories.start .answer ≡ done) ↔ MainLongEnough p
 
-abbrev pub RefusedHolds : Type 0
-RefusedHolds = (p : Parts) (c : Call) (n : ℕ) → did p c .answer ≡ refused n → (did p c .parts ≡ p) × (did p c .out ≡ untouched c)
+abbrev pub MainRefusedHolds : Type 0
+MainRefusedHolds = (p : MainParts) (c : MainCall) (n : ℕ) → mainDid p c .answer ≡ refused n → (mainDid p c .parts ≡ p) × (mainDid p c .out ≡ mainUntouched c)
 
-abbrev pub RefusedMade : Type 0
-RefusedMade = (p : Parts) (m : Made) (n : ℕ) → made p m .answer ≡ refused n → (made p m .parts ≡ p) × (made p m .out ≡ untouched (m .call))
+abbrev pub MainRefusedMade : Type 0
+MainRefusedMade = (p : MainParts) (m : MainMade) (n : ℕ) → mainMade p m .answer ≡ refused n → (mainMade p m .parts ≡ p) × (mainMade p m .out ≡ mainUntouched (m .call))
 
 abbrev pub TooLittle : Type 0
-TooLittle = (l : Lent) (p : Parts) (c : Call) → enough c l ≡ false → made p (record { lent = l; call = c }) ≡ didBy (refused 12) (untouched c) p
+TooLittle = (l : MainLent) (p : MainParts) (c : MainCall) → mainEnough c l ≡ false → mainMade p (record { lent = l; call = c }) ≡ mainDidBy (refused 12) (mainUntouched c) p
 
-abbrev pub Whole : Type 0
-Whole = (l : Lent) (p : Parts) → LongEnough p → (c : Call) → enough c l ≡ true → made p (record { lent = l; call = c }) ≡ did p c
+abbrev pub WholeRequest : Type 0
+WholeRequest = (l : MainLent) (p : MainParts) → MainLongEnough p → (c : MainCall) → mainEnough c l ≡ true → mainMade p (record { lent = l; call = c }) ≡ mainDid p c
 
-abbrev pub Cut : Parts → Type 0
-Cut p = (cs ds : List Read) → let x = listening p in afterReads x cs .bytes ≡ afterReads x ds .bytes → afterReads x cs ≡ afterReads x ds
+abbrev pub MainCut : MainParts → Type 0
+MainCut p = (cs ds : List MainRead) → let x = listening p in afterMainReads x cs .bytes ≡ afterMainReads x ds .bytes → afterMainReads x cs ≡ afterMainReads x ds
 
-abbrev pub CutBetween : Parts → Type 0
-CutBetween p = (ss ts : List Stretch) → SameBytes p ss ts → (heard p ss ≡ heard p ts) × (leftBy p ss ≡ leftBy p ts)
+abbrev pub CutBetween : MainParts → Type 0
+CutBetween p = (ss ts : List Stretch) → SameBytes p ss ts → (stretchOutputs p ss ≡ stretchOutputs p ts) × (leftByStretches p ss ≡ leftByStretches p ts)
 
-abbrev pub OneNumber : Parts → Type 0
-OneNumber p = (ms : List Made) → Between ms → OnePerNumber (frames p ms) × Each RequestFrame (frames p ms) × OneAbove p ms
+abbrev pub OneNumber : MainParts → Type 0
+OneNumber p = (ms : List MainMade) → Between ms → OnePerNumber (frames p ms) × Each RequestFrame (frames p ms) × OneAbove p ms
 
-abbrev pub AnswerMatches : Parts → Type 0
-AnswerMatches p = (ms : List Made) → AllMatch p ms
+abbrev pub AnswerMatches : MainParts → Type 0
+AnswerMatches p = (ms : List MainMade) → AllMatch p ms
 
-abbrev pub AnswersCounted : Parts → Type 0
-AnswersCounted p = (ms : List Made) → answers p ms + keptNumber (keptOf (left p ms .requester)) ≤ requests p ms + keptNumber (keptOf (p .requester))
+abbrev pub AnswersCounted : MainParts → Type 0
+AnswersCounted p = (ms : List MainMade) → answersCounted p ms + keptNumber (keptRequestOf (mainLeft p ms .requester)) ≤ requestsCounted p ms + keptNumber (keptRequestOf (p .requester))
 
-abbrev pub OneAnswerEach : Parts → Type 0
-OneAnswerEach p = (ms : List Made) → answers p ms ≤ requests p ms
+abbrev pub OneAnswerEach : MainParts → Type 0
+OneAnswerEach p = (ms : List MainMade) → answersCounted p ms ≤ requestsCounted p ms
 
-pub record Item2 : Type 0 where
+pub record MainItem2 : Type 0 where
   -- The whole item: an accepted start on any bytes, then any calls, each lent any run of each part.
   -- Every answer, all that is written or handed out, and the state left are those of the item's meaning.
   -- The parts stay valid and as long as they were.
-  pub history : History
+  pub history : MainCallsMeant
   -- Tests run 12, 9, 17, 14, 8. Every call on any parts whatever: 12 exactly where a part that it takes is too short or not valid.
   -- Then 9, 17, 14 and 8 exactly where due, and no other number.
   pub main-refused-exactly : MainRefusedExactly
   -- a start is accepted exactly where both parts have their published lengths, whatever they hold
   pub main-start-accepted : MainStartAccepted
   -- no call that is lent enough of what they left is refused as 12
-  pub no-12 : OfReached No12
+  pub no-12 : OfReached MainNo12
   -- a refused call changes nothing, on any parts at all
-  pub refused-holds : RefusedHolds
+  pub refused-holds : MainRefusedHolds
   -- and whatever of them is lent
-  pub refused-made : RefusedMade
+  pub refused-made : MainRefusedMade
   -- too little lent of a part that the call takes is 12, on any parts
   pub too-little : TooLittle
   -- enough lent of each such part does what the whole parts do
-  pub whole : Whole
+  pub whole : WholeRequest
   -- Replies are read in pieces: receives that read the same bytes hand out the same, in order, whatever each is lent.
   -- They leave the same bytes in both parts.
-  pub cut : OfValid Cut
+  pub cut : OfValid MainCut
   -- so do they between the same other calls, which answer and write the same
   pub cut-between : OfValid CutBetween
   -- and from a start on

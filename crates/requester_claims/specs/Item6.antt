@@ -9,14 +9,14 @@ use Rattle.octets.specs.Bytes.{Byte, Each}
 use Rattle.line.specs.Message.{Message}
 use Rattle.line.specs.Frame.{frame}
 use Rattle.line.specs.Judge.{good, judge}
-use Rattle.requester.specs.Calls.{Parts}
-use Rattle.requester_claims.specs.View.{view}
+use Rattle.requester.specs.Calls.{MainParts}
+use Rattle.requester_claims.specs.View.{mainView}
 use Rattle.requester_claims.specs.Histories
-use Rattle.requester_claims.specs.Histories.{Call, Lent, Made, made, left, OfStarted, OfValid}
+use Rattle.requester_claims.specs.Histories.{MainCall, MainLent, MainMade, mainMade, mainLeft, OfStarted, OfValid}
 use Rattle.requester_claims.specs.Answers.{OfAnswer}
 
 -- the last byte that a call read of a piece is a 00; bs is what had come of its frame before the piece
-pub record Ended (piece : List ℕ) (bs : Option (List ℕ)) (used : ℕ) : Type 0 where
+pub record ReadTo00 (piece : List ℕ) (bs : Option (List ℕ)) (used : ℕ) : Type 0 where
   -- the bytes that had come, and how many of the piece stand ahead of the 00
   pub since : List ℕ
   pub ahead : ℕ
@@ -26,39 +26,39 @@ pub record Ended (piece : List ℕ) (bs : Option (List ℕ)) (used : ℕ) : Type
 
 -- the line layer's tests find the message in the bytes since the 00 before
 pub record Comes (piece : List ℕ) (bs : Option (List ℕ)) (used : ℕ) (m : Message) : Type 0 where
-  pub ended : Ended piece bs used
+  pub ended : ReadTo00 piece bs used
   pub whole : Each (λ b. 1 ≤ b) (take (ended .ahead) piece)
   pub judged : judge (ended .since ++ take (ended .ahead) piece) ≡ good m
 
 -- these bytes and the 00 are exactly the message's frame
 pub record Framed (piece : List ℕ) (bs : Option (List ℕ)) (used : ℕ) (m : Message) : Type 0 where
-  pub ended : Ended piece bs used
+  pub ended : ReadTo00 piece bs used
   pub framed : (ended .since ++ take (ended .ahead) piece) ++ 0 ∷ [] ≡ frame m
 
 -- of the message that a receive hands out
-abbrev pub Receives : (List ℕ → Option (List ℕ) → ℕ → Message → Type 0) → Parts → Lent → List ℕ → Type 0
-Receives P p l piece =
-    let d = made p (record { lent = l; call = Histories.receive piece }) in
-    OfAnswer (P piece (view p .received)) (d .answer) (d .out)
+abbrev pub MainReceives : (List ℕ → Option (List ℕ) → ℕ → Message → Type 0) → MainParts → MainLent → List ℕ → Type 0
+MainReceives P p l piece =
+    let d = mainMade p (record { lent = l; call = Histories.receive piece }) in
+    OfAnswer (P piece (mainView p .received)) (d .answer) (d .out)
 
 -- a piece of the received stream is made of bytes
-abbrev pub Typed : Call → Type 0
-Typed Histories.start = Unit {0}
-Typed (Histories.request command d room) = Unit {0}
-Typed Histories.interrupt = Unit {0}
-Typed (Histories.send room) = Unit {0}
-Typed (Histories.receive piece) = Each Byte piece
+abbrev pub PieceTyped : MainCall → Type 0
+PieceTyped Histories.start = Unit {0}
+PieceTyped (Histories.request command d room) = Unit {0}
+PieceTyped Histories.interrupt = Unit {0}
+PieceTyped (Histories.send room) = Unit {0}
+PieceTyped (Histories.receive piece) = Each Byte piece
 
-abbrev pub AllTyped : List Made → Type 0
-AllTyped = Each (λ (m : Made). Typed (m .call))
+abbrev pub AllPiecesTyped : List MainMade → Type 0
+AllPiecesTyped = Each (λ (m : MainMade). PieceTyped (m .call))
 
-abbrev pub AnswerBytes : Parts → Type 0
-AnswerBytes p = (l : Lent) (piece : List ℕ) → Receives Comes p l piece
+abbrev pub AnswerBytes : MainParts → Type 0
+AnswerBytes p = (l : MainLent) (piece : List ℕ) → MainReceives Comes p l piece
 
-abbrev pub AnswerFrame : Parts → Type 0
-AnswerFrame p = (ms : List Made) → AllTyped ms → (l : Lent) (piece : List ℕ) → Each Byte piece → Receives Framed (left p ms) l piece
+abbrev pub AnswerFrame : MainParts → Type 0
+AnswerFrame p = (ms : List MainMade) → AllPiecesTyped ms → (l : MainLent) (piece : List ℕ) → Each Byte piece → MainReceives Framed (mainLeft p ms) l piece
 
-pub record Item6 : Type 0 where
+pub record MainItem6 : Type 0 where
   -- Where a receive on valid parts hands out an answer or an alert's answer, the last byte that it read is a 00.
   -- The message is what the line layer's tests find in the bytes since the 00 before.
   pub answer-bytes : OfValid AnswerBytes

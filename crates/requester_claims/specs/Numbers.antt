@@ -9,9 +9,9 @@ use lib.ListN.{take}
 use Rattle.octets.specs.Bytes.{Each}
 use Rattle.requester.specs.State.{Request, requestFrame}
 use Rattle.requester.specs.Layout
-use Rattle.requester.specs.Calls.{Parts}
+use Rattle.requester.specs.Calls.{MainParts}
 use Rattle.requester_claims.specs.Histories
-use Rattle.requester_claims.specs.Histories.{Call, Answer, refused, done, put, received, Made, made, enough}
+use Rattle.requester_claims.specs.Histories.{MainCall, MainAnswer, refused, done, put, received, MainMade, mainMade, mainEnough}
 
 -- bytes put out under a number
 pub record Frame : Type 0 where
@@ -19,21 +19,21 @@ pub record Frame : Type 0 where
   pub bytes : List ℕ
 
 -- by a call's answer, the room as it left it, and the newest number then
-unfoldable pub framesBy : Answer → List ℕ → ℕ → List Frame
-framesBy (refused k) room n = []
-framesBy done room n = []
-framesBy (put zero) room n = []
-framesBy (put (suc k)) room n = record { number = n; bytes = take (suc k) room } ∷ []
-framesBy (received used t e u) room n = []
+unfoldable pub framesPutOut : MainAnswer → List ℕ → ℕ → List Frame
+framesPutOut (refused k) room n = []
+framesPutOut done room n = []
+framesPutOut (put zero) room n = []
+framesPutOut (put (suc k)) room n = record { number = n; bytes = take (suc k) room } ∷ []
+framesPutOut (received used t e u) room n = []
 
-unfoldable pub frames : Parts → List Made → List Frame
+unfoldable pub frames : MainParts → List MainMade → List Frame
 frames p [] = []
 frames p (m ∷ ms) =
-    let d = made p m in
-    framesBy (d .answer) (d .out) (Layout.numberOf (d .parts .requester)) ++ frames (d .parts) ms
+    let d = mainMade p m in
+    framesPutOut (d .answer) (d .out) (Layout.newestNumber (d .parts .requester)) ++ frames (d .parts) ms
 
 -- whether a call is a start
-abbrev pub isStart : Call → Bool
+abbrev pub isStart : MainCall → Bool
 isStart Histories.start = true
 isStart (Histories.request command d room) = false
 isStart Histories.interrupt = false
@@ -41,11 +41,11 @@ isStart (Histories.send room) = false
 isStart (Histories.receive piece) = false
 
 -- not a start that is accepted: one that is lent too little is refused
-abbrev pub NoStart : Made → Type 0
-NoStart m = isStart (m .call) ≡ true → enough (m .call) (m .lent) ≡ false
+abbrev pub NoMainStart : MainMade → Type 0
+NoMainStart m = isStart (m .call) ≡ true → mainEnough (m .call) (m .lent) ≡ false
 
-abbrev pub Between : List Made → Type 0
-Between = Each NoStart
+abbrev pub Between : List MainMade → Type 0
+Between = Each NoMainStart
 
 -- any two of the frames, in order: the later has no lower number, and with the same number the same bytes
 abbrev pub OnePerNumber : List Frame → Type 0
@@ -53,12 +53,12 @@ OnePerNumber [] = Unit {0}
 OnePerNumber (x ∷ xs) = Each (λ (y : Frame). (x .number ≤ y .number) × (y .number ≡ x .number → y .bytes ≡ x .bytes)) xs × OnePerNumber xs
 
 -- each call takes no number or the next one
-abbrev pub OneAbove : Parts → List Made → Type 0
+abbrev pub OneAbove : MainParts → List MainMade → Type 0
 OneAbove p [] = Unit {0}
 OneAbove p (m ∷ ms) =
-    let n = Layout.numberOf (p .requester) in
-    let k = Layout.numberOf (made p m .parts .requester) in
-    ((k ≡ n) ⊎ (k ≡ suc n)) × OneAbove (made p m .parts) ms
+    let n = Layout.newestNumber (p .requester) in
+    let k = Layout.newestNumber (mainMade p m .parts .requester) in
+    ((k ≡ n) ⊎ (k ≡ suc n)) × OneAbove (mainMade p m .parts) ms
 
 -- each of the frames is a request's, under its number
 abbrev pub RequestFrame : Frame → Type 0

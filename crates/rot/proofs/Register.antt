@@ -16,7 +16,7 @@ use lib.Seq.{drop-cons}
 use borrow.Author.Tests.{le-leb, lt-leb, leb-true, leb-false}
 use Rattle.octets.proofs.Conditions.{cond-by}
 use Rattle.rot.specs.Crc.{polynomial, doubled, afterBit, afterBits, bits, afterBytes, crc}
-use Rattle.rot.specs.Table.{shift, shifts, entryOf}
+use Rattle.rot.specs.Table.{shift, shifts, tableEntry}
 use Rattle.rot.proofs.Xor.{xor-double, xor-assoc, xor-swap}
 
 -- ---- the register stays below 2 ^ 32
@@ -165,8 +165,8 @@ bits-shift (suc n) p v c o e h i =
     (bits-shift n (p * 2) r (afterBit c t) (omega arith) twice (mod-lt v (pow-pos n)) (after-bit-lt c t))
 
 -- ---- a byte by the table: one look for the register's top byte and the message's
-pub by-table : (c b : ℕ) → c < 2 ^ 32 → b < 2 ^ 8 → afterBits c (bits 8 b) ≡ bitXor (entryOf (bitXor (c / 2 ^ 24) b)) (c % 2 ^ 24 * 2 ^ 8)
-unfolding entryOf
+pub by-table : (c b : ℕ) → c < 2 ^ 32 → b < 2 ^ 8 → afterBits c (bits 8 b) ≡ bitXor (tableEntry (bitXor (c / 2 ^ 24) b)) (c % 2 ^ 24 * 2 ^ 8)
+unfolding tableEntry
 by-table c b h i =
     let t = c / 2 ^ 24 in
     let l = c % 2 ^ 24 in

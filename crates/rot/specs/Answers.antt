@@ -10,33 +10,33 @@ use Rattle.rot.specs.declared.refusals.Refusal.{Refusal}
 use Rattle.rot.specs.declared.refusals.Refusal.the-variants as refusal
 
 -- the number of a refusal
-unfoldable pub numberOf : Refusal → ℕ
-numberOf refusal.NoRoom = 8
-numberOf refusal.NoInput = 20
-numberOf refusal.BadProtocol = 21
-numberOf refusal.ShortHeader = 22
-numberOf refusal.TooLong = 23
-numberOf refusal.CutShort = 24
-numberOf refusal.BadCrc = 25
-numberOf refusal.BadType = 26
+unfoldable pub refusalNumber : Refusal → ℕ
+refusalNumber refusal.NoRoom = 8
+refusalNumber refusal.NoInput = 20
+refusalNumber refusal.BadProtocol = 21
+refusalNumber refusal.ShortHeader = 22
+refusalNumber refusal.TooLong = 23
+refusalNumber refusal.CutShort = 24
+refusalNumber refusal.BadCrc = 25
+refusalNumber refusal.BadType = 26
 
-pub data Report : Type 0 where
-  refused : ℕ → Report
+pub data RotReport : Type 0 where
+  refused : ℕ → RotReport
   -- nothing was sent
-  nothing : Report
+  nothing : RotReport
   -- a message is handed out: its type, and how many bytes its payload has
-  handed : ℕ → ℕ → Report
+  handed : ℕ → ℕ → RotReport
   -- so many bytes were written
-  wrote : ℕ → Report
+  wrote : ℕ → RotReport
 
 -- what a call answered, and the room as it left it
-pub record Outcome : Type 0 where
-  pub answer : Report
+pub record RotOutcome : Type 0 where
+  pub answer : RotReport
   pub out : List ℕ
 
-abbrev pub outcome : Report → List ℕ → Outcome
-outcome a out = record { answer = a; out = out }
+abbrev pub rotOutcome : RotReport → List ℕ → RotOutcome
+rotOutcome a out = record { answer = a; out = out }
 
 -- bytes at the start of the room; 8 where they do not fit, and nothing changes
-unfoldable pub sending : List ℕ → List ℕ → Outcome
-sending bs out = cond (ltb (length out) (length bs)) (outcome (refused 8) out) (outcome (wrote (length bs)) (overlay 0 bs out))
+unfoldable pub rotWriteInto : List ℕ → List ℕ → RotOutcome
+rotWriteInto bs out = cond (ltb (length out) (length bs)) (rotOutcome (refused 8) out) (rotOutcome (wrote (length bs)) (overlay 0 bs out))

@@ -3,12 +3,12 @@
 use Prim.Native.Nat.{ℕ}
 
 -- bytes of the header ahead of its CRC: protocol, type and payload length
-abbrev pub start-length : ℕ
-start-length = 4
+abbrev pub crc-field-offset : ℕ
+crc-field-offset = 4
 
 -- bytes of the header: its start and the CRC
-abbrev pub header-length : ℕ
-header-length = 8
+abbrev pub rot-header-length : ℕ
+rot-header-length = 8
 
 abbrev pub longest-payload : ℕ
 longest-payload = 512

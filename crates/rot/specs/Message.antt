@@ -31,25 +31,25 @@ abbrev pub sink-response : ℕ
 sink-response = 0x09
 
 -- 01 to 09
-abbrev pub listed : ℕ → Bool
-listed type = leb error-response type && leb type sink-response
+abbrev pub listedType : ℕ → Bool
+listedType type = leb error-response type && leb type sink-response
 
-pub record Message : Type 0 where
+pub record RotMessage : Type 0 where
   pub type : ℕ
   pub payload : List ℕ
 
 -- the header ahead of its CRC: protocol u8, type u8, payload length u16
-unfoldable pub start : Message → List ℕ
-start m = version-1 ∷ m .type ∷ bytes 2 (length (m .payload))
+unfoldable pub headerStart : RotMessage → List ℕ
+headerStart m = version-1 ∷ m .type ∷ bytes 2 (length (m .payload))
 
 -- the CRC over header and payload, without itself
-unfoldable pub crcOf : Message → ℕ
-crcOf m = crc (start m ++ m .payload)
+unfoldable pub crcOf : RotMessage → ℕ
+crcOf m = crc (headerStart m ++ m .payload)
 
 -- all bytes of the message; the CRC is a u32
-unfoldable pub message : Message → List ℕ
-message m = start m ++ (bytes 4 (crcOf m) ++ m .payload)
+unfoldable pub rotMessage : RotMessage → List ℕ
+rotMessage m = headerStart m ++ (bytes 4 (crcOf m) ++ m .payload)
 
 -- the answer to an echo request: an echo response with the same payload
-abbrev pub echoed : Message → Message
+abbrev pub echoed : RotMessage → RotMessage
 echoed m = record { type = echo-response; payload = m .payload }

@@ -6,10 +6,10 @@ use Prim.Native.Nat.{ℕ, _+_}
 use lib.Dec.{eqb, ltb}
 use lib.ListN.{length, take}
 use Rattle.octets.specs.Bytes.{run, numberAt}
-use Rattle.rot.specs.Limits.{start-length, header-length, longest-payload}
+use Rattle.rot.specs.Limits.{crc-field-offset, rot-header-length, longest-payload}
 use Rattle.rot.specs.Crc.{crc}
-use Rattle.rot.specs.Message.{null-protocol, version-1, echo-request, listed, Message, message, echoed}
-use Rattle.rot.specs.Answers.{Report, refused, nothing, handed, wrote, Outcome, outcome, sending, numberOf}
+use Rattle.rot.specs.Message.{null-protocol, version-1, echo-request, listedType, RotMessage, rotMessage, echoed}
+use Rattle.rot.specs.Answers.{RotReport, refused, nothing, handed, wrote, RotOutcome, rotOutcome, rotWriteInto, refusalNumber}
 use Rattle.rot.specs.declared.reader.Answer.{Answer}
 use Rattle.rot.specs.declared.reader.Answer.the-variants as answer
 use Rattle.rot.specs.declared.reader.Verdict.{Verdict}
@@ -23,24 +23,24 @@ protocolOf input = numberAt 1 input 0
 abbrev pub typeOf : List ℕ → ℕ
 typeOf input = numberAt 1 input 1
 
-abbrev pub lengthOf : List ℕ → ℕ
-lengthOf input = numberAt 2 input 2
+abbrev pub payloadLength : List ℕ → ℕ
+payloadLength input = numberAt 2 input 2
 
 abbrev pub crcField : List ℕ → ℕ
-crcField input = numberAt 4 input start-length
+crcField input = numberAt 4 input crc-field-offset
 
-abbrev pub payloadOf : List ℕ → List ℕ
-payloadOf input = run header-length (lengthOf input) input
+abbrev pub rotPayload : List ℕ → List ℕ
+rotPayload input = run rot-header-length (payloadLength input) input
 
 -- what the CRC is taken over: the header ahead of it, and the payload
 abbrev pub checked : List ℕ → List ℕ
-checked input = take start-length input ++ payloadOf input
+checked input = take crc-field-offset input ++ rotPayload input
 
 -- What is made of the input: a refusal by its number, nothing sent, or a message.
-pub data Judged : Type 0 where
-  failure : ℕ → Judged
-  unsent : Judged
-  good : Message → Judged
+pub data RotVerdict : Type 0 where
+  failure : ℕ → RotVerdict
+  unsent : RotVerdict
+  good : RotMessage → RotVerdict
 
 -- The tests in the table's order. 20: no input
 abbrev pub noInput : List ℕ → Bool
@@ -56,15 +56,15 @@ wrongProtocol input = not (eqb (protocolOf input) version-1)
 
 -- 22: fewer than 8 bytes
 abbrev pub shortHeader : List ℕ → Bool
-shortHeader input = ltb (length input) header-length
+shortHeader input = ltb (length input) rot-header-length
 
 -- 23: length over 512
 abbrev pub longPayload : List ℕ → Bool
-longPayload input = ltb longest-payload (lengthOf input)
+longPayload input = ltb longest-payload (payloadLength input)
 
 -- 24: payload cut short
 abbrev pub cutShort : List ℕ → Bool
-cutShort input = ltb (length input) (header-length + lengthOf input)
+cutShort input = ltb (length input) (rot-header-length + payloadLength input)
 
 -- 25: wrong CRC
 abbrev pub wrongCrc : List ℕ → Bool
@@ -72,25 +72,25 @@ wrongCrc input = not (eqb (crcField input) (crc (checked input)))
 
 -- 26: the type is not 01 to 09
 abbrev pub wrongType : List ℕ → Bool
-wrongType input = not (listed (typeOf input))
+wrongType input = not (listedType (typeOf input))
 
 -- The first row whose test fails decides, or else it is a message. A whole message:
-unfoldable pub judgeMessage : List ℕ → Judged
+unfoldable pub judgeMessage : List ℕ → RotVerdict
 judgeMessage input =
     cond (wrongCrc input) (failure 25)
     (cond (wrongType input) (failure 26)
-    (good (record { type = typeOf input; payload = payloadOf input })))
+    (good (record { type = typeOf input; payload = rotPayload input })))
 
 -- a whole header, and what follows
-unfoldable pub judgeLength : List ℕ → Judged
+unfoldable pub judgeLength : List ℕ → RotVerdict
 judgeLength input =
     cond (longPayload input) (failure 23)
     (cond (cutShort input) (failure 24)
     (judgeMessage input))
 
 -- any input
-unfoldable pub judge : List ℕ → Judged
-judge input =
+unfoldable pub rotJudge : List ℕ → RotVerdict
+rotJudge input =
     cond (noInput input) (failure 20)
     (cond (nothingSent input) unsent
     (cond (wrongProtocol input) (failure 21)
@@ -98,35 +98,35 @@ judge input =
     (judgeLength input))))
 
 -- what a verdict of the code stands for
-unfoldable pub judgedAs : List ℕ → Verdict → Judged
-judgedAs input (verdict.Refused why) = failure (numberOf why)
+unfoldable pub judgedAs : List ℕ → Verdict → RotVerdict
+judgedAs input (verdict.Refused why) = failure (refusalNumber why)
 judgedAs input verdict.Nothing = unsent
-judgedAs input (verdict.Good kind) = good (record { type = kind; payload = payloadOf input })
+judgedAs input (verdict.Good kind) = good (record { type = kind; payload = rotPayload input })
 
 -- a message: an echo request is answered in the room, any other is handed out; 8 is for the echo's answer alone
-unfoldable pub served : Message → List ℕ → Outcome
-served m out = cond (eqb (m .type) echo-request) (sending (message (echoed m)) out) (outcome (handed (m .type) (length (m .payload))) out)
+unfoldable pub serveMessage : RotMessage → List ℕ → RotOutcome
+serveMessage m out = cond (eqb (m .type) echo-request) (rotWriteInto (rotMessage (echoed m)) out) (rotOutcome (handed (m .type) (length (m .payload))) out)
 
-unfoldable pub answering : Judged → List ℕ → Outcome
-answering (failure n) out = outcome (refused n) out
-answering unsent out = outcome nothing out
-answering (good m) out = served m out
+unfoldable pub answerTo : RotVerdict → List ℕ → RotOutcome
+answerTo (failure n) out = rotOutcome (refused n) out
+answerTo unsent out = rotOutcome nothing out
+answerTo (good m) out = serveMessage m out
 
 -- A call of `read`.
-unfoldable pub reading : List ℕ → List ℕ → Outcome
-reading input out = answering (judge input) out
+unfoldable pub rotReadPromise : List ℕ → List ℕ → RotOutcome
+rotReadPromise input out = answerTo (rotJudge input) out
 
-unfoldable pub report : Answer → Report
-report (answer.Refused why) = refused (numberOf why)
-report answer.Nothing = nothing
-report (answer.Message head) = handed (head .kind) (head .length)
-report (answer.Echoed n) = wrote n
+unfoldable pub rotReadReport : Answer → RotReport
+rotReadReport (answer.Refused why) = refused (refusalNumber why)
+rotReadReport answer.Nothing = nothing
+rotReadReport (answer.Message head) = handed (head .kind) (head .length)
+rotReadReport (answer.Echoed n) = wrote n
 
 -- A call of `payload`: that of the message that `read` hands out; an empty part where it hands out none.
-unfoldable pub handedPart : Judged → List ℕ
+unfoldable pub handedPart : RotVerdict → List ℕ
 handedPart (failure n) = []
 handedPart unsent = []
 handedPart (good m) = cond (eqb (m .type) echo-request) [] (m .payload)
 
 unfoldable pub payloadPart : List ℕ → List ℕ
-payloadPart input = handedPart (judge input)
+payloadPart input = handedPart (rotJudge input)

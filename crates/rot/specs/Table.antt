@@ -18,9 +18,9 @@ shifts zero c = c
 shifts (suc n) c = shifts n (shift c)
 
 -- the entry at a byte: eight shifts of the register with the byte at its top
-unfoldable pub entryOf : ℕ → ℕ
-entryOf byte = shifts 8 (byte * 2 ^ 24)
+unfoldable pub tableEntry : ℕ → ℕ
+tableEntry byte = shifts 8 (byte * 2 ^ 24)
 
 -- every entry of a table of 256 follows the rule
 abbrev pub Entries : List ℕ → Type 0
-Entries table = (byte : ℕ) → byte < 256 → getD table byte 0 ≡ entryOf byte
+Entries table = (byte : ℕ) → byte < 256 → getD table byte 0 ≡ tableEntry byte

@@ -6,20 +6,20 @@ use lib.Dec.{ltb}
 use lib.ListN.{length}
 use Prim.Native.Nat.{ℕ}
 use Rattle.rot.specs.Limits.{longest-payload}
-use Rattle.rot.specs.Message.{listed, Message, message}
-use Rattle.rot.specs.Answers.{Report, refused, wrote, Outcome, outcome, sending, numberOf}
+use Rattle.rot.specs.Message.{listedType, RotMessage, rotMessage}
+use Rattle.rot.specs.Answers.{RotReport, refused, wrote, RotOutcome, rotOutcome, rotWriteInto, refusalNumber}
 use Rattle.rot.specs.declared.writer.Written.{Written}
 use Rattle.rot.specs.declared.writer.Written.the-variants as answer
 
-unfoldable pub report : Written → Report
-report (answer.Done n) = wrote n
-report (answer.Refused why) = refused (numberOf why)
+unfoldable pub rotWriteReport : Written → RotReport
+rotWriteReport (answer.Done n) = wrote n
+rotWriteReport (answer.Refused why) = refused (refusalNumber why)
 
-abbrev pub messageOf : ℕ → List ℕ → Message
-messageOf type payload = record { type = type; payload = payload }
+abbrev pub rotMessageOf : ℕ → List ℕ → RotMessage
+rotMessageOf type payload = record { type = type; payload = payload }
 
 -- 23: length over 512; 26: type not 01 to 09; then 8
-unfoldable pub writing : Message → List ℕ → Outcome
-writing m out =
-    cond (ltb longest-payload (length (m .payload))) (outcome (refused 23) out)
-    (cond (listed (m .type)) (sending (message m) out) (outcome (refused 26) out))
+unfoldable pub rotWritePromise : RotMessage → List ℕ → RotOutcome
+rotWritePromise m out =
+    cond (ltb longest-payload (length (m .payload))) (rotOutcome (refused 23) out)
+    (cond (listedType (m .type)) (rotWriteInto (rotMessage m) out) (rotOutcome (refused 26) out))

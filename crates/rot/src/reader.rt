@@ -10,9 +10,9 @@ ghost use Prim.Native.Nat.{_+_};
 ghost use lib.Dec.{eqb};
 ghost use Rattle.rot.specs.Message.{echo-response};
 ghost use Rattle.rot.specs.Crc.{crc};
-ghost use Rattle.rot.specs.Answers.{outcome};
-ghost use Rattle.rot.specs.Writing.{messageOf, writing};
-ghost use Rattle.rot.specs.Reading.{lengthOf, crcField, checked, judgeMessage, judgeLength, judge, judgedAs, report, reading, payloadPart};
+ghost use Rattle.rot.specs.Answers.{rotOutcome};
+ghost use Rattle.rot.specs.Writing.{rotMessageOf, rotWritePromise};
+ghost use Rattle.rot.specs.Reading.{payloadLength, crcField, checked, judgeMessage, judgeLength, rotJudge, judgedAs, rotReadReport, rotReadPromise, payloadPart};
 
 // A message that is handed out: its type, and how long its payload is, which lies in the input.
 pub struct Head {
@@ -20,7 +20,7 @@ pub struct Head {
     pub length: usize,
 }
 
-// What a call of `read` answers; `report` in specs/Reading.antt gives document 02's numbers and values.
+// What a call of `read` answers; `rotReadReport` in specs/Reading.antt gives document 02's numbers and values.
 pub enum Answer {
     Refused(Refusal),
     Nothing,
@@ -37,7 +37,7 @@ enum Verdict {
 
 // Reads what came. An echo request is answered in `out`, which stays as it is otherwise.
 pub fn read(input: &[u8], out: &mut [u8]) -> Answer
-    ensures { λ r. ⌜ outcome (report r) (now (out .exit)) ≡ reading (now (input .entry)) (now (out .entry)) ⌝ }
+    ensures { λ r. ⌜ rotOutcome (rotReadReport r) (now (out .exit)) ≡ rotReadPromise (now (input .entry)) (now (out .entry)) ⌝ }
 {
     let verdict = judge(input);
     match verdict {
@@ -73,7 +73,7 @@ pub fn payload<'a>(input: &'a [u8]) -> &'a [u8]
 
 // The answer to an echo request with this payload.
 fn echo(payload: &[u8], out: &mut [u8]) -> Answer
-    ensures { λ r. ⌜ outcome (report r) (now (out .exit)) ≡ writing (messageOf echo-response (now (payload .entry))) (now (out .entry)) ⌝ }
+    ensures { λ r. ⌜ rotOutcome (rotReadReport r) (now (out .exit)) ≡ rotWritePromise (rotMessageOf echo-response (now (payload .entry))) (now (out .entry)) ⌝ }
 {
     let written = writer::write(limits::ECHO_RESPONSE, payload, out);
     match written {
@@ -84,7 +84,7 @@ fn echo(payload: &[u8], out: &mut [u8]) -> Answer
 
 // The tests down to the header's length.
 fn judge(input: &[u8]) -> Verdict
-    ensures { λ r. ⌜ judgedAs (now (input .entry)) r ≡ judge (now (input .entry)) ⌝ }
+    ensures { λ r. ⌜ judgedAs (now (input .entry)) r ≡ rotJudge (now (input .entry)) ⌝ }
 {
     if input.len() == 0 {
         return Verdict::Refused(Refusal::NoInput);
@@ -118,7 +118,7 @@ fn judge_length(input: &[u8]) -> Verdict
 
 // The tests of a message with a payload of n bytes.
 fn judge_message(input: &[u8], n: usize) -> Verdict
-    requires { ⌜ n ≡ lengthOf (now input) ⌝ }
+    requires { ⌜ n ≡ payloadLength (now input) ⌝ }
     ensures { λ r. ⌜ judgedAs (now (input .entry)) r ≡ judgeMessage (now (input .entry)) ⌝ }
 {
     let kind = octets::read_u8(input, limits::TYPE_OFFSET);
@@ -135,7 +135,7 @@ fn judge_message(input: &[u8], n: usize) -> Verdict
 
 // Whether a message with a payload of n bytes carries its CRC.
 fn has_its_crc(input: &[u8], n: usize) -> bool
-    requires { ⌜ n ≡ lengthOf (now input) ⌝ }
+    requires { ⌜ n ≡ payloadLength (now input) ⌝ }
     ensures { λ r. ⌜ r ≡ eqb (crcField (now (input .entry))) (crc (checked (now (input .entry)))) ⌝ }
 {
     let start = octets::part(input, 0, limits::START_LENGTH);

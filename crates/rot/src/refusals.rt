@@ -1,7 +1,7 @@
-// Why a call of the root-of-trust link is refused; `numberOf` in specs/Answers.antt gives document 02's numbers.
+// Why a call of the root-of-trust link is refused; `refusalNumber` in specs/Answers.antt gives document 02's numbers.
 // Assumes nothing.
 ghost use mathlib.Core.Path.{_≡_};
-ghost use Rattle.rot.specs.Answers.{numberOf};
+ghost use Rattle.rot.specs.Answers.{refusalNumber};
 
 pub enum Refusal {
     NoRoom,
@@ -16,7 +16,7 @@ pub enum Refusal {
 
 // The number of a refusal.
 pub fn number(why: Refusal) -> u32
-    ensures { λ r. ⌜ r ≡ numberOf why ⌝ }
+    ensures { λ r. ⌜ r ≡ refusalNumber why ⌝ }
 {
     match why {
         Refusal::NoRoom => 8,

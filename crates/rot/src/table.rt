@@ -1,7 +1,7 @@
 // The constant table of the CRC: at each byte, the register that has that byte at its top, after eight shifts.
 // Assumes nothing.
 ghost use mathlib.Core.Path.{_≡_};
-ghost use Rattle.rot.specs.Table.{entryOf, Entries};
+ghost use Rattle.rot.specs.Table.{tableEntry, Entries};
 
 const TABLE: [u32; 256] = [
     0x00000000,
@@ -272,7 +272,7 @@ pub(crate) fn table() -> [u32; 256]
 // The entry at a byte.
 pub(crate) fn entry(table: &[u32; 256], byte: u8) -> u32
     requires { ⌜ Entries (now table) ⌝ }
-    ensures { λ r. ⌜ r ≡ entryOf byte ⌝ }
+    ensures { λ r. ⌜ r ≡ tableEntry byte ⌝ }
 {
     table[byte as usize]
 }

@@ -7,10 +7,10 @@ ghost use mathlib.Core.Path.{_≡_};
 ghost use Prim.Native.Nat.{_+_, _≤_};
 ghost use lib.ListN.{length};
 ghost use Rattle.octets.specs.Bytes.{overlay};
-ghost use Rattle.rot.specs.Limits.{header-length, longest-payload};
-ghost use Rattle.rot.specs.Message.{listed, crcOf, message};
-ghost use Rattle.rot.specs.Answers.{outcome};
-ghost use Rattle.rot.specs.Writing.{report, messageOf, writing};
+ghost use Rattle.rot.specs.Limits.{rot-header-length, longest-payload};
+ghost use Rattle.rot.specs.Message.{listedType, crcOf, rotMessage};
+ghost use Rattle.rot.specs.Answers.{rotOutcome};
+ghost use Rattle.rot.specs.Writing.{rotWriteReport, rotMessageOf, rotWritePromise};
 
 // What a call of `write` answers: how many bytes it wrote, or why it wrote none.
 pub enum Written {
@@ -20,7 +20,7 @@ pub enum Written {
 
 // Writes a message of version 1.
 pub fn write(kind: u8, payload: &[u8], out: &mut [u8]) -> Written
-    ensures { λ r. ⌜ outcome (report r) (now (out .exit)) ≡ writing (messageOf kind (now (payload .entry))) (now (out .entry)) ⌝ }
+    ensures { λ r. ⌜ rotOutcome (rotWriteReport r) (now (out .exit)) ≡ rotWritePromise (rotMessageOf kind (now (payload .entry))) (now (out .entry)) ⌝ }
 {
     if limits::LONGEST_PAYLOAD < payload.len() {
         return Written::Refused(Refusal::TooLong);
@@ -37,7 +37,7 @@ pub fn write(kind: u8, payload: &[u8], out: &mut [u8]) -> Written
 
 // Whether a type is 01 to 09.
 pub(crate) fn is_listed(kind: u8) -> bool
-    ensures { λ r. ⌜ r ≡ listed kind ⌝ }
+    ensures { λ r. ⌜ r ≡ listedType kind ⌝ }
 {
     if kind < limits::ERROR_RESPONSE {
         return false;
@@ -48,8 +48,8 @@ pub(crate) fn is_listed(kind: u8) -> bool
 // The message's bytes at the start of the room.
 fn put(kind: u8, payload: &[u8], out: &mut [u8])
     requires { ⌜ length (now payload) ≤ longest-payload ⌝ }
-    requires { ⌜ header-length + length (now payload) ≤ length (now out) ⌝ }
-    ensures { λ _. ⌜ now (out .exit) ≡ overlay 0 (message (messageOf kind (now (payload .entry)))) (now (out .entry)) ⌝ }
+    requires { ⌜ rot-header-length + length (now payload) ≤ length (now out) ⌝ }
+    ensures { λ _. ⌜ now (out .exit) ≡ overlay 0 (rotMessage (rotMessageOf kind (now (payload .entry)))) (now (out .entry)) ⌝ }
 {
     let crc = crc_for(kind, payload);
     out[0] = limits::VERSION_1;
@@ -62,7 +62,7 @@ fn put(kind: u8, payload: &[u8], out: &mut [u8])
 // The CRC that a message carries.
 fn crc_for(kind: u8, payload: &[u8]) -> u32
     requires { ⌜ length (now payload) ≤ longest-payload ⌝ }
-    ensures { λ r. ⌜ r ≡ crcOf (messageOf kind (now (payload .entry))) ⌝ }
+    ensures { λ r. ⌜ r ≡ crcOf (rotMessageOf kind (now (payload .entry))) ⌝ }
 {
     let n = payload.len();
     let start = [limits::VERSION_1, kind, (n % 256) as u8, (n / 256) as u8];

@@ -3,12 +3,12 @@
 use mathlib.Core.Path.{refl}
 use Rattle.octets.specs.Bytes.{number, bytes, overlay}
 use Rattle.rot.specs.Crc.{afterBit, afterBits, bits, afterBytes, crc}
-use Rattle.rot.specs.Message.{start, crcOf, message}
-use Rattle.rot.specs.Answers.{sending}
-use Rattle.rot.specs.Reading.{judgeMessage, judgeLength, judge, served, answering, reading}
-use Rattle.rot_claims.specs.Samples.{meant, samples}
-use Rattle.rot_claims.specs.Item7.{SamplesHold}
+use Rattle.rot.specs.Message.{headerStart, crcOf, rotMessage}
+use Rattle.rot.specs.Answers.{rotWriteInto}
+use Rattle.rot.specs.Reading.{judgeMessage, judgeLength, rotJudge, serveMessage, answerTo, rotReadPromise}
+use Rattle.rot_claims.specs.Samples.{rotSampleMeant, rotSamples}
+use Rattle.rot_claims.specs.Item7.{RotSamplesHold}
 
-pub samples-hold : SamplesHold
-unfolding meant samples number bytes overlay afterBit afterBits bits afterBytes crc start crcOf message sending judgeMessage judgeLength judge served answering reading
+pub samples-hold : RotSamplesHold
+unfolding rotSampleMeant rotSamples number bytes overlay afterBit afterBits bits afterBytes crc headerStart crcOf rotMessage rotWriteInto judgeMessage judgeLength rotJudge serveMessage answerTo rotReadPromise
 samples-hold = refl

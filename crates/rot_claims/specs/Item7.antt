@@ -12,33 +12,33 @@ use lib.ListN.{length, take, drop, getD}
 use Rattle.line_claims.specs.TableTests.{TableTest, test, firstFailing}
 use Rattle.octets.specs.Bytes.{Byte, Each}
 use Rattle.rot.specs.Limits.{longest-payload}
-use Rattle.rot.specs.Message.{echo-request, echo-response, listed, Message, message, echoed}
+use Rattle.rot.specs.Message.{echo-request, echo-response, listedType, RotMessage, rotMessage, echoed}
 use Rattle.rot.specs.Crc.{afterBits, bits}
 use Rattle.rot.specs.Table.{Entries}
-use Rattle.rot.specs.Answers.{refused, nothing, handed, wrote, Outcome, outcome, sending}
-use Rattle.rot.specs.Reading.{typeOf, payloadOf, noInput, nothingSent, wrongProtocol, shortHeader, longPayload}
+use Rattle.rot.specs.Answers.{refused, nothing, handed, wrote, RotOutcome, rotOutcome, rotWriteInto}
+use Rattle.rot.specs.Reading.{typeOf, rotPayload, noInput, nothingSent, wrongProtocol, shortHeader, longPayload}
 use Rattle.rot.specs.Reading.{cutShort, wrongCrc, wrongType}
-use Rattle.rot.specs.Reading.{good, judge, reading, payloadPart}
-use Rattle.rot.specs.Writing.{messageOf, writing}
-use Rattle.rot_claims.specs.Samples.{meant, samples}
+use Rattle.rot.specs.Reading.{good, rotJudge, rotReadPromise, payloadPart}
+use Rattle.rot.specs.Writing.{rotMessageOf, rotWritePromise}
+use Rattle.rot_claims.specs.Samples.{rotSampleMeant, rotSamples}
 
 -- a message that the writer does not refuse
-pub record Sendable (m : Message) : Type 0 where
-  pub type : listed (m .type) ≡ true
+pub record Sendable (m : RotMessage) : Type 0 where
+  pub type : listedType (m .type) ≡ true
   pub short : length (m .payload) ≤ longest-payload
 
 -- how the reader takes a message: an echo request is answered, any other is handed out
-pub record ReadAs (m : Message) (input : List ℕ) : Type 0 where
+pub record ReadAs (m : RotMessage) (input : List ℕ) : Type 0 where
   pub handed-out : (m .type ≡ echo-request → ⊥) → (out : List ℕ)
-      → (reading input out ≡ outcome (handed (m .type) (length (m .payload))) out) × (payloadPart input ≡ m .payload)
-  pub echo : m .type ≡ echo-request → (out : List ℕ) → (reading input out ≡ sending (message (echoed m)) out) × (payloadPart input ≡ [])
+      → (rotReadPromise input out ≡ rotOutcome (handed (m .type) (length (m .payload))) out) × (payloadPart input ≡ m .payload)
+  pub echo : m .type ≡ echo-request → (out : List ℕ) → (rotReadPromise input out ≡ rotWriteInto (rotMessage (echoed m)) out) × (payloadPart input ≡ [])
 
 -- a call of the reader that wrote has answered an echo request
-pub record Echoed (input : List ℕ) (n : ℕ) (o : Outcome) : Type 0 where
-  pub asked : Message
-  pub judged : judge input ≡ good asked
+pub record Echoed (input : List ℕ) (n : ℕ) (o : RotOutcome) : Type 0 where
+  pub asked : RotMessage
+  pub judged : rotJudge input ≡ good asked
   pub request : asked .type ≡ echo-request
-  pub bytes : take n (o .out) ≡ message (echoed asked)
+  pub bytes : take n (o .out) ≡ rotMessage (echoed asked)
 
 -- the reader's tests in document 02's order; protocol 0, whatever follows, is no refusal; 8 is for the echo's answer
 unfoldable pub linkTests : List ℕ → List ℕ → List TableTest
@@ -51,73 +51,73 @@ linkTests input out =
     ∷ test 24 (cutShort input)
     ∷ test 25 (wrongCrc input)
     ∷ test 26 (wrongType input)
-    ∷ test 8 (eqb (typeOf input) echo-request && ltb (length out) (length (message (messageOf echo-response (payloadOf input)))))
+    ∷ test 8 (eqb (typeOf input) echo-request && ltb (length out) (length (rotMessage (rotMessageOf echo-response (rotPayload input)))))
     ∷ [])
 
 abbrev pub LinkRefusedExactly : Type 0
-LinkRefusedExactly = (input out : List ℕ) (n : ℕ) → (reading input out .answer ≡ refused n) ↔ (firstFailing (linkTests input out) ≡ some n)
+LinkRefusedExactly = (input out : List ℕ) (n : ℕ) → (rotReadPromise input out .answer ≡ refused n) ↔ (firstFailing (linkTests input out) ≡ some n)
 
 abbrev pub LinkUntouched : Type 0
-LinkUntouched = (input out : List ℕ) (n : ℕ) → reading input out .answer ≡ refused n → reading input out .out ≡ out
+LinkUntouched = (input out : List ℕ) (n : ℕ) → rotReadPromise input out .answer ≡ refused n → rotReadPromise input out .out ≡ out
 
 abbrev pub NothingSent : Type 0
-NothingSent = (rest out : List ℕ) → (reading (0 ∷ rest) out ≡ outcome nothing out) × (payloadPart (0 ∷ rest) ≡ [])
+NothingSent = (rest out : List ℕ) → (rotReadPromise (0 ∷ rest) out ≡ rotOutcome nothing out) × (payloadPart (0 ∷ rest) ≡ [])
 
 -- the writer's tests: 23, 26, then 8
-abbrev pub linkWriterTests : Message → List ℕ → List TableTest
+abbrev pub linkWriterTests : RotMessage → List ℕ → List TableTest
 linkWriterTests m out =
     test 23 (ltb longest-payload (length (m .payload)))
-    ∷ test 26 (not (listed (m .type)))
-    ∷ test 8 (ltb (length out) (length (message m)))
+    ∷ test 26 (not (listedType (m .type)))
+    ∷ test 8 (ltb (length out) (length (rotMessage m)))
     ∷ []
 
 abbrev pub LinkWriterRefusedExactly : Type 0
-LinkWriterRefusedExactly = (m : Message) (out : List ℕ) (n : ℕ)
-    → (writing m out .answer ≡ refused n) ↔ (firstFailing (linkWriterTests m out) ≡ some n)
+LinkWriterRefusedExactly = (m : RotMessage) (out : List ℕ) (n : ℕ)
+    → (rotWritePromise m out .answer ≡ refused n) ↔ (firstFailing (linkWriterTests m out) ≡ some n)
 
 abbrev pub LinkWriterUntouched : Type 0
-LinkWriterUntouched = (m : Message) (out : List ℕ) (n : ℕ) → writing m out .answer ≡ refused n → writing m out .out ≡ out
+LinkWriterUntouched = (m : RotMessage) (out : List ℕ) (n : ℕ) → rotWritePromise m out .answer ≡ refused n → rotWritePromise m out .out ≡ out
 
 abbrev pub LinkWriterWrites : Type 0
-LinkWriterWrites = (m : Message) (out : List ℕ) → firstFailing (linkWriterTests m out) ≡ none
-    → writing m out ≡ outcome (wrote (length (message m))) (message m ++ drop (length (message m)) out)
+LinkWriterWrites = (m : RotMessage) (out : List ℕ) → firstFailing (linkWriterTests m out) ≡ none
+    → rotWritePromise m out ≡ rotOutcome (wrote (length (rotMessage m))) (rotMessage m ++ drop (length (rotMessage m)) out)
 
 -- one byte of the message, by a table of 256 entries that follow the eight-shift rule
 abbrev pub ByTable : Type 0
 ByTable = (table : List ℕ) → Entries table → (register byte : ℕ) → register < 2 ^ 32 → byte < 256
     → afterBits register (bits 8 byte) ≡ bitXor (getD table (bitXor (register / 2 ^ 24) byte) 0) (register % 2 ^ 24 * 2 ^ 8)
 
-abbrev pub SamplesHold : Type 0
-SamplesHold = map meant samples ≡ samples
+abbrev pub RotSamplesHold : Type 0
+RotSamplesHold = map rotSampleMeant rotSamples ≡ rotSamples
 
 abbrev pub ReadsBack : Type 0
-ReadsBack = (m : Message) (room : List ℕ) (n : ℕ) → writing m room .answer ≡ wrote n → (behind : List ℕ) → ReadAs m (take n (writing m room .out) ++ behind)
+ReadsBack = (m : RotMessage) (room : List ℕ) (n : ℕ) → rotWritePromise m room .answer ≡ wrote n → (behind : List ℕ) → ReadAs m (take n (rotWritePromise m room .out) ++ behind)
 
 abbrev pub EchoReads : Type 0
-EchoReads = (input out : List ℕ) (n : ℕ) → reading input out .answer ≡ wrote n
-    → (e : Echoed input n (reading input out)) × ((behind : List ℕ) → ReadAs (echoed (e .asked)) (take n (reading input out .out) ++ behind))
+EchoReads = (input out : List ℕ) (n : ℕ) → rotReadPromise input out .answer ≡ wrote n
+    → (e : Echoed input n (rotReadPromise input out)) × ((behind : List ℕ) → ReadAs (echoed (e .asked)) (take n (rotReadPromise input out .out) ++ behind))
 
 abbrev pub EchoBack : Type 0
-EchoBack = (payload room out : List ℕ) (n k : ℕ) → let w = writing (messageOf echo-request payload) room in w .answer ≡ wrote n → (behind : List ℕ)
-    → let r = reading (take n (w .out) ++ behind) out in r .answer ≡ wrote k → (after : List ℕ)
-    → ReadAs (messageOf echo-response payload) (take k (r .out) ++ after)
+EchoBack = (payload room out : List ℕ) (n k : ℕ) → let w = rotWritePromise (rotMessageOf echo-request payload) room in w .answer ≡ wrote n → (behind : List ℕ)
+    → let r = rotReadPromise (take n (w .out) ++ behind) out in r .answer ≡ wrote k → (after : List ℕ)
+    → ReadAs (rotMessageOf echo-response payload) (take k (r .out) ++ after)
 
 abbrev pub OneMessage : Type 0
-OneMessage = (m k : Message) (room hall : List ℕ) (i j : ℕ) → writing m room .answer ≡ wrote i → writing k hall .answer ≡ wrote j
-    → (behind after : List ℕ) → take i (writing m room .out) ++ behind ≡ take j (writing k hall .out) ++ after → m ≡ k
+OneMessage = (m k : RotMessage) (room hall : List ℕ) (i j : ℕ) → rotWritePromise m room .answer ≡ wrote i → rotWritePromise k hall .answer ≡ wrote j
+    → (behind after : List ℕ) → take i (rotWritePromise m room .out) ++ behind ≡ take j (rotWritePromise k hall .out) ++ after → m ≡ k
 
-abbrev pub Judged : Type 0
-Judged = (m : Message) (behind : List ℕ) → Sendable m → judge (message m ++ behind) ≡ good m
+abbrev pub JudgedGood : Type 0
+JudgedGood = (m : RotMessage) (behind : List ℕ) → Sendable m → rotJudge (rotMessage m ++ behind) ≡ good m
 
 abbrev pub ReadBytes : Type 0
-ReadBytes = (input : List ℕ) (m : Message) → Each Byte input → judge input ≡ good m → input ≡ message m ++ drop (length (message m)) input
+ReadBytes = (input : List ℕ) (m : RotMessage) → Each Byte input → rotJudge input ≡ good m → input ≡ rotMessage m ++ drop (length (rotMessage m)) input
 
 abbrev pub BehindIgnored : Type 0
-BehindIgnored = (input : List ℕ) (m : Message) → Each Byte input → judge input ≡ good m → (behind : List ℕ) → judge (input ++ behind) ≡ good m
+BehindIgnored = (input : List ℕ) (m : RotMessage) → Each Byte input → rotJudge input ≡ good m → (behind : List ℕ) → rotJudge (input ++ behind) ≡ good m
 
-pub record Item7 : Type 0 where
+pub record RotItem7 : Type 0 where
   -- 003's two echo messages, as a single table, over the meaning itself
-  pub samples-hold : SamplesHold
+  pub samples-hold : RotSamplesHold
   -- the reader refuses exactly by the first of its tests that fails: 20 to 26 in this order, then 8 for the echo's answer
   pub link-refused-exactly : LinkRefusedExactly
   -- and leaves the room then
@@ -141,7 +141,7 @@ pub record Item7 : Type 0 where
   -- bytes that begin with two messages written are of one message
   pub one-message : OneMessage
   -- a message's bytes, with any bytes behind them, are judged as that message
-  pub judged : Judged
+  pub judged : JudgedGood
   -- what is read as a message begins with that message's bytes
   pub read-bytes : ReadBytes
   -- and bytes behind it are ignored

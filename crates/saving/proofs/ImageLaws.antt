@@ -15,8 +15,8 @@ use Rattle.supervisor.specs.Layout.{setting-offset, setting-value-offset, setti
 use Rattle.supervisor.specs.Valid.{validSettings}
 use Rattle.supervisor.proofs.OffsetLaws.{offset-within}
 use Rattle.supervisor.proofs.ValidLaws.{settings-valid}
-use Rattle.saving.specs.Saving.{saved-count, end-mark, recordOf}
-use Rattle.saving.specs.Calls.{recordBytes, recordsFrom, imageBytes, longest-image}
+use Rattle.saving.specs.Saving.{saved-count, end-mark, savedRecord}
+use Rattle.saving.specs.Calls.{savedRecordBytes, savedRecordsFrom, imageBytes, longest-image}
 use Rattle.saving.proofs.StoreLaws.{length-record}
 
 -- ---- a record
@@ -24,16 +24,16 @@ use Rattle.saving.proofs.StoreLaws.{length-record}
 -- the record of a key that has a value of n bytes, by the setting at its offset
 pub record Held (s : List ℕ) (key at n : ℕ) : Type 0 where
   pub within : at + setting-value-offset + n ≤ length s
-  pub its-bytes : recordBytes s key ≡ recordOf key (settingEdition s at) (run (at + setting-value-offset) n s)
-  pub size : length (recordBytes s key) ≡ 11 + n
+  pub its-bytes : savedRecordBytes s key ≡ savedRecord key (settingEdition s at) (run (at + setting-value-offset) n s)
+  pub size : length (savedRecordBytes s key) ≡ 11 + n
 
 module _ (s : List ℕ) (key at : ℕ) {held : ℕ} (p : at ≡ setting-offset key) (e : held ≡ settingHeld s at) where
-  pub no-record : (held ≡ 1 → ⊥) → recordBytes s key ≡ []
-  unfolding recordBytes
+  pub no-record : (held ≡ 1 → ⊥) → savedRecordBytes s key ≡ []
+  unfolding savedRecordBytes
   no-record h = rw (← p, ← e, ne-eqb held 1 h)
 
-  a-record : (n : ℕ) → n ≡ settingLength s at → held ≡ 1 → recordBytes s key ≡ recordOf key (settingEdition s at) (run (at + setting-value-offset) n s)
-  unfolding recordBytes
+  a-record : (n : ℕ) → n ≡ settingLength s at → held ≡ 1 → savedRecordBytes s key ≡ savedRecord key (settingEdition s at) (run (at + setting-value-offset) n s)
+  unfolding savedRecordBytes
   a-record n f h = rw (← p, ← e, ← f, eq-eqb held 1 h)
 
   pub held-record : {n : ℕ} → n ≡ settingLength s at → held ≡ 1 → validSettings s ≡ true → SettingsKey key → Held s key at n
@@ -48,10 +48,10 @@ module _ (s : List ℕ) (key at : ℕ) {held : ℕ} (p : at ≡ setting-offset k
         size = rw r (length-record key (settingEdition s at) _ ∙ ap (λ (m : ℕ). 11 + m) (length-run (at + setting-value-offset) n s within));
       }
 
-pub record-most : (s : List ℕ) (key : ℕ) → validSettings s ≡ true → SettingsKey key → length (recordBytes s key) ≤ 11 + longest-setting key
+pub record-most : (s : List ℕ) (key : ℕ) → validSettings s ≡ true → SettingsKey key → length (savedRecordBytes s key) ≤ 11 + longest-setting key
 record-most s key valid k = by (eqb (settingHeld s (setting-offset key)) 1) refl
   where
-    by : (t : Bool) → eqb (settingHeld s (setting-offset key)) 1 ≡ t → length (recordBytes s key) ≤ 11 + longest-setting key
+    by : (t : Bool) → eqb (settingHeld s (setting-offset key)) 1 ≡ t → length (savedRecordBytes s key) ≤ 11 + longest-setting key
     by true e =
         omega (arith, held-record s key (setting-offset key) refl refl refl (eqb-true _ _ e) valid k .size, settings-valid s valid .each key k .size)
     by false e = omega (arith, ap length (no-record s key (setting-offset key) refl refl (eqb-false _ _ e)))
@@ -59,36 +59,36 @@ record-most s key valid k = by (eqb (settingHeld s (setting-offset key)) 1) refl
 -- ---- one record after the other
 
 module _ (s : List ℕ) (i : ℕ) (h : i < saved-count) where
-  pub records-on : recordsFrom s (saved-count - i) (first-setting + i) ≡ recordBytes s (first-setting + i) ++ recordsFrom s (saved-count - (i + 1)) (first-setting + (i + 1))
-  unfolding recordsFrom
+  pub records-on : savedRecordsFrom s (saved-count - i) (first-setting + i) ≡ savedRecordBytes s (first-setting + i) ++ savedRecordsFrom s (saved-count - (i + 1)) (first-setting + (i + 1))
+  unfolding savedRecordsFrom
   records-on =
       let e : saved-count - i ≡ suc (saved-count - (i + 1)) = omega arith in
       let f : first-setting + (i + 1) ≡ suc (first-setting + i) = omega arith in
       rw (e, f)
 
-  pub length-on : length (recordsFrom s (saved-count - i) (first-setting + i))
-      ≡ length (recordBytes s (first-setting + i)) + length (recordsFrom s (saved-count - (i + 1)) (first-setting + (i + 1)))
+  pub length-on : length (savedRecordsFrom s (saved-count - i) (first-setting + i))
+      ≡ length (savedRecordBytes s (first-setting + i)) + length (savedRecordsFrom s (saved-count - (i + 1)) (first-setting + (i + 1)))
   length-on = rw (records-on, length-append)
 
-  pub records-put : (at : ℕ) (out : List ℕ) {t : List ℕ} {there : ℕ} → at ≤ length out → there ≡ at + length (recordBytes s (first-setting + i))
-      → t ≡ overlay at (recordBytes s (first-setting + i)) out
-      → overlay there (recordsFrom s (saved-count - (i + 1)) (first-setting + (i + 1))) t ≡ overlay at (recordsFrom s (saved-count - i) (first-setting + i)) out
-  records-put at out l e f = rw (e, f, records-on) (overlay-next at (recordBytes s (first-setting + i)) _ out l)
+  pub records-put : (at : ℕ) (out : List ℕ) {t : List ℕ} {there : ℕ} → at ≤ length out → there ≡ at + length (savedRecordBytes s (first-setting + i))
+      → t ≡ overlay at (savedRecordBytes s (first-setting + i)) out
+      → overlay there (savedRecordsFrom s (saved-count - (i + 1)) (first-setting + (i + 1))) t ≡ overlay at (savedRecordsFrom s (saved-count - i) (first-setting + i)) out
+  records-put at out l e f = rw (e, f, records-on) (overlay-next at (savedRecordBytes s (first-setting + i)) _ out l)
 
-pub records-end : (s : List ℕ) (i : ℕ) → saved-count ≤ i → recordsFrom s (saved-count - i) (first-setting + i) ≡ end-mark
-unfolding recordsFrom
+pub records-end : (s : List ℕ) (i : ℕ) → saved-count ≤ i → savedRecordsFrom s (saved-count - i) (first-setting + i) ≡ end-mark
+unfolding savedRecordsFrom
 records-end s i h = let e : saved-count - i ≡ 0 = omega arith in rw e
 
 -- the end mark, where no record is left
-pub end-put : (s out : List ℕ) (i at : ℕ) → saved-count ≤ i → at + length (recordsFrom s (saved-count - i) (first-setting + i)) ≤ length out
-    → copied end-mark 0 2 out at ≡ overlay at (recordsFrom s (saved-count - i) (first-setting + i)) out
+pub end-put : (s out : List ℕ) (i at : ℕ) → saved-count ≤ i → at + length (savedRecordsFrom s (saved-count - i) (first-setting + i)) ≤ length out
+    → copied end-mark 0 2 out at ≡ overlay at (savedRecordsFrom s (saved-count - i) (first-setting + i)) out
 end-put s out i at h l =
     let e = records-end s i h in
     rw e (copied-fits end-mark 0 2 out at (omega arith) (omega (arith, ap length e)))
 
 -- no image of valid settings is longer
 pub image-short : (s : List ℕ) → validSettings s ≡ true → length (imageBytes s) ≤ longest-image
-unfolding imageBytes recordsFrom longest-setting
+unfolding imageBytes savedRecordsFrom longest-setting
 image-short s valid =
     simp length-append
     (omega (

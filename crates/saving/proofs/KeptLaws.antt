@@ -20,8 +20,8 @@ use Rattle.supervisor.specs.Valid.{validSettings}
 use Rattle.supervisor.proofs.OffsetLaws.{offset-within, longest-short, Lies, setting-lies}
 use Rattle.supervisor.proofs.ValidLaws.{settings-valid, valid-settings}
 use Rattle.supervisor.specs.Valid.{SettingValid, SettingsValid}
-use Rattle.saving.specs.Saving.{highest-saved, saved-count, lengthAt, entryAt, Entry, Read, fault, good, read}
-use Rattle.saving.specs.Calls.{Restore, cleared, put, putAll, restoringBy, restoring, entriesIn}
+use Rattle.saving.specs.Saving.{highest-saved, saved-count, savedLengthAt, savedEntryAt, SavedEntry, ImageRead, fault, good, readImage}
+use Rattle.saving.specs.Calls.{RestoreOutcome, cleared, putEntry, putEntries, restoreOutcomeBy, restorePromise, entriesIn}
 use Rattle.saving.proofs.StepLaws.{Passed}
 use Rattle.saving.proofs.ReadLaws.{entries-each}
 use Rattle.saving.proofs.StoreLaws.{length-setting, whole-key}
@@ -98,46 +98,46 @@ cleared-bytes (suc n) s b =
 -- ---- records
 
 -- a record that may stand in its setting
-pub record Allowed (e : Entry) : Type 0 where
+pub record Allowed (e : SavedEntry) : Type 0 where
   pub its-key : SettingsKey (e .key)
   pub saved : e .key ≤ highest-saved
   pub short : length (e .value) ≤ longest-setting (e .key)
 
-pub passed-allowed : (image : List ℕ) {before at key there : ℕ} → Passed image before at key there → Allowed (entryAt image at)
+pub passed-allowed : (image : List ℕ) {before at key there : ℕ} → Passed image before at key there → Allowed (savedEntryAt image at)
 passed-allowed image {at = at} p =
-    let l = length-run (at + 9) (lengthAt image at) image (omega (arith, p .whole .complete)) in
+    let l = length-run (at + 9) (savedLengthAt image at) image (omega (arith, p .whole .complete)) in
     record { its-key = whole-key image at (p .whole); saved = p .whole .upper; short = omega (arith, l, p .whole .short) }
 
-pub entries-allowed : (image : List ℕ) → Each Allowed (entriesIn (read image))
+pub entries-allowed : (image : List ℕ) → Each Allowed (entriesIn (readImage image))
 entries-allowed image = entries-each image Allowed (λ before at key there p. passed-allowed image p)
 
-module _ (e : Entry) (a : Allowed e) (s : List ℕ) (w : SettingsValid s) where
+module _ (e : SavedEntry) (a : Allowed e) (s : List ℕ) (w : SettingsValid s) where
   abbrev xs : List ℕ
   xs = settingBytes (e .edition) (e .value)
 
-  pub entry-valid : SettingsValid (put e s)
+  pub entry-valid : SettingsValid (putEntry e s)
   unfolding number bytes
   entry-valid =
       let l = length-setting (e .edition) (e .value) in
       put-valid s xs (e .key) w (a .its-key) (omega arith) (omega (arith, a .short)) (a .saved) (omega arith) (omega (arith, a .short, longest-short (e .key)))
 
-  entry-long : length (put e s) ≡ length s
+  entry-long : length (putEntry e s) ≡ length s
   entry-long =
       let l = length-setting (e .edition) (e .value) in
       put-long s xs (e .key) w (a .its-key) (omega arith) (omega (arith, a .short))
 
-pub all-valid : (es : List Entry) → Each Allowed es → (s : List ℕ) → SettingsValid s → SettingsValid (putAll es s) × (length (putAll es s) ≡ length s)
-unfolding putAll
+pub all-valid : (es : List SavedEntry) → Each Allowed es → (s : List ℕ) → SettingsValid s → SettingsValid (putEntries es s) × (length (putEntries es s) ≡ length s)
+unfolding putEntries
 all-valid [] a s w = (w, refl)
 all-valid (e ∷ es) a s w =
-    let r = all-valid es (a .1) (put e s) (entry-valid e (a .0) s w) in
+    let r = all-valid es (a .1) (putEntry e s) (entry-valid e (a .0) s w) in
     (r .0, r .1 ∙ entry-long e (a .0) s w)
 
-pub all-bytes : (es : List Entry) → Each (λ e. Each Byte (e .value)) es → (s : List ℕ) → Each Byte s → Each Byte (putAll es s)
-unfolding putAll
+pub all-bytes : (es : List SavedEntry) → Each (λ e. Each Byte (e .value)) es → (s : List ℕ) → Each Byte s → Each Byte (putEntries es s)
+unfolding putEntries
 all-bytes [] h s b = b
 all-bytes (e ∷ es) h s b =
-    all-bytes es (h .1) (put e s)
+    all-bytes es (h .1) (putEntry e s)
     (overlay-each Byte (setting-offset (e .key)) (settingBytes (e .edition) (e .value)) s
     (each-append Byte (bytes 1 1) _ (bytes-each 1 1)
     (each-append Byte (bytes 4 (e .edition)) _ (bytes-each 4 (e .edition))
@@ -147,32 +147,32 @@ all-bytes (e ∷ es) h s b =
 -- ---- the call
 
 module _ (s image : List ℕ) where
-  restored-kept : validSettings s ≡ true → (r : Read) → Each Allowed (entriesIn r)
-      → SettingsValid (restoringBy s r .settings) × (length (restoringBy s r .settings) ≡ length s)
-  unfolding restoringBy
+  restored-kept : validSettings s ≡ true → (r : ImageRead) → Each Allowed (entriesIn r)
+      → SettingsValid (restoreOutcomeBy s r .settings) × (length (restoreOutcomeBy s r .settings) ≡ length s)
+  unfolding restoreOutcomeBy
   restored-kept v (fault n at) a = (settings-valid s v, refl)
   restored-kept v (good es) a =
       let c = cleared-valid s (settings-valid s v) saved-count (omega arith) in
       let r = all-valid es a (cleared saved-count s) (c .0) in
       (r .0, r .1 ∙ c .1)
 
-  pub restored-valid : validSettings s ≡ true → validSettings (restoring s image .settings) ≡ true
-  unfolding restoring
-  restored-valid v = rw v (valid-settings _ (restored-kept v (read image) (entries-allowed image) .0))
+  pub restored-valid : validSettings s ≡ true → validSettings (restorePromise s image .settings) ≡ true
+  unfolding restorePromise
+  restored-valid v = rw v (valid-settings _ (restored-kept v (readImage image) (entries-allowed image) .0))
 
-  pub restored-long : length (restoring s image .settings) ≡ length s
-  unfolding restoring
+  pub restored-long : length (restorePromise s image .settings) ≡ length s
+  unfolding restorePromise
   restored-long =
-      cond-by (λ (r : Restore). length (r .settings) ≡ length s) (validSettings s) _ _
-      (λ v. restored-kept v (read image) (entries-allowed image) .1) (λ _. refl)
+      cond-by (λ (r : RestoreOutcome). length (r .settings) ≡ length s) (validSettings s) _ _
+      (λ v. restored-kept v (readImage image) (entries-allowed image) .1) (λ _. refl)
 
-  bytes-by : Each Byte s → (r : Read) → Each (λ e. Each Byte (e .value)) (entriesIn r) → Each Byte (restoringBy s r .settings)
-  unfolding restoringBy
+  bytes-by : Each Byte s → (r : ImageRead) → Each (λ e. Each Byte (e .value)) (entriesIn r) → Each Byte (restoreOutcomeBy s r .settings)
+  unfolding restoreOutcomeBy
   bytes-by b (fault n at) h = b
   bytes-by b (good es) h = all-bytes es h (cleared saved-count s) (cleared-bytes saved-count s b)
 
-  pub restored-bytes : Each Byte s → Each Byte image → Each Byte (restoring s image .settings)
-  unfolding restoring
+  pub restored-bytes : Each Byte s → Each Byte image → Each Byte (restorePromise s image .settings)
+  unfolding restorePromise
   restored-bytes b i =
-      cond-by (λ (r : Restore). Each Byte (r .settings)) (validSettings s) _ _
-      (λ _. bytes-by b (read image) (entries-each image (λ e. Each Byte (e .value)) (λ before at key there p. each-run (at + 9) (lengthAt image at) image i))) (λ _. b)
+      cond-by (λ (r : RestoreOutcome). Each Byte (r .settings)) (validSettings s) _ _
+      (λ _. bytes-by b (readImage image) (entries-each image (λ e. Each Byte (e .value)) (λ before at key there p. each-run (at + 9) (savedLengthAt image at) image i))) (λ _. b)

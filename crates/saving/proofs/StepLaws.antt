@@ -13,9 +13,9 @@ use Rattle.octets.proofs.Conditions.{cond-by}
 use Rattle.octets.proofs.Equal.{equal-true}
 use Rattle.line.specs.Checksum.{checksum}
 use Rattle.supervisor.specs.Limits.{first-setting, longest-setting}
-use Rattle.saving.specs.Saving.{highest-saved, record-mark, end-mark, Step, bad, ended, to, complete, marked}
-use Rattle.saving.specs.Saving.{keyAt, lengthAt, bodyAt, checksumAt, follows, recordStep, step}
-use Rattle.saving.specs.Calls.{Whole}
+use Rattle.saving.specs.Saving.{highest-saved, record-mark, end-mark, ImageStep, bad, ended, to, complete, marked}
+use Rattle.saving.specs.Saving.{savedKeyAt, savedLengthAt, savedBodyAt, savedChecksumAt, follows, recordStep, imageStep}
+use Rattle.saving.specs.Calls.{WholeRecord}
 
 -- a mark's two bytes are compared
 pub mark-same : (image : List ℕ) (at a b : ℕ) → at + 2 ≤ length image → sameRun image at (a ∷ b ∷ []) 0 2 ≡ marked (a ∷ b ∷ []) image at
@@ -36,7 +36,7 @@ key-follows before key e =
 -- ---- a record behind its key
 
 -- a field that ends no earlier is not complete either
-complete-both : (image : List ℕ) (a b : ℕ) (s : Step) → a ≤ b → complete image a (complete image b s) ≡ complete image b s
+complete-both : (image : List ℕ) (a b : ℕ) (s : ImageStep) → a ≤ b → complete image a (complete image b s) ≡ complete image b s
 complete-both image a b s h =
     cond-by (λ r. r ≡ complete image b s) (ltb (length image) a) _ _
     (λ e. rw (lt-ltb (length image) b (omega (arith, ltb-true (length image) a e)))) (λ _. refl)
@@ -46,7 +46,7 @@ module _ (image : List ℕ) (at : ℕ) where
   unfolding recordStep
   head-cut h = sym (complete-both image (at + 7) (at + 9) _ (omega arith) ∙ rw (lt-ltb (length image) (at + 9) h))
 
-  module _ (n key most : ℕ) (e : n ≡ lengthAt image at) (k : key ≡ keyAt image at) (m : most ≡ longest-setting key) (head : at + 9 ≤ length image) where
+  module _ (n key most : ℕ) (e : n ≡ savedLengthAt image at) (k : key ≡ savedKeyAt image at) (m : most ≡ longest-setting key) (head : at + 9 ≤ length image) where
     pub value-long : most < n → bad 32 (at + 7) ≡ recordStep image at
     unfolding recordStep
     value-long h =
@@ -97,45 +97,45 @@ module _ (image : List ℕ) (at : ℕ) where
 -- ---- the end, or a record
 
 module _ (image : List ℕ) (before at : ℕ) where
-  pub mark-cut : length image < at + 2 → bad 34 (length image) ≡ step image before at
-  unfolding step
+  pub mark-cut : length image < at + 2 → bad 34 (length image) ≡ imageStep image before at
+  unfolding imageStep
   mark-cut h = rw (lt-ltb (length image) (at + 2) h)
 
   module _ {b : Bool} (two : at + 2 ≤ length image) (e : b ≡ sameRun image at end-mark 0 2) where
     is-end : {t : Bool} → b ≡ t → marked end-mark image at ≡ t
     is-end h = sym (e ∙ mark-same image at 0x4b 0x45 two) ∙ h
 
-    pub bytes-behind : b ≡ true → at + 2 < length image → bad 35 (at + 2) ≡ step image before at
-    unfolding step
+    pub bytes-behind : b ≡ true → at + 2 < length image → bad 35 (at + 2) ≡ imageStep image before at
+    unfolding imageStep
     bytes-behind h l = rw (le-ltb (length image) (at + 2) two, is-end h, lt-ltb (at + 2) (length image) l)
 
-    pub end-good : b ≡ true → length image ≤ at + 2 → ended ≡ step image before at
-    unfolding step
+    pub end-good : b ≡ true → length image ≤ at + 2 → ended ≡ imageStep image before at
+    unfolding imageStep
     end-good h l = rw (le-ltb (length image) (at + 2) two, is-end h, le-ltb (at + 2) (length image) l)
 
     module _ {r : Bool} (more : b ≡ false) (f : r ≡ sameRun image at record-mark 0 2) where
       is-record : marked record-mark image at ≡ r
       is-record = sym (f ∙ mark-same image at 0x4b 0x56 two)
 
-      pub mark-wrong : not r ≡ true → bad 30 at ≡ step image before at
-      unfolding step
+      pub mark-wrong : not r ≡ true → bad 30 at ≡ imageStep image before at
+      unfolding imageStep
       mark-wrong h = rw (le-ltb (length image) (at + 2) two, is-end more, is-record, not-true r h)
 
       module _ (mark : not r ≡ false) where
-        pub key-cut : length image < at + 3 → bad 34 (length image) ≡ step image before at
-        unfolding step
+        pub key-cut : length image < at + 3 → bad 34 (length image) ≡ imageStep image before at
+        unfolding imageStep
         key-cut l = rw (le-ltb (length image) (at + 2) two, is-end more, is-record, not-false r mark, lt-ltb (length image) (at + 3) l)
 
-        module _ {t : Bool} {key : ℕ} (three : at + 3 ≤ length image) (k : key ≡ keyAt image at) (g : t ≡ follows before key) where
-          to-key : step image before at ≡ cond t (recordStep image at) (bad 31 (at + 2))
-          unfolding step
+        module _ {t : Bool} {key : ℕ} (three : at + 3 ≤ length image) (k : key ≡ savedKeyAt image at) (g : t ≡ follows before key) where
+          to-key : imageStep image before at ≡ cond t (recordStep image at) (bad 31 (at + 2))
+          unfolding imageStep
           to-key =
               rw (le-ltb (length image) (at + 2) two, is-end more, is-record, not-false r mark, le-ltb (length image) (at + 3) three, ← k, ← g)
 
-          pub key-wrong : not t ≡ true → bad 31 (at + 2) ≡ step image before at
+          pub key-wrong : not t ≡ true → bad 31 (at + 2) ≡ imageStep image before at
           key-wrong h = rw (to-key, not-true t h)
 
-          pub key-good : not t ≡ false → recordStep image at ≡ step image before at
+          pub key-good : not t ≡ false → recordStep image at ≡ imageStep image before at
           key-good h = rw (to-key, not-false t h)
 
 -- ---- what each answer says of the bytes
@@ -143,34 +143,34 @@ module _ (image : List ℕ) (before at : ℕ) where
 -- a record, its key and the offset behind it
 pub record Passed (image : List ℕ) (before at key there : ℕ) : Type 0 where
   pub mark : run at 2 image ≡ record-mark
-  pub whole : Whole image at
-  pub above : before < keyAt image at
-  pub sum : checksumAt image at ≡ checksum (bodyAt image at)
-  pub its-key : key ≡ keyAt image at
-  pub behind : there ≡ at + (11 + lengthAt image at)
+  pub whole : WholeRecord image at
+  pub above : before < savedKeyAt image at
+  pub sum : savedChecksumAt image at ≡ checksum (savedBodyAt image at)
+  pub its-key : key ≡ savedKeyAt image at
+  pub behind : there ≡ at + (11 + savedLengthAt image at)
 
-abbrev pub Sound : List ℕ → ℕ → ℕ → Step → Type 0
+abbrev pub Sound : List ℕ → ℕ → ℕ → ImageStep → Type 0
 Sound image before at (bad n there) = Unit {0}
 Sound image before at ended = (run at 2 image ≡ end-mark) × (length image ≡ at + 2)
 Sound image before at (to key there) = Passed image before at key there
 
 module _ (image : List ℕ) (before at : ℕ) where
-  abbrev P : Step → Type 0
+  abbrev P : ImageStep → Type 0
   P = Sound image before at
 
-  complete-sound : (past : ℕ) (s : Step) → (past ≤ length image → P s) → P (complete image past s)
+  complete-sound : (past : ℕ) (s : ImageStep) → (past ≤ length image → P s) → P (complete image past s)
   complete-sound past s f = cond-by P (ltb (length image) past) _ _ (λ _. tt) (λ e. f (ltb-false (length image) past e))
 
-  record-sound : marked record-mark image at ≡ true → follows before (keyAt image at) ≡ true → P (recordStep image at)
+  record-sound : marked record-mark image at ≡ true → follows before (savedKeyAt image at) ≡ true → P (recordStep image at)
   unfolding recordStep
   record-sound m f =
-      let k = key-follows before (keyAt image at) f in
+      let k = key-follows before (savedKeyAt image at) f in
       complete-sound (at + 7) _ (λ _.
       complete-sound (at + 9) _ (λ _.
-      cond-by P (ltb (longest-setting (keyAt image at)) (lengthAt image at)) _ _ (λ _. tt) (λ short.
-      complete-sound (at + (9 + lengthAt image at)) _ (λ _.
-      complete-sound (at + (11 + lengthAt image at)) _ (λ whole.
-      cond-by P (eqb (checksumAt image at) (checksum (bodyAt image at))) _ _
+      cond-by P (ltb (longest-setting (savedKeyAt image at)) (savedLengthAt image at)) _ _ (λ _. tt) (λ short.
+      complete-sound (at + (9 + savedLengthAt image at)) _ (λ _.
+      complete-sound (at + (11 + savedLengthAt image at)) _ (λ whole.
+      cond-by P (eqb (savedChecksumAt image at) (checksum (savedBodyAt image at))) _ _
       (λ sum. record {
         mark = equal-true _ _ m;
         whole = record { lower = k .0; upper = k .1; short = ltb-false _ _ short; complete = whole };
@@ -181,8 +181,8 @@ module _ (image : List ℕ) (before at : ℕ) where
       })
       (λ _. tt))))))
 
-  pub step-sound : P (step image before at)
-  unfolding step
+  pub step-sound : P (imageStep image before at)
+  unfolding imageStep
   step-sound =
       complete-sound (at + 2) _ (λ two.
       cond-by P (marked end-mark image at) _ _
@@ -191,8 +191,8 @@ module _ (image : List ℕ) (before at : ℕ) where
       (λ e. (equal-true _ _ m, omega (arith, ltb-false (at + 2) (length image) e))))
       (λ _.
       cond-by P (marked record-mark image at) _ _
-      (λ m. complete-sound (at + 3) _ (λ _. cond-by P (follows before (keyAt image at)) _ _ (λ f. record-sound m f) (λ _. tt)))
+      (λ m. complete-sound (at + 3) _ (λ _. cond-by P (follows before (savedKeyAt image at)) _ _ (λ f. record-sound m f) (λ _. tt)))
       (λ _. tt)))
 
-  pub passed : {key there : ℕ} → step image before at ≡ to key there → Passed image before at key there
+  pub passed : {key there : ℕ} → imageStep image before at ≡ to key there → Passed image before at key there
   passed e = rw e at step-sound

@@ -12,9 +12,9 @@ use Rattle.line.specs.Checksum.{checksum}
 use Rattle.supervisor.specs.Limits.{SettingsKey}
 use Rattle.supervisor.specs.Layout.{setting-value-offset, setting-offset, settings-length, settingBytes}
 use Rattle.supervisor.proofs.OffsetLaws.{offset-within}
-use Rattle.saving.specs.Saving.{record-mark, recordBody, recordOf, keyAt, editionAt, lengthAt, entryAt}
+use Rattle.saving.specs.Saving.{record-mark, recordBody, savedRecord, savedKeyAt, savedEditionAt, savedLengthAt, savedEntryAt}
 use Rattle.saving.specs.Calls
-use Rattle.saving.specs.Calls.{settingHead, Whole}
+use Rattle.saving.specs.Calls.{settingHead, WholeRecord}
 
 -- ---- a setting
 
@@ -46,27 +46,27 @@ setting-put at edition n from src s f room =
     (simp append-assoc)
 
 -- a record of an image in its setting
-module _ (image : List ℕ) (at : ℕ) (w : Whole image at) where
-  pub whole-key : SettingsKey (keyAt image at)
+module _ (image : List ℕ) (at : ℕ) (w : WholeRecord image at) where
+  pub whole-key : SettingsKey (savedKeyAt image at)
   whole-key = record { lower = w .lower; upper = omega (arith, w .upper) }
 
-  pub whole-room : setting-offset (keyAt image at) + (setting-value-offset + lengthAt image at) ≤ settings-length
-  whole-room = omega (arith, offset-within (keyAt image at) whole-key, w .short)
+  pub whole-room : setting-offset (savedKeyAt image at) + (setting-value-offset + savedLengthAt image at) ≤ settings-length
+  whole-room = omega (arith, offset-within (savedKeyAt image at) whole-key, w .short)
 
-  pub entry-put : (s : List ℕ) {n key offset edition : ℕ} {t u : List ℕ} → n ≡ lengthAt image at → key ≡ keyAt image at → offset ≡ setting-offset key
-      → edition ≡ editionAt image at → settings-length ≤ length s → t ≡ overlay offset (settingHead 1 edition n) s
-      → u ≡ copied image (at + 9) n t (offset + setting-value-offset) → u ≡ Calls.put (entryAt image at) s
+  pub entry-put : (s : List ℕ) {n key offset edition : ℕ} {t u : List ℕ} → n ≡ savedLengthAt image at → key ≡ savedKeyAt image at → offset ≡ setting-offset key
+      → edition ≡ savedEditionAt image at → settings-length ≤ length s → t ≡ overlay offset (settingHead 1 edition n) s
+      → u ≡ copied image (at + 9) n t (offset + setting-value-offset) → u ≡ Calls.putEntry (savedEntryAt image at) s
   entry-put s e k p d room f g =
       rw (g, f, p, k, e, d)
-      (setting-put (setting-offset (keyAt image at)) (editionAt image at) (lengthAt image at) (at + 9) image s (omega (arith, w .complete)) (omega (arith, whole-room)))
+      (setting-put (setting-offset (savedKeyAt image at)) (savedEditionAt image at) (savedLengthAt image at) (at + 9) image s (omega (arith, w .complete)) (omega (arith, whole-room)))
 
 -- ---- a record
 
 pub length-body : (key edition : ℕ) (v : List ℕ) → length (recordBody key edition v) ≡ 9 + length v
 length-body key edition v = simp (length-append, length-bytes) (omega arith)
 
-pub length-record : (key edition : ℕ) (v : List ℕ) → length (recordOf key edition v) ≡ 11 + length v
-unfolding recordOf
+pub length-record : (key edition : ℕ) (v : List ℕ) → length (savedRecord key edition v) ≡ 11 + length v
+unfolding savedRecord
 length-record key edition v = simp (length-append, length-bytes) (omega arith)
 
 module _ (at key edition n from : ℕ) (src s : List ℕ) (small : key < 256) (f : from + n ≤ length src) (room : at + (9 + n) ≤ length s) where
@@ -91,8 +91,8 @@ module _ (at key edition n from : ℕ) (src s : List ℕ) (small : key < 256) (f
 
   -- the checksum behind the body
   pub record-put : {t : List ℕ} {sum : ℕ} → at + (11 + n) ≤ length s → t ≡ overlay at (recordBody key edition v) s → sum ≡ checksum (run at (9 + n) t)
-      → put (at + (9 + n)) (bytes 2 sum) t ≡ overlay at (recordOf key edition v) s
-  unfolding recordOf
+      → put (at + (9 + n)) (bytes 2 sum) t ≡ overlay at (savedRecord key edition v) s
+  unfolding savedRecord
   record-put more e g =
       let b : length (recordBody key edition v) ≡ 9 + n = length-body key edition v ∙ ap (λ (m : ℕ). 9 + m) (length-run from n src f) in
       let i : run at (9 + n) (overlay at (recordBody key edition v) s) ≡ recordBody key edition v

@@ -11,7 +11,7 @@ use Rattle.supervisor.specs.Limits
 use Rattle.supervisor.specs.Layout
 use Rattle.supervisor.specs.Valid.{validSettings}
 use Rattle.saving.specs.Saving
-use Rattle.saving.specs.Saving.{Entry, Read, fault, good, Step, bad, ended, to}
+use Rattle.saving.specs.Saving.{SavedEntry, ImageRead, fault, good, ImageStep, bad, ended, to}
 use Rattle.saving.specs.declared.save.Saved.{Saved}
 use Rattle.saving.specs.declared.save.Saved.the-variants as saved
 use Rattle.saving.specs.declared.restore.Restored.{Restored}
@@ -28,20 +28,20 @@ abbrev pub bodyBytes : List ℕ → ℕ → ℕ → ℕ → List ℕ
 bodyBytes s at n key = Saving.recordBody key (Layout.settingEdition s at) (run (at + Layout.setting-value-offset) n s)
 
 -- the record of a key by its setting; none where it has no value
-unfoldable pub recordBytes : List ℕ → ℕ → List ℕ
-recordBytes s key =
+unfoldable pub savedRecordBytes : List ℕ → ℕ → List ℕ
+savedRecordBytes s key =
     let at = Layout.setting-offset key in
     cond (eqb (Layout.settingHeld s at) 1)
-    (Saving.recordOf key (Layout.settingEdition s at) (run (at + Layout.setting-value-offset) (Layout.settingLength s at) s))
+    (Saving.savedRecord key (Layout.settingEdition s at) (run (at + Layout.setting-value-offset) (Layout.settingLength s at) s))
     []
 
 -- those of n keys from a key on, then the end mark
-unfoldable pub recordsFrom : List ℕ → ℕ → ℕ → List ℕ
-recordsFrom s zero key = Saving.end-mark
-recordsFrom s (suc n) key = recordBytes s key ++ recordsFrom s n (suc key)
+unfoldable pub savedRecordsFrom : List ℕ → ℕ → ℕ → List ℕ
+savedRecordsFrom s zero key = Saving.end-mark
+savedRecordsFrom s (suc n) key = savedRecordBytes s key ++ savedRecordsFrom s n (suc key)
 
 unfoldable pub imageBytes : List ℕ → List ℕ
-imageBytes s = recordsFrom s Saving.saved-count Limits.first-setting
+imageBytes s = savedRecordsFrom s Saving.saved-count Limits.first-setting
 
 -- the longest image: every saved setting at its longest, each with mark, key, edition, length and checksum, and the end mark
 abbrev pub records-size : List ℕ → ℕ
@@ -61,16 +61,16 @@ saveReport (saved.Done n) = written n
 saveReport saved.Refused = refused 12
 saveReport saved.NoRoom = refused 8
 
-pub record Save : Type 0 where
+pub record SaveOutcome : Type 0 where
   pub report : SaveReport
   pub room : List ℕ
 
-abbrev pub saveOf : Saved → List ℕ → Save
-saveOf r room = record { report = saveReport r; room = room }
+abbrev pub saveOutcome : Saved → List ℕ → SaveOutcome
+saveOutcome r room = record { report = saveReport r; room = room }
 
 -- tests 12, then 8; bytes past the image stay
-unfoldable pub saving : List ℕ → List ℕ → Save
-saving s room =
+unfoldable pub savePromise : List ℕ → List ℕ → SaveOutcome
+savePromise s room =
     cond (validSettings s)
     (cond (ltb (length room) (length (imageBytes s))) (record { report = refused 8; room = room })
     (record { report = written (length (imageBytes s)); room = overlay 0 (imageBytes s) room }))
@@ -89,12 +89,12 @@ restoreReport restored.Done = done
 restoreReport restored.Refused = RestoreReport.refused 12
 restoreReport (restored.Fault n at) = faulty n at
 
-pub record Restore : Type 0 where
+pub record RestoreOutcome : Type 0 where
   pub report : RestoreReport
   pub settings : List ℕ
 
-abbrev pub restoreOf : Restored → List ℕ → Restore
-restoreOf r s = record { report = restoreReport r; settings = s }
+abbrev pub restoreOutcome : Restored → List ℕ → RestoreOutcome
+restoreOutcome r s = record { report = restoreReport r; settings = s }
 
 -- the first n saved settings without a value, with edition and length 0; the bytes of their values stay
 unfoldable pub cleared : ℕ → List ℕ → List ℕ
@@ -102,34 +102,34 @@ cleared zero s = s
 cleared (suc n) s = overlay (Layout.setting-offset (Limits.first-setting + n)) (replicate Layout.setting-value-offset 0) (cleared n s)
 
 -- a record in its key's setting, and records one after the other
-abbrev pub put : Entry → List ℕ → List ℕ
-put e s = overlay (Layout.setting-offset (e .key)) (Layout.settingBytes (e .edition) (e .value)) s
+abbrev pub putEntry : SavedEntry → List ℕ → List ℕ
+putEntry e s = overlay (Layout.setting-offset (e .key)) (Layout.settingBytes (e .edition) (e .value)) s
 
-unfoldable pub putAll : List Entry → List ℕ → List ℕ
-putAll [] s = s
-putAll (e ∷ es) s = putAll es (put e s)
+unfoldable pub putEntries : List SavedEntry → List ℕ → List ℕ
+putEntries [] s = s
+putEntries (e ∷ es) s = putEntries es (putEntry e s)
 
-unfoldable pub restoringBy : List ℕ → Read → Restore
-restoringBy s (fault n at) = record { report = faulty n at; settings = s }
-restoringBy s (good es) = record { report = done; settings = putAll es (cleared Saving.saved-count s) }
+unfoldable pub restoreOutcomeBy : List ℕ → ImageRead → RestoreOutcome
+restoreOutcomeBy s (fault n at) = record { report = faulty n at; settings = s }
+restoreOutcomeBy s (good es) = record { report = done; settings = putEntries es (cleared Saving.saved-count s) }
 
 -- test 12, then the whole image
-unfoldable pub restoring : List ℕ → List ℕ → Restore
-restoring s image = cond (validSettings s) (restoringBy s (Saving.read image)) (record { report = RestoreReport.refused 12; settings = s })
+unfoldable pub restorePromise : List ℕ → List ℕ → RestoreOutcome
+restorePromise s image = cond (validSettings s) (restoreOutcomeBy s (Saving.readImage image)) (record { report = RestoreReport.refused 12; settings = s })
 
 -- ---- The parts of restoring
 
-unfoldable pub stepOf : Next → Step
-stepOf (next.To key at) = to key at
-stepOf next.End = ended
-stepOf (next.Bad n at) = bad n at
+unfoldable pub imageStepOf : Next → ImageStep
+imageStepOf (next.To key at) = to key at
+imageStepOf next.End = ended
+imageStepOf (next.Bad n at) = bad n at
 
 -- the fault that reading found, and the records: none where there is a fault
-abbrev pub faultIn : Read → Option (ℕ × ℕ)
+abbrev pub faultIn : ImageRead → Option (ℕ × ℕ)
 faultIn (fault n at) = some (n, at)
 faultIn (good es) = none
 
-abbrev pub entriesIn : Read → List Entry
+abbrev pub entriesIn : ImageRead → List SavedEntry
 entriesIn (fault n at) = []
 entriesIn (good es) = es
 
@@ -142,8 +142,8 @@ abbrev pub settingHead : ℕ → ℕ → ℕ → List ℕ
 settingHead held edition n = bytes 1 held ++ (bytes 4 edition ++ bytes 2 n)
 
 -- at an offset stands a record of a saved setting's key that is complete and not too long
-pub record Whole (image : List ℕ) (at : ℕ) : Type 0 where
-  pub lower : Limits.first-setting ≤ Saving.keyAt image at
-  pub upper : Saving.keyAt image at ≤ Saving.highest-saved
-  pub short : Saving.lengthAt image at ≤ Limits.longest-setting (Saving.keyAt image at)
-  pub complete : at + (11 + Saving.lengthAt image at) ≤ length image
+pub record WholeRecord (image : List ℕ) (at : ℕ) : Type 0 where
+  pub lower : Limits.first-setting ≤ Saving.savedKeyAt image at
+  pub upper : Saving.savedKeyAt image at ≤ Saving.highest-saved
+  pub short : Saving.savedLengthAt image at ≤ Limits.longest-setting (Saving.savedKeyAt image at)
+  pub complete : at + (11 + Saving.savedLengthAt image at) ≤ length image

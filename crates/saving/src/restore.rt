@@ -9,8 +9,8 @@ ghost use Prim.Native.Nat.{_+_, _≤_};
 ghost use lib.ListN.{length};
 ghost use Rattle.octets.specs.Bytes.{overlay};
 ghost use Rattle.supervisor.specs.Layout.{settings-length, setting-value-offset};
-ghost use Rattle.saving.specs.Saving.{saved-count, lengthAt, entryAt, follows, recordStep, step, read};
-ghost use Rattle.saving.specs.Calls.{settingHead, cleared, put, putAll, restoreOf, restoring, stepOf, foundOf, faultIn, entriesIn, Whole};
+ghost use Rattle.saving.specs.Saving.{saved-count, savedLengthAt, savedEntryAt, follows, recordStep, imageStep, readImage};
+ghost use Rattle.saving.specs.Calls.{settingHead, cleared, putEntry, putEntries, restoreOutcome, restorePromise, imageStepOf, foundOf, faultIn, entriesIn, WholeRecord};
 
 // The faults of an image.
 const BAD_MARK: u8 = 30;
@@ -46,7 +46,7 @@ enum Found {
 
 // Replaces the saved settings by those of an image, if it has no fault.
 pub fn restore(settings: &mut [u8], image: &[u8]) -> Restored
-    ensures { λ r. ⌜ restoreOf r (now (settings .exit)) ≡ restoring (now (settings .entry)) (now (image .entry)) ⌝ }
+    ensures { λ r. ⌜ restoreOutcome r (now (settings .exit)) ≡ restorePromise (now (settings .entry)) (now (image .entry)) ⌝ }
 {
     if !valid::settings_are_valid(settings) {
         return Restored::Refused;
@@ -64,7 +64,7 @@ pub fn restore(settings: &mut [u8], image: &[u8]) -> Restored
 
 // Reads the whole image up to its first fault or its end.
 fn check(image: &[u8]) -> Found
-    ensures { λ r. ⌜ foundOf r ≡ faultIn (read (now (image .entry))) ⌝ }
+    ensures { λ r. ⌜ foundOf r ≡ faultIn (readImage (now (image .entry))) ⌝ }
 {
     let mut before: u8 = 0;
     let mut at: usize = 0;
@@ -88,7 +88,7 @@ fn check(image: &[u8]) -> Found
 // What stands at an offset behind a record of the key `before`.
 fn pass(image: &[u8], before: u8, at: usize) -> Next
     requires { ⌜ at ≤ length (now image) ⌝ }
-    ensures { λ r. ⌜ stepOf r ≡ step (now (image .entry)) before at ⌝ }
+    ensures { λ r. ⌜ imageStepOf r ≡ imageStep (now (image .entry)) before at ⌝ }
 {
     let left = image.len() - at;
     if left < image::MARK_LENGTH {
@@ -128,7 +128,7 @@ fn key_follows(before: u8, key: u8) -> bool
 // A record whose mark and key are good: its other fields.
 fn pass_record(image: &[u8], at: usize) -> Next
     requires { ⌜ at + 3 ≤ length (now image) ⌝ }
-    ensures { λ r. ⌜ stepOf r ≡ recordStep (now (image .entry)) at ⌝ }
+    ensures { λ r. ⌜ imageStepOf r ≡ recordStep (now (image .entry)) at ⌝ }
 {
     let left = image.len() - at;
     if left < image::VALUE_OFFSET {
@@ -176,8 +176,8 @@ fn set_head(settings: &mut [u8], at: usize, held: u8, edition: u32, n: u16)
 // Puts the records of an image without a fault into their settings.
 fn put_records(settings: &mut [u8], image: &[u8])
     requires { ⌜ settings-length ≤ length (now settings) ⌝ }
-    requires { ⌜ faultIn (read (now image)) ≡ none ⌝ }
-    ensures { λ _. ⌜ now (settings .exit) ≡ putAll (entriesIn (read (now (image .entry)))) (now (settings .entry)) ⌝ }
+    requires { ⌜ faultIn (readImage (now image)) ≡ none ⌝ }
+    ensures { λ _. ⌜ now (settings .exit) ≡ putEntries (entriesIn (readImage (now (image .entry)))) (now (settings .entry)) ⌝ }
 {
     let mut at = 0;
     while !octets::same(image, at, b"KE", 0, image::MARK_LENGTH) {
@@ -188,9 +188,9 @@ fn put_records(settings: &mut [u8], image: &[u8])
 // Puts the record at an offset into its key's setting, and answers the offset behind it.
 fn put_record(settings: &mut [u8], image: &[u8], at: usize) -> usize
     requires { ⌜ settings-length ≤ length (now settings) ⌝ }
-    requires { ⌜ Whole (now image) at ⌝ }
-    ensures { λ r. ⌜ r ≡ at + (11 + lengthAt (now (image .entry)) at) ⌝ }
-    ensures { λ _. ⌜ now (settings .exit) ≡ put (entryAt (now (image .entry)) at) (now (settings .entry)) ⌝ }
+    requires { ⌜ WholeRecord (now image) at ⌝ }
+    ensures { λ r. ⌜ r ≡ at + (11 + savedLengthAt (now (image .entry)) at) ⌝ }
+    ensures { λ _. ⌜ now (settings .exit) ≡ putEntry (savedEntryAt (now (image .entry)) at) (now (settings .entry)) ⌝ }
 {
     let n = octets::word_at(image, at + image::LENGTH_OFFSET);
     let to = layout::setting_offset(octets::read_u8(image, at + image::KEY_OFFSET));

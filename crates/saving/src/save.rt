@@ -11,7 +11,7 @@ ghost use Rattle.octets.specs.Bytes.{overlay};
 ghost use Rattle.supervisor.specs.Limits.{SettingsKey};
 ghost use Rattle.supervisor.specs.Layout.{setting-value-offset};
 ghost use Rattle.supervisor.specs.Valid.{validSettings};
-ghost use Rattle.saving.specs.Calls.{bodyBytes, recordBytes, imageBytes, saveOf, saving};
+ghost use Rattle.saving.specs.Calls.{bodyBytes, savedRecordBytes, imageBytes, saveOutcome, savePromise};
 
 pub enum Saved {
     Done(usize),
@@ -21,7 +21,7 @@ pub enum Saved {
 
 // Writes the settings that have a value as an image into `out`.
 pub fn save(settings: &[u8], out: &mut [u8]) -> Saved
-    ensures { λ r. ⌜ saveOf r (now (out .exit)) ≡ saving (now (settings .entry)) (now (out .entry)) ⌝ }
+    ensures { λ r. ⌜ saveOutcome r (now (out .exit)) ≡ savePromise (now (settings .entry)) (now (out .entry)) ⌝ }
 {
     if !valid::settings_are_valid(settings) {
         return Saved::Refused;
@@ -38,7 +38,7 @@ pub fn save(settings: &[u8], out: &mut [u8]) -> Saved
 fn record_length(settings: &[u8], key: u8) -> usize
     requires { ⌜ validSettings (now settings) ≡ true ⌝ }
     requires { ⌜ SettingsKey key ⌝ }
-    ensures { λ r. ⌜ (r ≡ length (recordBytes (now (settings .entry)) key)) × (r < 65547) ⌝ }
+    ensures { λ r. ⌜ (r ≡ length (savedRecordBytes (now (settings .entry)) key)) × (r < 65547) ⌝ }
 {
     let from = layout::setting_offset(key);
     if octets::read_u8(settings, from) != 1 {
@@ -79,9 +79,9 @@ fn write_image(settings: &[u8], out: &mut [u8])
 fn write_record(settings: &[u8], key: u8, out: &mut [u8], at: usize) -> usize
     requires { ⌜ validSettings (now settings) ≡ true ⌝ }
     requires { ⌜ SettingsKey key ⌝ }
-    requires { ⌜ at + length (recordBytes (now settings) key) ≤ length (now out) ⌝ }
-    ensures { λ r. ⌜ r ≡ at + length (recordBytes (now (settings .entry)) key) ⌝ }
-    ensures { λ _. ⌜ now (out .exit) ≡ overlay at (recordBytes (now (settings .entry)) key) (now (out .entry)) ⌝ }
+    requires { ⌜ at + length (savedRecordBytes (now settings) key) ≤ length (now out) ⌝ }
+    ensures { λ r. ⌜ r ≡ at + length (savedRecordBytes (now (settings .entry)) key) ⌝ }
+    ensures { λ _. ⌜ now (out .exit) ≡ overlay at (savedRecordBytes (now (settings .entry)) key) (now (out .entry)) ⌝ }
 {
     let from = layout::setting_offset(key);
     if octets::read_u8(settings, from) != 1 {

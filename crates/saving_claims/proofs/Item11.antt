@@ -11,12 +11,12 @@ use borrow.Author.Tests.{le-ltb, le-leb, lt-leb}
 use Rattle.octets.specs.Bytes.{Byte, Each, number, equal}
 use Rattle.supervisor.specs.Limits.{first-setting}
 use Rattle.supervisor.specs.State.{Settings}
-use Rattle.saving.specs.Saving.{highest-saved, saved-count, recordFor, imageFrom, saved, Read, fault, good, ahead}
-use Rattle.saving.specs.Saving.{bad, ended, entryAt, readIn, step, follows, readFrom, read}
+use Rattle.saving.specs.Saving.{highest-saved, saved-count, recordFor, imageFrom, saved, ImageRead, fault, good, aheadOfRead}
+use Rattle.saving.specs.Saving.{bad, ended, savedEntryAt, readImageIn, imageStep, follows, readImageFrom, readImage}
 use Rattle.saving.proofs.StepLaws.{Passed, passed, Sound, step-sound}
 use Rattle.saving.proofs.ReadLaws.{read-at, reading-by}
 use Rattle.saving_claims.proofs.RecordLaws.{end-read, record-read, entry-read, rest-here, record-exact}
-use Rattle.saving_claims.specs.Item11.{SavableBy, Savable, aheadOf, entriesOf, records, SavedRead, SavedRestores}
+use Rattle.saving_claims.specs.Item11.{SavableBy, Savable, aheadOf, entriesOf, records, SavedRead, SettingsRestored}
 use Rattle.saving_claims.specs.Item11.{SavedRestoresInto, ImageExact, ImageOne, SavedOmits, OtherKey31}
 use Rattle.saving_claims.proofs.EntryLaws.{settingsIn, restored-split, settings-kept, Rising, written, rising-first, length-settings, settings-written}
 
@@ -26,15 +26,15 @@ pub saved-omits : SavedOmits
 unfolding saved
 saved-omits xs ys e = rw e
 
-key-step : (k : ℕ) (rest : List ℕ) → 5 < k → step (0x4b ∷ 0x56 ∷ k ∷ rest) 0 0 ≡ bad 31 2
-unfolding step follows equal number
+key-step : (k : ℕ) (rest : List ℕ) → 5 < k → imageStep (0x4b ∷ 0x56 ∷ k ∷ rest) 0 0 ≡ bad 31 2
+unfolding imageStep follows equal number
 key-step k rest l =
     let n = length (0x4b ∷ 0x56 ∷ k ∷ rest) in
     let e : k + 0 * 256 ≡ k = omega arith in
     rw (le-ltb n 2 (omega arith), le-ltb n 3 (omega arith), e, le-leb first-setting k (omega arith), lt-leb k highest-saved l)
 
 pub other-key-31 : OtherKey31
-unfolding read readFrom readIn
+unfolding readImage readImageFrom readImageIn
 other-key-31 k rest h l = rw (key-step k rest l)
 
 -- ---- what was saved restores
@@ -42,8 +42,8 @@ other-key-31 k rest h l = rw (key-step k rest l)
 module _ (image : List ℕ) where
   record-first : (xs : Settings) (key before at edition : ℕ) (o : Option (List ℕ)) → before < key → first-setting ≤ key → key ≤ highest-saved → SavableBy key edition o
       → drop at image ≡ recordFor key (record { edition = edition; value = o }) ++ imageFrom (suc key) xs
-      → ((before at : ℕ) → before < suc key → drop at image ≡ imageFrom (suc key) xs → readFrom image before at ≡ good (entriesOf (suc key) xs))
-      → readFrom image before at ≡ good (aheadOf key edition o (entriesOf (suc key) xs))
+      → ((before at : ℕ) → before < suc key → drop at image ≡ imageFrom (suc key) xs → readImageFrom image before at ≡ good (entriesOf (suc key) xs))
+      → readImageFrom image before at ≡ good (aheadOf key edition o (entriesOf (suc key) xs))
   record-first xs key before at edition none h lower upper s e rest = rest before at (omega arith) e
   record-first xs key before at edition (some v) h lower upper s e rest =
       let behind = imageFrom (suc key) xs in
@@ -55,7 +55,7 @@ module _ (image : List ℕ) where
 
   -- from a key on
   saved-read-from : (xs : Settings) (key before at : ℕ) → before < key → first-setting ≤ key → key + length xs ≤ suc highest-saved → Savable key xs
-      → drop at image ≡ imageFrom key xs → readFrom image before at ≡ good (entriesOf key xs)
+      → drop at image ≡ imageFrom key xs → readImageFrom image before at ≡ good (entriesOf key xs)
   unfolding imageFrom entriesOf
   saved-read-from [] key before at h lower upper s e = read-at image before at (end-read image before at e)
   saved-read-from (x ∷ xs) key before at h lower upper s e =
@@ -64,7 +64,7 @@ module _ (image : List ℕ) where
 
 module _ (xs : Settings) (long : saved-count ≤ length xs) (savable : Savable first-setting (take saved-count xs)) where
   pub saved-read : SavedRead xs
-  unfolding read saved
+  unfolding readImage saved
   saved-read =
       let l = length-take-le saved-count xs long in
       saved-read-from (saved xs) (take saved-count xs) first-setting 0 0 (omega arith) (omega arith) (omega arith) savable refl
@@ -75,18 +75,18 @@ module _ (xs : Settings) (long : saved-count ≤ length xs) (savable : Savable f
       restored-split (records xs) ys h
       ∙ ap (λ (zs : Settings). zs ++ drop saved-count ys) (rw l at (settings-kept (take saved-count xs) first-setting savable))
 
-  pub saved-restores : SavedRestores xs
+  pub saved-restores : SettingsRestored xs
   saved-restores = saved-restores-into xs long ∙ take-append-drop saved-count xs
 
 -- ---- an image is the saved form of what it restores
 
 module _ (image : List ℕ) (byte : Each Byte image) where
   -- the bytes from an offset on are those of the records read there, whose keys rise
-  abbrev Exact : ℕ → ℕ → Read → Type 0
+  abbrev Exact : ℕ → ℕ → ImageRead → Type 0
   Exact before at (fault n there) = Unit {0}
   Exact before at (good es) = (drop at image ≡ written es) × Rising (suc before) es
 
-  exact-more : (before at key there : ℕ) (r : Read) → Passed image before at key there → Exact key there r → Exact before at (ahead (entryAt image at) r)
+  exact-more : (before at key there : ℕ) (r : ImageRead) → Passed image before at key there → Exact key there r → Exact before at (aheadOfRead (savedEntryAt image at) r)
   unfolding written
   exact-more before at key there (fault n offset) p h = tt
   exact-more before at key there (good es) p h =
@@ -98,8 +98,8 @@ module _ (image : List ℕ) (byte : Each Byte image) where
       let l = length-drop at image in
       (sym (take-all 2 (drop at image) (omega (arith, s .1))) ∙ s .0, tt)
 
-  pub read-exact : Exact 0 0 (read image)
-  unfolding read
+  pub read-exact : Exact 0 0 (readImage image)
+  unfolding readImage
   read-exact =
       reading-by image Exact (λ before at n there e. tt) (λ before at e. exact-end before at (rw e at (step-sound image before at)))
       (λ before at key there r e h. exact-more before at key there r (passed image before at e) h) 0 0

@@ -4,10 +4,10 @@ use mathlib.Core.Path.{refl}
 use Rattle.octets.specs.Bytes.{number, bytes, equal}
 use Rattle.line.specs.Checksum.{sums, checksum}
 use Rattle.supervisor.specs.Limits.{longest-setting}
-use Rattle.saving.specs.Saving.{recordOf, follows, recordStep, step, readIn, readFrom, read}
-use Rattle.saving_claims.specs.Samples.{meant, samples}
-use Rattle.saving_claims.specs.Item11.{SamplesHold}
+use Rattle.saving.specs.Saving.{savedRecord, follows, recordStep, imageStep, readImageIn, readImageFrom, readImage}
+use Rattle.saving_claims.specs.Samples.{imageSampleMeant, imageSamples}
+use Rattle.saving_claims.specs.Item11.{ImageSamplesHold}
 
-pub samples-hold : SamplesHold
-unfolding meant samples number bytes equal sums checksum longest-setting recordOf follows recordStep step readIn readFrom read
+pub samples-hold : ImageSamplesHold
+unfolding imageSampleMeant imageSamples number bytes equal sums checksum longest-setting savedRecord follows recordStep imageStep readImageIn readImageFrom readImage
 samples-hold = refl

@@ -8,8 +8,8 @@ use lib.ListN.{length, take, drop}
 use Rattle.octets.specs.Bytes.{Byte, Each}
 use Rattle.supervisor.specs.Limits.{first-setting, longest-setting}
 use Rattle.supervisor.specs.State.{Settings}
-use Rattle.saving.specs.Saving.{saved-count, saved, Entry, fault, good, read, restored}
-use Rattle.saving_claims.specs.Samples.{meant, samples}
+use Rattle.saving.specs.Saving.{saved-count, saved, SavedEntry, fault, good, readImage, restoredSettings}
+use Rattle.saving_claims.specs.Samples.{imageSampleMeant, imageSamples}
 
 -- no value and edition 0, or a value that is not too long and an edition of 32 bits
 abbrev pub SavableBy : ℕ → ℕ → Option (List ℕ) → Type 0
@@ -22,60 +22,60 @@ Savable key [] = Unit {0}
 Savable key (x ∷ xs) = SavableBy key (x .edition) (x .value) × Savable (suc key) xs
 
 -- the record of a key that has a value, ahead of others
-abbrev pub aheadOf : ℕ → ℕ → Option (List ℕ) → List Entry → List Entry
+abbrev pub aheadOf : ℕ → ℕ → Option (List ℕ) → List SavedEntry → List SavedEntry
 aheadOf key edition none es = es
 aheadOf key edition (some v) es = record { key = key; edition = edition; value = v } ∷ es
 
 -- the records of the settings from a key on
-unfoldable pub entriesOf : ℕ → Settings → List Entry
+unfoldable pub entriesOf : ℕ → Settings → List SavedEntry
 entriesOf key [] = []
 entriesOf key (x ∷ xs) = aheadOf key (x .edition) (x .value) (entriesOf (suc key) xs)
 
 -- those of keys 3, 4 and 5, where settings begin
-abbrev pub records : Settings → List Entry
+abbrev pub records : Settings → List SavedEntry
 records xs = entriesOf first-setting (take saved-count xs)
 
 -- what holds of all settings of which those of keys 3, 4 and 5 can be saved
 abbrev pub OfSavable : (Settings → Type 0) → Type 0
 OfSavable P = (xs : Settings) → saved-count ≤ length xs → Savable first-setting (take saved-count xs) → P xs
 
-abbrev pub SamplesHold : Type 0
-SamplesHold = map meant samples ≡ samples
+abbrev pub ImageSamplesHold : Type 0
+ImageSamplesHold = map imageSampleMeant imageSamples ≡ imageSamples
 
 abbrev pub SavedRead : Settings → Type 0
-SavedRead xs = read (saved xs) ≡ good (records xs)
+SavedRead xs = readImage (saved xs) ≡ good (records xs)
 
-abbrev pub SavedRestores : Settings → Type 0
-SavedRestores xs = restored (records xs) xs ≡ xs
+abbrev pub SettingsRestored : Settings → Type 0
+SettingsRestored xs = restoredSettings (records xs) xs ≡ xs
 
 abbrev pub SavedRestoresInto : Settings → Type 0
-SavedRestoresInto xs = (ys : Settings) → saved-count ≤ length ys → restored (records xs) ys ≡ take saved-count xs ++ drop saved-count ys
+SavedRestoresInto xs = (ys : Settings) → saved-count ≤ length ys → restoredSettings (records xs) ys ≡ take saved-count xs ++ drop saved-count ys
 
 abbrev pub ImageExact : Type 0
-ImageExact = (image : List ℕ) → Each Byte image → (es : List Entry) → read image ≡ good es → (ys : Settings) → saved-count ≤ length ys
-    → image ≡ saved (restored es ys)
+ImageExact = (image : List ℕ) → Each Byte image → (es : List SavedEntry) → readImage image ≡ good es → (ys : Settings) → saved-count ≤ length ys
+    → image ≡ saved (restoredSettings es ys)
 
 abbrev pub ImageOne : Type 0
-ImageOne = (i j : List ℕ) → Each Byte i → Each Byte j → (es fs : List Entry) → read i ≡ good es → read j ≡ good fs
-    → (ys : Settings) → saved-count ≤ length ys → restored es ys ≡ restored fs ys → i ≡ j
+ImageOne = (i j : List ℕ) → Each Byte i → Each Byte j → (es fs : List SavedEntry) → readImage i ≡ good es → readImage j ≡ good fs
+    → (ys : Settings) → saved-count ≤ length ys → restoredSettings es ys ≡ restoredSettings fs ys → i ≡ j
 
 abbrev pub SavedOmits : Type 0
 SavedOmits = (xs ys : Settings) → take 3 xs ≡ take 3 ys → saved xs ≡ saved ys
 
 abbrev pub OtherKey31 : Type 0
-OtherKey31 = (k : ℕ) (rest : List ℕ) → k < 256 → 5 < k → read (0x4b ∷ 0x56 ∷ k ∷ rest) ≡ fault 31 2
+OtherKey31 = (k : ℕ) (rest : List ℕ) → k < 256 → 5 < k → readImage (0x4b ∷ 0x56 ∷ k ∷ rest) ≡ fault 31 2
 
-pub record Item11 : Type 0 where
+pub record SavingItem11 : Type 0 where
   -- the image is that of keys 3, 4 and 5 alone
   pub saved-omits : SavedOmits
   -- a first record of a key above 5 is fault 31, at the key
   pub other-key-31 : OtherKey31
   -- small images, each with what it holds or its first fault and that fault's offset, as a single table, over the meaning itself
-  pub samples-hold : SamplesHold
+  pub samples-hold : ImageSamplesHold
   -- the image of settings that can be saved has no fault, and holds their records
   pub saved-read : OfSavable SavedRead
   -- these records leave the same settings as they are
-  pub saved-restores : OfSavable SavedRestores
+  pub saved-restores : OfSavable SettingsRestored
   -- and restore them into any others: the three saved ones are replaced, the rest stays
   pub saved-restores-into : OfSavable SavedRestoresInto
   -- an image that is accepted is the saved form of what it restores, byte for byte

@@ -15,7 +15,7 @@ use Rattle.supervisor.specs.Limits.{most-alerts, longest-alert}
 use Rattle.supervisor.specs.Layout.{registers-length, status-offset, alert-count-offset, alert-offset, alert-action-offset, alert-text-offset, statusOf, alertCount}
 use Rattle.supervisor.specs.Local.{setBit}
 use Rattle.supervisor.specs.Valid.{validRegisters}
-use Rattle.supervisor.specs.Calls.{registered, postReport, withAlert, posting}
+use Rattle.supervisor.specs.Calls.{registersOutcome, postReport, withAlert, postPromise}
 use Rattle.supervisor.specs.declared.alerts.Posted.the-variants.{Done, Refused, BadAction, TooLong, Full}
 
 -- its length, action and text, each stored behind the other
@@ -61,24 +61,24 @@ alert-put r text {count} {action} {status} {t} long e few short byte f g h i =
 -- ---- the answers
 
 module _ (r : List ℕ) (action : ℕ) (text : List ℕ) where
-  pub post-refused : validRegisters r ≡ false → registered (postReport Refused) r ≡ posting r action text
-  unfolding postReport posting
+  pub post-refused : validRegisters r ≡ false → registersOutcome (postReport Refused) r ≡ postPromise r action text
+  unfolding postReport postPromise
   post-refused v = rw v
 
-  pub post-bad : validRegisters r ≡ true → action ≡ 0 → registered (postReport BadAction) r ≡ posting r action text
-  unfolding postReport posting
+  pub post-bad : validRegisters r ≡ true → action ≡ 0 → registersOutcome (postReport BadAction) r ≡ postPromise r action text
+  unfolding postReport postPromise
   post-bad v a = rw (v, eq-eqb action 0 a)
 
   module _ (v : validRegisters r ≡ true) (a : action ≡ 0 → ⊥) where
-    pub post-long : longest-alert < length text → registered (postReport TooLong) r ≡ posting r action text
-    unfolding postReport posting
+    pub post-long : longest-alert < length text → registersOutcome (postReport TooLong) r ≡ postPromise r action text
+    unfolding postReport postPromise
     post-long l = rw (v, ne-eqb action 0 a, lt-ltb longest-alert (length text) l)
 
     module _ (l : length text ≤ longest-alert) {count : ℕ} (e : count ≡ alertCount r) where
-      pub post-full : most-alerts ≤ count → registered (postReport Full) r ≡ posting r action text
-      unfolding postReport posting
+      pub post-full : most-alerts ≤ count → registersOutcome (postReport Full) r ≡ postPromise r action text
+      unfolding postReport postPromise
       post-full m = rw (v, ne-eqb action 0 a, le-ltb longest-alert (length text) l, le-ltb (alertCount r) most-alerts (omega arith))
 
-      pub post-done : {s : List ℕ} → count < most-alerts → s ≡ withAlert r action text → registered (postReport Done) s ≡ posting r action text
-      unfolding postReport posting
+      pub post-done : {s : List ℕ} → count < most-alerts → s ≡ withAlert r action text → registersOutcome (postReport Done) s ≡ postPromise r action text
+      unfolding postReport postPromise
       post-done m f = rw (v, ne-eqb action 0 a, le-ltb longest-alert (length text) l, lt-ltb (alertCount r) most-alerts (omega arith), f)

@@ -14,7 +14,7 @@ use Rattle.supervisor.specs.Limits
 use Rattle.supervisor.specs.Limits.{highest-key}
 use Rattle.supervisor.specs.Layout
 use Rattle.supervisor.specs.Valid.{validFactory, validSettings}
-use Rattle.supervisor.specs.Calls.{settingAt, locationOf, resultAt, lookupResult, within, valueAt, lookupValue, editionAt, editionResult}
+use Rattle.supervisor.specs.Calls.{settingAt, locationOf, resultAt, lookupResultPromise, within, valueIn, lookupPromise, editionReportAt, editionPromise}
 use Rattle.supervisor.specs.declared.keys.Location.{Location}
 use Rattle.supervisor.proofs.OffsetLaws.{longest-short, settings-key}
 use Rattle.supervisor.proofs.ValidLaws.{FactoryValid, factory-valid, settings-valid}
@@ -25,19 +25,19 @@ use Rattle.supervisor.specs.Valid.{SettingsValid}
 module _
     (f s : List ℕ) (key most : ℕ) (p : Location) (v : (validFactory f && validSettings s) ≡ true) (k : key ≤ highest-key)
     (e : p ≡ locationOf f s key) where
-  pub result-found : lookupResult f s key most ≡ resultAt most p
-  unfolding lookupResult
+  pub result-found : lookupResultPromise f s key most ≡ resultAt most p
+  unfolding lookupResultPromise
   result-found = rw (v, le-ltb highest-key key k, e)
 
-  pub value-found : lookupValue f s key most ≡ valueAt f s most p
-  unfolding lookupValue
+  pub value-found : lookupPromise f s key most ≡ valueIn f s most p
+  unfolding lookupPromise
   value-found = rw (v, le-ltb highest-key key k, e)
 
 -- ---- the edition of a key
 
 pub edition-found : (f s : List ℕ) (key : ℕ) (p : Location) → (validFactory f && validSettings s) ≡ true → key ≤ highest-key → p ≡ locationOf f s key
-    → editionResult f s key ≡ editionAt s key p
-unfolding editionResult
+    → editionPromise f s key ≡ editionReportAt s key p
+unfolding editionPromise
 edition-found f s key p v k e = rw (v, le-ltb highest-key key k, e)
 
 -- ---- a value that is handed out is no longer than the longest key's
@@ -49,14 +49,14 @@ within-short most at n s h =
 module _ (f s : List ℕ) (most : ℕ) where
   -- the value at an offset
   abbrev Short : Location → Type 0
-  Short p = length (valueAt f s most p) ≤ Limits.longest-value
+  Short p = length (valueIn f s most p) ≤ Limits.longest-value
 
   setting-short : (at : ℕ) → Layout.settingLength s at ≤ Limits.longest-value → Short (settingAt s at)
-  unfolding settingAt valueAt
+  unfolding settingAt valueIn
   setting-short at h = cond-by Short (eqb (Layout.settingHeld s at) 1) _ _ (λ _. within-short most (at + Layout.setting-value-offset) _ s h) (λ _. omega arith)
 
   location-short : (key : ℕ) → FactoryValid f → SettingsValid s → key ≤ highest-key → Short (locationOf f s key)
-  unfolding locationOf valueAt
+  unfolding locationOf valueIn
   location-short key v w h =
       cond-by Short (eqb key 0) _ _ (λ _. within-short most Layout.pong-offset 4 f (omega arith)) (λ a.
       cond-by Short (eqb key 1) _ _ (λ _. within-short most Layout.image-id-offset (Layout.imageIdLength f) f (omega arith)) (λ b.
@@ -64,8 +64,8 @@ module _ (f s : List ℕ) (most : ℕ) where
       cond-by Short (eqb key Limits.passphrase-key) _ _ (λ _. omega arith) (λ _.
       setting-short (Layout.setting-offset key) (omega (arith, w .each key (settings-key key a b c h), longest-short key))))))
 
-pub value-short : (f s : List ℕ) (key most : ℕ) → validFactory f ≡ true → validSettings s ≡ true → length (lookupValue f s key most) ≤ Limits.longest-value
-unfolding lookupValue
+pub value-short : (f s : List ℕ) (key most : ℕ) → validFactory f ≡ true → validSettings s ≡ true → length (lookupPromise f s key most) ≤ Limits.longest-value
+unfolding lookupPromise
 value-short f s key most v w =
     rw (v, w)
     (cond-by (λ l. length l ≤ Limits.longest-value) (ltb Limits.highest-key key) [] _ (λ _. omega arith) (λ e.

@@ -14,12 +14,12 @@ use Rattle.octets.proofs.Numbers.{length-bytes, number-one}
 use Rattle.octets.proofs.Overlay.{length-run, length-overlay, overlay-none, overlay-one, put-fits, copied-fits}
 use Rattle.supervisor.specs.Layout.{outbox-from-offset, outbox-terminator-owed-offset, outbox-bytes-offset, outboxFrom, outboxTo}
 use Rattle.supervisor.specs.Valid.{validOutbox}
-use Rattle.supervisor.specs.Calls.{takeReport, takeOf, lastNonZeroFlag, afterTaken, takeable, takenBytes, taking}
+use Rattle.supervisor.specs.Calls.{takeReport, takeOutcome, lastNonZeroFlag, outboxAfterTake, takeable, takeableBytes, takePromise}
 use Rattle.supervisor.specs.declared.outbox.Taken.the-variants.{Moved, Refused}
 use Rattle.supervisor.proofs.ValidLaws.{outbox-valid}
 
-pub take-refused : (o room : List ℕ) → validOutbox o ≡ false → takeOf Refused o room ≡ taking o room
-unfolding takeReport taking
+pub take-refused : (o room : List ℕ) → validOutbox o ≡ false → takeOutcome Refused o room ≡ takePromise o room
+unfolding takeReport takePromise
 take-refused o room e = rw e
 
 -- the last of n bytes
@@ -30,8 +30,8 @@ last-of-run at n o p h =
     (number-one o (at + n - 1) (omega arith))
 
 after-some : (bs o : List ℕ) → 0 < length bs
-    → overlay outbox-terminator-owed-offset (lastNonZeroFlag bs ∷ []) (overlay outbox-from-offset (bytes 2 (outboxFrom o + length bs)) o) ≡ afterTaken bs o
-unfolding afterTaken
+    → overlay outbox-terminator-owed-offset (lastNonZeroFlag bs ∷ []) (overlay outbox-from-offset (bytes 2 (outboxFrom o + length bs)) o) ≡ outboxAfterTake bs o
+unfolding outboxAfterTake
 after-some [] o h = absurd (omega arith)
 after-some (b ∷ bs) o h = refl
 
@@ -41,8 +41,8 @@ module _ (o room : List ℕ) {from to n : ℕ} (valid : validOutbox o ≡ true) 
   same : n ≡ takeable o room
   same = cc
 
-  pub take-none : n ≡ 0 → takeOf (Moved 0) o room ≡ taking o room
-  unfolding takeReport taking afterTaken
+  pub take-none : n ≡ 0 → takeOutcome (Moved 0) o room ≡ takePromise o room
+  unfolding takeReport takePromise outboxAfterTake
   take-none z = rw (valid, ← same, z, overlay-none)
 
   there : outbox-bytes-offset + from + n ≤ length o
@@ -50,13 +50,13 @@ module _ (o room : List ℕ) {from to n : ℕ} (valid : validOutbox o ≡ true) 
       let v = outbox-valid o valid in
       omega (arith, min-le-right (length room) (to - from))
 
-  room-after : copied o (outbox-bytes-offset + from) n room 0 ≡ overlay 0 (takenBytes o room) room
+  room-after : copied o (outbox-bytes-offset + from) n room 0 ≡ overlay 0 (takeableBytes o room) room
   room-after = rw (← same, ← first) (copied-fits o (outbox-bytes-offset + from) n room 0 there (omega (arith, min-le-left (length room) (to - from))))
 
   -- where the pending bytes now begin is stored, then whether a 00 is owed
   outbox-after : 0 < n
       → set (put outbox-from-offset (bytes 2 (from + n)) o) outbox-terminator-owed-offset (cond (eqb (numberAt 1 o (outbox-bytes-offset + from + n - 1)) 0) 0 1)
-      ≡ afterTaken (takenBytes o room) o
+      ≡ outboxAfterTake (takeableBytes o room) o
   outbox-after p =
       let at = outbox-bytes-offset + from in
       let h = there in
@@ -69,8 +69,8 @@ module _ (o room : List ℕ) {from to n : ℕ} (valid : validOutbox o ≡ true) 
 
   pub take-some : {last owed : ℕ} {s t : List ℕ} → (n ≡ 0 → ⊥) → last ≡ numberAt 1 o (outbox-bytes-offset + from + n - 1)
       → s ≡ copied o (outbox-bytes-offset + from) n room 0 → t ≡ put outbox-from-offset (bytes 2 (from + n)) o → owed ≡ cond (eqb last 0) 0 1
-      → takeOf (Moved n) (set t outbox-terminator-owed-offset owed) s ≡ taking o room
-  unfolding takeReport taking
+      → takeOutcome (Moved n) (set t outbox-terminator-owed-offset owed) s ≡ takePromise o room
+  unfolding takeReport takePromise
   take-some z f g h k =
       let p : 0 < n = omega arith in
       rw valid (cc (same, room-after, outbox-after p))

@@ -19,7 +19,7 @@ use Rattle.octets.proofs.Conditions.{cond-by}
 use Rattle.supervisor.specs.Layout
 use Rattle.supervisor.specs.Local.{pong}
 use Rattle.supervisor.specs.Valid.{goodStart}
-use Rattle.supervisor.specs.Calls.{Parts, parts, Start, longEnough, freshParts, startReport, startOf, starting}
+use Rattle.supervisor.specs.Calls.{Parts, parts, StartOutcome, longEnough, freshParts, startReport, startOutcome, startPromise}
 use Rattle.supervisor.specs.declared.start.Started.{Started}
 use Rattle.supervisor.specs.declared.start.Started.the-variants as answer
 
@@ -98,7 +98,7 @@ stored n k m xs ys zs s t u v a b c h p q r =
 
 -- every part has its published length
 pub record LongEnough (p : Parts) : Type 0 where
-  pub reader : Reader.state-length ≤ length (p .reader)
+  pub reader : Reader.reader-length ≤ length (p .reader)
   pub outbox : Layout.outbox-length ≤ length (p .outbox)
   pub factory : Layout.factory-length ≤ length (p .factory)
   pub settings : Layout.settings-length ≤ length (p .settings)
@@ -106,9 +106,9 @@ pub record LongEnough (p : Parts) : Type 0 where
 
 -- five lengths, each at least the published one
 pub all-long : (reader outbox factory settings registers : ℕ)
-    → (leb Reader.state-length reader && (leb Layout.outbox-length outbox && (leb Layout.factory-length factory
+    → (leb Reader.reader-length reader && (leb Layout.outbox-length outbox && (leb Layout.factory-length factory
     && (leb Layout.settings-length settings && leb Layout.registers-length registers)))) ≡ true
-    → (Reader.state-length ≤ reader) × (Layout.outbox-length ≤ outbox) × (Layout.factory-length ≤ factory)
+    → (Reader.reader-length ≤ reader) × (Layout.outbox-length ≤ outbox) × (Layout.factory-length ≤ factory)
     × (Layout.settings-length ≤ settings) × (Layout.registers-length ≤ registers)
 all-long reader outbox factory settings registers h =
     let s = and-eq-true-iff _ _ .0 h in
@@ -126,34 +126,34 @@ unfolding longEnough
 is-long-enough p r = rw (le-leb _ _ (r .reader), le-leb _ _ (r .outbox), le-leb _ _ (r .factory), le-leb _ _ (r .settings), le-leb _ _ (r .registers))
 
 -- an answer with the parts as they are
-abbrev kept : Started → Parts → Start
-kept a p = startOf a (parts (p .reader) (p .outbox) (p .factory) (p .settings) (p .registers))
+abbrev kept : Started → Parts → StartOutcome
+kept a p = startOutcome a (parts (p .reader) (p .outbox) (p .factory) (p .settings) (p .registers))
 
 -- a part is too short
-pub cramped : (d : List ℕ) (p : Parts) → (LongEnough p → ⊥) → kept answer.Refused p ≡ starting d p
-unfolding starting startReport
+pub cramped : (d : List ℕ) (p : Parts) → (LongEnough p → ⊥) → kept answer.Refused p ≡ startPromise d p
+unfolding startPromise startReport
 cramped d p f = cond-by (λ t. kept answer.Refused p ≡ t) (longEnough p) _ _ (λ e. absurd (f (long-enough-is p e))) (λ e. refl)
 
 -- the start data are not allowed
-pub unfit : (d : List ℕ) (p : Parts) → LongEnough p → goodStart d ≡ false → kept answer.BadData p ≡ starting d p
-unfolding starting startReport
+pub unfit : (d : List ℕ) (p : Parts) → LongEnough p → goodStart d ≡ false → kept answer.BadData p ≡ startPromise d p
+unfolding startPromise startReport
 unfit d p r e = rw (is-long-enough p r, e)
 
 -- the reader's part
-reader-begun : (s t : List ℕ) (a : Reader-Started) → Reader.state-length ≤ length s → Reader.started a t ≡ Reader.starting s
-    → t ≡ Reader.counted 0 s
-unfolding Reader.starting
-reader-begun s t a h e = ap (λ (o : Reader.Start). o .state) (rw (le-leb _ _ h) at e)
+reader-begun : (s t : List ℕ) (a : Reader-Started) → Reader.reader-length ≤ length s → Reader.readerStartOutcome a t ≡ Reader.readerStartPromise s
+    → t ≡ Reader.withCount 0 s
+unfolding Reader.readerStartPromise
+reader-begun s t a h e = ap (λ (o : Reader.ReaderStartOutcome). o .state) (rw (le-leb _ _ h) at e)
 
 -- each part as it was set
 pub begun : (d : List ℕ) (p q : Parts) (a : Reader-Started) → LongEnough p → goodStart d ≡ true
-    → Reader.started a (q .reader) ≡ Reader.starting (p .reader)
+    → Reader.readerStartOutcome a (q .reader) ≡ Reader.readerStartPromise (p .reader)
     → q .outbox ≡ put 0 (zeros Layout.outbox-length) (p .outbox)
     → q .factory ≡ overlay 0 (d ++ bytes 4 0 ++ pong) (p .factory)
     → q .settings ≡ put 0 (zeros Layout.settings-length) (p .settings)
     → q .registers ≡ overlay 0 (bytes 8 1 ++ zeros (Layout.registers-length - 8)) (p .registers)
-    → kept answer.Done q ≡ starting d p
-unfolding starting startReport freshParts
+    → kept answer.Done q ≡ startPromise d p
+unfolding startPromise startReport freshParts
 begun d p q a r e reader outbox factory settings registers =
     let x = reader-begun (p .reader) (q .reader) a (r .reader) reader in
     let y = outbox ∙ cleared-fits Layout.outbox-length (p .outbox) (r .outbox) in

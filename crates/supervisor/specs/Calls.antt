@@ -52,7 +52,7 @@ parts reader outbox factory settings registers = record { reader = reader; outbo
 -- every part has its published length
 unfoldable pub longEnough : Parts → Bool
 longEnough p =
-    leb Reader.state-length (length (p .reader))
+    leb Reader.reader-length (length (p .reader))
     && (leb Layout.outbox-length (length (p .outbox))
     && (leb Layout.factory-length (length (p .factory))
     && (leb Layout.settings-length (length (p .settings))
@@ -61,7 +61,7 @@ longEnough p =
 -- status 1; every other register, every setting and the outbox 0; the start data in the factory store, and key 2's version and key 0's text
 unfoldable pub freshParts : List ℕ → Parts → Parts
 freshParts d p = record {
-  reader = Reader.counted 0 (p .reader);
+  reader = Reader.withCount 0 (p .reader);
   outbox = overlay 0 (replicate Layout.outbox-length 0) (p .outbox);
   factory = overlay 0 (d ++ bytes 4 0 ++ pong) (p .factory);
   settings = overlay 0 (replicate Layout.settings-length 0) (p .settings);
@@ -74,16 +74,16 @@ startReport started.Done = none
 startReport started.Refused = some 12
 startReport started.BadData = some 11
 
-pub record Start : Type 0 where
+pub record StartOutcome : Type 0 where
   pub refusal : Option ℕ
   pub parts : Parts
 
-abbrev pub startOf : Started → Parts → Start
-startOf r p = record { refusal = startReport r; parts = p }
+abbrev pub startOutcome : Started → Parts → StartOutcome
+startOutcome r p = record { refusal = startReport r; parts = p }
 
 -- the room alone is tested for 12, then the start data for 11
-unfoldable pub starting : List ℕ → Parts → Start
-starting d p =
+unfoldable pub startPromise : List ℕ → Parts → StartOutcome
+startPromise d p =
     cond (longEnough p)
     (cond (goodStart d) (record { refusal = none; parts = freshParts d p }) (record { refusal = some 11; parts = p }))
     (record { refusal = some 12; parts = p })
@@ -99,22 +99,22 @@ unfoldable pub takeReport : Taken → TakeReport
 takeReport (taken.Moved n) = moved n
 takeReport taken.Refused = refused 12
 
-pub record Take : Type 0 where
+pub record TakeOutcome : Type 0 where
   pub report : TakeReport
   pub outbox : List ℕ
   pub room : List ℕ
 
-abbrev pub takeOf : Taken → List ℕ → List ℕ → Take
-takeOf r outbox room = record { report = takeReport r; outbox = outbox; room = room }
+abbrev pub takeOutcome : Taken → List ℕ → List ℕ → TakeOutcome
+takeOutcome r outbox room = record { report = takeReport r; outbox = outbox; room = room }
 
 -- whether the last of some bytes is not zero
 abbrev pub lastNonZeroFlag : List ℕ → ℕ
 lastNonZeroFlag bs = cond (eqb (getD bs (length bs - 1) 0) 0) 0 1
 
 -- the outbox after bytes were taken
-unfoldable pub afterTaken : List ℕ → List ℕ → List ℕ
-afterTaken [] o = o
-afterTaken (b ∷ bs) o =
+unfoldable pub outboxAfterTake : List ℕ → List ℕ → List ℕ
+outboxAfterTake [] o = o
+outboxAfterTake (b ∷ bs) o =
     overlay Layout.outbox-terminator-owed-offset (lastNonZeroFlag (b ∷ bs) ∷ [])
     (overlay Layout.outbox-from-offset (bytes 2 (Layout.outboxFrom o + length (b ∷ bs))) o)
 
@@ -122,13 +122,13 @@ afterTaken (b ∷ bs) o =
 abbrev pub takeable : List ℕ → List ℕ → ℕ
 takeable o room = min (length room) (Layout.outboxTo o - Layout.outboxFrom o)
 
-abbrev pub takenBytes : List ℕ → List ℕ → List ℕ
-takenBytes o room = run (Layout.outbox-bytes-offset + Layout.outboxFrom o) (takeable o room) o
+abbrev pub takeableBytes : List ℕ → List ℕ → List ℕ
+takeableBytes o room = run (Layout.outbox-bytes-offset + Layout.outboxFrom o) (takeable o room) o
 
-unfoldable pub taking : List ℕ → List ℕ → Take
-taking o room =
+unfoldable pub takePromise : List ℕ → List ℕ → TakeOutcome
+takePromise o room =
     cond (validOutbox o)
-    (record { report = moved (takeable o room); outbox = afterTaken (takenBytes o room) o; room = overlay 0 (takenBytes o room) room })
+    (record { report = moved (takeable o room); outbox = outboxAfterTake (takeableBytes o room) o; room = overlay 0 (takeableBytes o room) room })
     (record { report = refused 12; outbox = o; room = room })
 
 -- ---- Post an alert
@@ -141,12 +141,12 @@ postReport posted.TooLong = some 9
 postReport posted.Full = some 10
 
 -- a call that changes the registers alone
-pub record Registered : Type 0 where
+pub record RegistersOutcome : Type 0 where
   pub refusal : Option ℕ
   pub registers : List ℕ
 
-abbrev pub registered : Option ℕ → List ℕ → Registered
-registered n r = record { refusal = n; registers = r }
+abbrev pub registersOutcome : Option ℕ → List ℕ → RegistersOutcome
+registersOutcome n r = record { refusal = n; registers = r }
 
 -- the alert behind those that wait, one more that waits, status bit 1
 unfoldable pub withAlert : List ℕ → ℕ → List ℕ → List ℕ
@@ -156,13 +156,13 @@ withAlert r action text =
     (overlay (Layout.alert-offset (Layout.alertCount r)) (bytes 2 (length text) ++ (bytes 1 action ++ text)) r))
 
 -- tests 12, 13, 9, 10
-unfoldable pub posting : List ℕ → ℕ → List ℕ → Registered
-posting r action text =
+unfoldable pub postPromise : List ℕ → ℕ → List ℕ → RegistersOutcome
+postPromise r action text =
     cond (validRegisters r)
-    (cond (eqb action 0) (registered (some 13) r)
-    (cond (ltb Limits.longest-alert (length text)) (registered (some 9) r)
-    (cond (ltb (Layout.alertCount r) Limits.most-alerts) (registered none (withAlert r action text)) (registered (some 10) r))))
-    (registered (some 12) r)
+    (cond (eqb action 0) (registersOutcome (some 13) r)
+    (cond (ltb Limits.longest-alert (length text)) (registersOutcome (some 9) r)
+    (cond (ltb (Layout.alertCount r) Limits.most-alerts) (registersOutcome none (withAlert r action text)) (registersOutcome (some 10) r))))
+    (registersOutcome (some 12) r)
 
 -- ---- Set options
 
@@ -171,11 +171,11 @@ optionsReport options-set.Done = none
 optionsReport options-set.Refused = some 12
 optionsReport options-set.BadOption = some 13
 
-unfoldable pub settingOptions : List ℕ → ℕ → Registered
-settingOptions r options =
+unfoldable pub optionsPromise : List ℕ → ℕ → RegistersOutcome
+optionsPromise r options =
     cond (validRegisters r)
-    (cond (Local.optionsAllowed options) (registered none (overlay Layout.options-offset (bytes 8 options) r)) (registered (some 13) r))
-    (registered (some 12) r)
+    (cond (Local.optionsAllowed options) (registersOutcome none (overlay Layout.options-offset (bytes 8 options) r)) (registersOutcome (some 13) r))
+    (registersOutcome (some 12) r)
 
 -- ---- Look a key up
 
@@ -219,8 +219,8 @@ resultAt most (location.Settings at n) = sized most n
 resultAt most location.Nowhere = result 2 0
 resultAt most location.SetOnly = result 4 0
 
-unfoldable pub lookupResult : List ℕ → List ℕ → ℕ → ℕ → LookupReport
-lookupResult f s key most =
+unfoldable pub lookupResultPromise : List ℕ → List ℕ → ℕ → ℕ → LookupReport
+lookupResultPromise f s key most =
     cond (validFactory f && validSettings s)
     (cond (ltb Limits.highest-key key) (result 1 0) (resultAt most (locationOf f s key)))
     (refused 12)
@@ -243,87 +243,87 @@ editionNumber (EditionReport.result n edition) = edition
 editionNumber (EditionReport.refused n) = 0
 
 -- a factory key has edition 0, a settings key the one in its setting
-unfoldable pub editionAt : List ℕ → ℕ → Location → EditionReport
-editionAt s key (location.Factory at n) = EditionReport.result 0 0
-editionAt s key (location.Settings at n) = EditionReport.result 0 (Layout.settingEdition s (Layout.setting-offset key))
-editionAt s key location.Nowhere = EditionReport.result 2 0
-editionAt s key location.SetOnly = EditionReport.result 4 0
+unfoldable pub editionReportAt : List ℕ → ℕ → Location → EditionReport
+editionReportAt s key (location.Factory at n) = EditionReport.result 0 0
+editionReportAt s key (location.Settings at n) = EditionReport.result 0 (Layout.settingEdition s (Layout.setting-offset key))
+editionReportAt s key location.Nowhere = EditionReport.result 2 0
+editionReportAt s key location.SetOnly = EditionReport.result 4 0
 
-unfoldable pub editionResult : List ℕ → List ℕ → ℕ → EditionReport
-editionResult f s key =
+unfoldable pub editionPromise : List ℕ → List ℕ → ℕ → EditionReport
+editionPromise f s key =
     cond (validFactory f && validSettings s)
-    (cond (ltb Limits.highest-key key) (EditionReport.result 1 0) (editionAt s key (locationOf f s key)))
+    (cond (ltb Limits.highest-key key) (EditionReport.result 1 0) (editionReportAt s key (locationOf f s key)))
     (EditionReport.refused 12)
 
 abbrev pub within : ℕ → ℕ → List ℕ → List ℕ
 within most n v = cond (ltb most n) [] v
 
-unfoldable pub valueAt : List ℕ → List ℕ → ℕ → Location → List ℕ
-valueAt f s most (location.Factory at n) = within most n (run at n f)
-valueAt f s most (location.Settings at n) = within most n (run at n s)
-valueAt f s most location.Nowhere = []
-valueAt f s most location.SetOnly = []
+unfoldable pub valueIn : List ℕ → List ℕ → ℕ → Location → List ℕ
+valueIn f s most (location.Factory at n) = within most n (run at n f)
+valueIn f s most (location.Settings at n) = within most n (run at n s)
+valueIn f s most location.Nowhere = []
+valueIn f s most location.SetOnly = []
 
 -- a result other than 0 and a refusal hand out an empty part
-unfoldable pub lookupValue : List ℕ → List ℕ → ℕ → ℕ → List ℕ
-lookupValue f s key most =
+unfoldable pub lookupPromise : List ℕ → List ℕ → ℕ → ℕ → List ℕ
+lookupPromise f s key most =
     cond (validFactory f && validSettings s)
-    (cond (ltb Limits.highest-key key) [] (valueAt f s most (locationOf f s key)))
+    (cond (ltb Limits.highest-key key) [] (valueIn f s most (locationOf f s key)))
     []
 
 -- ---- Read the line signal, the two flags, a record
 
 -- what is read, or the table's number
-pub data ReadReport (A : Type 0) : Type 0 where
-  is : A → ReadReport A
-  refused : ℕ → ReadReport A
+pub data RegisterReport (A : Type 0) : Type 0 where
+  is : A → RegisterReport A
+  refused : ℕ → RegisterReport A
 
-unfoldable pub signalReport : SignalRead → ReadReport Bool
-signalReport signal.Refused = ReadReport.refused 12
+unfoldable pub signalReport : SignalRead → RegisterReport Bool
+signalReport signal.Refused = RegisterReport.refused 12
 signalReport signal.Asserted = is true
 signalReport signal.Clear = is false
 
 -- asserted exactly when status is not 0
-unfoldable pub signalOf : List ℕ → ReadReport Bool
-signalOf r = cond (validRegisters r) (is (not (eqb (Layout.statusOf r) 0))) (ReadReport.refused 12)
+unfoldable pub signalPromise : List ℕ → RegisterReport Bool
+signalPromise r = cond (validRegisters r) (is (not (eqb (Layout.statusOf r) 0))) (RegisterReport.refused 12)
 
 -- reboot asked for, power off asked for
-unfoldable pub flagsReport : FlagsRead → ReadReport (Bool × Bool)
-flagsReport flags.Refused = ReadReport.refused 12
+unfoldable pub flagsReport : FlagsRead → RegisterReport (Bool × Bool)
+flagsReport flags.Refused = RegisterReport.refused 12
 flagsReport (flags.Read a) = is (a .reboot, a .«power_off»)
 
-unfoldable pub flagsOf : List ℕ → ReadReport (Bool × Bool)
-flagsOf r =
-    cond (validRegisters r) (is (eqb (numberAt 1 r Layout.reboot-offset) 1, eqb (numberAt 1 r Layout.power-off-offset) 1)) (ReadReport.refused 12)
+unfoldable pub flagsPromise : List ℕ → RegisterReport (Bool × Bool)
+flagsPromise r =
+    cond (validRegisters r) (is (eqb (numberAt 1 r Layout.reboot-offset) 1, eqb (numberAt 1 r Layout.power-off-offset) 1)) (RegisterReport.refused 12)
 
 unfoldable pub recordOffset : Kind → ℕ
 recordOffset kind.BootFailure = Layout.boot-failure-offset
 recordOffset kind.Panic = Layout.panic-offset
 
 -- a record: its code, the whole length of its rest, and how many bytes of the rest are kept
-pub record Read : Type 0 where
+pub record RecordRead : Type 0 where
   pub code : ℕ
   pub whole : ℕ
   pub kept : ℕ
 
-unfoldable pub recordReport : Recorded → ReadReport (Option Read)
-recordReport recorded.Refused = ReadReport.refused 12
+unfoldable pub recordReport : Recorded → RegisterReport (Option RecordRead)
+recordReport recorded.Refused = RegisterReport.refused 12
 recordReport recorded.Nothing = is none
 recordReport (recorded.Found e) = is (some (record { code = e .code; whole = e .whole; kept = e .kept }))
 
-abbrev pub keptOf : List ℕ → ℕ → ℕ
-keptOf r at = min (Layout.recordWhole r at) Limits.most-kept
+abbrev pub keptCount : List ℕ → ℕ → ℕ
+keptCount r at = min (Layout.recordWhole r at) Limits.most-kept
 
-unfoldable pub recordAt : List ℕ → ℕ → Option Read
+unfoldable pub recordAt : List ℕ → ℕ → Option RecordRead
 recordAt r at =
-    cond (eqb (Layout.recordHeld r at) 1) (some (record { code = Layout.recordCode r at; whole = Layout.recordWhole r at; kept = keptOf r at })) none
+    cond (eqb (Layout.recordHeld r at) 1) (some (record { code = Layout.recordCode r at; whole = Layout.recordWhole r at; kept = keptCount r at })) none
 
-unfoldable pub recordOf : List ℕ → Kind → ReadReport (Option Read)
-recordOf r k = cond (validRegisters r) (is (recordAt r (recordOffset k))) (ReadReport.refused 12)
+unfoldable pub recordPromise : List ℕ → Kind → RegisterReport (Option RecordRead)
+recordPromise r k = cond (validRegisters r) (is (recordAt r (recordOffset k))) (RegisterReport.refused 12)
 
 -- the kept bytes; an empty part where there is no record and in a refusal
-unfoldable pub recordBytes : List ℕ → Kind → List ℕ
-recordBytes r k =
+unfoldable pub recordBytesPromise : List ℕ → Kind → List ℕ
+recordBytesPromise r k =
     cond (validRegisters r)
-    (cond (eqb (Layout.recordHeld r (recordOffset k)) 1) (run (recordOffset k + Layout.record-kept-offset) (keptOf r (recordOffset k)) r) [])
+    (cond (eqb (Layout.recordHeld r (recordOffset k)) 1) (run (recordOffset k + Layout.record-kept-offset) (keptCount r (recordOffset k)) r) [])
     []

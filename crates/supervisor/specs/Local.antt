@@ -116,15 +116,15 @@ edition s key =
 
 -- ---- Alerts, options and sending: the state afterwards
 
-unfoldable pub posted : State → ℕ → List ℕ → State
-posted s action text = withWaiting (withStatus s (setBit (s .status) 1)) (s .waiting ++ ((record { action = action; text = text }) ∷ []))
+unfoldable pub withPosted : State → ℕ → List ℕ → State
+withPosted s action text = withWaiting (withStatus s (setBit (s .status) 1)) (s .waiting ++ ((record { action = action; text = text }) ∷ []))
 
 -- tests 13, 9, 10
 unfoldable pub post : State → ℕ → List ℕ → Done
 post s action text =
     cond (eqb action 0) (refused 13)
     (cond (ltb longest-alert (length text)) (refused 9)
-    (cond (ltb (length (s .waiting)) most-alerts) (left (posted s action text)) (refused 10)))
+    (cond (ltb (length (s .waiting)) most-alerts) (left (withPosted s action text)) (refused 10)))
 
 -- test 13
 unfoldable pub setOptions : State → ℕ → Done

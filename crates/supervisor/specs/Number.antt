@@ -10,5 +10,5 @@ use Rattle.supervisor.specs.declared.number.ReplyNumber.{ReplyNumber}
 unfoldable pub topSet : ℕ → ℕ
 topSet n = cond (ltb n top-bit) (n + top-bit) n
 
-abbrev pub replyTo : RequestNumber → ReplyNumber
-replyTo n = record { 0 = topSet (n .0) }
+abbrev pub replyNumber : RequestNumber → ReplyNumber
+replyNumber n = record { 0 = topSet (n .0) }

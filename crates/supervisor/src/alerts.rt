@@ -8,7 +8,7 @@ ghost use lib.ListN.{length};
 ghost use Rattle.supervisor.specs.Limits.{longest-alert, most-alerts};
 ghost use Rattle.supervisor.specs.Layout.{registers-length, statusOf, alertCount};
 ghost use Rattle.supervisor.specs.Local.{setBit};
-ghost use Rattle.supervisor.specs.Calls.{registered, postReport, withAlert, posting};
+ghost use Rattle.supervisor.specs.Calls.{registersOutcome, postReport, withAlert, postPromise};
 
 pub enum Posted {
     Done,
@@ -20,7 +20,7 @@ pub enum Posted {
 
 // Posts an alert.
 pub fn post(registers: &mut [u8], action: u8, text: &[u8]) -> Posted
-    ensures { λ r. ⌜ registered (postReport r) (now (registers .exit)) ≡ posting (now (registers .entry)) action (now (text .entry)) ⌝ }
+    ensures { λ r. ⌜ registersOutcome (postReport r) (now (registers .exit)) ≡ postPromise (now (registers .entry)) action (now (text .entry)) ⌝ }
 {
     if !valid::registers_are_valid(registers) {
         return Posted::Refused;

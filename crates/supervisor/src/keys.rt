@@ -6,7 +6,7 @@ ghost use mathlib.Core.Path.{_≡_};
 ghost use mathlib.Core.Bool.{_&&_};
 ghost use Prim.Native.Nat.{_<_};
 ghost use Rattle.supervisor.specs.Valid.{validFactory, validSettings};
-ghost use Rattle.supervisor.specs.Calls.{resultNumber, lookupReport, lookupResult, lookupValue, editionReport, editionResult, editionNumber, locationOf, settingAt, sized, within};
+ghost use Rattle.supervisor.specs.Calls.{resultNumber, lookupReport, lookupResultPromise, lookupPromise, editionReport, editionPromise, editionNumber, locationOf, settingAt, sized, within};
 ghost use Rattle.octets.specs.Bytes.{run};
 
 pub enum Found {
@@ -36,7 +36,7 @@ pub(crate) enum Location {
 
 // The value of a key, if it has at most `most` bytes; an empty part where `lookup_result` is not 0.
 pub fn lookup<'a>(factory: &'a [u8], settings: &'a [u8], key: u8, most: u16) -> &'a [u8]
-    ensures { λ r. ⌜ now r ≡ lookupValue (now (factory .entry)) (now (settings .entry)) key most ⌝ }
+    ensures { λ r. ⌜ now r ≡ lookupPromise (now (factory .entry)) (now (settings .entry)) key most ⌝ }
 {
     if !stores_are_valid(factory, settings) {
         return &factory[0..0];
@@ -55,7 +55,7 @@ pub fn lookup<'a>(factory: &'a [u8], settings: &'a [u8], key: u8, most: u16) -> 
 
 // The result of a lookup.
 pub fn lookup_result(factory: &[u8], settings: &[u8], key: u8, most: u16) -> Found
-    ensures { λ r. ⌜ lookupReport r ≡ lookupResult (now (factory .entry)) (now (settings .entry)) key most ⌝ }
+    ensures { λ r. ⌜ lookupReport r ≡ lookupResultPromise (now (factory .entry)) (now (settings .entry)) key most ⌝ }
 {
     if !stores_are_valid(factory, settings) {
         return Found::Refused;
@@ -74,7 +74,7 @@ pub fn lookup_result(factory: &[u8], settings: &[u8], key: u8, most: u16) -> Fou
 
 // The edition of a key that has a value.
 pub fn edition(factory: &[u8], settings: &[u8], key: u8) -> EditionFound
-    ensures { λ r. ⌜ editionReport r ≡ editionResult (now (factory .entry)) (now (settings .entry)) key ⌝ }
+    ensures { λ r. ⌜ editionReport r ≡ editionPromise (now (factory .entry)) (now (settings .entry)) key ⌝ }
 {
     if !stores_are_valid(factory, settings) {
         return EditionFound::Refused;
@@ -94,7 +94,7 @@ pub fn edition(factory: &[u8], settings: &[u8], key: u8) -> EditionFound
 
 // The edition of a key, 0 where none is handed out.
 pub fn edition_number(factory: &[u8], settings: &[u8], key: u8) -> u32
-    ensures { λ r. ⌜ r ≡ editionNumber (editionResult (now (factory .entry)) (now (settings .entry)) key) ⌝ }
+    ensures { λ r. ⌜ r ≡ editionNumber (editionPromise (now (factory .entry)) (now (settings .entry)) key) ⌝ }
 {
     let found = edition(factory, settings, key);
     match found {
@@ -118,7 +118,7 @@ fn stores_are_valid(factory: &[u8], settings: &[u8]) -> bool
 
 // The number of a lookup's result.
 pub fn result_number(factory: &[u8], settings: &[u8], key: u8, most: u16) -> u8
-    ensures { λ r. ⌜ r ≡ resultNumber (lookupResult (now (factory .entry)) (now (settings .entry)) key most) ⌝ }
+    ensures { λ r. ⌜ r ≡ resultNumber (lookupResultPromise (now (factory .entry)) (now (settings .entry)) key most) ⌝ }
 {
     let found = lookup_result(factory, settings, key, most);
     match found {

@@ -3,7 +3,7 @@
 use crate::layout;
 use crate::valid;
 ghost use mathlib.Core.Path.{_≡_};
-ghost use Rattle.supervisor.specs.Calls.{registered, optionsReport, settingOptions};
+ghost use Rattle.supervisor.specs.Calls.{registersOutcome, optionsReport, optionsPromise};
 
 pub enum OptionsSet {
     Done,
@@ -13,7 +13,7 @@ pub enum OptionsSet {
 
 // Sets the options, if the highest option bit set is at most 8.
 pub fn set_options(registers: &mut [u8], options: u64) -> OptionsSet
-    ensures { λ r. ⌜ registered (optionsReport r) (now (registers .exit)) ≡ settingOptions (now (registers .entry)) options ⌝ }
+    ensures { λ r. ⌜ registersOutcome (optionsReport r) (now (registers .exit)) ≡ optionsPromise (now (registers .entry)) options ⌝ }
 {
     if !valid::registers_are_valid(registers) {
         return OptionsSet::Refused;

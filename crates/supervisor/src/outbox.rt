@@ -6,7 +6,7 @@ ghost use mathlib.Core.Path.{_≡_};
 ghost use mathlib.Core.Bool.{cond};
 ghost use Prim.Native.Nat.{min};
 ghost use lib.Dec.{eqb};
-ghost use Rattle.supervisor.specs.Calls.{takeOf, taking};
+ghost use Rattle.supervisor.specs.Calls.{takeOutcome, takePromise};
 
 pub enum Taken {
     Moved(usize),
@@ -15,7 +15,7 @@ pub enum Taken {
 
 // Moves the smaller of the room and the bytes pending.
 pub fn take(outbox: &mut [u8], room: &mut [u8]) -> Taken
-    ensures { λ r. ⌜ takeOf r (now (outbox .exit)) (now (room .exit)) ≡ taking (now (outbox .entry)) (now (room .entry)) ⌝ }
+    ensures { λ r. ⌜ takeOutcome r (now (outbox .exit)) (now (room .exit)) ≡ takePromise (now (outbox .entry)) (now (room .entry)) ⌝ }
 {
     if !valid::outbox_is_valid(outbox) {
         return Taken::Refused;

@@ -6,7 +6,7 @@ ghost use mathlib.Core.Path.{_≡_};
 ghost use Prim.Native.Nat.{_≤_, _<_};
 ghost use Rattle.supervisor.specs.Limits.{most-kept};
 ghost use Rattle.supervisor.specs.Layout.{panic-offset};
-ghost use Rattle.supervisor.specs.Calls.{signalReport, signalOf, flagsReport, flagsOf, recordOffset, recordReport, recordOf, recordBytes, keptOf};
+ghost use Rattle.supervisor.specs.Calls.{signalReport, signalPromise, flagsReport, flagsPromise, recordOffset, recordReport, recordPromise, recordBytesPromise, keptCount};
 
 pub enum SignalRead {
     Refused,
@@ -45,7 +45,7 @@ pub enum Recorded {
 
 // The line signal: asserted exactly when status is not 0.
 pub fn signal(registers: &[u8]) -> SignalRead
-    ensures { λ r. ⌜ signalReport r ≡ signalOf (now (registers .entry)) ⌝ }
+    ensures { λ r. ⌜ signalReport r ≡ signalPromise (now (registers .entry)) ⌝ }
 {
     if !valid::registers_are_valid(registers) {
         return SignalRead::Refused;
@@ -58,7 +58,7 @@ pub fn signal(registers: &[u8]) -> SignalRead
 
 // The two flags.
 pub fn flags(registers: &[u8]) -> FlagsRead
-    ensures { λ r. ⌜ flagsReport r ≡ flagsOf (now (registers .entry)) ⌝ }
+    ensures { λ r. ⌜ flagsReport r ≡ flagsPromise (now (registers .entry)) ⌝ }
 {
     if !valid::registers_are_valid(registers) {
         return FlagsRead::Refused;
@@ -70,7 +70,7 @@ pub fn flags(registers: &[u8]) -> FlagsRead
 
 // A record, or that there is none.
 pub fn record(registers: &[u8], kind: Kind) -> Recorded
-    ensures { λ r. ⌜ recordReport r ≡ recordOf (now (registers .entry)) kind ⌝ }
+    ensures { λ r. ⌜ recordReport r ≡ recordPromise (now (registers .entry)) kind ⌝ }
 {
     if !valid::registers_are_valid(registers) {
         return Recorded::Refused;
@@ -88,7 +88,7 @@ pub fn record(registers: &[u8], kind: Kind) -> Recorded
 
 // A record's kept bytes; an empty part where there is no record.
 pub fn record_bytes<'a>(registers: &'a [u8], kind: Kind) -> &'a [u8]
-    ensures { λ r. ⌜ now r ≡ recordBytes (now (registers .entry)) kind ⌝ }
+    ensures { λ r. ⌜ now r ≡ recordBytesPromise (now (registers .entry)) kind ⌝ }
 {
     if !valid::registers_are_valid(registers) {
         return &registers[0..0];
@@ -113,7 +113,7 @@ fn record_offset(kind: Kind) -> usize
 
 fn kept(registers: &[u8], at: usize) -> usize
     requires { ⌜ at < 65536 ⌝ }
-    ensures { λ r. ⌜ (r ≡ keptOf (now (registers .entry)) at) × (r ≤ most-kept) ⌝ }
+    ensures { λ r. ⌜ (r ≡ keptCount (now (registers .entry)) at) × (r ≤ most-kept) ⌝ }
 {
     let whole = octets::word_at(registers, at + layout::RECORD_WHOLE_OFFSET);
     if whole < layout::MOST_KEPT {

@@ -10,7 +10,7 @@ ghost use lib.ListN.{length, replicate};
 ghost use Rattle.octets.specs.Bytes.{bytes, overlay};
 ghost use Rattle.supervisor.specs.Layout.{factory-length, registers-length};
 ghost use Rattle.supervisor.specs.Local.{pong};
-ghost use Rattle.supervisor.specs.Calls.{parts, startOf, starting};
+ghost use Rattle.supervisor.specs.Calls.{parts, startOutcome, startPromise};
 
 pub enum Started {
     Done,
@@ -27,7 +27,7 @@ pub fn start(
     settings: &mut [u8],
     registers: &mut [u8],
 ) -> Started
-    ensures { λ r. ⌜ startOf r (parts (now (reader .exit)) (now (outbox .exit)) (now (factory .exit)) (now (settings .exit)) (now (registers .exit))) ≡ starting (now («data» .entry)) (parts (now (reader .entry)) (now (outbox .entry)) (now (factory .entry)) (now (settings .entry)) (now (registers .entry))) ⌝ }
+    ensures { λ r. ⌜ startOutcome r (parts (now (reader .exit)) (now (outbox .exit)) (now (factory .exit)) (now (settings .exit)) (now (registers .exit))) ≡ startPromise (now («data» .entry)) (parts (now (reader .entry)) (now (outbox .entry)) (now (factory .entry)) (now (settings .entry)) (now (registers .entry))) ⌝ }
 {
     if reader.len() < line::reader::STATE_LENGTH {
         return Started::Refused;

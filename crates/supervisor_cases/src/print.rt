@@ -1,7 +1,7 @@
 // Prints answers, each with one space in front; failures and refusals go by the numbers of document 01.
 // Assumes nothing: output that cannot be written is lost.
-use requests::outcome::Outcome;
-use requests::receive::Received;
+use responder::outcome::Outcome;
+use responder::receive::Received;
 use saving::restore::Restored;
 use saving::save::Saved;
 use supervisor::alerts::Posted;

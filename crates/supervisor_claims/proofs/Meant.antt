@@ -19,16 +19,16 @@ pub valid-with : (p : Calls.Parts) (i : Part) (s : List ℕ) → Valid p → val
 valid-with = every-with (λ i s. validPart i s ≡ true)
 
 -- a refusal with nothing changed, or valid parts that hold the state
-abbrev pub Does : Calls.Parts → Calls.Registered → Local.Done → Type 0
-Does p c (Local.refused n) = c ≡ Calls.registered (some n) (p .registers)
+abbrev pub Does : Calls.Parts → Calls.RegistersOutcome → Local.Done → Type 0
+Does p c (Local.refused n) = c ≡ Calls.registersOutcome (some n) (p .registers)
 Does p c (Local.left s) = (c .refusal ≡ none) × (view (withRegisters p (c .registers)) ≡ s) × Valid (withRegisters p (c .registers))
 
 -- a record: its code, whole length and how many bytes are kept, and those bytes
-abbrev pub Reads : Option Calls.Read → List ℕ → Option Recorded → Type 0
+abbrev pub Reads : Option Calls.RecordRead → List ℕ → Option Recorded → Type 0
 Reads none bs none = bs ≡ []
 Reads none bs (some x) = ⊥
 Reads (some r) bs none = ⊥
 Reads (some r) bs (some x) = (r .code ≡ x .code) × (r .whole ≡ x .whole) × (r .kept ≡ length (x .kept)) × (bs ≡ x .kept)
 
 abbrev pub RecordedAs : Calls.Parts → Kind → Option Recorded → Type 0
-RecordedAs p k x = (r : Option Calls.Read) × (Calls.recordOf (p .registers) k ≡ Calls.is r) × Reads r (Calls.recordBytes (p .registers) k) x
+RecordedAs p k x = (r : Option Calls.RecordRead) × (Calls.recordPromise (p .registers) k ≡ Calls.is r) × Reads r (Calls.recordBytesPromise (p .registers) k) x

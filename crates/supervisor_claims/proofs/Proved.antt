@@ -1,12 +1,12 @@
 -- The supervisor's claims, proved: one element of each record of statements in specs/.
 -- Assumes nothing.
-use Rattle.supervisor_claims.specs.Demand1.{NumberDue, AsItWas}
-use Rattle.supervisor_claims.specs.Demand2.{CarriedOut, NumberedFailures, Cuts}
-use Rattle.supervisor_claims.specs.Item1.{Item1}
-use Rattle.supervisor_claims.specs.Item4.{Item4}
-use Rattle.supervisor_claims.specs.Item5.{Item5}
-use Rattle.supervisor_claims.specs.Item11.{Item11}
-use Rattle.supervisor_claims.specs.Item14.{Item14}
+use Rattle.supervisor_claims.specs.Demand1.{SupervisorNumberDue, SupervisorAsItWas}
+use Rattle.supervisor_claims.specs.Demand2.{RequestsCarriedOut, NumberedFailures, Cuts}
+use Rattle.supervisor_claims.specs.Item1.{SupervisorItem1}
+use Rattle.supervisor_claims.specs.Item4.{SupervisorItem4}
+use Rattle.supervisor_claims.specs.Item5.{SupervisorItem5}
+use Rattle.supervisor_claims.specs.Item11.{SupervisorItem11}
+use Rattle.supervisor_claims.specs.Item14.{SupervisorItem14}
 use Rattle.supervisor_claims.proofs.laws.SavingLaws.{image-meant, good-meant}
 use Rattle.supervisor_claims.proofs.calls.StartClaim.{start-meant}
 use Rattle.supervisor_claims.proofs.calls.LookupClaim.{edition-meant}
@@ -33,7 +33,7 @@ use Rattle.supervisor_claims.proofs.claims.SavingRefusals.{save-refused
 use Rattle.saving_claims.proofs.Item11.{saved-omits, other-key-31}
 use Rattle.supervisor_claims.proofs.TwoRuns.{two-states, two-runs}
 
-pub number-due : NumberDue
+pub number-due : SupervisorNumberDue
 number-due = record {
   each-number-exactly = each-number-exactly;
   one-call = one-call;
@@ -45,10 +45,10 @@ number-due = record {
   parts-fit = parts-fit;
 }
 
-pub as-it-was : AsItWas
+pub as-it-was : SupervisorAsItWas
 as-it-was = record { refused-holds = refused-holds; refused-made = refused-made; fault-made = fault-made }
 
-pub carried-out : CarriedOut
+pub carried-out : RequestsCarriedOut
 carried-out = record {
   history-frames = history-frames;
   history = history;
@@ -86,7 +86,7 @@ cuts = record {
   steps-receive = steps-receive;
 }
 
-pub item-1 : Item1
+pub item-1 : SupervisorItem1
 item-1 = record {
   retained-stays = retained-stays;
   reboot-forgets = reboot-forgets;
@@ -100,7 +100,7 @@ item-1 = record {
   fresh-after-reboot = fresh-after-reboot;
 }
 
-pub item-4 : Item4
+pub item-4 : SupervisorItem4
 item-4 = record {
   more-items-11 = more-items-11;
   up-to-64-items = up-to-64-items;
@@ -109,7 +109,7 @@ item-4 = record {
   parts-fit = parts-fit;
 }
 
-pub item-5 : Item5
+pub item-5 : SupervisorItem5
 item-5 = record {
   set-answered = set-answered;
   stores-nothing = stores-nothing;
@@ -122,7 +122,7 @@ item-5 = record {
   edition-meant = edition-meant;
 }
 
-pub item-11 : Item11
+pub item-11 : SupervisorItem11
 item-11 = record {
   save-refused-exactly = save-refused-exactly;
   restore-refused-exactly = restore-refused-exactly;
@@ -137,7 +137,7 @@ item-11 = record {
   value-last-set = value-last-set;
 }
 
-pub item-14 : Item14
+pub item-14 : SupervisorItem14
 item-14 = record {
   set-answered = set-answered;
   value-lengths = value-lengths;

@@ -13,8 +13,8 @@ use Rattle.supervisor.proofs.ValidLaws.{settings-valid}
 use Rattle.supervisor_claims.specs.View.{factoryOf, view}
 use Rattle.supervisor_claims.specs.Sound.{Sound}
 use Rattle.supervisor_claims.specs.Histories.{Means, Made, left}
-use Rattle.supervisor_claims.specs.FrameHistory.{startsAnew, joined, outputsByFrames, leftByFrames}
-use Rattle.supervisor_claims.specs.TwoRuns.{Run, leftBy, receivedIn, record-end, SameBut}
+use Rattle.supervisor_claims.specs.FrameHistory.{startsAnew, receivedSince, outputsByFrames, leftByFrames}
+use Rattle.supervisor_claims.specs.TwoRuns.{Run, leftByRun, receivedInRun, record-end, SameButPassphrase}
 use Rattle.supervisor_claims.specs.TwoRuns.{withoutPassphrase, passphraseEdition, setsToCome}
 use Rattle.supervisor_claims.specs.Item14.{TwoStates, TwoRuns}
 use Rattle.supervisor_claims.proofs.laws.Progress.{Since}
@@ -33,14 +33,14 @@ like-without {s} {t} l =
 calls-follow : (ms : List Made) (w : List ℕ) (s t : State) → Pair (setsToCome w ms) s t → Follow w ms s t
 unfolding setsToCome outputsByFrames leftByFrames
 calls-follow [] w s t p = (refl, like-without (p .like))
-calls-follow (m ∷ ms) w s t p = by (startsAnew m) refl (calls-follow ms (joined w m))
+calls-follow (m ∷ ms) w s t p = by (startsAnew m) refl (calls-follow ms (receivedSince w m))
   where
-    by : (b : Bool) → startsAnew m ≡ b → ((x y : State) → Pair (setsToCome (joined w m) ms) x y → Follow (joined w m) ms x y) → Follow w (m ∷ ms) s t
+    by : (b : Bool) → startsAnew m ≡ b → ((x y : State) → Pair (setsToCome (receivedSince w m) ms) x y → Follow (receivedSince w m) ms x y) → Follow w (m ∷ ms) s t
     by true e rest =
         let g = anew-same w s t m e in
-        (rw g, ap (λ (x : Means). withoutPassphrase (leftByFrames (joined w m) (x .state) ms)) g)
+        (rw g, ap (λ (x : Means). withoutPassphrase (leftByFrames (receivedSince w m) (x .state) ms)) g)
     by false e rest =
-        let k = made-same w s t m (setsToCome (joined w m) ms) e (rw e at p) in
+        let k = made-same w s t m (setsToCome (receivedSince w m) ms) e (rw e at p) in
         let f = rest _ _ (k .pair) in
         (rw (k .answer, k .out, f .0), f .1)
 
@@ -51,10 +51,10 @@ view-room : (n : ℕ) (p : Parts) → passphraseEdition p + n ≤ Limits.last-ed
 unfolding view
 view-room n p h = store-room n (p .settings) h
 
-pub run-sound : (r : Run) → Sound (leftBy r)
+pub run-sound : (r : Run) → Sound (leftByRun r)
 run-sound r = history (r .room) (r .bytes) (r .lent) (r .start-data) (r .typed) (r .accepted) (r .calls) (r .all-typed) .2
 
-pub run-since : (r : Run) → Since (split (receivedIn r) .rest) (view (leftBy r))
+pub run-since : (r : Run) → Since (split (receivedInRun r) .rest) (view (leftByRun r))
 run-since r =
     rw (history (r .room) (r .bytes) (r .lent) (r .start-data) (r .typed) (r .accepted) (r .calls) (r .all-typed) .1)
     (by-frames (factoryOf (r .start-data)) (r .calls) .2)
@@ -63,9 +63,9 @@ run-since r =
 
 pub two-states : TwoStates
 two-states r s e ms t h k =
-    let w = receivedIn r in
-    let p = leftBy r in
-    let q = leftBy s in
+    let w = receivedInRun r in
+    let p = leftByRun r in
+    let q = leftByRun s in
     let since = run-since r in
     let a = follows p (run-sound r) ms t in
     let b = follows q (run-sound s) ms t in
@@ -76,7 +76,7 @@ two-states r s e ms t h k =
     (rw (a .0, b .0, ← c .0, ← d .0) (f .0), rw (a .1, b .1, ← c .1, ← d .1) (f .1))
 
 -- parts that are the same but for the passphrase's record hold such states
-pub same-states : (p q : Parts) → Sound p → SameBut p q → withoutPassphrase (view p) ≡ withoutPassphrase (view q)
+pub same-states : (p q : Parts) → Sound p → SameButPassphrase p q → withoutPassphrase (view p) ≡ withoutPassphrase (view q)
 unfolding view
 same-states p q s e =
     rw (
@@ -88,4 +88,4 @@ same-states p q s e =
     )
 
 pub two-runs : TwoRuns
-two-runs r s e ms t h k = two-states r s (same-states (leftBy r) (leftBy s) (run-sound r) e) ms t h k .0
+two-runs r s e ms t h k = two-states r s (same-states (leftByRun r) (leftByRun s) (run-sound r) e) ms t h k .0

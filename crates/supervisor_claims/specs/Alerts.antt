@@ -13,7 +13,7 @@ use Rattle.line.specs.Message.{Message}
 use Rattle.line.specs.Frame.{frame}
 use Rattle.supervisor.specs.Number.{topSet}
 use Rattle.supervisor.specs.State.{Alert, Retained, State}
-use Rattle.requests.specs.Requests.{alertData}
+use Rattle.responder.specs.Requests.{alertData}
 use Rattle.supervisor_claims.specs.Histories
 use Rattle.supervisor_claims.specs.Histories.{LocalCall, Answer, done, Means, Made}
 use Rattle.supervisor_claims.specs.FrameHistory.{startsAnew}
@@ -50,8 +50,8 @@ abbrev pub NoAlert : Message → Type 0
 NoAlert m = eqb (m .command) command-alert ≡ false
 
 -- an alert request of a version under number n, and the frame of a reply to it, under n with the top bit set
-abbrev pub alertOf : ℕ → ℕ → Message
-alertOf version n = record { version = version; sequence = n; command = command-alert; payload = [] }
+abbrev pub alertRequest : ℕ → ℕ → Message
+alertRequest version n = record { version = version; sequence = n; command = command-alert; payload = [] }
 
 unfoldable pub alertReply : ℕ → ℕ → Alert → List ℕ
 alertReply version n a = frame (record { version = version; sequence = topSet n; command = reply-alert; payload = alertData a })
@@ -71,22 +71,22 @@ whereDone (Histories.written n) a = []
 whereDone (Histories.faulty n at) a = []
 
 -- the alerts that a local call with this answer adds
-abbrev pub added : LocalCall → Answer → List Alert
-added (Histories.take room) x = []
-added (Histories.post action text) x = whereDone x (record { action = action; text = text })
-added (Histories.setOptions options) x = []
-added (Histories.lookup key most) x = []
-added (Histories.edition key) x = []
-added Histories.signal x = []
-added Histories.flags x = []
-added (Histories.readRecord k) x = []
-added (Histories.save room) x = []
-added (Histories.restore image) x = []
+abbrev pub alertsAdded : LocalCall → Answer → List Alert
+alertsAdded (Histories.take room) x = []
+alertsAdded (Histories.post action text) x = whereDone x (record { action = action; text = text })
+alertsAdded (Histories.setOptions options) x = []
+alertsAdded (Histories.lookup key most) x = []
+alertsAdded (Histories.edition key) x = []
+alertsAdded Histories.signal x = []
+alertsAdded Histories.flags x = []
+alertsAdded (Histories.readRecord k) x = []
+alertsAdded (Histories.save room) x = []
+alertsAdded (Histories.restore image) x = []
 
 -- a local call leaves the retained reply and the alerts that wait; a post that is done adds its alert behind them
 abbrev pub CallKeeps : State → LocalCall → Means → Type 0
-CallKeeps s c m = (m .state .retained ≡ s .retained) × (m .state .waiting ≡ s .waiting ++ added c (m .answer))
+CallKeeps s c m = (m .state .retained ≡ s .retained) × (m .state .waiting ≡ s .waiting ++ alertsAdded c (m .answer))
 
 -- calls among which no start is accepted
-abbrev pub NoStart : List Made → Type 0
-NoStart = Each (λ (m : Made). startsAnew m ≡ false)
+abbrev pub NoStarts : List Made → Type 0
+NoStarts = Each (λ (m : Made). startsAnew m ≡ false)

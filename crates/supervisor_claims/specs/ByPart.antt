@@ -17,18 +17,18 @@ pub data Part : Type 0 where
   registers : Part
 
 -- whether two names are the same
-abbrev pub number : Part → ℕ
-number Part.reader = 0
-number Part.outbox = 1
-number Part.factory = 2
-number Part.settings = 3
-number Part.registers = 4
+abbrev pub partNumber : Part → ℕ
+partNumber Part.reader = 0
+partNumber Part.outbox = 1
+partNumber Part.factory = 2
+partNumber Part.settings = 3
+partNumber Part.registers = 4
 
 abbrev pub is : Part → Part → Bool
-is i j = eqb (number i) (number j)
+is i j = eqb (partNumber i) (partNumber j)
 
 abbrev pub published : Part → ℕ
-published Part.reader = LineReader.state-length
+published Part.reader = LineReader.reader-length
 published Part.outbox = Layout.outbox-length
 published Part.factory = Layout.factory-length
 published Part.settings = Layout.settings-length
@@ -44,7 +44,7 @@ part p Part.registers = p .registers
 
 -- whether a part is as 12 requires
 abbrev pub validPart : Part → List ℕ → Bool
-validPart Part.reader s = LineReader.valid s
+validPart Part.reader s = LineReader.validReader s
 validPart Part.outbox s = validOutbox s
 validPart Part.factory s = validFactory s
 validPart Part.settings s = validSettings s

@@ -35,15 +35,15 @@ abbrev pub OneCall : Type 0
 OneCall = (p : Parts) (m : Made) → Sound p → Typed (m .call) → Meets p (made p m) (meantMade (view p) m)
 
 -- what a call asks of a part that it takes: a start its length alone
-abbrev pub asks : Call → Part → List ℕ → Bool
-asks (Histories.start d) i s = leb (published i) (length s)
-asks (Histories.receive image piece) i s = validPart i s
-asks (Histories.step image piece) i s = validPart i s
-asks (Histories.local c) i s = validPart i s
+abbrev pub partAsked : Call → Part → List ℕ → Bool
+partAsked (Histories.start d) i s = leb (published i) (length s)
+partAsked (Histories.receive image piece) i s = validPart i s
+partAsked (Histories.step image piece) i s = validPart i s
+partAsked (Histories.local c) i s = validPart i s
 
 -- whether the parts that a call takes are as 12 requires
-unfoldable pub fit : Parts → Call → Bool
-fit p c = ofTaken c (λ i. asks c i (part p i))
+unfoldable pub partsFitCall : Parts → Call → Bool
+partsFitCall p c = ofTaken c (λ i. partAsked c i (part p i))
 
 -- the tests of a call behind 12, in document 01's order: 13, 9, 11, 10, 8
 abbrev pub laterTests : Parts → Call → List TableTest
@@ -64,10 +64,10 @@ laterTests p (Histories.local (Histories.restore image)) = []
 
 abbrev pub EachNumberExactly : Type 0
 EachNumberExactly = (p : Parts) (c : Call) (n : ℕ) → Typed c
-    → (did p c .answer ≡ refused n) ↔ (firstFailing (test 12 (not (fit p c)) ∷ laterTests p c) ≡ some n)
+    → (did p c .answer ≡ refused n) ↔ (firstFailing (test 12 (not (partsFitCall p c)) ∷ laterTests p c) ≡ some n)
 
 abbrev pub RefusedExactly : Type 0
-RefusedExactly = (p : Parts) (c : Call) → (did p c .answer ≡ refused 12) ↔ (fit p c ≡ false)
+RefusedExactly = (p : Parts) (c : Call) → (did p c .answer ≡ refused 12) ↔ (partsFitCall p c ≡ false)
 
 abbrev pub Made12 : Type 0
 Made12 = (p : Parts) (m : Made) → enough (m .call) (m .lent) ≡ false → made p m ≡ didBy (refused 12) (untouched (m .call)) p
@@ -80,14 +80,14 @@ abbrev pub No12 : Type 0
 No12 = AfterCalls (λ ms q. Never12 q)
 
 -- the piece of a call holds bytes
-abbrev pub PieceBytes : LineCalls.Call → Type 0
+abbrev pub PieceBytes : LineCalls.LineCall → Type 0
 PieceBytes (LineCalls.read c) = Each Byte (c .piece)
 PieceBytes (LineCalls.start n) = Unit {0}
 
 -- what holds of sound parts, and of what any calls of the line layer's reader leave of them, whatever each is lent of the reader's part
 abbrev pub AfterReaderCalls : (Parts → Parts → Type 0) → Type 0
-AfterReaderCalls P = (p : Parts) → Sound p → (cs : List LineCalls.Call) → Each PieceBytes cs
-    → P p (withReader p (LineCalls.afterAll (LineCalls.fresh (p .reader)) cs .state))
+AfterReaderCalls P = (p : Parts) → Sound p → (cs : List LineCalls.LineCall) → Each PieceBytes cs
+    → P p (withReader p (LineCalls.afterLineCalls (LineCalls.readerOn (p .reader)) cs .state))
 
 abbrev pub ReaderCallsSound : Type 0
 ReaderCallsSound = AfterReaderCalls (λ p q. Sound q × Lengths p q)
@@ -96,9 +96,9 @@ abbrev pub ReaderNo12 : Type 0
 ReaderNo12 = AfterReaderCalls (λ p q. Never12 q)
 
 abbrev pub PartsFit : Type 0
-PartsFit = LineReader.state-length + Layout.outbox-length + Layout.factory-length + Layout.settings-length + Layout.registers-length ≤ 65536
+PartsFit = LineReader.reader-length + Layout.outbox-length + Layout.factory-length + Layout.settings-length + Layout.registers-length ≤ 65536
 
-pub record NumberDue : Type 0 where
+pub record SupervisorNumberDue : Type 0 where
   -- Every call on any parts whatever: 12 exactly where a part that it takes is not as 12 requires.
   -- Then 13, 9, 11, 10 and 8, in this order, exactly where due, and no other number.
   pub each-number-exactly : EachNumberExactly
@@ -129,7 +129,7 @@ abbrev pub FaultMade : Type 0
 FaultMade = (p : Parts) (m : Made) (n at : ℕ) → made p m .answer ≡ faulty n at
     → (made p m .parts ≡ p) × (made p m .out ≡ untouched (m .call))
 
-pub record AsItWas : Type 0 where
+pub record SupervisorAsItWas : Type 0 where
   -- a refused call leaves state and output buffers as they were
   pub refused-holds : RefusedHolds
   -- the same whatever it is lent

@@ -19,15 +19,15 @@ use Rattle.supervisor.specs.State.{Factory, Setting, Settings, State, fresh, wi
 use Rattle.supervisor.specs.Local
 use Rattle.supervisor.specs.Calls
 use Rattle.supervisor.specs.Calls.{Parts}
-use Rattle.requests.specs.Requests.{failure, good, verdict, wrongValueLength, stored, carried, stream}
-use Rattle.requests.specs.Requests.{owed, replyFrame, replyOf, failedOf}
+use Rattle.responder.specs.Requests.{failure, good, verdict, wrongValueLength, storeValue, carryOut, receiveStream}
+use Rattle.responder.specs.Requests.{owed, replyFrame, replyOf, failedOf}
 use Rattle.supervisor_claims.specs.View.{factoryOf, view}
 use Rattle.supervisor_claims.specs.Sound.{Valid, Bytes, Sound, Lengths}
 use Rattle.supervisor_claims.specs.Histories
 use Rattle.supervisor_claims.specs.Histories.{Typed, Answer, refused, done, found, did, upTo, Lent, enough, Made, made}
 use Rattle.supervisor_claims.specs.Histories.{Output, outputs, left, outputsMeant, leftMeant, AllTyped}
-use Rattle.supervisor_claims.specs.Histories.{received, locally, FromStart, AfterCalls}
-use Rattle.supervisor_claims.specs.FrameHistory.{joinedAll, framed, tailOf, following, outputsByFrames, leftByFrames, carriedFrames, Replied, OnRequest}
+use Rattle.supervisor_claims.specs.Histories.{receiveWith, locally, FromStart, AfterCalls}
+use Rattle.supervisor_claims.specs.FrameHistory.{receivedSinceAll, frameCarried, progressOf, afterAllFrames, outputsByFrames, leftByFrames, carriedFrames, Replied, OnRequest}
 use Rattle.supervisor_claims.specs.FrameHistory.{OnFrame, DoneLeaving, answeredWith}
 use Rattle.supervisor_claims.specs.LastSet.{successful, setAfter, origin, originBehind, setSince, Has, fittedOf, lookupOf, lookupReply, ReadBack}
 use Rattle.supervisor_claims.specs.Replies.{Cycle, Ample, byteByByte, streamOf, takenBytes, replies}
@@ -36,7 +36,7 @@ use Rattle.supervisor_claims.specs.Replies.{Cycle, Ample, byteByByte, st
 
 -- the frames carried out or answered since the last accepted start, call after call, are all those of the joined bytes that are not empty
 abbrev pub CarriedOnce : List Made → Type 0
-CarriedOnce ms = carriedFrames [] [] ms ≡ nonEmpty (split (joinedAll [] ms) .closed)
+CarriedOnce ms = carriedFrames [] [] ms ≡ nonEmpty (split (receivedSinceAll [] ms) .closed)
 
 abbrev pub HistoryFrames : Type 0
 HistoryFrames = FromStart (λ p d q. (ms : List Made) → AllTyped ms
@@ -54,36 +54,36 @@ abbrev pub History : Type 0
 History = FromStart (λ p d q. (ms : List Made) → AllTyped ms → Follows p q (fresh (factoryOf d)) ms)
 
 -- a refusal of a start on p with nothing changed, or valid parts that hold the state
-abbrev pub Starts : Parts → Calls.Start → Local.Done → Type 0
+abbrev pub Starts : Parts → Calls.StartOutcome → Local.Done → Type 0
 Starts p t (Local.refused n) = t ≡ record { refusal = some n; parts = p }
 Starts p t (Local.left s) = (t .refusal ≡ none) × (view (t .parts) ≡ s) × Valid (t .parts)
 
 abbrev pub StartMeant : Type 0
-StartMeant = (d : List ℕ) → length d ≡ Layout.start-length → (p : Parts) → Calls.longEnough p ≡ true → Starts p (Calls.starting d p) (Local.start (factoryOf d))
+StartMeant = (d : List ℕ) → length d ≡ Layout.start-length → (p : Parts) → Calls.longEnough p ≡ true → Starts p (Calls.startPromise d p) (Local.start (factoryOf d))
 
 abbrev pub EachOnce : Type 0
 EachOnce = (ms : List Made) → CarriedOnce ms
 
-abbrev pub InOrder : Type 0
-InOrder = (image : List ℕ) (s : State) (bs : List ℕ) → s .received ≡ some [] → stream image s bs ≡ following image s bs
+abbrev pub FramesInOrder : Type 0
+FramesInOrder = (image : List ℕ) (s : State) (bs : List ℕ) → s .received ≡ some [] → receiveStream image s bs ≡ afterAllFrames image s bs
 
 -- no 00 is among them
 abbrev pub NoZeros : List ℕ → Type 0
 NoZeros = Each (λ b. 1 ≤ b)
 
-abbrev pub InOrderBehind : Type 0
-InOrderBehind = (image : List ℕ) (s : State) (p bs : List ℕ) → NoZeros p → s .received ≡ tailOf p → stream image s bs ≡ following image s (p ++ bs)
+abbrev pub FramesInOrderBehind : Type 0
+FramesInOrderBehind = (image : List ℕ) (s : State) (p bs : List ℕ) → NoZeros p → s .received ≡ progressOf p → receiveStream image s bs ≡ afterAllFrames image s (p ++ bs)
 
 abbrev pub ReceivedSince : Type 0
-ReceivedSince = (f : Factory) (ms : List Made) → let p = split (joinedAll [] ms) .rest in (leftMeant (fresh f) ms .received ≡ tailOf p) × NoZeros p
+ReceivedSince = (f : Factory) (ms : List Made) → let p = split (receivedSinceAll [] ms) .rest in (leftMeant (fresh f) ms .received ≡ progressOf p) × NoZeros p
 
-abbrev pub InOrderAfter : Type 0
-InOrderAfter = (f : Factory) (ms : List Made) (image bs : List ℕ)
-    → let s = leftMeant (fresh f) ms in stream image s bs ≡ following image s (split (joinedAll [] ms) .rest ++ bs)
+abbrev pub FramesInOrderAfter : Type 0
+FramesInOrderAfter = (f : Factory) (ms : List Made) (image bs : List ℕ)
+    → let s = leftMeant (fresh f) ms in receiveStream image s bs ≡ afterAllFrames image s (split (receivedSinceAll [] ms) .rest ++ bs)
 
 abbrev pub RequestCarried : Type 0
-RequestCarried = (image : List ℕ) (s : State) (b : ℕ) (bs : List ℕ) (m : Message) → verdict (b ∷ bs) ≡ good m → let c = carried image s m in
-    framed image s (b ∷ bs) ≡ withPending (c .state) (owed (s .terminator-owed) ++ replyFrame (replyOf (m .sequence) (c .reply)))
+RequestCarried = (image : List ℕ) (s : State) (b : ℕ) (bs : List ℕ) (m : Message) → verdict (b ∷ bs) ≡ good m → let c = carryOut image s m in
+    frameCarried image s (b ∷ bs) ≡ withPending (c .state) (owed (s .terminator-owed) ++ replyFrame (replyOf (m .sequence) (c .reply)))
 
 abbrev pub RepliesInOrder : Type 0
 RepliesInOrder = (image : List ℕ) → Each Byte image → FromStart (λ p d q. (ts : List Cycle) → Each Ample ts
@@ -111,15 +111,15 @@ LookupLastSet ms q = (k : ℕ) → ReadBack k → (most : ℕ) → most < 65536 
 
 abbrev pub SetSuccessful : Type 0
 SetSuccessful = (z : Settings) (v : List ℕ) (k : ℕ) → SettingsKey k → (x : Setting) → Has z k x
-    → eqb (stored z k v .result) 0 ≡ (not (wrongValueLength k (length v)) && not (eqb (x .edition) last-edition))
+    → eqb (storeValue z k v .result) 0 ≡ (not (wrongValueLength k (length v)) && not (eqb (x .edition) last-edition))
 
 abbrev pub SuccessfulExactly : Type 0
 SuccessfulExactly = (k : ℕ) → SettingsKey k → (x : Setting) → x .edition ≤ last-edition → (ms : List Message) (z : Settings) → Has z k (setAfter k x ms)
     → (m : Message) (v : List ℕ) → m .command ≡ command-key-set → m .payload ≡ k ∷ v
-    → successful (x .edition) k (ms ++ (m ∷ [])) ≡ successful (x .edition) k ms ++ cond (eqb (stored z k v .result) 0) (v ∷ []) []
+    → successful (x .edition) k (ms ++ (m ∷ [])) ≡ successful (x .edition) k ms ++ cond (eqb (storeValue z k v .result) 0) (v ∷ []) []
 
-pub record CarriedOut : Type 0 where
-  -- Demand 2 in one statement, over any calls, whatever each is lent. The bytes received since the last accepted start are joined (`joinedAll`).
+pub record RequestsCarriedOut : Type 0 where
+  -- Demand 2 in one statement, over any calls, whatever each is lent. The bytes received since the last accepted start are joined (`receivedSinceAll`).
   -- A receive or step takes, in order, those frames of the joined bytes that are not empty and whose 00 it brings. It carries out each valid request,
   -- with the image lent to it, and answers every other with its numbered failure. A local call does what document 01 has of it. A call that is lent too
   -- little is refused as 12 and does nothing. Every answer, all that is written outside the state, and the state that is left are those got so.
@@ -132,13 +132,13 @@ pub record CarriedOut : Type 0 where
   -- once each: over the bytes of all calls since the last accepted start
   pub each-once : EachOnce
   -- in order: a stream does what its frames do one after the other, and then the unfinished tail is the receive progress
-  pub in-order : InOrder
+  pub in-order : FramesInOrder
   -- the same in the middle of a frame, of which the bytes p have come
-  pub in-order-behind : InOrderBehind
+  pub in-order-behind : FramesInOrderBehind
   -- after any calls on a fresh state, the receive progress is what stands behind the last 00 of the joined bytes
   pub received-since : ReceivedSince
   -- a stream behind them: its first frame began in the calls before
-  pub in-order-after : InOrderAfter
+  pub in-order-after : FramesInOrderAfter
   -- a valid request is carried out, and its reply, if it earns one, is pending
   pub request-carried : RequestCarried
   -- replies: with everything taken after each byte, the bytes taken are the frames of the replies to the non-empty frames, in order
@@ -162,7 +162,7 @@ pub record CarriedOut : Type 0 where
 abbrev pub FailureOnlyPending : Type 0
 FailureOnlyPending = (image : List ℕ) (s : State) (b : ℕ) (bs : List ℕ) (reason version : ℕ) (sequence : Option ℕ)
     → verdict (b ∷ bs) ≡ failure reason version sequence
-    → framed image s (b ∷ bs) ≡ withPending s (owed (s .terminator-owed) ++ replyFrame (some (failedOf reason version sequence)))
+    → frameCarried image s (b ∷ bs) ≡ withPending s (owed (s .terminator-owed) ++ replyFrame (some (failedOf reason version sequence)))
 
 abbrev pub FailureAnswered : List Made → Parts → Type 0
 FailureAnswered ms q = (b : ℕ) (bs : List ℕ) (reason version : ℕ) (sequence : Option ℕ) → verdict (b ∷ bs) ≡ failure reason version sequence
@@ -176,8 +176,8 @@ abbrev pub EmptyFrameIgnored : List Made → Parts → Type 0
 EmptyFrameIgnored ms q = OnFrame ms [] (λ ahead c. DoneLeaving (made q c) (view (made q ahead .parts)))
 
 abbrev pub AheadOfZero : List Made → Parts → Type 0
-AheadOfZero ms q = (j : Lent) (image bs : List ℕ) → let c = received image j bs in Typed (c .call) → enough (c .call) j ≡ true → NoZeros bs
-    → DoneLeaving (made q c) (withReceived (view q) (tailOf (split (joinedAll [] ms) .rest ++ bs)))
+AheadOfZero ms q = (j : Lent) (image bs : List ℕ) → let c = receiveWith image j bs in Typed (c .call) → enough (c .call) j ≡ true → NoZeros bs
+    → DoneLeaving (made q c) (withReceived (view q) (progressOf (split (receivedSinceAll [] ms) .rest ++ bs)))
 
 pub record NumberedFailures : Type 0 where
   -- Behind any calls from an accepted start, a 00 closes a frame that is not empty and that the table finds a failure. The call is done.
@@ -195,9 +195,9 @@ pub record NumberedFailures : Type 0 where
 -- ---- Cutting the stream elsewhere changes nothing
 
 -- pieces received with one image and one loan, one after the other
-unfoldable pub receives : List ℕ → Lent → List (List ℕ) → List Made
-receives image l [] = []
-receives image l (piece ∷ pieces) = received image l piece ∷ receives image l pieces
+unfoldable pub receiveCalls : List ℕ → Lent → List (List ℕ) → List Made
+receiveCalls image l [] = []
+receiveCalls image l (piece ∷ pieces) = receiveWith image l piece ∷ receiveCalls image l pieces
 
 -- every call answers so, and hands nothing out
 abbrev pub AllAnswer : Answer → List Output → Type 0
@@ -205,15 +205,15 @@ AllAnswer a = Each (λ (t : Output). t ≡ record { answer = a; out = [] })
 
 -- every call is done; or every call is refused as 12, and no part has changed
 abbrev pub AllDone : List ℕ → Lent → Parts → List (List ℕ) → Type 0
-AllDone image l p pieces = AllAnswer done (outputs p (receives image l pieces))
+AllDone image l p pieces = AllAnswer done (outputs p (receiveCalls image l pieces))
 
 abbrev pub AllRefused : List ℕ → Lent → Parts → List (List ℕ) → Type 0
-AllRefused image l p pieces = AllAnswer (refused 12) (outputs p (receives image l pieces)) × (left p (receives image l pieces) ≡ p)
+AllRefused image l p pieces = AllAnswer (refused 12) (outputs p (receiveCalls image l pieces)) × (left p (receiveCalls image l pieces) ≡ p)
 
 abbrev pub CutAny : Type 0
 CutAny = (image : List ℕ) → Each Byte image → (l : Lent) (p : Parts) → Bytes p
     → (ps qs : List (List ℕ)) → Each (Each Byte) ps → Each (Each Byte) qs → flatten ps ≡ flatten qs
-    → (left p (receives image l ps) ≡ left p (receives image l qs))
+    → (left p (receiveCalls image l ps) ≡ left p (receiveCalls image l qs))
     × ((AllDone image l p ps × AllDone image l p qs) ⊎ (AllRefused image l p ps × AllRefused image l p qs))
 
 abbrev pub Cut : Type 0
@@ -229,13 +229,13 @@ StepThenReceive = (image : List ℕ) (p : Parts) (piece : List ℕ) → Bytes p 
     → did (did p (Histories.step image piece) .parts) (Histories.receive image (drop (upTo piece) piece)) ≡ did p (Histories.receive image piece)
 
 -- calls of step, each on what the one before left of the piece
-unfoldable pub steps : ℕ → List ℕ → Parts → List ℕ → Parts
-steps zero image p piece = p
-steps (suc n) image p piece = steps n image (did p (Histories.step image piece) .parts) (drop (upTo piece) piece)
+unfoldable pub stepCalls : ℕ → List ℕ → Parts → List ℕ → Parts
+stepCalls zero image p piece = p
+stepCalls (suc n) image p piece = stepCalls n image (did p (Histories.step image piece) .parts) (drop (upTo piece) piece)
 
 abbrev pub StepsReceive : Type 0
 StepsReceive = (n : ℕ) (image : List ℕ) (p : Parts) (piece : List ℕ) → Sound p → Each Byte image → Each Byte piece → length piece ≤ n
-    → steps n image p piece ≡ did p (Histories.receive image piece) .parts
+    → stepCalls n image p piece ≡ did p (Histories.receive image piece) .parts
 
 pub record Cuts : Type 0 where
   -- the same bytes in any two lists of pieces, received with one image and one loan and nothing in between, on any parts: the same bytes in every part

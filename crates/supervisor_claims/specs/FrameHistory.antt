@@ -10,83 +10,83 @@ use lib.ListN as ListN
 use lib.ListN.{length}
 use Rattle.line.specs.Limits.{longest-form}
 use Rattle.line.specs.Message.{Message}
-use Rattle.line_claims.specs.Pieces.{split, nonEmpty, closedBy}
+use Rattle.line_claims.specs.Pieces.{split, nonEmpty, closedBehind}
 use Rattle.supervisor.specs.State.{State, withReceived, withPending}
 use Rattle.supervisor.specs.Local
 use Rattle.supervisor.specs.Calls.{Parts}
-use Rattle.requests.specs.Requests.{good, verdict, Reply, judged, owed, replyFrame}
-use Rattle.requests.specs.Receive
-use Rattle.requests.specs.Receive.{Ended}
+use Rattle.responder.specs.Requests.{good, verdict, Reply, afterVerdict, owed, replyFrame}
+use Rattle.responder.specs.Receive
+use Rattle.responder.specs.Receive.{Ended}
 use Rattle.supervisor_claims.specs.View.{factoryOf, view}
 use Rattle.supervisor_claims.specs.Histories
 use Rattle.supervisor_claims.specs.Histories.{Call, Typed, refused, done, stepped, Did, Means, means, upTo, meant}
-use Rattle.supervisor_claims.specs.Histories.{Lent, Made, enough, untouched, Output, received}
+use Rattle.supervisor_claims.specs.Histories.{Lent, Made, enough, untouched, Output, receiveWith}
 
 -- ---- The received bytes
 
 -- the bytes that a call reads: a receive its piece, a step its piece up to and with the first 00, any other call none
-unfoldable pub reads : Call → List ℕ
-reads (Histories.start d) = []
-reads (Histories.receive image piece) = piece
-reads (Histories.step image piece) = ListN.take (upTo piece) piece
-reads (Histories.local c) = []
+unfoldable pub pieceRead : Call → List ℕ
+pieceRead (Histories.start d) = []
+pieceRead (Histories.receive image piece) = piece
+pieceRead (Histories.step image piece) = ListN.take (upTo piece) piece
+pieceRead (Histories.local c) = []
 
 -- whether a call is a start with start data that are accepted
-unfoldable pub starts : Call → Bool
-starts (Histories.start d) = not (Local.badStart (factoryOf d))
-starts (Histories.receive image piece) = false
-starts (Histories.step image piece) = false
-starts (Histories.local c) = false
+unfoldable pub isAcceptedStart : Call → Bool
+isAcceptedStart (Histories.start d) = not (Local.badStart (factoryOf d))
+isAcceptedStart (Histories.receive image piece) = false
+isAcceptedStart (Histories.step image piece) = false
+isAcceptedStart (Histories.local c) = false
 
 -- a call that is lent too little reads nothing and starts nothing
-unfoldable pub receivedBy : Made → List ℕ
-receivedBy m = cond (enough (m .call) (m .lent)) (reads (m .call)) []
+unfoldable pub bytesReceivedBy : Made → List ℕ
+bytesReceivedBy m = cond (enough (m .call) (m .lent)) (pieceRead (m .call)) []
 
 unfoldable pub startsAnew : Made → Bool
-startsAnew m = enough (m .call) (m .lent) && starts (m .call)
+startsAnew m = enough (m .call) (m .lent) && isAcceptedStart (m .call)
 
 -- all bytes received since the last accepted start, joined: w before a call, and so after it
-unfoldable pub joined : List ℕ → Made → List ℕ
-joined w m = cond (startsAnew m) [] (w ++ receivedBy m)
+unfoldable pub receivedSince : List ℕ → Made → List ℕ
+receivedSince w m = cond (startsAnew m) [] (w ++ bytesReceivedBy m)
 
-unfoldable pub joinedAll : List ℕ → List Made → List ℕ
-joinedAll w [] = w
-joinedAll w (m ∷ ms) = joinedAll (joined w m) ms
+unfoldable pub receivedSinceAll : List ℕ → List Made → List ℕ
+receivedSinceAll w [] = w
+receivedSinceAll w (m ∷ ms) = receivedSinceAll (receivedSince w m) ms
 
 -- ---- Their frames
 
 -- the frames that are not empty among those whose 00 stands in bytes that came behind w
-unfoldable pub framesBy : List ℕ → List ℕ → List (List ℕ)
-framesBy w bs = nonEmpty (closedBy w bs)
+unfoldable pub framesClosedBy : List ℕ → List ℕ → List (List ℕ)
+framesClosedBy w bs = nonEmpty (closedBehind w bs)
 
 -- the bytes before a 00; an empty frame is ignored
-unfoldable pub framed : List ℕ → State → List ℕ → State
-framed image s [] = s
-framed image s (b ∷ bs) = judged image s (verdict (b ∷ bs))
+unfoldable pub frameCarried : List ℕ → State → List ℕ → State
+frameCarried image s [] = s
+frameCarried image s (b ∷ bs) = afterVerdict image s (verdict (b ∷ bs))
 
 -- frames, one after the other
-unfoldable pub allFramed : List ℕ → State → List (List ℕ) → State
-allFramed image s [] = s
-allFramed image s (f ∷ fs) = allFramed image (framed image s f) fs
+unfoldable pub framesCarried : List ℕ → State → List (List ℕ) → State
+framesCarried image s [] = s
+framesCarried image s (f ∷ fs) = framesCarried image (frameCarried image s f) fs
 
 -- the receive progress after bytes that are not 00: none where they are more than a form has
-unfoldable pub tailOf : List ℕ → Option (List ℕ)
-tailOf bs = cond (ltb longest-form (length bs)) none (some bs)
+unfoldable pub progressOf : List ℕ → Option (List ℕ)
+progressOf bs = cond (ltb longest-form (length bs)) none (some bs)
 
--- those frames in order, with the image lent: a valid request is carried out, any other frame earns its numbered failure (`judged`);
+-- those frames in order, with the image lent: a valid request is carried out, any other frame earns its numbered failure (`afterVerdict`);
 -- the bytes behind the last 00 are the receive progress
 unfoldable pub carriedOut : List ℕ → List ℕ → State → List ℕ → State
-carriedOut image w s bs = withReceived (allFramed image s (framesBy w bs)) (tailOf (split (w ++ bs) .rest))
+carriedOut image w s bs = withReceived (framesCarried image s (framesClosedBy w bs)) (progressOf (split (w ++ bs) .rest))
 
 -- the state after bytes that follow a 00: all their frames, in order, and then the receive progress
-abbrev pub following : List ℕ → State → List ℕ → State
-following image s bs = withReceived (allFramed image s (split bs .closed)) (tailOf (split bs .rest))
+abbrev pub afterAllFrames : List ℕ → State → List ℕ → State
+afterAllFrames image s bs = withReceived (framesCarried image s (split bs .closed)) (progressOf (split bs .rest))
 
 -- how the frame ended whose 00 a step read: there is one at most
-unfoldable pub endedBy : List (List ℕ) → Ended
-endedBy [] = Ended.more
-endedBy ([] ∷ fs) = Ended.empty
-endedBy ((b ∷ bs) ∷ fs) = Receive.endedBy (verdict (b ∷ bs))
+unfoldable pub endedByFrames : List (List ℕ) → Ended
+endedByFrames [] = Ended.more
+endedByFrames ([] ∷ fs) = Ended.empty
+endedByFrames ((b ∷ bs) ∷ fs) = Receive.endedByVerdict (verdict (b ∷ bs))
 
 -- ---- One call
 
@@ -95,8 +95,8 @@ unfoldable pub carriedCall : List ℕ → State → Call → Means
 carriedCall w s (Histories.start d) = meant s (Histories.start d)
 carriedCall w s (Histories.receive image piece) = means done [] (carriedOut image w s piece)
 carriedCall w s (Histories.step image piece) =
-    let bs = reads (Histories.step image piece) in
-    means (stepped (length bs) (endedBy (closedBy w bs))) [] (carriedOut image w s bs)
+    let bs = pieceRead (Histories.step image piece) in
+    means (stepped (length bs) (endedByFrames (closedBehind w bs))) [] (carriedOut image w s bs)
 carriedCall w s (Histories.local c) = meant s (Histories.local c)
 
 -- 12, and nothing changes, where too little is lent
@@ -108,25 +108,25 @@ carriedMade w s m = cond (enough (m .call) (m .lent)) (carriedCall w s (m .call)
 -- each call's answer and what it wrote in the caller's room or handed out
 unfoldable pub outputsByFrames : List ℕ → State → List Made → List Output
 outputsByFrames w s [] = []
-outputsByFrames w s (m ∷ ms) = let c = carriedMade w s m in (record { answer = c .answer; out = c .out }) ∷ outputsByFrames (joined w m) (c .state) ms
+outputsByFrames w s (m ∷ ms) = let c = carriedMade w s m in (record { answer = c .answer; out = c .out }) ∷ outputsByFrames (receivedSince w m) (c .state) ms
 
 -- the state that they leave
 unfoldable pub leftByFrames : List ℕ → State → List Made → State
 leftByFrames w s [] = s
-leftByFrames w s (m ∷ ms) = leftByFrames (joined w m) (carriedMade w s m .state) ms
+leftByFrames w s (m ∷ ms) = leftByFrames (receivedSince w m) (carriedMade w s m .state) ms
 
 -- the frames that were carried out or answered since the last accepted start, call after call: fs before, and so after the calls
 unfoldable pub carriedFrames : List ℕ → List (List ℕ) → List Made → List (List ℕ)
 carriedFrames w fs [] = fs
-carriedFrames w fs (m ∷ ms) = carriedFrames (joined w m) (cond (startsAnew m) [] (fs ++ framesBy w (receivedBy m))) ms
+carriedFrames w fs (m ∷ ms) = carriedFrames (receivedSince w m) (cond (startsAnew m) [] (fs ++ framesClosedBy w (bytesReceivedBy m))) ms
 
 -- ---- A frame behind calls
 
 -- What holds where the frame f comes behind calls: the bytes bs and a 00 are received, and f is what this 00 closes.
 -- P speaks of a call with bs alone and of one with the 00 too, both lent the same. They stand for any (`cut-any`, `step-receives`).
 abbrev pub OnFrame : List Made → List ℕ → (Made → Made → Type 0) → Type 0
-OnFrame ms f P = (j : Lent) (image bs : List ℕ) → let c = received image j bs in Typed (c .call) → enough (c .call) j ≡ true
-    → split (joinedAll [] ms ++ bs) .rest ≡ f → P c (received image j (bs ++ (0 ∷ [])))
+OnFrame ms f P = (j : Lent) (image bs : List ℕ) → let c = receiveWith image j bs in Typed (c .call) → enough (c .call) j ≡ true
+    → split (receivedSinceAll [] ms ++ bs) .rest ≡ f → P c (receiveWith image j (bs ++ (0 ∷ [])))
 
 -- a call on q is done, and leaves this state
 abbrev pub DoneLeaving : Did → State → Type 0
@@ -145,5 +145,5 @@ Replied q r reply = (r .answer ≡ done) × (view (r .parts) .pending ≡ owed (
 -- What holds where the request m comes behind calls: the bytes bs and a 00 are received, and the frame that this 00 closes is m. A receive whose piece ends
 -- with that 00 stands for any. Cutting the stream elsewhere changes nothing (`cut-any`); a step is a receive up to the first 00 (`step-receives`).
 abbrev pub OnRequest : List Made → Message → (List ℕ → Made → Type 0) → Type 0
-OnRequest ms m P = (j : Lent) (image bs : List ℕ) → let c = received image j (bs ++ (0 ∷ [])) in Typed (c .call) → enough (c .call) j ≡ true
-    → verdict (split (joinedAll [] ms ++ bs) .rest) ≡ good m → P bs c
+OnRequest ms m P = (j : Lent) (image bs : List ℕ) → let c = receiveWith image j (bs ++ (0 ∷ [])) in Typed (c .call) → enough (c .call) j ≡ true
+    → verdict (split (receivedSinceAll [] ms ++ bs) .rest) ≡ good m → P bs c

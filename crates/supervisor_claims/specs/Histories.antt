@@ -19,10 +19,10 @@ use Rattle.supervisor.specs.declared.registers.Kind.{Kind}
 use Rattle.supervisor.specs.declared.registers.Kind.the-variants as kind
 use Rattle.saving.specs.Saving
 use Rattle.saving.specs.Calls as SavingCalls
-use Rattle.requests.specs.Requests
-use Rattle.requests.specs.Requests.{Verdict}
-use Rattle.requests.specs.Receive
-use Rattle.requests.specs.Receive.{Ended}
+use Rattle.responder.specs.Requests
+use Rattle.responder.specs.Requests.{Verdict}
+use Rattle.responder.specs.Receive
+use Rattle.responder.specs.Receive.{Ended}
 use Rattle.supervisor_claims.specs.ByPart.{Part, is, published, part, partsBy, everyPart}
 use Rattle.supervisor_claims.specs.View.{factoryOf}
 use Rattle.supervisor_claims.specs.Sound.{Bytes, withOutbox, withSettingsPart, withRegisters}
@@ -88,7 +88,7 @@ pub data Answer : Type 0 where
   asserted : Bool → Answer
   -- reboot, power off
   asked : Bool → Bool → Answer
-  recorded : Option Calls.Read → Answer
+  recorded : Option Calls.RecordRead → Answer
   -- how many bytes were written
   written : ℕ → Answer
   -- a fault of an image: its number and its offset
@@ -129,9 +129,9 @@ editionAnswer (Calls.EditionReport.result n k) = foundEdition n k
 editionAnswer (Calls.EditionReport.refused n) = refused n
 
 -- what was read
-abbrev pub readAnswer : {A : Type 0} → (A → Answer) → Calls.ReadReport A → Answer
-readAnswer answer (Calls.ReadReport.is x) = answer x
-readAnswer answer (Calls.ReadReport.refused n) = refused n
+abbrev pub registerAnswer : {A : Type 0} → (A → Answer) → Calls.RegisterReport A → Answer
+registerAnswer answer (Calls.RegisterReport.is x) = answer x
+registerAnswer answer (Calls.RegisterReport.refused n) = refused n
 
 abbrev pub saveAnswer : SavingCalls.SaveReport → Answer
 saveAnswer (SavingCalls.written n) = written n
@@ -146,21 +146,21 @@ abbrev pub flagsAsked : Bool × Bool → Answer
 flagsAsked b = asked (b .0) (b .1)
 
 unfoldable pub did : Parts → Call → Did
-did p (start d) = let t = Calls.starting d p in didBy (refusal (t .refusal)) [] (t .parts)
-did p (receive image piece) = let r = Receive.receiving image p piece in didBy (refusal (r .refusal)) [] (r .parts)
-did p (step image piece) = let r = Receive.stepping image p piece in didBy (stepAnswer (r .used) (r .ended)) [] (r .parts)
-did p (local (take room)) = let t = Calls.taking (p .outbox) room in didBy (takeAnswer (t .report)) (t .room) (withOutbox p (t .outbox))
-did p (local (post action text)) = let c = Calls.posting (p .registers) action text in didBy (refusal (c .refusal)) [] (withRegisters p (c .registers))
-did p (local (setOptions options)) = let c = Calls.settingOptions (p .registers) options in didBy (refusal (c .refusal)) [] (withRegisters p (c .registers))
+did p (start d) = let t = Calls.startPromise d p in didBy (refusal (t .refusal)) [] (t .parts)
+did p (receive image piece) = let r = Receive.receivePromise image p piece in didBy (refusal (r .refusal)) [] (r .parts)
+did p (step image piece) = let r = Receive.stepPromise image p piece in didBy (stepAnswer (r .used) (r .ended)) [] (r .parts)
+did p (local (take room)) = let t = Calls.takePromise (p .outbox) room in didBy (takeAnswer (t .report)) (t .room) (withOutbox p (t .outbox))
+did p (local (post action text)) = let c = Calls.postPromise (p .registers) action text in didBy (refusal (c .refusal)) [] (withRegisters p (c .registers))
+did p (local (setOptions options)) = let c = Calls.optionsPromise (p .registers) options in didBy (refusal (c .refusal)) [] (withRegisters p (c .registers))
 did p (local (lookup key most)) =
-    didBy (lookupAnswer (Calls.lookupResult (p .factory) (p .settings) key most)) (Calls.lookupValue (p .factory) (p .settings) key most) p
-did p (local (edition key)) = didBy (editionAnswer (Calls.editionResult (p .factory) (p .settings) key)) [] p
-did p (local signal) = didBy (readAnswer asserted (Calls.signalOf (p .registers))) [] p
-did p (local flags) = didBy (readAnswer flagsAsked (Calls.flagsOf (p .registers))) [] p
-did p (local (save room)) = let t = SavingCalls.saving (p .settings) room in didBy (saveAnswer (t .report)) (t .room) p
+    didBy (lookupAnswer (Calls.lookupResultPromise (p .factory) (p .settings) key most)) (Calls.lookupPromise (p .factory) (p .settings) key most) p
+did p (local (edition key)) = didBy (editionAnswer (Calls.editionPromise (p .factory) (p .settings) key)) [] p
+did p (local signal) = didBy (registerAnswer asserted (Calls.signalPromise (p .registers))) [] p
+did p (local flags) = didBy (registerAnswer flagsAsked (Calls.flagsPromise (p .registers))) [] p
+did p (local (save room)) = let t = SavingCalls.savePromise (p .settings) room in didBy (saveAnswer (t .report)) (t .room) p
 did p (local (restore image)) =
-    let t = SavingCalls.restoring (p .settings) image in didBy (restoreAnswer (t .report)) [] (withSettingsPart p (t .settings))
-did p (local (readRecord k)) = didBy (readAnswer recorded (Calls.recordOf (p .registers) k)) (Calls.recordBytes (p .registers) k) p
+    let t = SavingCalls.restorePromise (p .settings) image in didBy (restoreAnswer (t .report)) [] (withSettingsPart p (t .settings))
+did p (local (readRecord k)) = didBy (registerAnswer recorded (Calls.recordPromise (p .registers) k)) (Calls.recordBytesPromise (p .registers) k) p
 
 -- ---- By document 01
 
@@ -184,12 +184,12 @@ upTo (b ∷ bs) = cond (eqb b 0) 1 (suc (upTo bs))
 
 abbrev pub endedMeant : Option Verdict → Ended
 endedMeant none = Ended.empty
-endedMeant (some v) = Receive.endedBy v
+endedMeant (some v) = Receive.endedByVerdict v
 
 -- how the frame ends that began with these bytes
-unfoldable pub frameEnds : Option (List ℕ) → List ℕ → Ended
-frameEnds received [] = Ended.more
-frameEnds received (b ∷ bs) = cond (eqb b 0) (endedMeant (Requests.verdictSince received)) (frameEnds (Requests.more received b) bs)
+unfoldable pub endedInPiece : Option (List ℕ) → List ℕ → Ended
+endedInPiece received [] = Ended.more
+endedInPiece received (b ∷ bs) = cond (eqb b 0) (endedMeant (Requests.verdictSince received)) (endedInPiece (Requests.moreReceived received b) bs)
 
 abbrev pub recordKept : State → Kind → Option Recorded
 recordKept s kind.BootFailure = s .boot-failure
@@ -204,15 +204,15 @@ abbrev pub saveMeans : State → List ℕ → List ℕ → Means
 saveMeans s image room =
     cond (ltb (length room) (length image)) (means (refused 8) room s) (means (written (length image)) (overlay 0 image room) s)
 
-abbrev pub restoreMeans : State → Saving.Done → Means
+abbrev pub restoreMeans : State → Saving.RestoreDone → Means
 restoreMeans s (Saving.faulty n at) = means (faulty n at) [] s
 restoreMeans s (Saving.left t) = means done [] t
 
 unfoldable pub meant : State → Call → Means
 meant s (start d) = doneMeans s (Local.start (factoryOf d))
-meant s (receive image piece) = means done [] (Requests.stream image s piece)
+meant s (receive image piece) = means done [] (Requests.receiveStream image s piece)
 meant s (step image piece) =
-    means (stepped (upTo piece) (frameEnds (s .received) piece)) [] (Requests.stream image s (ListN.take (upTo piece) piece))
+    means (stepped (upTo piece) (endedInPiece (s .received) piece)) [] (Requests.receiveStream image s (ListN.take (upTo piece) piece))
 meant s (local (take room)) =
     let bs = Local.taken s (length room) in
     means (moved (length bs)) (overlay 0 bs room) (Local.afterTake s (length room))
@@ -248,24 +248,24 @@ givenBack l p q = partsBy (backBy l p q)
 
 -- ---- The parts that a call takes
 
-abbrev pub takes : Call → Part → Bool
-takes (start d) i = true
-takes (receive image piece) i = true
-takes (step image piece) i = true
-takes (local (take room)) i = is Part.outbox i
-takes (local (post action text)) i = is Part.registers i
-takes (local (setOptions options)) i = is Part.registers i
-takes (local (lookup key most)) i = is Part.factory i || is Part.settings i
-takes (local (edition key)) i = is Part.factory i || is Part.settings i
-takes (local signal) i = is Part.registers i
-takes (local flags) i = is Part.registers i
-takes (local (readRecord k)) i = is Part.registers i
-takes (local (save room)) i = is Part.settings i
-takes (local (restore image)) i = is Part.settings i
+abbrev pub takesPart : Call → Part → Bool
+takesPart (start d) i = true
+takesPart (receive image piece) i = true
+takesPart (step image piece) i = true
+takesPart (local (take room)) i = is Part.outbox i
+takesPart (local (post action text)) i = is Part.registers i
+takesPart (local (setOptions options)) i = is Part.registers i
+takesPart (local (lookup key most)) i = is Part.factory i || is Part.settings i
+takesPart (local (edition key)) i = is Part.factory i || is Part.settings i
+takesPart (local signal) i = is Part.registers i
+takesPart (local flags) i = is Part.registers i
+takesPart (local (readRecord k)) i = is Part.registers i
+takesPart (local (save room)) i = is Part.settings i
+takesPart (local (restore image)) i = is Part.settings i
 
 -- a test that each part passes which a call takes
 abbrev pub ofTaken : Call → (Part → Bool) → Bool
-ofTaken c f = everyPart (λ i. not (takes c i) || f i)
+ofTaken c f = everyPart (λ i. not (takesPart c i) || f i)
 
 -- the published length of each part that a call takes is lent
 unfoldable pub enough : Call → Lent → Bool
@@ -325,8 +325,8 @@ abbrev pub AllTyped : List Made → Type 0
 AllTyped = Each (λ (m : Made). Typed (m .call))
 
 -- a receive with an image and a piece, a local call, and a start with start data
-abbrev pub received : List ℕ → Lent → List ℕ → Made
-received image l piece = record { lent = l; call = receive image piece }
+abbrev pub receiveWith : List ℕ → Lent → List ℕ → Made
+receiveWith image l piece = record { lent = l; call = receive image piece }
 
 abbrev pub locally : Lent → LocalCall → Made
 locally l c = record { lent = l; call = local c }

@@ -12,68 +12,68 @@ use Rattle.line.specs.Message.{Message}
 use Rattle.line_claims.specs.Pieces.{split}
 use Rattle.supervisor.specs.State.{State}
 use Rattle.supervisor.specs.Calls.{Parts}
-use Rattle.requests.specs.Requests.{failure, good, verdict, carried, alertData, oldest, others}
+use Rattle.responder.specs.Requests.{failure, good, verdict, carryOut, alertData, oldest, others}
 use Rattle.supervisor_claims.specs.View.{view}
 use Rattle.supervisor_claims.specs.Histories
-use Rattle.supervisor_claims.specs.Histories.{LocalCall, Typed, meant, Lent, enough, Made, made, left, AllTyped, received, FromStart, AfterCalls}
-use Rattle.supervisor_claims.specs.FrameHistory.{joinedAll, framesBy, framed, Replied}
+use Rattle.supervisor_claims.specs.Histories.{LocalCall, Typed, meant, Lent, enough, Made, made, left, AllTyped, receiveWith, FromStart, AfterCalls}
+use Rattle.supervisor_claims.specs.FrameHistory.{receivedSinceAll, framesClosedBy, frameCarried, Replied}
 use Rattle.supervisor_claims.specs.LastSet.{requestsIn, requestsOf}
-use Rattle.supervisor_claims.specs.Alerts.{retains, retainsAfter, retainsAll, Drops, NoAlert, alertOf, alertReply, NoStart, Keeps, CallKeeps, Forgets}
+use Rattle.supervisor_claims.specs.Alerts.{retains, retainsAfter, retainsAll, Drops, NoAlert, alertRequest, alertReply, NoStarts, Keeps, CallKeeps, Forgets}
 
 -- ---- One request, one call
 
 abbrev pub RetainedStays : Type 0
 RetainedStays = (image : List ℕ) (s : State) (m : Message) → eqb (m .command) command-reboot ≡ false → eqb (m .command) command-power-off ≡ false → eqb (m .command) command-alert ≡ false
-    → Keeps s (carried image s m .state)
+    → Keeps s (carryOut image s m .state)
 
 abbrev pub RebootForgets : Type 0
-RebootForgets = (image : List ℕ) (s : State) (m : Message) → m .command ≡ command-reboot → Forgets s (carried image s m .state)
+RebootForgets = (image : List ℕ) (s : State) (m : Message) → m .command ≡ command-reboot → Forgets s (carryOut image s m .state)
 
 abbrev pub PowerOffForgets : Type 0
-PowerOffForgets = (image : List ℕ) (s : State) (m : Message) → m .command ≡ command-power-off → Forgets s (carried image s m .state)
+PowerOffForgets = (image : List ℕ) (s : State) (m : Message) → m .command ≡ command-power-off → Forgets s (carryOut image s m .state)
 
 abbrev pub FreshAlert : Type 0
 FreshAlert = (image : List ℕ) (s t : State) (m : Message) → Forgets s t → m .command ≡ command-alert
-    → (carried image t m .reply ≡ some (record { version = m .version; command = reply-alert; payload = alertData (oldest (s .waiting)) }))
-    × (carried image t m .state .waiting ≡ others (s .waiting))
+    → (carryOut image t m .reply ≡ some (record { version = m .version; command = reply-alert; payload = alertData (oldest (s .waiting)) }))
+    × (carryOut image t m .state .waiting ≡ others (s .waiting))
 
 abbrev pub LocalKeeps : Type 0
 LocalKeeps = (s : State) (c : LocalCall) → CallKeeps s c (meant s (Histories.local c))
 
 abbrev pub FailedKeeps : Type 0
 FailedKeeps = (image : List ℕ) (s : State) (f : List ℕ) (reason version : ℕ) (sequence : Option ℕ) → verdict f ≡ failure reason version sequence
-    → Keeps s (framed image s f)
+    → Keeps s (frameCarried image s f)
 
 abbrev pub RequestRetains : Type 0
-RequestRetains = (image : List ℕ) (s : State) (m : Message) → retains (carried image s m .state .retained) ≡ retainsAfter (retains (s .retained)) m
+RequestRetains = (image : List ℕ) (s : State) (m : Message) → retains (carryOut image s m .state .retained) ≡ retainsAfter (retains (s .retained)) m
 
 -- ---- Any calls
 
 abbrev pub RetainedExactly : List Made → Parts → Type 0
-RetainedExactly ms q = retains (view q .retained) ≡ retainsAll false (requestsOf (joinedAll [] ms))
+RetainedExactly ms q = retains (view q .retained) ≡ retainsAll false (requestsOf (receivedSinceAll [] ms))
 
 -- the bytes bs and a 00 are received, and the reply pending then has the oldest of the alerts that wait when bs have been received
 abbrev pub TakesFresh : Parts → ℕ → ℕ → Lent → List ℕ → List ℕ → Type 0
 TakesFresh q version n j image bs =
-    Replied q (made q (received image j (bs ++ (0 ∷ [])))) (alertReply version n (oldest (view (made q (received image j bs) .parts) .waiting)))
+    Replied q (made q (receiveWith image j (bs ++ (0 ∷ [])))) (alertReply version n (oldest (view (made q (receiveWith image j bs) .parts) .waiting)))
 
 abbrev pub FreshAlertAnswered : List Made → Parts → Type 0
 FreshAlertAnswered ms q = (version n : ℕ) (j : Lent) (image bs : List ℕ) → Typed (Histories.receive image bs) → enough (Histories.receive image bs) j ≡ true
-    → let w = joinedAll [] ms ++ bs in verdict (split w .rest) ≡ good (alertOf version n)
+    → let w = receivedSinceAll [] ms ++ bs in verdict (split w .rest) ≡ good (alertRequest version n)
     → (os rs : List Message) (r : Message) → requestsOf w ≡ os ++ (r ∷ rs) → Drops r → Each NoAlert rs → TakesFresh q version n j image bs
 
 abbrev pub FreshAfterReboot : Type 0
 FreshAfterReboot = FromStart (λ p d q. (ms : List Made) → AllTyped ms
-    → (k : Lent) (image₁ cs : List ℕ) → let first = received image₁ k (cs ++ (0 ∷ [])) in Typed (first .call) → enough (first .call) k ≡ true
-    → (r : Message) → verdict (split (joinedAll [] ms ++ cs) .rest) ≡ good r → Drops r
-    → (ns : List Made) → AllTyped ns → NoStart ns
+    → (k : Lent) (image₁ cs : List ℕ) → let first = receiveWith image₁ k (cs ++ (0 ∷ [])) in Typed (first .call) → enough (first .call) k ≡ true
+    → (r : Message) → verdict (split (receivedSinceAll [] ms ++ cs) .rest) ≡ good r → Drops r
+    → (ns : List Made) → AllTyped ns → NoStarts ns
     → (version n : ℕ) (j : Lent) (image bs : List ℕ) → Typed (Histories.receive image bs) → enough (Histories.receive image bs) j ≡ true
-    → let w = joinedAll [] ms ++ (cs ++ (0 ∷ [])) in
-    let later = joinedAll [] ns ++ bs in
-    Each NoAlert (requestsIn (framesBy w later)) → verdict (split (w ++ later) .rest) ≡ good (alertOf version n)
+    → let w = receivedSinceAll [] ms ++ (cs ++ (0 ∷ [])) in
+    let later = receivedSinceAll [] ns ++ bs in
+    Each NoAlert (requestsIn (framesClosedBy w later)) → verdict (split (w ++ later) .rest) ≡ good (alertRequest version n)
     → TakesFresh (left q (ms ++ (first ∷ ns))) version n j image bs)
 
-pub record Item1 : Type 0 where
+pub record SupervisorItem1 : Type 0 where
   -- a valid request other than reboot, power off and alert leaves the retained reply and the alerts that wait
   pub retained-stays : RetainedStays
   -- a reboot drops the retained reply; waiting alerts and the status stay

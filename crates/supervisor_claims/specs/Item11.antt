@@ -15,7 +15,7 @@ use Rattle.supervisor.specs.State.{Setting, Settings, setting, withSettings}
 use Rattle.supervisor.specs.Calls.{Parts}
 use Rattle.supervisor.specs.Valid.{SettingsValid, validSettings}
 use Rattle.saving.specs.Saving
-use Rattle.saving.specs.Saving.{Entry, saved-count, saved}
+use Rattle.saving.specs.Saving.{SavedEntry, saved-count, saved}
 use Rattle.saving.specs.Calls as SavingCalls
 use Rattle.line_claims.specs.TableTests.{test, firstFailing}
 use Rattle.saving_claims.specs.Item11.{SavableBy}
@@ -29,8 +29,8 @@ abbrev pub ImageMeant : Type 0
 ImageMeant = (s : List ℕ) → SavingCalls.imageBytes s ≡ saved (settingsOf s)
 
 abbrev pub GoodMeant : Type 0
-GoodMeant = (s : List ℕ) → SettingsValid s → (image : List ℕ) → Each Byte image → (es : List Entry) → Saving.read image ≡ Saving.good es
-    → settingsOf (SavingCalls.putAll es (SavingCalls.cleared saved-count s)) ≡ Saving.restored es (settingsOf s)
+GoodMeant = (s : List ℕ) → SettingsValid s → (image : List ℕ) → Each Byte image → (es : List SavedEntry) → Saving.readImage image ≡ Saving.good es
+    → settingsOf (SavingCalls.putEntries es (SavingCalls.cleared saved-count s)) ≡ Saving.restoredSettings es (settingsOf s)
 
 -- a setting without a value has edition 0; one with a value has one that is not too long, and an edition of 32 bits
 abbrev pub SavableKey : ℕ → Setting → Type 0
@@ -40,39 +40,39 @@ abbrev pub KeySavable : List Made → Parts → Type 0
 KeySavable ms q = (k : ℕ) → SettingsKey k → SavableKey k (setting (view q .settings) k)
 
 -- the saved form of the settings that parts hold
-abbrev pub imageOf : Parts → List ℕ
-imageOf q = saved (view q .settings)
+abbrev pub savedImageOf : Parts → List ℕ
+savedImageOf q = saved (view q .settings)
 
 abbrev pub SaveWrites : List Made → Parts → Type 0
-SaveWrites ms q = (j : Lent) (room : List ℕ) → Each Byte room → enough (Histories.local (Histories.save room)) j ≡ true → length (imageOf q) ≤ length room
-    → let r = made q (locally j (Histories.save room)) in (r .answer ≡ written (length (imageOf q))) × (r .out ≡ overlay 0 (imageOf q) room)
+SaveWrites ms q = (j : Lent) (room : List ℕ) → Each Byte room → enough (Histories.local (Histories.save room)) j ≡ true → length (savedImageOf q) ≤ length room
+    → let r = made q (locally j (Histories.save room)) in (r .answer ≡ written (length (savedImageOf q))) × (r .out ≡ overlay 0 (savedImageOf q) room)
 
 abbrev pub SavedRestores : List Made → Parts → Type 0
-SavedRestores ms p = (q : Parts) → Sound q → (j : Lent) → enough (Histories.local (Histories.restore (imageOf p))) j ≡ true
-    → let r = made q (locally j (Histories.restore (imageOf p))) in
+SavedRestores ms p = (q : Parts) → Sound q → (j : Lent) → enough (Histories.local (Histories.restore (savedImageOf p))) j ≡ true
+    → let r = made q (locally j (Histories.restore (savedImageOf p))) in
     (r .answer ≡ done) × (view (r .parts) ≡ withSettings (view q) (take saved-count (view p .settings) ++ drop saved-count (view q .settings)))
 
 abbrev pub AcceptedExact : Type 0
 AcceptedExact = (q : Parts) → Sound q → (j : Lent) (image : List ℕ) → Each Byte image
-    → let r = made q (locally j (Histories.restore image)) in r .answer ≡ done → image ≡ imageOf (r .parts)
+    → let r = made q (locally j (Histories.restore image)) in r .answer ≡ done → image ≡ savedImageOf (r .parts)
 
 abbrev pub ReplacedOther : Type 0
-ReplacedOther = (es : List Entry) (n : ℕ) (z : Settings) (k : ℕ) → SettingsKey k → Limits.first-setting + n ≤ k
+ReplacedOther = (es : List SavedEntry) (n : ℕ) (z : Settings) (k : ℕ) → SettingsKey k → Limits.first-setting + n ≤ k
     → setting (Saving.replaced n es z) k ≡ setting z k
 
 abbrev pub SaveRefusedExactly : Type 0
-SaveRefusedExactly = (s room : List ℕ) (n : ℕ) → (SavingCalls.saving s room .report ≡ SavingCalls.refused n)
+SaveRefusedExactly = (s room : List ℕ) (n : ℕ) → (SavingCalls.savePromise s room .report ≡ SavingCalls.refused n)
     ↔ (firstFailing (test 12 (not (validSettings s)) ∷ test 8 (ltb (length room) (length (SavingCalls.imageBytes s))) ∷ []) ≡ some n)
 
 abbrev pub RestoreRefusedExactly : Type 0
-RestoreRefusedExactly = (s image : List ℕ) (n : ℕ) → (SavingCalls.restoring s image .report ≡ SavingCalls.RestoreReport.refused n)
+RestoreRefusedExactly = (s image : List ℕ) (n : ℕ) → (SavingCalls.restorePromise s image .report ≡ SavingCalls.RestoreReport.refused n)
     ↔ (firstFailing (test 12 (not (validSettings s)) ∷ []) ≡ some n)
 
 abbrev pub RestoreFault : Type 0
-RestoreFault = (s image : List ℕ) (n at : ℕ) → validSettings s ≡ true → Saving.read image ≡ Saving.fault n at
-    → SavingCalls.restoring s image ≡ record { report = SavingCalls.faulty n at; settings = s }
+RestoreFault = (s image : List ℕ) (n at : ℕ) → validSettings s ≡ true → Saving.readImage image ≡ Saving.fault n at
+    → SavingCalls.restorePromise s image ≡ record { report = SavingCalls.faulty n at; settings = s }
 
-pub record Item11 : Type 0 where
+pub record SupervisorItem11 : Type 0 where
   -- saving tests 12, then 8
   pub save-refused-exactly : SaveRefusedExactly
   -- restore tests 12

@@ -15,7 +15,7 @@ use Rattle.supervisor_claims.specs.Histories.{found, foundEdition, Lent,
 use Rattle.supervisor_claims.specs.Histories.{outputs, left, AllTyped, locally, AfterCalls}
 use Rattle.supervisor_claims.specs.FrameHistory.{Replied, OnRequest}
 use Rattle.supervisor_claims.specs.LastSet.{lookupOf, SetAnswered}
-use Rattle.supervisor_claims.specs.TwoRuns.{Run, leftBy, receivedIn, SameBut, withoutPassphrase, passphraseEdition, setsToCome}
+use Rattle.supervisor_claims.specs.TwoRuns.{Run, leftByRun, receivedInRun, SameButPassphrase, withoutPassphrase, passphraseEdition, setsToCome}
 use Rattle.saving_claims.specs.Item11.{SavedOmits, OtherKey31}
 use Rattle.supervisor_claims.specs.Item4.{ValueLengths}
 use Rattle.supervisor_claims.specs.Item5.{StoresNothing}
@@ -36,18 +36,18 @@ PassphraseUnreadLocally ms q = (most : ℕ) → most < 65536 → (j : Lent) → 
     (r .answer ≡ found 4 0) × (r .out ≡ []) × (f .answer ≡ foundEdition 4 0)
 
 abbrev pub TwoRuns : Type 0
-TwoRuns = (r s : Run) → SameBut (leftBy r) (leftBy s) → (ms : List Made) → AllTyped ms → let n = setsToCome (receivedIn r) ms in
-    passphraseEdition (leftBy r) + n < Limits.last-edition → passphraseEdition (leftBy s) + n < Limits.last-edition
-    → outputs (leftBy r) ms ≡ outputs (leftBy s) ms
+TwoRuns = (r s : Run) → SameButPassphrase (leftByRun r) (leftByRun s) → (ms : List Made) → AllTyped ms → let n = setsToCome (receivedInRun r) ms in
+    passphraseEdition (leftByRun r) + n < Limits.last-edition → passphraseEdition (leftByRun s) + n < Limits.last-edition
+    → outputs (leftByRun r) ms ≡ outputs (leftByRun s) ms
 
 abbrev pub TwoStates : Type 0
-TwoStates = (r s : Run) → withoutPassphrase (view (leftBy r)) ≡ withoutPassphrase (view (leftBy s)) → (ms : List Made) → AllTyped ms
-    → let n = setsToCome (receivedIn r) ms in
-    passphraseEdition (leftBy r) + n < Limits.last-edition → passphraseEdition (leftBy s) + n < Limits.last-edition
-    → (outputs (leftBy r) ms ≡ outputs (leftBy s) ms)
-    × (withoutPassphrase (view (left (leftBy r) ms)) ≡ withoutPassphrase (view (left (leftBy s) ms)))
+TwoStates = (r s : Run) → withoutPassphrase (view (leftByRun r)) ≡ withoutPassphrase (view (leftByRun s)) → (ms : List Made) → AllTyped ms
+    → let n = setsToCome (receivedInRun r) ms in
+    passphraseEdition (leftByRun r) + n < Limits.last-edition → passphraseEdition (leftByRun s) + n < Limits.last-edition
+    → (outputs (leftByRun r) ms ≡ outputs (leftByRun s) ms)
+    × (withoutPassphrase (view (left (leftByRun r) ms)) ≡ withoutPassphrase (view (left (leftByRun s) ms)))
 
-pub record Item14 : Type 0 where
+pub record SupervisorItem14 : Type 0 where
   -- key 6 takes 8 to 63 bytes; a set of another length answers 3, and invalid keys start at 7
   pub set-answered : AfterCalls SetAnswered
   pub value-lengths : ValueLengths

@@ -26,7 +26,7 @@ settings-keys = 3 ∷ 4 ∷ 5 ∷ 6 ∷ []
 abbrev pub ValueLengths : Type 0
 ValueLengths = (map longest-setting settings-keys ≡ 256 ∷ 4096 ∷ 4096 ∷ 63 ∷ []) × (map shortest-setting settings-keys ≡ 0 ∷ 0 ∷ 0 ∷ 8 ∷ [])
 
-pub record Item4 : Type 0 where
+pub record SupervisorItem4 : Type 0 where
   -- start data with more than 64 items are refused as 11
   pub more-items-11 : MoreItems11
   -- with up to 64, each good, an image ID of up to 64 bytes and BSU 0x41 or 0x42 they are accepted

@@ -17,7 +17,7 @@ use Rattle.supervisor.specs.State.{Settings, Retained, State}
 use Rattle.supervisor.specs.Local
 use Rattle.supervisor.specs.Calls
 use Rattle.supervisor.specs.Calls.{Parts}
-use Rattle.requests.specs.Requests.{failure, verdict, Answer, stored, carried}
+use Rattle.responder.specs.Requests.{failure, verdict, ReplyContent, storeValue, carryOut}
 use Rattle.supervisor_claims.specs.View.{view}
 use Rattle.supervisor_claims.specs.Sound.{Valid}
 use Rattle.supervisor_claims.specs.Histories.{Made, made, AfterCalls}
@@ -36,10 +36,10 @@ ListEditionAnswered ms q = (n most : ℕ) → most < 65536 → OnRequest ms (loo
 
 abbrev pub EditionMeant : Type 0
 EditionMeant = (p : Parts) → Valid p → (key : ℕ) → let e = Local.edition (view p) key in
-    Calls.editionResult (p .factory) (p .settings) key ≡ Calls.EditionReport.result (e .result) (e .edition)
+    Calls.editionPromise (p .factory) (p .settings) key ≡ Calls.EditionReport.result (e .result) (e .edition)
 
 abbrev pub StoresNothing : Type 0
-StoresNothing = (z : Settings) (k : ℕ) (v : List ℕ) → (stored z k v .result ≡ 0 → ⊥) → stored z k v .settings ≡ z
+StoresNothing = (z : Settings) (k : ℕ) (v : List ℕ) → (storeValue z k v .result ≡ 0 → ⊥) → storeValue z k v .settings ≡ z
 
 abbrev pub FactoryEdition : Type 0
 FactoryEdition = (s : State) (k : ℕ) → k < 3 → Local.entryOf s k .edition ≡ 0
@@ -52,14 +52,14 @@ pub record SentAgain (s : State) (m : Message) (version : ℕ) : Type 0 where
   pub written : version ≡ kept .version
 
 abbrev pub ReplyVersion : Type 0
-ReplyVersion = (image : List ℕ) (s : State) (m : Message) (r : Answer) → carried image s m .reply ≡ some r
+ReplyVersion = (image : List ℕ) (s : State) (m : Message) (r : ReplyContent) → carryOut image s m .reply ≡ some r
     → (r .version ≡ m .version) ⊎ SentAgain s m (r .version)
 
 abbrev pub FailureVersion : Type 0
 FailureVersion = (f : List ℕ) (reason version : ℕ) (sequence : Option ℕ) → verdict f ≡ failure reason version sequence
     → (reason ≤ 5 → version ≡ 1) × ((m : Message) → judge f ≡ Line.good m → 5 < reason → version ≡ m .version)
 
-pub record Item5 : Type 0 where
+pub record SupervisorItem5 : Type 0 where
   -- over any calls, the edition of a settings key counts its successful sets since start, on from what a later restore left
   pub value-last-set : AfterCalls ValueLastSet
   -- which sets are successful: those that answer 0

@@ -20,23 +20,23 @@ use Rattle.supervisor.specs.State.{Setting, unset, Settings, setting}
 use Rattle.supervisor.specs.Local
 use Rattle.supervisor.specs.Calls.{Parts}
 use Rattle.saving.specs.Saving
-use Rattle.saving.specs.Saving.{Entry}
-use Rattle.requests.specs.Requests.{Verdict, failure, good, verdict, wrongValueLength, editionBytes}
+use Rattle.saving.specs.Saving.{SavedEntry}
+use Rattle.responder.specs.Requests.{Verdict, failure, good, verdict, wrongValueLength, editionBytes}
 use Rattle.supervisor_claims.specs.Histories
 use Rattle.supervisor_claims.specs.Histories.{LocalCall, Call, Made, enough, made}
-use Rattle.supervisor_claims.specs.FrameHistory.{reads, starts, joined, joinedAll, framesBy, Replied, OnRequest}
+use Rattle.supervisor_claims.specs.FrameHistory.{pieceRead, isAcceptedStart, receivedSince, receivedSinceAll, framesClosedBy, Replied, OnRequest}
 
 -- ---- Requests
 
 -- a frame's request, ahead of others, where its verdict is good
-abbrev pub request : Verdict → List Message → List Message
-request (failure reason version sequence) ms = ms
-request (good m) ms = m ∷ ms
+abbrev pub requestAhead : Verdict → List Message → List Message
+requestAhead (failure reason version sequence) ms = ms
+requestAhead (good m) ms = m ∷ ms
 
 -- the valid requests among frames, in order
 unfoldable pub requestsIn : List (List ℕ) → List Message
 requestsIn [] = []
-requestsIn (f ∷ fs) = request (verdict f) (requestsIn fs)
+requestsIn (f ∷ fs) = requestAhead (verdict f) (requestsIn fs)
 
 -- the valid requests of received bytes, in order
 unfoldable pub requestsOf : List ℕ → List Message
@@ -84,22 +84,22 @@ pub record Has (z : Settings) (k : ℕ) (x : Setting) : Type 0 where
 
 -- ---- Restores
 
-abbrev pub recordsOf : Saving.Read → Option (List Entry)
+abbrev pub recordsOf : Saving.ImageRead → Option (List SavedEntry)
 recordsOf (Saving.fault n at) = none
 recordsOf (Saving.good es) = some es
 
 -- the records of an image that a call restores
-unfoldable pub restoredBy : LocalCall → Option (List Entry)
-restoredBy (Histories.take room) = none
-restoredBy (Histories.post action text) = none
-restoredBy (Histories.setOptions options) = none
-restoredBy (Histories.lookup key most) = none
-restoredBy (Histories.edition key) = none
-restoredBy Histories.signal = none
-restoredBy Histories.flags = none
-restoredBy (Histories.readRecord k) = none
-restoredBy (Histories.save room) = none
-restoredBy (Histories.restore image) = recordsOf (Saving.read image)
+unfoldable pub recordsRestored : LocalCall → Option (List SavedEntry)
+recordsRestored (Histories.take room) = none
+recordsRestored (Histories.post action text) = none
+recordsRestored (Histories.setOptions options) = none
+recordsRestored (Histories.lookup key most) = none
+recordsRestored (Histories.edition key) = none
+recordsRestored Histories.signal = none
+recordsRestored Histories.flags = none
+recordsRestored (Histories.readRecord k) = none
+recordsRestored (Histories.save room) = none
+recordsRestored (Histories.restore image) = recordsOf (Saving.readImage image)
 
 -- Where a settings key's value and edition come from: what it had after the last accepted start or, of a saved key,
 -- after the last accepted restore behind it, and the valid requests since
@@ -111,7 +111,7 @@ abbrev pub sinceStart : Origin
 sinceStart = record { setting = unset; requests = [] }
 
 -- a restore replaces the settings that are saved
-abbrev pub sinceRestore : ℕ → Origin → Option (List Entry) → Origin
+abbrev pub sinceRestore : ℕ → Origin → Option (List SavedEntry) → Origin
 sinceRestore k x none = x
 sinceRestore k x (some es) = cond (leb k Saving.highest-saved) (record { setting = Saving.settingIn k es; requests = [] }) x
 
@@ -121,24 +121,24 @@ sinceMore x ms = record { setting = x .setting; requests = x .requests ++ ms }
 
 -- a call behind the bytes w
 unfoldable pub sinceCall : ℕ → List ℕ → Origin → Call → Origin
-sinceCall k w x (Histories.start d) = cond (starts (Histories.start d)) sinceStart x
-sinceCall k w x (Histories.receive image piece) = sinceMore x (requestsIn (framesBy w piece))
-sinceCall k w x (Histories.step image piece) = sinceMore x (requestsIn (framesBy w (reads (Histories.step image piece))))
-sinceCall k w x (Histories.local c) = sinceRestore k x (restoredBy c)
+sinceCall k w x (Histories.start d) = cond (isAcceptedStart (Histories.start d)) sinceStart x
+sinceCall k w x (Histories.receive image piece) = sinceMore x (requestsIn (framesClosedBy w piece))
+sinceCall k w x (Histories.step image piece) = sinceMore x (requestsIn (framesClosedBy w (pieceRead (Histories.step image piece))))
+sinceCall k w x (Histories.local c) = sinceRestore k x (recordsRestored c)
 
 unfoldable pub sinceMade : ℕ → List ℕ → Origin → Made → Origin
 sinceMade k w x m = cond (enough (m .call) (m .lent)) (sinceCall k w x (m .call)) x
 
 unfoldable pub sinceAll : ℕ → List ℕ → Origin → List Made → Origin
 sinceAll k w x [] = x
-sinceAll k w x (m ∷ ms) = sinceAll k (joined w m) (sinceMade k w x m) ms
+sinceAll k w x (m ∷ ms) = sinceAll k (receivedSince w m) (sinceMade k w x m) ms
 
 -- after calls from a start, and after the bytes bs behind them
 abbrev pub origin : ℕ → List Made → Origin
 origin k ms = sinceAll k [] sinceStart ms
 
 abbrev pub originBehind : ℕ → List Made → List ℕ → Origin
-originBehind k ms bs = sinceMore (origin k ms) (requestsIn (framesBy (joinedAll [] ms) bs))
+originBehind k ms bs = sinceMore (origin k ms) (requestsIn (framesClosedBy (receivedSinceAll [] ms) bs))
 
 -- what the key has then
 abbrev pub setSince : ℕ → Origin → Setting

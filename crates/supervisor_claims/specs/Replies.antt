@@ -10,33 +10,33 @@ use lib.ListN.{length}
 use Rattle.octets.specs.Bytes.{Each, Byte}
 use Rattle.supervisor.specs.Limits.{most-pending}
 use Rattle.supervisor.specs.State.{State}
-use Rattle.requests.specs.Requests.{Verdict, failure, good, Reply, verdict, carried, replyFrame, replyOf, failedOf}
+use Rattle.responder.specs.Requests.{Verdict, failure, good, Reply, verdict, carryOut, replyFrame, replyOf, failedOf}
 use Rattle.supervisor_claims.specs.Histories
 use Rattle.supervisor_claims.specs.Histories.{Answer, refused, done, stepped, moved, found, foundEdition, written, faulty, asserted, asked, recorded}
-use Rattle.supervisor_claims.specs.Histories.{Lent, Made, enough, Output, received, locally}
+use Rattle.supervisor_claims.specs.Histories.{Lent, Made, enough, Output, receiveWith, locally}
 
 -- ---- Replies
 
 -- what a frame with this verdict does to the state but for the pending bytes, and the reply that it earns
-unfoldable pub doneBy : List ℕ → State → Verdict → State
-doneBy image s (failure reason version sequence) = s
-doneBy image s (good m) = carried image s m .state
+unfoldable pub afterTable : List ℕ → State → Verdict → State
+afterTable image s (failure reason version sequence) = s
+afterTable image s (good m) = carryOut image s m .state
 
 unfoldable pub replyBy : List ℕ → State → Verdict → Option Reply
 replyBy image s (failure reason version sequence) = some (failedOf reason version sequence)
-replyBy image s (good m) = replyOf (m .sequence) (carried image s m .reply)
+replyBy image s (good m) = replyOf (m .sequence) (carryOut image s m .reply)
 
 -- the reply that a frame that is not empty earns, and the state after it, where the reply is taken
-unfoldable pub replyTo : List ℕ → State → List ℕ → Option Reply
-replyTo image s f = replyBy image s (verdict f)
+unfoldable pub replyToFrame : List ℕ → State → List ℕ → Option Reply
+replyToFrame image s f = replyBy image s (verdict f)
 
 unfoldable pub afterFrame : List ℕ → State → List ℕ → State
-afterFrame image s f = doneBy image s (verdict f)
+afterFrame image s f = afterTable image s (verdict f)
 
 -- the frames of the replies to such frames, in order
 unfoldable pub replies : List ℕ → State → List (List ℕ) → List ℕ
 replies image s [] = []
-replies image s (f ∷ fs) = replyFrame (replyTo image s f) ++ replies image (afterFrame image s f) fs
+replies image s (f ∷ fs) = replyFrame (replyToFrame image s f) ++ replies image (afterFrame image s f) fs
 
 -- ---- A stream byte by byte
 
@@ -56,7 +56,7 @@ pub record Ample (t : Cycle) : Type 0 where
   pub long : most-pending ≤ length (t .room)
 
 abbrev pub byteReceived : List ℕ → Cycle → Made
-byteReceived image t = received image (t .receiving) (t .byte ∷ [])
+byteReceived image t = receiveWith image (t .receiving) (t .byte ∷ [])
 
 abbrev pub takenIn : Cycle → Made
 takenIn t = locally (t .taking) (Histories.take (t .room))

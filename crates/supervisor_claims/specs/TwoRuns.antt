@@ -12,7 +12,7 @@ use Rattle.supervisor.specs.Calls.{Parts}
 use Rattle.supervisor_claims.specs.Sound.{Bytes}
 use Rattle.supervisor_claims.specs.Histories
 use Rattle.supervisor_claims.specs.Histories.{Typed, done, Lent, Made, made, AllTyped, startWith, reached}
-use Rattle.supervisor_claims.specs.FrameHistory.{receivedBy, startsAnew, joined, joinedAll, framesBy}
+use Rattle.supervisor_claims.specs.FrameHistory.{bytesReceivedBy, startsAnew, receivedSince, receivedSinceAll, framesClosedBy}
 use Rattle.supervisor_claims.specs.LastSet.{requestsIn, setsOf}
 
 -- a start that is accepted, on any bytes, then any calls
@@ -27,11 +27,11 @@ pub record Run : Type 0 where
   pub all-typed : AllTyped calls
 
 -- the parts that it leaves, and the bytes received in it since the last accepted start
-abbrev pub leftBy : Run → Parts
-leftBy r = reached (r .room) (r .lent) (r .start-data) (r .calls)
+abbrev pub leftByRun : Run → Parts
+leftByRun r = reached (r .room) (r .lent) (r .start-data) (r .calls)
 
-abbrev pub receivedIn : Run → List ℕ
-receivedIn r = joinedAll [] (r .calls)
+abbrev pub receivedInRun : Run → List ℕ
+receivedInRun r = receivedSinceAll [] (r .calls)
 
 -- where the passphrase's record begins in the settings store, and where it ends
 abbrev pub record-begin : ℕ
@@ -41,7 +41,7 @@ abbrev pub record-end : ℕ
 record-end = record-begin + (Layout.setting-value-offset + Limits.longest-setting Limits.passphrase-key)
 
 -- parts with the same bytes, but for those of the passphrase's record in the settings store: presence, edition, length and all bytes that a value can have
-pub record SameBut (p q : Parts) : Type 0 where
+pub record SameButPassphrase (p q : Parts) : Type 0 where
   pub reader : p .reader ≡ q .reader
   pub outbox : p .outbox ≡ q .outbox
   pub factory : p .factory ≡ q .factory
@@ -61,4 +61,4 @@ passphraseEdition p = Layout.settingEdition (p .settings) record-begin
 -- The first run's received bytes serve for both: the two readers' parts are equal.
 unfoldable pub setsToCome : List ℕ → List Made → ℕ
 setsToCome w [] = 0
-setsToCome w (m ∷ ms) = cond (startsAnew m) 0 (length (setsOf Limits.passphrase-key (requestsIn (framesBy w (receivedBy m)))) + setsToCome (joined w m) ms)
+setsToCome w (m ∷ ms) = cond (startsAnew m) 0 (length (setsOf Limits.passphrase-key (requestsIn (framesClosedBy w (bytesReceivedBy m)))) + setsToCome (receivedSince w m) ms)

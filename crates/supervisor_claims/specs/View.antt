@@ -10,12 +10,12 @@ use Rattle.octets.specs.Bytes.{run, numberAt}
 use Rattle.supervisor.specs.Limits
 use Rattle.supervisor.specs.Layout
 use Rattle.supervisor.specs.State.{Item, Factory, Setting, Settings, Recorded, Alert, Retained, State}
-use Rattle.supervisor.specs.Calls.{Parts, keptOf}
+use Rattle.supervisor.specs.Calls.{Parts, keptCount}
 
 -- the first n values of a function
-unfoldable pub listed : {A : Type 0} → (ℕ → A) → ℕ → List A
-listed f zero = []
-listed f (suc n) = listed f n ++ (f n ∷ [])
+unfoldable pub tabulated : {A : Type 0} → (ℕ → A) → ℕ → List A
+tabulated f zero = []
+tabulated f (suc n) = tabulated f n ++ (f n ∷ [])
 
 -- ---- the factory store, and start data
 
@@ -38,7 +38,7 @@ factoryOf f = record {
   stride = numberAt 1 f (Layout.mac-offset + 8);
   hash = run Layout.hash-offset 32 f;
   image-id = run Layout.image-id-offset (Layout.imageIdLength f) f;
-  items = listed (itemAt f) (Layout.itemCount f);
+  items = tabulated (itemAt f) (Layout.itemCount f);
 }
 
 -- ---- the settings store
@@ -50,14 +50,14 @@ settingOf s at = record {
 }
 
 unfoldable pub settingsOf : List ℕ → Settings
-settingsOf s = listed (λ i. settingOf s (Layout.setting-offset (Limits.first-setting + i))) Limits.setting-count
+settingsOf s = tabulated (λ i. settingOf s (Layout.setting-offset (Limits.first-setting + i))) Limits.setting-count
 
 -- ---- the registers
 
 unfoldable pub recordedOf : List ℕ → ℕ → Option Recorded
 recordedOf r at =
     cond (eqb (Layout.recordHeld r at) 1)
-    (some (record { code = Layout.recordCode r at; whole = Layout.recordWhole r at; kept = run (at + Layout.record-kept-offset) (keptOf r at) r }))
+    (some (record { code = Layout.recordCode r at; whole = Layout.recordWhole r at; kept = run (at + Layout.record-kept-offset) (keptCount r at) r }))
     none
 
 unfoldable pub alertOf : List ℕ → ℕ → Alert
@@ -87,7 +87,7 @@ view p = record {
   panic = recordedOf (p .registers) Layout.panic-offset;
   factory = factoryOf (p .factory);
   settings = settingsOf (p .settings);
-  waiting = listed (λ i. alertOf (p .registers) (Layout.alert-offset i)) (Layout.alertCount (p .registers));
+  waiting = tabulated (λ i. alertOf (p .registers) (Layout.alert-offset i)) (Layout.alertCount (p .registers));
   retained = retainedOf (p .registers);
   received = receivedOf (p .reader);
   pending = pendingOf (p .outbox);

@@ -14,7 +14,7 @@ use borrow.Author.Tests.{ne-eqb, lt-ltb, le-ltb, le-leb, lt-leb}
 use Rattle.octets.specs.Bytes.{number, run, numberAt, overlay}
 use Rattle.octets.proofs.Overlay.{overlay-take, overlay-more, put-fits, put-not}
 use Rattle.text_lines.specs.Fields.{field, digit, withDigit, withDigits, pairAt}
-use Rattle.text_lines.specs.Pieces.{values, adds, addedAt, added, roomAfter, countAfter}
+use Rattle.text_lines.specs.Pieces.{values, adds, addedAt, bytesAdded, roomAfter, countAfter}
 use Rattle.text_lines.specs.Digest.{digestOn}
 
 -- all from an offset on
@@ -107,7 +107,7 @@ values-more f n = rw add-one
 module _ (line room : List ℕ) (n : ℕ) where
   -- what a line adds does not fit
   pub add-not : length room < n + adds line → (n ≡ countAfter line room n) × (room ≡ roomAfter line room n)
-  unfolding countAfter roomAfter added
+  unfolding countAfter roomAfter bytesAdded
   add-not h =
       let l = length-values (addedAt line (take n room)) (adds line) in
       (rw (lt-leb (n + adds line) (length room) h), sym (put-not n _ room (omega arith)))
@@ -115,7 +115,7 @@ module _ (line room : List ℕ) (n : ℕ) where
   -- it fits
   pub add-fits : n + adds line ≤ length room
       → (n + adds line ≡ countAfter line room n) × (overlay n (values (addedAt line (take n room)) (adds line)) room ≡ roomAfter line room n)
-  unfolding countAfter roomAfter added
+  unfolding countAfter roomAfter bytesAdded
   add-fits h =
       let l = length-values (addedAt line (take n room)) (adds line) in
       (rw (le-leb (n + adds line) (length room) h), sym (put-fits n _ room (omega arith)))

@@ -34,15 +34,15 @@ withDigits base value [] = value
 withDigits base value (b ∷ text) = cond (ltb (digit b) base) (withDigits base (withDigit base value (digit b)) text) value
 
 -- the number whose digits a text begins with, and 0 where it begins with none
-abbrev pub numberOf : ℕ → List ℕ → ℕ
-numberOf base text = withDigits base 0 text
+abbrev pub numberAhead : ℕ → List ℕ → ℕ
+numberAhead base text = withDigits base 0 text
 
 -- the number in the k-th field
 abbrev pub decimalIn : ℕ → List ℕ → ℕ
-decimalIn k line = numberOf 10 (field k line)
+decimalIn k line = numberAhead 10 (field k line)
 
 abbrev pub hexIn : ℕ → List ℕ → ℕ
-hexIn k line = numberOf 16 (field k line)
+hexIn k line = numberAhead 16 (field k line)
 
 -- the byte of the k-th pair of hex digits; what is no digit, or not there, counts 0
 unfoldable pub pairAt : List ℕ → ℕ → ℕ

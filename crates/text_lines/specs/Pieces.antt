@@ -31,12 +31,12 @@ addedAt line piece j =
     (cond (eqb (keyOf line) 42) (hexIn 1 line % 256) (lastAgain (decimalIn 1 line) piece j))
 
 -- the bytes that a line adds to a piece
-unfoldable pub added : List ℕ → List ℕ → List ℕ
-added line piece = values (addedAt line piece) (adds line)
+unfoldable pub bytesAdded : List ℕ → List ℕ → List ℕ
+bytesAdded line piece = values (addedAt line piece) (adds line)
 
 -- a room whose first n bytes are a piece, after a line: what it adds stands behind them, where it fits
 unfoldable pub roomAfter : List ℕ → List ℕ → ℕ → List ℕ
-roomAfter line room n = put n (added line (take n room)) room
+roomAfter line room n = put n (bytesAdded line (take n room)) room
 
 -- how many bytes the piece has then
 unfoldable pub countAfter : List ℕ → List ℕ → ℕ → ℕ

@@ -5,7 +5,7 @@ ghost use mathlib.Core.Bool.{cond};
 ghost use Prim.Native.Nat.{_-_, _%_, _≤_, _<_};
 ghost use lib.Dec.{eqb};
 ghost use lib.ListN.{drop};
-ghost use Rattle.text_lines.specs.Fields.{keyOf, behindKey, field as fieldOf, digit as digitOf, withDigit, numberOf, decimalIn, hexIn, pairAt};
+ghost use Rattle.text_lines.specs.Fields.{keyOf, behindKey, field as fieldOf, digit as digitOf, withDigit, numberAhead, decimalIn, hexIn, pairAt};
 
 // How many bytes the key and the space behind it have.
 const KEY_LENGTH: usize = 2;
@@ -102,7 +102,7 @@ fn with_digit(value: u64, d: u64, base: u64) -> u64
 // The number whose digits a text begins with.
 fn number(text: &[u8], base: u64) -> u64
     requires { ⌜ base ≤ 16 ⌝ }
-    ensures { λ r. ⌜ r ≡ numberOf base (now (text .entry)) ⌝ }
+    ensures { λ r. ⌜ r ≡ numberAhead base (now (text .entry)) ⌝ }
 {
     let mut value: u64 = 0;
     let mut i = 0;

@@ -8,14 +8,14 @@ use denote.Ref.{now}
 use lib.ListN.{length}
 use Rattle.octets.specs.Bytes.{run}
 use Rattle.octets.proofs.Overlay.{length-run}
-use Rattle.plain.specs.Listing.{entryOf}
+use Rattle.plain.specs.Listing.{listedFrame}
 use Rattle.audit.specs.Text.{lines}
 use Rattle.audit.proofs.Lines.{wrote-none, wrote-then, frame-line}
 use Rattle.audit.proofs.put_frame.Statement.{statement}
 use Rattle.audit.proofs.put_frame.Tie as tie
 
 returns : tie.Need-returns
-unfolding entryOf lines
+unfolding listedFrame lines
 returns c =
     let a = c .before .before .before .args in
     rw (c .if1 .taken) (wrote-none (now (a .text)) (a .k), omega arith)

@@ -15,72 +15,72 @@ use Rattle.line_claims.specs.Pieces.{split}
 use Rattle.line_claims.proofs.Pieces.{split-at}
 use Rattle.supervisor.specs.State.{State, withReceived}
 use Rattle.supervisor.specs.Local
-use Rattle.requests.specs.Requests.{byte, stream}
+use Rattle.responder.specs.Requests.{receiveByte, receiveStream}
 use Rattle.supervisor_claims.specs.Histories
 use Rattle.supervisor_claims.specs.Histories.{Call, Made, enough, meant, meantMade, leftMeant, outputsMeant}
-use Rattle.supervisor_claims.specs.FrameHistory.{reads, receivedBy, framed, allFramed}
+use Rattle.supervisor_claims.specs.FrameHistory.{pieceRead, bytesReceivedBy, frameCarried, framesCarried}
 use Rattle.supervisor_claims.proofs.claims.InOrder.{stream-append, tail-within, in-order}
 use Rattle.supervisor_claims.specs.Replies.{movedBytes, takenBytes}
-use Rattle.both_claims.specs.RoundTrip.{Receives, ReceivesWith, allReceived}
+use Rattle.both_claims.specs.RoundTrip.{TakesPiece, ReceivesWith, allReceived}
 use Rattle.both_claims.specs.Pending.{Takes}
 
 -- ---- a frame
 
 -- the image does not matter before a 00
-image-free : (i j : List ℕ) (bs : List ℕ) → Each (λ b. 1 ≤ b) bs → (x : State) → stream i x bs ≡ stream j x bs
-unfolding stream byte
+image-free : (i j : List ℕ) (bs : List ℕ) → Each (λ b. 1 ≤ b) bs → (x : State) → receiveStream i x bs ≡ receiveStream j x bs
+unfolding receiveStream receiveByte
 image-free i j [] h x = refl
 image-free i j (zero ∷ bs) h x = absurd (omega (arith, h .0))
 image-free i j (suc b ∷ bs) h x = rw eqb·suc-zero (image-free i j bs (h .1) _)
 
-call-receives : (image : List ℕ) (x : State) (c : Call) → ReceivesWith image c → meant x c .state ≡ stream image x (reads c)
-unfolding meant reads
+call-receives : (image : List ℕ) (x : State) (c : Call) → ReceivesWith image c → meant x c .state ≡ receiveStream image x (pieceRead c)
+unfolding meant pieceRead
 call-receives image x (Histories.start d) r = absurd r
 call-receives image x (Histories.receive i piece) r = rw r
 call-receives image x (Histories.step i piece) r = rw r
 call-receives image x (Histories.local c) r = absurd r
 
-made-receives : (image : List ℕ) (x : State) (m : Made) → ReceivesWith image (m .call) → meantMade x m .state ≡ stream image x (receivedBy m)
-unfolding meantMade receivedBy stream
+made-receives : (image : List ℕ) (x : State) (m : Made) → ReceivesWith image (m .call) → meantMade x m .state ≡ receiveStream image x (bytesReceivedBy m)
+unfolding meantMade bytesReceivedBy receiveStream
 made-receives image x m r = by (enough (m .call) (m .lent)) refl
   where
-    by : (t : Bool) → enough (m .call) (m .lent) ≡ t → meantMade x m .state ≡ stream image x (receivedBy m)
+    by : (t : Bool) → enough (m .call) (m .lent) ≡ t → meantMade x m .state ≡ receiveStream image x (bytesReceivedBy m)
     by true e = rw e (call-receives image x (m .call) r)
     by false e = rw e
 
 -- whatever its image
-some-image : (c : Call) → Receives c → (i : List ℕ) × ReceivesWith i c
+some-image : (c : Call) → TakesPiece c → (i : List ℕ) × ReceivesWith i c
 some-image (Histories.start d) r = absurd r
 some-image (Histories.receive i piece) r = (i, refl)
 some-image (Histories.step i piece) r = (i, refl)
 some-image (Histories.local c) r = absurd r
 
 module _ (image : List ℕ) where
-  before-receives : (ms : List Made) (x : State) → Each (λ (m : Made). Receives (m .call)) ms → Each (λ b. 1 ≤ b) (allReceived ms)
-      → leftMeant x ms ≡ stream image x (allReceived ms)
-  unfolding leftMeant allReceived stream
+  before-receives : (ms : List Made) (x : State) → Each (λ (m : Made). TakesPiece (m .call)) ms → Each (λ b. 1 ≤ b) (allReceived ms)
+      → leftMeant x ms ≡ receiveStream image x (allReceived ms)
+  unfolding leftMeant allReceived receiveStream
   before-receives [] x r h = refl
   before-receives (m ∷ ms) x r h =
       let i = some-image (m .call) (r .0) in
-      let k = each-split (receivedBy m) (allReceived ms) h in
-      let e : meantMade x m .state ≡ stream image x (receivedBy m) = made-receives (i .0) x m (i .1) ∙ image-free (i .0) image (receivedBy m) (k .0) x in
-      rw e (before-receives ms (stream image x (receivedBy m)) (r .1) (k .1)) ∙ sym (stream-append image x (receivedBy m) (allReceived ms))
+      let k = each-split (bytesReceivedBy m) (allReceived ms) h in
+      let e : meantMade x m .state ≡ receiveStream image x (bytesReceivedBy m) = made-receives (i .0) x m (i .1) ∙ image-free (i .0) image (bytesReceivedBy m) (k .0) x in
+      rw e (before-receives ms (receiveStream image x (bytesReceivedBy m)) (r .1) (k .1)) ∙ sym (stream-append image x (bytesReceivedBy m) (allReceived ms))
     where
       each-split : (xs ys : List ℕ) → Each (λ b. 1 ≤ b) (xs ++ ys) → Each (λ b. 1 ≤ b) xs × Each (λ b. 1 ≤ b) ys
       each-split [] ys h = (tt, h)
       each-split (x ∷ xs) ys h = let k = each-split xs ys (h .1) in ((h .0, k .0), k .1)
 
   -- the pieces before, and the last one, which ends with the 00
-  pub delivered : (before : List Made) (last : Made) (x : State) → Each (λ (m : Made). Receives (m .call)) before → ReceivesWith image (last .call) → x .received ≡ some []
-      → (form bs : List ℕ) → Each (λ b. 1 ≤ b) form → allReceived before ++ bs ≡ form → receivedBy last ≡ bs ++ (0 ∷ [])
-      → meantMade (leftMeant x before) last .state ≡ withReceived (framed image x form) (some [])
-  unfolding split allFramed
+  pub delivered : (before : List Made) (last : Made) (x : State) → Each (λ (m : Made). TakesPiece (m .call)) before → ReceivesWith image (last .call) → x .received ≡ some []
+      → (form bs : List ℕ) → Each (λ b. 1 ≤ b) form → allReceived before ++ bs ≡ form → bytesReceivedBy last ≡ bs ++ (0 ∷ [])
+      → meantMade (leftMeant x before) last .state ≡ withReceived (frameCarried image x form) (some [])
+  unfolding split framesCarried
   delivered before last x r i idle form bs h e f =
       let k = before-receives before x r (each-front (allReceived before) bs (rw e h)) in
       let whole : allReceived before ++ (bs ++ (0 ∷ [])) ≡ form ++ (0 ∷ []) = sym (append-assoc (allReceived before) bs (0 ∷ [])) ∙ ap (λ (z : List ℕ). z ++ (0 ∷ [])) e in
       let y = rw (split-at form [] h, tail-within [] (omega arith)) at (in-order image x (form ++ (0 ∷ [])) idle) in
       made-receives image (leftMeant x before) last i
-      ∙ rw (k, f) (sym (stream-append image x (allReceived before) (bs ++ (0 ∷ []))) ∙ ap (stream image x) whole ∙ y)
+      ∙ rw (k, f) (sym (stream-append image x (allReceived before) (bs ++ (0 ∷ []))) ∙ ap (receiveStream image x) whole ∙ y)
     where
       each-front : (xs ys : List ℕ) → Each (λ b. 1 ≤ b) (xs ++ ys) → Each (λ b. 1 ≤ b) xs
       each-front [] ys h = tt

@@ -14,71 +14,71 @@ use Rattle.octets.specs.Bytes.{Each}
 use Rattle.line.specs.Limits.{longest-form}
 use Rattle.line.specs.Message.{Message}
 use Rattle.line.specs.Judge.{good, judge}
-use Rattle.requester.specs.State.{Request, State, state}
+use Rattle.requester.specs.State.{Request, MainState, mainState}
 use Rattle.requester.specs.Requester
-use Rattle.requester.specs.Requester.{received, heard, answer, hears, withReceived, replySequence}
-use Rattle.requester.specs.Calls.{reportOf, PartsValid}
-use Rattle.requester_claims.specs.View.{view}
+use Rattle.requester.specs.Requester.{receiveResult, hear, answer, afterHeard, mainWithReceived, replySequence}
+use Rattle.requester.specs.Calls.{handedReportOf, MainPartsValid}
+use Rattle.requester_claims.specs.View.{mainView}
 use Rattle.requester_claims.specs.Histories as Main
-use Rattle.requester_claims.specs.Histories.{meant, meantMade, enough}
+use Rattle.requester_claims.specs.Histories.{mainMeant, mainMeantMade, mainEnough}
 use Rattle.requester_claims.proofs.History.{one-call}
 use Rattle.requester_claims.proofs.MeaningLaws.{grown, quiet-byte}
-use Rattle.requester_claims.specs.Cuts.{events, Read, Listener, afterRead}
+use Rattle.requester_claims.specs.Cuts.{handedEvents, MainRead, Listener, afterMainRead}
 
 -- ---- a frame
 
-closes-byte : (p : List ℕ) (s : State) → s .received ≡ some p → 1 ≤ length p → Requester.byte s 0 ≡ hears (heard (s .newest) (judge p)) (withReceived s (some []))
-unfolding Requester.byte
+closes-byte : (p : List ℕ) (s : MainState) → s .received ≡ some p → 1 ≤ length p → Requester.mainByte s 0 ≡ afterHeard (hear (s .newest) (judge p)) (mainWithReceived s (some []))
+unfolding Requester.mainByte
 closes-byte [] s e l = absurd (omega arith)
-closes-byte (c ∷ cs) s e l = ap (λ (x : Option (List ℕ)). Requester.closes x (withReceived s (some []))) e
+closes-byte (c ∷ cs) s e l = ap (λ (x : Option (List ℕ)). Requester.mainClosed x (mainWithReceived s (some []))) e
 
-no-stop : (p : List ℕ) (s : State) (b : ℕ) → s .received ≡ some p → suc (length p) ≤ longest-form → Requester.stops s (suc b) ≡ false
+no-stop : (p : List ℕ) (s : MainState) (b : ℕ) → s .received ≡ some p → suc (length p) ≤ longest-form → Requester.stops s (suc b) ≡ false
 no-stop p s b e h = rw (eqb·suc-zero, e, lt-leb longest-form (length p) h)
 
-more-byte : (p : List ℕ) (s : State) (b : ℕ) → s .received ≡ some p → suc (length p) ≤ longest-form
-    → Requester.byte s (suc b) .state ≡ withReceived s (some (p ++ (suc b ∷ [])))
+more-byte : (p : List ℕ) (s : MainState) (b : ℕ) → s .received ≡ some p → suc (length p) ≤ longest-form
+    → Requester.mainByte s (suc b) .state ≡ mainWithReceived s (some (p ++ (suc b ∷ [])))
 unfolding grown
 more-byte p s b e h =
     ap (λ (x : Requester.Result). x .state) (quiet-byte s (suc b) (no-stop p s b e h))
-    ∙ ap (λ (x : Option (List ℕ)). withReceived s (grown x (suc b))) e
+    ∙ ap (λ (x : Option (List ℕ)). mainWithReceived s (grown x (suc b))) e
 
 -- behind the bytes p, which have come
-pub frame-heard : (f p : List ℕ) (s : State) → Each (λ b. 1 ≤ b) f → s .received ≡ some p → 1 ≤ length (p ++ f) → length (p ++ f) ≤ longest-form
-    → Requester.receive s (f ++ (0 ∷ [])) ≡ received (length (f ++ (0 ∷ []))) (hears (heard (s .newest) (judge (p ++ f))) (withReceived s (some [])))
+pub frame-heard : (f p : List ℕ) (s : MainState) → Each (λ b. 1 ≤ b) f → s .received ≡ some p → 1 ≤ length (p ++ f) → length (p ++ f) ≤ longest-form
+    → Requester.receive s (f ++ (0 ∷ [])) ≡ receiveResult (length (f ++ (0 ∷ []))) (afterHeard (hear (s .newest) (judge (p ++ f))) (mainWithReceived s (some [])))
 unfolding Requester.receive
-frame-heard [] p s z e l h = rw append-nil (ap (received 1) (closes-byte p s e (rw append-nil at l)))
+frame-heard [] p s z e l h = rw append-nil (ap (receiveResult 1) (closes-byte p s e (rw append-nil at l)))
 frame-heard (zero ∷ f) p s z e l h = absurd (omega (arith, z .0))
 frame-heard (suc b ∷ f) p s z e l h =
     let n : suc (length p) ≤ longest-form = omega (arith, length-append p (suc b ∷ f)) in
     let k = append-snoc p (suc b) f in
-    let i = frame-heard f (p ++ (suc b ∷ [])) (withReceived s (some (p ++ (suc b ∷ [])))) (z .1) refl (rw k l) (rw k h) in
+    let i = frame-heard f (p ++ (suc b ∷ [])) (mainWithReceived s (some (p ++ (suc b ∷ [])))) (z .1) refl (rw k l) (rw k h) in
     rw (no-stop p s b e n, more-byte p s b e n, i, k)
 
 -- ---- an answer
 
 -- a good reply under the newest number that is no decode failure
-pub heard-answer : (n : ℕ) (r : Message) → r .version ≡ 1 → r .sequence ≡ replySequence n → (r .command ≡ 0x02 → ⊥) → heard n (good r) ≡ answer r
-unfolding heard
+pub heard-answer : (n : ℕ) (r : Message) → r .version ≡ 1 → r .sequence ≡ replySequence n → (r .command ≡ 0x02 → ⊥) → hear n (good r) ≡ answer r
+unfolding hear
 heard-answer n r v q c =
     rw (eq-eqb (r .version) 1 v, le-ltb (r .sequence) (2 ^ 63) (omega (arith, q)), ne-eqb (r .command) 0x02 c, eq-eqb (r .sequence) (replySequence n) q)
 
 -- the request kept is answered, and nothing is outstanding
-pub answers-kept : (s : State) (q : Request) (r : Message) (x : Option (List ℕ)) → s .recovery ≡ none → s .kept ≡ some q
-    → hears (answer r) (withReceived s x) ≡ Requester.result (Requester.answered r) (Requester.moved false (state (s .newest) none none false x))
-unfolding Requester.settled Requester.movedTo
+pub answers-kept : (s : MainState) (q : Request) (r : Message) (x : Option (List ℕ)) → s .recovery ≡ none → s .kept ≡ some q
+    → afterHeard (answer r) (mainWithReceived s x) ≡ Requester.result (Requester.answered r) (Requester.moved false (mainState (s .newest) none none false x))
+unfolding Requester.settle Requester.movedTo
 answers-kept s q r x t k = rw (t, k)
 
 -- ---- receives
 
 -- one that is lent enough
 pub record ReadsAs (x : Listener) (piece : List ℕ) (y : Listener) : Type 0 where
-  pub handed : let z = Requester.receive (view (x .parts)) piece .result in y .handed ≡ x .handed ++ events (reportOf (z .handed)) (Main.dataOf (z .handed)) (z .ended)
-  pub bytes : y .bytes ≡ x .bytes ++ take (Requester.receive (view (x .parts)) piece .used) piece
-  pub state : view (y .parts) ≡ Requester.receive (view (x .parts)) piece .result .state
-  pub valid : PartsValid (y .parts)
+  pub handed : let z = Requester.receive (mainView (x .parts)) piece .result in y .handed ≡ x .handed ++ handedEvents (handedReportOf (z .handed)) (Main.handedData (z .handed)) (z .ended)
+  pub bytes : y .bytes ≡ x .bytes ++ take (Requester.receive (mainView (x .parts)) piece .used) piece
+  pub state : mainView (y .parts) ≡ Requester.receive (mainView (x .parts)) piece .result .state
+  pub valid : MainPartsValid (y .parts)
 
-pub one-read : (x : Listener) (c : Read) → PartsValid (x .parts) → enough (Main.receive (c .piece)) (c .lent) ≡ true → ReadsAs x (c .piece) (afterRead x c)
-unfolding afterRead meantMade meant
+pub one-read : (x : Listener) (c : MainRead) → MainPartsValid (x .parts) → mainEnough (Main.receive (c .piece)) (c .lent) ≡ true → ReadsAs x (c .piece) (afterMainRead x c)
+unfolding afterMainRead mainMeantMade mainMeant
 one-read x c v e =
     let k = one-call (x .parts) (record { lent = c .lent; call = Main.receive (c .piece) }) v in
     let a = rw e at (k .answer) in

@@ -7,7 +7,7 @@ use mathlib.Core.Path.{_≡_, refl}
 use Rattle.octets.specs.Bytes.{Each, Byte}
 use Rattle.octets.proofs.Each.{each-append}
 use Rattle.line.specs.Message.{InRange}
-use Rattle.line.specs.Judge.{Verdict, failure, good, judge}
+use Rattle.line.specs.Judge.{LineVerdict, failure, good, judge}
 use Rattle.line_claims.specs.Pieces.{split, nonEmpty, NonZero}
 use Rattle.line_claims.proofs.Pieces.{split-each, closed-rest}
 use Rattle.line_claims.specs.Calls.{gathered, goodOf, goodMessages}
@@ -26,8 +26,8 @@ closed-nonzero w bs h k =
     nonEmpty-each (Each NonZero) (split (split w .rest ++ bs) .closed)
     (split-each Byte NonZero (λ b i. (omega arith, omega (arith, i))) (split w .rest ++ bs) (each-append Byte (split w .rest) bs (split-each Byte Byte (λ b i. i) w h .1) k) .0)
 
-pub frames-nonzero : (w bs : List ℕ) → Each Byte w → Each Byte bs → Each (Each NonZero) (Received.framesBy w bs)
-unfolding Received.framesBy
+pub frames-nonzero : (w bs : List ℕ) → Each Byte w → Each Byte bs → Each (Each NonZero) (Received.framesClosedBy w bs)
+unfolding Received.framesClosedBy
 frames-nonzero w bs h k = rw (closed-rest w bs) (closed-nonzero w bs h k)
 
 -- their good messages
@@ -36,6 +36,6 @@ unfolding gathered
 good-range [] h = tt
 good-range (f ∷ fs) h = each-append InRange (goodOf (judge f)) (goodMessages fs) (by (judge f) refl) (good-range fs (h .1))
   where
-    by : (v : Verdict) → judge f ≡ v → Each InRange (goodOf v)
+    by : (v : LineVerdict) → judge f ≡ v → Each InRange (goodOf v)
     by (failure reason sequence) e = tt
     by (good m) e = (good-form f m (h .0) e .1, tt)

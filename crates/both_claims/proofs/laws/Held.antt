@@ -25,26 +25,26 @@ use Rattle.line_claims.specs.Pieces.{NonZero, split}
 use Rattle.line_claims.proofs.Pieces.{split-at}
 use Rattle.supervisor.specs.State.{Retained, State, withReceived}
 use Rattle.supervisor.specs.Calls.{Parts}
-use Rattle.requests.specs.Requests.{served, good, verdict, stream, replyOf}
+use Rattle.responder.specs.Requests.{versionServed, good, verdict, receiveStream, replyOf}
 use Rattle.supervisor_claims.specs.ByPart.{Part, withPart}
 use Rattle.supervisor_claims.specs.View.{retainedOf, view}
 use Rattle.supervisor_claims.specs.Sound.{Sound}
 use Rattle.supervisor_claims.proofs.Sound.{sound-with}
-use Rattle.supervisor_claims.specs.FrameHistory.{framed, allFramed}
+use Rattle.supervisor_claims.specs.FrameHistory.{frameCarried, framesCarried}
 use Rattle.supervisor_claims.proofs.calls.ReceivedClaim.{Requestable, good-typed, started-kept}
 use Rattle.supervisor_claims.proofs.calls.ReceiveClaim.{fed-leaves}
 use Rattle.supervisor_claims.proofs.claims.InOrder.{carried-lined, judged-receiving, tail-within, in-order}
 use Rattle.both_claims.proofs.laws.Table.{passes, top-set}
 use Rattle.both_claims.proofs.laws.ReplyRange.{Versioned, reply-of, reply-sendable}
-use Rattle.both_claims.specs.Ends.{messageOf, replyTo}
+use Rattle.both_claims.specs.Ends.{replyMessage, replyToRequest}
 
 -- sound parts whose reader stands between two frames
 abbrev pub Held : State → Type 0
 Held x = (p : Parts) × Sound p × (view p ≡ withReceived x (some []))
 
 -- a reader that is started
-received-none : (s : List ℕ) → LineReader.state-length ≤ length s → receivedOf (LineReader.counted 0 s) ≡ some []
-unfolding receivedOf LineReader.kept
+received-none : (s : List ℕ) → LineReader.reader-length ≤ length s → receivedOf (LineReader.withCount 0 s) ≡ some []
+unfolding receivedOf LineReader.receivedBytes
 received-none s h = rw (count-counted 0 s (omega arith) (omega arith))
 
 pub held-parts : (p : Parts) → Sound p → Held (view p)
@@ -52,12 +52,12 @@ unfolding view
 held-parts p s =
     let h = valid-ready (p .reader) (s .valid .reader) .0 in
     let k = started-kept (p .reader) h in
-    let t = LineReader.counted 0 (p .reader) in
+    let t = LineReader.withCount 0 (p .reader) in
     (withPart p Part.reader t, sound-with p Part.reader t s (k .valid) (k .bytes (s .bytes .reader)) (k .long) .0, rw (received-none (p .reader) h))
 
 -- a frame
-framed-receiving : (image : List ℕ) (x : State) (r : Option (List ℕ)) (f : List ℕ) → framed image (withReceived x r) f ≡ withReceived (framed image x f) r
-unfolding framed
+framed-receiving : (image : List ℕ) (x : State) (r : Option (List ℕ)) (f : List ℕ) → frameCarried image (withReceived x r) f ≡ withReceived (frameCarried image x f) r
+unfolding frameCarried
 framed-receiving image x r [] = refl
 framed-receiving image x r (b ∷ bs) = judged-receiving image x r (verdict (b ∷ bs))
 
@@ -66,18 +66,18 @@ nonzero-bytes [] h = (tt, tt)
 nonzero-bytes (b ∷ bs) h = let k = nonzero-bytes bs (h .1) in ((omega (arith, h .0), k .0), (h .0 .0, k .1))
 
 module _ (image : List ℕ) (each : Each Byte image) (x : State) (f : List ℕ) (nonzero : Each NonZero f) (held : Held x) where
-  pub held-frame : Held (framed image x f)
-  unfolding split allFramed
+  pub held-frame : Held (frameCarried image x f)
+  unfolding split framesCarried
   held-frame =
       let p = held .0 in
       let n = nonzero-bytes f nonzero in
       let k = fed-leaves image p (f ++ (0 ∷ [])) each (held .1) (each-append Byte f (0 ∷ []) (n .0) (omega arith, tt)) in
       let i = in-order image (withReceived x (some [])) (f ++ (0 ∷ [])) refl in
       let j = rw (split-at f [] (n .1), tail-within [] (omega arith)) at i in
-      (_, k .1, k .0 ∙ ap (λ (y : State). stream image y (f ++ (0 ∷ []))) (held .2) ∙ j ∙ rw (framed-receiving image x (some []) f))
+      (_, k .1, k .0 ∙ ap (λ (y : State). receiveStream image y (f ++ (0 ∷ []))) (held .2) ∙ j ∙ rw (framed-receiving image x (some []) f))
 
   -- a version that is served, or the retained reply's
-  served-low : (n : ℕ) → served n ≡ true → n < 2 ^ 32
+  served-low : (n : ℕ) → versionServed n ≡ true → n < 2 ^ 32
   served-low n e = by (eqb n first-version) (eqb n second-version) refl refl e
     where
       by : (a b : Bool) → eqb n first-version ≡ a → eqb n second-version ≡ b → (a || b) ≡ true → n < 2 ^ 32
@@ -98,10 +98,10 @@ module _ (image : List ℕ) (each : Each Byte image) (x : State) (f : List ℕ) 
   version-low m q r (inr (t, e, f)) = rw f (retained-low t (ap (λ (y : State). y .retained) (held .2) ∙ e))
 
   -- the reply to a request
-  pub reply-in-range : (m : Message) → verdict f ≡ good m → (r : Message) → replyTo image x m ≡ some r → InRange r
+  pub reply-in-range : (m : Message) → verdict f ≡ good m → (r : Message) → replyToRequest image x m ≡ some r → InRange r
   reply-in-range m v r e =
       let o = carried-lined (some []) (x .pending) (x .terminator-owed) x image m .reply in
-      let same : replyTo image (view (held .0)) m ≡ some r = ap (λ (y : State). replyTo image y m) (held .2) ∙ ap (λ z. messageOf (replyOf (m .sequence) z)) o ∙ e in
+      let same : replyToRequest image (view (held .0)) m ≡ some r = ap (λ (y : State). replyToRequest image y m) (held .2) ∙ ap (λ z. replyMessage (replyOf (m .sequence) z)) o ∙ e in
       let k = reply-sendable (held .0) (held .1) image each m (good-typed f m (nonzero-bytes f nonzero .0) v) r same in
       let t = reply-of image x m r e in
       let low = passes f m v .low in

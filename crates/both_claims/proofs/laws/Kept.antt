@@ -10,36 +10,36 @@ use Rattle.line.specs.Frame.{frame}
 use Rattle.line.specs.Judge as Line
 use Rattle.line.specs.Judge.{judge}
 use Rattle.line_claims.specs.Pieces.{split, NonZero}
-use Rattle.requester.specs.State as MainState
+use Rattle.requester.specs.State.{MainState}
 use Rattle.requester_claims.specs.Numbers.{Frame, OnePerNumber}
 use Rattle.requester_claims.proofs.Numbers.{Agrees}
-use Rattle.requests.specs.Requests.{good, verdict}
-use Rattle.supervisor_claims.specs.FrameHistory.{tailOf}
+use Rattle.responder.specs.Requests.{good, verdict}
+use Rattle.supervisor_claims.specs.FrameHistory.{progressOf}
 use Rattle.both_claims.specs.Ends
-use Rattle.both_claims.specs.Ends.{replyTo, Any, Handled, Log, replyMade, NotAsked}
+use Rattle.both_claims.specs.Ends.{replyToRequest, Any, Handled, Log, replyMade, NotAsked}
 use Rattle.both_claims.proofs.laws.Lists.{Front, any-so, each-any, each-front}
 use Rattle.both_claims.proofs.laws.Ranges.{Ranged, RangedFrame}
 
 -- a frame that was put out, in this state
-pub record PutOut (s : MainState.State) (x : Frame) : Type 0 where
+pub record PutOut (s : MainState) (x : Frame) : Type 0 where
   pub agrees : Agrees x s
   pub ranged : RangedFrame x
 
 -- a frame that the supervisor handled: where it is a good message, it had been put out
-pub record Known (s : MainState.State) (h : Handled) : Type 0 where
+pub record Known (s : MainState) (h : Handled) : Type 0 where
   pub nonzero : Each NonZero (h .form)
   pub asked : Each (PutOut s) (h .asked)
   pub put-out : (m : Message) → judge (h .form) ≡ Line.good m → Any (λ (x : Frame). x .bytes ≡ frame m) (h .asked)
   -- the reply to a request is in range
-  pub reply : (m : Message) → verdict (h .form) ≡ good m → (r : Message) → replyTo (h .image) (h .state) m ≡ some r → InRange r
+  pub reply : (m : Message) → verdict (h .form) ≡ good m → (r : Message) → replyToRequest (h .image) (h .state) m ≡ some r → InRange r
 
 -- a reply that was made to one of these
 abbrev pub MadeTo : List Handled → Message → Type 0
 MadeTo hs r = Any (λ (h : Handled). replyMade h ≡ some r) hs
 
 -- what holds of both
-pub record Kept (s : MainState.State) (l : Log) : Type 0 where
-  pub progress : s .received ≡ tailOf (split (l .read) .rest)
+pub record Kept (s : MainState) (l : Log) : Type 0 where
+  pub progress : s .received ≡ progressOf (split (l .read) .rest)
   pub ranged : Ranged s
   pub read : Each Byte (l .read)
   pub bytes : Each Byte (l .received)

@@ -16,30 +16,30 @@ use Rattle.line.specs.Limits.{longest-data}
 use Rattle.line.specs.Numbers.{status-length}
 use Rattle.line.specs.Message.{Message}
 use Rattle.requester.specs.Limits.{last-number}
-use Rattle.requester.specs.State.{Request, Step, fetch, acknowledge, alert, State, isSome, outstanding, requestFrame}
+use Rattle.requester.specs.State.{Request, RecoveryStep, fetch, acknowledge, alert, MainState, isSome, outstanding, requestFrame}
 use Rattle.requester.specs.Requester
-use Rattle.requester.specs.Requester.{Handed, Heard, ground, other, answer, settled, Result, withReceived}
-use Rattle.requester.specs.Calls.{reportOf}
+use Rattle.requester.specs.Requester.{Handed, Heard, ground, other, answer, settle, Result, mainWithReceived}
+use Rattle.requester.specs.Calls.{handedReportOf}
 use Rattle.requester_claims.specs.Histories as Main
-use Rattle.requester_claims.specs.Histories.{Means, means, putMeans, doneMeans, meant, meantMade, enough}
-use Rattle.requester_claims.specs.Numbers.{framesBy}
+use Rattle.requester_claims.specs.Histories.{MainMeans, mainMeans, putMeans, mainDoneMeans, mainMeant, mainMeantMade, mainEnough, MainCall, MainMade}
+use Rattle.requester_claims.specs.Numbers.{framesPutOut}
 use Rattle.requester_claims.proofs.Numbers.{framesOf, framed, frames-put, some-bytes}
-use Rattle.both_claims.specs.Ends.{messageBy, restarts, requestOf, requests}
+use Rattle.both_claims.specs.Ends.{messageHanded, restarts, requestOf, putsRequest}
 use Rattle.both_claims.proofs.laws.MainReads.{Came, quiet, hearing}
 
 -- ---- what is heard
 
 -- it stays, or ends with the answer that is handed out, or with 14
-pub data KeptAfter (s : State) (h : Handed) (t : State) : Type 0 where
+pub data KeptAfter (s : MainState) (h : Handed) (t : MainState) : Type 0 where
   same : t .kept ≡ s .kept → s .newest ≤ t .newest → KeptAfter s h t
   answered : (r : Message) → h ≡ Requester.answered r → t .kept ≡ none → t .newest ≡ s .newest → KeptAfter s h t
   ended : last-number ≤ s .newest → t .kept ≡ none → t .newest ≡ s .newest → KeptAfter s h t
 
-module _ (s : State) (h : Handed) where
+module _ (s : MainState) (h : Handed) where
   abbrev Next : Requester.Next → Type 0
   Next x = KeptAfter s h (Requester.movedTo x s .state)
 
-  anew-after : (t : Option Step) → Next (Requester.anew t)
+  anew-after : (t : Option RecoveryStep) → Next (Requester.anew t)
   unfolding Requester.movedTo
   anew-after t =
       cond-by (λ (m : Requester.Moved). KeptAfter s h (m .state)) (leb last-number (s .newest)) _ _
@@ -59,24 +59,24 @@ module _ (s : State) (h : Handed) where
   last-after none e = same (sym e) (omega arith)
   last-after (some q) e = anew-after none
 
-  served-after : (k : Option Request) → s .kept ≡ k → (n : ℕ) → Next (Requester.served (isSome k) n)
-  unfolding Requester.served
+  served-after : (k : Option Request) → s .kept ≡ k → (n : ℕ) → Next (Requester.serve (isSome k) n)
+  unfolding Requester.serve
   served-after k e n =
       cond-by Next (eqb (bit n 0) 1) _ _ (λ _. anew-after (some acknowledge)) (λ _.
       cond-by Next (eqb (bit n 1) 1) _ _ (λ _. anew-after (some alert)) (λ _. last-after k e))
 
-module _ (s : State) where
-  abbrev Outcome : Requester.Outcome → Type 0
+module _ (s : MainState) where
+  abbrev Outcome : Requester.HeardOutcome → Type 0
   Outcome o = KeptAfter s (o .handed) (Requester.movedTo (o .next) s .state)
 
   fetched-after : (k : Option Request) → s .kept ≡ k → (m : Message) → Outcome (Requester.fetched (isSome k) m)
   unfolding Requester.fetched
   fetched-after k e m =
       cond-by Outcome (eqb (m .command) 0x06 && eqb (length (m .payload)) status-length) _ _
-      (λ _. served-after s _ k e (Requester.statusOf m)) (λ _. again-after s _)
+      (λ _. served-after s _ k e (Requester.messageStatus m)) (λ _. again-after s _)
 
-  settled-after : (t : Option Step) (k : Option Request) → s .kept ≡ k → (h : Heard) → Outcome (settled t (isSome k) h)
-  unfolding settled Requester.movedTo
+  settled-after : (t : Option RecoveryStep) (k : Option Request) → s .kept ≡ k → (h : Heard) → Outcome (settle t (isSome k) h)
+  unfolding settle Requester.movedTo
   settled-after none none e h = same refl (omega arith)
   settled-after none (some q) e ground = same refl (omega arith)
   settled-after none (some q) e other = same refl (omega arith)
@@ -88,26 +88,26 @@ module _ (s : State) where
   settled-after (some alert) k e (answer m) = anew-after s _ (some fetch)
 
 -- the receive progress does not matter
-progress-after : (s : State) (bs : Option (List ℕ)) {h : Handed} {t : State} → KeptAfter (withReceived s bs) h t → KeptAfter s h t
+progress-after : (s : MainState) (bs : Option (List ℕ)) {h : Handed} {t : MainState} → KeptAfter (mainWithReceived s bs) h t → KeptAfter s h t
 progress-after s bs (same e n) = same e n
 progress-after s bs (answered r e k n) = answered r e k n
 progress-after s bs (ended l k n) = ended l k n
 
-pub came-after : {ms : List Message} (s : State) (x : Result) → Came s ms x → KeptAfter s (x .handed) (x .state)
+pub came-after : {ms : List Message} (s : MainState) (x : Result) → Came s ms x → KeptAfter s (x .handed) (x .state)
 came-after s x (quiet bs e) = rw e (same refl (omega arith))
-came-after s x (hearing bs h e f) = rw e (progress-after s bs (settled-after (withReceived s bs) (s .recovery) (s .kept) refl h))
+came-after s x (hearing bs h e f) = rw e (progress-after s bs (settled-after (mainWithReceived s bs) (s .recovery) (s .kept) refl h))
 
 -- ---- calls
 
 -- no new one: it stays, and the frame of the one outstanding goes out or none, or it ends
-pub data NoNew (s : State) (x : Means) : Type 0 where
+pub data NoNew (s : MainState) (x : MainMeans) : Type 0 where
   keeps : x .state .kept ≡ s .kept → s .newest ≤ x .state .newest
       → (framesOf x ≡ []) ⊎ ((q : Request) × (outstanding s ≡ some q) × (framesOf x ≡ framed (s .newest) q)) → NoNew s x
-  answers : (r : Message) → messageBy (x .answer) (x .out) ≡ some r → x .state .kept ≡ none → x .state .newest ≡ s .newest → framesOf x ≡ [] → NoNew s x
+  answers : (r : Message) → messageHanded (x .answer) (x .out) ≡ some r → x .state .kept ≡ none → x .state .newest ≡ s .newest → framesOf x ≡ [] → NoNew s x
   ends : last-number ≤ s .newest → x .state .kept ≡ none → x .state .newest ≡ s .newest → framesOf x ≡ [] → NoNew s x
 
 -- a new one, under the next number
-pub record PutsNew (s : State) (c : Main.Call) (x : Means) : Type 0 where
+pub record PutsNew (s : MainState) (c : MainCall) (x : MainMeans) : Type 0 where
   pub request : Request
   pub called : requestOf c ≡ some request
   pub none-out : outstanding s ≡ none
@@ -116,25 +116,25 @@ pub record PutsNew (s : State) (c : Main.Call) (x : Means) : Type 0 where
   pub next : x .state .newest ≡ suc (s .newest)
   pub frame : framesOf x ≡ framed (x .state .newest) request
 
-abbrev pub RequestBy : State → Main.Call → Means → Type 0
-RequestBy s c x = ((requests c (x .answer) ≡ true) × PutsNew s c x) ⊎ ((requests c (x .answer) ≡ false) × NoNew s x)
+abbrev pub RequestBy : MainState → MainCall → MainMeans → Type 0
+RequestBy s c x = ((putsRequest c (x .answer) ≡ true) × PutsNew s c x) ⊎ ((putsRequest c (x .answer) ≡ false) × NoNew s x)
 
 not-some : {A : Type 0} (o : Option A) → isSome o ≡ false → o ≡ none
 not-some none e = refl
 not-some (some x) e = absurd (false≢true (sym e))
 
-after-receive : (s : State) (used : ℕ) (x : Result) → KeptAfter s (x .handed) (x .state) → NoNew s (Main.receivedMeans (Requester.received used x))
-unfolding framesBy reportOf Main.dataOf
+after-receive : (s : MainState) (used : ℕ) (x : Result) → KeptAfter s (x .handed) (x .state) → NoNew s (Main.receiveMeans (Requester.receiveResult used x))
+unfolding framesPutOut handedReportOf Main.handedData
 after-receive s used x (same e n) = keeps e n (inl refl)
 after-receive s used x (answered r e k n) = answers r (rw e refl) k n refl
 after-receive s used x (ended l k n) = ends l k n refl
 
-module _ (s : State) where
-  refused-by : (c : Main.Call) (k : ℕ) (room : List ℕ) → RequestBy s c (means (Main.refused k) room s)
-  unfolding framesBy
+module _ (s : MainState) where
+  refused-by : (c : MainCall) (k : ℕ) (room : List ℕ) → RequestBy s c (mainMeans (Main.refused k) room s)
+  unfolding framesPutOut
   refused-by c k room = inr (refl, keeps refl (omega arith) (inl refl))
 
-  abbrev PutBy : Main.Call → List ℕ → Requester.Done → Type 0
+  abbrev PutBy : MainCall → List ℕ → Requester.MainDone → Type 0
   PutBy c room x = RequestBy s c (putMeans (x .refusal) room (x .out) (x .state))
 
   request-by : (command : ℕ) (d room : List ℕ) → PutBy (Main.request command d room) room (Requester.request (length room) (record { command = command; payload = d }) s)
@@ -160,15 +160,15 @@ module _ (s : State) where
         },
       )))))
 
-  interrupt-by : (t : Option Step) → RequestBy s Main.interrupt (doneMeans (Requester.interruptedIn t s .refusal) (Requester.interruptedIn t s .state))
-  unfolding framesBy
+  interrupt-by : (t : Option RecoveryStep) → RequestBy s Main.interrupt (mainDoneMeans (Requester.interruptedIn t s .refusal) (Requester.interruptedIn t s .state))
+  unfolding framesPutOut
   interrupt-by (some t) = inr (refl, keeps refl (omega arith) (inl refl))
   interrupt-by none =
-      cond-by (λ (x : Requester.Done). RequestBy s Main.interrupt (doneMeans (x .refusal) (x .state))) (leb last-number (s .newest)) _ _
+      cond-by (λ (x : Requester.MainDone). RequestBy s Main.interrupt (mainDoneMeans (x .refusal) (x .state))) (leb last-number (s .newest)) _ _
       (λ _. inr (refl, keeps refl (omega arith) (inl refl))) (λ _. inr (refl, keeps refl (omega arith) (inl refl)))
 
   send-by : (room : List ℕ) (q : Option Request) → outstanding s ≡ q → PutBy (Main.send room) room (Requester.sentOf (length room) q s)
-  unfolding framesBy
+  unfolding framesPutOut
   send-by room none e = inr (refl, keeps refl (omega arith) (inl refl))
   send-by room (some q) e =
       let c = Main.send room in
@@ -179,16 +179,16 @@ module _ (s : State) where
 
   -- a receive by what came of it
   module _ (came : (piece : List ℕ) → let x = Requester.receive s piece .result in KeptAfter s (x .handed) (x .state)) where
-    meant-by : (c : Main.Call) → restarts c (meant s c .answer) ≡ false → RequestBy s c (meant s c)
-    unfolding meant Requester.interrupt Requester.send
+    meant-by : (c : MainCall) → restarts c (mainMeant s c .answer) ≡ false → RequestBy s c (mainMeant s c)
+    unfolding mainMeant Requester.interrupt Requester.send
     meant-by Main.start n = absurd (false≢true (sym n))
     meant-by (Main.request command d room) n = request-by command d room
     meant-by Main.interrupt n = interrupt-by (s .recovery)
     meant-by (Main.send room) n = send-by room (outstanding s) refl
     meant-by (Main.receive piece) n = let x = Requester.receive s piece in inr (refl, after-receive s (x .used) (x .result) (came piece))
 
-    pub made-by : (m : Main.Made) → restarts (m .call) (meantMade s m .answer) ≡ false → RequestBy s (m .call) (meantMade s m)
-    unfolding meantMade
+    pub made-by : (m : MainMade) → restarts (m .call) (mainMeantMade s m .answer) ≡ false → RequestBy s (m .call) (mainMeantMade s m)
+    unfolding mainMeantMade
     made-by m =
-        cond-by (λ (x : Means). restarts (m .call) (x .answer) ≡ false → RequestBy s (m .call) x) (enough (m .call) (m .lent)) _ _
+        cond-by (λ (x : MainMeans). restarts (m .call) (x .answer) ≡ false → RequestBy s (m .call) x) (mainEnough (m .call) (m .lent)) _ _
         (λ _ n. meant-by (m .call) n) (λ _ n. refused-by (m .call) 12 _)

@@ -15,15 +15,16 @@ use Rattle.line_claims.specs.Calls.{gathered, goodMessages}
 use Rattle.line_claims.proofs.ReaderClaim.{gathered-append}
 use Rattle.line_claims.proofs.JudgeClaim.{judge-of-message}
 use Rattle.line_claims.proofs.WireClaim.{split-frame}
+use Rattle.requester_claims.specs.Histories.{MainAnswer, MainCall}
 use Rattle.requester_claims.specs.Histories as Main
-use Rattle.requester_claims.specs.Numbers.{Frame, framesBy}
-use Rattle.requests.specs.Requests.{verdict}
+use Rattle.requester_claims.specs.Numbers.{Frame, framesPutOut}
+use Rattle.responder.specs.Requests.{verdict}
 use Rattle.supervisor.specs.State.{State}
 use Rattle.supervisor_claims.specs.Histories as Supervisor
 use Rattle.supervisor_claims.specs.FrameHistory as Received
 use Rattle.supervisor_claims.specs.Replies.{replyBy}
-use Rattle.both_claims.specs.Ends.{Log, Among, InOrder, readBy, restarts, mainLogged, supervisorLogged}
-use Rattle.both_claims.specs.Ends.{messageOf, replyMade, imageOf, handledBy, newestReply, stillPending, takenBy, brought}
+use Rattle.both_claims.specs.Ends.{Log, Among, InOrder, bytesReadBy, restarts, mainLogged, supervisorLogged}
+use Rattle.both_claims.specs.Ends.{replyMessage, replyMade, imageLent, handledBy, newestReply, stillPending, takenBy, brought}
 
 -- ---- frames read whole
 
@@ -38,8 +39,8 @@ good-of m r = rw (judge-of-message m r)
 
 -- behind bytes that end with a 00
 module _ (w : List ℕ) (whole : split w .rest ≡ []) (m : Message) where
-  pub frames-whole : Received.framesBy w (frame m) ≡ form m ∷ []
-  unfolding Received.framesBy
+  pub frames-whole : Received.framesClosedBy w (frame m) ≡ form m ∷ []
+  unfolding Received.framesClosedBy
   frames-whole = rw (closed-rest w (frame m), whole) (forms-of m)
 
   pub rest-whole : split (w ++ frame m) .rest ≡ []
@@ -68,16 +69,16 @@ module _ {l : Log} {read : List ℕ} {asked : List Frame} {received : List ℕ} 
       → Among (List ℕ) (map frame (goodMessages (nonEmpty (split read .closed)))) (map frame sent) → InOrder l
   logged-in-order a b = record { to-supervisor = rw (k .asks, k .hears) a; to-main = rw (k .reads, k .sends) b }
 
-  pub main-logs : (c : Main.Call) (a : Main.Answer) (out : List ℕ) (n : ℕ) → restarts c a ≡ false
-      → Logged (mainLogged l c a out n) (read ++ readBy c a) (asked ++ framesBy a out n) received heard pending sent
+  pub main-logs : (c : MainCall) (a : MainAnswer) (out : List ℕ) (n : ℕ) → restarts c a ≡ false
+      → Logged (mainLogged l c a out n) (read ++ bytesReadBy c a) (asked ++ framesPutOut a out n) received heard pending sent
   unfolding mainLogged
   main-logs c a out n e = rw e (record { reads = rw (k .reads); asks = rw (k .asks); receives = k .receives; hears = k .hears; waits = k .waits; sends = k .sends })
 
   pub supervisor-logs : (s : State) (m : Supervisor.Made) (waiting : List ℕ) → Received.startsAnew m ≡ false
       → let r = newestReply pending (brought l s m) in
-      Logged (supervisorLogged l s m waiting) read asked (received ++ Received.receivedBy m) (heard ++ goodMessages (Received.framesBy received (Received.receivedBy m)))
+      Logged (supervisorLogged l s m waiting) read asked (received ++ Received.bytesReceivedBy m) (heard ++ goodMessages (Received.framesClosedBy received (Received.bytesReceivedBy m)))
       (stillPending waiting r) (sent ++ takenBy waiting r)
-  unfolding supervisorLogged Received.joined
+  unfolding supervisorLogged Received.receivedSince
   supervisor-logs s m waiting e = record {
     reads = k .reads;
     asks = k .asks;
@@ -88,8 +89,8 @@ module _ {l : Log} {read : List ℕ} {asked : List Frame} {received : List ℕ} 
   }
 
 -- the frame that a request puts out
-pub frames-one : (count : ℕ) (out : List ℕ) (n : ℕ) → 1 ≤ length (take count out) → framesBy (Main.put count) out n ≡ (record { number = n; bytes = take count out }) ∷ []
-unfolding framesBy
+pub frames-one : (count : ℕ) (out : List ℕ) (n : ℕ) → 1 ≤ length (take count out) → framesPutOut (Main.put count) out n ≡ (record { number = n; bytes = take count out }) ∷ []
+unfolding framesPutOut
 frames-one zero out n h = absurd (omega arith)
 frames-one (suc k) out n h = refl
 
@@ -97,13 +98,13 @@ frames-one (suc k) out n h = refl
 
 module _ (l : Log) (s : State) (m : Supervisor.Made) where
   -- a call that brings no frame
-  pub brought-none : Received.framesBy (l .received) (Received.receivedBy m) ≡ [] → brought l s m ≡ []
+  pub brought-none : Received.framesClosedBy (l .received) (Received.bytesReceivedBy m) ≡ [] → brought l s m ≡ []
   unfolding brought handledBy
   brought-none e = rw e
 
   -- one that brings one
-  pub brought-one : (f : List ℕ) → Received.framesBy (l .received) (Received.receivedBy m) ≡ f ∷ []
-      → (r : Message) → messageOf (replyBy (imageOf (m .call)) s (verdict f)) ≡ some r → (o : Option Message) → newestReply o (brought l s m) ≡ some r
+  pub brought-one : (f : List ℕ) → Received.framesClosedBy (l .received) (Received.bytesReceivedBy m) ≡ f ∷ []
+      → (r : Message) → replyMessage (replyBy (imageLent (m .call)) s (verdict f)) ≡ some r → (o : Option Message) → newestReply o (brought l s m) ≡ some r
   unfolding brought handledBy replyMade
   brought-one f e r g o = rw e g
 

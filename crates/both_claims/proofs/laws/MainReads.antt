@@ -18,39 +18,39 @@ use Rattle.line.specs.Judge.{good, judge}
 use Rattle.line_claims.specs.Pieces.{split, nonEmpty}
 use Rattle.line_claims.proofs.Pieces.{split-at, split-none}
 use Rattle.line_claims.specs.Calls.{gathered, goodOf, goodMessages}
-use Rattle.requester.specs.State.{State, isSome}
+use Rattle.requester.specs.State.{MainState, isSome}
 use Rattle.requester.specs.Requester
-use Rattle.requester.specs.Requester.{Heard, ground, other, answer, heard, settled, Result, dropped, hears, withReceived}
+use Rattle.requester.specs.Requester.{Heard, ground, other, answer, hear, settle, Result, dropped, afterHeard, mainWithReceived}
 use Rattle.requester_claims.proofs.MeaningLaws.{grown, quiet-byte, quiet-positive}
 use Rattle.requester_claims.proofs.AnswerBytes.{HeardGood, heard-good}
 use Rattle.requester_claims.proofs.AnswerFrame.{moved-received}
-use Rattle.supervisor_claims.specs.FrameHistory.{tailOf}
+use Rattle.supervisor_claims.specs.FrameHistory.{progressOf}
 use Rattle.supervisor_claims.proofs.claims.InOrder.{tail-over, tail-within}
 
 -- an answer under the newest number is the one good message of these
 abbrev pub HeardFrom : ℕ → List Message → Heard → Type 0
 HeardFrom n ms ground = Unit {0}
 HeardFrom n ms other = Unit {0}
-HeardFrom n ms (answer m) = (heard n (good m) ≡ answer m) × (ms ≡ m ∷ [])
+HeardFrom n ms (answer m) = (hear n (good m) ≡ answer m) × (ms ≡ m ∷ [])
 
 -- nothing but the receive progress changes, or a frame is heard
-pub data Came (s : State) (ms : List Message) (r : Result) : Type 0 where
-  quiet : (x : Option (List ℕ)) → r ≡ dropped (withReceived s x) → Came s ms r
-  hearing : (x : Option (List ℕ)) (h : Heard) → r ≡ hears h (withReceived s x) → HeardFrom (s .newest) ms h → Came s ms r
+pub data Came (s : MainState) (ms : List Message) (r : Result) : Type 0 where
+  quiet : (x : Option (List ℕ)) → r ≡ dropped (mainWithReceived s x) → Came s ms r
+  hearing : (x : Option (List ℕ)) (h : Heard) → r ≡ afterHeard h (mainWithReceived s x) → HeardFrom (s .newest) ms h → Came s ms r
 
 -- the bytes bs were read behind the bytes p of a frame
-pub record Reads (s : State) (p bs : List ℕ) (r : Result) : Type 0 where
-  pub progress : r .state .received ≡ tailOf (split (p ++ bs) .rest)
+pub record Reads (s : MainState) (p bs : List ℕ) (r : Result) : Type 0 where
+  pub progress : r .state .received ≡ progressOf (split (p ++ bs) .rest)
   pub came : Came s (goodMessages (nonEmpty (split (p ++ bs) .closed))) r
 
-hears-progress : (s : State) (x : Option (List ℕ)) (h : Heard) → hears h (withReceived s x) .state .received ≡ x
-hears-progress s x h = moved-received (settled (s .recovery) (isSome (s .kept)) h .next) (withReceived s x)
+hears-progress : (s : MainState) (x : Option (List ℕ)) (h : Heard) → afterHeard h (mainWithReceived s x) .state .received ≡ x
+hears-progress s x h = moved-received (settle (s .recovery) (isSome (s .kept)) h .next) (mainWithReceived s x)
 
-heard-from : (n : ℕ) (f : List ℕ) → HeardFrom n (goodMessages (f ∷ [])) (heard n (judge f))
+heard-from : (n : ℕ) (f : List ℕ) → HeardFrom n (goodMessages (f ∷ [])) (hear n (judge f))
 unfolding gathered
-heard-from n f = by (heard n (judge f)) refl (heard-good n (judge f))
+heard-from n f = by (hear n (judge f)) refl (heard-good n (judge f))
   where
-    by : (h : Heard) → heard n (judge f) ≡ h → HeardGood (judge f) h → HeardFrom n (goodOf (judge f) ++ []) h
+    by : (h : Heard) → hear n (judge f) ≡ h → HeardGood (judge f) h → HeardFrom n (goodOf (judge f) ++ []) h
     by ground e g = tt
     by other e g = tt
     by (answer m) e g = (rw g at e, rw g)
@@ -58,25 +58,25 @@ heard-from n f = by (heard n (judge f)) refl (heard-good n (judge f))
 -- ---- one byte
 
 -- the 00 behind the bytes p
-closes-came : (s : State) (p : List ℕ) → let r = Requester.closes (tailOf p) (withReceived s (some [])) in
+closes-came : (s : MainState) (p : List ℕ) → let r = Requester.mainClosed (progressOf p) (mainWithReceived s (some [])) in
     (r .state .received ≡ some []) × Came s (goodMessages (nonEmpty (p ∷ []))) r
 unfolding nonEmpty
 closes-came s [] = rw (tail-within [] (omega arith)) (refl, quiet (some []) refl)
 closes-came s (b ∷ bs) = by (ltb longest-form (length (b ∷ bs))) refl
   where
-    by : (over : Bool) → ltb longest-form (length (b ∷ bs)) ≡ over → let r = Requester.closes (tailOf (b ∷ bs)) (withReceived s (some [])) in
+    by : (over : Bool) → ltb longest-form (length (b ∷ bs)) ≡ over → let r = Requester.mainClosed (progressOf (b ∷ bs)) (mainWithReceived s (some [])) in
         (r .state .received ≡ some []) × Came s (goodMessages ((b ∷ bs) ∷ [])) r
     by true k = rw (tail-over (b ∷ bs) (ltb-true _ _ k)) (refl, quiet (some []) refl)
     by false k =
-        let h = heard (s .newest) (judge (b ∷ bs)) in
+        let h = hear (s .newest) (judge (b ∷ bs)) in
         rw (tail-within (b ∷ bs) (ltb-false _ _ k)) (hears-progress s (some []) h, hearing (some []) h refl (heard-from (s .newest) (b ∷ bs)))
 
-module _ (s : State) (p : List ℕ) (z : Each (λ b. 1 ≤ b) p) (e : s .received ≡ tailOf p) where
-  closes-byte : Requester.byte s 0 ≡ Requester.closes (tailOf p) (withReceived s (some []))
-  unfolding Requester.byte
-  closes-byte = ap (λ (x : Option (List ℕ)). Requester.closes x (withReceived s (some []))) e
+module _ (s : MainState) (p : List ℕ) (z : Each (λ b. 1 ≤ b) p) (e : s .received ≡ progressOf p) where
+  closes-byte : Requester.mainByte s 0 ≡ Requester.mainClosed (progressOf p) (mainWithReceived s (some []))
+  unfolding Requester.mainByte
+  closes-byte = ap (λ (x : Option (List ℕ)). Requester.mainClosed x (mainWithReceived s (some []))) e
 
-  closes-reads : Reads s p (0 ∷ []) (Requester.byte s 0)
+  closes-reads : Reads s p (0 ∷ []) (Requester.mainByte s 0)
   unfolding split
   closes-reads =
       let c = closes-came s p in
@@ -97,14 +97,14 @@ module _ (s : State) (p : List ℕ) (z : Each (λ b. 1 ≤ b) p) (e : s .receive
             let g : leb longest-form (length p) ≡ true = rw (e, tail-within p (ltb-false _ _ k)) at f in
             omega (arith, ltb-false longest-form (length p) k, leb-true longest-form (length p) g)
 
-    fills-byte : Requester.byte s (suc b) ≡ hears ground (withReceived s none)
-    unfolding Requester.byte
+    fills-byte : Requester.mainByte s (suc b) ≡ afterHeard ground (mainWithReceived s none)
+    unfolding Requester.mainByte
     fills-byte =
         rw eqb·suc-zero
-        (ap (λ (x : Option (List ℕ)). Requester.more x (suc b) s) (e ∙ tail-within p (omega (arith, full)))
+        (ap (λ (x : Option (List ℕ)). Requester.mainMore x (suc b) s) (e ∙ tail-within p (omega (arith, full)))
         ∙ rw (le-ltb (length p) longest-form (omega (arith, full))))
 
-    fills-reads : Reads s p (suc b ∷ []) (Requester.byte s (suc b))
+    fills-reads : Reads s p (suc b ∷ []) (Requester.mainByte s (suc b))
     fills-reads =
         let y = split-none (p ++ (suc b ∷ [])) (each-append (λ b. 1 ≤ b) p (suc b ∷ []) z (omega arith, tt)) in
         let long : length (p ++ (suc b ∷ [])) ≡ length p + 1 = simp length-append in
@@ -115,14 +115,14 @@ module _ (s : State) (p : List ℕ) (z : Each (λ b. 1 ≤ b) p) (e : s .receive
         })
 
   -- any other byte
-  grown-tail : (b : ℕ) → Requester.fills (s .received) ≡ false → grown (s .received) b ≡ tailOf (p ++ (b ∷ []))
+  grown-tail : (b : ℕ) → Requester.fills (s .received) ≡ false → grown (s .received) b ≡ progressOf (p ++ (b ∷ []))
   unfolding grown
   grown-tail b f = by (ltb longest-form (length p)) refl
     where
       long : length (p ++ (b ∷ [])) ≡ length p + 1
       long = simp length-append
 
-      by : (over : Bool) → ltb longest-form (length p) ≡ over → grown (s .received) b ≡ tailOf (p ++ (b ∷ []))
+      by : (over : Bool) → ltb longest-form (length p) ≡ over → grown (s .received) b ≡ progressOf (p ++ (b ∷ []))
       by true k =
           let h = ltb-true longest-form (length p) k in
           rw (e, tail-over p h, tail-over (p ++ (b ∷ [])) (omega (arith, long)))
@@ -133,18 +133,18 @@ module _ (s : State) (p : List ℕ) (z : Each (λ b. 1 ≤ b) p) (e : s .receive
 
 -- ---- a piece
 
-quiet-fills : (s : State) (b : ℕ) → Requester.stops s b ≡ false → Requester.fills (s .received) ≡ false
+quiet-fills : (s : MainState) (b : ℕ) → Requester.stops s b ≡ false → Requester.fills (s .received) ≡ false
 quiet-fills s b k = by (eqb b 0) (Requester.fills (s .received)) k
   where
     by : (a c : Bool) → (a || c) ≡ false → c ≡ false
     by true c k = absurd (false≢true (sym k))
     by false c k = k
 
-later : (s : State) (x : Option (List ℕ)) (ms : List Message) (r : Result) → Came (withReceived s x) ms r → Came s ms r
+later : (s : MainState) (x : Option (List ℕ)) (ms : List Message) (r : Result) → Came (mainWithReceived s x) ms r → Came s ms r
 later s x ms r (quiet y e) = quiet y e
 later s x ms r (hearing y h e f) = hearing y h e f
 
-reads-later : (s : State) (x : Option (List ℕ)) (p : List ℕ) (b : ℕ) (bs : List ℕ) (r : Result) → Reads (withReceived s x) (p ++ (b ∷ [])) bs r → Reads s p (b ∷ bs) r
+reads-later : (s : MainState) (x : Option (List ℕ)) (p : List ℕ) (b : ℕ) (bs : List ℕ) (r : Result) → Reads (mainWithReceived s x) (p ++ (b ∷ [])) bs r → Reads s p (b ∷ bs) r
 reads-later s x p b bs r h =
     let k = append-snoc p b bs in
     record { progress = rw k at (h .progress); came = later s x _ r (rw k at (h .came)) }
@@ -154,20 +154,20 @@ stops-or true b e f = absurd (false≢true (sym f))
 stops-or false b e f = e
 
 -- where the bytes p of a frame have come
-pub piece-reads : (piece : List ℕ) (s : State) (p : List ℕ) → Each (λ b. 1 ≤ b) p → s .received ≡ tailOf p
+pub piece-reads : (piece : List ℕ) (s : MainState) (p : List ℕ) → Each (λ b. 1 ≤ b) p → s .received ≡ progressOf p
     → let r = Requester.receive s piece in Reads s p (take (r .used) piece) (r .result)
 unfolding Requester.receive
 piece-reads [] s p z e = record { progress = rw (append-nil, split-none p z) e; came = quiet (s .received) refl }
-piece-reads (b ∷ bs) s p z e = by (Requester.stops s b) refl (λ h f. piece-reads bs (withReceived s (grown (s .received) b)) (p ++ (b ∷ [])) h f)
+piece-reads (b ∷ bs) s p z e = by (Requester.stops s b) refl (λ h f. piece-reads bs (mainWithReceived s (grown (s .received) b)) (p ++ (b ∷ [])) h f)
   where
     by : (t : Bool) → Requester.stops s b ≡ t
-        → (Each (λ b. 1 ≤ b) (p ++ (b ∷ [])) → grown (s .received) b ≡ tailOf (p ++ (b ∷ []))
-        → let r = Requester.receive (withReceived s (grown (s .received) b)) bs in Reads (withReceived s (grown (s .received) b)) (p ++ (b ∷ [])) (take (r .used) bs) (r .result))
-        → let r = cond t (Requester.received 1 (Requester.byte s b)) (let x = Requester.receive (Requester.byte s b .state) bs in Requester.received (suc (x .used)) (x .result)) in
+        → (Each (λ b. 1 ≤ b) (p ++ (b ∷ [])) → grown (s .received) b ≡ progressOf (p ++ (b ∷ []))
+        → let r = Requester.receive (mainWithReceived s (grown (s .received) b)) bs in Reads (mainWithReceived s (grown (s .received) b)) (p ++ (b ∷ [])) (take (r .used) bs) (r .result))
+        → let r = cond t (Requester.receiveResult 1 (Requester.mainByte s b)) (let x = Requester.receive (Requester.mainByte s b .state) bs in Requester.receiveResult (suc (x .used)) (x .result)) in
         Reads s p (take (r .used) (b ∷ bs)) (r .result)
     by true k i = at-stop b k
       where
-        at-stop : (c : ℕ) → Requester.stops s c ≡ true → Reads s p (c ∷ []) (Requester.byte s c)
+        at-stop : (c : ℕ) → Requester.stops s c ≡ true → Reads s p (c ∷ []) (Requester.mainByte s c)
         at-stop zero k = closes-reads s p z e
         at-stop (suc c) k = fills-reads s p z e c (stops-or (eqb (suc c) 0) (Requester.fills (s .received)) k (eqb·suc-zero c))
     by false k i =

@@ -13,12 +13,12 @@ use Rattle.octets.proofs.Conditions.{cond-by}
 use Rattle.line.specs.Limits.{longest-data}
 use Rattle.line.specs.Message.{InRange}
 use Rattle.requester.specs.Limits.{last-number}
-use Rattle.requester.specs.State.{Request, Step, fetch, acknowledge, alert, State, fresh, stepRequest, isSome, outstanding, outstandingOf, requestFrame}
+use Rattle.requester.specs.State.{Request, RecoveryStep, fetch, acknowledge, alert, MainState, mainFresh, stepRequest, isSome, outstanding, outstandingOf, requestFrame}
 use Rattle.requester.specs.Requester
 use Rattle.requester.specs.Requester.{staysOut}
 use Rattle.requester_claims.specs.Histories as Main
-use Rattle.requester_claims.specs.Histories.{Means, means, putMeans, doneMeans, meant, meantMade, enough}
-use Rattle.requester_claims.specs.Numbers.{Frame, framesBy}
+use Rattle.requester_claims.specs.Histories.{MainMeans, mainMeans, putMeans, mainDoneMeans, mainMeant, mainMeantMade, mainEnough, MainCall, MainMade}
+use Rattle.requester_claims.specs.Numbers.{Frame, framesPutOut}
 use Rattle.requester_claims.proofs.Numbers.{framesOf, frames-put, some-bytes}
 use Rattle.both_claims.specs.Ends.{MainTyped, asMessage}
 use Rattle.both_claims.proofs.laws.MainReads.{Came, quiet, hearing, Reads}
@@ -28,7 +28,7 @@ abbrev KeptRanged : Option Request → Type 0
 KeptRanged none = Unit {0}
 KeptRanged (some q) = RangedRequest q
 
-pub record Ranged (s : State) : Type 0 where
+pub record Ranged (s : MainState) : Type 0 where
   pub newest : s .newest ≤ last-number
   pub kept : KeptRanged (s .kept)
 
@@ -44,26 +44,26 @@ ranged-message n q h r = record {
   fits = r .fits;
 }
 
-step-ranged : (t : Step) → RangedRequest (stepRequest t)
+step-ranged : (t : RecoveryStep) → RangedRequest (stepRequest t)
 unfolding stepRequest
 step-ranged fetch = record { command = omega arith; bytes = tt; fits = omega arith }
 step-ranged acknowledge = record { command = omega arith; bytes = tt; fits = omega arith }
 step-ranged alert = record { command = omega arith; bytes = tt; fits = omega arith }
 
-outstanding-kept : (t : Option Step) (k : Option Request) → KeptRanged k → KeptRanged (outstandingOf t k)
+outstanding-kept : (t : Option RecoveryStep) (k : Option Request) → KeptRanged k → KeptRanged (outstandingOf t k)
 outstanding-kept none k h = h
 outstanding-kept (some t) k h = step-ranged t
 
-pub outstanding-ranged : (s : State) → Ranged s → (q : Request) → outstanding s ≡ some q → RangedRequest q
+pub outstanding-ranged : (s : MainState) → Ranged s → (q : Request) → outstanding s ≡ some q → RangedRequest q
 outstanding-ranged s r q e = rw e at (outstanding-kept (s .recovery) (s .kept) (r .kept))
 
-pub fresh-ranged : Ranged fresh
-unfolding fresh
+pub fresh-ranged : Ranged mainFresh
+unfolding mainFresh
 fresh-ranged = record { newest = omega arith; kept = tt }
 
 -- ---- what is heard
 
-moved-ranged : (x : Requester.Next) (s : State) → Ranged s → Ranged (Requester.movedTo x s .state)
+moved-ranged : (x : Requester.Next) (s : MainState) → Ranged s → Ranged (Requester.movedTo x s .state)
 unfolding Requester.movedTo
 moved-ranged Requester.same s r = r
 moved-ranged Requester.again s r = record { newest = r .newest; kept = r .kept }
@@ -72,26 +72,26 @@ moved-ranged (Requester.anew t) s r =
     (λ _. record { newest = r .newest; kept = tt }) (λ e. record { newest = omega (arith, leb-false last-number (s .newest) e); kept = r .kept })
 moved-ranged Requester.idle s r = record { newest = r .newest; kept = tt }
 
-came-ranged : {ms : List Rattle.line.specs.Message.Message} (s : State) (x : Requester.Result) → Ranged s → Came s ms x → Ranged (x .state)
+came-ranged : {ms : List Rattle.line.specs.Message.Message} (s : MainState) (x : Requester.Result) → Ranged s → Came s ms x → Ranged (x .state)
 came-ranged s x r (quiet bs e) = rw e (record { newest = r .newest; kept = r .kept })
-came-ranged s x r (hearing bs h e f) = rw e (moved-ranged _ (Requester.withReceived s bs) (record { newest = r .newest; kept = r .kept }))
+came-ranged s x r (hearing bs h e f) = rw e (moved-ranged _ (Requester.mainWithReceived s bs) (record { newest = r .newest; kept = r .kept }))
 
 -- ---- calls
 
-module _ (s : State) (r : Ranged s) where
-  abbrev MeansRanged : Means → Type 0
+module _ (s : MainState) (r : Ranged s) where
+  abbrev MeansRanged : MainMeans → Type 0
   MeansRanged x = Ranged (x .state) × Each RangedFrame (framesOf x)
 
-  abbrev PutRanged : List ℕ → Requester.Done → Type 0
+  abbrev PutRanged : List ℕ → Requester.MainDone → Type 0
   PutRanged room x = MeansRanged (putMeans (x .refusal) room (x .out) (x .state))
 
-  refused-ranged : (k : ℕ) (room : List ℕ) → MeansRanged (means (Main.refused k) room s)
-  unfolding framesBy
+  refused-ranged : (k : ℕ) (room : List ℕ) → MeansRanged (mainMeans (Main.refused k) room s)
+  unfolding framesPutOut
   refused-ranged k room = (r, tt)
 
   -- a frame of this request, and the state that is left
-  put-ranged : (n : ℕ) (q : Request) (room : List ℕ) (t : State) → t .newest ≡ n → n ≤ last-number → RangedRequest q → Ranged t
-      → MeansRanged (means (Main.put (length (requestFrame n q))) (Rattle.octets.specs.Bytes.overlay 0 (requestFrame n q) room) t)
+  put-ranged : (n : ℕ) (q : Request) (room : List ℕ) (t : MainState) → t .newest ≡ n → n ≤ last-number → RangedRequest q → Ranged t
+      → MeansRanged (mainMeans (Main.put (length (requestFrame n q))) (Rattle.octets.specs.Bytes.overlay 0 (requestFrame n q) room) t)
   put-ranged n q room t e h k rt =
       (rt, rw (e, frames-put n (requestFrame n q) room (some-bytes n q)) (record { request = q; bytes = refl; in-range = ranged-message n q h k }, tt))
 
@@ -111,15 +111,15 @@ module _ (s : State) (r : Ranged s) where
       let l : n ≤ last-number = omega (arith, leb-false last-number (s .newest) g) in
       put-ranged n q room _ refl l k (record { newest = l; kept = keep-ranged q k })))))
 
-  interrupt-ranged : (t : Option Step) → MeansRanged (doneMeans (Requester.interruptedIn t s .refusal) (Requester.interruptedIn t s .state))
-  unfolding framesBy
+  interrupt-ranged : (t : Option RecoveryStep) → MeansRanged (mainDoneMeans (Requester.interruptedIn t s .refusal) (Requester.interruptedIn t s .state))
+  unfolding framesPutOut
   interrupt-ranged (some t) = (r, tt)
   interrupt-ranged none =
-      cond-by (λ (x : Requester.Done). MeansRanged (doneMeans (x .refusal) (x .state))) (leb last-number (s .newest)) _ _
+      cond-by (λ (x : Requester.MainDone). MeansRanged (mainDoneMeans (x .refusal) (x .state))) (leb last-number (s .newest)) _ _
       (λ _. (r, tt)) (λ e. (record { newest = omega (arith, leb-false last-number (s .newest) e); kept = r .kept }, tt))
 
   send-ranged : (room : List ℕ) (q : Option Request) → outstanding s ≡ q → PutRanged room (Requester.sentOf (length room) q s)
-  unfolding framesBy
+  unfolding framesPutOut
   send-ranged room none e = (r, tt)
   send-ranged room (some q) e =
       cond-by (PutRanged room) (s .unsent) _ _
@@ -128,20 +128,20 @@ module _ (s : State) (r : Ranged s) where
       (λ _. (r, tt))
 
   -- a receive by what came of it
-  meant-ranged : (c : Main.Call) → MainTyped c
-      → ((piece : List ℕ) → Ranged (Requester.receive s piece .result .state)) → MeansRanged (meant s c)
-  unfolding meant Requester.interrupt Requester.send framesBy
+  meant-ranged : (c : MainCall) → MainTyped c
+      → ((piece : List ℕ) → Ranged (Requester.receive s piece .result .state)) → MeansRanged (mainMeant s c)
+  unfolding mainMeant Requester.interrupt Requester.send framesPutOut
   meant-ranged Main.start h i = (fresh-ranged, tt)
   meant-ranged (Main.request command d room) h i = request-ranged command d room (h .0) (h .1)
   meant-ranged Main.interrupt h i = interrupt-ranged (s .recovery)
   meant-ranged (Main.send room) h i = send-ranged room (outstanding s) refl
   meant-ranged (Main.receive piece) h i = (i piece, tt)
 
-  pub made-ranged : (m : Main.Made) → MainTyped (m .call) → ((piece : List ℕ) → Ranged (Requester.receive s piece .result .state))
-      → Ranged (meantMade s m .state) × Each RangedFrame (framesOf (meantMade s m))
-  unfolding meantMade
-  made-ranged m h i = cond-by MeansRanged (enough (m .call) (m .lent)) _ _ (λ _. meant-ranged (m .call) h i) (λ _. refused-ranged 12 _)
+  pub made-ranged : (m : MainMade) → MainTyped (m .call) → ((piece : List ℕ) → Ranged (Requester.receive s piece .result .state))
+      → Ranged (mainMeantMade s m .state) × Each RangedFrame (framesOf (mainMeantMade s m))
+  unfolding mainMeantMade
+  made-ranged m h i = cond-by MeansRanged (mainEnough (m .call) (m .lent)) _ _ (λ _. meant-ranged (m .call) h i) (λ _. refused-ranged 12 _)
 
 -- a receive where the bytes p of a frame have come
-pub reads-ranged : {p bs : List ℕ} (s : State) (x : Requester.Result) → Ranged s → Reads s p bs x → Ranged (x .state)
+pub reads-ranged : {p bs : List ℕ} (s : MainState) (x : Requester.Result) → Ranged s → Reads s p bs x → Ranged (x .state)
 reads-ranged s x r h = came-ranged s x r (h .came)

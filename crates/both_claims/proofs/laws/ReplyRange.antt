@@ -14,15 +14,15 @@ use Rattle.line.specs.Frame.{frame}
 use Rattle.supervisor.specs.Number.{topSet}
 use Rattle.supervisor.specs.State.{Retained, State}
 use Rattle.supervisor.specs.Calls.{Parts}
-use Rattle.requests.specs.Commands.{Command, commandOf}
-use Rattle.requests.specs.Requests
-use Rattle.requests.specs.Requests.{Carried, carried, carriedBy, effect, replyOf, replyFrame}
+use Rattle.responder.specs.Commands.{Command, commandOfNumber}
+use Rattle.responder.specs.Requests
+use Rattle.responder.specs.Requests.{Carried, carryOut, carryOutBy, effect, replyOf, replyFrame}
 use Rattle.supervisor_claims.specs.View.{view}
 use Rattle.supervisor_claims.specs.Sound.{Sound}
 use Rattle.supervisor_claims.proofs.calls.ReceivedClaim.{Requestable}
 use Rattle.supervisor_claims.proofs.calls.SendingClaim.{Sendable}
 use Rattle.supervisor_claims.proofs.calls.CommandClaims.{SendableReply, command-does}
-use Rattle.both_claims.specs.Ends.{messageOf, replyTo}
+use Rattle.both_claims.specs.Ends.{replyMessage, replyToRequest}
 use Rattle.both_claims.proofs.laws.Lists.{none-some}
 
 -- a reply has the request's version, or that of the retained reply
@@ -30,7 +30,7 @@ abbrev pub Versioned : State → Message → ℕ → Type 0
 Versioned s m version = (version ≡ m .version) ⊎ ((t : Retained) × (s .retained ≡ some t) × (version ≡ t .version))
 
 -- its command is a byte, and not that of a decode failure
-abbrev AnswerRange : State → Message → Option Requests.Answer → Type 0
+abbrev AnswerRange : State → Message → Option Requests.ReplyContent → Type 0
 AnswerRange s m none = Unit {0}
 AnswerRange s m (some r) = (r .command < 256) × (r .command ≡ 0x02 → ⊥) × Versioned s m (r .version)
 
@@ -59,19 +59,19 @@ module _ (image : List ℕ) (s : State) (m : Message) where
   effect-range Command.inventory = (omega arith, λ e. omega (arith, e), inl refl)
   effect-range Command.key-set = (omega arith, λ e. omega (arith, e), inl refl)
 
-  carried-range : AnswerRange s m (carried image s m .reply)
-  unfolding carried
-  carried-range = by (commandOf (m .command))
+  carried-range : AnswerRange s m (carryOut image s m .reply)
+  unfolding carryOut
+  carried-range = by (commandOfNumber (m .command))
     where
-      by : (o : Option Command) → AnswerRange s m (carriedBy o image s m .reply)
+      by : (o : Option Command) → AnswerRange s m (carryOutBy o image s m .reply)
       by none = tt
       by (some x) = effect-range x
 
-carried-sendable : (p : Parts) → Sound p → (image : List ℕ) → Each Byte image → (m : Message) → Requestable m → SendableReply (carried image (view p) m .reply)
-unfolding carried
-carried-sendable p s image i m q = by (commandOf (m .command))
+carried-sendable : (p : Parts) → Sound p → (image : List ℕ) → Each Byte image → (m : Message) → Requestable m → SendableReply (carryOut image (view p) m .reply)
+unfolding carryOut
+carried-sendable p s image i m q = by (commandOfNumber (m .command))
   where
-    by : (o : Option Command) → SendableReply (carriedBy o image (view p) m .reply)
+    by : (o : Option Command) → SendableReply (carryOutBy o image (view p) m .reply)
     by none = tt
     by (some x) = command-does p s image i m q x .payload
 
@@ -81,24 +81,24 @@ pub record ReplyOf (image : List ℕ) (s : State) (m r : Message) : Type 0 where
   pub sequence : r .sequence ≡ topSet (m .sequence)
   pub command : r .command < 256
   pub no-failure : r .command ≡ 0x02 → ⊥
-  pub framed : replyFrame (replyOf (m .sequence) (carried image s m .reply)) ≡ frame r
+  pub framed : replyFrame (replyOf (m .sequence) (carryOut image s m .reply)) ≡ frame r
 
-pub reply-of : (image : List ℕ) (s : State) (m r : Message) → replyTo image s m ≡ some r → ReplyOf image s m r
+pub reply-of : (image : List ℕ) (s : State) (m r : Message) → replyToRequest image s m ≡ some r → ReplyOf image s m r
 unfolding replyOf replyFrame
-reply-of image s m r e = by (carried image s m .reply) refl (carried-range image s m) e
+reply-of image s m r e = by (carryOut image s m .reply) refl (carried-range image s m) e
   where
-    by : (o : Option Requests.Answer) → carried image s m .reply ≡ o → AnswerRange s m o → messageOf (replyOf (m .sequence) o) ≡ some r → ReplyOf image s m r
+    by : (o : Option Requests.ReplyContent) → carryOut image s m .reply ≡ o → AnswerRange s m o → replyMessage (replyOf (m .sequence) o) ≡ some r → ReplyOf image s m r
     by none f t g = absurd (none-some g)
     by (some z) f t g =
         let y : record { version = z .version; sequence = topSet (m .sequence); command = z .command; payload = z .payload } ≡ r = cc in
         rw (← y) (record { version = t .2; sequence = refl; command = t .0; no-failure = t .1; framed = rw f })
 
 -- its data can be sent
-pub reply-sendable : (p : Parts) → Sound p → (image : List ℕ) → Each Byte image → (m : Message) → Requestable m → (r : Message) → replyTo image (view p) m ≡ some r
+pub reply-sendable : (p : Parts) → Sound p → (image : List ℕ) → Each Byte image → (m : Message) → Requestable m → (r : Message) → replyToRequest image (view p) m ≡ some r
     → Sendable (r .payload)
 unfolding replyOf
-reply-sendable p s image i m q r e = by (carried image (view p) m .reply) (carried-sendable p s image i m q) e
+reply-sendable p s image i m q r e = by (carryOut image (view p) m .reply) (carried-sendable p s image i m q) e
   where
-    by : (o : Option Requests.Answer) → SendableReply o → messageOf (replyOf (m .sequence) o) ≡ some r → Sendable (r .payload)
+    by : (o : Option Requests.ReplyContent) → SendableReply o → replyMessage (replyOf (m .sequence) o) ≡ some r → Sendable (r .payload)
     by none k g = absurd (none-some g)
     by (some z) k g = let y : z .payload ≡ r .payload = cc in rw (← y) k

@@ -12,20 +12,18 @@ use Rattle.octets.proofs.Conditions.{cond-by}
 use Rattle.octets.proofs.Each.{each-append, each-take}
 use Rattle.line.specs.Message.{Message, InRange}
 use Rattle.line.specs.Frame.{frame}
-use Rattle.line.specs.Judge.{Verdict, failure, good, judge}
+use Rattle.line.specs.Judge.{LineVerdict, failure, good, judge}
 use Rattle.line_claims.specs.Calls.{gathered, goodOf, goodMessages}
 use Rattle.line_claims.specs.Pieces.{NonZero}
 use Rattle.line_claims.proofs.JudgeClaim.{never}
-use Rattle.requester.specs.State as MainState
-use Rattle.requester.specs.Requester.{heard}
-use Rattle.requester_claims.specs.Histories.{enough}
+use Rattle.requester.specs.State.{MainState}
 use Rattle.requester_claims.specs.Numbers.{Frame}
 use Rattle.supervisor.specs.State.{State}
 use Rattle.supervisor_claims.specs.Histories as Supervisor
 use Rattle.supervisor_claims.specs.FrameHistory as Received
-use Rattle.supervisor_claims.specs.FrameHistory.{framed}
+use Rattle.supervisor_claims.specs.FrameHistory.{frameCarried}
 use Rattle.supervisor_claims.specs.LastSet.{Origin}
-use Rattle.both_claims.specs.Ends.{Wire, imageOf, originBy, handledBy, newestReply, stillPending, takenBy, drops, brought, supervisorLogged}
+use Rattle.both_claims.specs.Ends.{Wire, imageLent, originBy, handledBy, newestReply, stillPending, takenBy, drops, brought, supervisorLogged}
 use Rattle.both_claims.specs.Ends.{Any, Handled, Log, replyMade}
 use Rattle.both_claims.proofs.laws.Lists.{Front, none-some, any-left, any-right, each-right, each-then}
 use Rattle.both_claims.proofs.laws.GoodFrames.{frames-nonzero, good-range}
@@ -35,36 +33,36 @@ use Rattle.both_claims.proofs.laws.Kept.{PutOut, Known, MadeTo, Kept}
 -- ---- a call of the supervisor
 
 -- the bytes that it receives
-call-bytes : (c : Supervisor.Call) → Supervisor.Typed c → Each Byte (Received.reads c)
-unfolding Received.reads
+call-bytes : (c : Supervisor.Call) → Supervisor.Typed c → Each Byte (Received.pieceRead c)
+unfolding Received.pieceRead
 call-bytes (Supervisor.start d) t = tt
 call-bytes (Supervisor.receive image piece) t = t .1
 call-bytes (Supervisor.step image piece) t = each-take Byte (Supervisor.upTo piece) piece (t .1)
 call-bytes (Supervisor.local c) t = tt
 
-image-bytes : (c : Supervisor.Call) → Supervisor.Typed c → Each Byte (imageOf c)
+image-bytes : (c : Supervisor.Call) → Supervisor.Typed c → Each Byte (imageLent c)
 image-bytes (Supervisor.start d) t = tt
 image-bytes (Supervisor.receive image piece) t = t .0
 image-bytes (Supervisor.step image piece) t = t .0
 image-bytes (Supervisor.local c) t = tt
 
-made-bytes : (m : Supervisor.Made) → Supervisor.Typed (m .call) → Each Byte (Received.receivedBy m)
-unfolding Received.receivedBy
+made-bytes : (m : Supervisor.Made) → Supervisor.Typed (m .call) → Each Byte (Received.bytesReceivedBy m)
+unfolding Received.bytesReceivedBy
 made-bytes m t = cond-by (Each Byte) (Supervisor.enough (m .call) (m .lent)) _ _ (λ _. call-bytes (m .call) t) (λ _. tt)
 
-pub joined-bytes : (w : List ℕ) (m : Supervisor.Made) → Each Byte w → Supervisor.Typed (m .call) → Each Byte (Received.joined w m)
-unfolding Received.joined
-joined-bytes w m h t = cond-by (Each Byte) (Received.startsAnew m) _ _ (λ _. tt) (λ _. each-append Byte w (Received.receivedBy m) h (made-bytes m t))
+pub joined-bytes : (w : List ℕ) (m : Supervisor.Made) → Each Byte w → Supervisor.Typed (m .call) → Each Byte (Received.receivedSince w m)
+unfolding Received.receivedSince
+joined-bytes w m h t = cond-by (Each Byte) (Received.startsAnew m) _ _ (λ _. tt) (λ _. each-append Byte w (Received.bytesReceivedBy m) h (made-bytes m t))
 
 -- the first of frames, and the others
 pub good-first : (P : Message → Type 0) (f : List ℕ) (ms : List Message) → Each P (goodOf (judge f) ++ ms) → ((m : Message) → judge f ≡ good m → P m) × Each P ms
 good-first P f ms h = by (judge f) h
   where
-    by : (v : Verdict) → Each P (goodOf v ++ ms) → ((m : Message) → v ≡ good m → P m) × Each P ms
+    by : (v : LineVerdict) → Each P (goodOf v ++ ms) → ((m : Message) → v ≡ good m → P m) × Each P ms
     by (failure reason sequence) h = (λ m e. never e, h)
     by (good k) h = (λ m e. let z : k ≡ m = cc in rw (← z) (h .0), h .1)
 
-module _ (s : MainState.State) (asked : List Frame) (put-out : Each (PutOut s) asked) (image : List ℕ) (each : Each Byte image) where
+module _ (s : MainState) (asked : List Frame) (put-out : Each (PutOut s) asked) (image : List ℕ) (each : Each Byte image) where
   handled-known : (fs : List (List ℕ)) (cleared : Bool) (x : State) (o : ℕ → Origin) (earlier : List (List ℕ)) → Held x → Each (Each NonZero) fs
       → Each (λ (m : Message). Any (λ (y : Frame). y .bytes ≡ frame m) asked) (goodMessages fs) → Each (Known s) (handledBy asked image cleared x o earlier fs)
   unfolding handledBy gathered
@@ -72,7 +70,7 @@ module _ (s : MainState.State) (asked : List Frame) (put-out : Each (PutOut s) a
   handled-known (f ∷ fs) cleared x o earlier held n h =
       let g = good-first _ f (goodMessages fs) h in (
         record { nonzero = n .0; asked = put-out; put-out = g .0; reply = reply-in-range image each x f (n .0) held },
-        handled-known fs (cleared || drops f) (framed image x f) (originBy o f) (earlier ++ (f ∷ [])) (held-frame image each x f (n .0) held) (n .1) (g .1),
+        handled-known fs (cleared || drops f) (frameCarried image x f) (originBy o f) (earlier ++ (f ∷ [])) (held-frame image each x f (n .0) held) (n .1) (g .1),
       )
 
 handled-front : (asked : List Frame) (image : List ℕ) (fs : List (List ℕ)) (cleared : Bool) (x : State) (o : ℕ → Origin) (earlier : List (List ℕ))
@@ -80,7 +78,7 @@ handled-front : (asked : List Frame) (image : List ℕ) (fs : List (List ℕ)) (
 unfolding handledBy
 handled-front asked image [] cleared x o earlier = tt
 handled-front asked image (f ∷ fs) cleared x o earlier =
-    (record { more = []; whole = append-nil asked }, handled-front asked image fs (cleared || drops f) (framed image x f) (originBy o f) (earlier ++ (f ∷ [])))
+    (record { more = []; whole = append-nil asked }, handled-front asked image fs (cleared || drops f) (frameCarried image x f) (originBy o f) (earlier ++ (f ∷ [])))
 
 -- the newest reply was made to one of the frames
 newest-made : (hs before : List Handled) (o : Option Message) → ((r : Message) → o ≡ some r → MadeTo before r)
@@ -90,7 +88,7 @@ newest-made (k ∷ hs) before o h r e =
     rw (← append-snoc before k hs)
     (newest-made hs (before ++ (k ∷ [])) (replyMade k) (λ q f. any-right _ before (k ∷ []) (inl f)) r e)
 
-module _ (s : MainState.State) (l : Log) (kept : Kept s l) (x : State) (held : Held x) (m : Supervisor.Made)
+module _ (s : MainState) (l : Log) (kept : Kept s l) (x : State) (held : Held x) (m : Supervisor.Made)
     (typed : Supervisor.Typed (m .call)) (waiting : List ℕ) where
   abbrev hs : List Handled
   hs = brought l x m
@@ -115,8 +113,8 @@ module _ (s : MainState.State) (l : Log) (kept : Kept s l) (x : State) (held : H
   unfolding supervisorLogged brought
   supervisor-kept w =
       let p = pending-made waiting newest reply-made in
-      let fs = Received.framesBy (l .received) (Received.receivedBy m) in
-      let nonzero = frames-nonzero (l .received) (Received.receivedBy m) (kept .bytes) (made-bytes m typed) in
+      let fs = Received.framesClosedBy (l .received) (Received.bytesReceivedBy m) in
+      let nonzero = frames-nonzero (l .received) (Received.bytesReceivedBy m) (kept .bytes) (made-bytes m typed) in
       record {
         progress = kept .progress;
         read = kept .read;
@@ -125,9 +123,9 @@ module _ (s : MainState.State) (l : Log) (kept : Kept s l) (x : State) (held : H
         asked = kept .asked;
         ordered = kept .ordered;
         heard = each-append InRange (l .heard) (goodMessages fs) (kept .heard) (good-range fs nonzero);
-        before = each-append _ (l .handled) _ (kept .before) (handled-front (l .asked) (imageOf (m .call)) fs (l .cleared) x _ _);
+        before = each-append _ (l .handled) _ (kept .before) (handled-front (l .asked) (imageLent (m .call)) fs (l .cleared) x _ _);
         handled = each-append (Known s) (l .handled) _ (kept .handled)
-            (handled-known s (l .asked) (kept .asked) (imageOf (m .call)) (image-bytes (m .call) typed) fs (l .cleared) x _ _ held nonzero
+            (handled-known s (l .asked) (kept .asked) (imageLent (m .call)) (image-bytes (m .call) typed) fs (l .cleared) x _ _ held nonzero
             (each-right _ (l .heard) (goodMessages fs) (w .to-supervisor)));
         pending = p .0;
         sent = each-append (MadeTo (l .handled ++ hs)) (l .sent) _

@@ -7,18 +7,18 @@ use mathlib.Core.Option.{Option}
 use Prim.Native.Nat.{ℕ}
 use native.Mathlib.Omega.{arith}
 use lib.ListN.{length, drop-of-length-le}
-use Rattle.line_claims.specs.Pieces.{split, nonEmpty, closedBy}
+use Rattle.line_claims.specs.Pieces.{split, nonEmpty, closedBehind}
 use Rattle.supervisor.specs.State.{Factory, State, fresh, withReceived}
 use Rattle.supervisor.specs.Local
 use Rattle.supervisor_claims.specs.View.{factoryOf}
 use Rattle.supervisor_claims.specs.Histories
 use Rattle.supervisor_claims.specs.Histories.{LocalCall, Call, Made, doneMeans, meant, enough}
-use Rattle.supervisor_claims.specs.FrameHistory.{reads, starts, receivedBy, startsAnew, framesBy, allFramed, carriedOut, carriedCall, carriedMade}
-use Rattle.both_claims.specs.Ends.{imageOf}
+use Rattle.supervisor_claims.specs.FrameHistory.{pieceRead, isAcceptedStart, bytesReceivedBy, startsAnew, framesClosedBy, framesCarried, carriedOut, carriedCall, carriedMade}
+use Rattle.both_claims.specs.Ends.{imageLent}
 
 -- no bytes bring no frames
-pub frames-none : (w : List ℕ) → framesBy w [] ≡ []
-unfolding framesBy closedBy nonEmpty
+pub frames-none : (w : List ℕ) → framesClosedBy w [] ≡ []
+unfolding framesClosedBy closedBehind nonEmpty
 frames-none w = rw (append-nil, drop-of-length-le (split w .closed) {i = length (split w .closed)} (omega arith))
 
 -- a local call leaves this field
@@ -31,14 +31,14 @@ LocallyKept g x (Histories.local c) = g (meant x (Histories.local c) .state) ≡
 -- a field that the receive progress leaves
 module _ {A : Type 0} (g : State → A) (progress : (s : State) (r : Option (List ℕ)) → g (withReceived s r) ≡ g s) (w : List ℕ) (x : State) where
   abbrev framed-so : Call → List ℕ → State
-  framed-so c bs = allFramed (imageOf c) x (framesBy w bs)
+  framed-so c bs = framesCarried (imageLent c) x (framesClosedBy w bs)
 
   nothing-brought : (c : Call) → g x ≡ g (framed-so c [])
-  unfolding allFramed
+  unfolding framesCarried
   nothing-brought c = rw (frames-none w)
 
-  call-field : (c : Call) → starts c ≡ false → LocallyKept g x c → g (carriedCall w x c .state) ≡ g (framed-so c (reads c))
-  unfolding carriedCall carriedOut reads starts meant Local.start
+  call-field : (c : Call) → isAcceptedStart c ≡ false → LocallyKept g x c → g (carriedCall w x c .state) ≡ g (framed-so c (pieceRead c))
+  unfolding carriedCall carriedOut pieceRead isAcceptedStart meant Local.start
   call-field (Histories.start d) e l = by (Local.badStart (factoryOf d)) e
     where
       by : (bad : Bool) → not bad ≡ false → g (doneMeans x (cond bad (Local.refused 11) (Local.left (fresh (factoryOf d)))) .state) ≡ g (framed-so (Histories.start d) [])
@@ -48,17 +48,17 @@ module _ {A : Type 0} (g : State → A) (progress : (s : State) (r : Option (Lis
   call-field (Histories.step image piece) e l = progress _ _
   call-field (Histories.local c) e l = l ∙ nothing-brought (Histories.local c)
 
-  pub made-kept : (m : Made) → startsAnew m ≡ false → LocallyKept g x (m .call) → g (carriedMade w x m .state) ≡ g (allFramed (imageOf (m .call)) x (framesBy w (receivedBy m)))
-  unfolding carriedMade startsAnew receivedBy
+  pub made-kept : (m : Made) → startsAnew m ≡ false → LocallyKept g x (m .call) → g (carriedMade w x m .state) ≡ g (framesCarried (imageLent (m .call)) x (framesClosedBy w (bytesReceivedBy m)))
+  unfolding carriedMade startsAnew bytesReceivedBy
   made-kept m e l = by (enough (m .call) (m .lent)) refl
     where
-      by : (t : Bool) → enough (m .call) (m .lent) ≡ t → g (carriedMade w x m .state) ≡ g (allFramed (imageOf (m .call)) x (framesBy w (receivedBy m)))
+      by : (t : Bool) → enough (m .call) (m .lent) ≡ t → g (carriedMade w x m .state) ≡ g (framesCarried (imageLent (m .call)) x (framesClosedBy w (bytesReceivedBy m)))
       by true f = rw f (call-field (m .call) (rw f at e) l)
       by false f = rw f (nothing-brought (m .call))
 
   -- and every local call
   pub made-field : ((s : State) (c : LocalCall) → g (meant s (Histories.local c) .state) ≡ g s) → (m : Made) → startsAnew m ≡ false
-      → g (carriedMade w x m .state) ≡ g (allFramed (imageOf (m .call)) x (framesBy w (receivedBy m)))
+      → g (carriedMade w x m .state) ≡ g (framesCarried (imageLent (m .call)) x (framesClosedBy w (bytesReceivedBy m)))
   made-field locally m e = made-kept m e (by (m .call))
     where
       by : (c : Call) → LocallyKept g x c
@@ -69,8 +69,8 @@ module _ {A : Type 0} (g : State → A) (progress : (s : State) (r : Option (Lis
 
 -- an accepted start
 module _ (w : List ℕ) (x : State) where
-  call-started : (c : Call) → starts c ≡ true → (f : Factory) × (carriedCall w x c .state ≡ fresh f)
-  unfolding carriedCall starts meant Local.start
+  call-started : (c : Call) → isAcceptedStart c ≡ true → (f : Factory) × (carriedCall w x c .state ≡ fresh f)
+  unfolding carriedCall isAcceptedStart meant Local.start
   call-started (Histories.start d) e = by (Local.badStart (factoryOf d)) e
     where
       by : (bad : Bool) → not bad ≡ true → (f : Factory) × (doneMeans x (cond bad (Local.refused 11) (Local.left (fresh (factoryOf d)))) .state ≡ fresh f)
@@ -82,4 +82,4 @@ module _ (w : List ℕ) (x : State) where
 
   pub made-started : (m : Made) → startsAnew m ≡ true → (f : Factory) × (carriedMade w x m .state ≡ fresh f)
   unfolding carriedMade startsAnew
-  made-started m e = let b = and-eq-true-iff (enough (m .call) (m .lent)) (starts (m .call)) .0 e in rw (b .0) (call-started (m .call) (b .1))
+  made-started m e = let b = and-eq-true-iff (enough (m .call) (m .lent)) (isAcceptedStart (m .call)) .0 e in rw (b .0) (call-started (m .call) (b .1))

@@ -13,7 +13,7 @@ use Rattle.octets.proofs.Conditions.{cond-by}
 use Rattle.octets.specs.Bytes.{number, bytes}
 use Rattle.line.specs.Message.{Message, InRange, body, message}
 use Rattle.line.specs.Cobs.{cobs}
-use Rattle.line.specs.Frame.{frame, Wire, over, sent}
+use Rattle.line.specs.Frame.{frame, WireBytes, over, sent}
 use Rattle.line.specs.Judge as Line
 use Rattle.line.specs.Judge.{judge, commandOf}
 use Rattle.line_claims.proofs.CobsClaims.{round-trip}
@@ -22,9 +22,9 @@ use Rattle.line_claims.specs.Pieces.{form}
 use Rattle.line_claims.proofs.WireClaim.{one-meaning}
 use Rattle.supervisor.specs.Number.{topSet}
 use Rattle.supervisor.specs.State.{State}
-use Rattle.requests.specs.Requests.{Verdict, failure, good, served, known, lengthAllowed, tested, testedWhere, verdict, failedOf}
+use Rattle.responder.specs.Requests.{Verdict, failure, good, versionServed, known, lengthAllowed, tested, testedWhere, verdict, failedOf}
 use Rattle.supervisor_claims.specs.Replies.{replyBy}
-use Rattle.both_claims.specs.Ends.{replyTo, messageOf}
+use Rattle.both_claims.specs.Ends.{replyToRequest, replyMessage}
 use Rattle.both_claims.proofs.laws.ReplyRange.{reply-of}
 use Rattle.both_claims.proofs.laws.Lists.{snoc-same}
 
@@ -40,8 +40,8 @@ frame-some m = rw length-append (omega arith)
 -- two messages in range with one frame
 pub frame-same : {m n : Message} → InRange m → InRange n → frame m ≡ frame n → m ≡ n
 frame-same {m} {n} r q e =
-    let a : Wire (m ∷ []) (frame m ++ []) = sent r over in
-    let b : Wire (n ∷ []) (frame m ++ []) = rw e (sent q over) in
+    let a : WireBytes (m ∷ []) (frame m ++ []) = sent r over in
+    let b : WireBytes (n ∷ []) (frame m ++ []) = rw e (sent q over) in
     let z = one-meaning _ _ _ a b in
     cc
 
@@ -60,7 +60,7 @@ never p = let z : _≡_ {A = ℕ} 0 1 = cc in absurd (omega arith)
 tested-same : (k m : Message) → tested k ≡ good m → (k ≡ m) × (k .sequence < 2 ^ 63)
 unfolding tested
 tested-same k m =
-    cond-by P (not (served (k .version))) _ _ (λ _ e. never e) (λ _.
+    cond-by P (not (versionServed (k .version))) _ _ (λ _ e. never e) (λ _.
     cond-by P (leb (2 ^ 63) (k .sequence)) _ _ (λ _ e. never e) (λ l.
     cond-by P (not (known (k .command))) _ _ (λ _ e. never e) (λ _.
     cond-by P (not (lengthAllowed (k .command) (length (k .payload)))) _ _ (λ _ e. never e) (λ _ e. (cc, leb-false _ _ l)))))
@@ -77,7 +77,7 @@ pub passes : (form : List ℕ) (m : Message) → verdict form ≡ good m → Pas
 unfolding verdict
 passes form m e = by (judge form) refl e
   where
-    by : (v : Line.Verdict) → judge form ≡ v → testedWhere v ≡ good m → Passed form m
+    by : (v : Line.LineVerdict) → judge form ≡ v → testedWhere v ≡ good m → Passed form m
     by (Line.failure reason sequence) j f = never f
     by (Line.good k) j f = let s = tested-same k m f in record { judged = rw (j, s .0); low = rw (s .0) at (s .1) }
 
@@ -91,10 +91,10 @@ table-passes m r v low k l = rw (judge-of-message m r, v, lt-leb (2 ^ 63) (m .se
 pub record Replied (image : List ℕ) (s : State) (v : Verdict) (r : Message) : Type 0 where
   pub request : Message
   pub passed : v ≡ good request
-  pub reply : replyTo image s request ≡ some r
+  pub reply : replyToRequest image s request ≡ some r
   pub sequence : r .sequence ≡ topSet (request .sequence)
 
-pub replied : (image : List ℕ) (s : State) (v : Verdict) (r : Message) → messageOf (replyBy image s v) ≡ some r → (r .command ≡ 0x02 → ⊥) → Replied image s v r
+pub replied : (image : List ℕ) (s : State) (v : Verdict) (r : Message) → replyMessage (replyBy image s v) ≡ some r → (r .command ≡ 0x02 → ⊥) → Replied image s v r
 unfolding replyBy failedOf
 replied image s (failure reason version sequence) r e h = absurd (h (cc))
 replied image s (good m) r e h = record { request = m; passed = refl; reply = e; sequence = reply-of image s m r e .sequence }

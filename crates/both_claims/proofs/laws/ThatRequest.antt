@@ -8,19 +8,17 @@ use Rattle.line.specs.Frame.{frame}
 use Rattle.line.specs.Judge as Line
 use Rattle.line.specs.Judge.{judge}
 use Rattle.line_claims.proofs.SpellingClaim.{good-form, good-frame}
-use Rattle.requester.specs.State as MainState
-use Rattle.requester.specs.State.{Request, outstanding, requestFrame}
+use Rattle.requester.specs.State.{Request, outstanding, requestFrame, MainState}
 use Rattle.requester_claims.specs.Answers.{Matching}
 use Rattle.requester_claims.specs.Numbers.{Frame}
-use Rattle.supervisor.specs.State.{State}
-use Rattle.requests.specs.Requests.{good, verdict}
-use Rattle.both_claims.specs.Ends.{replyTo, Any, Handled, replyMade, CarriedOut, asMessage}
+use Rattle.responder.specs.Requests.{good, verdict}
+use Rattle.both_claims.specs.Ends.{replyToRequest, Any, Handled, replyMade, CarriedOut, asMessage}
 use Rattle.both_claims.proofs.laws.Lists.{any-so, any-then, each-any}
 use Rattle.both_claims.proofs.laws.Ranges.{Ranged, outstanding-ranged, ranged-message}
 use Rattle.both_claims.proofs.laws.Table.{frame-same, command-same, passes, replied, number-back}
 use Rattle.both_claims.proofs.laws.Kept.{PutOut, Known}
 
-module _ (s : MainState.State) (ranged : Ranged s) (q : Request) (waiting : outstanding s ≡ some q) where
+module _ (s : MainState) (ranged : Ranged s) (q : Request) (waiting : outstanding s ≡ some q) where
   -- the frame of a message in range that was put out under the newest number is that of the request outstanding
   same-request : (m : Message) → InRange m → m .sequence ≡ s .newest → (x : Frame) → PutOut s x → x .bytes ≡ frame m
       → (x .number ≡ s .newest) × (m ≡ asMessage (s .newest) q)
@@ -37,7 +35,7 @@ module _ (s : MainState.State) (ranged : Ranged s) (q : Request) (waiting : outs
 
   -- a reply to the message m, which was put out
   carried-as : (r : Message) (h : Handled) → Known s h → (m : Message) → verdict (h .form) ≡ good m → judge (h .form) ≡ Line.good m
-      → replyTo (h .image) (h .state) m ≡ some r → Any (ThatFrame m) (h .asked) → CarriedOut (s .newest) q r h
+      → replyToRequest (h .image) (h .state) m ≡ some r → Any (ThatFrame m) (h .asked) → CarriedOut (s .newest) q r h
   unfolding requestFrame
   carried-as r h k m v j e a =
       let f : m ≡ asMessage (s .newest) q = any-so (ThatFrame m) (λ x y. y .2) (h .asked) a in
@@ -51,7 +49,7 @@ module _ (s : MainState.State) (ranged : Ranged s) (q : Request) (waiting : outs
   -- a message under the newest number that passes the whole table
   module _ (r : Message) (h : Handled) (k : Known s h) where
     pub answered : (m : Message) → verdict (h .form) ≡ good m → m .sequence ≡ s .newest
-        → replyTo (h .image) (h .state) m ≡ some r → CarriedOut (s .newest) q r h
+        → replyToRequest (h .image) (h .state) m ≡ some r → CarriedOut (s .newest) q r h
     answered m v n e =
         let p = passes (h .form) m v in
         let i = good-form (h .form) m (k .nonzero) (p .judged) .1 in

@@ -1,19 +1,19 @@
 -- `counters::are_refused` meets its contract.
 -- Assumes nothing.
 use borrow.Author.Needs.{needs}
-use Rattle.requests.specs.Receive.{receiptReport}
+use Rattle.responder.specs.Receive.{receiveReport}
 use Rattle.counters.proofs.CountLaws.{tested-parts}
 use Rattle.counters.proofs.are_refused.Statement.{statement}
 use Rattle.counters.proofs.are_refused.Tie as tie
 
 returns : tie.Need-returns
-unfolding receiptReport
+unfolding receiveReport
 returns c =
     let at-receive = c .before .before .before .before .before .before .before .before .before .before in
     rw (c .enum-told .given .1) at (tested-parts _ _ (at-receive .receive .ensures))
 
 returns-2 : tie.Need-returns-2
-unfolding receiptReport
+unfolding receiveReport
 returns-2 c =
     let at-receive = c .before .before .before .before .before .before .before .before .before .before in
     rw (c .enum-told2 .given .1) at (tested-parts _ _ (at-receive .receive .ensures))

@@ -37,12 +37,12 @@ use denote.Triple.Table.{entered, cited}
 use denote.Triple.Walked.{says, Stays, stay-ref, stay-none, walkOf, AllGo, goes-none, goes-ref, Walks, ends-at, walked, walk-meets}
 use denote.Triple.Clauses.{ensured, lasts}
 use denote.Exit.{yes}
-use Rattle.requests.specs.Receive.{endedReport}
-use Rattle.requests.specs.declared.outcome.Outcome.{Outcome}
+use Rattle.responder.specs.Receive.{stepReport}
+use Rattle.responder.specs.declared.outcome.Outcome.{Outcome}
 use Rattle.counters.specs.Count.{bumpedFor}
 use Rattle.counters.specs.declared.Counters.{Counters}
-use Rattle.requests.proofs.outcome.Outcome as E
-use Rattle.requests.proofs.outcome.Outcome.Laws as E′
+use Rattle.responder.proofs.outcome.Outcome as E
+use Rattle.responder.proofs.outcome.Outcome.Laws as E′
 use Rattle.counters.proofs.Counters as T
 use Rattle.counters.proofs.Counters.Laws as T′
 use Rattle.counters.proofs.bumped as g
@@ -70,8 +70,8 @@ module _ {M : Type 1} (𝓤 : URA M) (H : Heap 𝓤) (A : Atoms 𝓤) (at-mem : 
   abbrev Callee : Contract 𝓤
   Callee = tripleOf 𝓤 H A g.signature (g.spec 𝓤 H A at-mem run)
 
-  got-of : (h : Counters) (d : Outcome) (r : Counters) → ent 𝓤 (ensured 𝓤 H A g.ended (g.clauses 𝓤 H A at-mem run) tt (h, (d, tt)) tt r) (fact 𝓤 (r ≡ bumpedFor h (endedReport d)))
-  got-of h d r = exE 𝓤 _ (λ ws. snd∗ 𝓤 (sem 𝓤 H A (lasts g.ended tt (h, (d, tt)) ws)) (fact 𝓤 (r ≡ bumpedFor h (endedReport d))))
+  got-of : (h : Counters) (d : Outcome) (r : Counters) → ent 𝓤 (ensured 𝓤 H A g.ended (g.clauses 𝓤 H A at-mem run) tt (h, (d, tt)) tt r) (fact 𝓤 (r ≡ bumpedFor h (stepReport d)))
+  got-of h d r = exE 𝓤 _ (λ ws. snd∗ 𝓤 (sem 𝓤 H A (lasts g.ended tt (h, (d, tt)) ws)) (fact 𝓤 (r ≡ bumpedFor h (stepReport d))))
 
 module _ {M : Type 1} (𝓤 : URA M) (H : Heap 𝓤) (A : Atoms 𝓤) (W : Given 𝓤 H A) (at-mem : Memory → SProp 𝓤) (run : Routine → Fun 𝓤) (κ : Lft) (q : Share) (b o : ℕ) (γ : GName) (h : Counters) (d : Outcome) where
   abbrev x : Arg
@@ -83,7 +83,7 @@ module _ {M : Type 1} (𝓤 : URA M) (H : Heap 𝓤) (A : Atoms 𝓤) (W : Given
   abbrev Post : Val → SProp 𝓤
   Post = walkOf 𝓤 H A f.ended stayed (f.clauses 𝓤 H A at-mem run) .post (((κ, tt), (q, tt), tt, x, at), tt)
 
-  exits : (r : Counters) → r ≡ bumpedFor h (endedReport d) → Is E.the-row d (way d ∷ []) → ent 𝓤 (sep 𝓤 (A .obs γ (T.the-row .coded .code r)) (sep 𝓤 (A .bor κ (Body (mem T.the-row) b o γ)) (A .lft κ q))) (Post vunit)
+  exits : (r : Counters) → r ≡ bumpedFor h (stepReport d) → Is E.the-row d (way d ∷ []) → ent 𝓤 (sep 𝓤 (A .obs γ (T.the-row .coded .code r)) (sep 𝓤 (A .bor κ (Body (mem T.the-row) b o γ)) (A .lft κ q))) (Post vunit)
   exits r e known =
       qed W (‵ (fobs γ (T.the-row .coded .code r)) ∷ ‵ (fbor κ (Body (mem T.the-row) b o γ)) ∷ ‵ (flft κ q) ∷ []) ∵
       suffices ! _ (ends-at 𝓤 H A f.ended stayed (f.clauses 𝓤 H A at-mem run) W (((κ, tt), (q, tt), tt, x, at), tt) vunit tt (r, (tt, tt)) (tt, (tt, tt))) $ says ! e $ nothing ! $ move ! (3 ∷ 0 ∷ []) $ join ! $
@@ -113,7 +113,7 @@ module _ {M : Type 1} (𝓤 : URA M) (H : Heap 𝓤) (A : Atoms 𝓤) (W : Given
         use2 W (raw (Callee 𝓤 H A at-mem run .pre to)) goes-in $
         calls-at ! fm (Callee 𝓤 H A at-mem run) known to (and-then ! (load ! (from ! (stop !)) (look ! 6 refl)) (and-then ! (load ! (from ! (stop !)) (look ! 10 refl)) (no-more !))) (λ v.
         use1 W (later (some (λ (r : Counters). (‵ ftrue ⊛ ‵ (T.the-row .own r (v ∷ []))) ⊛ raw (ensured 𝓤 H A g.ended (g.clauses 𝓤 H A at-mem run) tt (h, (d, tt)) tt r)))) (id⊢ 𝓤 _) $ await ! tt $ pick ! (λ r.
-        split ! $ move ! (1 ∷ []) $ use1 W (raw (fact 𝓤 (r ≡ bumpedFor h (endedReport d)))) (got-of 𝓤 H A at-mem run h d r) $ heard ! (r ≡ bumpedFor h (endedReport d)) (λ e. split ! $ drop ! $
+        split ! $ move ! (1 ∷ []) $ use1 W (raw (fact 𝓤 (r ≡ bumpedFor h (stepReport d)))) (got-of 𝓤 H A at-mem run h d r) $ heard ! (r ≡ bumpedFor h (stepReport d)) (λ e. split ! $ drop ! $
         peeks ! T.the-row (Is T.the-row) (shows 𝓤 H A T.the-row) r (v ∷ []) (λ is.
         -- [what the result owns; the block's cell; what it owned; the open borrow; obs; auth; _4; …; room for _3; …; _2; …; _1; …; room for _0; …]
         land ! (from ! (stop !)) (init ! 8 refl (LL.lawful T.the-type T′.the-laws 𝓤 H A W .typed r _ is .0)) $

@@ -1,25 +1,25 @@
 -- `counters::bumped` meets its contract: by the outcome.
 -- Assumes nothing.
 use borrow.Author.Needs.{needs}
-use Rattle.requests.specs.Receive.{endedReport}
+use Rattle.responder.specs.Receive.{stepReport}
 use Rattle.counters.specs.Count.{bumpedFor}
 use Rattle.counters.proofs.bumped.Statement.{statement}
 use Rattle.counters.proofs.bumped.Tie as tie
 
 returns : tie.Need-returns
-unfolding bumpedFor endedReport
+unfolding bumpedFor stepReport
 returns c = rw (c .enum-told .given .1)
 
 returns-2 : tie.Need-returns-2
-unfolding bumpedFor endedReport
+unfolding bumpedFor stepReport
 returns-2 c = rw (c .enum-told2 .given .1)
 
 returns-3 : tie.Need-returns-3
-unfolding bumpedFor endedReport
+unfolding bumpedFor stepReport
 returns-3 c = rw (c .before .enum-told3 .given .1, c .one-more .ensures)
 
 returns-4 : tie.Need-returns-4
-unfolding bumpedFor endedReport
+unfolding bumpedFor stepReport
 returns-4 c = rw (c .before .enum-told4 .given .1, c .one-more2 .ensures)
 
 returns-5 : tie.Need-returns-5

@@ -43,7 +43,7 @@ use denote.Triple.Walked.{says, Stays, stay-ref, stay-none-slice, gave-slice, wa
 use denote.Triple.Clauses.{ensured, lasts}
 use denote.Exit.{yes}
 use Rattle.supervisor.specs.Calls.{Parts, parts}
-use Rattle.requests.specs.Receive.{receiptOf, receiving}
+use Rattle.responder.specs.Receive.{receiveOutcome, receivePromise}
 use Rattle.counters.specs.Counting.{counting}
 use Rattle.counters.specs.declared.Counters.{Counters}
 use Rattle.counters.specs.declared.Tallied.{Tallied}
@@ -52,8 +52,8 @@ use Rattle.counters.proofs.Counters.Laws as T′
 use Rattle.counters.proofs.Tallied as R
 use Rattle.counters.proofs.Tallied.Laws as R′
 use denote.Enum.Laws as EL
-use Rattle.requests.proofs.receive.Received as E
-use Rattle.requests.proofs.receive.Received.Laws as E′
+use Rattle.responder.proofs.receive.Received as E
+use Rattle.responder.proofs.receive.Received.Laws as E′
 use Rattle.counters.proofs.receive_tallied as g
 use Rattle.counters.proofs.receive_tallied.Symbol as g-def
 use Rattle.counters.proofs.receive_tallied.Symbol.{name as #counters·receive-tallied}
@@ -152,7 +152,7 @@ module _ {M : Type 1} (𝓤 : URA M) (H : Heap 𝓤) (A : Atoms 𝓤) (W : Given
 
   -- what the callee ensures of its result and its last lists
   abbrev Ensured : Tallied → List ℕ → List ℕ → List ℕ → List ℕ → Type 0
-  Ensured r reader′ outbox′ settings′ registers′ = (receiptOf (r .answer) (parts reader′ outbox′ (factory .now) settings′ registers′) ≡ receiving (image .now) at-entry (piece .now)) × ((r .counters) ≡ counting h at-entry (piece .now))
+  Ensured r reader′ outbox′ settings′ registers′ = (receiveOutcome (r .answer) (parts reader′ outbox′ (factory .now) settings′ registers′) ≡ receivePromise (image .now) at-entry (piece .now)) × ((r .counters) ≡ counting h at-entry (piece .now))
 
   -- what is had where the walk ends
   abbrev Left : Tallied → List ℕ → List ℕ → List ℕ → List ℕ → List (Item 𝓤)

@@ -41,20 +41,20 @@ use denote.Triple.Walked.{says, Stays, gave-ref, stay-none-slice, gave-slice, wa
 use denote.Triple.Clauses.{ensured, lasts}
 use denote.Exit.{yes}
 use Rattle.supervisor.specs.Calls.{Parts, parts}
-use Rattle.requests.specs.Receive.{endedReport, stepOf, stepping}
+use Rattle.responder.specs.Receive.{stepReport, stepOutcome, stepPromise}
 use Rattle.counters.specs.Count.{bumpedFor}
 use Rattle.counters.specs.declared.Counters.{Counters}
-use Rattle.requests.specs.declared.outcome.Outcome.{Outcome}
-use Rattle.requests.specs.declared.receive.Stepped.{Stepped}
+use Rattle.responder.specs.declared.outcome.Outcome.{Outcome}
+use Rattle.responder.specs.declared.receive.Stepped.{Stepped}
 use Rattle.counters.proofs.Counters as T
-use Rattle.requests.proofs.receive.Stepped as R
-use Rattle.requests.proofs.receive.Stepped.Laws as R′
-use Rattle.requests.proofs.outcome.Outcome as E
-use Rattle.requests.proofs.outcome.Outcome.Laws as E′
-use Rattle.requests.proofs.receive.step as g
-use Rattle.requests.proofs.receive.step.Symbol as g-def
-use Rattle.requests.proofs.receive.step.Symbol.{name as #requests·receive·step}
-use Rattle.requests.proofs.receive.step.Met as g-thm
+use Rattle.responder.proofs.receive.Stepped as R
+use Rattle.responder.proofs.receive.Stepped.Laws as R′
+use Rattle.responder.proofs.outcome.Outcome as E
+use Rattle.responder.proofs.outcome.Outcome.Laws as E′
+use Rattle.responder.proofs.receive.step as g
+use Rattle.responder.proofs.receive.step.Symbol as g-def
+use Rattle.responder.proofs.receive.step.Symbol.{name as #responder·receive·step}
+use Rattle.responder.proofs.receive.step.Met as g-thm
 use Rattle.counters.proofs.bump as bm
 use Rattle.counters.proofs.bump.Symbol as bm-def
 use Rattle.counters.proofs.bump.Symbol.{name as #counters·bump}
@@ -163,7 +163,7 @@ module _ {M : Type 1} (𝓤 : URA M) (H : Heap 𝓤) (A : Atoms 𝓤) (W : Given
 
   -- what the callee ensures of its result and its last lists
   abbrev Ensured : Stepped → List ℕ → List ℕ → List ℕ → List ℕ → Type 0
-  Ensured r reader′ outbox′ settings′ registers′ = stepOf r (parts reader′ outbox′ (factory .now) settings′ registers′) ≡ stepping (image .now) at-entry (piece .now)
+  Ensured r reader′ outbox′ settings′ registers′ = stepOutcome r (parts reader′ outbox′ (factory .now) settings′ registers′) ≡ stepPromise (image .now) at-entry (piece .now)
 
   -- what is had where the walk ends
   abbrev Left : Counters → List ℕ → List ℕ → List ℕ → List ℕ → List (Item 𝓤)
@@ -172,7 +172,7 @@ module _ {M : Type 1} (𝓤 : URA M) (H : Heap 𝓤) (A : Atoms 𝓤) (W : Given
       ∷ ‵ (finally u8 (outbox .name) outbox′) ∷ ‵ (finally u8 (settings .name) settings′) ∷ ‵ (finally u8 (registers .name) registers′)
       ∷ ‵ (Own-image) ∷ ‵ (Own-piece) ∷ ‵ (Own-factory) ∷ []
 
-  exits : (r : Stepped) → Is R.the-row r (res r ∷ []) → (z : Counters) (reader′ outbox′ settings′ registers′ : List ℕ) → Ensured r reader′ outbox′ settings′ registers′ → z ≡ bumpedFor h (endedReport (r .outcome)) → length reader′ ≡ length (reader .now) → length outbox′ ≡ length (outbox .now) → length settings′ ≡ length (settings .now) → length registers′ ≡ length (registers .now)
+  exits : (r : Stepped) → Is R.the-row r (res r ∷ []) → (z : Counters) (reader′ outbox′ settings′ registers′ : List ℕ) → Ensured r reader′ outbox′ settings′ registers′ → z ≡ bumpedFor h (stepReport (r .outcome)) → length reader′ ≡ length (reader .now) → length outbox′ ≡ length (outbox .now) → length settings′ ≡ length (settings .now) → length registers′ ≡ length (registers .now)
       → ent 𝓤 (⋆ 𝓤 H A (Left z reader′ outbox′ settings′ registers′)) (Post (res r))
   exits r is z reader′ outbox′ settings′ registers′ e₁ e₂ len-reader len-outbox len-settings len-registers =
       qed W (Left z reader′ outbox′ settings′ registers′) ∵
@@ -198,7 +198,7 @@ module _ {M : Type 1} (𝓤 : URA M) (H : Heap 𝓤) (A : Atoms 𝓤) (W : Given
   goes-bump : (d : Outcome) → ent 𝓤 (⋆ 𝓤 H A (‵ (flft κ-block q-block) ∷ ‵ (Passed-bump d) ∷ [])) (Bump 𝓤 H A at-mem run .pre (to-bump d))
   goes-bump d = qed W (‵ (flft κ-block q-block) ∷ ‵ (Passed-bump d) ∷ []) ∵ nothing ! $ move ! (1 ∷ 0 ∷ []) $ join ! $ join ! $ frame ! $ done !
 
-  module _ (C : Calls 𝓤 H) (Λ : Loops 𝓤 H) (fm : FmC 𝓤 H (W .laws) C) (known-step : Triple 𝓤 (C #requests·receive·step) (Step 𝓤 H A at-mem run)) (known-bump : Triple 𝓤 (C #counters·bump) (Bump 𝓤 H A at-mem run)) where
+  module _ (C : Calls 𝓤 H) (Λ : Loops 𝓤 H) (fm : FmC 𝓤 H (W .laws) C) (known-step : Triple 𝓤 (C #responder·receive·step) (Step 𝓤 H A at-mem run)) (known-bump : Triple 𝓤 (C #counters·bump) (Bump 𝓤 H A at-mem run)) where
     walk : ent 𝓤 (onEntry 𝓤 H A f.signature κs qs a vals) (WpFn 𝓤 H C Λ code.function machine Post)
     walk =
         qed W ((‵ (flft κ-block q-block) ⊛ Tokens) ∷ ‵ (owns Params a vals) ∷ []) ∵ split ! $ move ! (2 ∷ []) $ fsplit ! $ move ! (1 ∷ []) $ fsplit ! $ use1 W (‵ (Own-image) ⊛ ‵ (Own-image)) (shr-slice-copy 𝓤 H A W (named 1) κ-image u8 .twice image (slice-val image ∷ [])) $ split ! $ move ! (2 ∷ []) $ fsplit ! $ use1 W (‵ (Own-piece) ⊛ ‵ (Own-piece)) (shr-slice-copy 𝓤 H A W (named 2) κ-piece u8 .twice piece (slice-val piece ∷ [])) $ split ! $ move ! (2 ∷ []) $ fsplit ! $ move ! (1 ∷ []) $ fsplit ! $ move ! (1 ∷ []) $ fsplit ! $ use1 W (‵ (Own-factory) ⊛ ‵ (Own-factory)) (shr-slice-copy 𝓤 H A W (named 5) κ-factory u8 .twice factory (slice-val factory ∷ [])) $ split ! $ move ! (2 ∷ []) $ fsplit ! $ move ! (1 ∷ []) $ fsplit ! $
@@ -213,13 +213,13 @@ module _ {M : Type 1} (𝓤 : URA M) (H : Heap 𝓤) (A : Atoms 𝓤) (W : Given
         split ! $ move ! (1 ∷ []) $ use1 W (some (λ (zs : Last). ‵ (lasts g.ended κs-in a-in zs) ⊛ raw (fact 𝓤 (Ensured r (last-reader zs) (last-outbox zs) (last-settings zs) (last-registers zs))))) (id⊢ 𝓤 _) $ pick ! (λ zs. split ! $ move ! (1 ∷ []) $ heard ! (Ensured r (last-reader zs) (last-outbox zs) (last-settings zs) (last-registers zs)) (λ e₁. move ! (0 ∷ []) $ fsplit ! $ drop ! $ move ! (0 ∷ []) $ fsplit ! $ drop ! $ move ! (0 ∷ []) $ fsplit ! $ fsplit ! $ move ! (1 ∷ []) $ feqL ! (λ len-reader. move ! (1 ∷ []) $ fsplit ! $ fsplit ! $ move ! (1 ∷ []) $ feqL ! (λ len-outbox. move ! (1 ∷ []) $ fsplit ! $ drop ! $ move ! (0 ∷ []) $ fsplit ! $ fsplit ! $ move ! (1 ∷ []) $ feqL ! (λ len-settings. move ! (1 ∷ []) $ fsplit ! $ fsplit ! $ move ! (1 ∷ []) $ feqL ! (λ len-registers. move ! (1 ∷ []) $ drop ! $ move ! (4 ∷ []) $ split ! $ move ! (1 ∷ []) $ peeks ! R.the-row (Is R.the-row) (shows 𝓤 H A R.the-row) r (v ∷ []) (λ is. land ! (from ! (stop !)) (init ! 26 refl (LL.lawful R.the-type R′.the-laws 𝓤 H A W .typed r _ is .0)) $ drop ! $ rewrite ! 25 (λ (x : Val). ‵ (fat fullShare R′.mir l9 0 x)) (ap only (LL.tells R.the-type R′.the-laws r (v ∷ []) is)) refl $
         -- `bump`: the block goes to it for good, at its own lifetime, share and name
         assigns ! (addr ! (from ! (hop ! (look ! 41 refl) (stop !)))) (from ! (stop !)) (init ! 5 refl (tt, tt)) $ nothing ! $ owned ! E.the-row (Is E.the-row) ((EL.makes E.the-type E′.the-plain) 𝓤 H A) (r .outcome) _ (is-outcome r v is) $ fjoin ! $ move ! (49 ∷ 0 ∷ []) $ fjoin ! $ move ! (49 ∷ 0 ∷ []) $ use2 W (raw (Bump 𝓤 H A at-mem run .pre (to-bump (r .outcome)))) (goes-bump (r .outcome)) $ calls-at ! fm (Bump 𝓤 H A at-mem run) known-bump (to-bump (r .outcome)) (and-then ! (load ! (from ! (stop !)) (look ! 6 refl)) (and-then ! (load ! (from ! (fld ! refl (stop !))) (look-in ! 26 (sub ! 1 refl (whole !)))) (no-more !))) (λ w.
-        use1 W (later (some (λ (z : Unit {0}). ((‵ (flft κ-block q-block) ⊛ ‵ ftrue) ⊛ ‵ (unit .own z (w ∷ []))) ⊛ raw (ensured 𝓤 H A bm.ended (bm.clauses 𝓤 H A at-mem run) (κ-block, tt) (x, (r .outcome, tt)) tt z)))) (id⊢ 𝓤 _) $ await ! tt $ pick ! (λ z. split ! $ move ! (1 ∷ []) $ use1 W (some (λ (ws : Counters × (Unit {0} × Unit {0})). ‵ (lasts bm.ended (κ-block, tt) (x, (r .outcome, tt)) ws) ⊛ raw (fact 𝓤 (ws .0 ≡ bumpedFor h (endedReport (r .outcome)))))) (id⊢ 𝓤 _) $ pick ! (λ ws. split ! $ move ! (1 ∷ []) $ heard ! (ws .0 ≡ bumpedFor h (endedReport (r .outcome))) (λ e₃. fsplit ! $ move ! (2 ∷ []) $ split ! $ move ! (1 ∷ []) $ peeks ! unit (Is unit) (shows 𝓤 H A unit) z (w ∷ []) (λ is-z. drop ! $ land ! (from ! (stop !)) (init ! 10 refl (nothing-lawful 𝓤 H A W .typed z _ is-z .0)) $ move ! (0 ∷ []) $ split ! $
+        use1 W (later (some (λ (z : Unit {0}). ((‵ (flft κ-block q-block) ⊛ ‵ ftrue) ⊛ ‵ (unit .own z (w ∷ []))) ⊛ raw (ensured 𝓤 H A bm.ended (bm.clauses 𝓤 H A at-mem run) (κ-block, tt) (x, (r .outcome, tt)) tt z)))) (id⊢ 𝓤 _) $ await ! tt $ pick ! (λ z. split ! $ move ! (1 ∷ []) $ use1 W (some (λ (ws : Counters × (Unit {0} × Unit {0})). ‵ (lasts bm.ended (κ-block, tt) (x, (r .outcome, tt)) ws) ⊛ raw (fact 𝓤 (ws .0 ≡ bumpedFor h (stepReport (r .outcome)))))) (id⊢ 𝓤 _) $ pick ! (λ ws. split ! $ move ! (1 ∷ []) $ heard ! (ws .0 ≡ bumpedFor h (stepReport (r .outcome))) (λ e₃. fsplit ! $ move ! (2 ∷ []) $ split ! $ move ! (1 ∷ []) $ peeks ! unit (Is unit) (shows 𝓤 H A unit) z (w ∷ []) (λ is-z. drop ! $ land ! (from ! (stop !)) (init ! 10 refl (nothing-lawful 𝓤 H A W .typed z _ is-z .0)) $ move ! (0 ∷ []) $ split ! $
         -- the result
         assigns ! (of-opd ! (load ! (from ! (stop !)) (look ! 29 refl))) (from ! (stop !)) (init ! 47 refl (LL.lawful R.the-type R′.the-laws 𝓤 H A W .typed r _ (is-whole r v is) .0)) $ returns ! (look ! 47 refl) $ forget ! 9 refl $ forget ! 11 refl $ forget ! 13 refl $ forget ! 15 refl $ forget ! 17 refl $ forget ! 19 refl $ forget ! 21 refl $ forget ! 23 refl $ forget ! 25 refl $ forget ! 27 refl $ forget ! 29 refl $ forget ! 31 refl $ forget ! 33 refl $ forget ! 35 refl $ forget ! 37 refl $ forget ! 39 refl $ forget ! 41 refl $ forget ! 43 refl $ forget ! 45 refl $ forget ! 47 refl $
         move ! (47 ∷ 48 ∷ []) $ free1 ! $ move ! (45 ∷ 46 ∷ []) $ free1 ! $ move ! (43 ∷ 44 ∷ []) $ free1 ! $ move ! (41 ∷ 42 ∷ []) $ free1 ! $ move ! (39 ∷ 40 ∷ []) $ free1 ! $ move ! (37 ∷ 38 ∷ []) $ free1 ! $ move ! (35 ∷ 36 ∷ []) $ free1 ! $ move ! (33 ∷ 34 ∷ []) $ free1 ! $ move ! (31 ∷ 32 ∷ []) $ free1 ! $ move ! (29 ∷ 30 ∷ []) $ free1 ! $ move ! (27 ∷ 28 ∷ []) $ free1 ! $ move ! (25 ∷ 26 ∷ []) $ free1 ! $ move ! (23 ∷ 24 ∷ []) $ free1 ! $ move ! (21 ∷ 22 ∷ []) $ free1 ! $ move ! (19 ∷ 20 ∷ []) $ free1 ! $ move ! (17 ∷ 18 ∷ []) $ free1 ! $ move ! (15 ∷ 16 ∷ []) $ free1 ! $ move ! (13 ∷ 14 ∷ []) $ free1 ! $ move ! (11 ∷ 12 ∷ []) $ free1 ! $ move ! (9 ∷ 10 ∷ []) $ free1 ! $ free0 ! $ keep ! (0 ∷ 4 ∷ 2 ∷ 8 ∷ 7 ∷ 6 ∷ 5 ∷ 11 ∷ 10 ∷ 9 ∷ []) $ by ! (exits r (is-whole r v is) (ws .0) (last-reader zs) (last-outbox zs) (last-settings zs) (last-registers zs) e₁ e₃ len-reader len-outbox len-settings len-registers)))))))))))))))))))))))))))))))))))
 
 module _ {M : Type 1} (𝓤 : URA M) (H : Heap 𝓤) (A : Atoms 𝓤) (W : Given 𝓤 H A) (at-mem : Memory → SProp 𝓤) (run : Routine → Fun 𝓤) where
-  walks : (C : Calls 𝓤 H) (Λ : Loops 𝓤 H) → FmC 𝓤 H (W .laws) C → Triple 𝓤 (C #requests·receive·step) (Step 𝓤 H A at-mem run) → Triple 𝓤 (C #counters·bump) (Bump 𝓤 H A at-mem run) → Walks 𝓤 H A f.ended stayed (WpFn 𝓤 H C Λ code.function) (f.clauses 𝓤 H A at-mem run)
+  walks : (C : Calls 𝓤 H) (Λ : Loops 𝓤 H) → FmC 𝓤 H (W .laws) C → Triple 𝓤 (C #responder·receive·step) (Step 𝓤 H A at-mem run) → Triple 𝓤 (C #counters·bump) (Bump 𝓤 H A at-mem run) → Walks 𝓤 H A f.ended stayed (WpFn 𝓤 H C Λ code.function) (f.clauses 𝓤 H A at-mem run)
   walks C Λ fm known-step known-bump = walked 𝓤 H A f.ended stayed (f.clauses 𝓤 H A at-mem run) (WpFn 𝓤 H C Λ code.function) (λ κs. (ptr-vals, (slice-vals, (slice-vals, (slice-vals, (slice-vals, (slice-vals, (slice-vals, (slice-vals, tt)))))))))
       (λ κs.
       let (κ-block, (κ-image, (κ-piece, (κ-reader, (κ-outbox, (κ-factory, (κ-settings, (κ-registers, _)))))))) = κs in (
@@ -256,7 +256,7 @@ module _ {M : Type 1} (𝓤 : URA M) (H : Heap 𝓤) (A : Atoms 𝓤) (W : Given
   goes = (goes-gave-ref 𝓤 H A W 8 0 tt (plain (λ _. T.the-row)), (goes-none-slice 𝓤 H A W 8 (1 ∷ []) tt (plain (λ _. u8)) yes, (goes-none-slice 𝓤 H A W 8 (2 ∷ []) tt (plain (λ _. u8)) yes, (goes-gave-slice 𝓤 H A W 8 3 tt (plain (λ _. u8)), (goes-gave-slice 𝓤 H A W 8 4 tt (plain (λ _. u8)), (goes-none-slice 𝓤 H A W 8 (5 ∷ []) tt (plain (λ _. u8)) yes, (goes-gave-slice 𝓤 H A W 8 6 tt (plain (λ _. u8)), (goes-gave-slice 𝓤 H A W 8 7 tt (plain (λ _. u8)), tt))))))))
 
 meets : {M : Type 1} (𝓤 : URA M) (H : Heap 𝓤) (A : Atoms 𝓤) (W : Given 𝓤 H A) (at-mem : Memory → SProp 𝓤) (run : Routine → Fun 𝓤) (𝓣 : Tables 𝓤 H)
-    → Triple 𝓤 (𝓣 .C #requests·receive·step) (Step 𝓤 H A at-mem run) → Triple 𝓤 (𝓣 .C #counters·bump) (Bump 𝓤 H A at-mem run) → Meets 𝓤 H A f.signature (WpFn 𝓤 H (𝓣 .C) (𝓣 .Λ) code.function) (f.spec 𝓤 H A at-mem run)
+    → Triple 𝓤 (𝓣 .C #responder·receive·step) (Step 𝓤 H A at-mem run) → Triple 𝓤 (𝓣 .C #counters·bump) (Bump 𝓤 H A at-mem run) → Meets 𝓤 H A f.signature (WpFn 𝓤 H (𝓣 .C) (𝓣 .Λ) code.function) (f.spec 𝓤 H A at-mem run)
 meets 𝓤 H A W at-mem run 𝓣 known-step known-bump = walk-meets 𝓤 H A f.ended stayed W (goes 𝓤 H A W at-mem run) (f.clauses 𝓤 H A at-mem run) (WpFn 𝓤 H (𝓣 .C) (𝓣 .Λ) code.function) (WpFn-mono 𝓤 H (W .laws) 𝓣 code.function)
     (walks 𝓤 H A W at-mem run (𝓣 .C) (𝓣 .Λ) (fmOf 𝓤 H (W .laws) 𝓣) known-step known-bump)
 
@@ -266,5 +266,5 @@ step-counted-spec 𝓤 H 𝓜 𝓖 𝓡 =
     entered 𝓤 H (tripleOf 𝓤 H (𝓖 .A) f.signature (f.spec 𝓤 H (𝓖 .A) (𝓜 .mem) (𝓡 .run)))
     (tables 𝓤 H 𝓜 𝓡 code.env .C) (tables 𝓤 H 𝓜 𝓡 code.env .Λ) #counters·step-counted code.function (code.unfolded 𝓤 H 𝓜 𝓡)
     (meets 𝓤 H (𝓖 .A) (givenOf 𝓤 H 𝓜 𝓖) (𝓜 .mem) (𝓡 .run) (tablesOf 𝓤 H 𝓜 (tables 𝓤 H 𝓜 𝓡 code.env))
-    (cited 𝓤 H (Step 𝓤 H (𝓖 .A) (𝓜 .mem) (𝓡 .run)) 𝓜 𝓡 code.env #requests·receive·step g-def.routine code.calls-requests·receive·step (g-thm.met 𝓤 H 𝓜 𝓖 𝓡))
+    (cited 𝓤 H (Step 𝓤 H (𝓖 .A) (𝓜 .mem) (𝓡 .run)) 𝓜 𝓡 code.env #responder·receive·step g-def.routine code.calls-responder·receive·step (g-thm.met 𝓤 H 𝓜 𝓖 𝓡))
     (cited 𝓤 H (Bump 𝓤 H (𝓖 .A) (𝓜 .mem) (𝓡 .run)) 𝓜 𝓡 code.env #counters·bump bm-def.routine code.calls-counters·bump (bm-thm.met 𝓤 H 𝓜 𝓖 𝓡)))

@@ -3,7 +3,7 @@
 use native.Mathlib.Omega.{arith}
 use borrow.Author.Needs.{needs}
 use denote.Ref.{now}
-use Rattle.plain.specs.Answers.{verdictOf}
+use Rattle.plain.specs.Answers.{plainVerdict}
 use Rattle.plain.proofs.Tests.{over-judged, bad-judged, decoded-fits, tested-judged}
 use Rattle.plain.proofs.judged.Statement.{statement}
 use Rattle.plain.proofs.judged.Tie as tie
@@ -22,7 +22,7 @@ abbrev at-d : tie.After-tested-arg2 → tie.After-d
 at-d c = c .before .before .before
 
 returns : tie.Need-returns
-unfolding verdictOf
+unfolding plainVerdict
 returns c = let a = c .before .before .args in over-judged (now (a .frame)) (now (a .message)) (c .if1 .taken)
 
 tested-requires : tie.Need-tested-requires
@@ -35,7 +35,7 @@ tested-requires c κs =
     (omega arith) (omega arith)
 
 returns-2 : tie.Need-returns-2
-unfolding verdictOf
+unfolding plainVerdict
 returns-2 c =
     let decoded = c .before .before in
     let test = else1 decoded in
@@ -43,7 +43,7 @@ returns-2 c =
     bad-judged (now (a .frame)) (now (a .message)) (test .if1 .left) (decoded .decode .ensures .0) (decoded .decode .ensures .1) (c .enum-told .given .1)
 
 returns-3 : tie.Need-returns-3
-unfolding verdictOf
+unfolding plainVerdict
 returns-3 c =
     let form = at-d (c .before) in
     let decoded = at-decode form in

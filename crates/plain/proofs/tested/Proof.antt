@@ -6,7 +6,7 @@ use native.Mathlib.Omega.{arith}
 use lib.Seq.{length-take-le}
 use borrow.Author.Needs.{needs}
 use denote.Ref.{now}
-use Rattle.plain.specs.Answers.{verdictOf}
+use Rattle.plain.specs.Answers.{plainVerdict}
 use Rattle.plain.proofs.Tests.{tested-short, tested-long, tested-checksum, tested-magic, tested-good}
 use Rattle.plain.proofs.tested.Statement.{statement}
 use Rattle.plain.proofs.tested.Tie as tie
@@ -22,13 +22,13 @@ abbrev start-of : tie.Else2 → tie.Start
 start-of c = c .before .before .before
 
 returns : tie.Need-returns
-unfolding verdictOf
+unfolding plainVerdict
 returns c =
     let start = c .before .before in
     tested-short (now (start .args .message)) (start .args .n) (start .pre) (c .if1 .taken)
 
 returns-2 : tie.Need-returns-2
-unfolding verdictOf
+unfolding plainVerdict
 returns-2 c =
     let start = c .before .before .before in
     tested-long (now (start .args .message)) (start .args .n) (start .pre) (c .if2 .taken)
@@ -39,7 +39,7 @@ slice-aggregate-checksum c =
     sym (length-take-le (a .n - 2) (now (a .message)) (omega arith))
 
 returns-3 : tie.Need-returns-3
-unfolding verdictOf
+unfolding plainVerdict
 returns-3 c =
     let sum = c .before in
     let sequence = at-read-u64 sum in
@@ -50,7 +50,7 @@ returns-3 c =
     (c .if3 .taken)
 
 returns-4 : tie.Need-returns-4
-unfolding verdictOf
+unfolding plainVerdict
 returns-4 c =
     let else3 = c .before .before in
     let sum = else3 .before in
@@ -62,7 +62,7 @@ returns-4 c =
     (else3 .if3 .left) (c .before .read-u32 .ensures) (c .if4 .taken)
 
 returns-5 : tie.Need-returns-5
-unfolding verdictOf
+unfolding plainVerdict
 returns-5 c =
     let else4 = c .before .before in
     let at-read-u32 = else4 .before in

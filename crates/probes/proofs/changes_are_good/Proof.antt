@@ -6,13 +6,13 @@ use native.Mathlib.Omega.{arith}
 use lib.ListN.{length, drop}
 use borrow.Author.Needs.{needs}
 use borrow.Author.Tests.{not-true, not-false}
-use Rattle.probes.specs.Probes.{changes, allGood, good}
+use Rattle.probes.specs.Probes.{probeChanges, allGood, good}
 use Rattle.probes.proofs.Tests.{other-lengths, equal-lengths, good-here, bad-here, good-end}
 use Rattle.probes.proofs.changes_are_good.Statement.{statement}
 use Rattle.probes.proofs.changes_are_good.Tie as tie
 
 abbrev Inv-loop : tie.InvT-loop
-Inv-loop n is rs i₀ i = (length is ≡ length rs) × (good n is rs ≡ allGood n (changes (drop i is) (drop i rs)))
+Inv-loop n is rs i₀ i = (length is ≡ length rs) × (good n is rs ≡ allGood n (probeChanges (drop i is) (drop i rs)))
 
 abbrev μ-loop : tie.MeasureT-loop
 μ-loop n is rs i₀ i = length is - i

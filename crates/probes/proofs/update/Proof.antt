@@ -54,7 +54,7 @@ use borrow.Author.Needs.{scaled-fits}
 use Rattle.probes.specs.declared.Probe.{Probe}
 use Rattle.probes.specs.declared.Updated.{Updated}
 use Rattle.probes.specs.declared.Updated.the-variants.{Done, Refused}
-use Rattle.probes.specs.Probes.{changes, good, withResult, no-probe, resultSet, outcomeOf, updating}
+use Rattle.probes.specs.Probes.{probeChanges, good, withResult, no-probe, resultSet, updateOutcome, updatePromise}
 use Rattle.probes.proofs.Changes.{applied, applied-more, applied-end, update-done, update-refused}
 use Rattle.probes.proofs.Relending.{LentAgain, lends-again, comes-back}
 use Rattle.probes.proofs.Tests.{good-lengths}
@@ -150,7 +150,7 @@ module _ {M : Type 1} (𝓤 : URA M) (H : Heap 𝓤) (A : Atoms 𝓤) (W : Given
   abbrev Post : Val → SProp 𝓤
   Post = walkOf 𝓤 H A f.ended stayed (f.clauses 𝓤 H A mem run) .post bound
 
-  exits : (r : Updated) (zs : List Probe) → length zs ≡ length ys → outcomeOf r zs ≡ updating ys is rs → ent 𝓤 (⋆ 𝓤 H A (tokens₃ ∷ ‵ (Own γ κ₀ zs) ∷ [])) (Post (U′.lowered r))
+  exits : (r : Updated) (zs : List Probe) → length zs ≡ length ys → updateOutcome r zs ≡ updatePromise ys is rs → ent 𝓤 (⋆ 𝓤 H A (tokens₃ ∷ ‵ (Own γ κ₀ zs) ∷ [])) (Post (U′.lowered r))
   exits r zs e report =
       qed W (tokens₃ ∷ ‵ (Own γ κ₀ zs) ∷ []) ∵
       suffices ! _ (ends-at 𝓤 H A f.ended stayed (f.clauses 𝓤 H A mem run) W bound (U′.lowered r) r (zs, (tt, (tt, tt))) (e, (tt, (tt, tt)))) $ says ! report $ frame ! $
@@ -185,7 +185,7 @@ module _ {M : Type 1} (𝓤 : URA M) (H : Heap 𝓤) (A : Atoms 𝓤) (W : Given
 
   -- the loop's state: i, the list as it now is, and what is known of the two
   abbrev State : Type 0
-  State = (i : ℕ) × (zs : List Probe) × (length zs ≡ length ys) × (applied zs (changes (drop i is) (drop i rs)) ≡ applied ys (changes is rs))
+  State = (i : ℕ) × (zs : List Probe) × (length zs ≡ length ys) × (applied zs (probeChanges (drop i is) (drop i rs)) ≡ applied ys (probeChanges is rs))
 
   abbrev Nearer : State → State → Type 0
   Nearer u t = length is - u .0 < length is - t .0
@@ -299,7 +299,7 @@ module _ {M : Type 1} (𝓤 : URA M) (H : Heap 𝓤) (A : Atoms 𝓤) (W : Given
           returns ! (look ! 38 refl) $ forget ! 20 refl $ forget ! 22 refl $ forget ! 30 refl $ forget ! 32 refl $ forget ! 34 refl $ forget ! 36 refl $ forget ! 38 refl $
           move ! (38 ∷ 39 ∷ []) $ free1 ! $ move ! (36 ∷ 37 ∷ []) $ free1 ! $ move ! (34 ∷ 35 ∷ []) $ free1 ! $ move ! (32 ∷ 33 ∷ []) $ free1 ! $ move ! (30 ∷ 31 ∷ []) $ free1 ! $ move ! (28 ∷ 29 ∷ []) $ free1 ! $ move ! (26 ∷ 27 ∷ []) $ free1 ! $ move ! (24 ∷ 25 ∷ []) $ free1 ! $ move ! (22 ∷ 23 ∷ []) $ free1 ! $ move ! (20 ∷ 21 ∷ []) $ free1 ! $ move ! (18 ∷ 19 ∷ []) $ free1 ! $ move ! (16 ∷ 17 ∷ []) $ free1 ! $ move ! (14 ∷ 15 ∷ []) $ free1 ! $ move ! (12 ∷ 13 ∷ []) $ free1 ! $ move ! (10 ∷ 11 ∷ []) $ free1 ! $ move ! (8 ∷ 9 ∷ []) $ free1 ! $ move ! (6 ∷ 7 ∷ []) $ free1 ! $ free0 ! $
           nothing ! $ move ! (3 ∷ 0 ∷ []) $ join ! $ move ! (4 ∷ 0 ∷ []) $ join ! $ move ! (2 ∷ 0 ∷ []) $ join ! $ keep ! (0 ∷ 1 ∷ []) $
-          by ! (exits Done (t .1) (t .2) (ap (outcomeOf Done) (applied-end (t .1) is rs (t .0) (nltb→le (t .0) (length is) over) ∙ t .3) ∙ update-done ys is rs all-good)))
+          by ! (exits Done (t .1) (t .2) (ap (updateOutcome Done) (applied-end (t .1) is rs (t .0) (nltb→le (t .0) (length is) over) ∙ t .3) ∙ update-done ys is rs all-good)))
         where
           room : Room P.the-row (length (t .1))
           room = subst (Room P.the-row) (sym (t .2)) room₀

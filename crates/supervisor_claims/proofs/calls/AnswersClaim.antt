@@ -24,11 +24,11 @@ use Rattle.supervisor.specs.Local
 use Rattle.supervisor.specs.Valid.{validFactory, validSettings, validRegisters}
 use Rattle.supervisor.specs.Calls
 use Rattle.supervisor.proofs.ValidLaws.{factory-valid, registers-valid}
-use Rattle.requests.specs.Requests
-use Rattle.requests.specs.Receive.{carriesEdition, valueHead, itemDataLength, itemBytes, blockBytes, valueBytes}
-use Rattle.requests.proofs.ReceiveLaws.{ItemHeld, item-held}
-use Rattle.requests.proofs.KeptLaws.{value-data-short, item-short}
-use Rattle.supervisor_claims.specs.View.{listed, itemAt, factoryOf, view}
+use Rattle.responder.specs.Requests
+use Rattle.responder.specs.Receive.{carriesEdition, valueHead, itemDataLength, itemBytes, blockBytes, valueBytes}
+use Rattle.responder.proofs.ReceiveLaws.{ItemHeld, item-held}
+use Rattle.responder.proofs.KeptLaws.{value-data-short, item-short}
+use Rattle.supervisor_claims.specs.View.{tabulated, itemAt, factoryOf, view}
 use Rattle.supervisor_claims.specs.Sound.{Valid}
 use Rattle.supervisor_claims.proofs.laws.ViewLaws.{length-listed}
 use Rattle.supervisor_claims.proofs.laws.PartLaws.{each-number}
@@ -55,18 +55,18 @@ no-item (x ∷ is) zero h = absurd (omega arith)
 no-item (x ∷ is) (suc i) h = no-item is i (omega arith)
 
 module _ (g : ℕ → Item) where
-  pub listed-item : (n i : ℕ) → i < n → Requests.itemOf (listed g n) i ≡ some (g i)
-  unfolding listed
+  pub listed-item : (n i : ℕ) → i < n → Requests.itemOf (tabulated g n) i ≡ some (g i)
+  unfolding tabulated
   listed-item zero = below-none (λ i. Requests.itemOf [] i ≡ some (g i))
   listed-item (suc n) =
-      let next = next-item (listed g n) (g n) in
+      let next = next-item (tabulated g n) (g n) in
       rw add-one at
-      (below-more (λ i. Requests.itemOf (listed g n ++ g n ∷ []) i ≡ some (g i)) n
-      (λ i h. first-items (listed g n) (g n ∷ []) i (rw length-listed h) ∙ listed-item n i h)
+      (below-more (λ i. Requests.itemOf (tabulated g n ++ g n ∷ []) i ≡ some (g i)) n
+      (λ i h. first-items (tabulated g n) (g n ∷ []) i (rw length-listed h) ∙ listed-item n i h)
       (rw length-listed at next))
 
-  pub listed-none : (n i : ℕ) → n ≤ i → Requests.itemOf (listed g n) i ≡ none
-  listed-none n i h = no-item (listed g n) i (rw length-listed h)
+  pub listed-none : (n i : ℕ) → n ≤ i → Requests.itemOf (tabulated g n) i ≡ none
+  listed-none n i h = no-item (tabulated g n) i (rw length-listed h)
 
 -- ---- runs of a store
 
@@ -128,7 +128,7 @@ module _ (f : List ℕ) (valid : validFactory f ≡ true) (b : Each Byte f) wher
   item-meant index =
       let n = Layout.itemCount f in
       let at = Layout.item-offset index in
-      cond-by (λ bs. bs ≡ Requests.inventoried (Requests.itemOf (listed (itemAt f) n) index)) (ltb index n) _ _
+      cond-by (λ bs. bs ≡ Requests.inventoried (Requests.itemOf (tabulated (itemAt f) n) index)) (ltb index n) _ _
       (λ e.
       let l = ltb-true index n e in
       rw (listed-item (itemAt f) n index l, item-run index (item-held f index valid l), run-chosen (at + Layout.item-data-offset)) (simp append-assoc))
@@ -179,24 +179,24 @@ module _ (f s : List ℕ) (fb : Each Byte f) (sb : Each Byte s) (most : ℕ) whe
   part-each at n l h =
       cond-by (Each Byte) (ltb most n) [] (run at n l) (λ e. tt) (λ e. each-run at n l h)
 
-  setting-each : (at : ℕ) → BytesAt (Calls.valueAt f s most) (Calls.settingAt s at)
-  unfolding Calls.settingAt Calls.valueAt
+  setting-each : (at : ℕ) → BytesAt (Calls.valueIn f s most) (Calls.settingAt s at)
+  unfolding Calls.settingAt Calls.valueIn
   setting-each at =
-      cond-by (BytesAt (Calls.valueAt f s most)) (eqb (Layout.settingHeld s at) 1) _ _
+      cond-by (BytesAt (Calls.valueIn f s most)) (eqb (Layout.settingHeld s at) 1) _ _
       (λ e. part-each (at + Layout.setting-value-offset) (Layout.settingLength s at) s sb) (λ e. tt)
 
-  location-each : (key : ℕ) → BytesAt (Calls.valueAt f s most) (Calls.locationOf f s key)
-  unfolding Calls.locationOf Calls.valueAt
+  location-each : (key : ℕ) → BytesAt (Calls.valueIn f s most) (Calls.locationOf f s key)
+  unfolding Calls.locationOf Calls.valueIn
   location-each key =
-      let P = BytesAt (Calls.valueAt f s most) in
+      let P = BytesAt (Calls.valueIn f s most) in
       cond-by P (eqb key 0) _ _ (λ e. part-each Layout.pong-offset 4 f fb) (λ e.
       cond-by P (eqb key 1) _ _ (λ e. part-each Layout.image-id-offset (Layout.imageIdLength f) f fb) (λ e.
       cond-by P (eqb key 2) _ _ (λ e. part-each Layout.item-count-offset 8 f fb) (λ e.
       cond-by P (eqb key Limits.passphrase-key) _ _ (λ e. tt) (λ e.
       setting-each (Layout.setting-offset key)))))
 
-  value-each : (key : ℕ) → Each Byte (Calls.lookupValue f s key most)
-  unfolding Calls.lookupValue
+  value-each : (key : ℕ) → Each Byte (Calls.lookupPromise f s key most)
+  unfolding Calls.lookupPromise
   value-each key =
       cond-by (Each Byte) (validFactory f && validSettings s) _ []
       (λ e. cond-by (Each Byte) (ltb Limits.highest-key key) [] _ (λ k. tt) (λ k. location-each key)) (λ e. tt)

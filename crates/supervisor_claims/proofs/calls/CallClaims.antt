@@ -31,12 +31,12 @@ use Rattle.supervisor.proofs.ValidLaws.{outbox-valid, settings-valid, registers
 use Rattle.saving.specs.Saving
 use Rattle.saving.specs.Calls as SavingCalls
 use Rattle.saving.proofs.KeptLaws.{restored-valid, restored-long, restored-bytes}
-use Rattle.requests.specs.Receive
+use Rattle.responder.specs.Receive
 use Rattle.supervisor_claims.specs.ByPart.{Part}
 use Rattle.supervisor_claims.specs.View.{settingsOf, factoryOf, view}
 use Rattle.supervisor_claims.specs.Sound.{withSettingsPart, withRegisters, Bytes, Sound, Lengths, Leaves}
 use Rattle.supervisor_claims.specs.Histories
-use Rattle.supervisor_claims.specs.Histories.{Call, Typed, didBy, did, refusal, Means, means, doneMeans, recordMeans, meant, upTo, frameEnds}
+use Rattle.supervisor_claims.specs.Histories.{Call, Typed, didBy, did, refusal, Means, means, doneMeans, recordMeans, meant, upTo, endedInPiece}
 use Rattle.supervisor_claims.specs.Demand1.{Meets}
 use Rattle.supervisor_claims.specs.Demand2.{Starts}
 use Rattle.supervisor_claims.proofs.Meant.{Does, Reads, RecordedAs}
@@ -78,7 +78,7 @@ module _ (d : List ℕ) (typed : Typed (Histories.start d)) (p : Parts) (b : Byt
       )
 
   fresh-keeps : LongEnough p → Bytes (Calls.freshParts d p) × Lengths p (Calls.freshParts d p)
-  unfolding Calls.freshParts LineReader.counted
+  unfolding Calls.freshParts LineReader.withCount
   fresh-keeps r =
       let o = cleared-keeps 0 Layout.outbox-length [] (p .outbox) refl (r .outbox) tt (b .outbox) in
       let f = stored-keeps (r .factory) in
@@ -88,19 +88,19 @@ module _ (d : List ℕ) (typed : Typed (Histories.start d)) (p : Parts) (b : Byt
         record { reader = length-overlay 0 (bytes 2 0) (p .reader) (omega (arith, length-bytes 2 0)); outbox = o .1; factory = f .1; settings = s .1; registers = g .1 },
       )
 
-  start-keeps : Bytes (Calls.starting d p .parts) × Lengths p (Calls.starting d p .parts)
-  unfolding Calls.starting
+  start-keeps : Bytes (Calls.startPromise d p .parts) × Lengths p (Calls.startPromise d p .parts)
+  unfolding Calls.startPromise
   start-keeps =
       cond-by Kept (Calls.longEnough p) _ _
       (λ e. cond-by Kept (goodStart d) _ _ (λ f. fresh-keeps (long-enough-is p e)) (λ f. (b, lengths-same)))
       (λ e. (b, lengths-same))
     where
-      Kept : Calls.Start → Type 0
+      Kept : Calls.StartOutcome → Type 0
       Kept t = Bytes (t .parts) × Lengths p (t .parts)
 
   -- on any parts of sufficient length
   pub start-leaves : Calls.longEnough p ≡ true → Local.badStart (factoryOf d) ≡ false
-      → (Calls.starting d p .refusal ≡ none) × Leaves p (Calls.starting d p .parts) (fresh (factoryOf d))
+      → (Calls.startPromise d p .refusal ≡ none) × Leaves p (Calls.startPromise d p .parts) (fresh (factoryOf d))
   start-leaves r e =
       let s = start-fresh d (typed .0) p r e in
       let k = start-keeps in
@@ -115,8 +115,8 @@ module _ (p : Parts) (s : Sound p) where
   unfolding did meant
   start-meets d typed = go (Local.start (factoryOf d)) (start-meant d (typed .0) p (valid-room (s .valid)))
     where
-      go : (x : Local.Done) → Starts p (Calls.starting d p) x
-          → Meets p (let t = Calls.starting d p in didBy (refusal (t .refusal)) [] (t .parts)) (doneMeans (view p) x)
+      go : (x : Local.Done) → Starts p (Calls.startPromise d p) x
+          → Meets p (let t = Calls.startPromise d p in didBy (refusal (t .refusal)) [] (t .parts)) (doneMeans (view p) x)
       go (Local.refused n) e = rw e (same refl refl)
       go (Local.left x) e =
           let k = start-keeps d typed p (s .bytes) in
@@ -124,8 +124,8 @@ module _ (p : Parts) (s : Sound p) where
 
   -- ---- take
 
-  taken-keeps : (bs o : List ℕ) → Layout.outbox-length ≤ length o → Each Byte o → Keeps o (Calls.afterTaken bs o)
-  unfolding Calls.afterTaken
+  taken-keeps : (bs o : List ℕ) → Layout.outbox-length ≤ length o → Each Byte o → Keeps o (Calls.outboxAfterTake bs o)
+  unfolding Calls.outboxAfterTake
   taken-keeps [] o h b = (b, refl)
   taken-keeps (x ∷ bs) o h b =
       let n = Layout.outboxFrom o + length (x ∷ bs) in
@@ -137,10 +137,10 @@ module _ (p : Parts) (s : Sound p) where
         length-overlay Layout.outbox-terminator-owed-offset (last ∷ []) on (omega arith) ∙ long,
       )
 
-  take-keeps : (room : List ℕ) → Keeps (p .outbox) (Calls.taking (p .outbox) room .outbox)
-  unfolding Calls.taking
+  take-keeps : (room : List ℕ) → Keeps (p .outbox) (Calls.takePromise (p .outbox) room .outbox)
+  unfolding Calls.takePromise
   take-keeps room =
-      rw (s .valid .outbox) (taken-keeps (Calls.takenBytes (p .outbox) room) (p .outbox) (outbox-valid (p .outbox) (s .valid .outbox) .long) (s .bytes .outbox))
+      rw (s .valid .outbox) (taken-keeps (Calls.takeableBytes (p .outbox) room) (p .outbox) (outbox-valid (p .outbox) (s .valid .outbox) .long) (s .bytes .outbox))
 
   take-meets : (room : List ℕ) → Meets p (did p (Histories.local (Histories.take room))) (meant (view p) (Histories.local (Histories.take room)))
   unfolding did meant
@@ -152,14 +152,14 @@ module _ (p : Parts) (s : Sound p) where
 
   -- ---- the calls that change the registers
 
-  registers-meets : (c : Calls.Registered) (x : Local.Done) → Does p c x → Keeps (p .registers) (c .registers)
+  registers-meets : (c : Calls.RegistersOutcome) (x : Local.Done) → Does p c x → Keeps (p .registers) (c .registers)
       → Meets p (didBy (refusal (c .refusal)) [] (withRegisters p (c .registers))) (doneMeans (view p) x)
   registers-meets c (Local.refused n) e k = rw e (same refl refl)
   registers-meets c (Local.left x) e k =
       let w = sound-with p Part.registers _ s (e .2 .registers) (k .0) (k .1) in
       record { answer = ap refusal (e .0); out = refl; leaves = (e .1, w .0, w .1) }
 
-  abbrev KeepsRegisters : Calls.Registered → Type 0
+  abbrev KeepsRegisters : Calls.RegistersOutcome → Type 0
   KeepsRegisters c = Keeps (p .registers) (c .registers)
 
   -- registers that a refusal leaves
@@ -174,8 +174,8 @@ module _ (p : Parts) (s : Sound p) where
       (overlay-each Byte _ _ _ (each-append Byte (bytes 2 (length text)) _ (bytes-each 2 _) (each-append Byte (bytes 1 action) text (bytes-each 1 action) b))
       (s .bytes .registers)))
 
-  post-keeps : (action : ℕ) (text : List ℕ) → Typed (Histories.local (Histories.post action text)) → KeepsRegisters (Calls.posting (p .registers) action text)
-  unfolding Calls.posting
+  post-keeps : (action : ℕ) (text : List ℕ) → Typed (Histories.local (Histories.post action text)) → KeepsRegisters (Calls.postPromise (p .registers) action text)
+  unfolding Calls.postPromise
   post-keeps action text typed =
       rw (s .valid .registers)
       (cond-by KeepsRegisters (eqb action 0) _ _ (λ e. unchanged) (λ e.
@@ -184,8 +184,8 @@ module _ (p : Parts) (s : Sound p) where
       (λ g. (alert-each action text (typed .1), posted-kept (allowed (p .registers) action text (s .valid .registers) (typed .0) e f g) .long))
       (λ g. unchanged))))
 
-  options-keeps : (options : ℕ) → KeepsRegisters (Calls.settingOptions (p .registers) options)
-  unfolding Calls.settingOptions
+  options-keeps : (options : ℕ) → KeepsRegisters (Calls.optionsPromise (p .registers) options)
+  unfolding Calls.optionsPromise
   options-keeps options =
       let w = registers-valid (p .registers) (s .valid .registers) in
       rw (s .valid .registers)
@@ -199,30 +199,30 @@ module _ (p : Parts) (s : Sound p) where
   -- ---- saving and restoring
 
   save-meets : (room : List ℕ) → Meets p (did p (Histories.local (Histories.save room))) (meant (view p) (Histories.local (Histories.save room)))
-  unfolding did meant SavingCalls.saving view
+  unfolding did meant SavingCalls.savePromise view
   save-meets room =
       rw (s .valid .settings, image-meant (p .settings))
       (cond-both P (ltb (length room) (length (Saving.saved (settingsOf (p .settings))))) (λ e. same refl refl) (λ e. same refl refl))
     where
-      P : SavingCalls.Save → Means → Type 0
+      P : SavingCalls.SaveOutcome → Means → Type 0
       P t m = Meets p (didBy (Histories.saveAnswer (t .report)) (t .room) p) m
 
-  restored-by : (image : List ℕ) (r : Saving.Read) → Saving.read image ≡ r → SavingCalls.restoring (p .settings) image ≡ SavingCalls.restoringBy (p .settings) r
-  unfolding SavingCalls.restoring
+  restored-by : (image : List ℕ) (r : Saving.ImageRead) → Saving.readImage image ≡ r → SavingCalls.restorePromise (p .settings) image ≡ SavingCalls.restoreOutcomeBy (p .settings) r
+  unfolding SavingCalls.restorePromise
   restored-by image r e = rw (s .valid .settings, e)
 
   restore-meets : (image : List ℕ) → Each Byte image
       → Meets p (did p (Histories.local (Histories.restore image))) (meant (view p) (Histories.local (Histories.restore image)))
-  unfolding did meant Saving.restore SavingCalls.restoringBy view
+  unfolding did meant Saving.restore SavingCalls.restoreOutcomeBy view
   restore-meets image b =
-      by (Saving.read image) refl
+      by (Saving.readImage image) refl
       (sound-with p Part.settings _ s (restored-valid (p .settings) image (s .valid .settings)) (restored-bytes (p .settings) image (s .bytes .settings) b) (restored-long (p .settings) image))
     where
-      after : Saving.Read → Parts
-      after r = withSettingsPart p (SavingCalls.restoringBy (p .settings) r .settings)
+      after : Saving.ImageRead → Parts
+      after r = withSettingsPart p (SavingCalls.restoreOutcomeBy (p .settings) r .settings)
 
-      meets : (r : Saving.Read) → Saving.read image ≡ r → Sound (after r) × Lengths p (after r)
-          → Meets p (didBy (Histories.restoreAnswer (SavingCalls.restoringBy (p .settings) r .report)) [] (after r)) (Histories.restoreMeans (view p) (Saving.restoredBy (view p) r))
+      meets : (r : Saving.ImageRead) → Saving.readImage image ≡ r → Sound (after r) × Lengths p (after r)
+          → Meets p (didBy (Histories.restoreAnswer (SavingCalls.restoreOutcomeBy (p .settings) r .report)) [] (after r)) (Histories.restoreMeans (view p) (Saving.restoreRead (view p) r))
       meets (Saving.fault n at) e w = same refl refl
       meets (Saving.good es) e w =
           record {
@@ -231,16 +231,16 @@ module _ (p : Parts) (s : Sound p) where
             leaves = (ap (withSettings (view p)) (good-meant (p .settings) (settings-valid (p .settings) (s .valid .settings)) image b es e), w .0, w .1);
           }
 
-      by : (r : Saving.Read) → Saving.read image ≡ r → let t = SavingCalls.restoring (p .settings) image .settings in
+      by : (r : Saving.ImageRead) → Saving.readImage image ≡ r → let t = SavingCalls.restorePromise (p .settings) image .settings in
           Sound (withSettingsPart p t) × Lengths p (withSettingsPart p t)
-          → Meets p (let t = SavingCalls.restoring (p .settings) image in didBy (Histories.restoreAnswer (t .report)) [] (withSettingsPart p (t .settings)))
-          (Histories.restoreMeans (view p) (Saving.restoredBy (view p) r))
+          → Meets p (let t = SavingCalls.restorePromise (p .settings) image in didBy (Histories.restoreAnswer (t .report)) [] (withSettingsPart p (t .settings)))
+          (Histories.restoreMeans (view p) (Saving.restoreRead (view p) r))
       by r e w = rw (restored-by image r e) (meets r e (rw (restored-by image r e) at w))
 
   -- ---- the calls that read
 
   -- of what is read
-  reads-meets : (r : Option Calls.Read) (bs : List ℕ) (x : Option Recorded) → Reads r bs x
+  reads-meets : (r : Option Calls.RecordRead) (bs : List ℕ) (x : Option Recorded) → Reads r bs x
       → Meets p (didBy (Histories.recorded r) bs p) (recordMeans (view p) x)
   reads-meets none bs none e = same refl e
   reads-meets none bs (some x) e = absurd e
@@ -256,7 +256,7 @@ module _ (p : Parts) (s : Sound p) where
       kinds kind.Panic = panic-meant p (s .valid)
 
       go : (x : Option Recorded) → RecordedAs p k x
-          → Meets p (didBy (Histories.readAnswer Histories.recorded (Calls.recordOf (p .registers) k)) (Calls.recordBytes (p .registers) k) p) (recordMeans (view p) x)
+          → Meets p (didBy (Histories.registerAnswer Histories.recorded (Calls.recordPromise (p .registers) k)) (Calls.recordBytesPromise (p .registers) k) p) (recordMeans (view p) x)
       go x e = rw (e .1) (reads-meets (e .0) _ x (e .2))
 
 -- ---- the calls that receive
@@ -264,7 +264,7 @@ module _ (p : Parts) (s : Sound p) where
 module _ (p : Parts) (s : Sound p) where
   module _ (image piece : List ℕ) (typed : Each Byte image × Each Byte piece) where
     receive-meets : Meets p (did p (Histories.receive image piece)) (meant (view p) (Histories.receive image piece))
-    unfolding did meant Receive.receiving
+    unfolding did meant Receive.receivePromise
     receive-meets =
         rw (valid-parts p (s .valid))
         (record { answer = refl; out = refl; leaves = fed-leaves image p piece (typed .0) s (typed .1) })
@@ -273,16 +273,16 @@ module _ (p : Parts) (s : Sound p) where
     unfolding Receive.validStep
     valid-step-used = step-used piece (p .reader)
 
-    valid-step-ended : Receive.validStep image p piece .ended ≡ frameEnds (view p .received) piece
+    valid-step-ended : Receive.validStep image p piece .ended ≡ endedInPiece (view p .received) piece
     unfolding Receive.validStep view
     valid-step-ended = step-ends piece (p .reader) (s .valid .reader)
 
-    valid-step-parts : Receive.validStep image p piece .parts ≡ Receive.fed image p (ListN.take (upTo piece) piece)
+    valid-step-parts : Receive.validStep image p piece .parts ≡ Receive.feedBytes image p (ListN.take (upTo piece) piece)
     unfolding Receive.validStep
     valid-step-parts = step-fed image piece p
 
     step-meets : Meets p (did p (Histories.step image piece)) (meant (view p) (Histories.step image piece))
-    unfolding did meant Receive.stepping
+    unfolding did meant Receive.stepPromise
     step-meets =
         let n = upTo piece in
         rw (valid-parts p (s .valid), valid-step-stepped image p piece, valid-step-used, valid-step-ended, valid-step-parts)
@@ -301,17 +301,17 @@ module _ (p : Parts) (s : Sound p) where
   call-meets (Histories.step image piece) typed = step-meets image piece typed
   call-meets (Histories.local (Histories.take room)) typed = take-meets p s room
   call-meets (Histories.local (Histories.post action text)) typed =
-      registers-meets p s (Calls.posting (p .registers) action text) (Local.post (view p) action text) (post-meant p (s .valid) action text (typed .0))
+      registers-meets p s (Calls.postPromise (p .registers) action text) (Local.post (view p) action text) (post-meant p (s .valid) action text (typed .0))
       (post-keeps p s action text typed)
   call-meets (Histories.local (Histories.setOptions options)) typed =
-      registers-meets p s (Calls.settingOptions (p .registers) options) (Local.setOptions (view p) options) (options-meant p (s .valid) options typed)
+      registers-meets p s (Calls.optionsPromise (p .registers) options) (Local.setOptions (view p) options) (options-meant p (s .valid) options typed)
       (options-keeps p s options)
   call-meets (Histories.local (Histories.lookup key most)) typed =
       let l = lookup-meant p (s .valid) (s .bytes .factory) key most in
       same p s (ap Histories.lookupAnswer (l .0)) (l .1)
   call-meets (Histories.local (Histories.edition key)) typed = same p s (ap Histories.editionAnswer (edition-meant p (s .valid) key)) refl
-  call-meets (Histories.local Histories.signal) typed = same p s (ap (Histories.readAnswer Histories.asserted) (signal-meant p (s .valid))) refl
-  call-meets (Histories.local Histories.flags) typed = same p s (ap (Histories.readAnswer Histories.flagsAsked) (flags-meant p (s .valid))) refl
+  call-meets (Histories.local Histories.signal) typed = same p s (ap (Histories.registerAnswer Histories.asserted) (signal-meant p (s .valid))) refl
+  call-meets (Histories.local Histories.flags) typed = same p s (ap (Histories.registerAnswer Histories.flagsAsked) (flags-meant p (s .valid))) refl
   call-meets (Histories.local (Histories.save room)) typed = save-meets p s room
   call-meets (Histories.local (Histories.restore image)) typed = restore-meets p s image typed
   call-meets (Histories.local (Histories.readRecord k)) typed = record-meets p s k

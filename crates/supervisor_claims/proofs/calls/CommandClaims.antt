@@ -15,10 +15,10 @@ use Rattle.supervisor.specs.Layout
 use Rattle.supervisor.specs.Valid.{validFactory}
 use Rattle.supervisor.specs.Calls.{Parts}
 use Rattle.supervisor.proofs.ValidLaws.{settings-valid, registers-valid}
-use Rattle.requests.specs.Commands.{Command}
-use Rattle.requests.specs.Requests
-use Rattle.requests.specs.Receive
-use Rattle.requests.proofs.KeptLaws.{alert-data-short}
+use Rattle.responder.specs.Commands.{Command}
+use Rattle.responder.specs.Requests
+use Rattle.responder.specs.Receive
+use Rattle.responder.proofs.KeptLaws.{alert-data-short}
 use Rattle.supervisor_claims.specs.View.{view}
 use Rattle.supervisor_claims.specs.Sound.{withRegisters, Sound}
 use Rattle.supervisor_claims.proofs.laws.PartLaws.{Like, like-itself}
@@ -34,7 +34,7 @@ abbrev pub withStores : Parts → Receive.Inner → Parts
 withStores p i = record { reader = p .reader; outbox = p .outbox; factory = p .factory; settings = i .settings; registers = i .registers }
 
 -- the data of a reply, where there is one
-abbrev pub SendableReply : Option Requests.Answer → Type 0
+abbrev pub SendableReply : Option Requests.ReplyContent → Type 0
 SendableReply none = Unit {0}
 SendableReply (some r) = Sendable (r .payload)
 
@@ -56,12 +56,12 @@ module _ (p : Parts) (s : Sound p) (image : List ℕ) (each : Each Byte image) (
   -- of a command
   abbrev Does : Command → Type 0
   Does x =
-      Changed p (Receive.leftBy x image (p .factory) (Receive.innerOf p) (m .version) (m .sequence) (m .payload)) (m .sequence) (Requests.effect x image (view p) m)
+      Changed p (Receive.commandLeaves x image (p .factory) (Receive.innerOf p) (m .version) (m .sequence) (m .payload)) (m .sequence) (Requests.effect x image (view p) m)
 
   -- a reply alone
   answers : (command : ℕ) {bs payload : List ℕ} → bs ≡ payload → Sendable bs
-      → Changed p (Receive.answering (Receive.innerOf p) (Receive.replyHead (m .version) (m .sequence)) command bs) (m .sequence) (Requests.replied (view p) (m .version) command payload)
-  unfolding Receive.answering Requests.replyOf Requests.replyFrame
+      → Changed p (Receive.replyAlone (Receive.innerOf p) (Receive.replyHead (m .version) (m .sequence)) command bs) (m .sequence) (Requests.replyWith (view p) (m .version) command payload)
+  unfolding Receive.replyAlone Requests.replyOf Requests.replyFrame
   answers command e k = registers-changed refl (rw e) (like-itself (p .registers)) (rw e at k)
 
   abbrev f : List ℕ
@@ -80,7 +80,7 @@ module _ (p : Parts) (s : Sound p) (image : List ℕ) (each : Each Byte image) (
   none-sendable = (omega arith, tt)
 
   boot-failure-does : Does Command.boot-failure
-  unfolding Receive.leftBy Receive.noReply Requests.effect Requests.bootFailure Requests.replyOf Requests.replyFrame
+  unfolding Receive.commandLeaves Receive.noReply Requests.effect Requests.bootFailure Requests.replyOf Requests.replyFrame
   boot-failure-does =
       let w = registers-valid (p .registers) (s .valid .registers) in
       let d = m .payload in
@@ -91,7 +91,7 @@ module _ (p : Parts) (s : Sound p) (image : List ℕ) (each : Each Byte image) (
       (record-like p w Layout.boot-failure-offset (numberAt 1 d 0) (drop 1 d) (omega arith) (each-drop Byte 1 d (q .payload))) tt
 
   panic-does : Does Command.panic
-  unfolding Receive.leftBy Receive.acknowledged Requests.effect Requests.panicked Requests.replyOf Requests.replyFrame
+  unfolding Receive.commandLeaves Receive.acknowledged Requests.effect Requests.panicked Requests.replyOf Requests.replyFrame
   panic-does =
       let w = registers-valid (p .registers) (s .valid .registers) in
       let d = m .payload in
@@ -102,7 +102,7 @@ module _ (p : Parts) (s : Sound p) (image : List ℕ) (each : Each Byte image) (
       (record-like p w Layout.panic-offset (numberAt 2 d 0) (drop 2 d) (omega arith) (each-drop Byte 2 d (q .payload))) none-sendable
 
   start-does : Does Command.start-acknowledged
-  unfolding Receive.leftBy Receive.acknowledged Requests.effect Requests.startAcknowledged Requests.replyOf Requests.replyFrame
+  unfolding Receive.commandLeaves Receive.acknowledged Requests.effect Requests.startAcknowledged Requests.replyOf Requests.replyFrame
   start-does =
       let w = registers-valid (p .registers) (s .valid .registers) in
       registers-changed (acknowledged-view p w (m .version)) refl (acknowledged-like p w _) none-sendable
@@ -117,13 +117,13 @@ module _ (p : Parts) (s : Sound p) (image : List ℕ) (each : Each Byte image) (
       )
 
   alert-does : Does Command.alert
-  unfolding Receive.leftBy Receive.alertAnswered Requests.effect Requests.replyOf Requests.replyFrame
+  unfolding Receive.commandLeaves Receive.alertAnswered Requests.effect Requests.replyOf Requests.replyFrame
   alert-does =
       let a = alert-asked p (s .valid) (m .version) (m .sequence) (q .version) below in
       registers-changed (a .state) (rw (alert-reply p (s .valid) (m .version) (m .sequence) (q .version) below (s .bytes .registers))) (a .like) alert-sendable
 
   key-set-does : Does Command.key-set
-  unfolding Receive.leftBy Receive.keySetAnswered Requests.effect Requests.keySet Requests.replyOf Requests.replyFrame view
+  unfolding Receive.commandLeaves Receive.keySetAnswered Requests.effect Requests.keySet Requests.replyOf Requests.replyFrame view
   key-set-does =
       let d = m .payload in
       let k = storing-stored (p .settings) (drop 1 d) (settings-valid (p .settings) (s .valid .settings)) (s .bytes .settings) (each-drop Byte 1 d (q .payload)) (numberAt 1 d 0) in
@@ -136,7 +136,7 @@ module _ (p : Parts) (s : Sound p) (image : List ℕ) (each : Each Byte image) (
       }
 
   pub command-does : (x : Command) → Does x
-  unfolding Receive.leftBy Receive.noReply Requests.effect Requests.reboot Requests.powerOff Requests.replyOf Requests.replyFrame view
+  unfolding Receive.commandLeaves Receive.noReply Requests.effect Requests.reboot Requests.powerOff Requests.replyOf Requests.replyFrame view
   command-does Command.reboot =
       registers-changed (reboot-view p (s .valid .registers)) refl (asked-like p (s .valid .registers) Layout.reboot-offset (omega arith)) tt
   command-does Command.power-off =

@@ -20,7 +20,7 @@ use Rattle.supervisor.specs.Calls
 use Rattle.supervisor.proofs.OffsetLaws.{offset-within, settings-key}
 use Rattle.supervisor.proofs.ValidLaws.{FactoryValid, factory-valid, settings-valid}
 use Rattle.supervisor.specs.Valid.{SettingValid}
-use Rattle.supervisor_claims.specs.View.{itemAt, listed, settingOf, factoryOf, view}
+use Rattle.supervisor_claims.specs.View.{itemAt, tabulated, settingOf, factoryOf, view}
 use Rattle.supervisor_claims.specs.Sound.{Valid}
 use Rattle.supervisor_claims.specs.Item5.{EditionMeant}
 use Rattle.supervisor_claims.proofs.laws.ViewLaws.{length-listed}
@@ -51,7 +51,7 @@ choose false x a = a refl
 -- ---- key 2: the count of the items, then the version 0
 
 inventory-run : (f : List ℕ) → FactoryValid f → Each Byte f
-    → run Layout.item-count-offset 8 f ≡ bytes 4 (length (listed (itemAt f) (Layout.itemCount f))) ++ bytes 4 0
+    → run Layout.item-count-offset 8 f ≡ bytes 4 (length (tabulated (itemAt f) (Layout.itemCount f))) ++ bytes 4 0
 inventory-run f v b =
     let version = rw (v .version) at (number-run 4 Layout.inventory-version-offset f (omega arith) b) in
     rw (length-listed, number-run 4 Layout.item-count-offset f (omega arith) b, version) (run-add Layout.item-count-offset 4 4 f)
@@ -65,26 +65,26 @@ Looked report bs most q x = Answers (report q) (bs q) (Local.fitted most (x .edi
 module _ (p : Calls.Parts) (v : Valid p) where
   setting-answers : (most at longest : ℕ) {shortest : ℕ} → at + Layout.setting-value-offset + longest ≤ Layout.settings-length
       → SettingValid (p .settings) at shortest longest
-      → Looked (Calls.resultAt most) (Calls.valueAt (p .factory) (p .settings) most) most (Calls.settingAt (p .settings) at) (settingOf (p .settings) at)
-  unfolding Calls.resultAt Calls.valueAt Calls.settingAt settingOf Local.fitted
+      → Looked (Calls.resultAt most) (Calls.valueIn (p .factory) (p .settings) most) most (Calls.settingAt (p .settings) at) (settingOf (p .settings) at)
+  unfolding Calls.resultAt Calls.valueIn Calls.settingAt settingOf Local.fitted
   setting-answers most at longest h k =
       let s = p .settings in
       let w = settings-valid s (v .settings) in
       let n = Layout.settingLength s at in
       let size = length-run (at + Layout.setting-value-offset) n s (omega arith) in
       let edition = Layout.settingEdition s at in
-      cond-both (λ q o. Looked (Calls.resultAt most) (Calls.valueAt (p .factory) s most) most q (record { edition = edition; value = o })) (eqb (Layout.settingHeld s at) 1)
+      cond-both (λ q o. Looked (Calls.resultAt most) (Calls.valueIn (p .factory) s most) most q (record { edition = edition; value = o })) (eqb (Layout.settingHeld s at) 1)
       (λ e. part-answers most edition n (run (at + Layout.setting-value-offset) n s) _ refl size) (λ e. (refl, refl))
 
   -- of a key from 0 to 5
   key-answers : Each Byte (p .factory) → (key most : ℕ) → key ≤ Limits.highest-key → eqb key Limits.passphrase-key ≡ false → let q = Calls.locationOf (p .factory) (p .settings) key in
-      Looked (Calls.resultAt most) (Calls.valueAt (p .factory) (p .settings) most) most q (Local.entryOf (view p) key)
-  unfolding Calls.locationOf Calls.resultAt Calls.valueAt Local.entryOf view factoryOf
+      Looked (Calls.resultAt most) (Calls.valueIn (p .factory) (p .settings) most) most q (Local.entryOf (view p) key)
+  unfolding Calls.locationOf Calls.resultAt Calls.valueIn Local.entryOf view factoryOf
   key-answers b key most h o =
       let f = p .factory in
       let u = factory-valid f (v .factory) in
       let w = settings-valid (p .settings) (v .settings) in
-      let P = Looked (Calls.resultAt most) (Calls.valueAt f (p .settings) most) most in
+      let P = Looked (Calls.resultAt most) (Calls.valueIn f (p .settings) most) most in
       let image = length-run Layout.image-id-offset (Layout.imageIdLength f) f (omega arith) in
       cond-both P (eqb key 0) (λ e. part-answers most 0 4 _ _ (u .text) (length-run Layout.pong-offset 4 f (omega arith))) (λ i.
       cond-both P (eqb key 1) (λ e. part-answers most 0 _ (run Layout.image-id-offset (Layout.imageIdLength f) f) _ refl image) (λ j.
@@ -96,17 +96,17 @@ module _ (p : Calls.Parts) (v : Valid p) where
   -- the passphrase is not handed out
   location-answers : Each Byte (p .factory) → (key most : ℕ) → key ≤ Limits.highest-key → let q = Calls.locationOf (p .factory) (p .settings) key in
       let x = Local.entryOf (view p) key in
-      Answers (Calls.resultAt most q) (Calls.valueAt (p .factory) (p .settings) most q)
+      Answers (Calls.resultAt most q) (Calls.valueIn (p .factory) (p .settings) most q)
       (cond (eqb key Limits.passphrase-key) (Local.without 4) (Local.fitted most (x .edition) (x .value)))
-  unfolding Calls.locationOf Calls.resultAt Calls.valueAt
+  unfolding Calls.locationOf Calls.resultAt Calls.valueIn
   location-answers b key most h =
       cond-by (Answers _ _) (eqb key Limits.passphrase-key) _ _ (λ e. rw (eqb-true key Limits.passphrase-key e) (refl, refl)) (λ e. key-answers b key most h e)
 
   -- the factory store holds bytes
   pub lookup-meant : Each Byte (p .factory) → (key most : ℕ) → let f = Local.lookup (view p) key most in
-      (Calls.lookupResult (p .factory) (p .settings) key most ≡ Calls.LookupReport.result (f .result) (length (f .value)))
-      × (Calls.lookupValue (p .factory) (p .settings) key most ≡ f .value)
-  unfolding Calls.lookupResult Calls.lookupValue Local.lookup
+      (Calls.lookupResultPromise (p .factory) (p .settings) key most ≡ Calls.LookupReport.result (f .result) (length (f .value)))
+      × (Calls.lookupPromise (p .factory) (p .settings) key most ≡ f .value)
+  unfolding Calls.lookupResultPromise Calls.lookupPromise Local.lookup
   lookup-meant b key most = rw (v .factory, v .settings) (choose (ltb Limits.highest-key key) _ (λ e. location-answers b key most (ltb-false Limits.highest-key key e)))
 
   -- ---- the edition of a key
@@ -118,32 +118,32 @@ module _ (p : Calls.Parts) (v : Valid p) where
   Editions report q x = EditionsAs (report q) (Local.editionOf x)
 
   setting-edition : (key : ℕ) → let at = Layout.setting-offset key in
-      Editions (Calls.editionAt (p .settings) key) (Calls.settingAt (p .settings) at) (settingOf (p .settings) at)
-  unfolding Calls.settingAt Calls.editionAt settingOf
+      Editions (Calls.editionReportAt (p .settings) key) (Calls.settingAt (p .settings) at) (settingOf (p .settings) at)
+  unfolding Calls.settingAt Calls.editionReportAt settingOf
   setting-edition key =
       let s = p .settings in
       let at = Layout.setting-offset key in
-      cond-both (λ q o. Editions (Calls.editionAt s key) q (record { edition = Layout.settingEdition s at; value = o })) (eqb (Layout.settingHeld s at) 1) (λ e. refl) (λ e. refl)
+      cond-both (λ q o. Editions (Calls.editionReportAt s key) q (record { edition = Layout.settingEdition s at; value = o })) (eqb (Layout.settingHeld s at) 1) (λ e. refl) (λ e. refl)
 
   key-edition : (key : ℕ) → key ≤ Limits.highest-key → eqb key Limits.passphrase-key ≡ false
-      → Editions (Calls.editionAt (p .settings) key) (Calls.locationOf (p .factory) (p .settings) key) (Local.entryOf (view p) key)
-  unfolding Calls.locationOf Calls.editionAt Local.entryOf view
+      → Editions (Calls.editionReportAt (p .settings) key) (Calls.locationOf (p .factory) (p .settings) key) (Local.entryOf (view p) key)
+  unfolding Calls.locationOf Calls.editionReportAt Local.entryOf view
   key-edition key h o =
-      let P = Editions (Calls.editionAt (p .settings) key) in
+      let P = Editions (Calls.editionReportAt (p .settings) key) in
       cond-both P (eqb key 0) (λ e. refl) (λ i.
       cond-both P (eqb key 1) (λ e. refl) (λ j.
       cond-both P (eqb key 2) (λ e. refl) (λ k.
       rw (o, setting-is (p .settings) key (settings-key key i j k h)) (setting-edition key))))
 
   location-edition : (key : ℕ) → key ≤ Limits.highest-key
-      → EditionsAs (Calls.editionAt (p .settings) key (Calls.locationOf (p .factory) (p .settings) key))
+      → EditionsAs (Calls.editionReportAt (p .settings) key (Calls.locationOf (p .factory) (p .settings) key))
       (cond (eqb key Limits.passphrase-key) (record { result = 4; edition = 0 }) (Local.editionOf (Local.entryOf (view p) key)))
-  unfolding Calls.locationOf Calls.editionAt
+  unfolding Calls.locationOf Calls.editionReportAt
   location-edition key h =
       cond-by (EditionsAs _) (eqb key Limits.passphrase-key) _ _ (λ e. rw (eqb-true key Limits.passphrase-key e)) (λ e. key-edition key h e)
 
 pub edition-meant : EditionMeant
-unfolding Calls.editionResult Local.edition
+unfolding Calls.editionPromise Local.edition
 edition-meant p v key =
     rw (v .factory, v .settings)
     (cond-both (EditionsAs p v) (ltb Limits.highest-key key)

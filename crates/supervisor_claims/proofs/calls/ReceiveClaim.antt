@@ -20,12 +20,12 @@ use Rattle.line.specs.Judge.{decoded, wrongLength, wrongChecksum, wrongMagic, j
 use Rattle.line.specs.Reader as LineReader
 use Rattle.supervisor.specs.State.{State, withReceived}
 use Rattle.supervisor.specs.Calls.{Parts}
-use Rattle.requests.specs.Commands.{Command, isListed, commandOf}
-use Rattle.requests.specs.Requests
-use Rattle.requests.specs.Requests.{Verdict, failure, good, verdictSince}
-use Rattle.requests.proofs.StepLaws.{served-small}
-use Rattle.requests.specs.Receive
-use Rattle.requests.proofs.KeptLaws.{carried-valid, inner-valid, valid-inner, sent-long, sent-owed, box-valid}
+use Rattle.responder.specs.Commands.{Command, isListed, commandOfNumber}
+use Rattle.responder.specs.Requests
+use Rattle.responder.specs.Requests.{Verdict, failure, good, verdictSince}
+use Rattle.responder.proofs.StepLaws.{served-small}
+use Rattle.responder.specs.Receive
+use Rattle.responder.proofs.KeptLaws.{carried-valid, inner-valid, valid-inner, sent-long, sent-owed, box-valid}
 use Rattle.supervisor_claims.specs.ByPart.{Part, withPart}
 use Rattle.supervisor_claims.specs.View.{view}
 use Rattle.supervisor_claims.specs.Sound.{withReader, withOutbox, Sound, Leaves}
@@ -48,7 +48,7 @@ sent-leaves p s r short each =
     (rw (sent-pending o bs v short, sent-owed o bs v short), k .0, k .1)
 
 -- the frame of a reply with data that a message may have
-frame-sendable : (sequence : ℕ) (r : Option Requests.Answer) → SendableReply r
+frame-sendable : (sequence : ℕ) (r : Option Requests.ReplyContent) → SendableReply r
     → let bs = Requests.replyFrame (Requests.replyOf sequence r) in (length bs ≤ longest-form + 1) × Each Byte bs
 unfolding Requests.replyFrame Requests.replyOf
 frame-sendable sequence none h = (omega arith, tt)
@@ -88,12 +88,12 @@ module _ (image : List ℕ) (each : Each Byte image) (p : Parts) (s : Sound p) (
       carried-valid image (p .factory) (Receive.innerOf p) (m .version) (m .sequence) (m .payload) (served-small (m .version) (q .version)) (s .valid .factory) parts-valid (q .fits) (number-small 1 0 (m .payload) (q .payload)) (m .command)
 
   -- its command is listed
-  request-leaves : Leaves p (withInner p (Carried image p m)) (sentBy (m .sequence) (Requests.carried image (view p) m))
-  unfolding Receive.carriedInner Requests.carried Requests.known
-  request-leaves = by (commandOf (m .command)) (q .command) carried-inner
+  request-leaves : Leaves p (withInner p (Carried image p m)) (sentBy (m .sequence) (Requests.carryOut image (view p) m))
+  unfolding Receive.carriedInner Requests.carryOut Requests.known
+  request-leaves = by (commandOfNumber (m .command)) (q .command) carried-inner
     where
-      by : (o : Option Command) → isListed o ≡ true → let i = Receive.leftWhere o image (p .factory) (Receive.innerOf p) (m .version) (m .sequence) (m .payload) in
-          Receive.validInner i ≡ true → Leaves p (withInner p i) (sentBy (m .sequence) (Requests.carriedBy o image (view p) m))
+      by : (o : Option Command) → isListed o ≡ true → let i = Receive.commandLeavesWhere o image (p .factory) (Receive.innerOf p) (m .version) (m .sequence) (m .payload) in
+          Receive.validInner i ≡ true → Leaves p (withInner p i) (sentBy (m .sequence) (Requests.carryOutBy o image (view p) m))
       by none e v = let z : _≡_ {A = ℕ} 1 0 = ap (λ t. cond t 0 1) e in absurd (omega arith)
       by (some x) e v = change-leaves p s (m .sequence) _ _ (command-does p s image each m q x) v
 
@@ -104,8 +104,8 @@ Judgeable (failure reason version sequence) = reason < 256
 Judgeable (good m) = Requestable m
 
 judged-leaves : (image : List ℕ) → Each Byte image → (p : Parts) → Sound p → (v : Verdict) → Judgeable v
-    → Leaves p (withInner p (Receive.innerBy image (p .factory) (Receive.innerOf p) v)) (Requests.judged image (view p) v)
-unfolding Receive.innerBy Receive.answering Requests.judged Requests.failedOf Requests.replyFrame
+    → Leaves p (withInner p (Receive.innerBy image (p .factory) (Receive.innerOf p) v)) (Requests.afterVerdict image (view p) v)
+unfolding Receive.innerBy Receive.replyAlone Requests.afterVerdict Requests.failedOf Requests.replyFrame
 judged-leaves image each p s (failure reason version sequence) small =
     let bs = reply-sendable (Receive.failureHead version sequence) 0x02 (reason ∷ []) (omega arith, (small, tt)) in
     rw (one-byte reason small) (sent-leaves p s (some (Requests.failedOf reason version sequence)) (bs .0) (bs .1))
@@ -130,13 +130,13 @@ fails false reason version sequence v h k = k
 tested-small : (m : Message) → Small (Requests.tested m)
 unfolding Requests.tested
 tested-small m =
-    fails (not (Requests.served (m .version))) 5 _ _ _ (omega arith)
+    fails (not (Requests.versionServed (m .version))) 5 _ _ _ (omega arith)
     (fails (leb (2 ^ 63) (m .sequence)) 6 _ _ _ (omega arith)
     (fails (not (Requests.known (m .command))) 3 _ _ _ (omega arith)
     (fails (not (Requests.lengthAllowed (m .command) (length (m .payload)))) 7 _ _ _ (omega arith) (found-good m))))
 
 -- and of the line layer's tests
-abbrev SmallWhere : Line.Verdict → Type 0
+abbrev SmallWhere : Line.LineVerdict → Type 0
 SmallWhere v = Small (Requests.testedWhere v)
 
 failed-small : (reason : ℕ) (sequence : Option ℕ) → reason < 256 → SmallWhere (Line.failure reason sequence)
@@ -177,11 +177,11 @@ module _ (image : List ℕ) (each : Each Byte image) (p : Parts) (s : Sound p) w
 
   -- a frame that is not empty
   frame-leaves : (v : Verdict) → Judgeable v
-      → Leaves p (Receive.partsWith p ended (Receive.innerBy image (p .factory) (Receive.innerOf p) v)) (Requests.judged image (withReceived (view p) (some [])) v)
+      → Leaves p (Receive.partsWith p ended (Receive.innerBy image (p .factory) (Receive.innerOf p) v)) (Requests.afterVerdict image (withReceived (view p) (some [])) v)
   frame-leaves v j =
       let a = rw (finished-received (p .reader) (s .valid .reader)) at (reader-leaves p s ended (finished-kept (p .reader) (s .valid .reader))) in
       let b = judged-leaves image each _ (a .1) v j in
-      (b .0 ∙ ap (λ x. Requests.judged image x v) (a .0), b .1, lengths-then (a .2) (b .2))
+      (b .0 ∙ ap (λ x. Requests.afterVerdict image x v) (a .0), b .1, lengths-then (a .2) (b .2))
 
   received-view : view p .received ≡ receivedOf (p .reader)
   unfolding view
@@ -197,31 +197,31 @@ module _ (image : List ℕ) (each : Each Byte image) (p : Parts) (s : Sound p) w
       (a .0 ∙ progress-same (view p) (some []) (received-view ∙ e), a .1, a .2)
   closed-leaves (some (b ∷ bs)) e = frame-leaves _ (judgeable _ (rw e) (verdict-small (b ∷ bs)))
 
-  zero-leaves : Leaves p (Receive.answered image p ended (LineReader.finish (p .reader) .answer)) (Requests.closed image (view p) (view p .received))
-  unfolding Receive.answered
+  zero-leaves : Leaves p (Receive.afterAnswer image p ended (LineReader.finish (p .reader) .answer)) (Requests.closed image (view p) (view p .received))
+  unfolding Receive.afterAnswer
   zero-leaves = rw (finished-verdict (p .reader) (s .valid .reader) ∙ ap verdictSince (sym received-view)) (closed-leaves (view p .received) (sym received-view))
 
   -- a byte that is not 00
   pushed-leaves : (b : ℕ) → b < 256
-      → Leaves p (Receive.partsWith p (LineReader.pushed (p .reader) b) (Receive.innerOf p)) (withReceived (view p) (Requests.more (view p .received) b))
+      → Leaves p (Receive.partsWith p (LineReader.pushed (p .reader) b) (Receive.innerOf p)) (withReceived (view p) (Requests.moreReceived (view p .received) b))
   pushed-leaves b small =
       let a = reader-leaves p s (LineReader.pushed (p .reader) b) (pushed-kept (p .reader) b (s .valid .reader) small) in
-      let more = pushed-received (p .reader) b (s .valid .reader) ∙ ap (λ r. Requests.more r b) (sym received-view) in
+      let more = pushed-received (p .reader) b (s .valid .reader) ∙ ap (λ r. Requests.moreReceived r b) (sym received-view) in
       (a .0 ∙ ap (withReceived (view p)) more, a .1, a .2)
 
 pub feed-leaves : (image : List ℕ) (p : Parts) (b : ℕ) → Each Byte image → Sound p → b < 256
-    → Leaves p (Receive.feed image p b) (Requests.byte image (view p) b)
-unfolding Receive.feed Requests.byte
+    → Leaves p (Receive.feedByte image p b) (Requests.receiveByte image (view p) b)
+unfolding Receive.feedByte Requests.receiveByte
 feed-leaves image p b each s small =
     cond-both (λ q t. Leaves p q t) (eqb b 0) (λ _. zero-leaves image each p s) (λ _. pushed-leaves image each p s b small)
 
 -- ---- Many
 
 pub fed-leaves : (image : List ℕ) (p : Parts) (bs : List ℕ) → Each Byte image → Sound p → Each Byte bs
-    → Leaves p (Receive.fed image p bs) (Requests.stream image (view p) bs)
-unfolding Receive.fed Requests.stream
+    → Leaves p (Receive.feedBytes image p bs) (Requests.receiveStream image (view p) bs)
+unfolding Receive.feedBytes Requests.receiveStream
 fed-leaves image p [] i s h = (refl, s, lengths-same)
 fed-leaves image p (b ∷ bs) i s h =
     let f = feed-leaves image p b i s (h .0) in
-    let g = fed-leaves image (Receive.feed image p b) bs i (f .1) (h .1) in
-    (g .0 ∙ ap (λ x. Requests.stream image x bs) (f .0), g .1, lengths-then (f .2) (g .2))
+    let g = fed-leaves image (Receive.feedByte image p b) bs i (f .1) (h .1) in
+    (g .0 ∙ ap (λ x. Requests.receiveStream image x bs) (f .0), g .1, lengths-then (f .2) (g .2))

@@ -37,16 +37,16 @@ module _ (p : Calls.Parts) (v : Valid p) where
   waiting-count = length-listed _ _
 
   posted : {action : ℕ} {text : List ℕ} → Posting (p .registers) action text
-      → Does p (Calls.registered none (Calls.withAlert (p .registers) action text)) (Local.left (Local.posted (view p) action text))
-  unfolding view Local.posted
+      → Does p (Calls.registersOutcome none (Calls.withAlert (p .registers) action text)) (Local.left (Local.withPosted (view p) action text))
+  unfolding view Local.withPosted
   posted c = (
     refl,
     kept-view p (posted-kept c) (c .valid) ∙ rw (posted-status c, posted-options c, posted-count c, posted-alerts c),
     valid-with p Part.registers _ v (posted-valid c),
   )
 
-  pub post-meant : (action : ℕ) (text : List ℕ) → action < 256 → Does p (Calls.posting (p .registers) action text) (Local.post (view p) action text)
-  unfolding Calls.posting Local.post
+  pub post-meant : (action : ℕ) (text : List ℕ) → action < 256 → Does p (Calls.postPromise (p .registers) action text) (Local.post (view p) action text)
+  unfolding Calls.postPromise Local.post
   post-meant action text h =
       rw (v .registers)
       (cond-both (Does p) (eqb action 0) (λ e. refl) (λ e.
@@ -59,7 +59,7 @@ module _ (p : Calls.Parts) (v : Valid p) where
   -- ---- set options
 
   set : (options : ℕ) → options < 2 ^ 64 → Local.optionsAllowed options ≡ true → let s = overlay Layout.options-offset (bytes 8 options) (p .registers) in
-      Does p (Calls.registered none s) (Local.left (withOptions (view p) options))
+      Does p (Calls.registersOutcome none s) (Local.left (withOptions (view p) options))
   unfolding view
   set options small allowed-then =
       let r = p .registers in
@@ -83,31 +83,31 @@ module _ (p : Calls.Parts) (v : Valid p) where
       )
 
   pub options-meant : (options : ℕ) → options < 2 ^ 64
-      → Does p (Calls.settingOptions (p .registers) options) (Local.setOptions (view p) options)
-  unfolding Calls.settingOptions Local.setOptions
+      → Does p (Calls.optionsPromise (p .registers) options) (Local.setOptions (view p) options)
+  unfolding Calls.optionsPromise Local.setOptions
   options-meant options h =
       rw (v .registers)
       (cond-both (Does p) (Local.optionsAllowed options) (λ e. set options h e) (λ e. refl))
 
   -- ---- read
 
-  pub signal-meant : Calls.signalOf (p .registers) ≡ Calls.is (Local.asserted (view p))
-  unfolding Calls.signalOf Local.asserted view
+  pub signal-meant : Calls.signalPromise (p .registers) ≡ Calls.is (Local.asserted (view p))
+  unfolding Calls.signalPromise Local.asserted view
   signal-meant = rw (v .registers)
 
-  pub flags-meant : Calls.flagsOf (p .registers) ≡ Calls.is (view p .reboot-asked, view p .power-off-asked)
-  unfolding Calls.flagsOf view
+  pub flags-meant : Calls.flagsPromise (p .registers) ≡ Calls.is (view p .reboot-asked, view p .power-off-asked)
+  unfolding Calls.flagsPromise view
   flags-meant = rw (v .registers)
 
   -- a record of either kind
   record-meant : (k : Kind) → Calls.recordOffset k + Layout.record-length ≤ Layout.registers-length
       → RecordedAs p k (recordedOf (p .registers) (Calls.recordOffset k))
-  unfolding Calls.recordOf Calls.recordAt Calls.recordBytes recordedOf
+  unfolding Calls.recordPromise Calls.recordAt Calls.recordBytesPromise recordedOf
   record-meant k l =
       let r = p .registers in
       let at = Calls.recordOffset k in
       let w = registers-valid r (v .registers) in
-      let n = length-run (at + Layout.record-kept-offset) (Calls.keptOf r at) r (omega arith) in
+      let n = length-run (at + Layout.record-kept-offset) (Calls.keptCount r at) r (omega arith) in
       (Calls.recordAt r at, rw (v .registers), rw (v .registers) (reads (eqb (Layout.recordHeld r at) 1) _ _ _ _ (sym n)))
     where
       reads : (t : Bool) (code whole kept : ℕ) (bs : List ℕ) → kept ≡ length bs

@@ -23,9 +23,9 @@ use Rattle.line_claims.proofs.MessageLaws.{message-each}
 use Rattle.supervisor.specs.Layout
 use Rattle.supervisor.specs.Valid.{validOutbox}
 use Rattle.supervisor.proofs.ValidLaws.{outbox-valid}
-use Rattle.requests.specs.Requests.{owed}
-use Rattle.requests.specs.Receive.{sentBox, Head, replyBytes, messageBy}
-use Rattle.requests.proofs.KeptLaws.{begun, first-low, offsets, filled, sent-from, sent-to, sent-rest, run-short, reply-short}
+use Rattle.responder.specs.Requests.{owed}
+use Rattle.responder.specs.Receive.{sentBox, Head, replyBytes, messageBy}
+use Rattle.responder.proofs.KeptLaws.{begun, first-low, offsets, filled, sent-from, sent-to, sent-rest, run-short, reply-short}
 use Rattle.supervisor_claims.specs.View.{pendingOf}
 
 -- ---- a reply

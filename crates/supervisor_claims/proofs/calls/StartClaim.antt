@@ -27,7 +27,7 @@ use Rattle.supervisor.proofs.OffsetLaws.{offset-within}
 use Rattle.supervisor.proofs.StartLaws.{LongEnough, long-enough-is}
 use Rattle.supervisor.proofs.ValidLaws.{OutboxValid, FactoryValid, RecordValid, RegistersValid}
 use Rattle.supervisor.proofs.ValidLaws.{all-none, start-good, valid-outbox, valid-factory, valid-settings, valid-registers}
-use Rattle.supervisor_claims.specs.View.{listed, factoryOf, settingOf, settingsOf, recordedOf, retainedOf, pendingOf, view}
+use Rattle.supervisor_claims.specs.View.{tabulated, factoryOf, settingOf, settingsOf, recordedOf, retainedOf, pendingOf, view}
 use Rattle.supervisor_claims.specs.Sound.{Valid}
 use Rattle.supervisor_claims.specs.Demand2.{Starts, StartMeant}
 use Rattle.supervisor_claims.proofs.laws.ViewLaws.{listed-same, listed-replicate, factory-same, Clear, length-clear, clear, overlay-middle}
@@ -108,12 +108,12 @@ module _ (o : List ℕ) (z : Clear 0 Layout.outbox-length o) where
   unfolding pendingOf
   pending-none = rw (z 2 Layout.outbox-from-offset (omega arith) (omega arith), z 2 Layout.outbox-to-offset (omega arith) (omega arith))
 
-module _ (s : List ℕ) (h : Reader.state-length ≤ length s) where
-  received-none : receivedOf (Reader.counted 0 s) ≡ some []
-  unfolding receivedOf Reader.kept
+module _ (s : List ℕ) (h : Reader.reader-length ≤ length s) where
+  received-none : receivedOf (Reader.withCount 0 s) ≡ some []
+  unfolding receivedOf Reader.receivedBytes
   received-none = rw (count-counted 0 s (omega arith) (omega arith))
 
-  reader-valid : Reader.valid (Reader.counted 0 s) ≡ true
+  reader-valid : Reader.validReader (Reader.withCount 0 s) ≡ true
   reader-valid = ready-valid _ (omega (arith, length-counted 0 s (omega arith)), omega (arith, count-counted 0 s (omega arith) (omega arith)))
 
 -- ---- the state that parts hold
@@ -128,7 +128,7 @@ record Begun (f : Factory) (q : Calls.Parts) : Type 0 where
   registers : Clear 8 Layout.registers-length (q .registers)
 
 begun-view : (f : Factory) (q : Calls.Parts) → Begun f q → view q ≡ fresh f
-unfolding view fresh retainedOf listed
+unfolding view fresh retainedOf tabulated
 begun-view f q b =
     let r = q .registers in
     let z = b .registers in
@@ -212,14 +212,14 @@ module _ (d : List ℕ) (size : length d ≡ Layout.start-length) (good : goodSt
 
 module _ (d : List ℕ) (size : length d ≡ Layout.start-length) (p : Calls.Parts) (longEnough : Calls.longEnough p ≡ true) where
   -- start data that document 01 refuses are refused as 11, and nothing changes
-  pub start-refused : Local.badStart (factoryOf d) ≡ true → Calls.starting d p ≡ record { refusal = some 11; parts = p }
-  unfolding Calls.starting
+  pub start-refused : Local.badStart (factoryOf d) ≡ true → Calls.startPromise d p ≡ record { refusal = some 11; parts = p }
+  unfolding Calls.startPromise
   start-refused e = rw (longEnough, good-bad d (omega arith), e)
 
   -- all other are accepted, and leave valid parts that hold the fresh state
   pub start-fresh : Local.badStart (factoryOf d) ≡ false
-      → (Calls.starting d p .refusal ≡ none) × (view (Calls.starting d p .parts) ≡ fresh (factoryOf d)) × Valid (Calls.starting d p .parts)
-  unfolding Calls.starting
+      → (Calls.startPromise d p .refusal ≡ none) × (view (Calls.startPromise d p .parts) ≡ fresh (factoryOf d)) × Valid (Calls.startPromise d p .parts)
+  unfolding Calls.startPromise
   start-fresh e =
       let good : goodStart d ≡ true = good-bad d (omega arith) ∙ ap not e in
       let r = long-enough-is p longEnough in
@@ -229,4 +229,4 @@ module _ (d : List ℕ) (size : length d ≡ Layout.start-length) (p : Calls.Par
 pub start-meant : StartMeant
 unfolding Local.start
 start-meant d size p room =
-    cond-by (Starts p (Calls.starting d p)) (Local.badStart (factoryOf d)) _ _ (start-refused d size p room) (start-fresh d size p room)
+    cond-by (Starts p (Calls.startPromise d p)) (Local.badStart (factoryOf d)) _ _ (start-refused d size p room) (start-fresh d size p room)

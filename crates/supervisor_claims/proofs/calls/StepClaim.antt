@@ -15,73 +15,73 @@ use Rattle.line.specs.Judge.{judge}
 use Rattle.line.specs.Reader as LineReader
 use Rattle.line.proofs.State.{valid-ready, ready-valid, ready-pushed}
 use Rattle.supervisor.specs.Calls.{Parts}
-use Rattle.requests.specs.Requests
-use Rattle.requests.specs.Receive
-use Rattle.supervisor_claims.specs.Histories.{upTo, endedMeant, frameEnds, stepped, stepAnswer}
+use Rattle.responder.specs.Requests
+use Rattle.responder.specs.Receive
+use Rattle.supervisor_claims.specs.Histories.{upTo, endedMeant, endedInPiece, stepped, stepAnswer}
 use Rattle.supervisor_claims.proofs.calls.ReceivedClaim.{pushed-received, finished-verdict}
 
 -- ---- the bytes read
 
 pub step-used : (piece s : List ℕ) → LineReader.readPiece s piece .used ≡ upTo piece
-unfolding LineReader.readPiece LineReader.next upTo
+unfolding LineReader.readPiece LineReader.oneByteLater upTo
 step-used [] s = refl
 step-used (zero ∷ bs) s = refl
 step-used (suc b ∷ bs) s = rw eqb·suc-zero (ap suc (step-used bs (LineReader.pushed s (suc b))))
 
 feed-close : (image : List ℕ) (p : Parts) → let o = LineReader.finish (p .reader) in
-    Receive.answered image p (o .state) (o .answer) ≡ Receive.feed image p 0
-unfolding Receive.feed
+    Receive.afterAnswer image p (o .state) (o .answer) ≡ Receive.feedByte image p 0
+unfolding Receive.feedByte
 feed-close image p = refl
 
 feed-push : (image : List ℕ) (p : Parts) (b : ℕ)
-    → Receive.feed image p (suc b) ≡ Receive.partsWith p (LineReader.pushed (p .reader) (suc b)) (Receive.innerOf p)
-unfolding Receive.feed
+    → Receive.feedByte image p (suc b) ≡ Receive.partsWith p (LineReader.pushed (p .reader) (suc b)) (Receive.innerOf p)
+unfolding Receive.feedByte
 feed-push image p b = rw eqb·suc-zero
 
 pub step-fed : (image piece : List ℕ) (p : Parts) → let o = LineReader.readPiece (p .reader) piece in
-    Receive.answered image p (o .state) (o .answer) ≡ Receive.fed image p (ListN.take (upTo piece) piece)
-unfolding LineReader.readPiece LineReader.next upTo Receive.fed Receive.answered Receive.innerAfter Receive.verdictOf
+    Receive.afterAnswer image p (o .state) (o .answer) ≡ Receive.feedBytes image p (ListN.take (upTo piece) piece)
+unfolding LineReader.readPiece LineReader.oneByteLater upTo Receive.feedBytes Receive.afterAnswer Receive.innerAfter Receive.verdictOf
 step-fed image [] p = refl
 step-fed image (zero ∷ bs) p = feed-close image p
 step-fed image (suc b ∷ bs) p =
     let q = Receive.partsWith p (LineReader.pushed (p .reader) (suc b)) (Receive.innerOf p) in
-    rw eqb·suc-zero (step-fed image bs q ∙ ap (λ x. Receive.fed image x (ListN.take (upTo bs) bs)) (sym (feed-push image p b)))
+    rw eqb·suc-zero (step-fed image bs q ∙ ap (λ x. Receive.feedBytes image x (ListN.take (upTo bs) bs)) (sym (feed-push image p b)))
 
 -- ---- the frame's end
 
 -- an answer to a 00
-abbrev Ends : LineReader.Report → Type 0
+abbrev Ends : LineReader.ReadReport → Type 0
 Ends (LineReader.refused n) = ⊥
 Ends LineReader.more = ⊥
 Ends LineReader.empty = Unit {0}
 Ends (LineReader.message version sequence command n) = Unit {0}
 Ends (LineReader.failed reason sequence) = Unit {0}
 
-verdict-ends : (v : Line.Verdict) → Ends (LineReader.verdictReport v)
+verdict-ends : (v : Line.LineVerdict) → Ends (LineReader.verdictReport v)
 unfolding LineReader.verdictReport
 verdict-ends (Line.failure reason sequence) = tt
 verdict-ends (Line.good m) = tt
 
 finish-ends : (s : List ℕ) → Ends (LineReader.finish s .answer)
-unfolding LineReader.finish LineReader.settle
+unfolding LineReader.finish LineReader.finishForm
 finish-ends s =
-    cond-by P (eqb (LineReader.count s) 0) _ _ (λ e. tt) (λ e.
-    cond-by P (ltb LineLimits.longest-form (LineReader.count s)) _ _ (λ f. tt) (λ f. verdict-ends (judge (LineReader.kept s))))
+    cond-by P (eqb (LineReader.receivedCount s) 0) _ _ (λ e. tt) (λ e.
+    cond-by P (ltb LineLimits.longest-form (LineReader.receivedCount s)) _ _ (λ f. tt) (λ f. verdict-ends (judge (LineReader.receivedBytes s))))
   where
-    P : LineReader.Settled → Type 0
+    P : LineReader.FrameOutcome → Type 0
     P x = Ends (x .answer)
 
-ended-verdict : (reader : List ℕ) (a : LineReader.Report) → Ends a → Receive.ended reader a ≡ endedMeant (Receive.verdictOf reader a)
-unfolding Receive.ended Receive.verdictOf
+ended-verdict : (reader : List ℕ) (a : LineReader.ReadReport) → Ends a → Receive.endedByReader reader a ≡ endedMeant (Receive.verdictOf reader a)
+unfolding Receive.endedByReader Receive.verdictOf
 ended-verdict reader (LineReader.refused n) h = absurd h
 ended-verdict reader LineReader.more h = absurd h
 ended-verdict reader LineReader.empty h = refl
 ended-verdict reader (LineReader.message version sequence command n) h = refl
 ended-verdict reader (LineReader.failed reason sequence) h = refl
 
-pub step-ends : (piece s : List ℕ) → LineReader.valid s ≡ true → let o = LineReader.readPiece s piece in
-    Receive.ended (o .state) (o .answer) ≡ frameEnds (receivedOf s) piece
-unfolding LineReader.readPiece LineReader.next frameEnds Receive.ended
+pub step-ends : (piece s : List ℕ) → LineReader.validReader s ≡ true → let o = LineReader.readPiece s piece in
+    Receive.endedByReader (o .state) (o .answer) ≡ endedInPiece (receivedOf s) piece
+unfolding LineReader.readPiece LineReader.oneByteLater endedInPiece Receive.endedByReader
 step-ends [] s v = refl
 step-ends (zero ∷ bs) s v = ended-verdict _ _ (finish-ends s) ∙ ap endedMeant (finished-verdict s v)
 step-ends (suc b ∷ bs) s v =
@@ -92,14 +92,14 @@ step-ends (suc b ∷ bs) s v =
 
 -- ---- no refusal
 
-abbrev Accepts : LineReader.Report → Type 0
+abbrev Accepts : LineReader.ReadReport → Type 0
 Accepts (LineReader.refused n) = ⊥
 Accepts LineReader.more = Unit {0}
 Accepts LineReader.empty = Unit {0}
 Accepts (LineReader.message version sequence command n) = Unit {0}
 Accepts (LineReader.failed reason sequence) = Unit {0}
 
-ends-accepts : (a : LineReader.Report) → Ends a → Accepts a
+ends-accepts : (a : LineReader.ReadReport) → Ends a → Accepts a
 ends-accepts (LineReader.refused n) h = h
 ends-accepts LineReader.more h = tt
 ends-accepts LineReader.empty h = tt
@@ -107,23 +107,23 @@ ends-accepts (LineReader.message version sequence command n) h = tt
 ends-accepts (LineReader.failed reason sequence) h = tt
 
 accepts : (piece s : List ℕ) → Accepts (LineReader.readPiece s piece .answer)
-unfolding LineReader.readPiece LineReader.next
+unfolding LineReader.readPiece LineReader.oneByteLater
 accepts [] s = tt
 accepts (zero ∷ bs) s = ends-accepts (LineReader.finish s .answer) (finish-ends s)
 accepts (suc b ∷ bs) s = rw eqb·suc-zero (accepts bs (LineReader.pushed s (suc b)))
 
-verdict-stepped : (used : ℕ) (v : Requests.Verdict) → stepAnswer used (Receive.endedBy v) ≡ stepped used (Receive.endedBy v)
+verdict-stepped : (used : ℕ) (v : Requests.Verdict) → stepAnswer used (Receive.endedByVerdict v) ≡ stepped used (Receive.endedByVerdict v)
 verdict-stepped used (Requests.failure reason version sequence) = refl
 verdict-stepped used (Requests.good m) = refl
 
-report-stepped : (used : ℕ) (reader : List ℕ) (a : LineReader.Report) → Accepts a
-    → stepAnswer used (Receive.ended reader a) ≡ stepped used (Receive.ended reader a)
-unfolding Receive.ended
+report-stepped : (used : ℕ) (reader : List ℕ) (a : LineReader.ReadReport) → Accepts a
+    → stepAnswer used (Receive.endedByReader reader a) ≡ stepped used (Receive.endedByReader reader a)
+unfolding Receive.endedByReader
 report-stepped used reader (LineReader.refused n) h = absurd h
 report-stepped used reader LineReader.more h = refl
 report-stepped used reader LineReader.empty h = refl
 report-stepped used reader (LineReader.message version sequence command n) h =
-    verdict-stepped used (Requests.tested (Receive.messageBy version sequence command (LineReader.dataOf reader n)))
+    verdict-stepped used (Requests.tested (Receive.messageBy version sequence command (LineReader.dataPromise reader n)))
 report-stepped used reader (LineReader.failed reason sequence) h = refl
 
 -- on parts of any kind

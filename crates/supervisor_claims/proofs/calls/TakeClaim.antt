@@ -105,25 +105,25 @@ leaves-some o b bs v h =
       terminator-owed = rw (terminator-owed, last) (flag-says (eqb (getD (b ∷ bs) (length bs) 0) 0));
     }
 
-leaves : (o bs : List ℕ) → OutboxValid o → length bs ≤ Layout.outboxTo o - Layout.outboxFrom o → Left o bs (Calls.afterTaken bs o)
-unfolding Calls.afterTaken Local.lastNonZero noted moved-on
+leaves : (o bs : List ℕ) → OutboxValid o → length bs ≤ Layout.outboxTo o - Layout.outboxFrom o → Left o bs (Calls.outboxAfterTake bs o)
+unfolding Calls.outboxAfterTake Local.lastNonZero noted moved-on
 leaves o [] v h = record { valid = v; pending = refl; terminator-owed = refl }
 leaves o (b ∷ bs) v h = leaves-some o b bs v h
 
 -- the bytes taken are the first of those pending
-taken-first : (o room : List ℕ) → take (length room) (pendingOf o) ≡ Calls.takenBytes o room
+taken-first : (o room : List ℕ) → take (length room) (pendingOf o) ≡ Calls.takeableBytes o room
 unfolding pendingOf
 taken-first o room = take-min (length room) _ _
 
 -- ---- the claim
 
 module _ (p : Calls.Parts) (v : Valid p) where
-  pub take-meant : (room : List ℕ) → let t = Calls.taking (p .outbox) room in
+  pub take-meant : (room : List ℕ) → let t = Calls.takePromise (p .outbox) room in
       (t .report ≡ Calls.moved (length (Local.taken (view p) (length room))))
       × (t .room ≡ overlay 0 (Local.taken (view p) (length room)) room)
       × (view (withOutbox p (t .outbox)) ≡ Local.afterTake (view p) (length room))
       × Valid (withOutbox p (t .outbox))
-  unfolding Calls.taking Local.taken Local.afterTake view
+  unfolding Calls.takePromise Local.taken Local.afterTake view
   take-meant room =
       let o = p .outbox in
       let w = outbox-valid o (v .outbox) in

@@ -14,7 +14,7 @@ use Rattle.octets.specs.Bytes.{Each, Byte}
 use Rattle.octets.proofs.Conditions.{cond-by}
 use Rattle.octets.proofs.Each.{each-append}
 use Rattle.line.specs.Message.{Message}
-use Rattle.line_claims.specs.Pieces.{split, nonEmpty, closedBy}
+use Rattle.line_claims.specs.Pieces.{split, nonEmpty, closedBehind}
 use Rattle.line_claims.proofs.Pieces.{split-close, nonEmpty-append}
 use Rattle.supervisor.specs.Limits
 use Rattle.supervisor.specs.State.{Factory, Recorded, Retained, State, fresh}
@@ -22,17 +22,17 @@ use Rattle.supervisor.specs.Local
 use Rattle.supervisor.specs.Calls.{Parts}
 use Rattle.supervisor.specs.declared.registers.Kind.{Kind}
 use Rattle.saving.specs.Saving
-use Rattle.requests.specs.Commands.{numberOf, withNumber, commandOf}
-use Rattle.requests.specs.Requests
-use Rattle.requests.specs.Requests.{Verdict, failure, good, Carried, verdict, effect, carried, judged, sent, stream, owed, replyOf, replyFrame, oldest}
+use Rattle.responder.specs.Commands.{commandNumber, withNumber, commandOfNumber}
+use Rattle.responder.specs.Requests
+use Rattle.responder.specs.Requests.{Verdict, failure, good, Carried, verdict, effect, carryOut, afterVerdict, sent, receiveStream, owed, replyOf, replyFrame, oldest}
 use Rattle.supervisor_claims.specs.View.{factoryOf, view}
 use Rattle.supervisor_claims.specs.Sound.{Bytes}
 use Rattle.supervisor_claims.specs.Histories
 use Rattle.supervisor_claims.specs.Histories.{LocalCall, Typed, done, doneMeans, recordMeans, restoreMeans, meant}
-use Rattle.supervisor_claims.specs.Histories.{Lent, Made, enough, meantMade, made, leftMeant, AllTyped, reached, startWith, received}
-use Rattle.supervisor_claims.specs.FrameHistory.{reads, starts, receivedBy, startsAnew, joined, joinedAll, framesBy, framed, allFramed, carriedOut}
-use Rattle.supervisor_claims.specs.LastSet.{request, requestsIn, requestsOf}
-use Rattle.supervisor_claims.specs.Alerts.{retains, retainsAfter, retainsAll, Drops, NoAlert, alertOf, alertReply, CallKeeps, NoStart}
+use Rattle.supervisor_claims.specs.Histories.{Lent, Made, enough, meantMade, made, leftMeant, AllTyped, reached, startWith, receiveWith}
+use Rattle.supervisor_claims.specs.FrameHistory.{pieceRead, isAcceptedStart, bytesReceivedBy, startsAnew, receivedSince, receivedSinceAll, framesClosedBy, frameCarried, framesCarried, carriedOut}
+use Rattle.supervisor_claims.specs.LastSet.{requestAhead, requestsIn, requestsOf}
+use Rattle.supervisor_claims.specs.Alerts.{retains, retainsAfter, retainsAll, Drops, NoAlert, alertRequest, alertReply, CallKeeps, NoStarts}
 use Rattle.supervisor_claims.specs.Item1.{LocalKeeps, FailedKeeps, RequestRetains, RetainedExactly, FreshAlertAnswered, FreshAfterReboot}
 use Rattle.supervisor_claims.proofs.laws.CallsKeep.{calls-keep}
 use Rattle.supervisor_claims.proofs.claims.History.{history, one-call}
@@ -54,12 +54,12 @@ module _ (s : State) where
   record-keeps k none = same
   record-keeps k (some x) = same
 
-  restore-keeps : (image : List ℕ) (r : Saving.Read) → CallKeeps s (Histories.restore image) (restoreMeans s (Saving.restoredBy s r))
+  restore-keeps : (image : List ℕ) (r : Saving.ImageRead) → CallKeeps s (Histories.restore image) (restoreMeans s (Saving.restoreRead s r))
   restore-keeps image (Saving.fault n at) = same
   restore-keeps image (Saving.good es) = same
 
 pub local-keeps : LocalKeeps
-unfolding meant Local.afterTake Local.post Local.posted Local.setOptions Saving.restore
+unfolding meant Local.afterTake Local.post Local.withPosted Local.setOptions Saving.restore
 local-keeps s (Histories.take room) = same s
 local-keeps s (Histories.post action text) =
     let c = Histories.post action text in
@@ -75,10 +75,10 @@ local-keeps s Histories.flags = same s
 local-keeps s (Histories.readRecord k) = record-keeps s k (Histories.recordKept s k)
 local-keeps s (Histories.save room) =
     cond-by (CallKeeps s (Histories.save room)) (ltb (length room) (length (Saving.saved (s .settings)))) _ _ (λ e. same s) (λ e. same s)
-local-keeps s (Histories.restore image) = restore-keeps s image (Saving.read image)
+local-keeps s (Histories.restore image) = restore-keeps s image (Saving.readImage image)
 
 pub failed-keeps : FailedKeeps
-unfolding framed judged sent
+unfolding frameCarried afterVerdict sent
 failed-keeps image s [] reason version sequence e = (refl, refl)
 failed-keeps image s (b ∷ bs) reason version sequence e = rw e (refl, refl)
 
@@ -89,8 +89,8 @@ unfolding Requests.alertAsked Requests.alertTaken
 alert-asked version s n none e = refl
 alert-asked version s n (some r) e = cond-by (λ (x : Carried). retains (x .state .retained) ≡ true) (eqb (r .sequence) n) _ _ (λ f. rw e) (λ f. refl)
 
-alert-retains : (image : List ℕ) (s : State) (m : Message) → m .command ≡ 0x0a → retains (carried image s m .state .retained) ≡ true
-unfolding carried commandOf withNumber numberOf effect
+alert-retains : (image : List ℕ) (s : State) (m : Message) → m .command ≡ 0x0a → retains (carryOut image s m .state .retained) ≡ true
+unfolding carryOut commandOfNumber withNumber commandNumber effect
 alert-retains image s m e = rw e (alert-asked (m .version) s (m .sequence) (s .retained) refl)
 
 pub request-retains : RequestRetains
@@ -98,7 +98,7 @@ unfolding retainsAfter
 request-retains image s m = by (eqb (m .command) 0x01) (eqb (m .command) 0x02) (eqb (m .command) 0x0a) refl refl refl
   where
     by : (x y z : Bool) → eqb (m .command) 0x01 ≡ x → eqb (m .command) 0x02 ≡ y → eqb (m .command) 0x0a ≡ z
-        → retains (carried image s m .state .retained) ≡ retainsAfter (retains (s .retained)) m
+        → retains (carryOut image s m .state .retained) ≡ retainsAfter (retains (s .retained)) m
     by true y z e f g = rw (e, reboot-forgets image s m (eqb-true _ _ e) .retained)
     by false true z e f g = rw (e, f, power-off-forgets image s m (eqb-true _ _ f) .retained)
     by false false true e f g = rw (e, f, g, alert-retains image s m (eqb-true _ _ g))
@@ -106,19 +106,19 @@ request-retains image s m = by (eqb (m .command) 0x01) (eqb (m .command) 0x02) (
 
 module _ (image : List ℕ) where
   judged-retains : (s : State) (v : Verdict) (rs : List Message)
-      → retainsAll (retains (judged image s v .retained)) rs ≡ retainsAll (retains (s .retained)) (request v rs)
-  unfolding judged sent retainsAll
+      → retainsAll (retains (afterVerdict image s v .retained)) rs ≡ retainsAll (retains (s .retained)) (requestAhead v rs)
+  unfolding afterVerdict sent retainsAll
   judged-retains s (failure reason version sequence) rs = refl
   judged-retains s (good m) rs = rw (request-retains image s m)
 
   frames-retain : (fs : List (List ℕ)) (s : State) → let gs = nonEmpty fs in
-      retains (allFramed image s gs .retained) ≡ retainsAll (retains (s .retained)) (requestsIn gs)
-  unfolding nonEmpty allFramed framed requestsIn retainsAll
+      retains (framesCarried image s gs .retained) ≡ retainsAll (retains (s .retained)) (requestsIn gs)
+  unfolding nonEmpty framesCarried frameCarried requestsIn retainsAll
   frames-retain [] s = refl
   frames-retain ([] ∷ fs) s = frames-retain fs s
   frames-retain ((b ∷ bs) ∷ fs) s =
       let v = verdict (b ∷ bs) in
-      frames-retain fs (judged image s v) ∙ judged-retains s v (requestsIn (nonEmpty fs))
+      frames-retain fs (afterVerdict image s v) ∙ judged-retains s v (requestsIn (nonEmpty fs))
 
 retains-append : (b : Bool) (ms ns : List Message) → retainsAll b (ms ++ ns) ≡ retainsAll (retainsAll b ms) ns
 unfolding retainsAll
@@ -157,17 +157,17 @@ fresh-retained : (f : Factory) → RetainedBy [] (fresh f)
 unfolding fresh split nonEmpty requestsOf requestsIn retainsAll
 fresh-retained f = refl
 
-frames-retained : (w : List ℕ) (s : State) → RetainedBy w s → (image bs : List ℕ) → RetainedBy (w ++ bs) (allFramed image s (framesBy w bs))
-unfolding framesBy
+frames-retained : (w : List ℕ) (s : State) → RetainedBy w s → (image bs : List ℕ) → RetainedBy (w ++ bs) (framesCarried image s (framesClosedBy w bs))
+unfolding framesClosedBy
 frames-retained w s x image bs =
-    frames-retain image (closedBy w bs) s
-    ∙ rw (x, requests-behind w bs, retains-append false (requestsOf w) (requestsIn (framesBy w bs)))
+    frames-retain image (closedBehind w bs) s
+    ∙ rw (x, requests-behind w bs, retains-append false (requestsOf w) (requestsIn (framesClosedBy w bs)))
 
 bytes-retained : (w : List ℕ) (s : State) → RetainedBy w s → (image bs : List ℕ) → RetainedBy (w ++ bs) (carriedOut image w s bs)
 unfolding carriedOut
 bytes-retained w s x image bs = frames-retained w s x image bs
 
-calls-retained : (f : Factory) (ms : List Made) → RetainedBy (joinedAll [] ms) (leftMeant (fresh f) ms)
+calls-retained : (f : Factory) (ms : List Made) → RetainedBy (receivedSinceAll [] ms) (leftMeant (fresh f) ms)
 calls-retained f ms =
     rw (by-frames f ms .1) at (calls-keep RetainedBy fresh-retained bytes-retained (λ w s x c. rw (local-keeps s c .0) x) ms [] (fresh f) (fresh-retained f))
 
@@ -179,8 +179,8 @@ none-retained (some r) e = absurd (subst (λ b. cond b (Unit {0}) ⊥) e tt)
 
 -- where none is retained, an alert request takes the oldest alert that waits
 taken-reply : (image : List ℕ) (s : State) (version n : ℕ) → s .retained ≡ none
-    → replyFrame (replyOf n (carried image s (alertOf version n) .reply)) ≡ alertReply version n (oldest (s .waiting))
-unfolding carried commandOf withNumber numberOf effect Requests.alertAsked Requests.alertTaken replyOf replyFrame alertReply
+    → replyFrame (replyOf n (carryOut image s (alertRequest version n) .reply)) ≡ alertReply version n (oldest (s .waiting))
+unfolding carryOut commandOfNumber withNumber commandNumber effect Requests.alertAsked Requests.alertTaken replyOf replyFrame alertReply
 taken-reply image s version n e = rw e
 
 -- A start that is accepted, on any bytes, then any calls.
@@ -195,21 +195,21 @@ module _ (p : Parts) (b : Bytes p) (l : Lent) (d : List ℕ) (typed : Typed (His
       let f = factoryOf d in
       let hist = history p b l d typed accepted ms t in
       let q = reached p l d ms in
-      let w = joinedAll [] ms in
+      let w = receivedSinceAll [] ms in
       let s = leftMeant (fresh f) ms in
       let since = by-frames f ms .2 in
-      let a = allFramed image s (framesBy w bs) in
-      let x = rw e at (one-call q (received image j bs) (hist .2) c) in
-      let y = rw e at (one-call q (received image j (bs ++ (0 ∷ []))) (hist .2)
+      let a = framesCarried image s (framesClosedBy w bs) in
+      let x = rw e at (one-call q (receiveWith image j bs) (hist .2) c) in
+      let y = rw e at (one-call q (receiveWith image j (bs ++ (0 ∷ []))) (hist .2)
       (c .0, each-append Byte bs (0 ∷ []) (c .1) (omega arith, tt))) in
       let kept : a .retained ≡ none =
       none-retained (a .retained) (frames-retained w s (calls-retained f ms) image bs ∙ rw split-so (behind-none os rs r drops no-alert)) in
-      let waits : view (made q (received image j bs) .parts) .waiting ≡ a .waiting =
+      let waits : view (made q (receiveWith image j bs) .parts) .waiting ≡ a .waiting =
       ap (λ (z : State). z .waiting) (x .leaves .0) ∙ rw (hist .1) (ap (λ (z : State). z .waiting) (sym (stream-carried w s since image bs))) in
-      let answered : stream image s (bs ++ (0 ∷ [])) .pending ≡ owed (s .terminator-owed) ++ alertReply version n (oldest (a .waiting)) =
+      let answered : receiveStream image s (bs ++ (0 ∷ [])) .pending ≡ owed (s .terminator-owed) ++ alertReply version n (oldest (a .waiting)) =
       ap (λ (z : State). z .pending) (stream-closes w s since image bs)
-      ∙ framed-pending image a (split (w ++ bs) .rest) (alertOf version n) v
-      ∙ rw (taken-reply image a version n kept, frames-owed image (framesBy w bs) s) in
+      ∙ framed-pending image a (split (w ++ bs) .rest) (alertRequest version n) v
+      ∙ rw (taken-reply image a version n kept, frames-owed image (framesClosedBy w bs) s) in
       (y .answer, ap (λ (z : State). z .pending) (y .leaves .0) ∙ rw (hist .1, waits) answered)
 
 -- ---- a reboot or power-off among the calls
@@ -227,43 +227,43 @@ closes-request w r e =
     let f = split w .rest in
     rw (split-close w, nonEmpty-append fs (f ∷ []), requests-append (nonEmpty fs) (nonEmpty (f ∷ [])), one-request f r e)
 
-joined-append : (ms ns : List Made) (w : List ℕ) → joinedAll w (ms ++ ns) ≡ joinedAll (joinedAll w ms) ns
-unfolding joinedAll
+joined-append : (ms ns : List Made) (w : List ℕ) → receivedSinceAll w (ms ++ ns) ≡ receivedSinceAll (receivedSinceAll w ms) ns
+unfolding receivedSinceAll
 joined-append [] ns w = refl
-joined-append (m ∷ ms) ns w = joined-append ms ns (joined w m)
+joined-append (m ∷ ms) ns w = joined-append ms ns (receivedSince w m)
 
-joined-behind : (ns : List Made) → NoStart ns → (w : List ℕ) → joinedAll w ns ≡ w ++ joinedAll [] ns
-unfolding joinedAll joined
+joined-behind : (ns : List Made) → NoStarts ns → (w : List ℕ) → receivedSinceAll w ns ≡ w ++ receivedSinceAll [] ns
+unfolding receivedSinceAll receivedSince
 joined-behind [] h w = rw append-nil
 joined-behind (m ∷ ns) h w =
     rw (h .0)
-    (joined-behind ns (h .1) (w ++ receivedBy m)
-    ∙ append-assoc w (receivedBy m) (joinedAll [] ns)
-    ∙ ap (λ x. w ++ x) (sym (joined-behind ns (h .1) (receivedBy m))))
+    (joined-behind ns (h .1) (w ++ bytesReceivedBy m)
+    ∙ append-assoc w (bytesReceivedBy m) (receivedSinceAll [] ns)
+    ∙ ap (λ x. w ++ x) (sym (joined-behind ns (h .1) (bytesReceivedBy m))))
 
 joined-receive : (w : List ℕ) (k : Lent) (image bs : List ℕ) → enough (Histories.receive image bs) k ≡ true
-    → joined w (received image k bs) ≡ w ++ bs
-unfolding joined startsAnew receivedBy starts reads
+    → receivedSince w (receiveWith image k bs) ≡ w ++ bs
+unfolding receivedSince startsAnew bytesReceivedBy isAcceptedStart pieceRead
 joined-receive w k image bs e = rw e
 
-joined-all : (ms ns : List Made) → NoStart ns → (k : Lent) (image bs : List ℕ) → enough (Histories.receive image bs) k ≡ true
-    → joinedAll [] (ms ++ ((received image k bs) ∷ ns)) ≡ (joinedAll [] ms ++ bs) ++ joinedAll [] ns
-unfolding joinedAll
+joined-all : (ms ns : List Made) → NoStarts ns → (k : Lent) (image bs : List ℕ) → enough (Histories.receive image bs) k ≡ true
+    → receivedSinceAll [] (ms ++ ((receiveWith image k bs) ∷ ns)) ≡ (receivedSinceAll [] ms ++ bs) ++ receivedSinceAll [] ns
+unfolding receivedSinceAll
 joined-all ms ns h k image bs e =
-    joined-append ms ((received image k bs) ∷ ns) []
-    ∙ ap (λ x. joinedAll x ns) (joined-receive (joinedAll [] ms) k image bs e)
-    ∙ joined-behind ns h (joinedAll [] ms ++ bs)
+    joined-append ms ((receiveWith image k bs) ∷ ns) []
+    ∙ ap (λ x. receivedSinceAll x ns) (joined-receive (receivedSinceAll [] ms) k image bs e)
+    ∙ joined-behind ns h (receivedSinceAll [] ms ++ bs)
 
 pub fresh-after-reboot : FreshAfterReboot
 fresh-after-reboot p b l d typed accepted ms t k image₁ cs c₁ e₁ r v₁ drops ns u h version n j image bs c e no-alert v =
-    let first : Made = received image₁ k (cs ++ (0 ∷ [])) in
-    let w₀ = joinedAll [] ms in
+    let first : Made = receiveWith image₁ k (cs ++ (0 ∷ [])) in
+    let w₀ = receivedSinceAll [] ms in
     let w = w₀ ++ (cs ++ (0 ∷ [])) in
-    let later = joinedAll [] ns ++ bs in
+    let later = receivedSinceAll [] ns ++ bs in
     let os = requestsOf (w₀ ++ cs) in
-    let rs = requestsIn (framesBy w later) in
-    let whole : joinedAll [] (ms ++ (first ∷ ns)) ++ bs ≡ w ++ later =
-    ap (λ x. x ++ bs) (joined-all ms ns h k image₁ (cs ++ (0 ∷ [])) e₁) ∙ append-assoc w (joinedAll [] ns) bs in
+    let rs = requestsIn (framesClosedBy w later) in
+    let whole : receivedSinceAll [] (ms ++ (first ∷ ns)) ++ bs ≡ w ++ later =
+    ap (λ x. x ++ bs) (joined-all ms ns h k image₁ (cs ++ (0 ∷ [])) e₁) ∙ append-assoc w (receivedSinceAll [] ns) bs in
     let asked : requestsOf w ≡ os ++ (r ∷ []) = ap requestsOf (sym (append-assoc w₀ cs (0 ∷ []))) ∙ closes-request (w₀ ++ cs) r v₁ in
     let all : requestsOf (w ++ later) ≡ os ++ (r ∷ rs) = requests-behind w later ∙ ap (λ x. x ++ rs) asked ∙ append-assoc os (r ∷ []) rs in
     fresh-alert-answered p b l d typed accepted (ms ++ (first ∷ ns)) (each-append (λ (m : Made). Typed (m .call)) ms (first ∷ ns) t (c₁, u))

@@ -7,11 +7,11 @@ use mathlib.Core.Logic.{_⊎_, inl, inr}
 use Prim.Native.Nat.{ℕ}
 use Rattle.octets.specs.Bytes.{Each, Byte}
 use Rattle.supervisor.specs.Calls.{Parts}
-use Rattle.requests.specs.Receive
+use Rattle.responder.specs.Receive
 use Rattle.supervisor_claims.specs.Sound.{Bytes, Lengths}
 use Rattle.supervisor_claims.specs.Histories
-use Rattle.supervisor_claims.specs.Histories.{Answer, refused, done, Did, did, Lent, lentOf, Made, made, Output, outputs, left, received}
-use Rattle.supervisor_claims.specs.Demand2.{AllAnswer, receives, AllDone, AllRefused, CutAny}
+use Rattle.supervisor_claims.specs.Histories.{Answer, refused, done, Did, did, Lent, lentOf, Made, made, Output, outputs, left, receiveWith}
+use Rattle.supervisor_claims.specs.Demand2.{AllAnswer, receiveCalls, AllDone, AllRefused, CutAny}
 use Rattle.supervisor_claims.proofs.Sound.{lengths-same}
 use Rattle.supervisor_claims.proofs.laws.Locality.{lent-bytes, back-lent, back-leaves, lent-again, back-again}
 use Rattle.supervisor_claims.proofs.calls.ReceiveClaim.{fed-leaves}
@@ -31,13 +31,13 @@ module _ (image : List ℕ) (i : Each Byte image) (l : Lent) where
   -- ---- one piece, on any parts
 
   abbrev receiving : List ℕ → Made
-  receiving = received image l
+  receiving = receiveWith image l
 
   module _ (p : Parts) (b : Bytes p) where
     -- the parts that are lent keep their lengths, and all parts hold bytes
     received-keeps : (piece : List ℕ) → Each Byte piece
         → Lengths (lentOf l p) (did (lentOf l p) (Histories.receive image piece) .parts) × Bytes (made p (receiving piece) .parts)
-    unfolding made did Receive.receiving
+    unfolding made did Receive.receivePromise
     received-keeps piece h = by (Receive.validParts (lentOf l p)) refl
       where
         by : (t : Bool) → Receive.validParts (lentOf l p) ≡ t
@@ -57,7 +57,7 @@ module _ (image : List ℕ) (i : Each Byte image) (l : Lent) where
 
     -- a piece of no bytes changes nothing
     none-received : made p (receiving []) .parts ≡ p
-    unfolding made did Receive.receiving Receive.fed
+    unfolding made did Receive.receivePromise Receive.feedBytes
     none-received = by (Receive.validParts (lentOf l p)) refl
       where
         by : (t : Bool) → Receive.validParts (lentOf l p) ≡ t → made p (receiving []) .parts ≡ p
@@ -66,7 +66,7 @@ module _ (image : List ℕ) (i : Each Byte image) (l : Lent) where
 
     -- whatever its bytes are, it is done where the parts that are lent are as 12 requires
     output-so : (piece : List ℕ) → outputOf (made p (receiving piece)) ≡ record { answer = doneWhere (Receive.validParts (lentOf l p)); out = [] }
-    unfolding made did Receive.receiving
+    unfolding made did Receive.receivePromise
     output-so piece = by (Receive.validParts (lentOf l p)) refl
       where
         by : (t : Bool) → Receive.validParts (lentOf l p) ≡ t → outputOf (made p (receiving piece)) ≡ record { answer = doneWhere t; out = [] }
@@ -81,8 +81,8 @@ module _ (image : List ℕ) (i : Each Byte image) (l : Lent) where
   -- what the calls leave, and what each answers, is what one call with all the bytes leaves and answers
   pub pieces-whole : (p : Parts) → Bytes p → (pieces : List (List ℕ)) → Each (Each Byte) pieces
       → let whole = made p (receiving (flatten pieces)) in
-      (left p (receives image l pieces) ≡ whole .parts) × AllAnswer (whole .answer) (outputs p (receives image l pieces))
-  unfolding receives left outputs flatten
+      (left p (receiveCalls image l pieces) ≡ whole .parts) × AllAnswer (whole .answer) (outputs p (receiveCalls image l pieces))
+  unfolding receiveCalls left outputs flatten
   pieces-whole p b [] h = (sym (none-received p b), tt)
   pieces-whole p b (u ∷ pieces) h =
       let c = cut-made p b u (flatten pieces) (h .0) in
@@ -96,16 +96,16 @@ pub cut-any : CutAny
 cut-any image i l p b ps qs h k e = (x .0 ∙ sym (y .0), by (Receive.validParts (lentOf l p)) (answer-so image i l p b (flatten qs)))
   where
     whole : Did
-    whole = made p (received image l (flatten qs))
+    whole = made p (receiveWith image l (flatten qs))
 
-    x : (left p (receives image l ps) ≡ whole .parts) × AllAnswer (whole .answer) (outputs p (receives image l ps))
+    x : (left p (receiveCalls image l ps) ≡ whole .parts) × AllAnswer (whole .answer) (outputs p (receiveCalls image l ps))
     x = rw e at (pieces-whole image i l p b ps h)
 
-    y : (left p (receives image l qs) ≡ whole .parts) × AllAnswer (whole .answer) (outputs p (receives image l qs))
+    y : (left p (receiveCalls image l qs) ≡ whole .parts) × AllAnswer (whole .answer) (outputs p (receiveCalls image l qs))
     y = pieces-whole image i l p b qs k
 
     by : (t : Bool) → whole .answer ≡ doneWhere t → (AllDone image l p ps × AllDone image l p qs) ⊎ (AllRefused image l p ps × AllRefused image l p qs)
     by true a = inl (rw a at (x .1), rw a at (y .1))
     by false a =
-        let z = refused-made p (received image l (flatten qs)) 12 a .0 in
+        let z = refused-made p (receiveWith image l (flatten qs)) 12 a .0 in
         inr ((rw a at (x .1), x .0 ∙ z), (rw a at (y .1), y .0 ∙ z))

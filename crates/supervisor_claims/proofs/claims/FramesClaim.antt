@@ -14,16 +14,16 @@ use borrow.Author.Tests.{ltb-true, ltb-false}
 use Rattle.octets.specs.Bytes.{Each}
 use Rattle.octets.proofs.Each.{each-append}
 use Rattle.line.specs.Limits.{longest-form}
-use Rattle.line_claims.specs.Pieces.{split, nonEmpty, closedBy}
+use Rattle.line_claims.specs.Pieces.{split, nonEmpty, closedBehind}
 use Rattle.line_claims.proofs.Pieces.{split-at, split-none, nonEmpty-append, split-join, closed-rest, closed-join}
 use Rattle.supervisor.specs.State.{Factory, State, fresh, withReceived}
-use Rattle.requests.specs.Requests.{byte, stream, verdictSince}
+use Rattle.responder.specs.Requests.{receiveByte, receiveStream, verdictSince}
 use Rattle.supervisor_claims.specs.View.{factoryOf}
 use Rattle.supervisor_claims.specs.Histories
-use Rattle.supervisor_claims.specs.Histories.{Call, upTo, endedMeant, frameEnds, meant, Made, enough, meantMade, outputsMeant, leftMeant}
-use Rattle.supervisor_claims.specs.FrameHistory.{reads, receivedBy, startsAnew, joined, joinedAll, framesBy, endedBy, framed, allFramed, tailOf}
+use Rattle.supervisor_claims.specs.Histories.{Call, upTo, endedMeant, endedInPiece, meant, Made, enough, meantMade, outputsMeant, leftMeant}
+use Rattle.supervisor_claims.specs.FrameHistory.{pieceRead, bytesReceivedBy, startsAnew, receivedSince, receivedSinceAll, framesClosedBy, endedByFrames, frameCarried, framesCarried, progressOf}
 use Rattle.supervisor_claims.specs.FrameHistory.{carriedOut, carriedCall, carriedMade, outputsByFrames, leftByFrames, carriedFrames}
-use Rattle.supervisor_claims.specs.Demand2.{HistoryFrames, EachOnce, ReceivedSince, InOrderAfter}
+use Rattle.supervisor_claims.specs.Demand2.{HistoryFrames, EachOnce, ReceivedSince, FramesInOrderAfter}
 use Rattle.supervisor_claims.proofs.laws.Progress.{Since, called}
 use Rattle.supervisor_claims.proofs.claims.History.{history}
 use Rattle.supervisor_claims.proofs.claims.InOrder.{tail-over, tail-within, verdict-over, more-tail}
@@ -38,20 +38,20 @@ length-upTo (zero ∷ bs) = refl
 length-upTo (suc b ∷ bs) = rw eqb·suc-zero (ap suc (length-upTo bs))
 
 -- the 00 behind bytes
-pub closed-ends : (p : List ℕ) (fs : List (List ℕ)) → endedMeant (verdictSince (tailOf p)) ≡ endedBy (p ∷ fs)
-unfolding endedBy
+pub closed-ends : (p : List ℕ) (fs : List (List ℕ)) → endedMeant (verdictSince (progressOf p)) ≡ endedByFrames (p ∷ fs)
+unfolding endedByFrames
 closed-ends [] fs = rw (tail-within [] (omega arith))
 closed-ends (b ∷ bs) fs = by (ltb longest-form (length (b ∷ bs))) refl
   where
-    by : (over : Bool) → ltb longest-form (length (b ∷ bs)) ≡ over → endedMeant (verdictSince (tailOf (b ∷ bs))) ≡ endedBy ((b ∷ bs) ∷ fs)
+    by : (over : Bool) → ltb longest-form (length (b ∷ bs)) ≡ over → endedMeant (verdictSince (progressOf (b ∷ bs))) ≡ endedByFrames ((b ∷ bs) ∷ fs)
     by true e =
         let h = ltb-true longest-form (length (b ∷ bs)) e in
         rw (tail-over (b ∷ bs) h, verdict-over (b ∷ bs) h)
     by false e = rw (tail-within (b ∷ bs) (ltb-false _ _ e))
 
 -- the frame that began with the bytes p
-ends-frame : (p piece : List ℕ) → Each (λ b. 1 ≤ b) p → frameEnds (tailOf p) piece ≡ endedBy (split (p ++ ListN.take (upTo piece) piece) .closed)
-unfolding frameEnds upTo endedBy split
+ends-frame : (p piece : List ℕ) → Each (λ b. 1 ≤ b) p → endedInPiece (progressOf p) piece ≡ endedByFrames (split (p ++ ListN.take (upTo piece) piece) .closed)
+unfolding endedInPiece upTo endedByFrames split
 ends-frame p [] h = rw (append-nil, split-none p h)
 ends-frame p (zero ∷ bs) h = rw (split-at p [] h) (closed-ends p [])
 ends-frame p (suc b ∷ bs) h =
@@ -61,22 +61,22 @@ ends-frame p (suc b ∷ bs) h =
 -- ---- one call on a state whose receive progress is what stands behind the last 00 of w
 
 module _ (w : List ℕ) (s : State) (h : Since (split w .rest) s) where
-  pub stream-carried : (image bs : List ℕ) → carriedOut image w s bs ≡ stream image s bs
-  unfolding carriedOut framesBy
+  pub stream-carried : (image bs : List ℕ) → carriedOut image w s bs ≡ receiveStream image s bs
+  unfolding carriedOut framesClosedBy
   stream-carried image bs =
-      rw (← empty-ignored image s (closedBy w bs), closed-rest w bs, split-join w bs)
+      rw (← empty-ignored image s (closedBehind w bs), closed-rest w bs, split-join w bs)
       (sym (in-order-behind image s (split w .rest) bs (h .nonzero) (h .received)))
 
   -- the 00 behind bytes: their frames, and then the one that it closes
   pub stream-closes : (image bs : List ℕ)
-      → stream image s (bs ++ (0 ∷ [])) ≡ withReceived (framed image (allFramed image s (framesBy w bs)) (split (w ++ bs) .rest)) (some [])
-  unfolding carriedOut stream byte
+      → receiveStream image s (bs ++ (0 ∷ [])) ≡ withReceived (frameCarried image (framesCarried image s (framesClosedBy w bs)) (split (w ++ bs) .rest)) (some [])
+  unfolding carriedOut receiveStream receiveByte
   stream-closes image bs =
       stream-append image s bs (0 ∷ [])
-      ∙ rw (← stream-carried image bs) (closed-framed image (allFramed image s (framesBy w bs)) (split (w ++ bs) .rest))
+      ∙ rw (← stream-carried image bs) (closed-framed image (framesCarried image s (framesClosedBy w bs)) (split (w ++ bs) .rest))
 
   call-carried : (c : Call) → carriedCall w s c ≡ meant s c
-  unfolding carriedCall reads meant
+  unfolding carriedCall pieceRead meant
   call-carried (Histories.start d) = refl
   call-carried (Histories.receive image piece) = rw (stream-carried image piece)
   call-carried (Histories.step image piece) =
@@ -86,12 +86,12 @@ module _ (w : List ℕ) (s : State) (h : Since (split w .rest) s) where
 
 -- whatever is lent
 pub made-carried : (w : List ℕ) (s : State) → Since (split w .rest) s → (m : Made)
-    → (carriedMade w s m ≡ meantMade s m) × Since (split (joined w m) .rest) (meantMade s m .state)
-unfolding carriedMade joined startsAnew receivedBy meantMade
+    → (carriedMade w s m ≡ meantMade s m) × Since (split (receivedSince w m) .rest) (meantMade s m .state)
+unfolding carriedMade receivedSince startsAnew bytesReceivedBy meantMade
 made-carried w s h m = by (enough (m .call) (m .lent)) refl
   where
     by : (t : Bool) → enough (m .call) (m .lent) ≡ t
-        → (carriedMade w s m ≡ meantMade s m) × Since (split (joined w m) .rest) (meantMade s m .state)
+        → (carriedMade w s m ≡ meantMade s m) × Since (split (receivedSince w m) .rest) (meantMade s m .state)
     by true e = rw e (call-carried w s h (m .call), called w s h (m .call))
     by false e = rw (e, append-nil) (refl, h)
 
@@ -100,47 +100,47 @@ made-carried w s h m = by (enough (m .call) (m .lent)) refl
 pub frames-follow : (ms : List Made) (w : List ℕ) (s : State) → Since (split w .rest) s
     → (outputsByFrames w s ms ≡ outputsMeant s ms)
     × (leftByFrames w s ms ≡ leftMeant s ms)
-    × Since (split (joinedAll w ms) .rest) (leftMeant s ms)
-unfolding outputsByFrames leftByFrames joinedAll outputsMeant leftMeant
+    × Since (split (receivedSinceAll w ms) .rest) (leftMeant s ms)
+unfolding outputsByFrames leftByFrames receivedSinceAll outputsMeant leftMeant
 frames-follow [] w s h = (refl, refl, h)
 frames-follow (m ∷ ms) w s h =
     let k = made-carried w s h m in
-    let i = frames-follow ms (joined w m) (meantMade s m .state) (k .1) in
+    let i = frames-follow ms (receivedSince w m) (meantMade s m .state) (k .1) in
     (rw (k .0, i .0), rw (k .0) (i .1), i .2)
 
 -- on a fresh state
 pub by-frames : (f : Factory) (ms : List Made)
     → (outputsByFrames [] (fresh f) ms ≡ outputsMeant (fresh f) ms)
     × (leftByFrames [] (fresh f) ms ≡ leftMeant (fresh f) ms)
-    × Since (split (joinedAll [] ms) .rest) (leftMeant (fresh f) ms)
-unfolding fresh tailOf split
+    × Since (split (receivedSinceAll [] ms) .rest) (leftMeant (fresh f) ms)
+unfolding fresh progressOf split
 by-frames f ms = frames-follow ms [] (fresh f) (record { received = refl; nonzero = tt })
 
 pub received-since : ReceivedSince
 received-since f ms = let h = by-frames f ms .2 in (h .received, h .nonzero)
 
-pub in-order-after : InOrderAfter
-in-order-after f ms image bs = let h = received-since f ms in in-order-behind image (leftMeant (fresh f) ms) (split (joinedAll [] ms) .rest) bs (h .1) (h .0)
+pub in-order-after : FramesInOrderAfter
+in-order-after f ms image bs = let h = received-since f ms in in-order-behind image (leftMeant (fresh f) ms) (split (receivedSinceAll [] ms) .rest) bs (h .1) (h .0)
 
 -- ---- each frame once
 
 frames-join : (w : List ℕ) (m : Made) → let fs = nonEmpty (split w .closed) in
-    cond (startsAnew m) [] (fs ++ framesBy w (receivedBy m)) ≡ nonEmpty (split (joined w m) .closed)
-unfolding joined framesBy nonEmpty split
+    cond (startsAnew m) [] (fs ++ framesClosedBy w (bytesReceivedBy m)) ≡ nonEmpty (split (receivedSince w m) .closed)
+unfolding receivedSince framesClosedBy nonEmpty split
 frames-join w m = by (startsAnew m)
   where
     bs : List ℕ
-    bs = receivedBy m
+    bs = bytesReceivedBy m
 
-    by : (t : Bool) → cond t [] (nonEmpty (split w .closed) ++ nonEmpty (closedBy w bs)) ≡ nonEmpty (split (cond t [] (w ++ bs)) .closed)
+    by : (t : Bool) → cond t [] (nonEmpty (split w .closed) ++ nonEmpty (closedBehind w bs)) ≡ nonEmpty (split (cond t [] (w ++ bs)) .closed)
     by true = refl
-    by false = rw (closed-join w bs, nonEmpty-append (split w .closed) (closedBy w bs))
+    by false = rw (closed-join w bs, nonEmpty-append (split w .closed) (closedBehind w bs))
 
 frames-once : (ms : List Made) (w : List ℕ)
-    → carriedFrames w (nonEmpty (split w .closed)) ms ≡ nonEmpty (split (joinedAll w ms) .closed)
-unfolding carriedFrames joinedAll
+    → carriedFrames w (nonEmpty (split w .closed)) ms ≡ nonEmpty (split (receivedSinceAll w ms) .closed)
+unfolding carriedFrames receivedSinceAll
 frames-once [] w = refl
-frames-once (m ∷ ms) w = rw (frames-join w m) (frames-once ms (joined w m))
+frames-once (m ∷ ms) w = rw (frames-join w m) (frames-once ms (receivedSince w m))
 
 pub each-once : EachOnce
 unfolding nonEmpty split

@@ -14,15 +14,15 @@ use Rattle.supervisor.specs.State.{State, fresh}
 use Rattle.supervisor.specs.Local
 use Rattle.supervisor.specs.Calls
 use Rattle.supervisor.specs.Calls.{Parts}
-use Rattle.requests.specs.Receive
+use Rattle.responder.specs.Receive
 use Rattle.supervisor_claims.specs.View.{factoryOf, view}
 use Rattle.supervisor_claims.specs.Sound.{Bytes, Sound, Leaves}
 use Rattle.supervisor_claims.specs.Histories
 use Rattle.supervisor_claims.specs.Histories.{Call, Typed, refused, done, Did, did, doneMeans, meant, upTo}
-use Rattle.supervisor_claims.specs.Histories.{Lent, lentOf, takes, enough, Made, made, meantMade, outputs, left, outputsMeant, leftMeant, AllTyped}
+use Rattle.supervisor_claims.specs.Histories.{Lent, lentOf, takesPart, enough, Made, made, meantMade, outputs, left, outputsMeant, leftMeant, AllTyped}
 use Rattle.supervisor_claims.specs.Histories.{startWith}
-use Rattle.supervisor_claims.specs.Demand1.{fit, Meets, OneCall, RefusedMade, FaultMade, Never12, No12}
-use Rattle.supervisor_claims.specs.Demand2.{Follows, steps, History, Cut, StepReceives, StepThenReceive, StepsReceive}
+use Rattle.supervisor_claims.specs.Demand1.{partsFitCall, Meets, OneCall, RefusedMade, FaultMade, Never12, No12}
+use Rattle.supervisor_claims.specs.Demand2.{Follows, stepCalls, History, Cut, StepReceives, StepThenReceive, StepsReceive}
 use Rattle.supervisor_claims.proofs.Sound.{lengths-same, lengths-then, valid-long}
 use Rattle.supervisor_claims.proofs.laws.Locality.{widened, lent-bytes, lent-sound, lent-view, back-lent, back-leaves}
 use Rattle.supervisor_claims.proofs.laws.Progress.{local-stays}
@@ -71,7 +71,7 @@ back-meets l p c b k = record { answer = k .answer; out = k .out; leaves = back-
 enough-meets : (p : Parts) (m : Made) → Sound p → Typed (m .call) → enough (m .call) (m .lent) ≡ true
     → Meets p (made p m) (meant (view p) (m .call))
 enough-meets p m s typed e =
-    let n = widened (takes (m .call)) (m .lent) p in
+    let n = widened (takesPart (m .call)) (m .lent) p in
     let w = widened-enough (m .lent) p (valid-long {p = p} (s .valid)) (m .call) e in
     let k = call-meets (lentOf n p) (lent-sound n p w s) (m .call) typed in
     rw (widened-same p (m .call) (m .lent)) (back-meets n p (m .call) (s .bytes) (rw (lent-view n p w (s .valid)) at k))
@@ -107,7 +107,7 @@ module _ (p : Parts) (b : Bytes p) (l : Lent) (d : List ℕ) (typed : Typed (His
   -- a start that is accepted had room and start data that are not refused
   accepted : (x y : Bool) → Calls.longEnough (lentOf l p) ≡ x → Local.badStart (factoryOf d) ≡ y → did (lentOf l p) (Histories.start d) .answer ≡ done
       → Leaves (lentOf l p) (did (lentOf l p) (Histories.start d) .parts) (fresh (factoryOf d))
-  unfolding did fit Calls.longEnough
+  unfolding did partsFitCall Calls.longEnough
   accepted false y r e h = absurd (undone 12 (sym (ap (λ (x : Did). x .answer) (refused-12 (lentOf l p) (Histories.start d) r)) ∙ h))
   accepted true true r e h = absurd (undone 11 (rw (start-refused d (typed .0) (lentOf l p) r e) at h))
   accepted true false r e h = start-leaves d typed (lentOf l p) (lent-bytes l p b) r e .1
@@ -129,26 +129,26 @@ no-12 p b l d typed h ms t = earns-no-12 _ (history p b l d typed h ms t .2)
 
 -- ---- the cut law
 
-fed-append : (image a b : List ℕ) (p : Parts) → Receive.fed image p (a ++ b) ≡ Receive.fed image (Receive.fed image p a) b
-unfolding Receive.fed
+fed-append : (image a b : List ℕ) (p : Parts) → Receive.feedBytes image p (a ++ b) ≡ Receive.feedBytes image (Receive.feedBytes image p a) b
+unfolding Receive.feedBytes
 fed-append image [] b p = refl
-fed-append image (x ∷ a) b p = fed-append image a b (Receive.feed image p x)
+fed-append image (x ∷ a) b p = fed-append image a b (Receive.feedByte image p x)
 
 pub cut : Cut
-unfolding did Receive.receiving
+unfolding did Receive.receivePromise
 cut image p a b h i k = go (Receive.validParts p) refl
   where
     go : (t : Bool) → Receive.validParts p ≡ t
         → did p (Histories.receive image (a ++ b)) ≡ did (did p (Histories.receive image a) .parts) (Histories.receive image b)
     go true e =
         let f = fed-leaves image p a i (record { valid = parts-valid p e; bytes = h }) k in
-        rw (e, valid-parts (Receive.fed image p a) (f .1 .valid), fed-append image a b p)
+        rw (e, valid-parts (Receive.feedBytes image p a) (f .1 .valid), fed-append image a b p)
     go false e = rw (e, e)
 
 -- ---- step repeated is receive
 
 pub step-receives : StepReceives
-unfolding did Receive.receiving Receive.stepping Receive.validStep
+unfolding did Receive.receivePromise Receive.stepPromise Receive.validStep
 step-receives image p piece = go (Receive.validParts p) refl
   where
     go : (t : Bool) → Receive.validParts p ≡ t
@@ -169,7 +169,7 @@ upTo-one [] = omega arith
 upTo-one (b ∷ bs) = cond-by (λ n. length (b ∷ bs) ≤ length (b ∷ bs) - 1 + n) (eqb b 0) _ _ (λ e. omega arith) (λ e. omega arith)
 
 pub steps-receive : StepsReceive
-unfolding steps did Receive.receiving Receive.fed
+unfolding stepCalls did Receive.receivePromise Receive.feedBytes
 steps-receive zero image p [] s i h l = rw (valid-parts p (s .valid))
 steps-receive zero image p (b ∷ bs) s i h l = absurd (omega arith)
 steps-receive (suc n) image p piece s i h l =

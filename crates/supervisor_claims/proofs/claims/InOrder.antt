@@ -19,18 +19,18 @@ use Rattle.line_claims.specs.Pieces.{split, nonEmpty}
 use Rattle.line_claims.proofs.Pieces.{split-none, split-close, split-more}
 use Rattle.supervisor.specs.State.{Retained, State, withReceived, withPending, withTerminatorOwed}
 use Rattle.supervisor.specs.Local.{lookup, entryOf}
-use Rattle.requests.specs.Commands.{Command, commandOf}
-use Rattle.requests.specs.Requests
-use Rattle.requests.specs.Requests.{Verdict, failure, good, Carried, verdict, effect, carriedBy, carried, judged, closed, more, byte, stream, owed, replyFrame, sent, replyOf}
-use Rattle.supervisor_claims.specs.FrameHistory.{framed, allFramed, tailOf, following}
-use Rattle.supervisor_claims.specs.Replies.{doneBy, replyBy}
-use Rattle.supervisor_claims.specs.Demand2.{InOrder, InOrderBehind, RequestCarried, FailureOnlyPending}
+use Rattle.responder.specs.Commands.{Command, commandOfNumber}
+use Rattle.responder.specs.Requests
+use Rattle.responder.specs.Requests.{Verdict, failure, good, Carried, verdict, effect, carryOutBy, carryOut, afterVerdict, closed, moreReceived, receiveByte, receiveStream, owed, replyFrame, sent, replyOf}
+use Rattle.supervisor_claims.specs.FrameHistory.{frameCarried, framesCarried, progressOf, afterAllFrames}
+use Rattle.supervisor_claims.specs.Replies.{afterTable, replyBy}
+use Rattle.supervisor_claims.specs.Demand2.{FramesInOrder, FramesInOrderBehind, RequestCarried, FailureOnlyPending}
 
 -- the stream in cuts
-pub stream-append : (image : List ℕ) (s : State) (bs cs : List ℕ) → stream image s (bs ++ cs) ≡ stream image (stream image s bs) cs
-unfolding stream
+pub stream-append : (image : List ℕ) (s : State) (bs cs : List ℕ) → receiveStream image s (bs ++ cs) ≡ receiveStream image (receiveStream image s bs) cs
+unfolding receiveStream
 stream-append image s [] cs = refl
-stream-append image s (b ∷ bs) cs = stream-append image (byte image s b) bs cs
+stream-append image s (b ∷ bs) cs = stream-append image (receiveByte image s b) bs cs
 
 -- ---- a request neither looks at the receive progress, the pending bytes and the last taken byte nor changes them
 
@@ -73,11 +73,11 @@ module _ (received : Option (List ℕ)) (pending : List ℕ) (terminator-owed : 
   effect-lined image m Command.inventory = record { state = refl; reply = refl }
   effect-lined image m Command.key-set = record { state = refl; reply = refl }
 
-  pub carried-lined : (image : List ℕ) (m : Message) → Lined received pending terminator-owed (carried image other m) (carried image s m)
-  unfolding carried
-  carried-lined image m = by (commandOf (m .command))
+  pub carried-lined : (image : List ℕ) (m : Message) → Lined received pending terminator-owed (carryOut image other m) (carryOut image s m)
+  unfolding carryOut
+  carried-lined image m = by (commandOfNumber (m .command))
     where
-      by : (o : Option Command) → Alike (carriedBy o image other m) (carriedBy o image s m)
+      by : (o : Option Command) → Alike (carryOutBy o image other m) (carryOutBy o image s m)
       by none = record { state = refl; reply = refl }
       by (some x) = effect-lined image m x
 
@@ -85,8 +85,8 @@ module _ (received : Option (List ℕ)) (pending : List ℕ) (terminator-owed : 
 
 module _ (image : List ℕ) (s : State) where
   pub done-lined : (received : Option (List ℕ)) (pending : List ℕ) (terminator-owed : Bool) (v : Verdict)
-      → doneBy image (lined s received pending terminator-owed) v ≡ lined (doneBy image s v) received pending terminator-owed
-  unfolding doneBy
+      → afterTable image (lined s received pending terminator-owed) v ≡ lined (afterTable image s v) received pending terminator-owed
+  unfolding afterTable
   done-lined received pending terminator-owed (failure reason version sequence) = refl
   done-lined received pending terminator-owed (good m) = carried-lined received pending terminator-owed s image m .state
 
@@ -98,17 +98,17 @@ module _ (image : List ℕ) (s : State) where
 
   -- pending is then a 00 where one is owed, and the reply; the receive progress and the last taken byte are as before
   pub judged-is : (v : Verdict)
-      → judged image s v ≡ lined (doneBy image s v) (s .received) (owed (s .terminator-owed) ++ replyFrame (replyBy image s v)) (s .terminator-owed)
-  unfolding judged sent doneBy replyBy
+      → afterVerdict image s v ≡ lined (afterTable image s v) (s .received) (owed (s .terminator-owed) ++ replyFrame (replyBy image s v)) (s .terminator-owed)
+  unfolding afterVerdict sent afterTable replyBy
   judged-is (failure reason version sequence) = refl
   judged-is (good m) =
       let c = carried-lined (s .received) (s .pending) (s .terminator-owed) s image m .state in
-      let r : carried image s m .state .received ≡ s .received = ap (λ (x : State). x .received) c in
-      let o : carried image s m .state .terminator-owed ≡ s .terminator-owed = ap (λ (x : State). x .terminator-owed) c in
+      let r : carryOut image s m .state .received ≡ s .received = ap (λ (x : State). x .received) c in
+      let o : carryOut image s m .state .terminator-owed ≡ s .terminator-owed = ap (λ (x : State). x .terminator-owed) c in
       rw (r, o)
 
 pub judged-receiving : (image : List ℕ) (s : State) (r : Option (List ℕ)) (v : Verdict)
-    → judged image (withReceived s r) v ≡ withReceived (judged image s v) r
+    → afterVerdict image (withReceived s r) v ≡ withReceived (afterVerdict image s v) r
 judged-receiving image s r v =
     rw (judged-is image (withReceived s r) v, judged-is image s v)
     (rw (done-lined image s r (s .pending) (s .terminator-owed) v, reply-lined image s r (s .pending) (s .terminator-owed) v))
@@ -116,45 +116,45 @@ judged-receiving image s r v =
 -- ---- frames
 
 pub request-carried : RequestCarried
-unfolding framed judged sent
+unfolding frameCarried afterVerdict sent
 request-carried image s b bs m e =
     let c = carried-lined (s .received) (s .pending) (s .terminator-owed) s image m .state in
-    let o : carried image s m .state .terminator-owed ≡ s .terminator-owed = ap (λ (x : State). x .terminator-owed) c in
+    let o : carryOut image s m .state .terminator-owed ≡ s .terminator-owed = ap (λ (x : State). x .terminator-owed) c in
     rw (e, o)
 
 pub failure-only-pending : FailureOnlyPending
-unfolding framed judged sent
+unfolding frameCarried afterVerdict sent
 failure-only-pending image s b bs reason version sequence e = rw e
 
-pub allFramed-append : (image : List ℕ) (s : State) (fs gs : List (List ℕ)) → allFramed image s (fs ++ gs) ≡ allFramed image (allFramed image s fs) gs
-unfolding allFramed
+pub allFramed-append : (image : List ℕ) (s : State) (fs gs : List (List ℕ)) → framesCarried image s (fs ++ gs) ≡ framesCarried image (framesCarried image s fs) gs
+unfolding framesCarried
 allFramed-append image s [] gs = refl
-allFramed-append image s (f ∷ fs) gs = allFramed-append image (framed image s f) fs gs
+allFramed-append image s (f ∷ fs) gs = allFramed-append image (frameCarried image s f) fs gs
 
-pub empty-ignored : (image : List ℕ) (s : State) (fs : List (List ℕ)) → allFramed image s fs ≡ allFramed image s (nonEmpty fs)
-unfolding allFramed framed nonEmpty
+pub empty-ignored : (image : List ℕ) (s : State) (fs : List (List ℕ)) → framesCarried image s fs ≡ framesCarried image s (nonEmpty fs)
+unfolding framesCarried frameCarried nonEmpty
 empty-ignored image s [] = refl
 empty-ignored image s ([] ∷ fs) = empty-ignored image s fs
-empty-ignored image s ((b ∷ bs) ∷ fs) = empty-ignored image (judged image s (verdict (b ∷ bs))) fs
+empty-ignored image s ((b ∷ bs) ∷ fs) = empty-ignored image (afterVerdict image s (verdict (b ∷ bs))) fs
 
 -- ---- one byte more
 
-pub tail-over : (bs : List ℕ) → longest-form < length bs → tailOf bs ≡ none
-unfolding tailOf
+pub tail-over : (bs : List ℕ) → longest-form < length bs → progressOf bs ≡ none
+unfolding progressOf
 tail-over bs h = rw (lt-ltb longest-form (length bs) h)
 
-pub tail-within : (bs : List ℕ) → length bs ≤ longest-form → tailOf bs ≡ some bs
-unfolding tailOf
+pub tail-within : (bs : List ℕ) → length bs ≤ longest-form → progressOf bs ≡ some bs
+unfolding progressOf
 tail-within bs h = rw (le-ltb longest-form (length bs) h)
 
-pub more-tail : (bs : List ℕ) (b : ℕ) → more (tailOf bs) b ≡ tailOf (bs ++ (b ∷ []))
-unfolding more
+pub more-tail : (bs : List ℕ) (b : ℕ) → moreReceived (progressOf bs) b ≡ progressOf (bs ++ (b ∷ []))
+unfolding moreReceived
 more-tail bs b = by (ltb longest-form (length bs)) (ltb (length bs) longest-form) refl refl
   where
     long : length (bs ++ (b ∷ [])) ≡ length bs + 1
     long = simp length-append
 
-    by : (over room : Bool) → ltb longest-form (length bs) ≡ over → ltb (length bs) longest-form ≡ room → more (tailOf bs) b ≡ tailOf (bs ++ (b ∷ []))
+    by : (over room : Bool) → ltb longest-form (length bs) ≡ over → ltb (length bs) longest-form ≡ room → moreReceived (progressOf bs) b ≡ progressOf (bs ++ (b ∷ []))
     by true room e f =
         let h = ltb-true longest-form (length bs) e in
         rw (tail-over bs h, tail-over (bs ++ (b ∷ [])) (omega (arith, long)))
@@ -168,36 +168,36 @@ verdict-over bs h = rw (lt-ltb longest-form (length bs) h)
 
 module _ (image : List ℕ) (s : State) where
   -- the 00 behind bytes
-  pub closed-framed : (bs : List ℕ) → closed image (withReceived s (tailOf bs)) (tailOf bs) ≡ withReceived (framed image s bs) (some [])
-  unfolding closed framed
+  pub closed-framed : (bs : List ℕ) → closed image (withReceived s (progressOf bs)) (progressOf bs) ≡ withReceived (frameCarried image s bs) (some [])
+  unfolding closed frameCarried
   closed-framed [] = rw (tail-within [] (omega arith))
   closed-framed (b ∷ bs) = by (ltb longest-form (length (b ∷ bs))) refl
     where
       by : (over : Bool) → ltb longest-form (length (b ∷ bs)) ≡ over
-          → closed image (withReceived s (tailOf (b ∷ bs))) (tailOf (b ∷ bs)) ≡ withReceived (judged image s (verdict (b ∷ bs))) (some [])
+          → closed image (withReceived s (progressOf (b ∷ bs))) (progressOf (b ∷ bs)) ≡ withReceived (afterVerdict image s (verdict (b ∷ bs))) (some [])
       by true e =
           let h = ltb-true longest-form (length (b ∷ bs)) e in
           rw (tail-over (b ∷ bs) h, verdict-over (b ∷ bs) h) (judged-receiving image s (some []) (failure 1 first-version none))
       by false e = rw (tail-within (b ∷ bs) (ltb-false _ _ e)) (judged-receiving image s (some []) (verdict (b ∷ bs)))
 
 module _ (image : List ℕ) (s : State) where
-  byte-following : (bs : List ℕ) (b : ℕ) → byte image (following image s bs) b ≡ following image s (bs ++ (b ∷ []))
-  unfolding byte allFramed
+  byte-following : (bs : List ℕ) (b : ℕ) → receiveByte image (afterAllFrames image s bs) b ≡ afterAllFrames image s (bs ++ (b ∷ []))
+  unfolding receiveByte framesCarried
   byte-following bs zero =
-      let a = allFramed image s (split bs .closed) in
+      let a = framesCarried image s (split bs .closed) in
       rw (split-close bs, allFramed-append image s (split bs .closed) (split bs .rest ∷ []), tail-within [] (omega arith)) (closed-framed image a (split bs .rest))
   byte-following bs (suc b) = rw (eqb·suc-zero, split-more bs b, more-tail (split bs .rest) (suc b))
 
-  stream-following : (cs bs : List ℕ) → stream image (following image s bs) cs ≡ following image s (bs ++ cs)
-  unfolding stream
+  stream-following : (cs bs : List ℕ) → receiveStream image (afterAllFrames image s bs) cs ≡ afterAllFrames image s (bs ++ cs)
+  unfolding receiveStream
   stream-following [] bs = rw append-nil
   stream-following (c ∷ cs) bs = rw (byte-following bs c, stream-following cs (bs ++ (c ∷ [])), append-snoc)
 
-pub in-order-behind : InOrderBehind
-unfolding allFramed
+pub in-order-behind : FramesInOrderBehind
+unfolding framesCarried
 in-order-behind image s p bs h e =
-    let z : s ≡ following image s p = rw (split-none p h, ← e) in
-    ap (λ (x : State). stream image x bs) z ∙ stream-following image s bs p
+    let z : s ≡ afterAllFrames image s p = rw (split-none p h, ← e) in
+    ap (λ (x : State). receiveStream image x bs) z ∙ stream-following image s bs p
 
-pub in-order : InOrder
+pub in-order : FramesInOrder
 in-order image s bs e = in-order-behind image s [] bs tt (rw (tail-within [] (omega arith)) e)

@@ -15,7 +15,7 @@ use Rattle.octets.specs.Bytes.{Byte, Each, number, numberAt}
 use Rattle.octets.proofs.Numbers.{number-small}
 use Rattle.octets.proofs.Conditions.{cond-by, cond-both}
 use Rattle.line.specs.Message.{Message}
-use Rattle.line_claims.specs.Pieces.{split, nonEmpty, closedBy}
+use Rattle.line_claims.specs.Pieces.{split, nonEmpty, closedBehind}
 use Rattle.line_claims.proofs.Pieces.{nonEmpty-append, closed-join}
 use Rattle.supervisor.specs.Limits
 use Rattle.supervisor.specs.Limits.{SettingsKey}
@@ -23,17 +23,17 @@ use Rattle.supervisor.specs.State.{Factory, Setting, unset, Settings, Retained,
 use Rattle.supervisor.specs.Local
 use Rattle.supervisor.specs.Local.{entryOf}
 use Rattle.saving.specs.Saving
-use Rattle.saving.specs.Saving.{Entry}
+use Rattle.saving.specs.Saving.{SavedEntry}
 use Rattle.saving.proofs.ReadLaws.{entries-each}
-use Rattle.requests.specs.Requests.{Verdict, failure, good, Carried, verdict, effect, carriedBy, carried, wrongValueLength, stored, judged, sent}
-use Rattle.requests.specs.Commands.{Command, numberOf, withNumber, commandOf}
-use Rattle.requests.specs.Requests
-use Rattle.requests.proofs.CommandLaws.{number-is}
+use Rattle.responder.specs.Requests.{Verdict, failure, good, Carried, verdict, effect, carryOutBy, carryOut, wrongValueLength, storeValue, afterVerdict, sent}
+use Rattle.responder.specs.Commands.{Command, commandNumber, withNumber, commandOfNumber}
+use Rattle.responder.specs.Requests
+use Rattle.responder.proofs.CommandLaws.{number-is}
 use Rattle.supervisor_claims.specs.View.{factoryOf}
 use Rattle.supervisor_claims.specs.Histories
 use Rattle.supervisor_claims.specs.Histories.{LocalCall, Call, Typed, refused, Made, means, doneMeans, meant, enough, untouched, AllTyped}
-use Rattle.supervisor_claims.specs.FrameHistory.{reads, starts, joined, framesBy, framed, allFramed, carriedOut, carriedCall, carriedMade, leftByFrames}
-use Rattle.supervisor_claims.specs.LastSet.{request, requestsIn, requestsOf, valueFor, setBy, listedIf, setsOf, successful, lastOr, setAfter, recordsOf, restoredBy, Origin, sinceStart, sinceRestore, sinceMore, sinceCall, sinceMade, sinceAll}
+use Rattle.supervisor_claims.specs.FrameHistory.{pieceRead, isAcceptedStart, receivedSince, framesClosedBy, frameCarried, framesCarried, carriedOut, carriedCall, carriedMade, leftByFrames}
+use Rattle.supervisor_claims.specs.LastSet.{requestAhead, requestsIn, requestsOf, valueFor, setBy, listedIf, setsOf, successful, lastOr, setAfter, recordsOf, recordsRestored, Origin, sinceStart, sinceRestore, sinceMore, sinceCall, sinceMade, sinceAll}
 use Rattle.supervisor_claims.specs.LastSet.{Has}
 use Rattle.supervisor_claims.specs.Demand2.{SetSuccessful, SuccessfulExactly}
 use Rattle.supervisor_claims.specs.Item11.{ReplacedOther}
@@ -98,7 +98,7 @@ after-sets k x (m ∷ ms) h = after-sets k (onto x (setBy k m)) ms (onto-low x (
         (λ f. let l = eqb-true (x .edition) Limits.last-edition f in at-last k x ms l ∙ sym (at-last k x (m ∷ ms) l))
         (λ f. sym (set-some k x m ms v e (omega (arith, eqb-false (x .edition) Limits.last-edition f))))
 
-pub request-append : (v : Verdict) (ms ns : List Message) → request v (ms ++ ns) ≡ request v ms ++ ns
+pub request-append : (v : Verdict) (ms ns : List Message) → requestAhead v (ms ++ ns) ≡ requestAhead v ms ++ ns
 request-append (failure reason version sequence) ms ns = refl
 request-append (good m) ms ns = refl
 
@@ -108,11 +108,11 @@ requests-append [] gs = refl
 requests-append (f ∷ fs) gs = rw (requests-append fs gs) (request-append (verdict f) (requestsIn fs) (requestsIn gs))
 
 -- the requests of bytes that came behind w
-pub requests-behind : (w bs : List ℕ) → requestsOf (w ++ bs) ≡ requestsOf w ++ requestsIn (framesBy w bs)
-unfolding requestsOf framesBy
+pub requests-behind : (w bs : List ℕ) → requestsOf (w ++ bs) ≡ requestsOf w ++ requestsIn (framesClosedBy w bs)
+unfolding requestsOf framesClosedBy
 requests-behind w bs =
     let fs = split w .closed in
-    rw (closed-join w bs, nonEmpty-append fs (closedBy w bs), requests-append (nonEmpty fs) (nonEmpty (closedBy w bs)))
+    rw (closed-join w bs, nonEmpty-append fs (closedBehind w bs), requests-append (nonEmpty fs) (nonEmpty (closedBehind w bs)))
 
 -- ---- a request that is no key set
 
@@ -126,8 +126,8 @@ alert-kept version s sequence none = record { settings = refl }
 alert-kept version s sequence (some r) = cond-by (Kept s) (eqb (r .sequence) sequence) _ _ (λ e. record { settings = refl }) (λ e. record { settings = refl })
 
 module _ (image : List ℕ) (s : State) (m : Message) where
-  effect-kept : (x : Command) → eqb (numberOf x) 0x10 ≡ false → Kept s (effect x image s m)
-  unfolding numberOf effect Requests.reboot Requests.powerOff Requests.bootFailure Requests.panicked Requests.startAcknowledged
+  effect-kept : (x : Command) → eqb (commandNumber x) 0x10 ≡ false → Kept s (effect x image s m)
+  unfolding commandNumber effect Requests.reboot Requests.powerOff Requests.bootFailure Requests.panicked Requests.startAcknowledged
   effect-kept Command.reboot n = record { settings = refl }
   effect-kept Command.power-off n = record { settings = refl }
   effect-kept Command.bsu n = record { settings = refl }
@@ -143,17 +143,17 @@ module _ (image : List ℕ) (s : State) (m : Message) where
   effect-kept Command.inventory n = record { settings = refl }
   effect-kept Command.key-set n = absurd (false≢true (sym n))
 
-  other-kept : eqb (m .command) 0x10 ≡ false → Kept s (carried image s m)
-  unfolding carried
-  other-kept n = by (commandOf (m .command)) refl
+  other-kept : eqb (m .command) 0x10 ≡ false → Kept s (carryOut image s m)
+  unfolding carryOut
+  other-kept n = by (commandOfNumber (m .command)) refl
     where
-      by : (o : Option Command) → commandOf (m .command) ≡ o → Kept s (carriedBy o image s m)
+      by : (o : Option Command) → commandOfNumber (m .command) ≡ o → Kept s (carryOutBy o image s m)
       by none e = record { settings = refl }
       by (some x) e = effect-kept x (rw (number-is (m .command) e) at n)
 
   -- a key set stores
-  set-stored : eqb (m .command) 0x10 ≡ true → carried image s m .state .settings ≡ stored (s .settings) (numberAt 1 (m .payload) 0) (drop 1 (m .payload)) .settings
-  unfolding carried commandOf withNumber numberOf effect Requests.keySet
+  set-stored : eqb (m .command) 0x10 ≡ true → carryOut image s m .state .settings ≡ storeValue (s .settings) (numberAt 1 (m .payload) 0) (drop 1 (m .payload)) .settings
+  unfolding carryOut commandOfNumber withNumber commandNumber effect Requests.keySet
   set-stored e = rw (eqb-true (m .command) 0x10 e)
 
 -- ---- what a set stores
@@ -163,7 +163,7 @@ unfolding entryOf
 entry-held s {k} h = rw (ne-eqb k 0 (λ e. omega (arith, h, e)), ne-eqb k 1 (λ e. omega (arith, h, e)), ne-eqb k 2 (λ e. omega (arith, h, e)))
 
 pub set-successful : SetSuccessful
-unfolding stored
+unfolding storeValue
 set-successful z v k h x g =
     rw (le-ltb Limits.highest-key k (h .upper), le-ltb k Limits.first-setting (h .lower), g .held)
     (by (wrongValueLength k (length v)) (eqb (x .edition) Limits.last-edition) z _)
@@ -177,8 +177,8 @@ set-successful z v k h x g =
 
 module _ (z : Settings) (v : List ℕ) {k : ℕ} (h : SettingsKey k) (x : Setting) (g : Has z k x) where
   -- under the key itself
-  same-key : Has (stored z k v .settings) k (onto x (cond (wrongValueLength k (length v)) none (some v)))
-  unfolding stored
+  same-key : Has (storeValue z k v .settings) k (onto x (cond (wrongValueLength k (length v)) none (some v)))
+  unfolding storeValue
   same-key =
       let i = k - Limits.first-setting in
       rw (le-ltb Limits.highest-key k (h .upper), le-ltb k Limits.first-setting (h .lower), g .held)
@@ -190,8 +190,8 @@ module _ (z : Settings) (v : List ℕ) {k : ℕ} (h : SettingsKey k) (x : Settin
       })))
 
   -- under another key
-  other-key : (key : ℕ) → eqb key k ≡ false → Has (stored z key v .settings) k x
-  unfolding stored
+  other-key : (key : ℕ) → eqb key k ≡ false → Has (storeValue z key v .settings) k x
+  unfolding storeValue
   other-key key e =
       let P : Requests.Stored → Type 0 = λ y. Has (y .settings) k x in
       let u : Setting = record { edition = suc (setting z key .edition); value = some v } in
@@ -207,18 +207,18 @@ module _ (z : Settings) (v : List ℕ) {k : ℕ} (h : SettingsKey k) (x : Settin
             ∙ g .held;
       }))))
 
-  stored-has : (key : ℕ) → Has (stored z key v .settings) k (onto x (valueFor k (key ∷ v)))
+  stored-has : (key : ℕ) → Has (storeValue z key v .settings) k (onto x (valueFor k (key ∷ v)))
   unfolding valueFor
   stored-has key = by (eqb key k) refl
     where
-      by : (t : Bool) → eqb key k ≡ t → Has (stored z key v .settings) k (onto x (valueFor k (key ∷ v)))
+      by : (t : Bool) → eqb key k ≡ t → Has (storeValue z key v .settings) k (onto x (valueFor k (key ∷ v)))
       by true e = rw (e, eqb-true key k e) same-key
       by false e = rw e (other-key key e)
 
 -- a key set's data
 data-has : (z : Settings) (bs : List ℕ) {k : ℕ} → SettingsKey k → (x : Setting) → Has z k x
-    → Has (stored z (numberAt 1 bs 0) (drop 1 bs) .settings) k (onto x (valueFor k bs))
-unfolding number stored valueFor
+    → Has (storeValue z (numberAt 1 bs 0) (drop 1 bs) .settings) k (onto x (valueFor k bs))
+unfolding number storeValue valueFor
 data-has z [] h x g = g
 data-has z (key ∷ v) h x g = rw add-zero (stored-has z v h x g key)
 
@@ -271,40 +271,40 @@ successful-exactly k h x low ms z g m v c d =
 -- ---- requests and frames
 
 module _ (image : List ℕ) {k : ℕ} (h : SettingsKey k) where
-  request-has : (s : State) (m : Message) (x : Setting) → Has (s .settings) k x → Has (carried image s m .state .settings) k (onto x (setBy k m))
+  request-has : (s : State) (m : Message) (x : Setting) → Has (s .settings) k x → Has (carryOut image s m .state .settings) k (onto x (setBy k m))
   unfolding setBy
   request-has s m x g = by (eqb (m .command) 0x10) refl
     where
-      by : (t : Bool) → eqb (m .command) 0x10 ≡ t → Has (carried image s m .state .settings) k (onto x (setBy k m))
+      by : (t : Bool) → eqb (m .command) 0x10 ≡ t → Has (carryOut image s m .state .settings) k (onto x (setBy k m))
       by true e = rw (e, set-stored image s m e) (data-has (s .settings) (m .payload) h x g)
       by false e = rw (e, other-kept image s m e .settings) g
 
-  pub judged-has : (s : State) (v : Verdict) (x : Setting) → Has (s .settings) k x → Has (judged image s v .settings) k (afterSets k x (request v []))
-  unfolding judged sent afterSets
+  pub judged-has : (s : State) (v : Verdict) (x : Setting) → Has (s .settings) k x → Has (afterVerdict image s v .settings) k (afterSets k x (requestAhead v []))
+  unfolding afterVerdict sent afterSets
   judged-has s (failure reason version sequence) x g = g
   judged-has s (good m) x g = request-has s m x g
 
   pub frames-have : (fs : List (List ℕ)) (s : State) (x : Setting) → Has (s .settings) k x → let gs = nonEmpty fs in
-      Has (allFramed image s gs .settings) k (afterSets k x (requestsIn gs))
-  unfolding nonEmpty allFramed framed requestsIn afterSets
+      Has (framesCarried image s gs .settings) k (afterSets k x (requestsIn gs))
+  unfolding nonEmpty framesCarried frameCarried requestsIn afterSets
   frames-have [] s x g = g
   frames-have ([] ∷ fs) s x g = frames-have fs s x g
   frames-have ((b ∷ bs) ∷ fs) s x g =
       let v = verdict (b ∷ bs) in
       let r = requestsIn (nonEmpty fs) in
-      rw (request-append v [] r, after-append k x (request v []) r)
-      (frames-have fs (judged image s v) (afterSets k x (request v [])) (judged-has s v x g))
+      rw (request-append v [] r, after-append k x (requestAhead v []) r)
+      (frames-have fs (afterVerdict image s v) (afterSets k x (requestAhead v [])) (judged-has s v x g))
 
 -- ---- received bytes and calls
 
 -- whether a terminator is owed is as before
-pub frames-owed : (image : List ℕ) (fs : List (List ℕ)) (s : State) → allFramed image s fs .terminator-owed ≡ s .terminator-owed
-unfolding allFramed framed
+pub frames-owed : (image : List ℕ) (fs : List (List ℕ)) (s : State) → framesCarried image s fs .terminator-owed ≡ s .terminator-owed
+unfolding framesCarried frameCarried
 frames-owed image [] s = refl
 frames-owed image ([] ∷ fs) s = frames-owed image fs s
 frames-owed image ((b ∷ bs) ∷ fs) s =
     let v = verdict (b ∷ bs) in
-    frames-owed image fs (judged image s v) ∙ ap (λ (x : State). x .terminator-owed) (judged-is image s v)
+    frames-owed image fs (afterVerdict image s v) ∙ ap (λ (x : State). x .terminator-owed) (judged-is image s v)
 
 -- key k has what its sets come to since the last accepted start or a later restore
 abbrev pub Holds : ℕ → Origin → State → Type 0
@@ -318,7 +318,7 @@ replaced-other es (suc n) z k h l =
     (λ e. omega (arith, h, e)) ∙ replaced-other es n z k h (omega arith)
 
 -- the settings after a restore
-module _ (es : List Entry) where
+module _ (es : List SavedEntry) where
   pub replaced-long : (n : ℕ) (z : Settings) → length (Saving.replaced n es z) ≡ length z
   unfolding Saving.replaced
   replaced-long zero z = refl
@@ -345,20 +345,20 @@ module _ (es : List Entry) where
           ∙ rest (omega (arith, l, f)) long
 
 -- a restore of key k
-restore-holds : {k : ℕ} → SettingsKey k → (x : Origin) (s : State) → Holds k x s → (o : Option (List Entry)) (t : State) → t .settings ≡ settingsBy o (s .settings)
+restore-holds : {k : ℕ} → SettingsKey k → (x : Origin) (s : State) → Holds k x s → (o : Option (List SavedEntry)) (t : State) → t .settings ≡ settingsBy o (s .settings)
     → Holds k (sinceRestore k x o) t
 unfolding afterSets
 restore-holds h x s g none t e = rw e g
 restore-holds {k} h x s g (some es) t e =
     rw e
-    (cond-by (λ (y : Origin). Has (Saving.restored es (s .settings)) k (afterSets k (y .setting) (y .requests))) (leb k Saving.highest-saved) _ _
+    (cond-by (λ (y : Origin). Has (Saving.restoredSettings es (s .settings)) k (afterSets k (y .setting) (y .requests))) (leb k Saving.highest-saved) _ _
     (λ f. record { long = replaced-long es Saving.saved-count (s .settings) ∙ g .long; held = here f })
     (λ f. record {
       long = replaced-long es Saving.saved-count (s .settings) ∙ g .long;
       held = replaced-other es Saving.saved-count (s .settings) k h (omega (arith, leb-false k Saving.highest-saved f)) ∙ g .held;
     }))
   where
-    here : leb k Saving.highest-saved ≡ true → setting (Saving.restored es (s .settings)) k ≡ afterSets k (Saving.settingIn k es) []
+    here : leb k Saving.highest-saved ≡ true → setting (Saving.restoredSettings es (s .settings)) k ≡ afterSets k (Saving.settingIn k es) []
     here f = replaced-here es Saving.saved-count (s .settings) h (omega (arith, leb-true k Saving.highest-saved f)) (g .long)
 
 module _ {k : ℕ} (h : SettingsKey k) where
@@ -372,27 +372,27 @@ module _ {k : ℕ} (h : SettingsKey k) where
 
   -- the frames that bytes close behind w
   pub frames-hold : (w : List ℕ) (x : Origin) (s : State) → Holds k x s → (image bs : List ℕ)
-      → Holds k (sinceMore x (requestsIn (framesBy w bs))) (allFramed image s (framesBy w bs))
-  unfolding framesBy
+      → Holds k (sinceMore x (requestsIn (framesClosedBy w bs))) (framesCarried image s (framesClosedBy w bs))
+  unfolding framesClosedBy
   frames-hold w x s g image bs =
-      rw (after-append k (x .setting) (x .requests) (requestsIn (nonEmpty (closedBy w bs)))) (frames-have image h (closedBy w bs) s _ g)
+      rw (after-append k (x .setting) (x .requests) (requestsIn (nonEmpty (closedBehind w bs)))) (frames-have image h (closedBehind w bs) s _ g)
 
   -- the same with the receive progress behind them
   bytes-hold : (w : List ℕ) (x : Origin) (s : State) → Holds k x s → (image bs : List ℕ)
-      → Holds k (sinceMore x (requestsIn (framesBy w bs))) (carriedOut image w s bs)
+      → Holds k (sinceMore x (requestsIn (framesClosedBy w bs))) (carriedOut image w s bs)
   unfolding carriedOut
   bytes-hold w x s g image bs = frames-hold w x s g image bs
 
   call-holds : (w : List ℕ) (x : Origin) (s : State) → Holds k x s → (c : Call) → Holds k (sinceCall k w x c) (carriedCall w s c .state)
-  unfolding sinceCall carriedCall starts meant Local.start
+  unfolding sinceCall carriedCall isAcceptedStart meant Local.start
   call-holds w x s g (Histories.start d) = by (Local.badStart (factoryOf d))
     where
       by : (bad : Bool) → Holds k (cond (not bad) sinceStart x) (doneMeans s (cond bad (Local.refused 11) (Local.left (fresh (factoryOf d)))) .state)
       by true = g
       by false = fresh-holds (factoryOf d)
   call-holds w x s g (Histories.receive image piece) = bytes-hold w x s g image piece
-  call-holds w x s g (Histories.step image piece) = bytes-hold w x s g image (reads (Histories.step image piece))
-  call-holds w x s g (Histories.local c) = restore-holds h x s g (restoredBy c) (meant s (Histories.local c) .state) (local-settings s c)
+  call-holds w x s g (Histories.step image piece) = bytes-hold w x s g image (pieceRead (Histories.step image piece))
+  call-holds w x s g (Histories.local c) = restore-holds h x s g (recordsRestored c) (meant s (Histories.local c) .state) (local-settings s c)
 
   pub made-holds : (w : List ℕ) (x : Origin) (s : State) → Holds k x s → (m : Made) → Holds k (sinceMade k w x m) (carriedMade w s m .state)
   unfolding sinceMade carriedMade
@@ -405,19 +405,19 @@ module _ {k : ℕ} (h : SettingsKey k) where
   pub calls-hold : (ms : List Made) (w : List ℕ) (x : Origin) (s : State) → Holds k x s → Holds k (sinceAll k w x ms) (leftByFrames w s ms)
   unfolding sinceAll leftByFrames
   calls-hold [] w x s g = g
-  calls-hold (m ∷ ms) w x s g = calls-hold ms (joined w m) (sinceMade k w x m) (carriedMade w s m .state) (made-holds w x s g m)
+  calls-hold (m ∷ ms) w x s g = calls-hold ms (receivedSince w m) (sinceMade k w x m) (carriedMade w s m .state) (made-holds w x s g m)
 
 -- ---- what holds of the setting that the sets are counted from
 
 -- of an unset one, and of those that an image restores
 module _ (k : ℕ) (P : Setting → Type 0) (at-start : P unset)
-    (at-restore : (image : List ℕ) → Each Byte image → (es : List Entry) → Saving.read image ≡ Saving.good es → P (Saving.settingIn k es)) where
-  read-keeps : (x : Origin) → P (x .setting) → (image : List ℕ) → Each Byte image → (r : Saving.Read) → Saving.read image ≡ r → P (sinceRestore k x (recordsOf r) .setting)
+    (at-restore : (image : List ℕ) → Each Byte image → (es : List SavedEntry) → Saving.readImage image ≡ Saving.good es → P (Saving.settingIn k es)) where
+  read-keeps : (x : Origin) → P (x .setting) → (image : List ℕ) → Each Byte image → (r : Saving.ImageRead) → Saving.readImage image ≡ r → P (sinceRestore k x (recordsOf r) .setting)
   read-keeps x h image b (Saving.fault n at) e = h
   read-keeps x h image b (Saving.good es) e = cond-by (λ (y : Origin). P (y .setting)) (leb k Saving.highest-saved) _ _ (λ _. at-restore image b es e) (λ _. h)
 
-  local-keeps : (x : Origin) → P (x .setting) → (c : LocalCall) → Typed (Histories.local c) → P (sinceRestore k x (restoredBy c) .setting)
-  unfolding restoredBy
+  local-keeps : (x : Origin) → P (x .setting) → (c : LocalCall) → Typed (Histories.local c) → P (sinceRestore k x (recordsRestored c) .setting)
+  unfolding recordsRestored
   local-keeps x h (Histories.take room) t = h
   local-keeps x h (Histories.post action text) t = h
   local-keeps x h (Histories.setOptions options) t = h
@@ -427,11 +427,11 @@ module _ (k : ℕ) (P : Setting → Type 0) (at-start : P unset)
   local-keeps x h Histories.flags t = h
   local-keeps x h (Histories.readRecord r) t = h
   local-keeps x h (Histories.save room) t = h
-  local-keeps x h (Histories.restore image) t = read-keeps x h image t (Saving.read image) refl
+  local-keeps x h (Histories.restore image) t = read-keeps x h image t (Saving.readImage image) refl
 
   call-keeps : (w : List ℕ) (x : Origin) → P (x .setting) → (c : Call) → Typed c → P (sinceCall k w x c .setting)
   unfolding sinceCall
-  call-keeps w x h (Histories.start d) t = cond-by (λ (y : Origin). P (y .setting)) (starts (Histories.start d)) _ _ (λ _. at-start) (λ _. h)
+  call-keeps w x h (Histories.start d) t = cond-by (λ (y : Origin). P (y .setting)) (isAcceptedStart (Histories.start d)) _ _ (λ _. at-start) (λ _. h)
   call-keeps w x h (Histories.receive image piece) t = h
   call-keeps w x h (Histories.step image piece) t = h
   call-keeps w x h (Histories.local c) t = local-keeps x h c t
@@ -440,17 +440,17 @@ module _ (k : ℕ) (P : Setting → Type 0) (at-start : P unset)
   unfolding sinceAll sinceMade
   since-keeps [] t w x h = h
   since-keeps (m ∷ ms) t w x h =
-      since-keeps ms (t .1) (joined w m) (sinceMade k w x m)
+      since-keeps ms (t .1) (receivedSince w m) (sinceMade k w x m)
       (cond-by (λ (y : Origin). P (y .setting)) (enough (m .call) (m .lent)) _ _ (λ _. call-keeps w x h (m .call) (t .0)) (λ _. h))
 
 -- an edition of 32 bits
-pub in-low : (k : ℕ) (es : List Entry) → Each (λ (e : Entry). e .edition < 256 ^ 4) es → Saving.settingIn k es .edition ≤ Limits.last-edition
+pub in-low : (k : ℕ) (es : List SavedEntry) → Each (λ (e : SavedEntry). e .edition < 256 ^ 4) es → Saving.settingIn k es .edition ≤ Limits.last-edition
 unfolding Saving.settingIn
 in-low k [] h = omega arith
 in-low k (e ∷ es) h =
     cond-by (λ (x : Setting). x .edition ≤ Limits.last-edition) (eqb (e .key) k) _ _ (λ _. omega (arith, h .0)) (λ _. in-low k es (h .1))
 
-pub read-low : (image : List ℕ) → Each Byte image → (es : List Entry) → Saving.read image ≡ Saving.good es → Each (λ (e : Entry). e .edition < 256 ^ 4) es
+pub read-low : (image : List ℕ) → Each Byte image → (es : List SavedEntry) → Saving.readImage image ≡ Saving.good es → Each (λ (e : SavedEntry). e .edition < 256 ^ 4) es
 read-low image b es e = rw e at (entries-each image (λ e. e .edition < 256 ^ 4) (λ before at key there p. number-small 4 (at + 3) image b))
 
 pub since-low : (k : ℕ) (ms : List Made) → AllTyped ms → sinceAll k [] sinceStart ms .setting .edition ≤ Limits.last-edition

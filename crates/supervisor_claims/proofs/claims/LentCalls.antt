@@ -11,12 +11,12 @@ use Rattle.line_claims.proofs.LoanLaws
 use Rattle.line_claims.proofs.LoanLaws.{back-same}
 use Rattle.supervisor.specs.Calls.{Parts}
 use Rattle.supervisor.proofs.ValidLaws.{untrue}
-use Rattle.requests.specs.Receive
+use Rattle.responder.specs.Receive
 use Rattle.supervisor_claims.specs.ByPart.{Part, published, part}
 use Rattle.supervisor_claims.specs.Sound.{Valid}
 use Rattle.supervisor_claims.specs.Histories
-use Rattle.supervisor_claims.specs.Histories.{Call, Lent, did, lentOf, takes, enough, made}
-use Rattle.supervisor_claims.specs.Demand1.{asks, fit, Made12}
+use Rattle.supervisor_claims.specs.Histories.{Call, Lent, did, lentOf, takesPart, enough, made}
+use Rattle.supervisor_claims.specs.Demand1.{partAsked, partsFitCall, Made12}
 use Rattle.supervisor_claims.proofs.ByPart.{every, of, every-true, true-every, published-some, part-long}
 use Rattle.supervisor_claims.proofs.Sound.{Long}
 use Rattle.supervisor_claims.proofs.laws.Locality.{EnoughOfAll, widened, widened-all, lent-part, back-lent}
@@ -37,20 +37,20 @@ fails : (a b : Bool) → b ≡ false → (a ≡ true → b ≡ true) → a ≡ f
 fails a b e f = sym (untrue a (λ t. false≢true (sym e ∙ f t)))
 
 -- a part as a call asks has its published length
-asks-long : (c : Call) (i : Part) (s : List ℕ) → asks c i s ≡ true → published i ≤ length s
+asks-long : (c : Call) (i : Part) (s : List ℕ) → partAsked c i s ≡ true → published i ≤ length s
 asks-long (Histories.start d) i s v = leb-true (published i) (length s) v
 asks-long (Histories.receive image piece) i s v = part-long i s v
 asks-long (Histories.step image piece) i s v = part-long i s v
 asks-long (Histories.local c) i s v = part-long i s v
 
 -- where the parts as lent are as 12 requires, enough of them is lent
-fit-enough : (l : Lent) (p : Parts) (c : Call) → fit (lentOf l p) c ≡ true → enough c l ≡ true
-unfolding fit enough
+fit-enough : (l : Lent) (p : Parts) (c : Call) → partsFitCall (lentOf l p) c ≡ true → enough c l ≡ true
+unfolding partsFitCall enough
 fit-enough l p c v =
-    let f = true-every (λ i. not (takes c i) || asks c i (part (lentOf l p) i)) v in
-    every-true _ (every (λ i. by i (takes c i) (of f i)))
+    let f = true-every (λ i. not (takesPart c i) || partAsked c i (part (lentOf l p) i)) v in
+    every-true _ (every (λ i. by i (takesPart c i) (of f i)))
   where
-    by : (i : Part) (t : Bool) → (not t || asks c i (part (lentOf l p) i)) ≡ true → (not t || enoughPart (published i) (l i)) ≡ true
+    by : (i : Part) (t : Bool) → (not t || partAsked c i (part (lentOf l p) i)) ≡ true → (not t || enoughPart (published i) (l i)) ≡ true
     by i true h = LoanLaws.lent-enough (published i) (part p i) (l i) (published-some i) (rw (lent-part l p i) at (asks-long c i _ h))
     by i false h = refl
 
@@ -58,17 +58,17 @@ pub made-12 : Made12
 unfolding made
 made-12 p m e =
     let q = lentOf (m .lent) p in
-    let f = fails (fit q (m .call)) _ e (fit-enough (m .lent) p (m .call)) in
+    let f = fails (partsFitCall q (m .call)) _ e (fit-enough (m .lent) p (m .call)) in
     rw (refused-12 q (m .call) f, back-lent (m .lent) p)
 
 -- ---- enough of what a call takes: it may be lent all of the other parts
 
-pub widened-enough : (l : Lent) (p : Parts) → Long p → (c : Call) → enough c l ≡ true → EnoughOfAll (widened (takes c) l p)
+pub widened-enough : (l : Lent) (p : Parts) → Long p → (c : Call) → enough c l ≡ true → EnoughOfAll (widened (takesPart c) l p)
 unfolding enough
-widened-enough l p r c e = widened-all (takes c) l p r (true-every _ e)
+widened-enough l p r c e = widened-all (takesPart c) l p r (true-every _ e)
 
 -- it does the same
-pub widened-same : (p : Parts) (c : Call) (l : Lent) → made p (record { lent = l; call = c }) ≡ made p (record { lent = widened (takes c) l p; call = c })
+pub widened-same : (p : Parts) (c : Call) (l : Lent) → made p (record { lent = l; call = c }) ≡ made p (record { lent = widened (takesPart c) l p; call = c })
 unfolding made did
 widened-same p (Histories.start d) l = refl
 widened-same p (Histories.receive image piece) l = refl

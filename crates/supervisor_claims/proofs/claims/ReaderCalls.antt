@@ -32,8 +32,8 @@ kept-then : {r s t : List ℕ} → ReaderKept r s → ReaderKept s t → ReaderK
 kept-then k l = record { valid = l .valid; long = l .long ∙ k .long; bytes = λ b. l .bytes (k .bytes b) }
 
 -- a piece
-read-kept : (piece s : List ℕ) → LineReader.valid s ≡ true → Each Byte piece → ReaderKept s (LineReader.readPiece s piece .state)
-unfolding LineReader.readPiece LineReader.next
+read-kept : (piece s : List ℕ) → LineReader.validReader s ≡ true → Each Byte piece → ReaderKept s (LineReader.readPiece s piece .state)
+unfolding LineReader.readPiece LineReader.oneByteLater
 read-kept [] s v h = record { valid = v; long = refl; bytes = λ b. b }
 read-kept (zero ∷ bs) s v h = finished-kept s v
 read-kept (suc b ∷ bs) s v h =
@@ -51,7 +51,7 @@ module _ (p : Parts) (s : Sound p) where
   stays = (s, lengths-same)
 
   -- what was lent of the reader's part came back as t
-  back-stays : (n : Loan) (t : List ℕ) → enoughPart LineReader.state-length n ≡ true → ReaderKept (LineCalls.lentState n (p .reader)) t
+  back-stays : (n : Loan) (t : List ℕ) → enoughPart LineReader.reader-length n ≡ true → ReaderKept (LineCalls.lentState n (p .reader)) t
       → Stays p (withReader p (LineCalls.back n (p .reader) t))
   back-stays n t h k =
       let l = widened (is Part.reader) (λ i. n) p in
@@ -67,36 +67,36 @@ module _ (p : Parts) (r : LineCalls.Reader) (s : Sound (withReader p (r .state))
   abbrev Left : LineCalls.Reader → Type 0
   Left x = Stays (withReader p (r .state)) (withReader p (x .state))
 
-  long : (n : Loan) → LineReader.state-length ≤ length (LineCalls.lentState n (r .state)) → enoughPart LineReader.state-length n ≡ true
-  long n h = lent-enough LineReader.state-length (r .state) n (omega arith) h
+  long : (n : Loan) → LineReader.reader-length ≤ length (LineCalls.lentState n (r .state)) → enoughPart LineReader.reader-length n ≡ true
+  long n h = lent-enough LineReader.reader-length (r .state) n (omega arith) h
 
-  call-stays : (c : LineCalls.Call) → PieceBytes c → Left (LineCalls.after r c)
-  unfolding LineCalls.after LineCalls.afterRead LineCalls.afterOutcome LineCalls.afterStart LineCalls.restarted LineCalls.fresh LineReader.reading LineReader.starting
+  call-stays : (c : LineCalls.LineCall) → PieceBytes c → Left (LineCalls.afterLineCall r c)
+  unfolding LineCalls.afterLineCall LineCalls.afterLineRead LineCalls.afterOutcome LineCalls.afterStart LineCalls.afterRestart LineCalls.readerOn LineReader.readPromise LineReader.readerStartPromise
   call-stays (LineCalls.read c) h =
       let t = LineCalls.lentState (c .lent) (r .state) in
-      cond-by (λ o. Left (LineCalls.afterOutcome r c o)) (LineReader.valid t) _ _
+      cond-by (λ o. Left (LineCalls.afterOutcome r c o)) (LineReader.validReader t) _ _
       (λ v. back-stays _ s (c .lent) _ (long (c .lent) (valid-ready t v .0)) (read-kept (c .piece) t v h))
       (λ v. refused-stays _ s (c .lent))
   call-stays (LineCalls.start n) h =
       let t = LineCalls.lentState n (r .state) in
-      cond-by (λ a. Left (LineCalls.afterStart r n a)) (leb LineReader.state-length (length t)) _ _
-      (λ e. let l = leb-true LineReader.state-length (length t) e in back-stays _ s n _ (long n l) (started-kept t l))
+      cond-by (λ a. Left (LineCalls.afterStart r n a)) (leb LineReader.reader-length (length t)) _ _
+      (λ e. let l = leb-true LineReader.reader-length (length t) e in back-stays _ s n _ (long n l) (started-kept t l))
       (λ e. stays _ s)
 
 -- ---- many
 
-calls-stay : (cs : List LineCalls.Call) (p : Parts) (r : LineCalls.Reader) → Sound (withReader p (r .state)) → Each PieceBytes cs
-    → Stays (withReader p (r .state)) (withReader p (LineCalls.afterAll r cs .state))
-unfolding LineCalls.afterAll
+calls-stay : (cs : List LineCalls.LineCall) (p : Parts) (r : LineCalls.Reader) → Sound (withReader p (r .state)) → Each PieceBytes cs
+    → Stays (withReader p (r .state)) (withReader p (LineCalls.afterLineCalls r cs .state))
+unfolding LineCalls.afterLineCalls
 calls-stay [] p r s h = stays _ s
 calls-stay (c ∷ cs) p r s h =
     let k = call-stays p r s c (h .0) in
-    let l = calls-stay cs p (LineCalls.after r c) (k .0) (h .1) in
+    let l = calls-stay cs p (LineCalls.afterLineCall r c) (k .0) (h .1) in
     (l .0, lengths-then (k .1) (l .1))
 
 pub reader-calls-sound : ReaderCallsSound
-unfolding LineCalls.fresh
-reader-calls-sound p s cs h = calls-stay cs p (LineCalls.fresh (p .reader)) s h
+unfolding LineCalls.readerOn
+reader-calls-sound p s cs h = calls-stay cs p (LineCalls.readerOn (p .reader)) s h
 
 pub reader-no-12 : ReaderNo12
 reader-no-12 p s cs h = earns-no-12 _ (reader-calls-sound p s cs h .0)

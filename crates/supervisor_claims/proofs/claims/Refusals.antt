@@ -21,13 +21,13 @@ use Rattle.supervisor.specs.Calls
 use Rattle.supervisor.specs.Calls.{Parts}
 use Rattle.saving.specs.Saving
 use Rattle.saving.specs.Calls as SavingCalls
-use Rattle.requests.specs.Receive
+use Rattle.responder.specs.Receive
 use Rattle.supervisor_claims.specs.ByPart.{part, validPart, everyPart}
 use Rattle.supervisor_claims.specs.View.{factoryOf, view}
 use Rattle.supervisor_claims.specs.Sound.{withSettingsPart, withRegisters}
 use Rattle.supervisor_claims.specs.Histories
 use Rattle.supervisor_claims.specs.Histories.{LocalCall, Call, Typed, Answer, refused, Did, didBy, did, refusal, untouched}
-use Rattle.supervisor_claims.specs.Demand1.{fit, laterTests, EachNumberExactly, RefusedExactly, RefusedHolds, PartsFit}
+use Rattle.supervisor_claims.specs.Demand1.{partsFitCall, laterTests, EachNumberExactly, RefusedExactly, RefusedHolds, PartsFit}
 use Rattle.supervisor_claims.proofs.laws.GoodStart.{good-bad}
 use Rattle.supervisor_claims.proofs.laws.ViewLaws.{length-listed}
 use Rattle.supervisor_claims.proofs.laws.SavingLaws.{Faults, read-faults}
@@ -45,34 +45,34 @@ and-swap false b c = rw and-false
 pub valid-parts-are : (p : Parts) → Receive.validParts p ≡ everyPart (λ i. validPart i (part p i))
 unfolding Receive.validParts Receive.validInner
 valid-parts-are p =
-    ap (λ t. LineReader.valid (p .reader) && t)
+    ap (λ t. LineReader.validReader (p .reader) && t)
     (and-swap (validFactory (p .factory)) (validOutbox (p .outbox)) (validSettings (p .settings) && validRegisters (p .registers)))
 
 module _ (p : Parts) {t : Bool} where
-  room-test : (d : List ℕ) → fit p (Histories.start d) ≡ t → Calls.longEnough p ≡ t
-  unfolding fit Calls.longEnough
+  room-test : (d : List ℕ) → partsFitCall p (Histories.start d) ≡ t → Calls.longEnough p ≡ t
+  unfolding partsFitCall Calls.longEnough
   room-test d e = e
 
-  receive-test : (image piece : List ℕ) → fit p (Histories.receive image piece) ≡ t → Receive.validParts p ≡ t
-  unfolding fit
+  receive-test : (image piece : List ℕ) → partsFitCall p (Histories.receive image piece) ≡ t → Receive.validParts p ≡ t
+  unfolding partsFitCall
   receive-test image piece e = valid-parts-are p ∙ e
 
-  outbox-test : (room : List ℕ) → fit p (Histories.local (Histories.take room)) ≡ t → validOutbox (p .outbox) ≡ t
-  unfolding fit
+  outbox-test : (room : List ℕ) → partsFitCall p (Histories.local (Histories.take room)) ≡ t → validOutbox (p .outbox) ≡ t
+  unfolding partsFitCall
   outbox-test room e = sym (and-true (validOutbox (p .outbox))) ∙ e
 
   -- a call that takes the settings alone
-  settings-test : (c : Call) → fit p c ≡ (validSettings (p .settings) && true) → fit p c ≡ t → validSettings (p .settings) ≡ t
+  settings-test : (c : Call) → partsFitCall p c ≡ (validSettings (p .settings) && true) → partsFitCall p c ≡ t → validSettings (p .settings) ≡ t
   settings-test c f e = sym (and-true (validSettings (p .settings))) ∙ sym f ∙ e
 
   -- a call that takes both stores
-  stores-test : (c : Call) → fit p c ≡ (validFactory (p .factory) && (validSettings (p .settings) && true)) → fit p c ≡ t → (validFactory (p .factory) && validSettings (p .settings)) ≡ t
+  stores-test : (c : Call) → partsFitCall p c ≡ (validFactory (p .factory) && (validSettings (p .settings) && true)) → partsFitCall p c ≡ t → (validFactory (p .factory) && validSettings (p .settings)) ≡ t
   stores-test c f e = ap (λ x. validFactory (p .factory) && x) (sym (and-true (validSettings (p .settings)))) ∙ sym f ∙ e
 
 -- where they are not: 12, and nothing changes
-pub refused-12 : (p : Parts) (c : Call) → fit p c ≡ false → did p c ≡ didBy (refused 12) (untouched c) p
-unfolding fit did Calls.starting Receive.receiving Receive.stepping Calls.taking Calls.posting Calls.settingOptions
-    Calls.lookupResult Calls.lookupValue Calls.editionResult Calls.editionAt Calls.signalOf Calls.flagsOf Calls.recordOf Calls.recordBytes SavingCalls.saving SavingCalls.restoring
+pub refused-12 : (p : Parts) (c : Call) → partsFitCall p c ≡ false → did p c ≡ didBy (refused 12) (untouched c) p
+unfolding partsFitCall did Calls.startPromise Receive.receivePromise Receive.stepPromise Calls.takePromise Calls.postPromise Calls.optionsPromise
+    Calls.lookupResultPromise Calls.lookupPromise Calls.editionPromise Calls.editionReportAt Calls.signalPromise Calls.flagsPromise Calls.recordPromise Calls.recordBytesPromise SavingCalls.savePromise SavingCalls.restorePromise
 refused-12 p (Histories.start d) e = rw (room-test p d e)
 refused-12 p (Histories.receive image piece) e = rw (receive-test p image piece e)
 refused-12 p (Histories.step image piece) e = rw (receive-test p image piece e)
@@ -134,10 +134,10 @@ module _ (X : ℕ → Type 0) where
   abbrev EditionHeld : {Q : Type 0} → (Q → Calls.EditionReport) → Q → Type 0
   EditionHeld report q = WhereRefused (Histories.editionAnswer (report q)) X
 
-  edition-held : (f s : List ℕ) (key : ℕ) → EditionHeld (Calls.editionAt s key) (Calls.locationOf f s key)
-  unfolding Calls.editionAt Calls.locationOf Calls.settingAt
+  edition-held : (f s : List ℕ) (key : ℕ) → EditionHeld (Calls.editionReportAt s key) (Calls.locationOf f s key)
+  unfolding Calls.editionReportAt Calls.locationOf Calls.settingAt
   edition-held f s key =
-      let P = EditionHeld (Calls.editionAt s key) in
+      let P = EditionHeld (Calls.editionReportAt s key) in
       cond-by P (eqb key 0) _ _ (λ e. tt) (λ e.
       cond-by P (eqb key 1) _ _ (λ e. tt) (λ e.
       cond-by P (eqb key 2) _ _ (λ e. tt) (λ e.
@@ -150,15 +150,15 @@ Other p c d = WhereRefused (d .answer) (λ n. (n ≡ 12 → ⊥) × (d .parts �
 
 -- where the parts are as 12 requires
 module _ (p : Parts) where
-  abbrev registers-other : LocalCall → Calls.Registered → Type 0
+  abbrev registers-other : LocalCall → Calls.RegistersOutcome → Type 0
   registers-other c r = Other p (Histories.local c) (didBy (refusal (r .refusal)) [] (withRegisters p (r .registers)))
 
-  fit-other : (c : Call) → fit p c ≡ true → Other p c (did p c)
-  unfolding fit did Calls.starting Receive.receiving Receive.stepping Calls.taking Calls.posting Calls.settingOptions
-      Calls.lookupResult Calls.lookupValue Calls.editionResult Calls.editionAt Calls.signalOf Calls.flagsOf Calls.recordOf Calls.recordBytes SavingCalls.saving SavingCalls.restoring SavingCalls.restoringBy
+  fit-other : (c : Call) → partsFitCall p c ≡ true → Other p c (did p c)
+  unfolding partsFitCall did Calls.startPromise Receive.receivePromise Receive.stepPromise Calls.takePromise Calls.postPromise Calls.optionsPromise
+      Calls.lookupResultPromise Calls.lookupPromise Calls.editionPromise Calls.editionReportAt Calls.signalPromise Calls.flagsPromise Calls.recordPromise Calls.recordBytesPromise SavingCalls.savePromise SavingCalls.restorePromise SavingCalls.restoreOutcomeBy
   fit-other (Histories.start d) e = rw (room-test p d e) (cond-by P (goodStart d) _ _ (λ f. tt) (λ f. (λ h. omega (arith, h), refl, refl)))
     where
-      P : Calls.Start → Type 0
+      P : Calls.StartOutcome → Type 0
       P t = Other p (Histories.start d) (didBy (refusal (t .refusal)) [] (t .parts))
   fit-other (Histories.receive image piece) e = rw (receive-test p image piece e) tt
   fit-other (Histories.step image piece) e = rw (receive-test p image piece e, valid-step-stepped image p piece) tt
@@ -191,13 +191,13 @@ module _ (p : Parts) where
       rw (settings-test p (Histories.local (Histories.save room)) refl e)
       (cond-by P (ltb (length room) (length (SavingCalls.imageBytes (p .settings)))) _ _ (λ f. (λ h. omega (arith, h), refl, refl)) (λ f. tt))
     where
-      P : SavingCalls.Save → Type 0
+      P : SavingCalls.SaveOutcome → Type 0
       P t = Other p (Histories.local (Histories.save room)) (didBy (Histories.saveAnswer (t .report)) (t .room) p)
   fit-other (Histories.local (Histories.restore image)) e =
-      rw (settings-test p (Histories.local (Histories.restore image)) refl e) (by (Saving.read image) (read-faults image))
+      rw (settings-test p (Histories.local (Histories.restore image)) refl e) (by (Saving.readImage image) (read-faults image))
     where
-      by : (r : Saving.Read) → Faults r
-          → let t = SavingCalls.restoringBy (p .settings) r in
+      by : (r : Saving.ImageRead) → Faults r
+          → let t = SavingCalls.restoreOutcomeBy (p .settings) r in
           Other p (Histories.local (Histories.restore image)) (didBy (Histories.restoreAnswer (t .report)) [] (withSettingsPart p (t .settings)))
       by (Saving.fault n at) h = (λ k. omega (arith, h, k), refl, refl)
       by (Saving.good es) h = tt
@@ -227,16 +227,16 @@ module _ (n : ℕ) where
   unnumbered : (a : Answer) → WhereRefused a (λ _. ⊥) → Numbered a none
   unnumbered a h = (λ e. absurd (rw e at h), λ e. absurd (clash cc))
 
-  abbrev RegisteredAs : Calls.Registered → Option ℕ → Type 0
+  abbrev RegisteredAs : Calls.RegistersOutcome → Option ℕ → Type 0
   RegisteredAs r k = Numbered (refusal (r .refusal)) k
 
-  abbrev StartedAs : Calls.Start → Option ℕ → Type 0
+  abbrev StartedAs : Calls.StartOutcome → Option ℕ → Type 0
   StartedAs t k = Numbered (refusal (t .refusal)) k
 
-  fit-numbered : (p : Parts) (c : Call) → Typed c → fit p c ≡ true → Numbered (did p c .answer) (firstFailing (laterTests p c))
-  unfolding fit did firstFailing view Calls.starting Receive.receiving Receive.stepping Calls.taking Calls.posting Calls.settingOptions
-      Calls.lookupResult Calls.lookupValue Calls.editionResult Calls.editionAt Calls.signalOf Calls.flagsOf Calls.recordOf
-      Calls.recordBytes SavingCalls.saving SavingCalls.restoring SavingCalls.restoringBy
+  fit-numbered : (p : Parts) (c : Call) → Typed c → partsFitCall p c ≡ true → Numbered (did p c .answer) (firstFailing (laterTests p c))
+  unfolding partsFitCall did firstFailing view Calls.startPromise Receive.receivePromise Receive.stepPromise Calls.takePromise Calls.postPromise Calls.optionsPromise
+      Calls.lookupResultPromise Calls.lookupPromise Calls.editionPromise Calls.editionReportAt Calls.signalPromise Calls.flagsPromise Calls.recordPromise
+      Calls.recordBytesPromise SavingCalls.savePromise SavingCalls.restorePromise SavingCalls.restoreOutcomeBy
   fit-numbered p (Histories.start d) t e =
       rw (room-test p d e, good-bad d (omega (arith, t .0)))
       (not-cond StartedAs (Local.badStart (factoryOf d)) (numbered-same 11) (unnumbered Histories.done tt))
@@ -274,42 +274,42 @@ module _ (n : ℕ) where
       rw (settings-test p (Histories.local (Histories.save room)) refl e)
       (cond-both P (ltb (length room) (length (SavingCalls.imageBytes (p .settings)))) (λ f. numbered-same 8) (λ f. unnumbered _ tt))
     where
-      P : SavingCalls.Save → Option ℕ → Type 0
+      P : SavingCalls.SaveOutcome → Option ℕ → Type 0
       P s k = Numbered (Histories.saveAnswer (s .report)) k
   fit-numbered p (Histories.local (Histories.restore image)) t e =
-      rw (settings-test p (Histories.local (Histories.restore image)) refl e) (by (Saving.read image))
+      rw (settings-test p (Histories.local (Histories.restore image)) refl e) (by (Saving.readImage image))
     where
-      by : (r : Saving.Read) → Numbered (Histories.restoreAnswer (SavingCalls.restoringBy (p .settings) r .report)) none
+      by : (r : Saving.ImageRead) → Numbered (Histories.restoreAnswer (SavingCalls.restoreOutcomeBy (p .settings) r .report)) none
       by (Saving.fault k at) = (λ f. absurd (clash cc), λ f. absurd (clash cc))
       by (Saving.good es) = unnumbered Histories.done tt
 
 pub each-number-exactly : EachNumberExactly
 unfolding firstFailing
-each-number-exactly p c n t = by (fit p c) refl
+each-number-exactly p c n t = by (partsFitCall p c) refl
   where
-    by : (b : Bool) → fit p c ≡ b → Numbered n (did p c .answer) (cond (not (fit p c)) (some 12) (firstFailing (laterTests p c)))
+    by : (b : Bool) → partsFitCall p c ≡ b → Numbered n (did p c .answer) (cond (not (partsFitCall p c)) (some 12) (firstFailing (laterTests p c)))
     by true e = rw e (fit-numbered n p c t e)
     by false e = rw (e, refused-12 p c e) (numbered-same n 12)
 
 pub refused-exactly : RefusedExactly
-refused-exactly p c = (by (fit p c) refl, λ e. ap (λ (x : Did). x .answer) (refused-12 p c e))
+refused-exactly p c = (by (partsFitCall p c) refl, λ e. ap (λ (x : Did). x .answer) (refused-12 p c e))
   where
-    by : (t : Bool) → fit p c ≡ t → did p c .answer ≡ refused 12 → fit p c ≡ false
+    by : (t : Bool) → partsFitCall p c ≡ t → did p c .answer ≡ refused 12 → partsFitCall p c ≡ false
     by true e h = absurd ((rw h at (fit-other p c e)) .0 refl)
     by false e h = e
 
 -- so does a fault
 pub fault-holds : (p : Parts) (c : Call) (n at : ℕ) → did p c .answer ≡ Histories.faulty n at
     → (did p c .parts ≡ p) × (did p c .out ≡ untouched c)
-fault-holds p c n at h = by (fit p c) refl
+fault-holds p c n at h = by (partsFitCall p c) refl
   where
-    by : (t : Bool) → fit p c ≡ t → (did p c .parts ≡ p) × (did p c .out ≡ untouched c)
+    by : (t : Bool) → partsFitCall p c ≡ t → (did p c .parts ≡ p) × (did p c .out ≡ untouched c)
     by true e = let k = rw h at (fit-other p c e) in (k .1, k .2)
     by false e = rw (refused-12 p c e) (refl, refl)
 
 pub refused-holds : RefusedHolds
-refused-holds p c n h = by (fit p c) refl
+refused-holds p c n h = by (partsFitCall p c) refl
   where
-    by : (t : Bool) → fit p c ≡ t → (did p c .parts ≡ p) × (did p c .out ≡ untouched c)
+    by : (t : Bool) → partsFitCall p c ≡ t → (did p c .parts ≡ p) × (did p c .out ≡ untouched c)
     by true e = let k = rw h at (fit-other p c e) in (k .1, k .2)
     by false e = rw (refused-12 p c e) (refl, refl)

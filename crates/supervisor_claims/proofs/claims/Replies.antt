@@ -15,7 +15,7 @@ use Rattle.supervisor.specs.Local
 use Rattle.supervisor.specs.Valid.{validOutbox}
 use Rattle.supervisor.specs.Calls.{Parts}
 use Rattle.supervisor.proofs.ValidLaws.{outbox-valid}
-use Rattle.requests.specs.Requests
+use Rattle.responder.specs.Requests
 use Rattle.supervisor_claims.specs.View.{pendingOf, factoryOf, view}
 use Rattle.supervisor_claims.specs.Sound.{Sound}
 use Rattle.supervisor_claims.specs.Histories
@@ -39,8 +39,8 @@ view-pending-short p s = pending-short (p .outbox) (s .valid .outbox)
 module _ (image : List ℕ) (each : Each Byte image) where
   module _ (p : Parts) (s : Sound p) (t : Cycle) (a : Ample t) where
     -- a byte is received
-    received-meant : Meets p (made p (byteReceived image t)) (Histories.means done [] (Requests.byte image (view p) (t .byte)))
-    unfolding meantMade meant Requests.stream
+    received-meant : Meets p (made p (byteReceived image t)) (Histories.means done [] (Requests.receiveByte image (view p) (t .byte)))
+    unfolding meantMade meant Requests.receiveStream
     received-meant = rw (a .receiving image) at (one-call p (byteReceived image t) s (each, (a .byte, tt)))
 
     -- and all is taken

@@ -19,19 +19,19 @@ use Rattle.supervisor.specs.Layout
 use Rattle.supervisor.specs.State.{Setting, unset, Settings, setting, State, withSettings}
 use Rattle.supervisor.specs.Calls.{Parts}
 use Rattle.saving.specs.Saving
-use Rattle.saving.specs.Saving.{Entry, saved-count, read, saved}
+use Rattle.saving.specs.Saving.{SavedEntry, saved-count, readImage, saved}
 use Rattle.saving.proofs.KeptLaws.{Allowed, entries-allowed}
 use Rattle.saving_claims.specs.Item11.{Savable, entriesOf}
 use Rattle.saving_claims.proofs.Item11.{saved-read, saved-restores-into, image-exact}
-use Rattle.requests.specs.Requests.{wrongValueLength}
+use Rattle.responder.specs.Requests.{wrongValueLength}
 use Rattle.supervisor_claims.specs.View.{settingOf, settingsOf, view}
 use Rattle.supervisor_claims.specs.Sound.{Bytes}
 use Rattle.supervisor_claims.specs.Histories
 use Rattle.supervisor_claims.specs.Histories.{Typed, Answer, Did, means, done, Lent, Made, enough, meant, meantMade, made, AllTyped, reached, startWith}
 use Rattle.supervisor_claims.specs.Histories.{locally}
-use Rattle.supervisor_claims.specs.LastSet.{valueFor, setBy, restoredBy, sinceStart, origin}
+use Rattle.supervisor_claims.specs.LastSet.{valueFor, setBy, sinceStart, origin}
 use Rattle.supervisor_claims.specs.Demand1.{Meets}
-use Rattle.supervisor_claims.specs.Item11.{SavableKey, KeySavable, imageOf, SaveWrites, SavedRestores, AcceptedExact}
+use Rattle.supervisor_claims.specs.Item11.{SavableKey, KeySavable, savedImageOf, SaveWrites, SavedRestores, AcceptedExact}
 use Rattle.supervisor_claims.proofs.laws.ViewLaws.{length-listed}
 use Rattle.supervisor_claims.proofs.laws.SavingLaws.{image-bytes}
 use Rattle.supervisor_claims.proofs.claims.Refusals.{WhereRefused}
@@ -81,7 +81,7 @@ module _ (k : ℕ) where
   after-savable (m ∷ ms) x h low =
       after-savable ms (onto x (setBy k m)) (onto-savable x h low (setBy k m) (set-short k m)) (onto-low x (setBy k m) low)
 
-  in-savable : (es : List Entry) → Each Allowed es → Each (λ (e : Entry). e .edition < 256 ^ 4) es → SavableKey k (Saving.settingIn k es)
+  in-savable : (es : List SavedEntry) → Each Allowed es → Each (λ (e : SavedEntry). e .edition < 256 ^ 4) es → SavableKey k (Saving.settingIn k es)
   unfolding Saving.settingIn
   in-savable [] a l = refl
   in-savable (e ∷ es) a l =
@@ -127,12 +127,12 @@ module _ (p : Parts) (b : Bytes p) (l : Lent) (d : List ℕ) (typed : Typed (His
 
   -- the image that is saved then, and its records
   abbrev imageThen : List ℕ
-  imageThen = imageOf (reached p l d ms)
+  imageThen = savedImageOf (reached p l d ms)
 
-  abbrev recordsThen : List Entry
+  abbrev recordsThen : List SavedEntry
   recordsThen = entriesOf Limits.first-setting (take saved-count settingsThen)
 
-  pub image-read : read imageThen ≡ Saving.good recordsThen
+  pub image-read : readImage imageThen ≡ Saving.good recordsThen
   image-read = saved-read settingsThen (omega (arith, settings-long)) all-savable
 
   image-holds : Each Byte imageThen
@@ -156,7 +156,7 @@ module _ (p : Parts) (b : Bytes p) (l : Lent) (d : List ℕ) (typed : Typed (His
 pub accepted-exact : AcceptedExact
 unfolding meantMade meant Saving.restore
 accepted-exact q sound j image i h =
-    by (enough (Histories.local (Histories.restore image)) j) (read image) refl (one-call q (locally j (Histories.restore image)) sound i)
+    by (enough (Histories.local (Histories.restore image)) j) (readImage image) refl (one-call q (locally j (Histories.restore image)) sound i)
   where
     after : Did
     after = made q (locally j (Histories.restore image))
@@ -165,9 +165,9 @@ accepted-exact q sound j image i h =
     undone : (a : Answer) → after .answer ≡ a → WhereRefused a (λ _. ⊥)
     undone a e = subst (λ x. WhereRefused x (λ _. ⊥)) (sym h ∙ e) tt
 
-    by : (t : Bool) (r : Saving.Read) → read image ≡ r
-        → Meets q after (cond t (Histories.restoreMeans (view q) (Saving.restoredBy (view q) r)) (means (Histories.refused 12) [] (view q)))
-        → image ≡ imageOf (after .parts)
+    by : (t : Bool) (r : Saving.ImageRead) → readImage image ≡ r
+        → Meets q after (cond t (Histories.restoreMeans (view q) (Saving.restoreRead (view q) r)) (means (Histories.refused 12) [] (view q)))
+        → image ≡ savedImageOf (after .parts)
     by false r e m = absurd (undone (Histories.refused 12) (m .answer))
     by true (Saving.fault n at) e m = absurd (undone (Histories.faulty n at) (m .answer))
     by true (Saving.good es) e m =

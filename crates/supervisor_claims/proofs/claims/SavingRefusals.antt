@@ -19,16 +19,16 @@ clash : _≡_ {A = ℕ} 0 1 → ⊥
 clash z = omega arith
 
 pub save-refused-exactly : SaveRefusedExactly
-unfolding SavingCalls.saving firstFailing
+unfolding SavingCalls.savePromise firstFailing
 save-refused-exactly s room n = by (validSettings s) (ltb (length room) (length (SavingCalls.imageBytes s))) _
   where
-    Numbered : SavingCalls.Save → Option ℕ → Type 0
+    Numbered : SavingCalls.SaveOutcome → Option ℕ → Type 0
     Numbered t k = (t .report ≡ SavingCalls.refused n) ↔ (k ≡ some n)
 
-    saved : ℕ → List ℕ → SavingCalls.Save
+    saved : ℕ → List ℕ → SavingCalls.SaveOutcome
     saved k out = record { report = SavingCalls.written k; room = out }
 
-    unsaved : ℕ → SavingCalls.Save
+    unsaved : ℕ → SavingCalls.SaveOutcome
     unsaved k = record { report = SavingCalls.refused k; room = room }
 
     by : (v t : Bool) (out : List ℕ)
@@ -39,19 +39,19 @@ save-refused-exactly s room n = by (validSettings s) (ltb (length room) (length 
     by false t out = (λ e. cc, λ e. cc)
 
 pub restore-refused-exactly : RestoreRefusedExactly
-unfolding SavingCalls.restoring SavingCalls.restoringBy firstFailing
-restore-refused-exactly s image n = by (validSettings s) (Saving.read image)
+unfolding SavingCalls.restorePromise SavingCalls.restoreOutcomeBy firstFailing
+restore-refused-exactly s image n = by (validSettings s) (Saving.readImage image)
   where
-    Numbered : SavingCalls.Restore → Option ℕ → Type 0
+    Numbered : SavingCalls.RestoreOutcome → Option ℕ → Type 0
     Numbered t k = (t .report ≡ SavingCalls.RestoreReport.refused n) ↔ (k ≡ some n)
 
-    by : (v : Bool) (r : Saving.Read)
-        → Numbered (cond v (SavingCalls.restoringBy s r) (record { report = SavingCalls.RestoreReport.refused 12; settings = s }))
+    by : (v : Bool) (r : Saving.ImageRead)
+        → Numbered (cond v (SavingCalls.restoreOutcomeBy s r) (record { report = SavingCalls.RestoreReport.refused 12; settings = s }))
         (cond (not v) (some 12) none)
     by true (Saving.fault k at) = (λ e. absurd (clash cc), λ e. absurd (clash cc))
     by true (Saving.good es) = (λ e. absurd (clash cc), λ e. absurd (clash cc))
     by false r = (λ e. cc, λ e. cc)
 
 pub restore-fault : RestoreFault
-unfolding SavingCalls.restoring SavingCalls.restoringBy
+unfolding SavingCalls.restorePromise SavingCalls.restoreOutcomeBy
 restore-fault s image n at v e = rw (v, e)

@@ -19,11 +19,11 @@ use Rattle.supervisor.specs.Limits
 use Rattle.supervisor.specs.Limits.{SettingsKey}
 use Rattle.supervisor.specs.State.{Setting, setting, Settings, Retained, State}
 use Rattle.supervisor.specs.Local
-use Rattle.requests.specs.Commands.{Command, commandOf}
-use Rattle.requests.specs.Requests
-use Rattle.requests.specs.Requests.{Verdict, failure, good, Answer, Stored, stored, wrongValueLength}
-use Rattle.requests.specs.Requests.{carriedBy, carried, effect, served, known, lengthAllowed}
-use Rattle.requests.specs.Requests.{tested, verdict}
+use Rattle.responder.specs.Commands.{Command, commandOfNumber}
+use Rattle.responder.specs.Requests
+use Rattle.responder.specs.Requests.{Verdict, failure, good, ReplyContent, Stored, storeValue, wrongValueLength}
+use Rattle.responder.specs.Requests.{carryOutBy, carryOut, effect, versionServed, known, lengthAllowed}
+use Rattle.responder.specs.Requests.{tested, verdict}
 use Rattle.supervisor_claims.specs.LastSet.{resultOr, setResult}
 use Rattle.supervisor_claims.specs.Item4.{MoreItems11, UpTo64Items, ValueLengths}
 use Rattle.supervisor_claims.specs.Item5.{StoresNothing, FactoryEdition, SentAgain, ReplyVersion, FailureVersion}
@@ -31,8 +31,8 @@ use Rattle.supervisor_claims.specs.Item5.{StoresNothing, FactoryEdition,
 -- ---- a set
 
 pub set-result : (z : Settings) (k : ℕ) (v : List ℕ) (x : Setting) → (SettingsKey k → setting z k ≡ x)
-    → stored z k v .result ≡ setResult k (length v) (x .edition)
-unfolding stored firstFailing
+    → storeValue z k v .result ≡ setResult k (length v) (x .edition)
+unfolding storeValue firstFailing
 set-result z k v x g =
     cond-both P (ltb Limits.highest-key k) (λ _. refl) (λ e.
     cond-both P (ltb k Limits.first-setting) (λ _. refl) (λ f.
@@ -45,7 +45,7 @@ set-result z k v x g =
     P a n = a .result ≡ resultOr n
 
 pub stores-nothing : StoresNothing
-unfolding stored
+unfolding storeValue
 stores-nothing z k v =
     cond-by P (ltb Limits.highest-key k) _ _ (λ _ _. refl) (λ _.
     cond-by P (ltb k Limits.first-setting) _ _ (λ _ _. refl) (λ _.
@@ -85,32 +85,32 @@ factory-edition s k h =
     P x = x .edition ≡ 0
 
 -- the version of a reply, where there is one
-abbrev versionOr : Option Answer → ℕ → ℕ
+abbrev versionOr : Option ReplyContent → ℕ → ℕ
 versionOr none n = n
 versionOr (some r) n = r .version
 
 clash : _≡_ {A = ℕ} 0 1 → ⊥
 clash z = omega arith
 
-module _ (image : List ℕ) (s : State) (m : Message) (r : Answer) where
+module _ (image : List ℕ) (s : State) (m : Message) (r : ReplyContent) where
   abbrev Versioned : Requests.Carried → Type 0
   Versioned c = c .reply ≡ some r → (r .version ≡ m .version) ⊎ SentAgain s m (r .version)
 
   silent : (t : State) → Versioned (Requests.unanswered t)
   silent t e = absurd (clash cc)
 
-  plain : (t : State) (c : ℕ) (bs : List ℕ) → Versioned (Requests.replied t (m .version) c bs)
-  plain t c bs e = inl (sym (ap (λ (x : Option Answer). versionOr x 0) e))
+  plain : (t : State) (c : ℕ) (bs : List ℕ) → Versioned (Requests.replyWith t (m .version) c bs)
+  plain t c bs e = inl (sym (ap (λ (x : Option ReplyContent). versionOr x 0) e))
 
   alerted : (o : Option Retained) → s .retained ≡ o → Versioned (Requests.alertAsked (m .version) s (m .sequence) o)
   unfolding Requests.alertAsked Requests.alertTaken
   alerted none e = plain s _ _
   alerted (some k) e =
       cond-by Versioned (eqb (k .sequence) (m .sequence)) _ _
-      (λ f g. inr (record { kept = k; retained = e; number = eqb-true _ _ f; written = sym (ap (λ (x : Option Answer). versionOr x 0) g) }))
+      (λ f g. inr (record { kept = k; retained = e; number = eqb-true _ _ f; written = sym (ap (λ (x : Option ReplyContent). versionOr x 0) g) }))
       (λ f. plain s _ _)
 
-  by-command : (o : Option Command) → Versioned (carriedBy o image s m)
+  by-command : (o : Option Command) → Versioned (carryOutBy o image s m)
   unfolding effect Requests.reboot Requests.powerOff Requests.bootFailure Requests.panicked Requests.startAcknowledged Requests.keySet
   by-command none = silent s
   by-command (some Command.reboot) = silent s
@@ -129,8 +129,8 @@ module _ (image : List ℕ) (s : State) (m : Message) (r : Answer) where
   by-command (some Command.key-set) = plain s _ _
 
 pub reply-version : ReplyVersion
-unfolding carried
-reply-version image s m r = by-command image s m r (commandOf (m .command))
+unfolding carryOut
+reply-version image s m r = by-command image s m r (commandOfNumber (m .command))
 
 -- a failure's reason and version
 abbrev reasonIn : Verdict → ℕ
@@ -145,14 +145,14 @@ abbrev isFailure : Verdict → ℕ
 isFailure (failure reason version sequence) = 1
 isFailure (good m) = 0
 
-abbrev Failing : Line.Verdict → Verdict → Type 0
+abbrev Failing : Line.LineVerdict → Verdict → Type 0
 Failing j w = isFailure w ≡ 1
     → (reasonIn w ≤ 5 → versionIn w ≡ 1) × ((m : Message) → j ≡ Line.good m → 5 < reasonIn w → versionIn w ≡ m .version)
 
 tested-version : (m : Message) → Failing (Line.good m) (tested m)
 unfolding tested
 tested-version m =
-    cond-by P (not (served (m .version))) _ _ (λ _ _. (λ _. refl, λ k e h. absurd (omega arith))) (λ _.
+    cond-by P (not (versionServed (m .version))) _ _ (λ _ _. (λ _. refl, λ k e h. absurd (omega arith))) (λ _.
     cond-by P (leb (2 ^ 63) (m .sequence)) _ _ (λ _ _. (λ h. absurd (omega arith), λ k e h. cc)) (λ _.
     cond-by P (not (known (m .command))) _ _ (λ _ _. (λ _. refl, λ k e h. absurd (omega arith))) (λ _.
     cond-by P (not (lengthAllowed (m .command) (length (m .payload)))) _ _ (λ _ _. (λ h. absurd (omega arith), λ k e h. cc))
@@ -161,7 +161,7 @@ tested-version m =
     P : Verdict → Type 0
     P = Failing (Line.good m)
 
-where-version : (j : Line.Verdict) → Failing j (Requests.testedWhere j)
+where-version : (j : Line.LineVerdict) → Failing j (Requests.testedWhere j)
 where-version (Line.failure reason sequence) e = (λ _. refl, λ m f h. absurd (clash cc))
 where-version (Line.good m) e = tested-version m e
 

@@ -17,7 +17,7 @@ use Rattle.octets.proofs.Conditions.{cond-by, cond-both}
 use Rattle.octets.proofs.SameBytes
 use Rattle.octets.proofs.SameBytes.{same-first}
 use Rattle.line.specs.Message.{Message}
-use Rattle.line_claims.specs.Pieces.{nonEmpty, closedBy}
+use Rattle.line_claims.specs.Pieces.{nonEmpty, closedBehind}
 use Rattle.supervisor.specs.Layout
 use Rattle.supervisor.specs.Limits
 use Rattle.supervisor.specs.Limits.{SettingsKey}
@@ -27,15 +27,15 @@ use Rattle.supervisor.specs.declared.registers.Kind.the-variants as kind
 use Rattle.supervisor.proofs.OffsetLaws.{offset-within, Lies, setting-lies, settings-key}
 use Rattle.supervisor.specs.Valid.{SettingsValid}
 use Rattle.saving.specs.Saving
-use Rattle.requests.specs.Commands.{Command, numberOf, commandOf}
-use Rattle.requests.specs.Requests
-use Rattle.requests.specs.Requests.{Verdict, failure, good, verdict, Carried, effect, carriedBy, carried, wrongValueLength, Stored, stored, judged, sent}
-use Rattle.requests.proofs.CommandLaws.{number-is}
+use Rattle.responder.specs.Commands.{Command, commandNumber, commandOfNumber}
+use Rattle.responder.specs.Requests
+use Rattle.responder.specs.Requests.{Verdict, failure, good, verdict, Carried, effect, carryOutBy, carryOut, wrongValueLength, Stored, storeValue, afterVerdict, sent}
+use Rattle.responder.proofs.CommandLaws.{number-is}
 use Rattle.supervisor_claims.specs.View.{factoryOf, settingOf, settingsOf}
 use Rattle.supervisor_claims.specs.Histories
 use Rattle.supervisor_claims.specs.Histories.{LocalCall, Call, Means, doneMeans, recordMeans, restoreMeans, meant, Made, enough}
-use Rattle.supervisor_claims.specs.FrameHistory.{reads, starts, receivedBy, startsAnew, framesBy, framed, allFramed, carriedOut, carriedCall, carriedMade}
-use Rattle.supervisor_claims.specs.LastSet.{request, requestsIn, valueFor, setBy, listedIf, setsOf}
+use Rattle.supervisor_claims.specs.FrameHistory.{pieceRead, isAcceptedStart, bytesReceivedBy, startsAnew, framesClosedBy, frameCarried, framesCarried, carriedOut, carriedCall, carriedMade}
+use Rattle.supervisor_claims.specs.LastSet.{requestAhead, requestsIn, valueFor, setBy, listedIf, setsOf}
 use Rattle.supervisor_claims.proofs.laws.ViewLaws.{length-listed, listed-set}
 use Rattle.supervisor_claims.proofs.laws.SettingLaws.{setting-is, setting-same}
 use Rattle.supervisor_claims.proofs.claims.LastSetLaws.{replaced-long, replaced-other, onto, afterSets, request-append, sets-append, judged-has}
@@ -112,16 +112,16 @@ Before z = setting z Limits.passphrase-key .edition ≡ Limits.last-edition → 
 module _ (z y : Settings) (e : Alike z y) (v : List ℕ) where
   -- the passphrase, if a value of a right length finds the edition below the last in both
   stored-passphrase : (wrongValueLength Limits.passphrase-key (length v) ≡ false → Before z × Before y)
-      → StoredAlike (stored z Limits.passphrase-key v) (stored y Limits.passphrase-key v)
-  unfolding stored
+      → StoredAlike (storeValue z Limits.passphrase-key v) (storeValue y Limits.passphrase-key v)
+  unfolding storeValue
   stored-passphrase low =
       let i = Limits.passphrase-key - Limits.first-setting in
       cond-both StoredAlike (wrongValueLength Limits.passphrase-key (length v)) (λ f. (refl, e)) (λ f.
       rw (ne-eqb (setting z Limits.passphrase-key .edition) Limits.last-edition (low f .0), ne-eqb (setting y Limits.passphrase-key .edition) Limits.last-edition (low f .1))
       (refl, set-set z i _ unset ∙ e ∙ sym (set-set y i _ unset)))
 
-  stored-other : (key : ℕ) → (key ≡ Limits.passphrase-key → ⊥) → StoredAlike (stored z key v) (stored y key v)
-  unfolding stored
+  stored-other : (key : ℕ) → (key ≡ Limits.passphrase-key → ⊥) → StoredAlike (storeValue z key v) (storeValue y key v)
+  unfolding storeValue
   stored-other key n =
       cond-both StoredAlike (ltb Limits.highest-key key) (λ f. (refl, e)) (λ f.
       cond-both StoredAlike (ltb key Limits.first-setting) (λ g. (refl, e)) (λ g.
@@ -137,8 +137,8 @@ module _ (z y : Settings) (e : Alike z y) (v : List ℕ) where
 
 -- by a key set's data
 data-alike : (z y : Settings) → Alike z y → (bs : List ℕ) → let n = length (listedIf (valueFor Limits.passphrase-key bs)) in Room n z → Room n y
-    → StoredAlike (stored z (numberAt 1 bs 0) (drop 1 bs)) (stored y (numberAt 1 bs 0) (drop 1 bs))
-unfolding number stored valueFor
+    → StoredAlike (storeValue z (numberAt 1 bs 0) (drop 1 bs)) (storeValue y (numberAt 1 bs 0) (drop 1 bs))
+unfolding number storeValue valueFor
 data-alike z y e [] r q = (refl, e)
 data-alike z y e (key ∷ v) r q = rw add-zero (by (eqb key Limits.passphrase-key) refl)
   where
@@ -146,7 +146,7 @@ data-alike z y e (key ∷ v) r q = rw add-zero (by (eqb key Limits.passphrase-ke
         → Room (length (listedIf (valueFor Limits.passphrase-key (key ∷ v)))) x → Before x
     before f g x r h = let l = rw (f, g) at (r .low) in omega arith
 
-    by : (t : Bool) → eqb key Limits.passphrase-key ≡ t → StoredAlike (stored z key v) (stored y key v)
+    by : (t : Bool) → eqb key Limits.passphrase-key ≡ t → StoredAlike (storeValue z key v) (storeValue y key v)
     by true f = rw (eqb-true key Limits.passphrase-key f) (stored-passphrase z y e v (λ g. (before f g z r, before f g y q)))
     by false f = stored-other z y e v key (eqb-false key Limits.passphrase-key f)
 
@@ -162,7 +162,7 @@ module _ (image : List ℕ) (m : Message) (t : State) (z : Settings) (e : Alike 
   s = withSettings t z
 
   -- the settings are as before
-  still : {r : Option Requests.Answer} {u : State} → Alike z (u .settings) → SameCarried (record { state = withSettings u z; reply = r }) (record { state = u; reply = r })
+  still : {r : Option Requests.ReplyContent} {u : State} → Alike z (u .settings) → SameCarried (record { state = withSettings u z; reply = r }) (record { state = u; reply = r })
   still f = record { reply = refl; state = record { rest = refl; settings = f } }
 
   alert-same : (r : Option Retained) → SameCarried (Requests.alertAsked (m .version) s (m .sequence) r) (Requests.alertAsked (m .version) t (m .sequence) r)
@@ -170,13 +170,13 @@ module _ (image : List ℕ) (m : Message) (t : State) (z : Settings) (e : Alike 
   alert-same none = still e
   alert-same (some r) = cond-both SameCarried (eqb (r .sequence) (m .sequence)) (λ f. still e) (λ f. still e)
 
-  set-same : m .command ≡ numberOf Command.key-set → SameCarried (Requests.keySet (m .version) s (m .payload)) (Requests.keySet (m .version) t (m .payload))
-  unfolding numberOf setBy Requests.keySet
+  set-same : m .command ≡ commandNumber Command.key-set → SameCarried (Requests.keySet (m .version) s (m .payload)) (Requests.keySet (m .version) t (m .payload))
+  unfolding commandNumber setBy Requests.keySet
   set-same n =
       let k = data-alike z (t .settings) e (m .payload) (rw n at left) (rw n at right) in
       record { reply = rw (k .0); state = record { rest = refl; settings = k .1 } }
 
-  effect-same : (x : Command) → m .command ≡ numberOf x → SameCarried (effect x image s m) (effect x image t m)
+  effect-same : (x : Command) → m .command ≡ commandNumber x → SameCarried (effect x image s m) (effect x image t m)
   unfolding effect Requests.reboot Requests.powerOff Requests.bootFailure Requests.panicked Requests.startAcknowledged
   effect-same Command.reboot n = still e
   effect-same Command.power-off n = still e
@@ -193,11 +193,11 @@ module _ (image : List ℕ) (m : Message) (t : State) (z : Settings) (e : Alike 
   effect-same Command.inventory n = still e
   effect-same Command.key-set n = set-same n
 
-  carried-same : SameCarried (carried image s m) (carried image t m)
-  unfolding carried
-  carried-same = by (commandOf (m .command)) refl
+  carried-same : SameCarried (carryOut image s m) (carryOut image t m)
+  unfolding carryOut
+  carried-same = by (commandOfNumber (m .command)) refl
     where
-      by : (o : Option Command) → commandOf (m .command) ≡ o → SameCarried (carriedBy o image s m) (carriedBy o image t m)
+      by : (o : Option Command) → commandOfNumber (m .command) ≡ o → SameCarried (carryOutBy o image s m) (carryOutBy o image t m)
       by none f = still e
       by (some x) f = effect-same x (number-is (m .command) f)
 
@@ -230,43 +230,43 @@ sets-raise k x (m ∷ ms) =
     omega (arith, sets-raise k (onto x (setBy k m)) ms, onto-raise x (setBy k m), length-append (listedIf (setBy k m)) (setsOf k ms))
 
 module _ (image : List ℕ) where
-  judged-room : (v : Verdict) (n : ℕ) (s : State) → Room (setCount (request v []) + n) (s .settings) → Room n (judged image s v .settings)
+  judged-room : (v : Verdict) (n : ℕ) (s : State) → Room (setCount (requestAhead v []) + n) (s .settings) → Room n (afterVerdict image s v .settings)
   judged-room v n s r =
       let x = setting (s .settings) Limits.passphrase-key in
       let h = judged-has image passphrase s v x (record { long = r .long; held = refl }) in
-      record { long = h .long; low = rw (h .held) (omega (arith, sets-raise Limits.passphrase-key x (request v []))) }
+      record { long = h .long; low = rw (h .held) (omega (arith, sets-raise Limits.passphrase-key x (requestAhead v []))) }
 
-  judged-like : (v : Verdict) {s t : State} → Pair (setCount (request v [])) s t → Like (judged image s v) (judged image t v)
-  unfolding judged setsOf
+  judged-like : (v : Verdict) {s t : State} → Pair (setCount (requestAhead v [])) s t → Like (afterVerdict image s v) (afterVerdict image t v)
+  unfolding afterVerdict setsOf
   judged-like (failure reason version sequence) p = sent-like _ (p .like)
   judged-like (good m) {s} {t} p =
       let n = length-append (listedIf (setBy Limits.passphrase-key m)) [] in
-      let c = subst (λ (x : State). SameCarried (carried image x m) (carried image t m)) (sym (p .like .rest))
+      let c = subst (λ (x : State). SameCarried (carryOut image x m) (carryOut image t m)) (sym (p .like .rest))
       (carried-same image m t (s .settings) (p .like .settings) (room-less (omega arith) (p .left)) (room-less (omega arith) (p .right))) in
       rw (c .reply) (sent-like _ (c .state))
 
-  judged-pair : (v : Verdict) (n : ℕ) (s t : State) → Pair (setCount (request v []) + n) s t → Pair n (judged image s v) (judged image t v)
+  judged-pair : (v : Verdict) (n : ℕ) (s t : State) → Pair (setCount (requestAhead v []) + n) s t → Pair n (afterVerdict image s v) (afterVerdict image t v)
   judged-pair v n s t p =
       record { like = judged-like v (pair-less (omega arith) p); left = judged-room v n s (p .left); right = judged-room v n t (p .right) }
 
   frames-pair : (fs : List (List ℕ)) (n : ℕ) (s t : State) → let gs = nonEmpty fs in Pair (setCount (requestsIn gs) + n) s t
-      → Pair n (allFramed image s gs) (allFramed image t gs)
-  unfolding nonEmpty allFramed framed requestsIn setsOf
+      → Pair n (framesCarried image s gs) (framesCarried image t gs)
+  unfolding nonEmpty framesCarried frameCarried requestsIn setsOf
   frames-pair [] n s t p = pair-less (omega arith) p
   frames-pair ([] ∷ fs) n s t p = frames-pair fs n s t p
   frames-pair ((b ∷ bs) ∷ fs) n s t p =
       let v = verdict (b ∷ bs) in
       let r = requestsIn (nonEmpty fs) in
       let k = Limits.passphrase-key in
-      let e : setCount (request v r) ≡ setCount (request v []) + setCount r =
-      rw (request-append v [] r, sets-append k (request v []) r) (length-append (setsOf k (request v [])) (setsOf k r)) in
-      frames-pair fs n (judged image s v) (judged image t v) (judged-pair v (setCount r + n) s t (pair-less (omega arith) p))
+      let e : setCount (requestAhead v r) ≡ setCount (requestAhead v []) + setCount r =
+      rw (request-append v [] r, sets-append k (requestAhead v []) r) (length-append (setsOf k (requestAhead v [])) (setsOf k r)) in
+      frames-pair fs n (afterVerdict image s v) (afterVerdict image t v) (judged-pair v (setCount r + n) s t (pair-less (omega arith) p))
 
   -- bytes that came behind w
-  bytes-pair : (w bs : List ℕ) (n : ℕ) (s t : State) → Pair (setCount (requestsIn (framesBy w bs)) + n) s t → Pair n (carriedOut image w s bs) (carriedOut image w t bs)
-  unfolding carriedOut framesBy
+  bytes-pair : (w bs : List ℕ) (n : ℕ) (s t : State) → Pair (setCount (requestsIn (framesClosedBy w bs)) + n) s t → Pair n (carriedOut image w s bs) (carriedOut image w t bs)
+  unfolding carriedOut framesClosedBy
   bytes-pair w bs n s t p =
-      let q = frames-pair (closedBy w bs) n s t p in
+      let q = frames-pair (closedBehind w bs) n s t p in
       record { like = received-like _ (q .like); left = q .left; right = q .right }
 
 -- ---- saving and restoring: the passphrase is not among the saved settings
@@ -278,7 +278,7 @@ saved-same z y e =
     ap (Saving.imageFrom Limits.first-setting)
     (sym (take-set-le Saving.saved-count z i unset (omega arith)) ∙ ap (take Saving.saved-count) e ∙ take-set-le Saving.saved-count y i unset (omega arith))
 
-module _ (es : List Saving.Entry) where
+module _ (es : List Saving.SavedEntry) where
   -- what is replaced lies before it
   replaced-set : (n : ℕ) → n ≤ Saving.saved-count → (z : Settings) → withSetting (Saving.replaced n es z) Limits.passphrase-key unset ≡ Saving.replaced n es (withSetting z Limits.passphrase-key unset)
   unfolding Saving.replaced
@@ -288,11 +288,11 @@ module _ (es : List Saving.Entry) where
       set-comm (Saving.replaced n es z) (Limits.first-setting + n - Limits.first-setting) (Limits.passphrase-key - Limits.first-setting) x unset (λ e. omega (arith, e))
       ∙ ap (λ (y : Settings). withSetting y (Limits.first-setting + n) x) (replaced-set n (omega arith) z)
 
-  restored-alike : (z y : Settings) → Alike z y → Alike (Saving.restored es z) (Saving.restored es y)
+  restored-alike : (z y : Settings) → Alike z y → Alike (Saving.restoredSettings es z) (Saving.restoredSettings es y)
   restored-alike z y e =
       replaced-set Saving.saved-count (omega arith) z ∙ ap (Saving.replaced Saving.saved-count es) e ∙ sym (replaced-set Saving.saved-count (omega arith) y)
 
-  restored-room : (n : ℕ) (z : Settings) → Room n z → Room n (Saving.restored es z)
+  restored-room : (n : ℕ) (z : Settings) → Room n z → Room n (Saving.restoredSettings es z)
   restored-room n z r = record {
     long = replaced-long es Saving.saved-count z ∙ r .long;
     low = rw (replaced-other es Saving.saved-count z Limits.passphrase-key passphrase (omega arith)) (r .low);
@@ -320,7 +320,7 @@ module _ (n : ℕ) (t : State) (z : Settings) (e : Alike z (t .settings)) (left 
   record-same none = unset-same e right
   record-same (some x) = unset-same e right
 
-  restore-same : (r : Saving.Read) → Same n (restoreMeans (withSettings t z) (Saving.restoredBy (withSettings t z) r)) (restoreMeans t (Saving.restoredBy t r))
+  restore-same : (r : Saving.ImageRead) → Same n (restoreMeans (withSettings t z) (Saving.restoreRead (withSettings t z) r)) (restoreMeans t (Saving.restoreRead t r))
   restore-same (Saving.fault k at) = unset-same e right
   restore-same (Saving.good es) = record {
     answer = refl;
@@ -333,7 +333,7 @@ module _ (n : ℕ) (t : State) (z : Settings) (e : Alike z (t .settings)) (left 
   }
 
   local-by : (c : LocalCall) → Same n (meant (withSettings t z) (Histories.local c)) (meant t (Histories.local c))
-  unfolding meant Local.taken Local.afterTake Local.post Local.posted Local.setOptions Local.asserted Saving.restore
+  unfolding meant Local.taken Local.afterTake Local.post Local.withPosted Local.setOptions Local.asserted Saving.restore
   local-by (Histories.take room) = unset-same e right
   local-by (Histories.post action text) =
       cond-both DoneSame (eqb action 0) (λ f. unset-same e right) (λ f.
@@ -349,7 +349,7 @@ module _ (n : ℕ) (t : State) (z : Settings) (e : Alike z (t .settings)) (left 
   local-by (Histories.save room) =
       rw (saved-same z (t .settings) e)
       (cond-both (Same n) (ltb (length room) (length (Saving.saved (t .settings)))) (λ f. unset-same e right) (λ f. unset-same e right))
-  local-by (Histories.restore image) = restore-same (Saving.read image)
+  local-by (Histories.restore image) = restore-same (Saving.readImage image)
 
 local-same : (c : LocalCall) (n : ℕ) (s t : State) → Pair n s t → Same n (meant s (Histories.local c)) (meant t (Histories.local c))
 local-same c n s t p =
@@ -357,8 +357,8 @@ local-same c n s t p =
     (local-by n t (s .settings) (p .like .settings) (p .left) (p .right) c)
 
 -- a start that is accepted: the same fresh state
-start-same : (w : List ℕ) (s t : State) (c : Call) → starts c ≡ true → carriedCall w s c ≡ carriedCall w t c
-unfolding starts carriedCall meant Local.start
+start-same : (w : List ℕ) (s t : State) (c : Call) → isAcceptedStart c ≡ true → carriedCall w s c ≡ carriedCall w t c
+unfolding isAcceptedStart carriedCall meant Local.start
 start-same w s t (Histories.start d) e = by (Local.badStart (factoryOf d)) e
   where
     by : (bad : Bool) → not bad ≡ true → let done = cond bad (Local.refused 11) (Local.left (fresh (factoryOf d))) in doneMeans s done ≡ doneMeans t done
@@ -369,9 +369,9 @@ start-same w s t (Histories.step image piece) e = absurd (false≢true e)
 start-same w s t (Histories.local c) e = absurd (false≢true e)
 
 -- any other call, by the bytes that it reads behind w
-call-same : (w : List ℕ) (n : ℕ) (s t : State) (c : Call) → starts c ≡ false → Pair (setCount (requestsIn (framesBy w (reads c))) + n) s t
+call-same : (w : List ℕ) (n : ℕ) (s t : State) (c : Call) → isAcceptedStart c ≡ false → Pair (setCount (requestsIn (framesClosedBy w (pieceRead c))) + n) s t
     → Same n (carriedCall w s c) (carriedCall w t c)
-unfolding starts reads carriedCall meant Local.start
+unfolding isAcceptedStart pieceRead carriedCall meant Local.start
 call-same w n s t (Histories.start d) e p = rw (not-false (Local.badStart (factoryOf d)) e) (record { answer = refl; out = refl; pair = pair-less (omega arith) p })
 call-same w n s t (Histories.receive image piece) e p = record { answer = refl; out = refl; pair = bytes-pair image w piece n s t p }
 call-same w n s t (Histories.step image piece) e p = record { answer = refl; out = refl; pair = bytes-pair image w _ n s t p }
@@ -387,8 +387,8 @@ module _ (w : List ℕ) (s t : State) (m : Made) where
       by true f = rw (f, start-same w s t (m .call) (rw f at e))
       by false f = absurd (false≢true (rw f at e))
 
-  pub made-same : (n : ℕ) → startsAnew m ≡ false → Pair (setCount (requestsIn (framesBy w (receivedBy m))) + n) s t → Same n (carriedMade w s m) (carriedMade w t m)
-  unfolding startsAnew receivedBy carriedMade
+  pub made-same : (n : ℕ) → startsAnew m ≡ false → Pair (setCount (requestsIn (framesClosedBy w (bytesReceivedBy m))) + n) s t → Same n (carriedMade w s m) (carriedMade w t m)
+  unfolding startsAnew bytesReceivedBy carriedMade
   made-same n e p = by (enough (m .call) (m .lent)) refl
     where
       by : (b : Bool) → enough (m .call) (m .lent) ≡ b → Same n (carriedMade w s m) (carriedMade w t m)

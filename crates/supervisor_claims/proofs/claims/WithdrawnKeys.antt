@@ -20,14 +20,14 @@ use Rattle.supervisor.specs.Limits.{SettingsKey}
 use Rattle.supervisor.specs.State.{setting, State, fresh}
 use Rattle.supervisor.specs.Local
 use Rattle.supervisor.specs.Calls.{Parts}
-use Rattle.requests.specs.Commands.{numberOf, withNumber, commandOf}
-use Rattle.requests.specs.Requests.{good, verdict, stored, keySet, effect, carried, stream, owed, replyOf, replyFrame}
+use Rattle.responder.specs.Commands.{commandNumber, withNumber, commandOfNumber}
+use Rattle.responder.specs.Requests.{good, verdict, storeValue, keySet, effect, carryOut, receiveStream, owed, replyOf, replyFrame}
 use Rattle.supervisor_claims.specs.View.{factoryOf, view}
 use Rattle.supervisor_claims.specs.Sound.{Bytes}
 use Rattle.supervisor_claims.specs.Histories
 use Rattle.supervisor_claims.specs.Histories.{Typed, done, Lent, Made, enough, meant, meantMade, made, leftMeant, AllTyped, reached, startWith}
-use Rattle.supervisor_claims.specs.Histories.{received, locally}
-use Rattle.supervisor_claims.specs.FrameHistory.{framesBy, joinedAll, framed, allFramed, Replied}
+use Rattle.supervisor_claims.specs.Histories.{receiveWith, locally}
+use Rattle.supervisor_claims.specs.FrameHistory.{framesClosedBy, receivedSinceAll, frameCarried, framesCarried, Replied}
 use Rattle.supervisor_claims.specs.LastSet.{successful, lastOr, setAfter, Origin, sinceStart, sinceMore, setSince, lookupOf, lookupReply, requestsIn}
 use Rattle.supervisor_claims.specs.LastSet.{fittedOf, ReadBack, origin, originBehind, setOf, setReply, SetAnswered}
 use Rattle.supervisor_claims.specs.Demand2.{ValueLastSet, LastSet, WithdrawnListAnswered, LookupLastSet}
@@ -53,8 +53,8 @@ found-value s most {k} h = rw (le-ltb Limits.highest-key k (h .key .upper), ne-e
 
 -- the reply's frame
 reply-found : (image : List ℕ) (s : State) (version n most : ℕ) {k : ℕ} → ReadBack k → most < 65536
-    → replyFrame (replyOf n (carried image s (lookupOf version n k most) .reply)) ≡ lookupReply version n most (Local.entryOf s k)
-unfolding carried commandOf withNumber numberOf effect replyOf replyFrame lookupReply
+    → replyFrame (replyOf n (carryOut image s (lookupOf version n k most) .reply)) ≡ lookupReply version n most (Local.entryOf s k)
+unfolding carryOut commandOfNumber withNumber commandNumber effect replyOf replyFrame lookupReply
 reply-found image s version n most {k} h i =
     let m = h .key .upper in
     let e = lookup-data k most (omega arith) i in
@@ -66,38 +66,38 @@ unfolding verdict Judge.judge Judge.judgeForm Cobs.uncobs Cobs.groupBytes
 empty-none m e = let z : _≡_ {A = ℕ} 0 1 = cc in omega arith
 
 pub framed-pending : (image : List ℕ) (s : State) (f : List ℕ) (m : Message) → verdict f ≡ good m
-    → framed image s f .pending ≡ owed (s .terminator-owed) ++ replyFrame (replyOf (m .sequence) (carried image s m .reply))
+    → frameCarried image s f .pending ≡ owed (s .terminator-owed) ++ replyFrame (replyOf (m .sequence) (carryOut image s m .reply))
 framed-pending image s [] m e = absurd (empty-none m e)
 framed-pending image s (b ∷ bs) m e = ap (λ (x : State). x .pending) (request-carried image s b bs m e)
 
 reply-refused : (image : List ℕ) (s : State) (version n most : ℕ) → most < 65536
-    → replyFrame (replyOf n (carried image s (lookupOf version n Limits.passphrase-key most) .reply)) ≡ passphraseReply version n
-unfolding carried commandOf withNumber numberOf effect replyOf replyFrame Local.lookup
+    → replyFrame (replyOf n (carryOut image s (lookupOf version n Limits.passphrase-key most) .reply)) ≡ passphraseReply version n
+unfolding carryOut commandOfNumber withNumber commandNumber effect replyOf replyFrame Local.lookup
 reply-refused image s version n most i = rw (lookup-data Limits.passphrase-key most (omega arith) i .0, and-false)
 
 -- of a set
 reply-set : (image : List ℕ) (s : State) (version n k : ℕ) (v : List ℕ) → k < 256
-    → replyFrame (replyOf n (carried image s (setOf version n k v) .reply)) ≡ setReply version n (stored (s .settings) k v .result)
-unfolding carried commandOf withNumber numberOf effect keySet replyOf replyFrame number bytes
+    → replyFrame (replyOf n (carryOut image s (setOf version n k v) .reply)) ≡ setReply version n (storeValue (s .settings) k v .result)
+unfolding carryOut commandOfNumber withNumber commandNumber effect keySet replyOf replyFrame number bytes
 reply-set image s version n k v h = let e : k % 256 + 0 * 256 ≡ k = omega arith in rw e
 
 -- the 00 of a request behind the bytes w and bs
 stream-replies : (w : List ℕ) (s : State) → Since (split w .rest) s → (image bs : List ℕ) (m : Message) → verdict (split (w ++ bs) .rest) ≡ good m
-    → let a = allFramed image s (framesBy w bs) in
-    stream image s (bs ++ (0 ∷ [])) .pending ≡ owed (s .terminator-owed) ++ replyFrame (replyOf (m .sequence) (carried image a m .reply))
+    → let a = framesCarried image s (framesClosedBy w bs) in
+    receiveStream image s (bs ++ (0 ∷ [])) .pending ≡ owed (s .terminator-owed) ++ replyFrame (replyOf (m .sequence) (carryOut image a m .reply))
 stream-replies w s since image bs m e =
     ap (λ (x : State). x .pending) (stream-closes w s since image bs)
-    ∙ framed-pending image (allFramed image s (framesBy w bs)) (split (w ++ bs) .rest) m e
-    ∙ rw (frames-owed image (framesBy w bs) s)
+    ∙ framed-pending image (framesCarried image s (framesClosedBy w bs)) (split (w ++ bs) .rest) m e
+    ∙ rw (frames-owed image (framesClosedBy w bs) s)
 
 -- of a lookup, where key k has what x says
 stream-answers : {k : ℕ} (h : ReadBack k) (w : List ℕ) (x : Origin) (s : State) → Since (split w .rest) s → Holds k x s → x .setting .edition ≤ Limits.last-edition
     → (image bs : List ℕ) (version n most : ℕ) → most < 65536 → verdict (split (w ++ bs) .rest) ≡ good (lookupOf version n k most)
-    → stream image s (bs ++ (0 ∷ [])) .pending ≡ owed (s .terminator-owed) ++ lookupReply version n most (setSince k (sinceMore x (requestsIn (framesBy w bs))))
+    → receiveStream image s (bs ++ (0 ∷ [])) .pending ≡ owed (s .terminator-owed) ++ lookupReply version n most (setSince k (sinceMore x (requestsIn (framesClosedBy w bs))))
 stream-answers h w x s since holds low image bs version n most i e =
-    let a = allFramed image s (framesBy w bs) in
+    let a = framesCarried image s (framesClosedBy w bs) in
     stream-replies w s since image bs (lookupOf version n _ most) e
-    ∙ rw (reply-found image a version n most h i, entry-held a (h .key), frames-hold (h .key) w x s holds image bs .held, after-sets _ (x .setting) (x .requests ++ requestsIn (framesBy w bs)) low)
+    ∙ rw (reply-found image a version n most h i, entry-held a (h .key), frames-hold (h .key) w x s holds image bs .held, after-sets _ (x .setting) (x .requests ++ requestsIn (framesClosedBy w bs)) low)
 
 last-behind : (o : Option (List ℕ)) (vs : List (List ℕ)) (v : List ℕ) → lastOr o (vs ++ (v ∷ [])) ≡ some v
 unfolding lastOr
@@ -134,24 +134,24 @@ module _ (p : Parts) (b : Bytes p) (l : Lent) (d : List ℕ) (typed : Typed (His
       (entry-held state h ∙ state-holds h .held ∙ after-sets k (origin k ms .setting) (origin k ms .requests) (origin-low k))
 
   -- what the 00 of a request behind the bytes bs does
-  replied-made : (j : Lent) (image bs : List ℕ) → let c = received image j (bs ++ (0 ∷ [])) in Typed (c .call) → enough (c .call) j ≡ true → (reply : List ℕ)
-      → stream image state (bs ++ (0 ∷ [])) .pending ≡ owed (state .terminator-owed) ++ reply
+  replied-made : (j : Lent) (image bs : List ℕ) → let c = receiveWith image j (bs ++ (0 ∷ [])) in Typed (c .call) → enough (c .call) j ≡ true → (reply : List ℕ)
+      → receiveStream image state (bs ++ (0 ∷ [])) .pending ≡ owed (state .terminator-owed) ++ reply
       → let q = reached p l d ms in Replied q (made q c) reply
   unfolding meantMade meant
   replied-made j image bs c e reply x =
       let hist = history p b l d typed accepted ms t in
-      let meets = rw e at (one-call (reached p l d ms) (received image j (bs ++ (0 ∷ []))) (hist .2) c) in
+      let meets = rw e at (one-call (reached p l d ms) (receiveWith image j (bs ++ (0 ∷ []))) (hist .2) c) in
       (meets .answer, ap (λ (y : State). y .pending) (meets .leaves .0) ∙ rw (hist .1) x)
 
   pub last-set : LastSet ms (reached p l d ms)
   last-set k h version n most i j image bs c e v =
       replied-made j image bs c e _
-      (stream-answers h (joinedAll [] ms) (origin k ms) state (by-frames (factoryOf d) ms .2) (state-holds (h .key)) (origin-low k) image bs version n most i v)
+      (stream-answers h (receivedSinceAll [] ms) (origin k ms) state (by-frames (factoryOf d) ms .2) (state-holds (h .key)) (origin-low k) image bs version n most i v)
 
   pub set-answered : SetAnswered ms (reached p l d ms)
   set-answered version n k v i j image bs c e u =
-      let w = joinedAll [] ms in
-      let a = allFramed image state (framesBy w bs) in
+      let w = receivedSinceAll [] ms in
+      let a = framesCarried image state (framesClosedBy w bs) in
       let x = originBehind k ms bs in
       let g : SettingsKey k → setting (a .settings) k ≡ setSince k x = λ h.
       frames-hold h w (origin k ms) state (state-holds h) image bs .held ∙ after-sets k (x .setting) (x .requests) (origin-low k) in
@@ -161,10 +161,10 @@ module _ (p : Parts) (b : Bytes p) (l : Lent) (d : List ℕ) (typed : Typed (His
 
   pub passphrase-unread : PassphraseUnread ms (reached p l d ms)
   passphrase-unread version n most i j image bs c e v =
-      let w = joinedAll [] ms in
+      let w = receivedSinceAll [] ms in
       replied-made j image bs c e _
       (stream-replies w state (by-frames (factoryOf d) ms .2) image bs (lookupOf version n Limits.passphrase-key most) v
-      ∙ rw (reply-refused image (allFramed image state (framesBy w bs)) version n most i))
+      ∙ rw (reply-refused image (framesCarried image state (framesClosedBy w bs)) version n most i))
 
   pub passphrase-unread-locally : PassphraseUnreadLocally ms (reached p l d ms)
   unfolding meantMade meant enough Local.lookup Local.edition

@@ -10,7 +10,7 @@ use Rattle.supervisor.specs.Local
 use Rattle.supervisor_claims.specs.View.{factoryOf}
 use Rattle.supervisor_claims.specs.Histories
 use Rattle.supervisor_claims.specs.Histories.{LocalCall, Call, doneMeans, upTo, meant, Made, enough}
-use Rattle.supervisor_claims.specs.FrameHistory.{reads, starts, receivedBy, startsAnew, joined, joinedAll}
+use Rattle.supervisor_claims.specs.FrameHistory.{pieceRead, isAcceptedStart, bytesReceivedBy, startsAnew, receivedSince, receivedSinceAll}
 use Rattle.supervisor_claims.specs.FrameHistory.{carriedOut, carriedCall, carriedMade, leftByFrames}
 
 -- P of the bytes received since the last accepted start and of the state
@@ -19,8 +19,8 @@ module _ (P : List ℕ → State → Type 0)
     (brought : (w : List ℕ) (s : State) → P w s → (image bs : List ℕ) → P (w ++ bs) (carriedOut image w s bs))
     (stays : (w : List ℕ) (s : State) → P w s → (c : LocalCall) → P w (meant s (Histories.local c) .state)) where
   module _ (w : List ℕ) (s : State) (x : P w s) where
-    call-keeps : (c : Call) → P (cond (starts c) [] (w ++ reads c)) (carriedCall w s c .state)
-    unfolding starts reads carriedCall meant Local.start
+    call-keeps : (c : Call) → P (cond (isAcceptedStart c) [] (w ++ pieceRead c)) (carriedCall w s c .state)
+    unfolding isAcceptedStart pieceRead carriedCall meant Local.start
     call-keeps (Histories.start d) = by (Local.badStart (factoryOf d))
       where
         by : (bad : Bool) → P (cond (not bad) [] (w ++ [])) (doneMeans s (cond bad (Local.refused 11) (Local.left (fresh (factoryOf d)))) .state)
@@ -30,15 +30,15 @@ module _ (P : List ℕ → State → Type 0)
     call-keeps (Histories.step image piece) = brought w s x image (ListN.take (upTo piece) piece)
     call-keeps (Histories.local c) = rw append-nil (stays w s x c)
 
-    made-keeps : (m : Made) → P (joined w m) (carriedMade w s m .state)
-    unfolding joined startsAnew receivedBy carriedMade
+    made-keeps : (m : Made) → P (receivedSince w m) (carriedMade w s m .state)
+    unfolding receivedSince startsAnew bytesReceivedBy carriedMade
     made-keeps m = by (enough (m .call) (m .lent)) refl
       where
-        by : (t : Bool) → enough (m .call) (m .lent) ≡ t → P (joined w m) (carriedMade w s m .state)
+        by : (t : Bool) → enough (m .call) (m .lent) ≡ t → P (receivedSince w m) (carriedMade w s m .state)
         by true e = rw e (call-keeps (m .call))
         by false e = rw (e, append-nil) x
 
-  pub calls-keep : (ms : List Made) (w : List ℕ) (s : State) → P w s → P (joinedAll w ms) (leftByFrames w s ms)
-  unfolding joinedAll leftByFrames
+  pub calls-keep : (ms : List Made) (w : List ℕ) (s : State) → P w s → P (receivedSinceAll w ms) (leftByFrames w s ms)
+  unfolding receivedSinceAll leftByFrames
   calls-keep [] w s x = x
-  calls-keep (m ∷ ms) w s x = calls-keep ms (joined w m) (carriedMade w s m .state) (made-keeps w s x m)
+  calls-keep (m ∷ ms) w s x = calls-keep ms (receivedSince w m) (carriedMade w s m .state) (made-keeps w s x m)

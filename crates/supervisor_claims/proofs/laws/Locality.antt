@@ -29,7 +29,7 @@ use Rattle.supervisor.proofs.ValidLaws.{outbox-valid, valid-outbox, factory-val
 use Rattle.supervisor.proofs.ValidLaws.{start-good, good-start}
 use Rattle.supervisor.proofs.KeptRegisters.{groups-valid, numbers-kept, flags-kept, failure-kept, panic-kept, waiting-kept, retained-kept}
 use Rattle.supervisor.proofs.OffsetLaws.{offset-within}
-use Rattle.requests.proofs.KeptLaws.{setting-kept}
+use Rattle.responder.proofs.KeptLaws.{setting-kept}
 use Rattle.supervisor_claims.specs.ByPart.{Part, published, part, Every}
 use Rattle.supervisor_claims.specs.View.{factoryOf, settingsOf, pendingOf, view}
 use Rattle.supervisor_claims.specs.Sound.{Valid, Bytes, Sound, Lengths, Leaves}
@@ -43,21 +43,21 @@ use Rattle.supervisor_claims.proofs.laws.SettingLaws.{setting-same}
 
 -- ---- the line reader's part
 
-module _ {s t : List ℕ} (same : Same 0 LineReader.state-length s t) (r : Ready s) where
-  count-alike : LineReader.count t ≡ LineReader.count s
-  unfolding LineReader.count
+module _ {s t : List ℕ} (same : Same 0 LineReader.reader-length s t) (r : Ready s) where
+  count-alike : LineReader.receivedCount t ≡ LineReader.receivedCount s
+  unfolding LineReader.receivedCount
   count-alike = number-same same 2 0 (omega arith)
 
   received-alike : receivedOf t ≡ receivedOf s
-  unfolding receivedOf LineReader.kept
+  unfolding receivedOf LineReader.receivedBytes
   received-alike =
-      let n = LineReader.count s in
+      let n = LineReader.receivedCount s in
       rw count-alike
       (cond-both (λ x y. x ≡ y) (ltb LineLimits.longest-form n) (λ e. refl) (λ e.
       let l = ltb-false LineLimits.longest-form n e in
       ap some (same .runs LineReader.frame-offset n (omega arith))))
 
-  reader-alike : LineReader.state-length ≤ length t → LineReader.valid t ≡ true
+  reader-alike : LineReader.reader-length ≤ length t → LineReader.validReader t ≡ true
   reader-alike h = ready-valid t (h, omega (arith, count-alike))
 
 -- ---- the outbox

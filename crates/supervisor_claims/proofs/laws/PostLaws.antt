@@ -23,7 +23,7 @@ use Rattle.supervisor.specs.Valid.{validAlert, validRegisters}
 use Rattle.supervisor.specs.Calls
 use Rattle.supervisor.proofs.ValidLaws.{RegistersValid, registers-valid, valid-alert, all-more}
 use Rattle.supervisor.proofs.KeptRegisters.{alerts-valid, Kept, kept-valid}
-use Rattle.supervisor_claims.specs.View.{listed, alertOf}
+use Rattle.supervisor_claims.specs.View.{tabulated, alertOf}
 use Rattle.supervisor_claims.proofs.laws.RegisterLaws.{alertsOf, alert-same, alerts-same}
 
 -- ---- an alert's bytes: the length of its text, its action, its text
@@ -137,7 +137,7 @@ module _ {r : List ℕ} {action : ℕ} {text : List ℕ} (c : Posting r action t
 
   pub posted-alerts : alertsOf (Calls.withAlert r action text) (Layout.alertCount r + 1)
       ≡ alertsOf r (Layout.alertCount r) ++ (record { action = action; text = text } ∷ [])
-  unfolding listed
+  unfolding tabulated
   posted-alerts =
       let n = Layout.alertCount r in
       let at = Layout.alert-offset n in

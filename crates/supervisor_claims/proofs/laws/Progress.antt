@@ -11,19 +11,19 @@ use lib.ListN.{length}
 use lib.ListN as ListN
 use Rattle.octets.specs.Bytes.{Each}
 use Rattle.octets.proofs.Conditions.{cond-by}
-use Rattle.line_claims.specs.Pieces.{split, ahead}
+use Rattle.line_claims.specs.Pieces.{split, aheadOfPieces}
 use Rattle.line_claims.proofs.Pieces.{split-join}
 use Rattle.supervisor.specs.Limits
 use Rattle.supervisor.specs.State.{Settings, Recorded, State, fresh}
 use Rattle.supervisor.specs.Local
 use Rattle.saving.specs.Saving
-use Rattle.saving.specs.Saving.{Entry}
-use Rattle.requests.specs.Requests.{stream}
+use Rattle.saving.specs.Saving.{SavedEntry}
+use Rattle.responder.specs.Requests.{receiveStream}
 use Rattle.supervisor_claims.specs.View.{factoryOf}
 use Rattle.supervisor_claims.specs.Histories
 use Rattle.supervisor_claims.specs.Histories.{LocalCall, Call, Means, doneMeans, recordMeans, restoreMeans, meant, upTo}
-use Rattle.supervisor_claims.specs.FrameHistory.{starts, reads, tailOf}
-use Rattle.supervisor_claims.specs.LastSet.{recordsOf, restoredBy}
+use Rattle.supervisor_claims.specs.FrameHistory.{isAcceptedStart, pieceRead, progressOf}
+use Rattle.supervisor_claims.specs.LastSet.{recordsOf, recordsRestored}
 use Rattle.supervisor_claims.proofs.laws.SavingLaws.{Faults, read-faults}
 use Rattle.supervisor_claims.proofs.claims.Refusals.{Not12}
 use Rattle.supervisor_claims.proofs.claims.InOrder.{in-order-behind}
@@ -31,9 +31,9 @@ use Rattle.supervisor_claims.proofs.claims.InOrder.{in-order-behind}
 -- ---- a local call
 
 -- the settings after a restore of these records, where there are any
-abbrev pub settingsBy : Option (List Entry) → Settings → Settings
+abbrev pub settingsBy : Option (List SavedEntry) → Settings → Settings
 settingsBy none z = z
-settingsBy (some es) z = Saving.restored es z
+settingsBy (some es) z = Saving.restoredSettings es z
 
 module _ (s : State) where
   abbrev Stays : Means → Type 0
@@ -46,7 +46,7 @@ module _ (s : State) where
   record-stays none = (refl, tt)
   record-stays (some x) = (refl, tt)
 
-  restore-stays : (r : Saving.Read) → Faults r → Stays (restoreMeans s (Saving.restoredBy s r))
+  restore-stays : (r : Saving.ImageRead) → Faults r → Stays (restoreMeans s (Saving.restoreRead s r))
   restore-stays (Saving.fault n at) h = (refl, λ e. omega (arith, h, e))
   restore-stays (Saving.good es) h = (refl, tt)
 
@@ -57,14 +57,14 @@ module _ (s : State) where
   record-same none = refl
   record-same (some x) = refl
 
-  restore-same : (r : Saving.Read) → restoreMeans s (Saving.restoredBy s r) .state .settings ≡ settingsBy (recordsOf r) (s .settings)
+  restore-same : (r : Saving.ImageRead) → restoreMeans s (Saving.restoreRead s r) .state .settings ≡ settingsBy (recordsOf r) (s .settings)
   restore-same (Saving.fault n at) = refl
   restore-same (Saving.good es) = refl
 
   -- it leaves the receive progress as it is, and is not refused as 12
   pub local-stays : (c : LocalCall) → let m = meant s (Histories.local c) in
       (m .state .received ≡ s .received) × Not12 (m .answer)
-  unfolding meant Local.afterTake Local.post Local.posted Local.setOptions Saving.restore
+  unfolding meant Local.afterTake Local.post Local.withPosted Local.setOptions Saving.restore
   local-stays (Histories.take room) = (refl, tt)
   local-stays (Histories.post action text) =
       cond-by DoneStays (eqb action 0) _ _ (λ e. (refl, λ n. omega (arith, n))) (λ e.
@@ -79,11 +79,11 @@ module _ (s : State) where
   local-stays (Histories.readRecord k) = record-stays (Histories.recordKept s k)
   local-stays (Histories.save room) =
       cond-by Stays (ltb (length room) (length (Saving.saved (s .settings)))) _ _ (λ e. (refl, λ n. omega (arith, n))) (λ e. (refl, tt))
-  local-stays (Histories.restore image) = restore-stays (Saving.read image) (read-faults image)
+  local-stays (Histories.restore image) = restore-stays (Saving.readImage image) (read-faults image)
 
   -- the settings, by what a call restores
-  pub local-settings : (c : LocalCall) → meant s (Histories.local c) .state .settings ≡ settingsBy (restoredBy c) (s .settings)
-  unfolding meant Local.afterTake Local.post Local.posted Local.setOptions Saving.restore restoredBy
+  pub local-settings : (c : LocalCall) → meant s (Histories.local c) .state .settings ≡ settingsBy (recordsRestored c) (s .settings)
+  unfolding meant Local.afterTake Local.post Local.withPosted Local.setOptions Saving.restore recordsRestored
   local-settings (Histories.take room) = refl
   local-settings (Histories.post action text) =
       cond-by DoneSame (eqb action 0) _ _ (λ e. refl) (λ e.
@@ -97,14 +97,14 @@ module _ (s : State) where
   local-settings (Histories.readRecord k) = record-same (Histories.recordKept s k)
   local-settings (Histories.save room) =
       cond-by (λ (m : Means). m .state .settings ≡ s .settings) (ltb (length room) (length (Saving.saved (s .settings)))) _ _ (λ e. refl) (λ e. refl)
-  local-settings (Histories.restore image) = restore-same (Saving.read image)
+  local-settings (Histories.restore image) = restore-same (Saving.readImage image)
 
 -- ---- the bytes since the last 00
 
 abbrev NonZero : List ℕ → Type 0
 NonZero = Each (λ b. 1 ≤ b)
 
-ahead-rest : (b : ℕ) (ps : List (List ℕ)) (rest : List ℕ) → NonZero rest → NonZero (ahead (suc b) ps rest .rest)
+ahead-rest : (b : ℕ) (ps : List (List ℕ)) (rest : List ℕ) → NonZero rest → NonZero (aheadOfPieces (suc b) ps rest .rest)
 ahead-rest b [] rest h = (omega arith, h)
 ahead-rest b (p ∷ ps) rest h = h
 
@@ -117,12 +117,12 @@ rest-nonzero (suc b ∷ w) = ahead-rest b (split w .closed) (split w .rest) (res
 
 -- the bytes p since the last 00 in the state s
 pub record Since (p : List ℕ) (s : State) : Type 0 where
-  pub received : s .received ≡ tailOf p
+  pub received : s .received ≡ progressOf p
   pub nonzero : Each (λ b. 1 ≤ b) p
 
 -- a call that is lent enough, where the bytes w came before
 module _ (w : List ℕ) (s : State) (h : Since (split w .rest) s) where
-  streamed : (image bs : List ℕ) → Since (split (w ++ bs) .rest) (stream image s bs)
+  streamed : (image bs : List ℕ) → Since (split (w ++ bs) .rest) (receiveStream image s bs)
   streamed image bs =
       rw (split-join w bs)
       (record {
@@ -134,8 +134,8 @@ module _ (w : List ℕ) (s : State) (h : Since (split w .rest) s) where
   unread : {t : State} → t .received ≡ s .received → Since (split (w ++ []) .rest) t
   unread e = rw append-nil (record { received = e ∙ h .received; nonzero = h .nonzero })
 
-  pub called : (c : Call) → Since (split (cond (starts c) [] (w ++ reads c)) .rest) (meant s c .state)
-  unfolding starts reads meant fresh tailOf split Local.start
+  pub called : (c : Call) → Since (split (cond (isAcceptedStart c) [] (w ++ pieceRead c)) .rest) (meant s c .state)
+  unfolding isAcceptedStart pieceRead meant fresh progressOf split Local.start
   called (Histories.start d) = by (Local.badStart (factoryOf d))
     where
       by : (bad : Bool) → Since (split (cond (not bad) [] (w ++ [])) .rest) (doneMeans s (cond bad (Local.refused 11) (Local.left (fresh (factoryOf d)))) .state)

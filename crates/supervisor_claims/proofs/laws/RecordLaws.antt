@@ -19,9 +19,9 @@ use Rattle.supervisor.specs.Valid.{validRegisters}
 use Rattle.supervisor.specs.Calls
 use Rattle.supervisor.proofs.ValidLaws.{RegistersValid, registers-valid}
 use Rattle.supervisor.proofs.KeptRegisters.{Kept}
-use Rattle.requests.specs.Requests
-use Rattle.requests.specs.Receive
-use Rattle.requests.proofs.KeptLaws.{flag-valid, entry, length-entry, recorded-before, recorded-after, recorded-held, recorded-code, recorded-whole, recorded-rest, clear-small}
+use Rattle.responder.specs.Requests
+use Rattle.responder.specs.Receive
+use Rattle.responder.proofs.KeptLaws.{flag-valid, entry, length-entry, recorded-before, recorded-after, recorded-held, recorded-code, recorded-whole, recorded-rest, clear-small}
 use Rattle.supervisor_claims.specs.View.{recordedOf, retainedOf, view}
 use Rattle.supervisor_claims.specs.Sound.{withRegisters}
 use Rattle.supervisor_claims.proofs.laws.RegisterLaws.{recorded-same, retained-same, alerts-same, kept-view}

@@ -13,13 +13,13 @@ use Rattle.supervisor.specs.Valid.{validAlert, validAlerts}
 use Rattle.supervisor.specs.Calls
 use Rattle.supervisor.proofs.ValidLaws.{all-each, alert-valid, RegistersValid}
 use Rattle.supervisor.proofs.KeptRegisters.{Kept}
-use Rattle.supervisor_claims.specs.View.{listed, recordedOf, alertOf, retainedOf, view}
+use Rattle.supervisor_claims.specs.View.{tabulated, recordedOf, alertOf, retainedOf, view}
 use Rattle.supervisor_claims.specs.Sound.{withRegisters}
 use Rattle.supervisor_claims.proofs.laws.ViewLaws.{listed-same}
 
 -- the first n alerts
 abbrev pub alertsOf : List ℕ → ℕ → List Alert
-alertsOf r = listed (λ i. alertOf r (Layout.alert-offset i))
+alertsOf r = tabulated (λ i. alertOf r (Layout.alert-offset i))
 
 -- ---- what lies where two lists are the same
 
@@ -31,7 +31,7 @@ module _ {from to : ℕ} {r s : List ℕ} (same : Same from to r s) where
         number-same same 1 at (omega arith),
         number-same same 2 (at + Layout.record-code-offset) (omega arith),
         number-same same 2 (at + Layout.record-whole-offset) (omega arith),
-        same .runs (at + Layout.record-kept-offset) (Calls.keptOf r at) (omega arith),
+        same .runs (at + Layout.record-kept-offset) (Calls.keptCount r at) (omega arith),
       )
 
   pub alert-same : (at : ℕ) → (from ≤ at) × (at + Layout.alert-length ≤ to) → Layout.alertTextLength r at ≤ Limits.longest-alert

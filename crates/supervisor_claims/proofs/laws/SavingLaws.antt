@@ -26,7 +26,7 @@ use Rattle.supervisor.specs.State.{Setting, unset}
 use Rattle.supervisor.proofs.OffsetLaws.{offset-within, longest-short, Lies, setting-lies}
 use Rattle.supervisor.specs.Valid.{SettingsValid}
 use Rattle.saving.specs.Saving
-use Rattle.saving.specs.Saving.{Entry, Read, fault, good, Step, bad, ended, to, step, recordStep, complete, read}
+use Rattle.saving.specs.Saving.{SavedEntry, ImageRead, fault, good, ImageStep, bad, ended, to, imageStep, recordStep, complete, readImage}
 use Rattle.saving.specs.Calls as SavingCalls
 use Rattle.saving.proofs.ReadLaws.{reading-by, entries-each}
 use Rattle.saving.proofs.StoreLaws.{length-setting}
@@ -34,7 +34,7 @@ use Rattle.saving.proofs.RestoreLaws.{saved-key}
 use Rattle.saving.proofs.KeptLaws.{Allowed, entries-allowed, cleared-valid, all-valid}
 use Rattle.saving_claims.proofs.EntryLaws.{Rising}
 use Rattle.saving_claims.proofs.Item11.{read-exact}
-use Rattle.supervisor_claims.specs.View.{listed, settingOf, settingsOf}
+use Rattle.supervisor_claims.specs.View.{tabulated, settingOf, settingsOf}
 use Rattle.supervisor_claims.specs.Item11.{ImageMeant, GoodMeant}
 use Rattle.supervisor_claims.proofs.laws.ViewLaws.{listed-first, listed-same, listed-set}
 use Rattle.supervisor_claims.proofs.laws.PartLaws.{each-number}
@@ -42,70 +42,70 @@ use Rattle.supervisor_claims.proofs.laws.SettingLaws.{setting-same}
 
 -- ---- the numbers of an image's faults
 
-abbrev pub Faults : Read → Type 0
+abbrev pub Faults : ImageRead → Type 0
 Faults (fault n at) = (30 ≤ n) × (n ≤ 35)
 Faults (good es) = Unit {0}
 
-abbrev FaultsAt : Step → Type 0
+abbrev FaultsAt : ImageStep → Type 0
 FaultsAt (bad n at) = (30 ≤ n) × (n ≤ 35)
 FaultsAt ended = Unit {0}
 FaultsAt (to key at) = Unit {0}
 
 module _ (image : List ℕ) where
-  complete-faults : (past : ℕ) (s : Step) → FaultsAt s → FaultsAt (complete image past s)
+  complete-faults : (past : ℕ) (s : ImageStep) → FaultsAt s → FaultsAt (complete image past s)
   complete-faults past s h = cond-by FaultsAt (ltb (length image) past) _ _ (λ _. omega arith) (λ _. h)
 
   record-faults : (at : ℕ) → FaultsAt (recordStep image at)
   unfolding recordStep
   record-faults at =
       complete-faults _ _ (complete-faults _ _
-      (cond-by FaultsAt (ltb (Limits.longest-setting (Saving.keyAt image at)) (Saving.lengthAt image at)) _ _ (λ _. omega arith) (λ _.
+      (cond-by FaultsAt (ltb (Limits.longest-setting (Saving.savedKeyAt image at)) (Saving.savedLengthAt image at)) _ _ (λ _. omega arith) (λ _.
       complete-faults _ _ (complete-faults _ _
-      (cond-by FaultsAt (eqb (Saving.checksumAt image at) (checksum (Saving.bodyAt image at))) _ _ (λ _. tt) (λ _. omega arith))))))
+      (cond-by FaultsAt (eqb (Saving.savedChecksumAt image at) (checksum (Saving.savedBodyAt image at))) _ _ (λ _. tt) (λ _. omega arith))))))
 
-  step-faults : (before at : ℕ) → FaultsAt (step image before at)
-  unfolding step
+  step-faults : (before at : ℕ) → FaultsAt (imageStep image before at)
+  unfolding imageStep
   step-faults before at =
       complete-faults _ _
       (cond-by FaultsAt (Saving.marked Saving.end-mark image at) _ _
       (λ _. cond-by FaultsAt (ltb (at + 2) (length image)) _ _ (λ _. omega arith) (λ _. tt))
       (λ _.
       cond-by FaultsAt (Saving.marked Saving.record-mark image at) _ _
-      (λ _. complete-faults _ _ (cond-by FaultsAt (Saving.follows before (Saving.keyAt image at)) _ _ (λ _. record-faults at) (λ _. omega arith)))
+      (λ _. complete-faults _ _ (cond-by FaultsAt (Saving.follows before (Saving.savedKeyAt image at)) _ _ (λ _. record-faults at) (λ _. omega arith)))
       (λ _. omega arith)))
 
-  ahead-faults : (e : Entry) (r : Read) → Faults r → Faults (Saving.ahead e r)
+  ahead-faults : (e : SavedEntry) (r : ImageRead) → Faults r → Faults (Saving.aheadOfRead e r)
   ahead-faults e (fault n at) h = h
   ahead-faults e (good es) h = tt
 
-  pub read-faults : Faults (read image)
-  unfolding read
+  pub read-faults : Faults (readImage image)
+  unfolding readImage
   read-faults =
       reading-by image (λ before at r. Faults r) (λ before at n there e. rw e at (step-faults before at)) (λ before at e. tt)
-      (λ before at key there r e h. ahead-faults (Saving.entryAt image at) r h) 0 0
+      (λ before at key there r e h. ahead-faults (Saving.savedEntryAt image at) r h) 0 0
 
 -- ---- the image
 
 -- the first of some values
-listed-none : {A : Type 0} (f : ℕ → A) → listed f 0 ≡ []
-unfolding listed
+listed-none : {A : Type 0} (f : ℕ → A) → tabulated f 0 ≡ []
+unfolding tabulated
 listed-none f = refl
 
-take-listed : {A : Type 0} (n k : ℕ) (f : ℕ → A) → take n (listed f (n + k)) ≡ listed f n
+take-listed : {A : Type 0} (n k : ℕ) (f : ℕ → A) → take n (tabulated f (n + k)) ≡ tabulated f n
 take-listed zero k f = sym (listed-none f)
 take-listed (suc n) k f =
     let e : suc n + k ≡ suc (n + k) = omega arith in
     rw (e, listed-first f (n + k), listed-first f n, take-listed n k (λ i. f (suc i)))
 
 module _ (s : List ℕ) where
-  record-meant : (key : ℕ) → SavingCalls.recordBytes s key ≡ Saving.recordFor key (settingOf s (Layout.setting-offset key))
-  unfolding SavingCalls.recordBytes settingOf
+  record-meant : (key : ℕ) → SavingCalls.savedRecordBytes s key ≡ Saving.recordFor key (settingOf s (Layout.setting-offset key))
+  unfolding SavingCalls.savedRecordBytes settingOf
   record-meant key =
       let at = Layout.setting-offset key in
       cond-both (λ bs o. bs ≡ Saving.recordFor key (record { edition = Layout.settingEdition s at; value = o })) (eqb (Layout.settingHeld s at) 1) (λ _. refl) (λ _. refl)
 
-  records-meant : (n key : ℕ) → SavingCalls.recordsFrom s n key ≡ Saving.imageFrom key (listed (λ i. settingOf s (Layout.setting-offset (key + i))) n)
-  unfolding SavingCalls.recordsFrom Saving.imageFrom listed
+  records-meant : (n key : ℕ) → SavingCalls.savedRecordsFrom s n key ≡ Saving.imageFrom key (tabulated (λ i. settingOf s (Layout.setting-offset (key + i))) n)
+  unfolding SavingCalls.savedRecordsFrom Saving.imageFrom tabulated
   records-meant zero key = refl
   records-meant (suc n) key =
       let next : (i : ℕ) → settingOf s (Layout.setting-offset (suc key + i)) ≡ settingOf s (Layout.setting-offset (key + suc i))
@@ -120,20 +120,20 @@ image-meant s =
 
 -- it holds bytes
 module _ (s : List ℕ) (b : Each Byte s) where
-  record-bytes : (key edition : ℕ) (v : List ℕ) → Each Byte v → Each Byte (Saving.recordOf key edition v)
-  unfolding Saving.recordOf
+  record-bytes : (key edition : ℕ) (v : List ℕ) → Each Byte v → Each Byte (Saving.savedRecord key edition v)
+  unfolding Saving.savedRecord
   record-bytes key edition v h =
       let size = bytes 2 (length v) ++ v in
       let body : Each Byte (Saving.recordBody key edition v)
       = (omega arith, (omega arith, each-number 1 key (bytes 4 edition ++ size) (each-number 4 edition size (each-number 2 (length v) v h)))) in
       each-append Byte (Saving.recordBody key edition v) _ body (bytes-each 2 (checksum (Saving.recordBody key edition v)))
 
-  records-bytes : (n key : ℕ) → Each Byte (SavingCalls.recordsFrom s n key)
-  unfolding SavingCalls.recordsFrom SavingCalls.recordBytes
+  records-bytes : (n key : ℕ) → Each Byte (SavingCalls.savedRecordsFrom s n key)
+  unfolding SavingCalls.savedRecordsFrom SavingCalls.savedRecordBytes
   records-bytes zero key = (omega arith, (omega arith, tt))
   records-bytes (suc n) key =
       let at = Layout.setting-offset key in
-      each-append Byte (SavingCalls.recordBytes s key) _
+      each-append Byte (SavingCalls.savedRecordBytes s key) _
       (cond-by (Each Byte) (eqb (Layout.settingHeld s at) 1) _ [] (λ _. record-bytes key _ _ (each-run (at + Layout.setting-value-offset) (Layout.settingLength s at) s b)) (λ _. tt))
       (records-bytes n (suc key))
 
@@ -144,7 +144,7 @@ module _ (s : List ℕ) (b : Each Byte s) where
 -- ---- bytes put over a setting
 
 -- the setting of a record
-abbrev entered : Entry → Setting
+abbrev entered : SavedEntry → Setting
 entered e = record { edition = e .edition; value = some (e .value) }
 
 module _ (s xs : List ℕ) (key : ℕ) (w : SettingsValid s) (k : SettingsKey key) (most : length xs ≤ Layout.setting-value-offset + Limits.longest-setting key) where
@@ -222,8 +222,8 @@ cleared-setting s w (suc n) h j i =
 
 -- ---- a record in its key's setting
 
-module _ (e : Entry) (a : Allowed e) (low : e .edition < 256 ^ 4) (s : List ℕ) (w : SettingsValid s) where
-  entered-here : settingOf (SavingCalls.put e s) (Layout.setting-offset (e .key)) ≡ entered e
+module _ (e : SavedEntry) (a : Allowed e) (low : e .edition < 256 ^ 4) (s : List ℕ) (w : SettingsValid s) where
+  entered-here : settingOf (SavingCalls.putEntry e s) (Layout.setting-offset (e .key)) ≡ entered e
   unfolding settingOf bytes
   entered-here =
       let at = Layout.setting-offset (e .key) in
@@ -239,49 +239,49 @@ module _ (e : Entry) (a : Allowed e) (low : e .edition < 256 ^ 4) (s : List ℕ)
       rw (held, edition, n, value)
 
   put-setting : (j : ℕ) → SettingsKey j
-      → settingOf (SavingCalls.put e s) (Layout.setting-offset j) ≡ cond (eqb (e .key) j) (entered e) (settingOf s (Layout.setting-offset j))
+      → settingOf (SavingCalls.putEntry e s) (Layout.setting-offset j) ≡ cond (eqb (e .key) j) (entered e) (settingOf s (Layout.setting-offset j))
   put-setting j i = by (eqb (e .key) j) refl
     where
-      by : (t : Bool) → eqb (e .key) j ≡ t → settingOf (SavingCalls.put e s) (Layout.setting-offset j) ≡ cond t (entered e) (settingOf s (Layout.setting-offset j))
+      by : (t : Bool) → eqb (e .key) j ≡ t → settingOf (SavingCalls.putEntry e s) (Layout.setting-offset j) ≡ cond t (entered e) (settingOf s (Layout.setting-offset j))
       by true f = rw (← eqb-true (e .key) j f) entered-here
       by false f =
           let size = length-setting (e .edition) (e .value) in
           other-setting s (Layout.settingBytes (e .edition) (e .value)) (e .key) w (a .its-key) (omega (arith, a .short)) j i (λ g. eqb-false (e .key) j f (sym g))
 
 -- an edition of 32 bits
-abbrev Low : Entry → Type 0
+abbrev Low : SavedEntry → Type 0
 Low e = e .edition < 256 ^ 4
 
 -- a key's setting by records, whose keys rise, or what it was
-abbrev chosen : ℕ → List Entry → Setting → Setting
+abbrev chosen : ℕ → List SavedEntry → Setting → Setting
 chosen key [] x = x
 chosen key (e ∷ es) x = cond (eqb (e .key) key) (entered e) (chosen key es x)
 
-chosen-none : (key : ℕ) (es : List Entry) (x : Setting) → Rising (suc key) es → chosen key es x ≡ x
+chosen-none : (key : ℕ) (es : List SavedEntry) (x : Setting) → Rising (suc key) es → chosen key es x ≡ x
 chosen-none key [] x r = refl
 chosen-none key (e ∷ es) x r = rw (ne-eqb (e .key) key (λ f. omega (arith, r .0, f))) (chosen-none key es x (rising-from (suc (e .key)) (suc key) es (omega (arith, r .0)) (r .3)))
   where
-    rising-from : (a b : ℕ) (es : List Entry) → b ≤ a → Rising a es → Rising b es
+    rising-from : (a b : ℕ) (es : List SavedEntry) → b ≤ a → Rising a es → Rising b es
     rising-from a b [] h r = tt
     rising-from a b (e ∷ es) h r = (omega (arith, r .0), r .1, r .2, r .3)
 
 -- no record has a key that is not saved
-chosen-above : (key from : ℕ) (es : List Entry) (x : Setting) → Saving.highest-saved < key → Rising from es → chosen key es x ≡ x
+chosen-above : (key from : ℕ) (es : List SavedEntry) (x : Setting) → Saving.highest-saved < key → Rising from es → chosen key es x ≡ x
 chosen-above key from [] x h r = refl
 chosen-above key from (e ∷ es) x h r = rw (ne-eqb (e .key) key (λ f. omega (arith, r .2, f))) (chosen-above key (suc (e .key)) es x h (r .3))
 
-chosen-in : (key : ℕ) (es : List Entry) → chosen key es unset ≡ Saving.settingIn key es
+chosen-in : (key : ℕ) (es : List SavedEntry) → chosen key es unset ≡ Saving.settingIn key es
 unfolding Saving.settingIn
 chosen-in key [] = refl
 chosen-in key (e ∷ es) = rw (chosen-in key es)
 
-put-all-setting : (from : ℕ) (es : List Entry) → Rising from es → Each Allowed es → Each Low es → (s : List ℕ) → SettingsValid s → (j : ℕ) → SettingsKey j
-    → settingOf (SavingCalls.putAll es s) (Layout.setting-offset j) ≡ chosen j es (settingOf s (Layout.setting-offset j))
-unfolding SavingCalls.putAll
+put-all-setting : (from : ℕ) (es : List SavedEntry) → Rising from es → Each Allowed es → Each Low es → (s : List ℕ) → SettingsValid s → (j : ℕ) → SettingsKey j
+    → settingOf (SavingCalls.putEntries es s) (Layout.setting-offset j) ≡ chosen j es (settingOf s (Layout.setting-offset j))
+unfolding SavingCalls.putEntries
 put-all-setting from [] r a l s w j i = refl
 put-all-setting from (e ∷ es) r a l s w j i =
     let v = all-valid (e ∷ []) (a .0, tt) s w .0 in
-    put-all-setting (suc (e .key)) es (r .3) (a .1) (l .1) (SavingCalls.put e s) v j i
+    put-all-setting (suc (e .key)) es (r .3) (a .1) (l .1) (SavingCalls.putEntry e s) v j i
     ∙ rw (put-setting e (a .0) (l .0) s w j i) (by (eqb (e .key) j) refl)
   where
     by : (t : Bool) → eqb (e .key) j ≡ t → let x = settingOf s (Layout.setting-offset j) in chosen j es (cond t (entered e) x) ≡ cond t (entered e) (chosen j es x)
@@ -291,11 +291,11 @@ put-all-setting from (e ∷ es) r a l s w j i =
 -- ---- the settings that a good image leaves
 
 -- the first n are the records', the others as they were
-abbrev mixed : ℕ → List Entry → (ℕ → Setting) → ℕ → Setting
+abbrev mixed : ℕ → List SavedEntry → (ℕ → Setting) → ℕ → Setting
 mixed n es f i = cond (ltb i n) (Saving.settingIn (Limits.first-setting + i) es) (f i)
 
-replaced-listed : (n : ℕ) (es : List Entry) (f : ℕ → Setting) → n ≤ Limits.setting-count
-    → Saving.replaced n es (listed f Limits.setting-count) ≡ listed (mixed n es f) Limits.setting-count
+replaced-listed : (n : ℕ) (es : List SavedEntry) (f : ℕ → Setting) → n ≤ Limits.setting-count
+    → Saving.replaced n es (tabulated f Limits.setting-count) ≡ tabulated (mixed n es f) Limits.setting-count
 unfolding Saving.replaced
 replaced-listed zero es f h = listed-same _ _ Limits.setting-count (λ i l. rw (le-ltb i 0 (omega arith)))
 replaced-listed (suc n) es f h =
@@ -305,9 +305,9 @@ replaced-listed (suc n) es f h =
     (rw (lt-ltb n (suc n) (omega arith)))
     (λ j l m. rw (← below-next j n m))))
 
-module _ (s : List ℕ) (w : SettingsValid s) (es : List Entry) (from : ℕ) (r : Rising from es) (a : Each Allowed es) (low : Each Low es) where
+module _ (s : List ℕ) (w : SettingsValid s) (es : List SavedEntry) (from : ℕ) (r : Rising from es) (a : Each Allowed es) (low : Each Low es) where
   left-setting : (i : ℕ) → i < Limits.setting-count → let at = Layout.setting-offset (Limits.first-setting + i) in
-      settingOf (SavingCalls.putAll es (SavingCalls.cleared Saving.saved-count s)) at ≡ mixed Saving.saved-count es (λ i. settingOf s (Layout.setting-offset (Limits.first-setting + i))) i
+      settingOf (SavingCalls.putEntries es (SavingCalls.cleared Saving.saved-count s)) at ≡ mixed Saving.saved-count es (λ i. settingOf s (Layout.setting-offset (Limits.first-setting + i))) i
   left-setting i l =
       let j = Limits.first-setting + i in
       let k : SettingsKey j = record { lower = omega arith; upper = omega arith } in
@@ -324,7 +324,7 @@ module _ (s : List ℕ) (w : SettingsValid s) (es : List Entry) (from : ℕ) (r 
           rw (le-ltb (Limits.first-setting + i) (Limits.first-setting + Saving.saved-count) (omega arith))
           (chosen-above (Limits.first-setting + i) from es _ (omega arith) r)
 
-  pub restored-meant : settingsOf (SavingCalls.putAll es (SavingCalls.cleared Saving.saved-count s)) ≡ Saving.restored es (settingsOf s)
+  pub restored-meant : settingsOf (SavingCalls.putEntries es (SavingCalls.cleared Saving.saved-count s)) ≡ Saving.restoredSettings es (settingsOf s)
   unfolding settingsOf
   restored-meant =
       listed-same _ _ Limits.setting-count left-setting

@@ -19,10 +19,10 @@ use Rattle.supervisor.specs.Layout
 use Rattle.supervisor.specs.State.{Setting, unset, Settings, setting, withSetting}
 use Rattle.supervisor.proofs.OffsetLaws.{offset-within, Lies, setting-lies}
 use Rattle.supervisor.specs.Valid.{SettingValid, SettingsValid}
-use Rattle.requests.specs.Requests
-use Rattle.requests.specs.Receive
-use Rattle.requests.proofs.RecordLaws.{length-right}
-use Rattle.requests.proofs.KeptLaws.{length-setting, setting-before, setting-after, setting-held, setting-edition, setting-size, setting-value, value-room, value-small}
+use Rattle.responder.specs.Requests
+use Rattle.responder.specs.Receive
+use Rattle.responder.proofs.RecordLaws.{length-right}
+use Rattle.responder.proofs.KeptLaws.{length-setting, setting-before, setting-after, setting-held, setting-edition, setting-size, setting-value, value-room, value-small}
 use Rattle.supervisor_claims.specs.View.{settingOf, settingsOf}
 use Rattle.supervisor_claims.proofs.laws.ViewLaws.{listed-set, listed-at}
 use Rattle.supervisor_claims.proofs.laws.PartLaws.{Like, like-itself, like-put, each-number}
@@ -85,9 +85,9 @@ module _ (s v : List ℕ) (w : SettingsValid s) (held : Each Byte s) (each : Eac
   -- at the offset of a key
   stored-at : (at shortest longest : ℕ) (x : Settings) → at + (Layout.setting-value-offset + longest) ≤ Layout.settings-length
       → (length v ≤ longest → Layout.settingEdition s at < Limits.last-edition → settingsOf (Receive.withValue s at v) ≡ x)
-      → Stores s (Receive.storingAt s at shortest longest v)
+      → Stores s (Receive.storeBytesAt s at shortest longest v)
       (cond (ltb (length v) shortest || ltb longest (length v)) (storedWith 3 (settingsOf s)) (cond (eqb (Layout.settingEdition s at) Limits.last-edition) (storedWith 4 (settingsOf s)) (storedWith 0 x)))
-  unfolding Receive.storingAt Receive.withValue
+  unfolding Receive.storeBytesAt Receive.withValue
   stored-at at shortest longest x h e =
       cond-both (Stores s) (ltb (length v) shortest || ltb longest (length v)) (λ f. unstored 3 (omega arith)) (λ f.
       cond-both (Stores s) (eqb (Layout.settingEdition s at) Limits.last-edition) (λ g. unstored 4 (omega arith)) (λ g.
@@ -124,8 +124,8 @@ module _ (s v : List ℕ) (w : SettingsValid s) (held : Each Byte s) (each : Eac
         let i : Limits.SettingsKey (Limits.first-setting + j) = record { lower = omega arith; upper = omega arith } in
         other-value (Limits.first-setting + j) i (setting-lies (Limits.first-setting + j) key i h) (λ o. n (omega (arith, o))))
 
-  pub storing-stored : (key : ℕ) → Stores s (Receive.storing s key v) (Requests.stored (settingsOf s) key v)
-  unfolding Receive.storing Requests.stored settingOf
+  pub storing-stored : (key : ℕ) → Stores s (Receive.storeBytes s key v) (Requests.storeValue (settingsOf s) key v)
+  unfolding Receive.storeBytes Requests.storeValue settingOf
   storing-stored key =
       cond-both (Stores s) (ltb Limits.highest-key key) (λ e. unstored 1 (omega arith)) (λ e.
       cond-both (Stores s) (ltb key Limits.first-setting) (λ f. unstored 2 (omega arith)) (λ f.

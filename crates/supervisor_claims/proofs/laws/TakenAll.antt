@@ -16,9 +16,9 @@ use Rattle.line_claims.specs.Pieces.{split, nonEmpty}
 use Rattle.line_claims.proofs.Pieces.{split-close, split-more, nonEmpty-append}
 use Rattle.supervisor.specs.State.{State, withReceived}
 use Rattle.supervisor.specs.Local.{lastNonZero, taken, afterTake}
-use Rattle.requests.specs.Requests.{Reply, verdict, judged, closed, byte, owed, replyFrame}
-use Rattle.supervisor_claims.specs.FrameHistory.{framed, tailOf}
-use Rattle.supervisor_claims.specs.Replies.{replyTo, afterFrame, replies}
+use Rattle.responder.specs.Requests.{Reply, verdict, afterVerdict, closed, receiveByte, owed, replyFrame}
+use Rattle.supervisor_claims.specs.FrameHistory.{frameCarried, progressOf}
+use Rattle.supervisor_claims.specs.Replies.{replyToFrame, afterFrame, replies}
 use Rattle.supervisor_claims.proofs.claims.InOrder.{lined, done-lined, judged-is, more-tail, closed-framed}
 
 drop-all : (n : ℕ) (l : List ℕ) → length l ≤ n → drop n l ≡ []
@@ -62,7 +62,7 @@ tookAll s = record { taken = allTaken s; state = afterAll s }
 
 -- one byte is received, and then all is taken
 unfoldable pub cycle : List ℕ → State → ℕ → Session
-cycle image s b = tookAll (byte image s b)
+cycle image s b = tookAll (receiveByte image s b)
 
 unfoldable pub session : List ℕ → State → List ℕ → Session
 session image s [] = record { taken = []; state = s }
@@ -135,23 +135,23 @@ reply-taken s r terminator-owed reply q e = rw e (took-is (lined s r (replyFrame
 
 module _ (image : List ℕ) (s : State) (q : Quiet s) where
   judged-taken : (r : Option (List ℕ)) (f : List ℕ)
-      → tookAll (withReceived (judged image s (verdict f)) r) ≡ record { taken = replyFrame (replyTo image s f); state = withReceived (afterFrame image s f) r }
-  unfolding afterFrame replyTo
+      → tookAll (withReceived (afterVerdict image s (verdict f)) r) ≡ record { taken = replyFrame (replyToFrame image s f); state = withReceived (afterFrame image s f) r }
+  unfolding afterFrame replyToFrame
   judged-taken r f =
       ap (λ (x : State). tookAll (withReceived x r)) (judged-is image s (verdict f))
-      ∙ reply-taken (afterFrame image s f) r (s .terminator-owed) (replyTo image s f) (frame-quiet image s f q) (q .terminator-owed)
+      ∙ reply-taken (afterFrame image s f) r (s .terminator-owed) (replyToFrame image s f) (frame-quiet image s f q) (q .terminator-owed)
 
   -- a 00 behind bytes
-  cycle-close : (bs : List ℕ) → cycle image (withReceived s (tailOf bs)) 0
+  cycle-close : (bs : List ℕ) → cycle image (withReceived s (progressOf bs)) 0
       ≡ record { taken = replies image s (nonEmpty (bs ∷ [])); state = withReceived (afterFrames image s (nonEmpty (bs ∷ []))) (some []) }
-  unfolding cycle byte framed replies afterFrames nonEmpty
+  unfolding cycle receiveByte frameCarried replies afterFrames nonEmpty
   cycle-close [] = ap tookAll (closed-framed image s []) ∙ quiet-taken s (some []) q
   cycle-close (b ∷ bs) = ap tookAll (closed-framed image s (b ∷ bs)) ∙ rw append-nil (judged-taken (some []) (b ∷ bs))
 
   -- any other byte
-  cycle-more : (bs : List ℕ) (b : ℕ) → cycle image (withReceived s (tailOf bs)) (suc b) ≡ record { taken = []; state = withReceived s (tailOf (bs ++ (suc b ∷ []))) }
-  unfolding cycle byte
-  cycle-more bs b = rw (eqb·suc-zero, more-tail bs (suc b)) (quiet-taken s (tailOf (bs ++ (suc b ∷ []))) q)
+  cycle-more : (bs : List ℕ) (b : ℕ) → cycle image (withReceived s (progressOf bs)) (suc b) ≡ record { taken = []; state = withReceived s (progressOf (bs ++ (suc b ∷ []))) }
+  unfolding cycle receiveByte
+  cycle-more bs b = rw (eqb·suc-zero, more-tail bs (suc b)) (quiet-taken s (progressOf (bs ++ (suc b ∷ []))) q)
 
 -- ---- the claim
 
@@ -160,14 +160,14 @@ module _ (image : List ℕ) (s : State) (q : Quiet s) where
   abbrev repliedTo : List ℕ → Session
   repliedTo bs = record {
     taken = replies image s (nonEmpty (split bs .closed));
-    state = withReceived (afterFrames image s (nonEmpty (split bs .closed))) (tailOf (split bs .rest));
+    state = withReceived (afterFrames image s (nonEmpty (split bs .closed))) (progressOf (split bs .rest));
   }
 
   abbrev joined : Session → Session → Session
   joined x y = record { taken = x .taken ++ y .taken; state = y .state }
 
   cycle-replied : (bs : List ℕ) (b : ℕ) → joined (repliedTo bs) (cycle image (repliedTo bs .state) b) ≡ repliedTo (bs ++ (b ∷ []))
-  unfolding tailOf
+  unfolding progressOf
   cycle-replied bs zero =
       let fs = nonEmpty (split bs .closed) in
       let t = split bs .rest in
@@ -191,9 +191,9 @@ module _ (image : List ℕ) (s : State) (q : Quiet s) where
 module _ (image : List ℕ) (s : State) (bs : List ℕ) (idle : s .received ≡ some []) (pending : s .pending ≡ []) (terminator-owed : s .terminator-owed ≡ false) where
   all-replied : session image s bs ≡ record {
     taken = replies image s (nonEmpty (split bs .closed));
-    state = withReceived (afterFrames image s (nonEmpty (split bs .closed))) (tailOf (split bs .rest));
+    state = withReceived (afterFrames image s (nonEmpty (split bs .closed))) (progressOf (split bs .rest));
   }
-  unfolding replies afterFrames nonEmpty split tailOf
+  unfolding replies afterFrames nonEmpty split progressOf
   all-replied =
       let q : Quiet s = record { pending = pending; terminator-owed = terminator-owed } in
       let z : s ≡ withReceived s (some []) = rw (← idle) in

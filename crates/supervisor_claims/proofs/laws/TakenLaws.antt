@@ -21,12 +21,12 @@ use Rattle.supervisor.specs.State.{Alert}
 use Rattle.supervisor.specs.Valid.{validAlert}
 use Rattle.supervisor.specs.Calls
 use Rattle.supervisor.proofs.ValidLaws.{all-each, alert-valid, RegistersValid, registers-valid}
-use Rattle.requests.proofs.TakenLaws.{retainedBytes, length-retained, retaining-version, retaining-sequence, retaining-alert, settled}
-use Rattle.requests.proofs.KeptLaws.{taken-small, rest-length, length-rest, moved-before, moved-after, moved-run, retained-before}
-use Rattle.requests.proofs.StepLaws.{served-small}
-use Rattle.requests.specs.Requests
-use Rattle.requests.specs.Receive
-use Rattle.supervisor_claims.specs.View.{listed, alertOf, retainedOf, view}
+use Rattle.responder.proofs.TakenLaws.{retainedBytes, length-retained, retaining-version, retaining-sequence, retaining-alert, settled}
+use Rattle.responder.proofs.KeptLaws.{taken-small, rest-length, length-rest, moved-before, moved-after, moved-run, retained-before}
+use Rattle.responder.proofs.StepLaws.{served-small}
+use Rattle.responder.specs.Requests
+use Rattle.responder.specs.Receive
+use Rattle.supervisor_claims.specs.View.{tabulated, alertOf, retainedOf, view}
 use Rattle.supervisor_claims.specs.Sound.{Valid, withRegisters}
 use Rattle.supervisor_claims.proofs.laws.ViewLaws.{length-listed, listed-same, listed-first}
 use Rattle.supervisor_claims.proofs.laws.RegisterLaws.{alertsOf, recorded-same}
@@ -35,8 +35,8 @@ use Rattle.supervisor_claims.proofs.laws.PartLaws.{Like, like-itself, l
 -- ---- the first of some values, and the others
 
 module _ {A : Type 0} where
-  listed-others : (f : ℕ → A) (n : ℕ) → listed (λ i. f (suc i)) (n - 1) ≡ drop 1 (listed f n)
-  unfolding listed
+  listed-others : (f : ℕ → A) (n : ℕ) → tabulated (λ i. f (suc i)) (n - 1) ≡ drop 1 (tabulated f n)
+  unfolding tabulated
   listed-others f zero = refl
   listed-others f (suc n) = let e : suc n - 1 ≡ n = omega arith in rw (e, listed-first f n)
 
@@ -202,7 +202,7 @@ module _ (r : List ℕ) (version sequence : ℕ) (w : RegistersValid r) where
       alert-moved moved (valid-at 0 (omega arith))
 
   oldest-taken : (n : ℕ) → Layout.alertCount r ≡ n → alertOf (Receive.withTaken r version sequence) Layout.retained-alert-offset ≡ Requests.oldest (alertsOf r n)
-  unfolding listed Requests.oldest
+  unfolding tabulated Requests.oldest
   oldest-taken zero e = none-taken e
   oldest-taken (suc n) e = rw (listed-first (λ i. alertOf r (Layout.alert-offset i)) n) (first-taken (λ f. omega arith))
 
@@ -239,7 +239,7 @@ pub record Asked (p : Calls.Parts) (s : List ℕ) (c : Requests.Carried) : Type 
   pub reply : c .reply ≡ some (record { version = Layout.retainedVersion s; command = 0x07; payload = Requests.alertData (alertOf s Layout.retained-alert-offset) })
   pub like : Like (p .registers) s
 
-module _ (p : Calls.Parts) (v : Valid p) (version sequence : ℕ) (is : Requests.served version ≡ true) (h : sequence < 2 ^ 64) where
+module _ (p : Calls.Parts) (v : Valid p) (version sequence : ℕ) (is : Requests.versionServed version ≡ true) (h : sequence < 2 ^ 64) where
   some-version : (version ≡ 0 → ⊥) × (version < 256)
   some-version = (λ e. false≢true (rw e at is), omega (arith, served-small version is))
 

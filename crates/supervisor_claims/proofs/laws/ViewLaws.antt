@@ -15,34 +15,34 @@ use Rattle.octets.proofs.SameBytes.{same-first, number-same}
 use Rattle.supervisor.specs.Limits
 use Rattle.supervisor.specs.Layout
 use Rattle.supervisor.proofs.ValidLaws.{StartGood, item-good, all-each}
-use Rattle.supervisor_claims.specs.View.{listed, itemAt, factoryOf}
+use Rattle.supervisor_claims.specs.View.{tabulated, itemAt, factoryOf}
 
 -- ---- the first values of a function
 
 module _ {A : Type 0} (f : ℕ → A) where
-  pub length-listed : (n : ℕ) → length (listed f n) ≡ n
-  unfolding listed
+  pub length-listed : (n : ℕ) → length (tabulated f n) ≡ n
+  unfolding tabulated
   length-listed zero = refl
   length-listed (suc n) = simp (length-append, length-listed n) (add-one n)
 
-  pub listed-same : (g : ℕ → A) (n : ℕ) → ((i : ℕ) → i < n → f i ≡ g i) → listed f n ≡ listed g n
-  unfolding listed
+  pub listed-same : (g : ℕ → A) (n : ℕ) → ((i : ℕ) → i < n → f i ≡ g i) → tabulated f n ≡ tabulated g n
+  unfolding tabulated
   listed-same g zero e = refl
   listed-same g (suc n) e = rw (listed-same g n (λ i l. e i (omega arith)), e n (omega arith))
 
 module _ {A : Type 0} where
-  pub listed-first : (f : ℕ → A) (n : ℕ) → listed f (suc n) ≡ f 0 ∷ listed (λ i. f (suc i)) n
-  unfolding listed
+  pub listed-first : (f : ℕ → A) (n : ℕ) → tabulated f (suc n) ≡ f 0 ∷ tabulated (λ i. f (suc i)) n
+  unfolding tabulated
   listed-first f zero = refl
   listed-first f (suc n) = rw (listed-first f n)
 
-  pub listed-at : (f : ℕ → A) (d : A) (n i : ℕ) → i < n → getD (listed f n) i d ≡ f i
+  pub listed-at : (f : ℕ → A) (d : A) (n i : ℕ) → i < n → getD (tabulated f n) i d ≡ f i
   listed-at f d zero i h = absurd (omega arith)
   listed-at f d (suc n) zero h = rw (listed-first f n)
   listed-at f d (suc n) (suc i) h = rw (listed-first f n) (listed-at (λ j. f (suc j)) d n i (omega arith))
 
   -- one value is another
-  pub listed-set : (f g : ℕ → A) (x : A) (n i : ℕ) → i < n → g i ≡ x → ((j : ℕ) → j < n → (j ≡ i → ⊥) → g j ≡ f j) → listed g n ≡ set (listed f n) i x
+  pub listed-set : (f g : ℕ → A) (x : A) (n i : ℕ) → i < n → g i ≡ x → ((j : ℕ) → j < n → (j ≡ i → ⊥) → g j ≡ f j) → tabulated g n ≡ set (tabulated f n) i x
   listed-set f g x zero i h e k = absurd (omega arith)
   listed-set f g x (suc n) zero h e k =
       rw (listed-first f n, listed-first g n, e, listed-same (λ j. g (suc j)) (λ j. f (suc j)) n (λ j l. k (suc j) (omega arith) (λ m. omega (arith, m))))
@@ -54,8 +54,8 @@ module _ {A : Type 0} where
         listed-set (λ j. f (suc j)) (λ j. g (suc j)) x n i (omega arith) e (λ j l m. k (suc j) (omega arith) (λ o. m (omega (arith, o)))),
       )
 
-  pub listed-replicate : (x : A) (n : ℕ) → listed (λ i. x) n ≡ replicate n x
-  unfolding listed
+  pub listed-replicate : (x : A) (n : ℕ) → tabulated (λ i. x) n ≡ replicate n x
+  unfolding tabulated
   listed-replicate x zero = refl
   listed-replicate x (suc n) = rw (listed-first (λ i. x) n, listed-replicate x n)
 
@@ -102,7 +102,7 @@ module _ (s t : List ℕ) (same : take Layout.start-length s ≡ take Layout.sta
         bytes-same (at + Layout.item-data-offset) size (omega arith),
       )
 
-  items-same : StartGood t → listed (itemAt s) (Layout.itemCount t) ≡ listed (itemAt t) (Layout.itemCount t)
+  items-same : StartGood t → tabulated (itemAt s) (Layout.itemCount t) ≡ tabulated (itemAt t) (Layout.itemCount t)
   items-same g =
       listed-same (itemAt s) (itemAt t) (Layout.itemCount t) (λ i l.
       item-same i (omega arith) (item-good t i (all-each _ _ (g .items) i l) .size))

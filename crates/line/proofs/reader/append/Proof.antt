@@ -3,7 +3,7 @@
 use native.Mathlib.Omega.{arith}
 use borrow.Author.Needs.{needs}
 use denote.Ref.{now}
-use Rattle.line.specs.Reader.{pushes}
+use Rattle.line.specs.Reader.{pushedAll}
 use Rattle.line.proofs.State.{append-over, append-some, append-fit}
 use Rattle.line.proofs.reader.append.Statement.{statement}
 use Rattle.line.proofs.reader.append.Tie as tie
@@ -13,7 +13,7 @@ abbrev start : tie.After-get-count → tie.Start
 start c = c .before .before .before .before .before
 
 returns : tie.Need-returns
-unfolding pushes
+unfolding pushedAll
 returns c = rw (c .if1 .taken)
 
 returns-2 : tie.Need-returns-2

@@ -5,32 +5,32 @@ use mathlib.Core.Option.{none}
 use native.Mathlib.Omega.{arith}
 use borrow.Author.Needs.{needs}
 use denote.Ref.{now}
-use Rattle.line.specs.Reader.{report, empty, failed, settled}
+use Rattle.line.specs.Reader.{readReport, empty, failed, frameOutcome}
 use Rattle.line.proofs.Held.{finish-empty, finish-over, finish-form}
 use Rattle.line.proofs.reader.finish_frame.Statement.{statement}
 use Rattle.line.proofs.reader.finish_frame.Tie as tie
 
 returns : tie.Need-returns
-unfolding report
+unfolding readReport
 returns c =
     let reset = c .before .before .before in
-    ap (settled empty) (reset .set-count .ensures) ∙ finish-empty _ (omega arith)
+    ap (frameOutcome empty) (reset .set-count .ensures) ∙ finish-empty _ (omega arith)
 
 returns-2 : tie.Need-returns-2
-unfolding report
+unfolding readReport
 returns-2 c =
     let reset = c .before .before .before .before in
-    ap (settled (failed 1 none)) (reset .set-count .ensures) ∙ finish-over _ (omega arith)
+    ap (frameOutcome (failed 1 none)) (reset .set-count .ensures) ∙ finish-over _ (omega arith)
 
 returns-3 : tie.Need-returns-3
 returns-3 c =
-    let at-settle-form = c .before .before in
-    let else1 = at-settle-form .before .before .before in
+    let at-finish-form = c .before .before in
+    let else1 = at-finish-form .before .before .before in
     let reset = else1 .before .before .before in
     let found = reset .before .before in
     let start = found .before .before .before in
     let state = now (start .args .state) in
-    at-settle-form .settle-form .ensures
+    at-finish-form .finish-form .ensures
     ∙ rw (reset .set-count .ensures, found .get-count .ensures .0) (finish-form state
     (λ e. else1 .if1 .left (found .get-count .ensures .0 ∙ e)) (omega arith) (omega arith))
 

@@ -1,12 +1,12 @@
 -- `line::reader::get_count` meets its contract.
 -- Assumes nothing.
 use borrow.Author.Needs.{needs}
-use Rattle.line.specs.Reader.{count}
+use Rattle.line.specs.Reader.{receivedCount}
 use Rattle.line.proofs.reader.get_count.Statement.{statement}
 use Rattle.line.proofs.reader.get_count.Tie as tie
 
 returns : tie.Need-returns
-unfolding count
+unfolding receivedCount
 returns c = (c .read-u16 .ensures, search needs)
 
 pub get-count-spec : {M : Type 1} → statement M

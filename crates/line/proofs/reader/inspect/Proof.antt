@@ -4,7 +4,7 @@ use native.Mathlib.Nat.{add-sub-cancel-left}
 use native.Mathlib.Omega.{arith}
 use borrow.Author.Needs.{needs}
 use denote.Ref.{now}
-use Rattle.line.specs.Reader.{report}
+use Rattle.line.specs.Reader.{readReport}
 use Rattle.line.proofs.Judging.{length-part, report-checksum, report-magic, report-good}
 use Rattle.line.proofs.reader.inspect.Statement.{statement}
 use Rattle.line.proofs.reader.inspect.Tie as tie
@@ -17,7 +17,7 @@ abbrev start : tie.After-read-u64 → tie.Start
 start c = c .before .before .before
 
 returns : tie.Need-returns
-unfolding report
+unfolding readReport
 returns c =
     let sum = c .before in
     let sequence = at-read-u64 sum in
@@ -27,7 +27,7 @@ returns c =
     (sum .before .read-u16 .ensures) (sum .checksum-of-first .ensures) (sequence .read-u64 .ensures) (c .if1 .taken))
 
 returns-2 : tie.Need-returns-2
-unfolding report
+unfolding readReport
 returns-2 c =
     let else1 = c .before .before in
     let sum = else1 .before in
@@ -39,7 +39,7 @@ returns-2 c =
     (c .before .read-u32 .ensures) (c .if2 .taken))
 
 returns-3 : tie.Need-returns-3
-unfolding report
+unfolding readReport
 returns-3 c =
     let else2 = c .before .before in
     let at-read-u32 = else2 .before in

@@ -6,7 +6,7 @@ use borrow.Author.Needs.{needs}
 use borrow.Author.Tests.{not-true, not-false}
 use denote.Ref.{now}
 use lib.ListN.{length}
-use Rattle.line.specs.Reader.{report}
+use Rattle.line.specs.Reader.{readReport}
 use Rattle.line.proofs.Rest.{rest-mid}
 use Rattle.line.proofs.State.{valid-ready}
 use Rattle.line.proofs.Reading.{ahead, ahead-most, reading-refused, reading-ready, reading-more, reading-stop}
@@ -27,7 +27,7 @@ abbrev start : tie.After-nonzero-run → tie.Start
 start c = c .before .before .before .before .before .before .before
 
 returns : tie.Need-returns
-unfolding report
+unfolding readReport
 returns c = reading-refused _ _ (sym (c .before .is-valid .ensures) ∙ not-true _ (c .if1 .taken))
 
 -- the search goes through the whole piece
@@ -44,7 +44,7 @@ append-requires c κs =
     (r .0, (r .1, omega (arith, found run, ahead-most piece)))
 
 returns-2 : tie.Need-returns-2
-unfolding report
+unfolding readReport
 returns-2 c =
     let pushed = at-append (c .before) in
     let run = at-nonzero-run pushed in

@@ -7,12 +7,12 @@ use denote.Ref.{now}
 use Rattle.octets.specs.Bytes.{bytes}
 use Rattle.octets.proofs.Numbers.{length-bytes}
 use Rattle.octets.proofs.Overlay.{put-fits}
-use Rattle.line.specs.Reader.{counted}
+use Rattle.line.specs.Reader.{withCount}
 use Rattle.line.proofs.reader.set_count.Statement.{statement}
 use Rattle.line.proofs.reader.set_count.Tie as tie
 
 returns : tie.Need-returns
-unfolding counted
+unfolding withCount
 returns c =
     let at-write-u16 = c .before .before in
     let a = at-write-u16 .before .before .before .args in

@@ -3,16 +3,16 @@
 use mathlib.Core.Path.{sym, _∙_}
 use borrow.Author.Needs.{needs}
 use borrow.Author.Tests.{not-true, not-false, lt-ltb, le-ltb}
-use Rattle.line.specs.Reader.{tailReport, tailOf}
+use Rattle.line.specs.Reader.{tailReport, tailPromise}
 use Rattle.line.proofs.reader.tail.Statement.{statement}
 use Rattle.line.proofs.reader.tail.Tie as tie
 
 returns : tie.Need-returns
-unfolding tailReport tailOf
+unfolding tailReport tailPromise
 returns c = rw (sym (c .before .is-valid .ensures) ∙ not-true _ (c .if1 .taken))
 
 returns-2 : tie.Need-returns-2
-unfolding tailReport tailOf
+unfolding tailReport tailPromise
 returns-2 c =
     let else1 = c .before .before in
     let at-is-valid = else1 .before in
@@ -23,7 +23,7 @@ returns-2 c =
     )
 
 returns-3 : tie.Need-returns-3
-unfolding tailReport tailOf
+unfolding tailReport tailPromise
 returns-3 c =
     let else1 = c .before .before in
     let at-is-valid = else1 .before in

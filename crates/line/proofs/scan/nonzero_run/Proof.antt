@@ -7,13 +7,13 @@ use denote.Ref.{now}
 use native.Mathlib.Omega.{arith}
 use lib.ListN.{length, drop, length-drop}
 use lib.Seq.{getD-drop}
-use Rattle.line.specs.Runs.{nonzero, reached}
+use Rattle.line.specs.Runs.{nonzero, runLength}
 use Rattle.line.proofs.Runs.{nonzero-length, reached-start, reached-more, reached-zero, reached-end}
 use Rattle.line.proofs.scan.nonzero_run.Statement.{statement}
 use Rattle.line.proofs.scan.nonzero_run.Tie as tie
 
 abbrev Inv-loop : tie.InvT-loop
-Inv-loop s from most end k₀ k = (k ≤ end) × (length (nonzero most (drop from s)) ≡ reached end k (drop from s))
+Inv-loop s from most end k₀ k = (k ≤ end) × (length (nonzero most (drop from s)) ≡ runLength end k (drop from s))
 
 abbrev μ-loop : tie.MeasureT-loop
 μ-loop s from most end k₀ k = end - k

@@ -7,13 +7,13 @@ use denote.Ref.{now}
 use native.Mathlib.Omega.{arith}
 use lib.ListN.{drop}
 use lib.Seq.{drop-drop}
-use Rattle.line.specs.Runs.{reached}
+use Rattle.line.specs.Runs.{runLength}
 use Rattle.line.proofs.Runs.{reached-block}
 use Rattle.line.proofs.scan.pass_blocks.Statement.{statement}
 use Rattle.line.proofs.scan.pass_blocks.Tie as tie
 
 abbrev Inv-loop : tie.InvT-loop
-Inv-loop s from end passed width k₀ k = (k ≤ end) × (reached end passed (drop from s) ≡ reached end k (drop from s))
+Inv-loop s from end passed width k₀ k = (k ≤ end) × (runLength end passed (drop from s) ≡ runLength end k (drop from s))
 
 abbrev μ-loop : tie.MeasureT-loop
 μ-loop s from end passed width k₀ k = end - k

@@ -8,7 +8,7 @@ use borrow.Author.Needs.{needs}
 use denote.Ref.{now}
 use lib.ListN.{length, take, drop, getD, length-set}
 use lib.Seq.{getD-set-other}
-use Rattle.line.specs.Columns.{columns, added}
+use Rattle.line.specs.Columns.{columns, addedRow}
 use Rattle.line.proofs.Columns.{added-next, added-end}
 use Rattle.line.proofs.sums.add.Statement.{statement}
 use Rattle.line.proofs.sums.add.Tie as tie
@@ -16,7 +16,7 @@ use Rattle.line.proofs.sums.add.Tie as tie
 abbrev Inv-loop : tie.InvT-loop
 Inv-loop sums₀ row i₀ sums i =
     (i ≤ columns) × (length sums ≡ columns) × ((k : ℕ) → i ≤ k → getD sums k 0 ≡ getD sums₀ k 0)
-    × (added row sums₀ ≡ take i sums ++ added (drop i row) (drop i sums))
+    × (addedRow row sums₀ ≡ take i sums ++ addedRow (drop i row) (drop i sums))
 
 abbrev μ-loop : tie.MeasureT-loop
 μ-loop sums₀ row i₀ sums i = columns - i

@@ -6,16 +6,16 @@ use native.Mathlib.Omega.{arith}
 use borrow.Author.Needs.{needs}
 use denote.Ref.{now}
 use Rattle.octets.specs.Bytes.{run}
-use Rattle.line.specs.Columns.{columns, rows}
+use Rattle.line.specs.Columns.{columns, column-rows}
 use Rattle.line.proofs.Columns.{Summed, summed-none, summed-next, summed-block, first-addable, second-addable}
 use Rattle.line.proofs.sums.block.Statement.{statement}
 use Rattle.line.proofs.sums.block.Tie as tie
 
 abbrev Inv-loop : tie.InvT-loop
-Inv-loop body at sums firsts₀ seconds₀ i₀ firsts seconds i = (i ≤ rows) × Summed i (run at (i * columns) body) firsts seconds
+Inv-loop body at sums firsts₀ seconds₀ i₀ firsts seconds i = (i ≤ column-rows) × Summed i (run at (i * columns) body) firsts seconds
 
 abbrev μ-loop : tie.MeasureT-loop
-μ-loop body at sums firsts₀ seconds₀ i₀ firsts seconds i = rows - i
+μ-loop body at sums firsts₀ seconds₀ i₀ firsts seconds i = column-rows - i
 
 -- places of the walk, each from a later one
 abbrev add-of : tie.After-firsts2 Inv-loop μ-loop → tie.After-add Inv-loop μ-loop
@@ -56,7 +56,7 @@ returns c =
     let l = c .before .before .before .before .before .before .before .before .before .before .before .before .loop in
     let start = c .before .before .before .before .before .before .before .before .before .before .before .before .before .before in
     let a = start .args in
-    let e : l .i ≡ rows = omega arith in (
+    let e : l .i ≡ column-rows = omega arith in (
       omega arith,
       omega arith,
       summed-block (now (a .body)) (l .firsts) (l .seconds) (a .at) (a .sums .first) (a .sums .second) _ _ _ (start .pre .0) (omega arith) (omega arith)

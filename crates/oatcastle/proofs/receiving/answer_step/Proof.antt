@@ -1,39 +1,39 @@
 -- `oatcastle::receiving::answer_step` meets its contract.
 -- Assumes nothing.
 use borrow.Author.Needs.{needs}
-use Rattle.requests.specs.Receive.{endedReport}
+use Rattle.responder.specs.Receive.{stepReport}
 use Rattle.oatcastle.specs.Answers.{writingAnswer}
 use Rattle.oatcastle.specs.ReceiveCalls.{stepGiven}
 use Rattle.oatcastle.proofs.receiving.answer_step.Statement.{statement}
 use Rattle.oatcastle.proofs.receiving.answer_step.Tie as tie
 
 returns : tie.Need-returns
-unfolding endedReport stepGiven writingAnswer
+unfolding stepReport stepGiven writingAnswer
 returns c = rw (c .enum-told .given .1)
 
 returns-2 : tie.Need-returns-2
-unfolding endedReport stepGiven
+unfolding stepReport stepGiven
 returns-2 c =
     let at-write-answer = c .before .before in
     let at-enum-told2 = at-write-answer .before .before in
     rw (at-enum-told2 .enum-told2 .given .1) (at-write-answer .write-answer .ensures)
 
 returns-3 : tie.Need-returns-3
-unfolding endedReport stepGiven
+unfolding stepReport stepGiven
 returns-3 c =
     let at-write-answer2 = c .before .before in
     let at-enum-told3 = at-write-answer2 .before .before in
     rw (at-enum-told3 .enum-told3 .given .1) (at-write-answer2 .write-answer2 .ensures)
 
 returns-4 : tie.Need-returns-4
-unfolding endedReport stepGiven
+unfolding stepReport stepGiven
 returns-4 c =
     let at-write-answer3 = c .before .before in
     let at-enum-told4 = at-write-answer3 .before .before in
     rw (at-enum-told4 .enum-told4 .given .1) (at-write-answer3 .write-answer3 .ensures)
 
 returns-5 : tie.Need-returns-5
-unfolding endedReport stepGiven
+unfolding stepReport stepGiven
 returns-5 c =
     let at-write-answer4 = c .before .before in
     let at-ended = at-write-answer4 .before .before .before in

@@ -1,19 +1,19 @@
 -- `oatcastle::receiving::oatcastle_receive` meets its contract.
 -- Assumes nothing.
 use borrow.Author.Needs.{needs}
-use Rattle.requests.specs.Receive.{receiptReport}
+use Rattle.responder.specs.Receive.{receiveReport}
 use Rattle.oatcastle.specs.ReceiveCalls.{receiveCall}
 use Rattle.oatcastle.proofs.receiving.oatcastle_receive.Statement.{statement}
 use Rattle.oatcastle.proofs.receiving.oatcastle_receive.Tie as tie
 
 returns : tie.Need-returns
-unfolding receiveCall receiptReport
+unfolding receiveCall receiveReport
 returns c =
     let at-receive = c .before .before .before .before .before .before .before .before .before .before in
     rw (← at-receive .receive .ensures, c .enum-told .given .1)
 
 returns-2 : tie.Need-returns-2
-unfolding receiveCall receiptReport
+unfolding receiveCall receiveReport
 returns-2 c =
     let at-receive = c .before .before .before .before .before .before .before .before .before .before in
     rw (← at-receive .receive .ensures, c .enum-told2 .given .1)

@@ -1,18 +1,18 @@
 -- `oatcastle::requesting::answer_received` meets its contract.
 -- Assumes nothing.
 use borrow.Author.Needs.{needs}
-use Rattle.requester.specs.Calls.{receiveReport}
+use Rattle.requester.specs.Calls.{handedReport}
 use Rattle.oatcastle.specs.Answers.{writingAnswer}
 use Rattle.oatcastle.specs.RequesterCalls.{receiptGiven}
 use Rattle.oatcastle.proofs.requesting.answer_received.Statement.{statement}
 use Rattle.oatcastle.proofs.requesting.answer_received.Tie as tie
 
 returns : tie.Need-returns
-unfolding receiveReport receiptGiven writingAnswer
+unfolding handedReport receiptGiven writingAnswer
 returns c = rw (c .enum-told .given .1)
 
 returns-2 : tie.Need-returns-2
-unfolding receiveReport receiptGiven
+unfolding handedReport receiptGiven
 returns-2 c =
     let at-write-answer = c .before .before in
     let handed = at-write-answer .before .before in
@@ -20,7 +20,7 @@ returns-2 c =
     rw (handed .enum-told2 .given .1, ← flags .flag-number2 .ensures, ← flags .before .flag-number .ensures) (at-write-answer .write-answer .ensures)
 
 returns-3 : tie.Need-returns-3
-unfolding receiveReport receiptGiven
+unfolding handedReport receiptGiven
 returns-3 c =
     let at-write-answer2 = c .before .before in
     let handed = at-write-answer2 .before .before .before .before in
@@ -28,7 +28,7 @@ returns-3 c =
     rw (handed .handed .given .1, ← flags .flag-number2 .ensures, ← flags .before .flag-number .ensures) (at-write-answer2 .write-answer2 .ensures)
 
 returns-4 : tie.Need-returns-4
-unfolding receiveReport receiptGiven
+unfolding handedReport receiptGiven
 returns-4 c =
     let at-write-answer3 = c .before .before in
     let handed = at-write-answer3 .before .before .before .before in
@@ -36,7 +36,7 @@ returns-4 c =
     rw (handed .handed2 .given .1, ← flags .flag-number2 .ensures, ← flags .before .flag-number .ensures) (at-write-answer3 .write-answer3 .ensures)
 
 returns-5 : tie.Need-returns-5
-unfolding receiveReport receiptGiven
+unfolding handedReport receiptGiven
 returns-5 c =
     let at-write-answer4 = c .before .before in
     let handed = at-write-answer4 .before .before .before .before in

@@ -5,7 +5,7 @@ use Rattle.octets.proofs.Overlay.{overlay-one}
 use Rattle.supervisor.proofs.Cases.{refused}
 use Rattle.supervisor.proofs.ValidLaws.{passed}
 use Rattle.saving.specs.Calls.{restoreReport}
-use Rattle.oatcastle.specs.SavingCalls.{restoreAnswered}
+use Rattle.oatcastle.specs.SavingCalls.{restoreCallOutcome}
 use Rattle.oatcastle.proofs.SavingCallLaws.{restore-refused, restore-short, restore-answered}
 use Rattle.oatcastle.proofs.saving_calls.oatcastle_restore.Statement.{statement}
 use Rattle.oatcastle.proofs.saving_calls.oatcastle_restore.Tie as tie
@@ -26,7 +26,7 @@ returns-2 c =
     restore-short _ _ _ (passed _ _ (at-settings-are-valid .settings-are-valid .ensures) (c .before .if1 .left)) (search needs)
 
 returns-3 : tie.Need-returns-3
-unfolding restoreReport restoreAnswered
+unfolding restoreReport restoreCallOutcome
 returns-3 c =
     let restored = c .before .before .before .before in
     let answer = else2 restored in
@@ -34,7 +34,7 @@ returns-3 c =
     restore-answered _ _ _ valid (c .enum-told .given .1) (answer .if2 .left) (restored .restore .ensures)
 
 returns-4 : tie.Need-returns-4
-unfolding restoreReport restoreAnswered
+unfolding restoreReport restoreCallOutcome
 returns-4 c =
     let restored = c .before .before .before .before in
     let answer = else2 restored in
@@ -42,7 +42,7 @@ returns-4 c =
     restore-answered _ _ _ valid (c .enum-told2 .given .1) (answer .if2 .left) (restored .restore .ensures)
 
 returns-5 : tie.Need-returns-5
-unfolding restoreReport restoreAnswered
+unfolding restoreReport restoreCallOutcome
 returns-5 c =
     let restored = c .before .before .before .before .before in
     let answer = restored .before .before in

@@ -3,8 +3,8 @@
 use borrow.Author.Needs.{needs}
 use native.Mathlib.Omega.{arith}
 use denote.Ref.{now}
-use Rattle.line.specs.Reader.{dataOf}
-use Rattle.requester.specs.Calls.{receiveReport, reportOf, outcomeOf}
+use Rattle.line.specs.Reader.{dataPromise}
+use Rattle.requester.specs.Calls.{handedReport, handedReportOf, heardOutcomeOf}
 use Rattle.requester.specs.Hearing.{heardReport, nextOf}
 use Rattle.requester.proofs.Cases.{refused, passed}
 use Rattle.requester.proofs.ValidLaws.{requester-valid}
@@ -20,7 +20,7 @@ abbrev start-from-read-u64 : tie.After-read-u64 → tie.Start
 start-from-read-u64 c = start-from-is-outstanding (c .before .before)
 
 returns : tie.Need-returns
-unfolding outcomeOf receiveReport reportOf nextOf
+unfolding heardOutcomeOf handedReport handedReportOf nextOf
 returns c = rw (settles-none _ _ (refused _ _ (c .before .is-outstanding .ensures) (c .if1 .taken)))
 
 hear-requires : tie.Need-hear-requires
@@ -35,29 +35,29 @@ settle-answer-requires c κs =
     (start .pre .0, start .pre .1 .1)
 
 returns-2 : tie.Need-returns-2
-unfolding outcomeOf receiveReport reportOf nextOf heardReport
+unfolding heardOutcomeOf handedReport handedReportOf nextOf heardReport
 returns-2 c =
     let hear = c .before .before in
     let read-u64 = hear .before in
     let if1 = read-u64 .before in
     let is-outstanding = if1 .before in
     let start = start-from-is-outstanding is-outstanding in
-    let h = rw (c .enum-told .given .1) at (hear .hear .ensures (dataOf (now (start .args .reader)) (start .args .head .length))) in
+    let h = rw (c .enum-told .given .1) at (hear .hear .ensures (dataPromise (now (start .args .reader)) (start .args .head .length))) in
     rw (settles-out _ _ (passed _ _ (is-outstanding .is-outstanding .ensures) (if1 .if1 .left)), ← read-u64 .read-u64 .ensures, ← h)
 
 returns-3 : tie.Need-returns-3
-unfolding outcomeOf receiveReport reportOf nextOf heardReport
+unfolding heardOutcomeOf handedReport handedReportOf nextOf heardReport
 returns-3 c =
     let hear = c .before .before in
     let read-u64 = hear .before in
     let if1 = read-u64 .before in
     let is-outstanding = if1 .before in
     let start = start-from-is-outstanding is-outstanding in
-    let h = rw (c .enum-told2 .given .1) at (hear .hear .ensures (dataOf (now (start .args .reader)) (start .args .head .length))) in
+    let h = rw (c .enum-told2 .given .1) at (hear .hear .ensures (dataPromise (now (start .args .reader)) (start .args .head .length))) in
     rw (settles-out _ _ (passed _ _ (is-outstanding .is-outstanding .ensures) (if1 .if1 .left)), ← read-u64 .read-u64 .ensures, ← h)
 
 returns-4 : tie.Need-returns-4
-unfolding outcomeOf heardReport
+unfolding heardOutcomeOf heardReport
 returns-4 c =
     let enum-told3 = c .before in
     let hear = enum-told3 .before .before in
@@ -65,7 +65,7 @@ returns-4 c =
     let if1 = read-u64 .before in
     let is-outstanding = if1 .before in
     let start = start-from-is-outstanding is-outstanding in
-    let h = rw (enum-told3 .enum-told3 .given .1) at (hear .hear .ensures (dataOf (now (start .args .reader)) (start .args .head .length))) in
+    let h = rw (enum-told3 .enum-told3 .given .1) at (hear .hear .ensures (dataPromise (now (start .args .reader)) (start .args .head .length))) in
     rw (settles-out _ _ (passed _ _ (is-outstanding .is-outstanding .ensures) (if1 .if1 .left)), ← read-u64 .read-u64 .ensures, ← h) (c .settle-answer .ensures)
 
 pub settle-message-spec : {M : Type 1} → statement M

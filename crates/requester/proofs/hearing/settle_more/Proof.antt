@@ -5,7 +5,7 @@ use mathlib.Core.Path.{sym, _∙_}
 use mathlib.Core.Bool.{false≢true}
 use borrow.Author.Tests.{le-ltb, lt-ltb}
 use Rattle.line.specs.Reader.{tailReport}
-use Rattle.requester.specs.Calls.{outcomeOf}
+use Rattle.requester.specs.Calls.{heardOutcomeOf}
 use Rattle.requester.proofs.ReaderLaws.{tail-holds}
 use Rattle.requester.proofs.hearing.settle_more.Statement.{statement}
 use Rattle.requester.proofs.hearing.settle_more.Tie as tie
@@ -19,7 +19,7 @@ returns c =
     absurd (false≢true (sym (tail-holds _ (rw (enum-told .enum-told .given .1) at (tail .tail .ensures))) ∙ start .pre))
 
 returns-2 : tie.Need-returns-2
-unfolding tailReport outcomeOf
+unfolding tailReport heardOutcomeOf
 returns-2 c =
     let at-tail = c .before .before .before in
     let t = tail-holds _ (rw (c .before .enum-told2 .given .1) at (at-tail .tail .ensures)) in

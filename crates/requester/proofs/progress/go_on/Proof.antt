@@ -5,19 +5,19 @@ use mathlib.Core.Path.{ap}
 use mathlib.Core.Bool.{false}
 use Rattle.octets.proofs.Overlay.{overlay-one}
 use Rattle.requester.specs.Layout.{stepAt}
-use Rattle.requester.specs.Calls.{movedBy, movedTo}
+use Rattle.requester.specs.Calls.{partMoved, partMovedTo}
 use Rattle.requester.specs.Hearing.{nextOf}
 use Rattle.requester.proofs.SettlingLaws.{idle-next}
 use Rattle.requester.proofs.progress.go_on.Statement.{statement}
 use Rattle.requester.proofs.progress.go_on.Tie as tie
 
 returns : tie.Need-returns
-unfolding nextOf movedTo
+unfolding nextOf partMovedTo
 returns c = rw (c .enum-told .given .1)
 
 returns-2 : tie.Need-returns-2
-unfolding nextOf movedTo
-returns-2 c = rw (c .enum-told2 .given .1) (ap (movedBy false) (overlay-one _ _ _ (search needs)))
+unfolding nextOf partMovedTo
+returns-2 c = rw (c .enum-told2 .given .1) (ap (partMoved false) (overlay-one _ _ _ (search needs)))
 
 returns-3 : tie.Need-returns-3
 unfolding nextOf stepAt

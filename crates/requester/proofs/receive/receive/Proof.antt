@@ -3,7 +3,7 @@
 use borrow.Author.Needs.{needs}
 use native.Mathlib.Omega.{arith}
 use Rattle.line.specs.Reader.{tailReport}
-use Rattle.requester.specs.Calls.{receiveReport}
+use Rattle.requester.specs.Calls.{handedReport}
 use Rattle.requester.proofs.Cases.{refused, passed}
 use Rattle.requester.proofs.ValidLaws.{valid-parts}
 use Rattle.requester.proofs.ReaderLaws.{tail-holds}
@@ -12,7 +12,7 @@ use Rattle.requester.proofs.receive.receive.Statement.{statement}
 use Rattle.requester.proofs.receive.receive.Tie as tie
 
 returns : tie.Need-returns
-unfolding receiveReport
+unfolding handedReport
 returns c = receive-refused _ _ (invalid-requester _ (refused _ _ (c .before .requester-is-valid .ensures) (c .if1 .taken)))
 
 listen-requires : tie.Need-listen-requires
@@ -36,7 +36,7 @@ skip-requires c κs =
     (valid-parts _ (record { reader = t .0; requester = passed _ _ (requester-is-valid .requester-is-valid .ensures) (if1 .if1 .left) }), t .1)
 
 returns-2 : tie.Need-returns-2
-unfolding receiveReport tailReport
+unfolding handedReport tailReport
 returns-2 c =
     let at-tail = c .before .before in
     receive-refused _ _ (invalid-reader _ (tail-holds _ (rw (c .enum-told .given .1) at (at-tail .tail .ensures))))

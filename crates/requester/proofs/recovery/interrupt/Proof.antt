@@ -6,7 +6,7 @@ use mathlib.Core.Option.{none}
 use native.Mathlib.Numerals.{add-one}
 use borrow.Author.Tests.{eq-eqb, ne-eqb, le-leb, lt-leb}
 use Rattle.requester.specs.Layout.{stepNumber}
-use Rattle.requester.specs.Calls.{interruptReport, interruptBy, interrupting}
+use Rattle.requester.specs.Calls.{interruptReport, interruptOutcome, interruptPromise}
 use Rattle.requester.proofs.Cases.{refused, passed}
 use Rattle.requester.proofs.ValidLaws.{requester-valid}
 use Rattle.requester.proofs.recovery.interrupt.Statement.{statement}
@@ -20,11 +20,11 @@ abbrev else2 : tie.After-read-u64 → tie.Else2
 else2 c = c .before .before
 
 returns : tie.Need-returns
-unfolding interrupting interruptReport
+unfolding interruptPromise interruptReport
 returns c = rw (refused _ _ (c .before .requester-is-valid .ensures) (c .if1 .taken))
 
 returns-2 : tie.Need-returns-2
-unfolding interrupting interruptReport
+unfolding interruptPromise interruptReport
 returns-2 c =
     let byte-at = c .before in
     let if1 = else1 byte-at in
@@ -32,7 +32,7 @@ returns-2 c =
     rw (passed _ _ (requester-is-valid .requester-is-valid .ensures) (if1 .if1 .left), ← byte-at .byte-at .ensures .0, ne-eqb _ _ (c .if2 .taken))
 
 returns-3 : tie.Need-returns-3
-unfolding interrupting interruptReport
+unfolding interruptPromise interruptReport
 returns-3 c =
     let read-u64 = c .before in
     let if2 = else2 read-u64 in
@@ -54,7 +54,7 @@ set-progress-requires c κs =
     requester-valid _ (passed _ _ (requester-is-valid .requester-is-valid .ensures) (if1 .if1 .left)) .long
 
 returns-4 : tie.Need-returns-4
-unfolding interrupting interruptReport stepNumber
+unfolding interruptPromise interruptReport stepNumber
 returns-4 c =
     let set-progress = c .before .before in
     let read-u8 = set-progress .before .before in
@@ -72,7 +72,7 @@ returns-4 c =
       lt-leb _ _ (if3 .if3 .left),
       ← read-u8 .read-u8 .ensures,
     )
-    (ap (interruptBy none) (rw add-one at (set-progress .set-progress .ensures)))
+    (ap (interruptOutcome none) (rw add-one at (set-progress .set-progress .ensures)))
 
 pub interrupt-spec : {M : Type 1} → statement M
 interrupt-spec =

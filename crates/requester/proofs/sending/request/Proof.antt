@@ -3,7 +3,7 @@
 use borrow.Author.Needs.{needs}
 use mathlib.Core.Path.{sym, ap, _∙_}
 use denote.Ref.{now}
-use Rattle.line.specs.Writer.{report}
+use Rattle.line.specs.Writer.{writeReport}
 use Rattle.requester.specs.Calls.{requestReport}
 use Rattle.requester.proofs.Cases.{refused, passed}
 use Rattle.requester.proofs.ValidLaws.{requester-valid}
@@ -59,7 +59,7 @@ keep-requires c κs =
     (requester-valid _ (passed _ _ (requester-is-valid .requester-is-valid .ensures) (if1 .if1 .left)) .long, if2 .if2 .left)
 
 returns-5 : tie.Need-returns-5
-unfolding requestReport report
+unfolding requestReport writeReport
 returns-5 c =
     let keep = c .before .before in
     let written = keep .before .before .before in
@@ -72,10 +72,10 @@ returns-5 c =
     let if1 = if2 .before in
     let requester-is-valid = if1 .before in
     request-done _ _ _ _ (passed _ _ (requester-is-valid .requester-is-valid .ensures) (if1 .if1 .left)) (if2 .if2 .left) (sym (is-outstanding .is-outstanding .ensures) ∙ if3 .if3 .left) (read-u64 .read-u64 .ensures) (if4 .if4 .left)
-    (write .write .ensures) _ (ap report (written .written .given .1)) (keep .keep .ensures)
+    (write .write .ensures) _ (ap writeReport (written .written .given .1)) (keep .keep .ensures)
 
 returns-6 : tie.Need-returns-6
-unfolding requestReport report
+unfolding requestReport writeReport
 returns-6 c =
     let write = c .before .before .before .before in
     let if4 = else4 write in
@@ -86,10 +86,10 @@ returns-6 c =
     let if1 = if2 .before in
     let requester-is-valid = if1 .before in
     request-short _ _ _ _ (passed _ _ (requester-is-valid .requester-is-valid .ensures) (if1 .if1 .left)) (if2 .if2 .left) (sym (is-outstanding .is-outstanding .ensures) ∙ if3 .if3 .left) (read-u64 .read-u64 .ensures) (if4 .if4 .left)
-    (write .write .ensures) (ap report (c .enum-told .given .1))
+    (write .write .ensures) (ap writeReport (c .enum-told .given .1))
 
 returns-7 : tie.Need-returns-7
-unfolding report
+unfolding writeReport
 returns-7 c =
     let write = c .before .before .before .before in
     let if4 = else4 write in
@@ -101,7 +101,7 @@ returns-7 c =
     let requester-is-valid = if1 .before in
     let start = requester-is-valid .before .before .before .before .before in
     absurd (request-never (now (start .args .requester)) (start .args .command) (now (start .args .«data»)) (now (start .args .out)) (passed _ _ (requester-is-valid .requester-is-valid .ensures) (if1 .if1 .left)) (if2 .if2 .left) (sym (is-outstanding .is-outstanding .ensures) ∙ if3 .if3 .left) (read-u64 .read-u64 .ensures) (if4 .if4 .left)
-    (write .write .ensures) (ap report (c .enum-told2 .given .1)))
+    (write .write .ensures) (ap writeReport (c .enum-told2 .given .1)))
 
 pub request-spec : {M : Type 1} → statement M
 request-spec =

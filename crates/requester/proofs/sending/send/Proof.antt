@@ -3,7 +3,7 @@
 use borrow.Author.Needs.{needs}
 use mathlib.Core.Path.{ap}
 use native.Mathlib.Omega.{arith}
-use Rattle.line.specs.Writer.{report}
+use Rattle.line.specs.Writer.{writeReport}
 use Rattle.requester.specs.Calls.{sendReport}
 use Rattle.requester.proofs.Cases.{refused, passed}
 use Rattle.requester.proofs.ValidLaws.{requester-valid}
@@ -43,7 +43,7 @@ slice-write-requester c =
     omega (arith, requester-valid _ (passed _ _ (requester-is-valid .requester-is-valid .ensures) (if1 .if1 .left)) .long)
 
 returns-3 : tie.Need-returns-3
-unfolding sendReport report
+unfolding sendReport writeReport
 returns-3 c =
     let written = c .before in
     let write-outstanding = written .before .before .before .before in
@@ -51,27 +51,27 @@ returns-3 c =
     let is-unsent = if2 .before in
     let if1 = else1 is-unsent in
     let requester-is-valid = if1 .before in
-    send-done _ _ (passed _ _ (requester-is-valid .requester-is-valid .ensures) (if1 .if1 .left)) (passed _ _ (is-unsent .is-unsent .ensures) (if2 .if2 .left)) (write-outstanding .write-outstanding .ensures) _ (ap report (written .written .given .1))
+    send-done _ _ (passed _ _ (requester-is-valid .requester-is-valid .ensures) (if1 .if1 .left)) (passed _ _ (is-unsent .is-unsent .ensures) (if2 .if2 .left)) (write-outstanding .write-outstanding .ensures) _ (ap writeReport (written .written .given .1))
 
 returns-4 : tie.Need-returns-4
-unfolding sendReport report
+unfolding sendReport writeReport
 returns-4 c =
     let write-outstanding = c .before .before .before .before in
     let if2 = else2 write-outstanding in
     let is-unsent = if2 .before in
     let if1 = else1 is-unsent in
     let requester-is-valid = if1 .before in
-    send-short _ _ (passed _ _ (requester-is-valid .requester-is-valid .ensures) (if1 .if1 .left)) (passed _ _ (is-unsent .is-unsent .ensures) (if2 .if2 .left)) (write-outstanding .write-outstanding .ensures) (ap report (c .enum-told .given .1))
+    send-short _ _ (passed _ _ (requester-is-valid .requester-is-valid .ensures) (if1 .if1 .left)) (passed _ _ (is-unsent .is-unsent .ensures) (if2 .if2 .left)) (write-outstanding .write-outstanding .ensures) (ap writeReport (c .enum-told .given .1))
 
 returns-5 : tie.Need-returns-5
-unfolding report
+unfolding writeReport
 returns-5 c =
     let write-outstanding = c .before .before .before .before in
     let if2 = else2 write-outstanding in
     let is-unsent = if2 .before in
     let if1 = else1 is-unsent in
     let requester-is-valid = if1 .before in
-    absurd (send-never _ _ (passed _ _ (requester-is-valid .requester-is-valid .ensures) (if1 .if1 .left)) (passed _ _ (is-unsent .is-unsent .ensures) (if2 .if2 .left)) (write-outstanding .write-outstanding .ensures) (ap report (c .enum-told2 .given .1)))
+    absurd (send-never _ _ (passed _ _ (requester-is-valid .requester-is-valid .ensures) (if1 .if1 .left)) (passed _ _ (is-unsent .is-unsent .ensures) (if2 .if2 .left)) (write-outstanding .write-outstanding .ensures) (ap writeReport (c .enum-told2 .given .1)))
 
 pub send-spec : {M : Type 1} → statement M
 send-spec =

@@ -7,13 +7,13 @@ use Rattle.rot.proofs.reader.echo.Statement.{statement}
 use Rattle.rot.proofs.reader.echo.Tie as tie
 
 returns : tie.Need-returns
-unfolding Reading.report Writing.report
+unfolding Reading.rotReadReport Writing.rotWriteReport
 returns c =
     let at-write = c .before .before .before .before .before in
     rw (← at-write .write .ensures, c .before .written .given .1)
 
 returns-2 : tie.Need-returns-2
-unfolding Reading.report Writing.report
+unfolding Reading.rotReadReport Writing.rotWriteReport
 returns-2 c =
     let at-write = c .before .before .before .before .before in
     rw (← at-write .write .ensures, c .before .written2 .given .1)

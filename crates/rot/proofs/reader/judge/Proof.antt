@@ -2,14 +2,14 @@
 -- Assumes nothing.
 use mathlib.Core.Path.{_∙_}
 use borrow.Author.Needs.{needs}
-use Rattle.rot.specs.Answers.{numberOf}
+use Rattle.rot.specs.Answers.{refusalNumber}
 use Rattle.rot.specs.Reading.{judgedAs}
 use Rattle.rot.proofs.Judging.{no-input, null-sent, bad-protocol, short-header, header-read}
 use Rattle.rot.proofs.reader.judge.Statement.{statement}
 use Rattle.rot.proofs.reader.judge.Tie as tie
 
 returns : tie.Need-returns
-unfolding numberOf judgedAs
+unfolding refusalNumber judgedAs
 returns c = no-input _ (c .if1 .taken)
 
 returns-2 : tie.Need-returns-2
@@ -19,13 +19,13 @@ returns-2 c =
     null-sent _ (else1 .if1 .left) (c .before .read-u8 .ensures) (c .if2 .taken)
 
 returns-3 : tie.Need-returns-3
-unfolding numberOf judgedAs
+unfolding refusalNumber judgedAs
 returns-3 c =
     let first = c .before .before in
     bad-protocol _ (first .before .if1 .left) (first .read-u8 .ensures) (c .before .if2 .left) (c .if3 .taken)
 
 returns-4 : tie.Need-returns-4
-unfolding numberOf judgedAs
+unfolding refusalNumber judgedAs
 returns-4 c =
     let else2 = c .before .before in
     let first = else2 .before in

@@ -2,18 +2,18 @@
 -- Assumes nothing.
 use mathlib.Core.Path.{_∙_}
 use borrow.Author.Needs.{needs}
-use Rattle.rot.specs.Answers.{numberOf}
+use Rattle.rot.specs.Answers.{refusalNumber}
 use Rattle.rot.specs.Reading.{judgedAs}
 use Rattle.rot.proofs.Judging.{too-long, cut-short, payload-read}
 use Rattle.rot.proofs.reader.judge_length.Statement.{statement}
 use Rattle.rot.proofs.reader.judge_length.Tie as tie
 
 returns : tie.Need-returns
-unfolding numberOf judgedAs
+unfolding refusalNumber judgedAs
 returns c = too-long _ (c .before .word-at .ensures .0) (c .if1 .taken)
 
 returns-2 : tie.Need-returns-2
-unfolding numberOf judgedAs
+unfolding refusalNumber judgedAs
 returns-2 c =
     let at-word-at = c .before .before in
     cut-short _ (at-word-at .word-at .ensures .0) (c .before .if1 .left) (c .if2 .taken)

@@ -1,7 +1,7 @@
 -- `rot::reader::read` meets its contract.
 -- Assumes nothing.
 use borrow.Author.Needs.{needs}
-use Rattle.rot.specs.Reading.{judgedAs, answering, reading, report}
+use Rattle.rot.specs.Reading.{judgedAs, answerTo, rotReadPromise, rotReadReport}
 use Rattle.rot.proofs.Reading.{read-echo, read-handed}
 use Rattle.rot.proofs.reader.read.Statement.{statement}
 use Rattle.rot.proofs.reader.read.Tie as tie
@@ -17,19 +17,19 @@ returns c =
     (read-echo _ (at-judge .judge .ensures) (arm .verdict2 .given .1) _ (part .before .if1 .taken))
 
 returns-2 : tie.Need-returns-2
-unfolding judgedAs answering reading report
+unfolding judgedAs answerTo rotReadPromise rotReadReport
 returns-2 c =
     let at-judge = c .before .before .before in
     rw (← at-judge .judge .ensures, c .before .verdict .given .1)
 
 returns-3 : tie.Need-returns-3
-unfolding judgedAs answering reading report
+unfolding judgedAs answerTo rotReadPromise rotReadReport
 returns-3 c =
     let at-judge = c .before .before in
     rw (← at-judge .judge .ensures, c .enum-told .given .1)
 
 returns-4 : tie.Need-returns-4
-unfolding report
+unfolding rotReadReport
 returns-4 c =
     let arm = c .before .before .before in
     let at-judge = arm .before .before in

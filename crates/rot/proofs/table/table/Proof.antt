@@ -3,7 +3,7 @@
 use mathlib.Core.Path.{refl}
 use mathlib.Core.List.{List, [], _∷_}
 use Prim.Native.Nat.{ℕ}
-use Rattle.rot.specs.Table.{shift, shifts, entryOf}
+use Rattle.rot.specs.Table.{shift, shifts, tableEntry}
 use Rattle.rot.proofs.TableRule.{entry-rule}
 use Rattle.rot.proofs.table.table.Statement.{statement}
 use Rattle.rot.proofs.table.table.Tie as tie
@@ -45,8 +45,8 @@ entries =
     0xafb010b1 ∷ 0xab710d06 ∷ 0xa6322bdf ∷ 0xa2f33668 ∷ 0xbcb4666d ∷ 0xb8757bda ∷ 0xb5365d03 ∷ 0xb1f740b4 ∷ []
 
 returns : tie.Need-returns
-unfolding entries shift shifts entryOf
-returns c byte h = entry-rule entryOf entries refl byte h
+unfolding entries shift shifts tableEntry
+returns c byte h = entry-rule tableEntry entries refl byte h
 
 pub table-spec : {M : Type 1} → statement M
 table-spec = tie.close (tie.spec returns)

@@ -7,12 +7,12 @@ use denote.Ref.{now}
 use lib.ListN.{length}
 use Rattle.octets.specs.Bytes.{bytes}
 use native.Mathlib.Omega.{arith}
-use Rattle.rot.specs.Message.{start, crcOf}
+use Rattle.rot.specs.Message.{headerStart, crcOf}
 use Rattle.rot.proofs.writer.crc_for.Statement.{statement}
 use Rattle.rot.proofs.writer.crc_for.Tie as tie
 
 returns : tie.Need-returns
-unfolding crcOf start bytes
+unfolding crcOf headerStart bytes
 returns c =
     let entry = c .before .before .before in
     let n = length (now (entry .args .payload)) in

@@ -5,14 +5,14 @@ use Prim.Native.Nat.{_-_, _≤_}
 use native.Mathlib.Omega.{arith}
 use borrow.Author.Needs.{needs}
 use lib.ListN.{length}
-use Rattle.saving.specs.Saving.{readFrom, read}
-use Rattle.saving.specs.Calls.{faultIn, stepOf, foundOf}
+use Rattle.saving.specs.Saving.{readImageFrom, readImage}
+use Rattle.saving.specs.Calls.{faultIn, imageStepOf, foundOf}
 use Rattle.saving.proofs.ReadLaws.{read-at, further, fault-behind}
 use Rattle.saving.proofs.restore.check.Statement.{statement}
 use Rattle.saving.proofs.restore.check.Tie as tie
 
 abbrev Inv-loop : tie.InvT-loop
-Inv-loop image before₀ at₀ before at = (at ≤ length image) × (faultIn (readFrom image before at) ≡ faultIn (read image))
+Inv-loop image before₀ at₀ before at = (at ≤ length image) × (faultIn (readImageFrom image before at) ≡ faultIn (readImage image))
 
 abbrev μ-loop : tie.MeasureT-loop
 μ-loop image before₀ at₀ before at = length image - at
@@ -22,31 +22,31 @@ abbrev at-pass : tie.After-known-told Inv-loop μ-loop → tie.After-pass Inv-lo
 at-pass c = c .before .before .before
 
 loop-holds : tie.Need-loop-holds Inv-loop μ-loop
-unfolding read
+unfolding readImage
 loop-holds c = (search needs, refl)
 
 loop-less : tie.Need-loop-less Inv-loop μ-loop
-unfolding stepOf
-loop-less c = omega (arith, further _ _ _ (sym (at-pass c .pass .ensures) ∙ ap stepOf (c .before .next .given .1)))
+unfolding imageStepOf
+loop-less c = omega (arith, further _ _ _ (sym (at-pass c .pass .ensures) ∙ ap imageStepOf (c .before .next .given .1)))
 
 loop-again : tie.Need-loop-again Inv-loop μ-loop
-unfolding stepOf
+unfolding imageStepOf
 loop-again c =
     let passed = at-pass c in
-    let e = sym (passed .pass .ensures) ∙ ap stepOf (c .before .next .given .1) in
+    let e = sym (passed .pass .ensures) ∙ ap imageStepOf (c .before .next .given .1) in
     (further _ _ _ e .1, sym (fault-behind _ _ _ e) ∙ passed .before .loop .inv .1)
 
 returns : tie.Need-returns Inv-loop μ-loop
-unfolding stepOf foundOf
+unfolding imageStepOf foundOf
 returns c =
     let passed = c .before .before in
-    sym (ap faultIn (read-at _ _ _ (sym (passed .pass .ensures) ∙ ap stepOf (c .enum-told .given .1)))) ∙ passed .before .loop .inv .1
+    sym (ap faultIn (read-at _ _ _ (sym (passed .pass .ensures) ∙ ap imageStepOf (c .enum-told .given .1)))) ∙ passed .before .loop .inv .1
 
 returns-2 : tie.Need-returns-2 Inv-loop μ-loop
-unfolding stepOf foundOf
+unfolding imageStepOf foundOf
 returns-2 c =
     let passed = c .before .before .before in
-    sym (ap faultIn (read-at _ _ _ (sym (passed .pass .ensures) ∙ ap stepOf (c .before .next2 .given .1)))) ∙ passed .before .loop .inv .1
+    sym (ap faultIn (read-at _ _ _ (sym (passed .pass .ensures) ∙ ap imageStepOf (c .before .next2 .given .1)))) ∙ passed .before .loop .inv .1
 
 pub check-spec : {M : Type 1} → statement M
 check-spec =

@@ -7,14 +7,14 @@ use borrow.Author.Needs.{needs}
 use lib.ListN.{length}
 use Rattle.supervisor.proofs.Cases.{refused}
 use Rattle.supervisor.proofs.ValidLaws.{passed}
-use Rattle.saving.specs.Saving.{read}
-use Rattle.saving.specs.Calls.{entriesIn, putAll}
+use Rattle.saving.specs.Saving.{readImage}
+use Rattle.saving.specs.Calls.{entriesIn, putEntries}
 use Rattle.saving.proofs.RestoreLaws.{Left, all-left, whole-here, on-left, none-left}
 use Rattle.saving.proofs.restore.put_records.Statement.{statement}
 use Rattle.saving.proofs.restore.put_records.Tie as tie
 
 abbrev Inv-loop : tie.InvT-loop
-Inv-loop settings₀ image at₀ t4 settings at = (length settings ≡ length settings₀) × (Left image settings at (putAll (entriesIn (read image)) settings₀))
+Inv-loop settings₀ image at₀ t4 settings at = (length settings ≡ length settings₀) × (Left image settings at (putEntries (entriesIn (readImage image)) settings₀))
 
 abbrev μ-loop : tie.MeasureT-loop
 μ-loop settings₀ image at₀ t4 settings at = length image - at

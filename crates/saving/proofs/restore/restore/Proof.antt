@@ -4,13 +4,13 @@ use mathlib.Core.Path.{sym, ap, _∙_}
 use borrow.Author.Needs.{needs}
 use Rattle.supervisor.proofs.Cases.{refused}
 use Rattle.supervisor.proofs.ValidLaws.{passed, settings-valid}
-use Rattle.saving.specs.Calls.{restoreReport, restoring, foundOf}
+use Rattle.saving.specs.Calls.{restoreReport, restorePromise, foundOf}
 use Rattle.saving.proofs.RestoreLaws.{restored-good, restored-not}
 use Rattle.saving.proofs.restore.restore.Statement.{statement}
 use Rattle.saving.proofs.restore.restore.Tie as tie
 
 returns : tie.Need-returns
-unfolding restoreReport restoring
+unfolding restoreReport restorePromise
 returns c = rw (refused _ _ (c .before .settings-are-valid .ensures) (c .if1 .taken))
 
 clear-requires : tie.Need-clear-requires
@@ -28,7 +28,7 @@ put-records-requires c κs =
     (search needs, sym (checked .check .ensures) ∙ ap foundOf (good .enum-told .given .1))
 
 returns-2 : tie.Need-returns-2
-unfolding restoreReport restoring foundOf
+unfolding restoreReport restorePromise foundOf
 returns-2 c =
     let at-put-records = c .before .before in
     let cleared = at-put-records .before .before .before .before in
@@ -39,7 +39,7 @@ returns-2 c =
     (restored-good _ _ (sym (checked .check .ensures) ∙ ap foundOf (good .enum-told .given .1)) (cleared .clear .ensures) (at-put-records .put-records .ensures))
 
 returns-3 : tie.Need-returns-3
-unfolding restoreReport restoring foundOf
+unfolding restoreReport restorePromise foundOf
 returns-3 c =
     let checked = c .before .before .before in
     let valid = checked .before in

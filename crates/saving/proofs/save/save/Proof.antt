@@ -5,19 +5,19 @@ use borrow.Author.Needs.{needs}
 use borrow.Author.Tests.{lt-ltb, le-ltb}
 use Rattle.supervisor.proofs.Cases.{refused}
 use Rattle.supervisor.proofs.ValidLaws.{passed}
-use Rattle.saving.specs.Calls.{saveReport, saving}
+use Rattle.saving.specs.Calls.{saveReport, savePromise}
 use Rattle.saving.proofs.save.save.Statement.{statement}
 use Rattle.saving.proofs.save.save.Tie as tie
 
 returns : tie.Need-returns
-unfolding saveReport saving
+unfolding saveReport savePromise
 returns c = rw (refused _ _ (c .before .settings-are-valid .ensures) (c .if1 .taken))
 
 image-length-requires : tie.Need-image-length-requires
 image-length-requires c κs = passed _ _ (c .before .settings-are-valid .ensures) (c .if1 .left)
 
 returns-2 : tie.Need-returns-2
-unfolding saveReport saving
+unfolding saveReport savePromise
 returns-2 c =
     let valid = c .before .before in
     rw (passed _ _ (valid .before .settings-are-valid .ensures) (valid .if1 .left), ← c .before .image-length .ensures, lt-ltb _ _ (c .if2 .taken))
@@ -29,7 +29,7 @@ write-image-requires c κs =
     (passed _ _ (valid .before .settings-are-valid .ensures) (valid .if1 .left), omega (arith, at-image-length .image-length .ensures))
 
 returns-3 : tie.Need-returns-3
-unfolding saveReport saving
+unfolding saveReport savePromise
 returns-3 c =
     let at-write-image = c .before .before in
     let room = at-write-image .before .before in

@@ -9,7 +9,7 @@ use lib.ListN.{length}
 use Rattle.octets.specs.Bytes.{overlay}
 use Rattle.supervisor.specs.Limits.{first-setting}
 use Rattle.saving.specs.Saving.{saved-count}
-use Rattle.saving.specs.Calls.{recordsFrom, imageBytes}
+use Rattle.saving.specs.Calls.{savedRecordsFrom, imageBytes}
 use Rattle.saving.proofs.RestoreLaws.{saved-key}
 use Rattle.saving.proofs.ImageLaws.{length-on, records-put, end-put}
 use Rattle.saving.proofs.save.write_image.Statement.{statement}
@@ -17,8 +17,8 @@ use Rattle.saving.proofs.save.write_image.Tie as tie
 
 abbrev Inv-loop : tie.InvT-loop
 Inv-loop settings out₀ at₀ i₀ t5 out at i =
-    (i ≤ saved-count) × (length out ≡ length out₀) × (at + length (recordsFrom settings (saved-count - i) (first-setting + i)) ≤ length out)
-    × (overlay at (recordsFrom settings (saved-count - i) (first-setting + i)) out ≡ overlay 0 (imageBytes settings) out₀)
+    (i ≤ saved-count) × (length out ≡ length out₀) × (at + length (savedRecordsFrom settings (saved-count - i) (first-setting + i)) ≤ length out)
+    × (overlay at (savedRecordsFrom settings (saved-count - i) (first-setting + i)) out ≡ overlay 0 (imageBytes settings) out₀)
 
 abbrev μ-loop : tie.MeasureT-loop
 μ-loop settings out₀ at₀ i₀ t5 out at i = saved-count - i

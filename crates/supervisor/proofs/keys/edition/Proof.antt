@@ -2,7 +2,7 @@
 -- Assumes nothing.
 use borrow.Author.Needs.{needs}
 use borrow.Author.Tests.{lt-ltb}
-use Rattle.supervisor.specs.Calls.{editionReport, editionAt, editionResult}
+use Rattle.supervisor.specs.Calls.{editionReport, editionReportAt, editionPromise}
 use Rattle.supervisor.proofs.ValidLaws.{passed}
 use Rattle.supervisor.proofs.Cases.{refused}
 use Rattle.supervisor.proofs.KeyLaws.{edition-found}
@@ -10,17 +10,17 @@ use Rattle.supervisor.proofs.keys.edition.Statement.{statement}
 use Rattle.supervisor.proofs.keys.edition.Tie as tie
 
 returns : tie.Need-returns
-unfolding editionReport editionResult
+unfolding editionReport editionPromise
 returns c = rw (refused _ _ (c .before .stores-are-valid .ensures) (c .if1 .taken))
 
 returns-2 : tie.Need-returns-2
-unfolding editionReport editionResult
+unfolding editionReport editionPromise
 returns-2 c =
     let at-stores-are-valid = c .before .before in
     rw (passed _ _ (at-stores-are-valid .stores-are-valid .ensures) (c .before .if1 .left), lt-ltb _ _ (c .if2 .taken))
 
 returns-3 : tie.Need-returns-3
-unfolding editionReport editionAt
+unfolding editionReport editionReportAt
 returns-3 c =
     let found = c .before .before .before in
     let else1 = found .before .before in
@@ -29,7 +29,7 @@ returns-3 c =
     rw (edition-found _ _ _ _ v (found .before .if2 .left) (found .find .ensures), c .enum-told .given .1)
 
 returns-4 : tie.Need-returns-4
-unfolding editionReport editionAt
+unfolding editionReport editionReportAt
 returns-4 c =
     let at-setting-offset = c .before .before .before in
     let found = at-setting-offset .before in
@@ -44,7 +44,7 @@ returns-4 c =
     )
 
 returns-5 : tie.Need-returns-5
-unfolding editionReport editionAt
+unfolding editionReport editionReportAt
 returns-5 c =
     let found = c .before .before .before in
     let else1 = found .before .before in
@@ -53,7 +53,7 @@ returns-5 c =
     rw (edition-found _ _ _ _ v (found .before .if2 .left) (found .find .ensures), c .enum-told3 .given .1)
 
 returns-6 : tie.Need-returns-6
-unfolding editionReport editionAt
+unfolding editionReport editionReportAt
 returns-6 c =
     let found = c .before .before .before in
     let else1 = found .before .before in

@@ -2,7 +2,7 @@
 -- Assumes nothing.
 use borrow.Author.Needs.{needs}
 use borrow.Author.Tests.{lt-ltb}
-use Rattle.supervisor.specs.Calls.{lookupReport, resultAt, lookupResult}
+use Rattle.supervisor.specs.Calls.{lookupReport, resultAt, lookupResultPromise}
 use Rattle.supervisor.proofs.ValidLaws.{passed}
 use Rattle.supervisor.proofs.Cases.{refused}
 use Rattle.supervisor.proofs.KeyLaws.{result-found}
@@ -17,11 +17,11 @@ abbrev stores-are-valid-of : tie.After-find → tie.After-stores-are-valid
 stores-are-valid-of c = c .before .before .before
 
 returns : tie.Need-returns
-unfolding lookupReport lookupResult
+unfolding lookupReport lookupResultPromise
 returns c = rw (refused _ _ (c .before .stores-are-valid .ensures) (c .if1 .taken))
 
 returns-2 : tie.Need-returns-2
-unfolding lookupReport lookupResult
+unfolding lookupReport lookupResultPromise
 returns-2 c =
     let at-stores-are-valid = c .before .before in
     rw (passed _ _ (at-stores-are-valid .stores-are-valid .ensures) (c .before .if1 .left), lt-ltb _ _ (c .if2 .taken))

@@ -1,18 +1,18 @@
 -- `supervisor::registers::flags` meets its contract.
 -- Assumes nothing.
 use borrow.Author.Needs.{needs}
-use Rattle.supervisor.specs.Calls.{flagsReport, flagsOf}
+use Rattle.supervisor.specs.Calls.{flagsReport, flagsPromise}
 use Rattle.supervisor.proofs.ValidLaws.{passed}
 use Rattle.supervisor.proofs.Cases.{refused}
 use Rattle.supervisor.proofs.registers.flags.Statement.{statement}
 use Rattle.supervisor.proofs.registers.flags.Tie as tie
 
 returns : tie.Need-returns
-unfolding flagsReport flagsOf
+unfolding flagsReport flagsPromise
 returns c = rw (refused _ _ (c .before .registers-are-valid .ensures) (c .if1 .taken))
 
 returns-2 : tie.Need-returns-2
-unfolding flagsReport flagsOf
+unfolding flagsReport flagsPromise
 returns-2 c =
     let else1 = c .before .before in
     let at-registers-are-valid = else1 .before in

@@ -3,7 +3,7 @@
 use mathlib.Core.Path.{sym, ap, _∙_}
 use borrow.Author.Needs.{needs}
 use borrow.Author.Tests.{ne-eqb}
-use Rattle.supervisor.specs.Calls.{is, recordReport, recordAt, recordOf}
+use Rattle.supervisor.specs.Calls.{is, recordReport, recordAt, recordPromise}
 use Rattle.supervisor.proofs.ValidLaws.{passed}
 use Rattle.supervisor.proofs.Cases.{refused}
 use Rattle.supervisor.proofs.ReadingLaws.{record-found}
@@ -15,11 +15,11 @@ abbrev at-registers-are-valid : tie.After-record-offset → tie.After-registers-
 at-registers-are-valid c = c .before .before
 
 returns : tie.Need-returns
-unfolding recordReport recordOf
+unfolding recordReport recordPromise
 returns c = rw (refused _ _ (c .before .registers-are-valid .ensures) (c .if1 .taken))
 
 returns-2 : tie.Need-returns-2
-unfolding recordReport recordAt recordOf
+unfolding recordReport recordAt recordPromise
 returns-2 c =
     let at = c .before .before in
     rw (
@@ -30,7 +30,7 @@ returns-2 c =
     )
 
 returns-3 : tie.Need-returns-3
-unfolding recordReport recordOf
+unfolding recordReport recordPromise
 returns-3 c =
     let at-word-at = c .before .before in
     let held = at-word-at .before in

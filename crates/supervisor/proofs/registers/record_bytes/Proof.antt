@@ -4,7 +4,7 @@ use native.Mathlib.Nat.{add-sub-cancel-left}
 use native.Mathlib.Omega.{arith}
 use borrow.Author.Needs.{needs}
 use borrow.Author.Tests.{eq-eqb, ne-eqb}
-use Rattle.supervisor.specs.Calls.{recordBytes}
+use Rattle.supervisor.specs.Calls.{recordBytesPromise}
 use Rattle.supervisor.proofs.Cases.{refused}
 use Rattle.supervisor.proofs.ValidLaws.{passed, registers-valid}
 use Rattle.supervisor.proofs.registers.record_bytes.Statement.{statement}
@@ -15,13 +15,13 @@ abbrev registers-are-valid-of : tie.After-record-offset → tie.After-registers-
 registers-are-valid-of c = c .before .before
 
 returns : tie.Need-returns
-unfolding recordBytes
+unfolding recordBytesPromise
 returns c =
     let at-registers-are-valid = c .before .before in
     rw (refused _ _ (at-registers-are-valid .registers-are-valid .ensures) (c .before .if1 .taken))
 
 returns-2 : tie.Need-returns-2
-unfolding recordBytes
+unfolding recordBytesPromise
 returns-2 c =
     let at-byte-at = c .before .before in
     let at = at-byte-at .before in
@@ -38,7 +38,7 @@ part-result-end-3 c =
     omega (arith, registers-valid _ (passed _ _ (registers-are-valid-of at .registers-are-valid .ensures) (at .before .if1 .left)) .long)
 
 returns-3 : tie.Need-returns-3
-unfolding recordBytes
+unfolding recordBytesPromise
 returns-3 c =
     let else2 = c .before .before in
     let at-byte-at = else2 .before in

@@ -2,18 +2,18 @@
 -- Assumes nothing.
 use borrow.Author.Needs.{needs}
 use borrow.Author.Tests.{eq-eqb, ne-eqb}
-use Rattle.supervisor.specs.Calls.{signalReport, signalOf}
+use Rattle.supervisor.specs.Calls.{signalReport, signalPromise}
 use Rattle.supervisor.proofs.ValidLaws.{passed}
 use Rattle.supervisor.proofs.Cases.{refused}
 use Rattle.supervisor.proofs.registers.signal.Statement.{statement}
 use Rattle.supervisor.proofs.registers.signal.Tie as tie
 
 returns : tie.Need-returns
-unfolding signalReport signalOf
+unfolding signalReport signalPromise
 returns c = rw (refused _ _ (c .before .registers-are-valid .ensures) (c .if1 .taken))
 
 returns-2 : tie.Need-returns-2
-unfolding signalReport signalOf
+unfolding signalReport signalPromise
 returns-2 c =
     let else1 = c .before .before in
     let at-registers-are-valid = else1 .before in
@@ -24,7 +24,7 @@ returns-2 c =
     )
 
 returns-3 : tie.Need-returns-3
-unfolding signalReport signalOf
+unfolding signalReport signalPromise
 returns-3 c =
     let else1 = c .before .before in
     let at-registers-are-valid = else1 .before in

@@ -1,0 +1,305 @@
+-- Laws of an iteration: the reader's state stays valid, what a frame comes to by its verdict, and what is left of a piece.
+-- Assumes nothing.
+use mathlib.Core.Path.{_≡_, refl, ap, _∙_}
+use mathlib.Core.Bool.{Bool, true, false, cond, and-eq-true-iff}
+use mathlib.Core.List.{List, [], _∷_}
+use mathlib.Core.Option.{Option, none, some}
+use Prim.Native.Nat.{ℕ, zero, suc, _+_, _-_, _^_, _≤_, _<_, zero-le}
+use native.Mathlib.Omega.{arith}
+use lib.Dec.{ltb, eqb}
+use lib.ListN.{length, take, drop, length-drop, length-take, drop-of-length-le}
+use lib.Seq.{take-all, drop-drop}
+use borrow.Author.Tests.{ltb-false, ne-eqb, eqb-true, le-leb, lt-leb}
+use Rattle.octets.specs.Bytes.{bytes, run, numberAt}
+use Rattle.octets.proofs.Conditions.{cond-by}
+use Rattle.octets.proofs.Numbers.{length-bytes}
+use Rattle.line.specs.Limits.{longest-data}
+use Rattle.line.specs.Numbers.{first-version, second-version}
+use Rattle.line.specs.Reader as LineReader
+use Rattle.line.proofs.State.{Ready, valid-ready, ready-valid, ready-pushed}
+use Rattle.line.proofs.Held.{finish-leaves}
+use Rattle.supervisor.specs.Valid.{validFactory}
+use Rattle.supervisor.specs.Calls.{Parts, parts}
+use Rattle.responder.specs.Requests.{Verdict, failure, good, versionServed, known, lengthAllowed, tested}
+use Rattle.responder.specs.Commands.{Command, commandOfNumber}
+use Rattle.responder.specs.Receive
+use Rattle.responder.specs.declared.receive.Received.the-variants as received
+use Rattle.responder.proofs.KeptLaws.{answering-valid, carried-valid}
+
+-- ---- valid parts
+
+pub record PartsValid (p : Parts) : Type 0 where
+  pub reader : LineReader.validReader (p .reader) ≡ true
+  pub factory : validFactory (p .factory) ≡ true
+  pub inner : Receive.validInner (Receive.innerOf p) ≡ true
+
+pub parts-valid : (p : Parts) → Receive.validParts p ≡ true → PartsValid p
+unfolding Receive.validParts
+parts-valid p e =
+    let a = and-eq-true-iff (LineReader.validReader (p .reader)) _ .0 e in
+    let b = and-eq-true-iff (validFactory (p .factory)) _ .0 (a .1) in
+    record { reader = a .0; factory = b .0; inner = b .1 }
+
+pub valid-parts : (p : Parts) → PartsValid p → Receive.validParts p ≡ true
+unfolding Receive.validParts
+valid-parts p v = rw (v .reader, v .factory) (v .inner)
+
+-- ---- the reader
+
+-- a piece is read at most to its end, at least one byte of it where it has one, and the state stays one that is read
+record Read (piece : List ℕ) (o : LineReader.ReadOutcome) : Type 0 where
+  ready : Ready (o .state)
+  most : o .used ≤ length piece
+  reads-one : 0 < length piece → 1 ≤ o .used
+
+module _ (s : List ℕ) (b : ℕ) (bs : List ℕ) where
+  read-next : LineReader.readPiece s (suc b ∷ bs) ≡ LineReader.oneByteLater (LineReader.readPiece (LineReader.pushed s (suc b)) bs)
+  unfolding LineReader.readPiece
+  read-next = rw (ne-eqb (suc b) 0 (λ e. omega arith))
+
+read-leaves : (piece s : List ℕ) → Ready s → Read piece (LineReader.readPiece s piece)
+unfolding LineReader.readPiece LineReader.oneByteLater
+read-leaves [] s r = record { ready = r; most = omega arith; reads-one = λ h. h }
+read-leaves (zero ∷ bs) s r =
+    let f = finish-leaves s (r .0) in
+    record { ready = (omega arith, omega arith); most = omega arith; reads-one = λ h. omega arith }
+read-leaves (suc b ∷ bs) s r =
+    let p = ready-pushed s (suc b) r in
+    let q = read-leaves bs (LineReader.pushed s (suc b)) (omega arith, p .1) in
+    rw (read-next s b bs) (record { ready = q .ready; most = omega (arith, q .most); reads-one = λ h. omega arith })
+
+pub read-valid : (s piece : List ℕ) → LineReader.validReader s ≡ true → LineReader.validReader (LineReader.readPiece s piece .state) ≡ true
+read-valid s piece v = ready-valid _ (read-leaves piece s (valid-ready s v) .ready)
+
+-- a call of `read` on a valid state
+pub accepted : (s piece : List ℕ) → LineReader.validReader s ≡ true → LineReader.readPromise s piece ≡ LineReader.readPiece s piece
+unfolding LineReader.readPromise
+accepted s piece v = rw v
+
+-- the data that a reader hands out fit a message
+pub data-short : (s : List ℕ) (n : ℕ) → length (LineReader.dataPromise s n) ≤ longest-data
+unfolding LineReader.dataPromise LineReader.dataRefusal LineReader.partOf
+data-short s n =
+    cond-by Short (LineReader.validReader s) (cond (ltb longest-data n) (some 9) none) (some 12)
+    (λ v. cond-by Short (ltb longest-data n) (some 9) none
+    (λ e. omega arith)
+    (λ e. let k = ltb-false longest-data n e in omega (arith, length-take n (drop LineReader.data-offset s))))
+    (λ v. omega arith)
+  where
+    Short : Option ℕ → Type 0
+    Short x = length (LineReader.partOf x (run LineReader.data-offset n s)) ≤ longest-data
+
+-- ---- a request
+
+-- what the table makes of a message, test by test
+module _ (version sequence command : ℕ) (d : List ℕ) where
+  abbrev Tested : Verdict → Type 0
+  Tested v = tested (Receive.messageBy version sequence command d) ≡ v
+
+  pub other-version : versionServed version ≡ false → Tested (failure 5 first-version (some sequence))
+  unfolding tested
+  other-version h = rw h
+
+  module _ (a : versionServed version ≡ true) where
+    pub top-bit-set : 2 ^ 63 ≤ sequence → Tested (failure 6 version (some sequence))
+    unfolding tested
+    top-bit-set h = rw (a, le-leb (2 ^ 63) sequence h)
+
+    module _ (b : sequence < 2 ^ 63) where
+      pub command-unknown : known command ≡ false → Tested (failure 3 first-version none)
+      unfolding tested
+      command-unknown h = rw (a, lt-leb (2 ^ 63) sequence b, h)
+
+      module _ (c : known command ≡ true) where
+        pub length-wrong : lengthAllowed command (length d) ≡ false → Tested (failure 7 version (some sequence))
+        unfolding tested
+        length-wrong h = rw (a, lt-leb (2 ^ 63) sequence b, c, h)
+
+        pub passed-all : lengthAllowed command (length d) ≡ true → Tested (good (Receive.messageBy version sequence command d))
+        unfolding tested
+        passed-all h = rw (a, lt-leb (2 ^ 63) sequence b, c, h)
+
+-- a version that is served is 1 or 2
+pub served-small : (version : ℕ) → versionServed version ≡ true → version ≤ 2
+served-small version e = by (eqb version first-version) refl
+  where
+    by : (t : Bool) → eqb version first-version ≡ t → version ≤ 2
+    by true f = omega (arith, eqb-true version first-version f)
+    by false f = omega (arith, eqb-true version second-version (rw f at e))
+
+-- what a frame's verdict comes to: how the frame ended, the parts that may change, and that they are valid
+abbrev pub Judged : List ℕ → List ℕ → Receive.Inner → Verdict → Receive.Ended → Receive.Inner → Type 0
+Judged image f i v g j = (g ≡ Receive.endedByVerdict v) × ((j ≡ Receive.innerBy image f i v) × (Receive.validInner j ≡ true))
+
+-- by a call of `fail`
+pub judged-failure : (image f o s r : List ℕ) (reason version : ℕ) (sequence : Option ℕ) {v : Verdict} {h : Receive.Head} {g : Receive.Ended} {o' : List ℕ}
+    → Receive.validInner (Receive.inner o s r) ≡ true → v ≡ failure reason version sequence → h ≡ Receive.failureHead version sequence
+    → (g ≡ Receive.Ended.failed reason) × (o' ≡ Receive.sentBox (Receive.replyBytes h 0x02 (bytes 1 reason)) o)
+    → Judged image f (Receive.inner o s r) v g (Receive.inner o' s r)
+unfolding Receive.innerBy Receive.replyAlone
+judged-failure image f o s r reason version sequence valid e n w =
+    let k = answering-valid (Receive.inner o s r) (Receive.failureHead version sequence) 0x02 (bytes 1 reason) valid (rw (length-bytes 1 reason) (omega arith)) in
+    rw (e, w .1, n) (w .0, (refl, k))
+
+-- by a call of `carry`
+pub judged-good : (image f : List ℕ) (i : Receive.Inner) (version sequence command : ℕ) (d : List ℕ) {v : Verdict} {j : Receive.Inner}
+    → v ≡ good (Receive.messageBy version sequence command d)
+    → (j ≡ Receive.carriedInner image f i version sequence command d) × (Receive.validInner j ≡ true)
+    → Judged image f i v Receive.Ended.request j
+unfolding Receive.innerBy
+judged-good image f i version sequence command d e w = rw e (refl, w)
+
+-- a request without a reply
+pub unanswered-by : (i : Receive.Inner) {o r : List ℕ} (registers : List ℕ) → (o ≡ Receive.sentBox [] (i .outbox)) × (r ≡ registers)
+    → Receive.inner o (i .settings) r ≡ Receive.noReply i registers
+unfolding Receive.noReply
+unanswered-by i registers f = rw (f .0, f .1)
+
+-- one that is answered alone, or acknowledged, by what the code has for its reply's head
+pub answered-by : (i : Receive.Inner) (version sequence command : ℕ) (payload : List ℕ) {h : Receive.Head} {o : List ℕ} → h ≡ Receive.replyHead version sequence
+    → o ≡ Receive.sentBox (Receive.replyBytes h command payload) (i .outbox)
+    → Receive.inner o (i .settings) (i .registers) ≡ Receive.replyAlone i (Receive.replyHead version sequence) command payload
+unfolding Receive.replyAlone
+answered-by i version sequence command payload e f = rw (f, e)
+
+-- a lookup's, by the version in that head
+pub looked-by : (i : Receive.Inner) (version sequence : ℕ) (f d : List ℕ) {h : Receive.Head} {o : List ℕ} → h ≡ Receive.replyHead version sequence
+    → o ≡ Receive.sentBox (Receive.replyBytes h 0x0a (Receive.valueBytes (h .version) f (i .settings) d)) (i .outbox)
+    → Receive.inner o (i .settings) (i .registers) ≡ Receive.replyAlone i (Receive.replyHead version sequence) 0x0a (Receive.valueBytes version f (i .settings) d)
+unfolding Receive.replyAlone
+looked-by i version sequence f d e g = rw (g, e)
+
+pub acknowledged-by : (i : Receive.Inner) (version sequence : ℕ) (registers : List ℕ) {h : Receive.Head} {o r : List ℕ} → h ≡ Receive.replyHead version sequence
+    → (o ≡ Receive.sentBox (Receive.replyBytes h 0x01 []) (i .outbox)) × (r ≡ registers)
+    → Receive.inner o (i .settings) r ≡ Receive.acknowledged i (Receive.replyHead version sequence) registers
+unfolding Receive.acknowledged
+acknowledged-by i version sequence registers e f = rw (f .0, f .1, e)
+
+-- what its command leaves is what a valid request does, and valid; n is the first byte of its data
+pub carried-both : (image f : List ℕ) (i : Receive.Inner) (version sequence command : ℕ) (d : List ℕ) {n : ℕ} {j : Receive.Inner}
+    → versionServed version ≡ true → validFactory f ≡ true → Receive.validInner i ≡ true → length d ≤ longest-data → (n ≡ numberAt 1 d 0) × (n < 256)
+    → (o : Option Command) → commandOfNumber command ≡ o → j ≡ Receive.commandLeavesWhere o image f i version sequence d
+    → (j ≡ Receive.carriedInner image f i version sequence command d) × (Receive.validInner j ≡ true)
+unfolding Receive.carriedInner
+carried-both image f i version sequence command d t v w h b o c e =
+    let k = carried-valid image f i version sequence d (served-small version t) v w h (rw (b .0) at (b .1)) command in
+    rw (c, e) (refl, rw c at k)
+
+-- ---- an answer of the reader
+
+-- what comes of an answer: the same, and nothing where no frame ended that is not empty
+abbrev pub Settled : List ℕ → List ℕ → Receive.Inner → List ℕ → LineReader.ReadReport → Receive.Ended → Receive.Inner → Type 0
+Settled image f i reader a g j =
+    (g ≡ Receive.endedByReader reader a) × ((j ≡ Receive.innerAfter image f i (Receive.verdictOf reader a)) × (Receive.validInner j ≡ true))
+
+-- by a call of `fail`
+pub settled-failure : (image f o s r reader : List ℕ) (reason : ℕ) (sequence : Option ℕ) {a : LineReader.ReadReport} {h : Receive.Head} {g : Receive.Ended} {o' : List ℕ}
+    → Receive.validInner (Receive.inner o s r) ≡ true → a ≡ LineReader.failed reason sequence → h ≡ Receive.failureHead first-version sequence
+    → (g ≡ Receive.Ended.failed reason) × (o' ≡ Receive.sentBox (Receive.replyBytes h 0x02 (bytes 1 reason)) o)
+    → Settled image f (Receive.inner o s r) reader a g (Receive.inner o' s r)
+unfolding Receive.endedByReader Receive.innerAfter Receive.verdictOf
+settled-failure image f o s r reader reason sequence v e n w = rw e (judged-failure image f o s r reason first-version sequence v refl n w)
+
+-- by a call of `request`
+pub settled-message : (image f : List ℕ) (i : Receive.Inner) (reader : List ℕ) (version sequence command n : ℕ)
+    {a : LineReader.ReadReport} {g : Receive.Ended} {j : Receive.Inner} {d : List ℕ} → a ≡ LineReader.message version sequence command n → d ≡ LineReader.dataPromise reader n
+    → Judged image f i (tested (Receive.messageBy version sequence command d)) g j → Settled image f i reader a g j
+unfolding Receive.endedByReader Receive.innerAfter Receive.verdictOf
+settled-message image f i reader version sequence command n e h w = rw e (rw h at w)
+
+-- ---- an iteration
+
+-- what is left of a piece is fed to the parts that an iteration leaves
+pub iteration-rest : (image piece : List ℕ) (p : Parts)
+    → let o = LineReader.readPiece (p .reader) piece in
+    Receive.feedBytes image p piece ≡ Receive.feedBytes image (Receive.afterAnswer image p (o .state) (o .answer)) (drop (o .used) piece)
+unfolding LineReader.readPiece LineReader.oneByteLater Receive.feedBytes Receive.feedByte Receive.afterAnswer Receive.innerAfter Receive.verdictOf
+iteration-rest image [] p = refl
+iteration-rest image (zero ∷ bs) p = refl
+iteration-rest image (suc b ∷ bs) p =
+    rw (read-next (p .reader) b bs, ne-eqb (suc b) 0 (λ e. omega arith))
+    (iteration-rest image bs (Receive.partsWith p (LineReader.pushed (p .reader) (suc b)) (Receive.innerOf p)))
+
+module _ (image piece : List ℕ) (p : Parts) (v : Receive.validParts p ≡ true) where
+  abbrev read : LineReader.ReadOutcome
+  read = LineReader.readPiece (p .reader) piece
+
+  -- by what the reader answered and left, and what came of it
+  pub valid-step-by : {n : ℕ} {a : LineReader.ReadReport} {g : Receive.Ended} {reader o s t : List ℕ}
+      → record { used = n; answer = a; state = reader } ≡ LineReader.readPromise (p .reader) piece
+      → Settled image (p .factory) (Receive.innerOf p) reader a g (Receive.inner o s t)
+      → (record { used = n; ended = g; parts = parts reader o (p .factory) s t } ≡ Receive.validStep image p piece)
+      × (Receive.validParts (parts reader o (p .factory) s t) ≡ true)
+  unfolding Receive.validStep Receive.afterAnswer
+  valid-step-by {n} {a} {g} {reader} {o} {s} {t} e w =
+      let h = parts-valid p v in
+      let q = e ∙ accepted (p .reader) piece (h .reader) in
+      let st : reader ≡ read .state = ap (λ (y : LineReader.ReadOutcome). y .state) q in
+      let an : a ≡ read .answer = ap (λ (y : LineReader.ReadOutcome). y .answer) q in
+      let us : n ≡ read .used = ap (λ (y : LineReader.ReadOutcome). y .used) q in
+      let k : LineReader.validReader reader ≡ true = rw st (read-valid (p .reader) piece (h .reader)) in
+      (rw (← us, ← st, ← an, w .0, ← w .1 .0), valid-parts (parts reader o (p .factory) s t) (record { reader = k; factory = h .factory; inner = w .1 .1 }))
+
+-- ---- the loop over a piece
+
+-- the parts as they are at an offset of the piece are valid, and what is left of it is fed to them; each part has the length that it came with
+pub record Held (image piece : List ℕ) (p₀ p : Parts) (at : ℕ) : Type 0 where
+  pub within : at ≤ length piece
+  pub valid : Receive.validParts p ≡ true
+  pub same : Receive.receivePromise image p₀ piece ≡ record { refusal = none; parts = Receive.feedBytes image p (drop at piece) }
+  pub reader-kept : length (p .reader) ≡ length (p₀ .reader)
+  pub outbox-kept : length (p .outbox) ≡ length (p₀ .outbox)
+  pub settings-kept : length (p .settings) ≡ length (p₀ .settings)
+  pub registers-kept : length (p .registers) ≡ length (p₀ .registers)
+
+pub begun : (image piece : List ℕ) (p : Parts) → Receive.validParts p ≡ true → Held image piece p p 0
+unfolding Receive.receivePromise
+begun image piece p v = record {
+  within = zero-le;
+  valid = v;
+  same = rw v;
+  reader-kept = refl;
+  outbox-kept = refl;
+  settings-kept = refl;
+  registers-kept = refl;
+}
+
+pub over : {image piece : List ℕ} {p₀ p : Parts} {at : ℕ} → Held image piece p₀ p at → length piece ≤ at
+    → Receive.receiveOutcome received.Done p ≡ Receive.receivePromise image p₀ piece
+unfolding Receive.receiveReport Receive.feedBytes
+over {piece = piece} h l = rw (h .same, drop-of-length-le piece l)
+
+-- an iteration at an offset of the piece
+module _ {image piece : List ℕ} {p₀ p p' : Parts} {at : ℕ} {n : ℕ} {g : Receive.Ended} (h : Held image piece p₀ p at) (l : at < length piece)
+    (e : record { used = n; ended = g; parts = p' } ≡ Receive.validStep image p (take (length piece - at) (drop at piece))) where
+  abbrev left : List ℕ
+  left = drop at piece
+
+  by-left : record { used = n; ended = g; parts = p' } ≡ Receive.validStep image p left
+  by-left = let k : length left ≤ length piece - at = rw length-drop (omega arith) in rw (take-all _ _ k) at e
+
+  pub valid-step-used : (1 ≤ n) × (at + n ≤ length piece)
+  unfolding Receive.validStep
+  valid-step-used =
+      let w = read-leaves left (p .reader) (valid-ready (p .reader) (parts-valid p (h .valid) .reader)) in
+      let u : n ≡ LineReader.readPiece (p .reader) left .used = ap (λ (d : Receive.StepOutcome). d .used) by-left in
+      let k : length left ≡ length piece - at = length-drop at piece in
+      let m = w .most in
+      let o = w .reads-one (omega arith) in
+      (omega arith, omega arith)
+
+  pub went : Receive.validParts p' ≡ true → length (p' .reader) ≡ length (p .reader) → length (p' .outbox) ≡ length (p .outbox)
+      → length (p' .settings) ≡ length (p .settings) → length (p' .registers) ≡ length (p .registers) → Held image piece p₀ p' (at + n)
+  unfolding Receive.validStep
+  went v a b c d =
+      let u : n ≡ LineReader.readPiece (p .reader) left .used = ap (λ (x : Receive.StepOutcome). x .used) by-left in
+      let q = ap (λ (x : Receive.StepOutcome). x .parts) by-left in
+      record {
+        within = valid-step-used .1;
+        valid = v;
+        same = h .same ∙ rw (iteration-rest image left p, ← u, ← q, drop-drop);
+        reader-kept = a ∙ h .reader-kept;
+        outbox-kept = b ∙ h .outbox-kept;
+        settings-kept = c ∙ h .settings-kept;
+        registers-kept = d ∙ h .registers-kept;
+      }
