@@ -1,14 +1,25 @@
 #!/usr/bin/env python3
-"""Holds the form of the sources to its limits: no line of crates/*/{src,specs,proofs} and of include/ is wider than 140 columns.
+"""Holds the form of the sources to its limits:
+- no line of crates/*/{src,specs,proofs} and of include/ is wider than 140 columns;
+- no public name of specs/ is defined in two modules;
+- three positions in a row of a walk (`.before .before .before`) stand only where a name is given to the place that they lead to.
 Prints each fault with its place, then how many files were read and how many faults of each kind they have; any fault fails the check.
-Assumes the layout of crates.txt. A column is a character, whatever its width on a screen.
+Assumes the layout of crates.txt, and files as docs/sources.py reads them. A column is a character, whatever its width on a screen.
 
-usage: tests/form.py"""
+usage: tests/form.py            prints what is wrong
+       tests/form.py planted    plants a fault of each kind, in memory alone, which must be seen"""
 import pathlib
+import re
 import sys
 
 ROOT = pathlib.Path(__file__).resolve().parent.parent
+sys.path.insert(0, str(ROOT / 'docs'))
+import sources  # noqa: E402
+
 WIDTH = 140
+RUN = re.compile(r'(?: \.before){3,}')
+# what stands ahead of a run where a name is given: a `let`, or the head of a definition
+NAMED = re.compile(r'(?:\blet \S+ = |^\S+(?: \S+)? = )[^=]*$')
 
 
 def paths():
@@ -24,18 +35,54 @@ def wide_lines(texts):
                 yield f'{path.relative_to(ROOT)}:{number}: {len(line)} columns'
 
 
+def names_twice(texts):
+    places = {}
+    for item in sources.Sources(texts).items():
+        if item.public and item.module.split('.')[1] == 'specs':
+            places.setdefault(item.name, []).append(item.place)
+    for name, found in sorted(places.items()):
+        if len(found) > 1:
+            yield f'{name} is defined in {" and ".join(found)}'
+
+
+def bare_positions(texts):
+    for path, text in texts.items():
+        for number, line in enumerate(text.split('\n'), 1):
+            run = RUN.search(line)
+            if run and not NAMED.search(line[:run.start()]):
+                yield f'{path.relative_to(ROOT)}:{number}: positions without a name'
+
+
 # Each kind of fault, in the words of the summary, and what finds those of some files, path and text.
-KINDS = {f'lines wider than {WIDTH} columns': wide_lines}
+KINDS = {f'lines wider than {WIDTH} columns': wide_lines, 'names defined twice': names_twice, 'lines with bare positions': bare_positions}
+
+
+def faults(texts):
+    return {kind: list(found(texts)) for kind, found in KINDS.items()}
+
+
+def planted(texts):
+    """A fault of each kind is seen, and no other."""
+    path = next(path for path in texts if path.match('crates/line/specs/Frame.antt'))
+    plants = dict(zip(KINDS, (f'-- {"wide " * 28}', 'abbrev pub lookup : ℕ\nlookup = 0', 'pub law : ℕ\nlaw c d = f (c .before .before .before .pre)')))
+    missed = [kind for kind, text in plants.items()
+              if [other for other, found in faults({**texts, path: texts[path] + f'\n{text}\n'}).items() if found] != [kind]]
+    for kind in missed:
+        print(f'form: not seen alone: {kind}')
+    print(f'form: {len(plants) - len(missed)} of {len(plants)} planted faults seen')
+    return 1 if missed else 0
 
 
 def main():
+    texts = {path: path.read_text() for path in paths()}
+    if sys.argv[1:] == ['planted']:
+        sys.exit(planted(texts))
     if sys.argv[1:]:
         sys.exit(__doc__)
-    texts = {path: path.read_text() for path in paths()}
-    found = {kind: list(faults(texts)) for kind, faults in KINDS.items()}
-    for faults in found.values():
-        print(''.join(f'{fault}\n' for fault in faults), end='')
-    print(f'form: {len(texts)} files, ' + ', '.join(f'{len(faults)} {kind}' for kind, faults in found.items()))
+    found = faults(texts)
+    for each in found.values():
+        print(''.join(f'{fault}\n' for fault in each), end='')
+    print(f'form: {len(texts)} files, ' + ', '.join(f'{len(each)} {kind}' for kind, each in found.items()))
     sys.exit(1 if any(found.values()) or not texts else 0)
 
 

@@ -9,7 +9,8 @@ use native.Mathlib.Omega.{arith}
 use borrow.Author.Tests.{ltb-true, ltb-false, lt-ltb, le-ltb, eq-eqb, ne-eqb}
 use lib.Dec.{ltb}
 use lib.ListN.{length, getD, replicate, set}
-use Rattle.addresses.specs.Addresses.{addressNumber, addressBytes, highest-address, address, passes, zero-row, row, row-numbers, addressRows}
+use Rattle.addresses.specs.Addresses.{addressNumber, addressBytes, highest-address, address, passes, zero-row, row, row-numbers}
+use Rattle.addresses.specs.Addresses.{addressRows}
 use Rattle.addresses.proofs.Carry.{next-sum}
 use Rattle.addresses.proofs.Number.{bytes-address, address-bytes}
 use Rattle.addresses.specs.Item9.{RowNumber, RowNext}
@@ -29,7 +30,8 @@ module _ (base : List ℕ) (count stride : ℕ) where
 
 -- ---- addresses
 
-pub address-first : (base : List ℕ) (stride : ℕ) → length base ≡ 6 → ((i : ℕ) → getD base i 0 < 256) → base ≡ addressBytes (address base stride 0)
+pub address-first : (base : List ℕ) (stride : ℕ) → length base ≡ 6 → ((i : ℕ) → getD base i 0 < 256)
+    → base ≡ addressBytes (address base stride 0)
 unfolding address
 address-first base stride e h =
     let z : addressNumber base + 0 * stride ≡ addressNumber base = omega arith in
@@ -99,7 +101,8 @@ module _ (base : List ℕ) (stride : ℕ) where
   -- of a longer plan the eight rows are all counted
   rows-min : (count : ℕ) → first-rows base stride (min count 8) ≡ first-rows base stride count
   rows-min count =
-      from-same (row base (min count 8) stride) (row base count stride) 8 0 (λ j b. same-row (min count 8) count j (λ l. omega arith) (λ l. omega arith))
+      from-same (row base (min count 8) stride) (row base count stride) 8 0
+      (λ j b. same-row (min count 8) count j (λ l. omega arith) (λ l. omega arith))
 
   pub rows-fitting : (count : ℕ) → passes base count stride ≡ false → first-rows base stride (min count 8) ≡ addressRows base count stride
   unfolding addressRows

@@ -12,7 +12,8 @@ use Rattle.addresses.specs.Addresses.{addressNumber, addressBytes, addre
 use Rattle.addresses.specs.Addresses.{addressRows, planRefusal, withCarry, nextRow}
 
 abbrev pub RowNumber : List ℕ → ℕ → Type 0
-RowNumber base stride = (count i : ℕ) → passes base count stride ≡ false → i < count → addressNumber (row base count stride i) ≡ address base stride i
+RowNumber base stride = (count i : ℕ) → passes base count stride ≡ false → i < count
+    → addressNumber (row base count stride i) ≡ address base stride i
 
 abbrev pub RowNext : List ℕ → ℕ → Type 0
 RowNext base stride = (count i : ℕ) → i + 1 < count → row base count stride (i + 1) ≡ nextRow (row base count stride i) stride

@@ -22,7 +22,8 @@ fewest-next n j h l =
     let o : 1 ≤ 10 ^ j = one-le-pow j 10 (omega arith) in
     (rw pow-suc (omega arith), omega arith, omega arith)
 
-fewest-digits : (most n k : ℕ) → n < most → 1 ≤ k → n < 10 ^ k → ((j : ℕ) → k ≡ suc (suc j) → 10 ^ suc j ≤ n) → digits 10 k n ≡ digitsWithin most n
+fewest-digits : (most n k : ℕ) → n < most → 1 ≤ k → n < 10 ^ k → ((j : ℕ) → k ≡ suc (suc j) → 10 ^ suc j ≤ n)
+    → digits 10 k n ≡ digitsWithin most n
 unfolding digitsWithin
 fewest-digits zero n k a h l m = absurd (omega arith)
 fewest-digits (suc most) n zero a h l m = absurd (omega arith)
@@ -43,7 +44,8 @@ fewest-digits (suc most) n (suc (suc j)) a h l m =
 
 pub decimal-digits : (n k : ℕ) → Fewest 10 1 n k → digits 10 k n ≡ decimal n
 unfolding decimal
-decimal-digits n k f = fewest-digits (suc n) n k (omega arith) (f .0) (f .1) (λ j e. let g : k - 1 ≡ suc j = omega arith in rw g at (f .2 (omega arith)))
+decimal-digits n k f =
+    fewest-digits (suc n) n k (omega arith) (f .0) (f .1) (λ j e. let g : k - 1 ≡ suc j = omega arith in rw g at (f .2 (omega arith)))
 
 -- ---- how many
 

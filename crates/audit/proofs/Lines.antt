@@ -36,7 +36,8 @@ wrote-within {t = t} {r = r} o = omega (arith, o .ends, ap length (o .holds), le
 
 overlay-front : (s xs : List ℕ) (k : ℕ) → k ≤ length s → take (k + length xs) (overlay k xs s) ≡ take k s ++ xs
 unfolding overlay
-overlay-front s xs k h = take-at (take k s ++ xs) (drop (k + length xs) s) (k + length xs) (length-append (take k s) xs ∙ rw (length-take-le k s h))
+overlay-front s xs k h =
+    take-at (take k s ++ xs) (drop (k + length xs) s) (k + length xs) (length-append (take k s) xs ∙ rw (length-take-le k s h))
 
 pub wrote-copy : (s xs t : List ℕ) (k : ℕ) → k + length xs ≤ length s → t ≡ copied xs 0 (length xs) s k → Wrote s k xs t (k + length xs)
 wrote-copy s xs t k h e =
@@ -83,8 +84,8 @@ unfolding listing
 middle-start w s = record { done = []; wrote = wrote-none s 0; whole = refl; short = omega arith }
 
 module _ (w s t : List ℕ) (at k n : ℕ) (mid : Middle w s t at k) where
-  pub middle-next : Frame n ≡ pieceAt w at → (u : List ℕ) (r : ℕ) → Wrote t k (lines (listedFrame at (run at n w))) u r → r ≤ k + 5 * (n + 1)
-      → Middle w s u (at + (n + 1)) r
+  pub middle-next : Frame n ≡ pieceAt w at → (u : List ℕ) (r : ℕ) → Wrote t k (lines (listedFrame at (run at n w))) u r
+      → r ≤ k + 5 * (n + 1) → Middle w s u (at + (n + 1)) r
   middle-next e u r o l =
       let f = at-frame w at e in
       let es = listedFrame at (run at n w) in
@@ -92,7 +93,9 @@ module _ (w s t : List ℕ) (at k n : ℕ) (mid : Middle w s t at k) where
       record {
         done = mid .done ++ lines es;
         wrote = wrote-then (mid .wrote) o;
-        whole = mid .whole ∙ rw (f .step, text-added es (listedFrom w (at + n + 1)), add-assoc at n 1) (sym (append-assoc (mid .done) (lines es) _));
+        whole =
+            mid .whole
+            ∙ rw (f .step, text-added es (listedFrom w (at + n + 1)), add-assoc at n 1) (sym (append-assoc (mid .done) (lines es) _));
         short = omega arith;
       }
 

@@ -1,4 +1,5 @@
--- An answer to an alert request: which alert it holds, where no alert reply from before the main processor's end was started was still retained.
+-- An answer to an alert request:
+-- which alert it holds, where no alert reply from before the main processor's end was started was still retained.
 -- Assumes nothing.
 use mathlib.Core.Path.{_≡_, refl, sym, ap, _∙_}
 use mathlib.Core.Bool.{Bool, true, false, _||_, or-true, false≢true}
@@ -28,14 +29,17 @@ use Rattle.supervisor_claims.proofs.claims.AlertClaim.{local-keeps}
 use Rattle.supervisor_claims.proofs.claims.FramesClaim.{made-carried, by-frames}
 use Rattle.supervisor_claims.proofs.claims.History as SupervisorHistory
 use Rattle.both_claims.specs.Ends
-use Rattle.both_claims.specs.Ends.{Any, Handled, Log, CarriedOut, Fresh, AlertTaken, AlertFresh, CallOf, retainedUnder, replyMessage, asMessage}
+use Rattle.both_claims.specs.Ends.{Any, Handled, Log, CarriedOut, Fresh, AlertTaken, AlertFresh, CallOf, retainedUnder, replyMessage}
+use Rattle.both_claims.specs.Ends.{asMessage}
 use Rattle.both_claims.specs.Ends.{MainGoesOn, AlertAgainst, endsAfterAll, handledBy, originBy, Wire}
-use Rattle.both_claims.specs.Ends.{EndCallTyped, endsAfter, BothStarts, endsBegun, Begun, mainLogged, supervisorLogged, brought, clearedBy, imageLent, restarts}
+use Rattle.both_claims.specs.Ends.{EndCallTyped, endsAfter, BothStarts, endsBegun, Begun, mainLogged, supervisorLogged, brought}
+use Rattle.both_claims.specs.Ends.{clearedBy, imageLent, restarts}
 use Rattle.both_claims.proofs.laws.Lists.{Front, none-some, any-or, each-then, each-any}
 use Rattle.both_claims.proofs.laws.Kept.{Known, Kept, not-asked-by}
 use Rattle.both_claims.proofs.laws.ThatRequest.{answered}
 use Rattle.both_claims.proofs.laws.SupervisorFrames.{made-field, made-started}
-use Rattle.both_claims.proofs.laws.RetainedSince.{alertAnswer, sends-again, takes-alert, Takes, RetainedBy, retained-later, under-is, frames-kept}
+use Rattle.both_claims.proofs.laws.RetainedSince.{alertAnswer, sends-again, takes-alert, Takes, RetainedBy, retained-later, under-is}
+use Rattle.both_claims.proofs.laws.RetainedSince.{frames-kept}
 use Rattle.both_claims.proofs.FreshAnswer.{answer-fresh}
 use Rattle.both_claims.proofs.laws.BothCalls.{Both, each-call, each-given, after-calls, begun-both, begun-else}
 use Rattle.both_claims.specs.BothEnds.{AlertAnswer, AlertSince}
@@ -81,13 +85,16 @@ module _ (x : State) (l : Log) (r : Retains x l) (m : Supervisor.Made) (waiting 
             (each-then _ _ (λ h f c. retained-later (l .handled) (brought l x m) (h .state .retained) (f c)) (l .handled) (r .each)) (k .1);
       }
     where
-      by : (t : Bool) → Received.startsAnew m ≡ t → (clearedBy (l .cleared) fs ≡ true → RetainedBy (l .handled ++ brought l x m) (Received.framesCarried (imageLent (m .call)) x fs .retained))
+      by : (t : Bool) → Received.startsAnew m ≡ t
+          → (clearedBy (l .cleared) fs ≡ true
+          → RetainedBy (l .handled ++ brought l x m) (Received.framesCarried (imageLent (m .call)) x fs .retained))
           → (t || clearedBy (l .cleared) fs) ≡ true → RetainedBy (l .handled ++ brought l x m) (left .retained)
       by true e k c = λ t f. absurd (none-some (sym (started-retained e) ∙ f))
       by false e k c = rw (left-retained e) (k c)
 
 -- a call of the main processor's end
-main-retains : (x : State) (l : Log) → Retains x l → (c : MainCall) (a : MainAnswer) (out : List ℕ) (n : ℕ) → Retains x (mainLogged l c a out n)
+main-retains : (x : State) (l : Log) → Retains x l → (c : MainCall) (a : MainAnswer) (out : List ℕ) (n : ℕ)
+    → Retains x (mainLogged l c a out n)
 unfolding mainLogged
 main-retains x l r c a out n =
     cond-by (Retains x) (restarts c a) _ _
@@ -103,8 +110,8 @@ reply-data n a r e = cc
 replied : (k : ℕ) {n : ℕ} → k ≡ n → (o : Option ReplyContent) (z : ReplyContent) → o ≡ some z → replyOf k o ≡ replyOf n (some z)
 replied k e o z f = rw (e, f)
 
-module _ (s : MainState) (l : Log) (kept : Kept s l) (x : State) (retains : Retains x l) (r : Message) (q : Request) (waiting : outstanding s ≡ some q)
-    (alert : q .command ≡ 0x0a) where
+module _ (s : MainState) (l : Log) (kept : Kept s l) (x : State) (retains : Retains x l) (r : Message) (q : Request)
+    (waiting : outstanding s ≡ some q) (alert : q .command ≡ 0x0a) where
   abbrev n : ℕ
   n = s .newest
 
@@ -137,7 +144,8 @@ module _ (s : MainState) (l : Log) (kept : Kept s l) (x : State) (retains : Reta
     again k e =
         let u = under-is n (h .state .retained) e in
         let a = sends-again (h .image) (h .state) (asMessage n q) alert (u .0) (u .1) (u .2) .1 in
-        each-any (Known s) (Takes (u .0)) (AlertTaken n q r) (took (u .0) (u .2) (rw a at (c .reply))) (l .handled) (kept .handled) (k (u .0) (u .1))
+        each-any (Known s) (Takes (u .0)) (AlertTaken n q r) (took (u .0) (u .2) (rw a at (c .reply))) (l .handled) (kept .handled)
+        (k (u .0) (u .1))
 
     from : RetainedBy (l .handled) (h .state .retained) → AlertTaken n q r h ⊎ Any (AlertTaken n q r) (l .handled)
     from k = by (retainedUnder n (h .state .retained)) refl
@@ -149,7 +157,8 @@ module _ (s : MainState) (l : Log) (kept : Kept s l) (x : State) (retains : Reta
   alert-taken : Any (λ (h : Handled). CarriedOut n q r h × (h .cleared ≡ true)) (l .handled) → Any (AlertTaken n q r) (l .handled)
   alert-taken a =
       either (any-or (AlertTaken n q r) (l .handled)
-      (each-any (λ (h : Handled). h .cleared ≡ true → RetainedBy (l .handled) (h .state .retained)) _ _ (λ h k c. from h (c .0) (k (c .1))) (l .handled) (retains .each) a))
+      (each-any (λ (h : Handled). h .cleared ≡ true → RetainedBy (l .handled) (h .state .retained)) _ _ (λ h k c. from h (c .0) (k (c .1)))
+      (l .handled) (retains .each) a))
     where
       either : {A : Type 0} → A ⊎ A → A
       either (inl a) = a
@@ -167,17 +176,21 @@ call-retains e s r (Ends.supervisor m) typed =
     let k = SupervisorHistory.one-call (e .supervisor) m s typed .leaves .0 in
     rw k (supervisor-retains (view (e .supervisor)) (e .log) r m _)
 
-call-alert : (e : Ends.Ends) → Both e → RetainsIn e → (t : Ends.EndCall) → EndCallTyped t → Wire (endsAfter e t .log) → CallOf AlertFresh e t × RetainsIn (endsAfter e t)
+call-alert : (e : Ends.Ends) → Both e → RetainsIn e → (t : Ends.EndCall) → EndCallTyped t → Wire (endsAfter e t .log)
+    → CallOf AlertFresh e t × RetainsIn (endsAfter e t)
 call-alert e both r t typed w = (by t, call-retains e (both .supervisor) r t typed)
   where
     by : (t : Ends.EndCall) → CallOf AlertFresh e t
-    by (Ends.main m) = λ x o q waiting alert. alert-taken (mainView (e .main)) (e .log) (both .kept) (view (e .supervisor)) r x q waiting alert
+    by (Ends.main m) =
+        λ x o q waiting alert. alert-taken (mainView (e .main)) (e .log) (both .kept) (view (e .supervisor)) r x q waiting alert
     by (Ends.supervisor m) = tt
 
 together-retains : (s : BothStarts) → RetainsIn (endsBegun s)
 unfolding Received.receivedSinceAll Supervisor.leftMeant fresh
 together-retains s =
-    let k = SupervisorHistory.started (s .supervisor-parts) (s .supervisor-bytes) (s .supervisor-lent) (s .start-data) (s .start-typed) (s .supervisor-accepted) .0 in
+    let k =
+    SupervisorHistory.started (s .supervisor-parts) (s .supervisor-bytes) (s .supervisor-lent) (s .start-data) (s .start-typed)
+    (s .supervisor-accepted) .0 in
     rw k (record { since = by-frames (factoryOf (s .start-data)) [] .2; kept = λ e t f. absurd (none-some f); each = tt })
 
 begun-retains : (e : Ends.Ends) → Begun e → RetainsIn e
@@ -207,7 +220,8 @@ module _ (e₀ : Ends.Ends) where
       → Each Placed (handledBy asked image true x o earlier fs)
   unfolding handledBy
   frames-placed asked image [] x o earlier = tt
-  frames-placed asked image (f ∷ fs) x o earlier = (inl refl, frames-placed asked image fs (frameCarried image x f) (originBy o f) (earlier ++ (f ∷ [])))
+  frames-placed asked image (f ∷ fs) x o earlier =
+      (inl refl, frames-placed asked image fs (frameCarried image x f) (originBy o f) (earlier ++ (f ∷ [])))
 
   supervisor-clears : (x : State) (l : Log) (m : Supervisor.Made) (waiting : List ℕ) → Cleared l → Cleared (supervisorLogged l x m waiting)
   unfolding supervisorLogged brought
@@ -216,7 +230,8 @@ module _ (e₀ : Ends.Ends) where
     each = each-append Placed (l .handled) _ (c .each) (rw (c .now) (frames-placed (l .asked) (imageLent (m .call)) _ x _ _));
   }
 
-  main-clears : (l : Log) → Cleared l → (c : MainCall) (a : MainAnswer) (out : List ℕ) (n : ℕ) → restarts c a ≡ false → Cleared (mainLogged l c a out n)
+  main-clears : (l : Log) → Cleared l → (c : MainCall) (a : MainAnswer) (out : List ℕ) (n : ℕ) → restarts c a ≡ false
+      → Cleared (mainLogged l c a out n)
   unfolding mainLogged
   main-clears l h c a out n e = rw e (record { now = h .now; each = h .each })
 
@@ -238,7 +253,8 @@ module _ (e₀ : Ends.Ends) where
   abbrev Keeps : Ends.Ends → Type 0
   Keeps e = RetainsIn e × Cleared (e .log)
 
-  call-since : (e : Ends.Ends) → Both e → Keeps e → (t : Ends.EndCall) → EndCallTyped t → Wire (endsAfter e t .log) → MainGoesOn e t → CallOf (AlertAgainst e₀) e t × Keeps (endsAfter e t)
+  call-since : (e : Ends.Ends) → Both e → Keeps e → (t : Ends.EndCall) → EndCallTyped t → Wire (endsAfter e t .log) → MainGoesOn e t
+      → CallOf (AlertAgainst e₀) e t × Keeps (endsAfter e t)
   call-since e both k t typed w g =
       let a = call-alert e both (k .0) t typed w in
       (by t typed w (a .0), (a .1, call-clears e t g (k .1)))
@@ -251,5 +267,6 @@ pub alert-since : AlertSince
 alert-since b begins ts us t u w c g v =
     let e = endsAfterAll b ts in
     let k = after-calls RetainsIn (CallOf AlertFresh) call-alert b (begun-both b begins) (begun-retains b begins) ts t w in
-    let before : Cleared e (e .log) = record { now = c; each = each-then _ _ (λ (h : Handled) f. inr f) (e .log .handled) (k .0 .kept .before) } in
+    let before : Cleared e (e .log) =
+    record { now = c; each = each-then _ _ (λ (h : Handled) f. inr f) (e .log .handled) (k .0 .kept .before) } in
     each-given (Keeps e) MainGoesOn (CallOf (AlertAgainst e)) (call-since e) e (k .0) (k .1, before) us u v g

@@ -1,4 +1,5 @@
--- Exchanges in which nothing is lost, any number of them from two starts: the wire is as `InOrder` says at every moment, so that this hypothesis can be met;
+-- Exchanges in which nothing is lost, any number of them from two starts:
+-- the wire is as `InOrder` says at every moment, so that this hypothesis can be met;
 -- any lookups and sets make such exchanges. Assumes nothing.
 use mathlib.Core.Path.{_≡_, refl, sym, ap, _∙_}
 use mathlib.Core.Bool.{true, false}
@@ -36,15 +37,18 @@ use Rattle.supervisor_claims.specs.Histories as Supervisor
 use Rattle.supervisor_claims.proofs.calls.SendingClaim.{frame-bytes}
 use Rattle.supervisor_claims.proofs.claims.History as SupervisorHistory
 use Rattle.both_claims.specs.Ends
-use Rattle.both_claims.specs.Ends.{over, InOrderAfter, GoesOn, replyToRequest, asMessage, BothStarts, endsBegun, together, endsAfter, endsAfterAll, Always, EndCallTyped}
+use Rattle.both_claims.specs.Ends.{over, InOrderAfter, GoesOn, replyToRequest, asMessage, BothStarts, endsBegun, together, endsAfter}
+use Rattle.both_claims.specs.Ends.{endsAfterAll, Always, EndCallTyped}
 use Rattle.both_claims.proofs.RoundTrip.{allLent, lent-enough, next-number}
 use Rattle.both_claims.proofs.laws.Table.{table-passes}
 use Rattle.both_claims.proofs.laws.Held.{held-parts, reply-in-range}
 use Rattle.both_claims.proofs.laws.Ranges.{ranged-message}
 use Rattle.both_claims.proofs.laws.BothCalls.{begun-both}
-use Rattle.both_claims.specs.Exchanges.{Exchange, requestDid, exchangeCalls, Exchanges, finished, next, callHanded, allHanded, requestsExchanged, repliesOf, Clean}
+use Rattle.both_claims.specs.Exchanges.{Exchange, requestDid, exchangeCalls, Exchanges, finished, next, callHanded, allHanded}
+use Rattle.both_claims.specs.Exchanges.{requestsExchanged, repliesOf, Clean}
 use Rattle.both_claims.proofs.laws.OneExchange.{AtRest}
-use Rattle.both_claims.proofs.laws.OneExchange.{exchange-goes-on, exchange-number, exchange-typed, exchange-in-order, exchange-handed, exchange-rest}
+use Rattle.both_claims.proofs.laws.OneExchange.{exchange-goes-on, exchange-number, exchange-typed, exchange-in-order}
+use Rattle.both_claims.proofs.laws.OneExchange.{exchange-handed, exchange-rest}
 use Rattle.both_claims.specs.Exchanges.{Served, ExchangesOf}
 use Rattle.both_claims.specs.BothEnds.{CleanExchange, LookupServed, SetServed, ServedExchanges}
 
@@ -55,7 +59,9 @@ pub begun-rest : (s : BothStarts) → AtRest (endsBegun s)
 unfolding mainFresh fresh split nonEmpty gathered
 begun-rest s =
     let m = MainHistory.started (s .main-parts) (s .main-lent) (s .main-accepted) .state in
-    let v = SupervisorHistory.started (s .supervisor-parts) (s .supervisor-bytes) (s .supervisor-lent) (s .start-data) (s .start-typed) (s .supervisor-accepted) .0 in
+    let v =
+    SupervisorHistory.started (s .supervisor-parts) (s .supervisor-bytes) (s .supervisor-lent) (s .start-data) (s .start-typed)
+    (s .supervisor-accepted) .0 in
     record {
       both = begun-both (endsBegun s) (together s);
       idle = rw m;
@@ -66,7 +72,8 @@ begun-rest s =
     }
 
 -- calls behind other calls
-always-append : (C : Ends.Ends → Ends.EndCall → Type 0) (e : Ends.Ends) (ts us : List Ends.EndCall) → Always C e ts → Always C (endsAfterAll e ts) us → Always C e (ts ++ us)
+always-append : (C : Ends.Ends → Ends.EndCall → Type 0) (e : Ends.Ends) (ts us : List Ends.EndCall) → Always C e ts
+    → Always C (endsAfterAll e ts) us → Always C e (ts ++ us)
 unfolding endsAfterAll
 always-append C e [] us h k = k
 always-append C e (t ∷ ts) us h k = (h .0, always-append C (endsAfter e t) ts us (h .1) k)
@@ -74,7 +81,9 @@ always-append C e (t ∷ ts) us h k = (h .0, always-append C (endsAfter e t) ts 
 handed-append : (e : Ends.Ends) (ts us : List Ends.EndCall) → allHanded e (ts ++ us) ≡ allHanded e ts ++ allHanded (endsAfterAll e ts) us
 unfolding allHanded endsAfterAll
 handed-append e [] us = refl
-handed-append e (t ∷ ts) us = rw (handed-append (endsAfter e t) ts us) (sym (append-assoc (callHanded e t) (allHanded (endsAfter e t) ts) (allHanded (endsAfterAll (endsAfter e t) ts) us)))
+handed-append e (t ∷ ts) us =
+    rw (handed-append (endsAfter e t) ts us)
+    (sym (append-assoc (callHanded e t) (allHanded (endsAfter e t) ts) (allHanded (endsAfterAll (endsAfter e t) ts) us)))
 
 from-rest : {e : Ends.Ends} {ts : List Ends.EndCall} → AtRest e → (xs : Exchanges e ts) → Clean xs
 unfolding repliesOf allHanded
@@ -98,7 +107,11 @@ unfolding known lengthAllowed commandOfNumber withNumber commandNumber lengthRig
 lookup-served k most =
     let l : length (bytes 1 k ++ bytes 2 most) ≡ 3 = simp (length-append, length-bytes) in
     record {
-      ranged = record { command = omega arith; bytes = each-append Byte (bytes 1 k) (bytes 2 most) (bytes-each 1 k) (bytes-each 2 most); fits = omega (arith, l) };
+      ranged = record {
+        command = omega arith;
+        bytes = each-append Byte (bytes 1 k) (bytes 2 most) (bytes-each 1 k) (bytes-each 2 most);
+        fits = omega (arith, l);
+      };
       listed = refl;
       length-right = rw l;
       replied = λ image s n. (_, refl, refl);
@@ -128,8 +141,8 @@ unfolding Supervisor.enough enoughPart
 take-enough space = refl
 
 -- with none outstanding, a request goes out into a room as long as its frame
-idle-puts : (s : MainState) → s ≡ mainState (s .newest) none none false (some []) → s .newest < last-number → (q : Request) → length (q .payload) ≤ longest-data
-    → let f = requestFrame (suc (s .newest)) q in
+idle-puts : (s : MainState) → s ≡ mainState (s .newest) none none false (some []) → s .newest < last-number → (q : Request)
+    → length (q .payload) ≤ longest-data → let f = requestFrame (suc (s .newest)) q in
     mainMeantMade s (record { lent = allLent; call = Main.request (q .command) (q .payload) f }) .answer ≡ Main.put (length f)
 unfolding mainMeantMade mainEnough enoughPart mainMeant Requester.request
 idle-puts s e low q h =
@@ -150,7 +163,8 @@ module _ (e : Ends.Ends) (rest : AtRest e) (low : mainView (e .main) .newest < l
 
   puts : requestDid e q room allLent .answer ≡ Main.put (length room)
   puts =
-      MainHistory.one-call (e .main) (record { lent = allLent; call = Main.request (q .command) (q .payload) room }) (rest .both .main) .answer
+      MainHistory.one-call (e .main) (record { lent = allLent; call = Main.request (q .command) (q .payload) room })
+      (rest .both .main) .answer
       ∙ idle-puts (mainView (e .main)) (rest .idle) low q (served .ranged .fits)
 
   number : Layout.newestNumber (requestDid e q room allLent .parts .requester) ≡ n
@@ -167,7 +181,9 @@ module _ (e : Ends.Ends) (rest : AtRest e) (low : mainView (e .main) .newest < l
       let m = asMessage n q in
       let nonzero = no-zero (message m) (message-each m (served .ranged .bytes)) in
       let s = rest .both .supervisor in
-      frame-bytes (reply .0) (reply-in-range [] tt (view (e .supervisor)) (form m) nonzero (held-parts (e .supervisor) s) m passed (reply .0) (reply .1) .typed .payload)
+      frame-bytes (reply .0)
+      (reply-in-range [] tt (view (e .supervisor)) (form m) nonzero (held-parts (e .supervisor) s) m passed (reply .0)
+      (reply .1) .typed .payload)
 
   unfoldable served-exchange : Exchange e
   served-exchange = record {
@@ -198,7 +214,8 @@ module _ (e : Ends.Ends) (rest : AtRest e) (low : mainView (e .main) .newest < l
   unfolding served-exchange
   exchange-request = refl
 
-made-next : {e : Ends.Ends} (x : Exchange e) (q : Request) (qs : List Request) → x .request ≡ q → ExchangesOf (endsAfterAll e (exchangeCalls x)) qs → ExchangesOf e (q ∷ qs)
+made-next : {e : Ends.Ends} (x : Exchange e) (q : Request) (qs : List Request) → x .request ≡ q
+    → ExchangesOf (endsAfterAll e (exchangeCalls x)) qs → ExchangesOf e (q ∷ qs)
 unfolding requestsExchanged
 made-next x q qs h k = record {
   calls = exchangeCalls x ++ k .calls;
@@ -207,13 +224,15 @@ made-next x q qs h k = record {
 }
 
 -- as many as there are numbers
-served-from : (e : Ends.Ends) → AtRest e → (qs : List Request) → Each Served qs → mainView (e .main) .newest + length qs ≤ last-number → ExchangesOf e qs
+served-from : (e : Ends.Ends) → AtRest e → (qs : List Request) → Each Served qs → mainView (e .main) .newest + length qs ≤ last-number
+    → ExchangesOf e qs
 unfolding requestsExchanged
 served-from e rest [] served low = record { calls = []; exchanges = finished; requests = refl }
 served-from e rest (q ∷ qs) served low =
     let there : mainView (e .main) .newest < last-number = omega (arith, low) in
     let x = served-exchange e rest there q (served .0) in
-    let k = served-from (endsAfterAll e (exchangeCalls x)) (exchange-rest e rest x) qs (served .1) (omega (arith, low, exchange-number e rest x)) in
+    let k =
+    served-from (endsAfterAll e (exchangeCalls x)) (exchange-rest e rest x) qs (served .1) (omega (arith, low, exchange-number e rest x)) in
     made-next x q qs (exchange-request e rest there q (served .0)) k
 
 pub served-exchanges : ServedExchanges

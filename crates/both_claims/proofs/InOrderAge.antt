@@ -1,4 +1,5 @@
--- How old a list can be where the wire keeps the order of frames: no request older than those that had been read by an earlier moment sets a lookup's answer.
+-- How old a list can be where the wire keeps the order of frames:
+-- no request older than those that had been read by an earlier moment sets a lookup's answer.
 -- Assumes nothing.
 use mathlib.Core.Path.{_≡_, refl, sym, _∙_}
 use mathlib.Core.Bool.{Bool, true, false}
@@ -31,8 +32,10 @@ use Rattle.supervisor_claims.specs.FrameHistory as Received
 use Rattle.supervisor_claims.specs.LastSet.{requestAhead, requestsIn, setBy, listedIf, setsOf, successful, lastOr, setAfter, sinceMore}
 use Rattle.supervisor_claims.proofs.claims.LastSetLaws.{requests-append}
 use Rattle.both_claims.specs.Ends
-use Rattle.both_claims.specs.Ends.{Any, Handled, Log, Among, over, lost, came, InOrder, endsAfterAll, Always, EndCallTyped, endsAfter, WireAfter, mainLogged, supervisorLogged}
-use Rattle.both_claims.specs.Ends.{handledFrames, Stays, CallStays, GoesOn, InOrderAfter, NotOlder, ValueAgainst, ValueNotOlder, asMessage}
+use Rattle.both_claims.specs.Ends.{Any, Handled, Log, Among, over, lost, came, InOrder, endsAfterAll, Always, EndCallTyped, endsAfter}
+use Rattle.both_claims.specs.Ends.{WireAfter, mainLogged, supervisorLogged}
+use Rattle.both_claims.specs.Ends.{handledFrames, Stays, CallStays, GoesOn, InOrderAfter, NotOlder, ValueAgainst, ValueNotOlder}
+use Rattle.both_claims.specs.Ends.{asMessage}
 use Rattle.both_claims.proofs.FreshAnswer.{in-order-wire}
 use Rattle.both_claims.proofs.ListAge.{more-none, stays-since, KnownOf, ValueKnown, against}
 use Rattle.both_claims.proofs.laws.Lists.{any-so, any-or, any-then, each-left, each-right, each-then, each-and, each-any}
@@ -67,7 +70,8 @@ pairs-across {A} R [] ys h = all ys
     all [] = tt
     all (y ∷ ys) = (tt, all ys)
 pairs-across {A} R (x ∷ xs) ys h =
-    each-and (R x) (λ (y : A). Each (λ (z : A). R z y) xs) _ (λ y a b. (a, b)) ys (each-right (R x) xs ys (h .0)) (pairs-across R xs ys (h .1))
+    each-and (R x) (λ (y : A). Each (λ (z : A). R z y) xs) _ (λ y a b. (a, b)) ys (each-right (R x) xs ys (h .0))
+    (pairs-across R xs ys (h .1))
 
 pairs-map : {A B : Type 0} (f : A → B) (R : B → B → Type 0) (xs : List A) → Pairs (λ (x y : A). R (f x) (f y)) xs → Pairs R (map f xs)
 pairs-map f R [] h = tt
@@ -91,7 +95,8 @@ Ordered y m = (y .sequence < m .sequence) ⊎ (y ≡ m)
 abbrev FramesOrdered : List ℕ → List ℕ → Type 0
 FramesOrdered b c = (y m : Message) → InRange y → InRange m → frame y ≡ b → frame m ≡ c → Ordered y m
 
-asked-ordered : (x z : Frame) → RangedFrame x → RangedFrame z → (x .number ≤ z .number) × (z .number ≡ x .number → z .bytes ≡ x .bytes) → FramesOrdered (x .bytes) (z .bytes)
+asked-ordered : (x z : Frame) → RangedFrame x → RangedFrame z → (x .number ≤ z .number) × (z .number ≡ x .number → z .bytes ≡ x .bytes)
+    → FramesOrdered (x .bytes) (z .bytes)
 unfolding requestFrame
 asked-ordered x z p q h y m i j e f = by (ltb (x .number) (z .number)) refl
   where
@@ -125,7 +130,8 @@ pub heard-ordered : (s : MainState) (l : Log) → Kept s l → InOrder l → Pai
 heard-ordered s l kept o =
     let ranged = each-then (PutOut s) RangedFrame (λ x w. w .ranged) (l .asked) (kept .asked) in
     heard-pairs (l .heard) (kept .heard)
-    (among-pairs FramesOrdered (o .to-supervisor) (pairs-map (λ (x : Frame). x .bytes) FramesOrdered (l .asked) (asked-pairs (l .asked) ranged (kept .ordered))))
+    (among-pairs FramesOrdered (o .to-supervisor)
+    (pairs-map (λ (x : Frame). x .bytes) FramesOrdered (l .asked) (asked-pairs (l .asked) ranged (kept .ordered))))
 
 -- requests that the whole table passes are good messages
 pub requests-good : (P : Message → Type 0) (fs : List (List ℕ)) → Each P (goodMessages fs) → Each P (requestsIn fs)
@@ -165,12 +171,14 @@ module _ (e₀ : Ends.Ends) where
       rw (← z) (requests-good P (r .later) h)
 
   pub read-not-older : (s : MainState) (l : Log) → Kept s l → InOrder l → (r : ReadSince l) → Each (NotOlder e₀) (goodMessages (r .later))
-  read-not-older s l kept o r = pairs-across Ordered (e₀ .log .heard) (goodMessages (r .later)) (rw (r .heard) at (heard-ordered s l kept o))
+  read-not-older s l kept o r =
+      pairs-across Ordered (e₀ .log .heard) (goodMessages (r .later)) (rw (r .heard) at (heard-ordered s l kept o))
 
   not-older-known : (s : MainState) (l : Log) → Kept s l → InOrder l → ReadSince l → KnownOf e₀ NotOlderIn not-older-fewer l
   not-older-known s l kept o r = read-known (NotOlder e₀) l r (read-not-older s l kept o r)
 
-  supervisor-reads : (x : State) (l : Log) (m : Supervisor.Made) (waiting : List ℕ) → Stays m → ReadSince l → ReadSince (supervisorLogged l x m waiting)
+  supervisor-reads : (x : State) (l : Log) (m : Supervisor.Made) (waiting : List ℕ) → Stays m → ReadSince l
+      → ReadSince (supervisorLogged l x m waiting)
   unfolding supervisorLogged Received.receivedSince Received.framesClosedBy
   supervisor-reads x l m waiting n r =
       let w = l .received in
@@ -178,8 +186,12 @@ module _ (e₀ : Ends.Ends) where
       let new = nonEmpty (closedBehind w bs) in
       record {
         later = r .later ++ new;
-        frames = rw (n .no-start, closed-join w bs, nonEmpty-append (split w .closed) (closedBehind w bs), r .frames) (append-assoc (handledFrames e₀) (r .later) new);
-        heard = rw (r .heard, gathered-append goodOf (r .later) new) (append-assoc (e₀ .log .heard) (goodMessages (r .later)) (goodMessages new));
+        frames =
+            rw (n .no-start, closed-join w bs, nonEmpty-append (split w .closed) (closedBehind w bs), r .frames)
+            (append-assoc (handledFrames e₀) (r .later) new);
+        heard =
+            rw (r .heard, gathered-append goodOf (r .later) new)
+            (append-assoc (e₀ .log .heard) (goodMessages (r .later)) (goodMessages new));
         origin = λ k. stays-since k w (l .origin k) m n ∙ rw (r .origin k, requests-append (r .later) new, append-assoc);
       }
 
@@ -188,17 +200,20 @@ module _ (e₀ : Ends.Ends) where
   call-reads e (Ends.main m) g r = rw g (record { later = r .later; frames = r .frames; heard = r .heard; origin = r .origin })
   call-reads e (Ends.supervisor m) g r = supervisor-reads _ (e .log) m _ g r
 
-  known-calls : (e : Ends.Ends) → Both e → ReadSince (e .log) → (ts : List Ends.EndCall) → Each EndCallTyped ts → Always GoesOn e ts → Always InOrderAfter e ts
-      → Always (λ x t. KnownOf e₀ NotOlderIn not-older-fewer (endsAfter x t .log)) e ts
+  known-calls : (e : Ends.Ends) → Both e → ReadSince (e .log) → (ts : List Ends.EndCall) → Each EndCallTyped ts → Always GoesOn e ts
+      → Always InOrderAfter e ts → Always (λ x t. KnownOf e₀ NotOlderIn not-older-fewer (endsAfter x t .log)) e ts
   known-calls e both r [] typed g o = tt
   known-calls e both r (t ∷ ts) typed g o =
       let b = keeps-both e both t (typed .0) (in-order-wire (endsAfter e t .log) (o .0)) in
-      let k = call-reads e t (g .0) r in
-      (not-older-known (mainView (endsAfter e t .main)) (endsAfter e t .log) (b .kept) (o .0) k, known-calls (endsAfter e t) b k ts (typed .1) (g .1) (o .1))
+      let k = call-reads e t (g .0) r in (
+        not-older-known (mainView (endsAfter e t .main)) (endsAfter e t .log) (b .kept) (o .0) k,
+        known-calls (endsAfter e t) b k ts (typed .1) (g .1) (o .1),
+      )
 
 -- ---- the value
 
-last-from : (before : Option (List ℕ)) (vs : List (List ℕ)) → (lastOr before vs ≡ before) ⊎ Any (λ (v : List ℕ). some v ≡ lastOr before vs) vs
+last-from : (before : Option (List ℕ)) (vs : List (List ℕ))
+    → (lastOr before vs ≡ before) ⊎ Any (λ (v : List ℕ). some v ≡ lastOr before vs) vs
 unfolding lastOr
 last-from before [] = inl refl
 last-from before (v ∷ vs) = by (last-from (some v) vs)
@@ -215,7 +230,8 @@ any-take P (suc n) (x ∷ xs) (inl h) = inl h
 any-take P (suc n) (x ∷ xs) (inr h) = inr (any-take P n xs h)
 
 -- a value that was set, by one of the requests
-set-by : (k : ℕ) (o : Option (List ℕ)) (ms : List Message) → Any (λ (v : List ℕ). some v ≡ o) (setsOf k ms) → Any (λ (m : Message). setBy k m ≡ o) ms
+set-by : (k : ℕ) (o : Option (List ℕ)) (ms : List Message) → Any (λ (v : List ℕ). some v ≡ o) (setsOf k ms)
+    → Any (λ (m : Message). setBy k m ≡ o) ms
 unfolding setsOf
 set-by k o [] h = absurd h
 set-by k o (m ∷ ms) h = by (setBy k m) refl (set-by k o ms) h
@@ -234,7 +250,12 @@ wires e (t ∷ ts) o = (in-order-wire (endsAfter e t .log) (o .0), wires (endsAf
 
 pub first-read : (e : Ends.Ends) → ReadSince e (e .log)
 unfolding gathered requestsIn
-first-read e = record { later = []; frames = sym (append-nil (handledFrames e)); heard = sym (append-nil (e .log .heard)); origin = λ k. sym (more-none (e .log .origin k)) }
+first-read e = record {
+  later = [];
+  frames = sym (append-nil (handledFrames e));
+  heard = sym (append-nil (e .log .heard));
+  origin = λ k. sym (more-none (e .log .origin k));
+}
 
 none-not-older : (e : Ends.Ends) → NotOlderIn e []
 unfolding requestsIn
@@ -245,9 +266,11 @@ stays-of e [] g = tt
 stays-of e (Ends.main m ∷ ts) g = (tt, stays-of (endsAfter e (Ends.main m)) ts (g .1))
 stays-of e (Ends.supervisor m ∷ ts) g = (g .0, stays-of (endsAfter e (Ends.supervisor m)) ts (g .1))
 
--- the value stayed, or was set by a request of which N holds, where N holds of each set that can succeed unless it sets the value that is there
+-- the value stayed, or was set by a request of which N holds, where N holds of each set that can
+-- succeed unless it sets the value that is there
 pub value-from : (N : Message → Type 0) (k : ℕ) (x : Setting) (ms : List Message)
-    → Each (λ (m : Message). (v : List ℕ) → setBy k m ≡ some v → x .edition < last-edition → N m ⊎ (x .value ≡ some v)) ms → let y = setAfter k x ms in
+    → Each (λ (m : Message). (v : List ℕ) → setBy k m ≡ some v → x .edition < last-edition → N m ⊎ (x .value ≡ some v)) ms
+    → let y = setAfter k x ms in
     (y .value ≡ x .value) ⊎ Any (λ (m : Message). (setBy k m ≡ y .value) × N m) ms
 unfolding setAfter successful
 value-from N k x ms each = by (last-from (x .value) (successful (x .edition) k ms))
@@ -259,7 +282,8 @@ value-from N k x ms each = by (last-from (x .value) (successful (x .edition) k m
     room zero e a = absurd a
     room (suc n) e a = omega (arith, e)
 
-    swap : Any (λ (m : Message). (setBy k m ≡ o) × N m) ms ⊎ (o ≡ x .value) → (o ≡ x .value) ⊎ Any (λ (m : Message). (setBy k m ≡ o) × N m) ms
+    swap : Any (λ (m : Message). (setBy k m ≡ o) × N m) ms ⊎ (o ≡ x .value)
+        → (o ≡ x .value) ⊎ Any (λ (m : Message). (setBy k m ≡ o) × N m) ms
     swap (inl a) = inr a
     swap (inr e) = inl e
 
@@ -267,22 +291,28 @@ value-from N k x ms each = by (last-from (x .value) (successful (x .edition) k m
     set m v f s (inl n) = inl (s, n)
     set m v f s (inr e) = inr (sym (e ∙ f))
 
-    by : (o ≡ x .value) ⊎ Any (λ (v : List ℕ). some v ≡ o) (successful (x .edition) k ms) → (o ≡ x .value) ⊎ Any (λ (m : Message). (setBy k m ≡ o) × N m) ms
+    by : (o ≡ x .value) ⊎ Any (λ (v : List ℕ). some v ≡ o) (successful (x .edition) k ms)
+        → (o ≡ x .value) ⊎ Any (λ (m : Message). (setBy k m ≡ o) × N m) ms
     by (inl e) = inl e
     by (inr a) =
         let n = last-edition - x .edition in
         let low = room n refl a in
         any-so (λ (v : List ℕ). some v ≡ o)
-        (λ v f. swap (any-or _ ms (each-any _ (λ (m : Message). setBy k m ≡ o) _ (λ m p s. set m v f s (p v (s ∙ sym f) low)) ms each (set-by k o ms (any-take _ n (setsOf k ms) a)))))
+        (λ v f.
+        swap (any-or _ ms
+        (each-any _ (λ (m : Message). setBy k m ≡ o) _ (λ m p s. set m v f s (p v (s ∙ sym f) low)) ms each
+        (set-by k o ms (any-take _ n (setsOf k ms) a)))))
         (take n (setsOf k ms)) a
 
-value-not-older : (e : Ends.Ends) (n k most : ℕ) (r : Message) (h : Handled) → ValueKnown e (NotOlderIn e) (not-older-fewer e) n k most r h → ValueNotOlder e n k most r h
+value-not-older : (e : Ends.Ends) (n k most : ℕ) (r : Message) (h : Handled) → ValueKnown e (NotOlderIn e) (not-older-fewer e) n k most r h
+    → ValueNotOlder e n k most r h
 value-not-older e n k most r h (v, newer) = record {
   value-since = v;
   not-older = newer;
   from =
       let ms = requestsIn (v .later) in
-      rw (v .last-since) (value-from (NotOlder e) k (entryOf (view (e .supervisor)) k) ms (each-then (NotOlder e) _ (λ m n w s l. inl n) ms newer));
+      rw (v .last-since)
+      (value-from (NotOlder e) k (entryOf (view (e .supervisor)) k) ms (each-then (NotOlder e) _ (λ m n w s l. inl n) ms newer));
 }
 
 pub list-not-older : ListNotOlder
@@ -290,5 +320,8 @@ list-not-older b begins ts us t u w (g, o) =
     let e = endsAfterAll b ts in
     let both = after-calls (λ x. Unit {0}) (λ x y. Unit {0}) (λ x b i y typed v. (tt, tt)) b (begun-both b begins) tt ts t w .0 in
     let first : ReadSince e (e .log) = first-read e in
-    always-so _ (ValueAgainst e (ValueNotOlder e)) (λ x l r a k most key i q new. any-then _ _ (λ h v. value-not-older e (x .newest) k most r h v) (l .handled) (a k most key i q new)) e us
-    (against e (NotOlderIn e) (not-older-fewer e) b begins ts refl (none-not-older e) t w us u (stays-of e us g) (wires e us o) (known-calls e e both first us u g o))
+    always-so _ (ValueAgainst e (ValueNotOlder e))
+    (λ x l r a k most key i q new. any-then _ _ (λ h v. value-not-older e (x .newest) k most r h v) (l .handled) (a k most key i q new)) e
+    us
+    (against e (NotOlderIn e) (not-older-fewer e) b begins ts refl (none-not-older e) t w us u (stays-of e us g) (wires e us o)
+    (known-calls e e both first us u g o))

@@ -1,5 +1,5 @@
--- An answer to a lookup of a settings key is the value of its last successful set, or what a later restore left, at a moment after the lookup was put out. Key 5 is
--- the withdrawn-key list. Assumes nothing.
+-- An answer to a lookup of a settings key is the value of its last successful set, or what a later restore left, at a moment after the
+-- lookup was put out. Key 5 is the withdrawn-key list. Assumes nothing.
 use mathlib.Core.Path.{_≡_, refl, sym, ap, _∙_}
 use mathlib.Core.Bool.{Bool, true, false, _||_, false≢true}
 use mathlib.Core.List.{List, [], _∷_, _++_, append-assoc, append-nil}
@@ -31,17 +31,22 @@ use Rattle.supervisor_claims.specs.Sound.{Sound}
 use Rattle.supervisor_claims.specs.Histories as Supervisor
 use Rattle.supervisor_claims.specs.FrameHistory as Received
 use Rattle.supervisor_claims.specs.FrameHistory.{frameCarried, framesCarried}
-use Rattle.supervisor_claims.specs.LastSet.{requestsIn, setBy, setAfter, recordsRestored, Origin, sinceRestore, sinceMore, sinceCall, sinceMade, sinceAll}
+use Rattle.supervisor_claims.specs.LastSet.{requestsIn, setBy, setAfter, recordsRestored, Origin, sinceRestore, sinceMore, sinceCall}
+use Rattle.supervisor_claims.specs.LastSet.{sinceMade, sinceAll}
 use Rattle.supervisor_claims.proofs.claims.WithdrawnKeys.{lookup-data, found-value}
 use Rattle.supervisor_claims.specs.LastSet.{fittedOf, ReadBack}
 use Rattle.supervisor_claims.proofs.laws.Progress.{Since}
 use Rattle.supervisor_claims.proofs.claims.FramesClaim.{made-carried, by-frames}
-use Rattle.supervisor_claims.proofs.claims.LastSetLaws.{afterSets, after-append, after-sets, onto, onto-low, entry-held, requests-append, frames-have, Holds, fresh-holds, made-holds, since-keeps, in-low, read-low}
+use Rattle.supervisor_claims.proofs.claims.LastSetLaws.{afterSets, after-append, after-sets, onto, onto-low, entry-held, requests-append}
+use Rattle.supervisor_claims.proofs.claims.LastSetLaws.{frames-have, Holds, fresh-holds, made-holds, since-keeps, in-low, read-low}
 use Rattle.supervisor_claims.proofs.claims.History as SupervisorHistory
 use Rattle.both_claims.specs.Ends
-use Rattle.both_claims.specs.Ends.{Any, Handled, Log, CarriedOut, Fresh, replyMessage, asMessage, drops, originBy, handledBy, imageLent, brought, supervisorLogged, mainLogged, restarts}
-use Rattle.both_claims.specs.Ends.{endsAfterAll, handledFrames, isRestore, acceptsRestore, Stays, CallStays, NotAsked, ValueSince, ValueAgainst}
-use Rattle.both_claims.specs.Ends.{EndCallTyped, endsAfter, BothStarts, endsBegun, Begun, Always, Wire, WireAfter, CallOf, lookupRequest, ValueThen, FreshValue}
+use Rattle.both_claims.specs.Ends.{Any, Handled, Log, CarriedOut, Fresh, replyMessage, asMessage, drops, originBy, handledBy}
+use Rattle.both_claims.specs.Ends.{imageLent, brought, supervisorLogged, mainLogged, restarts}
+use Rattle.both_claims.specs.Ends.{endsAfterAll, handledFrames, isRestore, acceptsRestore, Stays, CallStays, NotAsked, ValueSince}
+use Rattle.both_claims.specs.Ends.{ValueAgainst}
+use Rattle.both_claims.specs.Ends.{EndCallTyped, endsAfter, BothStarts, endsBegun, Begun, Always, Wire, WireAfter, CallOf}
+use Rattle.both_claims.specs.Ends.{lookupRequest, ValueThen, FreshValue}
 use Rattle.both_claims.proofs.laws.Lists.{Front, any-so, any-then, each-then, each-and, each-any}
 use Rattle.both_claims.proofs.laws.Table.{top-set}
 use Rattle.both_claims.proofs.laws.SupervisorFrames.{frames-none}
@@ -60,10 +65,13 @@ pub record SetKey (k : ℕ) (o : Origin) (x : State) : Type 0 where
 abbrev Set : (ℕ → Origin) → State → Type 0
 Set o x = (k : ℕ) → SettingsKey k → SetKey k (o k) x
 
-set-frame : (image : List ℕ) (x : State) (o : ℕ → Origin) (b : ℕ) (bs : List ℕ) → Set o x → Set (originBy o (b ∷ bs)) (frameCarried image x (b ∷ bs))
+set-frame : (image : List ℕ) (x : State) (o : ℕ → Origin) (b : ℕ) (bs : List ℕ) → Set o x
+    → Set (originBy o (b ∷ bs)) (frameCarried image x (b ∷ bs))
 unfolding nonEmpty framesCarried
 set-frame image x o b bs h k s = record {
-  holds = rw (after-append k (o k .setting) (o k .requests) (requestsIn ((b ∷ bs) ∷ []))) (frames-have image s ((b ∷ bs) ∷ []) x _ (h k s .holds));
+  holds =
+      rw (after-append k (o k .setting) (o k .requests) (requestsIn ((b ∷ bs) ∷ [])))
+      (frames-have image s ((b ∷ bs) ∷ []) x _ (h k s .holds));
   low = h k s .low;
 }
 
@@ -74,8 +82,11 @@ module _ (asked : List Frame) (image : List ℕ) where
   unfolding nonEmpty handledBy
   frames-set [] cleared x o earlier h = tt
   frames-set ([] ∷ ps) cleared x o earlier h = frames-set ps cleared x o earlier h
-  frames-set ((b ∷ bs) ∷ ps) cleared x o earlier h =
-      (h, frames-set ps (cleared || drops (b ∷ bs)) (frameCarried image x (b ∷ bs)) (originBy o (b ∷ bs)) (earlier ++ ((b ∷ bs) ∷ [])) (set-frame image x o b bs h))
+  frames-set ((b ∷ bs) ∷ ps) cleared x o earlier h = (
+    h,
+    frames-set ps (cleared || drops (b ∷ bs)) (frameCarried image x (b ∷ bs)) (originBy o (b ∷ bs)) (earlier ++ ((b ∷ bs) ∷ []))
+        (set-frame image x o b bs h),
+  )
 
 pub record Aged (x : State) (l : Log) : Type 0 where
   since : Since (split (l .received) .rest) x
@@ -94,8 +105,8 @@ module _ (x : State) (l : Log) (a : Aged x l) (m : Supervisor.Made) (typed : Sup
         rw (ap (λ (y : Supervisor.Means). y .state) (made-carried (l .received) x (a .since) m .0)) at
         (made-holds s (l .received) (l .origin k) x (a .set k s .holds) m);
     low =
-        since-keeps k (λ y. y .edition ≤ last-edition) (omega arith) (λ image b es e. in-low k es (read-low image b es e)) (m ∷ []) (typed, tt) (l .received) (l .origin k)
-        (a .set k s .low);
+        since-keeps k (λ y. y .edition ≤ last-edition) (omega arith) (λ image b es e. in-low k es (read-low image b es e)) (m ∷ [])
+        (typed, tt) (l .received) (l .origin k) (a .set k s .low);
   }
 
   supervisor-ages : Aged left (supervisorLogged l x m waiting)
@@ -104,20 +115,23 @@ module _ (x : State) (l : Log) (a : Aged x l) (m : Supervisor.Made) (typed : Sup
     since = made-carried (l .received) x (a .since) m .1;
     set = left-set;
     each = each-append _ (l .handled) (brought l x m) (a .each)
-        (frames-set (l .asked) (imageLent (m .call)) (closedBehind (l .received) (Received.bytesReceivedBy m)) (l .cleared) x (l .origin) (nonEmpty (split (l .received) .closed)) (a .set));
+        (frames-set (l .asked) (imageLent (m .call)) (closedBehind (l .received) (Received.bytesReceivedBy m)) (l .cleared) x (l .origin)
+        (nonEmpty (split (l .received) .closed)) (a .set));
   }
 
 -- a call of the main processor's end
 main-ages : (x : State) (l : Log) → Aged x l → (c : MainCall) (a : MainAnswer) (out : List ℕ) (n : ℕ) → Aged x (mainLogged l c a out n)
 unfolding mainLogged
 main-ages x l r c a out n =
-    cond-by (Aged x) (restarts c a) _ _ (λ _. record { since = r .since; set = r .set; each = tt }) (λ _. record { since = r .since; set = r .set; each = r .each })
+    cond-by (Aged x) (restarts c a) _ _ (λ _. record { since = r .since; set = r .set; each = tt })
+    (λ _. record { since = r .since; set = r .set; each = r .each })
 
 -- ---- an answer
 
 -- a lookup carried out
 carried-lookup : (image : List ℕ) (x : State) (n k most : ℕ) → ReadBack k → most < 65536 → let f = fittedOf most (Local.entryOf x k) in
-    carryOut image x (asMessage n (lookupRequest k most)) .reply ≡ some (record { version = 1; command = 0x0a; payload = f .result ∷ f .value })
+    carryOut image x (asMessage n (lookupRequest k most)) .reply
+    ≡ some (record { version = 1; command = 0x0a; payload = f .result ∷ f .value })
 unfolding carryOut commandOfNumber withNumber commandNumber effect
 carried-lookup image x n k most s i =
     let m = s .key .upper in
@@ -130,16 +144,20 @@ record Replied (n : ℕ) (d : List ℕ) (r : Message) : Type 0 where
   command : r .command ≡ 0x0a
   payload : r .payload ≡ d
 
-replied : (n : ℕ) (o : Option ReplyContent) (d : List ℕ) (r : Message) → o ≡ some (record { version = 1; command = 0x0a; payload = d }) → replyMessage (replyOf n o) ≡ some r → Replied n d r
+replied : (n : ℕ) (o : Option ReplyContent) (d : List ℕ) (r : Message) → o ≡ some (record { version = 1; command = 0x0a; payload = d })
+    → replyMessage (replyOf n o) ≡ some r → Replied n d r
 unfolding replyOf
 replied n o d r e f = let g = rw e at f in record { version = cc; sequence = cc; command = cc; payload = cc }
 
-module _ (s : MainState) (l : Log) (kept : Kept s l) (x : State) (aged : Aged x l) (r : Message) (k most : ℕ) (key : ReadBack k) (i : most < 65536) where
+module _ (s : MainState) (l : Log) (kept : Kept s l) (x : State) (aged : Aged x l) (r : Message) (k most : ℕ) (key : ReadBack k)
+    (i : most < 65536) where
   -- at the moment at which it was carried out
-  at-moment : (h : Handled) → CarriedOut (s .newest) (lookupRequest k most) r h → let f = fittedOf most (Local.entryOf (h .state) k) in Replied (s .newest) (f .result ∷ f .value) r
+  at-moment : (h : Handled) → CarriedOut (s .newest) (lookupRequest k most) r h
+      → let f = fittedOf most (Local.entryOf (h .state) k) in Replied (s .newest) (f .result ∷ f .value) r
   at-moment h c = replied (s .newest) _ _ r (carried-lookup (h .image) (h .state) (s .newest) k most key i) (c .reply)
 
-  value-then : (h : Handled) → Set (h .origin) (h .state) → CarriedOut (s .newest) (lookupRequest k most) r h → ValueThen (s .newest) k most r h
+  value-then : (h : Handled) → Set (h .origin) (h .state) → CarriedOut (s .newest) (lookupRequest k most) r h
+      → ValueThen (s .newest) k most r h
   value-then h z c = record {
     carried-out = c;
     value = at-moment h c .payload;
@@ -149,7 +167,8 @@ module _ (s : MainState) (l : Log) (kept : Kept s l) (x : State) (aged : Aged x 
   }
 
   fresh-value : Any (CarriedOut (s .newest) (lookupRequest k most) r) (l .handled)
-      → (r .version ≡ 1) × (r .sequence ≡ replySequence (s .newest)) × (r .command ≡ 0x0a) × Any (ValueThen (s .newest) k most r) (l .handled)
+      → (r .version ≡ 1) × (r .sequence ≡ replySequence (s .newest)) × (r .command ≡ 0x0a)
+      × Any (ValueThen (s .newest) k most r) (l .handled)
   fresh-value a = (
     any-so _ (λ h c. at-moment h c .version) (l .handled) a,
     any-so _ (λ h c. at-moment h c .sequence) (l .handled) a ∙ top-set (s .newest) (omega (arith, kept .ranged .newest)),
@@ -174,18 +193,22 @@ call-ages e s a (Ends.supervisor m) typed =
     let k = SupervisorHistory.one-call (e .supervisor) m s typed .leaves .0 in
     rw k (supervisor-ages (view (e .supervisor)) (e .log) a m typed _)
 
-pub call-aged : (e : Ends.Ends) → Both e → AgedIn e → (t : Ends.EndCall) → EndCallTyped t → Wire (endsAfter e t .log) → CallOf FreshValue e t × AgedIn (endsAfter e t)
+pub call-aged : (e : Ends.Ends) → Both e → AgedIn e → (t : Ends.EndCall) → EndCallTyped t → Wire (endsAfter e t .log)
+    → CallOf FreshValue e t × AgedIn (endsAfter e t)
 call-aged e both a t typed w = (by t typed w, call-ages e (both .supervisor) a t typed)
   where
     by : (t : Ends.EndCall) → EndCallTyped t → Wire (endsAfter e t .log) → CallOf FreshValue e t
-    by (Ends.main m) typed w = λ r o. value-fresh (mainView (e .main)) (e .log) (both .kept) (view (e .supervisor)) a r (answer-fresh e both m typed w r o)
+    by (Ends.main m) typed w =
+        λ r o. value-fresh (mainView (e .main)) (e .log) (both .kept) (view (e .supervisor)) a r (answer-fresh e both m typed w r o)
     by (Ends.supervisor m) typed w = tt
 
 together-aged : (s : BothStarts) → AgedIn (endsBegun s)
 unfolding Received.receivedSinceAll Supervisor.leftMeant
 together-aged s =
     let f = factoryOf (s .start-data) in
-    let k = SupervisorHistory.started (s .supervisor-parts) (s .supervisor-bytes) (s .supervisor-lent) (s .start-data) (s .start-typed) (s .supervisor-accepted) .0 in
+    let k =
+    SupervisorHistory.started (s .supervisor-parts) (s .supervisor-bytes) (s .supervisor-lent) (s .start-data) (s .start-typed)
+    (s .supervisor-accepted) .0 in
     rw k (record { since = by-frames f [] .2; set = λ k key. record { holds = fresh-holds key f; low = omega arith }; each = tt })
 
 pub begun-aged : (e : Ends.Ends) → Begun e → AgedIn e
@@ -214,7 +237,8 @@ module _ (k : ℕ) (w : List ℕ) (x : Origin) where
   unfolding requestsIn
   adds-none = rw (frames-none w) (sym (more-none x))
 
-  call-stays : (c : Supervisor.Call) → Received.isAcceptedStart c ≡ false → isRestore c ≡ false → Adds (sinceCall k w x c) (Received.pieceRead c)
+  call-stays : (c : Supervisor.Call) → Received.isAcceptedStart c ≡ false → isRestore c ≡ false
+      → Adds (sinceCall k w x c) (Received.pieceRead c)
   unfolding sinceCall Received.pieceRead
   call-stays (Supervisor.start d) e f = rw e adds-none
   call-stays (Supervisor.receive image piece) e f = refl
@@ -242,7 +266,8 @@ module _ (e₀ : Ends.Ends) (Is : List (List ℕ) → Type 0) (fewer : (fs gs : 
     origin : (k : ℕ) → o k ≡ sinceMore (e₀ .log .origin k) (requestsIn later)
     known : Is later
 
-  behind-more : (fs gs : List (List ℕ)) (o p : ℕ → Origin) → ((k : ℕ) → p k ≡ sinceMore (o k) (requestsIn gs)) → (b : Behind fs o) → Is (b .later ++ gs) → Behind (fs ++ gs) p
+  behind-more : (fs gs : List (List ℕ)) (o p : ℕ → Origin) → ((k : ℕ) → p k ≡ sinceMore (o k) (requestsIn gs)) → (b : Behind fs o)
+      → Is (b .later ++ gs) → Behind (fs ++ gs) p
   behind-more fs gs o p e b i = record {
     later = b .later ++ gs;
     frames = rw (b .frames) (append-assoc (handledFrames e₀) (b .later) gs);
@@ -258,7 +283,8 @@ module _ (e₀ : Ends.Ends) (Is : List (List ℕ) → Type 0) (fewer : (fs gs : 
     received : Behind (nonEmpty (split (l .received) .closed)) (l .origin)
     each : Each Placed (l .handled)
 
-  frames-placed : (asked : List Frame) (image : List ℕ) (fs : List (List ℕ)) (cleared : Bool) (x : State) (o : ℕ → Origin) (earlier : List (List ℕ)) (b : Behind earlier o)
+  frames-placed : (asked : List Frame) (image : List ℕ) (fs : List (List ℕ)) (cleared : Bool) (x : State) (o : ℕ → Origin)
+      (earlier : List (List ℕ)) (b : Behind earlier o)
       → Is (b .later ++ fs) → Each Placed (handledBy asked image cleared x o earlier fs)
   unfolding handledBy behind-more
   frames-placed asked image [] cleared x o earlier b i = tt
@@ -271,15 +297,18 @@ module _ (e₀ : Ends.Ends) (Is : List (List ℕ) → Type 0) (fewer : (fs gs : 
   abbrev pub KnownOf : Log → Type 0
   KnownOf l = (fs : List (List ℕ)) → nonEmpty (split (l .received) .closed) ≡ handledFrames e₀ ++ fs → Is fs
 
-  supervisor-later : (x : State) (l : Log) (m : Supervisor.Made) (waiting : List ℕ) → Stays m → Later l → KnownOf (supervisorLogged l x m waiting) → Later (supervisorLogged l x m waiting)
+  supervisor-later : (x : State) (l : Log) (m : Supervisor.Made) (waiting : List ℕ) → Stays m → Later l
+      → KnownOf (supervisorLogged l x m waiting) → Later (supervisorLogged l x m waiting)
   unfolding supervisorLogged brought Received.receivedSince Received.framesClosedBy
   supervisor-later x l m waiting n h known =
       let w = l .received in
       let bs = Received.bytesReceivedBy m in
       let new = nonEmpty (closedBehind w bs) in
       let b = h .received in
-      let e : nonEmpty (split (w ++ bs) .closed) ≡ nonEmpty (split w .closed) ++ new = rw (closed-join w bs, nonEmpty-append (split w .closed) (closedBehind w bs)) in
-      let i : Is (b .later ++ new) = (rw (n .no-start) at known) (b .later ++ new) (e ∙ rw (b .frames) (append-assoc (handledFrames e₀) (b .later) new)) in
+      let e : nonEmpty (split (w ++ bs) .closed) ≡ nonEmpty (split w .closed) ++ new =
+      rw (closed-join w bs, nonEmpty-append (split w .closed) (closedBehind w bs)) in
+      let i : Is (b .later ++ new) =
+      (rw (n .no-start) at known) (b .later ++ new) (e ∙ rw (b .frames) (append-assoc (handledFrames e₀) (b .later) new)) in
       record {
         received = rw (n .no-start, e) (behind-more _ new (l .origin) _ (λ k. stays-since k w (l .origin k) m n) b i);
         each = each-append Placed (l .handled) _ (h .each) (frames-placed (l .asked) (imageLent (m .call)) new (l .cleared) x _ _ b i);
@@ -288,7 +317,8 @@ module _ (e₀ : Ends.Ends) (Is : List (List ℕ) → Type 0) (fewer : (fs gs : 
   main-later : (l : Log) → Later l → (c : MainCall) (a : MainAnswer) (out : List ℕ) (n : ℕ) → Later (mainLogged l c a out n)
   unfolding mainLogged
   main-later l h c a out n =
-      cond-by Later (restarts c a) _ _ (λ _. record { received = h .received; each = tt }) (λ _. record { received = h .received; each = h .each })
+      cond-by Later (restarts c a) _ _ (λ _. record { received = h .received; each = tt })
+      (λ _. record { received = h .received; each = h .each })
 
   call-later : (e : Ends.Ends) (t : Ends.EndCall) → CallStays t → Later (e .log) → KnownOf (endsAfter e t .log) → Later (endsAfter e t .log)
   unfolding endsAfter
@@ -299,7 +329,8 @@ module _ (e₀ : Ends.Ends) (Is : List (List ℕ) → Type 0) (fewer : (fs gs : 
   moment-later : Both e₀ → Is [] → Later (e₀ .log)
   unfolding requestsIn
   moment-later both i = record {
-    received = record { later = []; frames = sym (append-nil (handledFrames e₀)); origin = λ k. sym (more-none (e₀ .log .origin k)); known = i };
+    received =
+        record { later = []; frames = sym (append-nil (handledFrames e₀)); origin = λ k. sym (more-none (e₀ .log .origin k)); known = i };
     each = each-then _ _ (λ (h : Handled) f. inr f) (e₀ .log .handled) (both .kept .before);
   }
 
@@ -319,9 +350,11 @@ module _ (e₀ : Ends.Ends) (Is : List (List ℕ) → Type 0) (fewer : (fs gs : 
         let o₀ = e₀ .log .origin k in
         let y = aged₀ .set k (key .key) in
         let z = o₀ .setting in
-        let v : Local.entryOf (view (e₀ .supervisor)) k ≡ afterSets k z (o₀ .requests) = entry-held (view (e₀ .supervisor)) (key .key) ∙ y .holds .held in
+        let v : Local.entryOf (view (e₀ .supervisor)) k ≡ afterSets k z (o₀ .requests) =
+        entry-held (view (e₀ .supervisor)) (key .key) ∙ y .holds .held in
         entry-held x (key .key) ∙ h .holds .held
-        ∙ rw (e, after-append k z (o₀ .requests) ms, v) (after-sets k (afterSets k z (o₀ .requests)) ms (sets-low k z (o₀ .requests) (y .low)))
+        ∙ rw (e, after-append k z (o₀ .requests) ms, v)
+        (after-sets k (afterSets k z (o₀ .requests)) ms (sets-low k z (o₀ .requests) (y .low)))
 
     since-at : (h : Handled) → Set (h .origin) (h .state) × Placed h → Carried h → ValueKnown (s .newest) k most r h
     since-at h z c = by (z .1)
@@ -335,18 +368,20 @@ module _ (e₀ : Ends.Ends) (Is : List (List ℕ) → Type 0) (fewer : (fs gs : 
 
     value-since : Any Carried (l .handled) → Any (ValueKnown (s .newest) k most r) (l .handled)
     value-since a =
-        each-any _ Carried _ since-at (l .handled) (each-and (λ (h : Handled). Set (h .origin) (h .state)) Placed _ (λ h y z. (y, z)) (l .handled) (aged .each) (later .each)) a
+        each-any _ Carried _ since-at (l .handled)
+        (each-and (λ (h : Handled). Set (h .origin) (h .state)) Placed _ (λ h y z. (y, z)) (l .handled) (aged .each) (later .each)) a
 
   abbrev pub Against : MainState → Log → Message → Type 0
   Against = ValueAgainst e₀ ValueKnown
 
-  against-fresh : AgedIn e₀ → (s : MainState) (l : Log) → Kept s l → (x : State) → Aged x l → Later l → (r : Message) → Fresh s l r → Against s l r
+  against-fresh : AgedIn e₀ → (s : MainState) (l : Log) → Kept s l → (x : State) → Aged x l → Later l → (r : Message) → Fresh s l r
+      → Against s l r
   against-fresh a₀ s l kept x aged later r f k most key i e new =
       let q : f .request ≡ lookupRequest k most = (let w = f .waiting in cc) in
       value-since a₀ s l kept x aged later r k most key i new (rw q at (f .made))
 
-  call-since : AgedIn e₀ → (e : Ends.Ends) → Both e → AgedIn e → Later (e .log) → (t : Ends.EndCall) → EndCallTyped t → Wire (endsAfter e t .log)
-      → CallOf Against e t
+  call-since : AgedIn e₀ → (e : Ends.Ends) → Both e → AgedIn e → Later (e .log) → (t : Ends.EndCall) → EndCallTyped t
+      → Wire (endsAfter e t .log) → CallOf Against e t
   call-since a₀ e both a h (Ends.main m) typed w =
       λ r o. against-fresh a₀ (mainView (e .main)) (e .log) (both .kept) (view (e .supervisor)) a h r (answer-fresh e both m typed w r o)
   call-since a₀ e both a h (Ends.supervisor m) typed w = tt
@@ -358,23 +393,28 @@ module _ (e₀ : Ends.Ends) (Is : List (List ℕ) → Type 0) (fewer : (fs gs : 
   since-calls a₀ e both a h (t ∷ ts) typed n w known =
       let k = call-aged e both a t (typed .0) (w .0) in (
         call-since a₀ e both a h t (typed .0) (w .0),
-        since-calls a₀ (endsAfter e t) (keeps-both e both t (typed .0) (w .0)) (k .1) (call-later e t (n .0) h (known .0)) ts (typed .1) (n .1) (w .1) (known .1),
+        since-calls a₀ (endsAfter e t) (keeps-both e both t (typed .0) (w .0)) (k .1) (call-later e t (n .0) h (known .0)) ts (typed .1)
+            (n .1) (w .1) (known .1),
       )
 
   -- from a start of the main processor's end on
-  pub against : (b : Ends.Ends) → Begun b → (ts : List Ends.EndCall) → e₀ ≡ endsAfterAll b ts → Is [] → Each EndCallTyped ts → Always WireAfter b ts
-      → (us : List Ends.EndCall) → Each EndCallTyped us → Each CallStays us → Always WireAfter e₀ us → Always (λ x t. KnownOf (endsAfter x t .log)) e₀ us → Always (CallOf Against) e₀ us
+  pub against : (b : Ends.Ends) → Begun b → (ts : List Ends.EndCall) → e₀ ≡ endsAfterAll b ts → Is [] → Each EndCallTyped ts
+      → Always WireAfter b ts
+      → (us : List Ends.EndCall) → Each EndCallTyped us → Each CallStays us → Always WireAfter e₀ us
+      → Always (λ x t. KnownOf (endsAfter x t .log)) e₀ us → Always (CallOf Against) e₀ us
   against b begins ts e i t w us u n v known =
       let k = rw (← e) at (after-calls AgedIn (CallOf FreshValue) call-aged b (begun-both b begins) (begun-aged b begins) ts t w) in
       since-calls (k .1) e₀ (k .0) (k .1) (moment-later (k .0) i) us u n v known
 
 -- nothing is asked of the frames
-nothing-known : (e₀ e : Ends.Ends) (ts : List Ends.EndCall) → Always (λ x t. KnownOf e₀ (λ fs. Unit {0}) (λ fs gs i. tt) (endsAfter x t .log)) e ts
+nothing-known : (e₀ e : Ends.Ends) (ts : List Ends.EndCall)
+    → Always (λ x t. KnownOf e₀ (λ fs. Unit {0}) (λ fs gs i. tt) (endsAfter x t .log)) e ts
 nothing-known e₀ e [] = tt
 nothing-known e₀ e (t ∷ ts) = (λ fs f. tt, nothing-known e₀ (endsAfter e t) ts)
 
 pub not-replaced : NotReplaced
 not-replaced b begins ts us t u w n v =
     let e = endsAfterAll b ts in
-    always-so _ (ValueAgainst e (ValueSince e)) (λ x l r a k most key i o new. any-then _ _ (λ h v. v .0) (l .handled) (a k most key i o new)) e us
+    always-so _ (ValueAgainst e (ValueSince e))
+    (λ x l r a k most key i o new. any-then _ _ (λ h v. v .0) (l .handled) (a k most key i o new)) e us
     (against e (λ fs. Unit {0}) (λ fs gs i. tt) b begins ts refl tt t w us u n v (nothing-known e e us))

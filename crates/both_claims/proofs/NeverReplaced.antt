@@ -1,5 +1,5 @@
--- With no restore and no start of the supervisor since the main processor's end was started, on a wire that keeps the order: an answer to a lookup is no value that was
--- replaced before the lookup was put out, unless a newer request sets it. Assumes nothing.
+-- With no restore and no start of the supervisor since the main processor's end was started, on a wire that keeps the order: an answer to a
+-- lookup is no value that was replaced before the lookup was put out, unless a newer request sets it. Assumes nothing.
 use mathlib.Core.Path.{_≡_, refl, _∙_}
 use mathlib.Core.List.{List, [], _∷_, _++_}
 use mathlib.Core.Logic.{_⊎_, inl, inr}
@@ -27,7 +27,8 @@ use Rattle.both_claims.specs.Ends
 use Rattle.both_claims.specs.Ends.{Handled, over, InOrder, Begun, together, endsAfterAll, Always, EndCallTyped, endsAfter, mainLogged}
 use Rattle.both_claims.specs.Ends.{GoesOn, InOrderAfter, NotOlder, ValueAgainst, ValueNotOlder, ValueNewer}
 use Rattle.both_claims.proofs.ListAge.{AgedIn, call-aged, begun-aged}
-use Rattle.both_claims.proofs.InOrderAge.{Pairs, Ordered, heard-ordered, requests-good, ReadSince, call-reads, first-read, wires, value-from, list-not-older}
+use Rattle.both_claims.proofs.InOrderAge.{Pairs, Ordered, heard-ordered, requests-good, ReadSince, call-reads, first-read, wires}
+use Rattle.both_claims.proofs.InOrderAge.{value-from, list-not-older}
 use Rattle.both_claims.proofs.laws.Lists.{any-then, each-and}
 use Rattle.both_claims.proofs.laws.Table.{passes}
 use Rattle.both_claims.proofs.laws.BothCalls.{Both, always-so, after-calls, begun-both}
@@ -47,8 +48,8 @@ set-value x v =
     cond-by (λ (y : Setting). y .edition < last-edition → y .value ≡ some v) (eqb (x .edition) last-edition) _ _
     (λ e l. absurd (omega (arith, eqb-true (x .edition) last-edition e, l))) (λ e l. refl)
 
--- a set m of key k that passes the whole table, behind good messages in order none of which is newer: all are older, or the last is m itself and key k has
--- its value
+-- a set m of key k that passes the whole table, behind good messages in order none of which is newer: all are older, or the last is m
+-- itself and key k has its value
 module _ (k : ℕ) (m : Message) (v : List ℕ) (passed : tested m ≡ good m) (sets : setBy k m ≡ some v) where
   abbrev Follows : List Message → Setting → Type 0
   Follows ms a = a .edition < last-edition → Each (Below m) ms ⊎ (a .value ≡ some v)
@@ -62,16 +63,19 @@ module _ (k : ℕ) (m : Message) (v : List ℕ) (passed : tested m ≡ good m) (
   behindFirst x y fs = afterSets k (afterSets k x (requestAhead (tested y) [])) (requestsIn fs)
 
   -- m itself, with nothing behind it
-  itself : (x : Setting) (y : Message) → y ≡ m → (fs : List (List ℕ)) → Each (Ordered y) (goodMessages fs) → Each (Below m) (goodMessages fs)
-      → behindFirst x y fs .edition < last-edition → behindFirst x y fs .value ≡ some v
+  itself : (x : Setting) (y : Message) → y ≡ m → (fs : List (List ℕ)) → Each (Ordered y) (goodMessages fs)
+      → Each (Below m) (goodMessages fs) → behindFirst x y fs .edition < last-edition → behindFirst x y fs .value ≡ some v
   unfolding afterSets
-  itself x y e fs h l = rw (none-left (requestsIn fs) (requests-good _ fs (each-and _ _ _ not-both (goodMessages fs) (rw e at h) l)), e, passed, sets) (set-value x v)
+  itself x y e fs h l =
+      rw (none-left (requestsIn fs) (requests-good _ fs (each-and _ _ _ not-both (goodMessages fs) (rw e at h) l)), e, passed, sets)
+      (set-value x v)
 
-  first : (x : Setting) (y : Message) (fs : List (List ℕ)) → Ordered y m → Each (Ordered y) (goodMessages fs) → Follows (goodMessages fs) (behindFirst x y fs)
-      → Follows (y ∷ goodMessages fs) (behindFirst x y fs)
+  first : (x : Setting) (y : Message) (fs : List (List ℕ)) → Ordered y m → Each (Ordered y) (goodMessages fs)
+      → Follows (goodMessages fs) (behindFirst x y fs) → Follows (y ∷ goodMessages fs) (behindFirst x y fs)
   first x y fs t h rest low = by t (rest low)
     where
-      by : Ordered y m → Each (Below m) (goodMessages fs) ⊎ (behindFirst x y fs .value ≡ some v) → Each (Below m) (y ∷ goodMessages fs) ⊎ (behindFirst x y fs .value ≡ some v)
+      by : Ordered y m → Each (Below m) (goodMessages fs) ⊎ (behindFirst x y fs .value ≡ some v)
+          → Each (Below m) (y ∷ goodMessages fs) ⊎ (behindFirst x y fs .value ≡ some v)
       by t (inr e) = inr e
       by (inl t) (inl l) = inl (t, l)
       by (inr t) (inl l) = inr (itself x y t fs h l low)
@@ -83,7 +87,8 @@ module _ (k : ℕ) (m : Message) (v : List ℕ) (passed : tested m ≡ good m) (
   follows (f ∷ fs) x p q = by (judge f) (follows fs) p q
     where
       by : (j : Line.LineVerdict)
-          → ((x : Setting) → Pairs Ordered (goodMessages fs) → Each (λ (y : Message). Ordered y m) (goodMessages fs) → Follows (goodMessages fs) (afterSets k x (requestsIn fs)))
+          → ((x : Setting) → Pairs Ordered (goodMessages fs) → Each (λ (y : Message). Ordered y m) (goodMessages fs)
+          → Follows (goodMessages fs) (afterSets k x (requestsIn fs)))
           → Pairs Ordered (goodOf j ++ goodMessages fs) → Each (λ (y : Message). Ordered y m) (goodOf j ++ goodMessages fs)
           → Follows (goodOf j ++ goodMessages fs) (afterSets k x (requestAhead (testedWhere j) (requestsIn fs)))
       by (Line.failure reason sequence) rest p q = rest x p q
@@ -101,7 +106,8 @@ unfolding requestsIn
 requests-pass [] = tt
 requests-pass (f ∷ fs) = by (verdict f) refl (requests-pass fs)
   where
-    by : (w : Verdict) → verdict f ≡ w → Each (λ (m : Message). tested m ≡ good m) (requestsIn fs) → Each (λ (m : Message). tested m ≡ good m) (requestAhead w (requestsIn fs))
+    by : (w : Verdict) → verdict f ≡ w → Each (λ (m : Message). tested m ≡ good m) (requestsIn fs)
+        → Each (λ (m : Message). tested m ≡ good m) (requestAhead w (requestsIn fs))
     by (failure reason version sequence) e others = others
     by (good m) e others = (tested-again f m e, others)
 
@@ -130,7 +136,8 @@ pub record Moment (b e : Ends.Ends) : Type 0 where
   read : ReadSince b (e .log)
   ordered : Pairs Ordered (e .log .heard)
 
-pub moment : (b : Ends.Ends) → Begun b → (ts : List Ends.EndCall) → Each EndCallTyped ts → Always GoesOn b ts → Always InOrderAfter b ts → Moment b (endsAfterAll b ts)
+pub moment : (b : Ends.Ends) → Begun b → (ts : List Ends.EndCall) → Each EndCallTyped ts → Always GoesOn b ts → Always InOrderAfter b ts
+    → Moment b (endsAfterAll b ts)
 moment b begins ts t g o =
     let start = just-started b begins in
     let known = after-calls AgedIn _ call-aged b (begun-both b begins) (begun-aged b begins) ts t (wires b ts o) in
@@ -143,14 +150,16 @@ moment b begins ts t g o =
     }
 
 -- what key k has comes of the good messages read by then, which are in order
-module _ (b e : Ends.Ends) (empty : b .log .heard ≡ []) (aged : AgedIn e) (read : ReadSince b (e .log)) (ordered : Pairs Ordered (e .log .heard)) (k : ℕ) (key : SettingsKey k) where
+module _ (b e : Ends.Ends) (empty : b .log .heard ≡ []) (aged : AgedIn e) (read : ReadSince b (e .log))
+    (ordered : Pairs Ordered (e .log .heard)) (k : ℕ) (key : SettingsKey k) where
   abbrev had : Setting
   had = entryOf (view (e .supervisor)) k
 
   -- a set of key k that is no older is newer than all of them, or sets the value that is there
   newer : (m : Message) → tested m ≡ good m → NotOlder e m → (u : List ℕ) → setBy k m ≡ some u → had .edition < last-edition
       → Each (Below m) (e .log .heard) ⊎ (had .value ≡ some u)
-  newer m passed q u sets = rw (entry, heard-since) (follows k m u passed sets (read .later) x (rw heard-since at ordered) (rw heard-since at q))
+  newer m passed q u sets =
+      rw (entry, heard-since) (follows k m u passed sets (read .later) x (rw heard-since at ordered) (rw heard-since at q))
     where
       x : Setting
       x = afterSets k (b .log .origin k .setting) (b .log .origin k .requests)
@@ -164,7 +173,8 @@ module _ (b e : Ends.Ends) (empty : b .log .heard ≡ []) (aged : AgedIn e) (rea
           ∙ rw (read .origin k) (after-append k (b .log .origin k .setting) (b .log .origin k .requests) (requestsIn (read .later)))
 
 module _ (b e : Ends.Ends) (now : Moment b e) (k : ℕ) (key : SettingsKey k) where
-  pub set-newer : (m : Message) → tested m ≡ good m → NotOlder e m → (u : List ℕ) → setBy k m ≡ some u → let a = entryOf (view (e .supervisor)) k in
+  pub set-newer : (m : Message) → tested m ≡ good m → NotOlder e m → (u : List ℕ) → setBy k m ≡ some u
+      → let a = entryOf (view (e .supervisor)) k in
       a .edition < last-edition → Each (Below m) (e .log .heard) ⊎ (a .value ≡ some u)
   set-newer = newer b e (now .empty) (now .aged) (now .read) (now .ordered) k key
 
@@ -182,5 +192,6 @@ pub never-replaced : NeverReplaced
 never-replaced b begins ts us t u (g, o) more =
     let e = endsAfterAll b ts in
     let value = value-newer b e (moment b begins ts t g o) in
-    always-so _ (ValueAgainst e (ValueNewer e)) (λ x l r a k most key i q new. any-then _ _ (value k (key .key) (x .newest) most r) (l .handled) (a k most key i q new)) e us
+    always-so _ (ValueAgainst e (ValueNewer e))
+    (λ x l r a k most key i q new. any-then _ _ (value k (key .key) (x .newest) most r) (l .handled) (a k most key i q new)) e us
     (list-not-older b begins ts us t u (wires b ts o) more)

@@ -1,4 +1,5 @@
--- The newest reply: as long as it counts as not put out, the bytes pending are what is left of its frame, behind a 00 where one was owed; only a take puts it out.
+-- The newest reply: as long as it counts as not put out, the bytes pending are what is left of its frame, behind a
+-- 00 where one was owed; only a take puts it out.
 -- Assumes nothing.
 use mathlib.Core.Path.{_≡_, refl, sym, ap, _∙_}
 use mathlib.Core.Bool.{Bool, true, false, cond, _||_}
@@ -32,7 +33,8 @@ use Rattle.supervisor_claims.proofs.laws.Progress.{Since}
 use Rattle.supervisor_claims.proofs.claims.FramesClaim.{made-carried, by-frames}
 use Rattle.supervisor_claims.proofs.claims.History as SupervisorHistory
 use Rattle.both_claims.specs.Ends
-use Rattle.both_claims.specs.Ends.{EndCallTyped, endsAfter, BothStarts, endsBegun, Always, restarts, mainLogged, imageLent, stillPending, takenBy, brought, supervisorLogged}
+use Rattle.both_claims.specs.Ends.{EndCallTyped, endsAfter, BothStarts, endsBegun, Always, restarts, mainLogged, imageLent}
+use Rattle.both_claims.specs.Ends.{stillPending, takenBy, brought, supervisorLogged}
 use Rattle.both_claims.specs.Ends.{Log, replyMessage, replyMade, originBy, handledBy, newestReply, drops}
 use Rattle.both_claims.proofs.laws.Table.{frame-some}
 use Rattle.both_claims.proofs.laws.SupervisorFrames.{frames-none, LocallyKept, made-kept}
@@ -56,19 +58,24 @@ reply-waits b (some y) r e =
     let z : record { version = y .version; sequence = y .sequence; command = y .command; payload = y .payload } ≡ r = cc in
     rw z (record { behind-zero = b; front = []; whole = refl; some-left = some-bytes b r })
 
-frame-waits : (image : List ℕ) (x : State) (b : ℕ) (bs : List ℕ) → Waits (replyMessage (replyBy image x (verdict (b ∷ bs)))) (frameCarried image x (b ∷ bs) .pending)
+frame-waits : (image : List ℕ) (x : State) (b : ℕ) (bs : List ℕ)
+    → Waits (replyMessage (replyBy image x (verdict (b ∷ bs)))) (frameCarried image x (b ∷ bs) .pending)
 unfolding frameCarried
-frame-waits image x b bs = rw (ap (λ (s : State). s .pending) (judged-is image x (verdict (b ∷ bs)))) (reply-waits (x .terminator-owed) (replyBy image x (verdict (b ∷ bs))))
+frame-waits image x b bs =
+    rw (ap (λ (s : State). s .pending) (judged-is image x (verdict (b ∷ bs))))
+    (reply-waits (x .terminator-owed) (replyBy image x (verdict (b ∷ bs))))
 
 -- frames, one after the other
 module _ (asked : List Frame) (image : List ℕ) where
-  frames-wait : (ps : List (List ℕ)) (cleared : Bool) (x : State) (o : ℕ → Origin) (earlier : List (List ℕ)) (r : Option Message) → Waits r (x .pending)
+  frames-wait : (ps : List (List ℕ)) (cleared : Bool) (x : State) (o : ℕ → Origin) (earlier : List (List ℕ)) (r : Option Message)
+      → Waits r (x .pending)
       → Waits (newestReply r (handledBy asked image cleared x o earlier (nonEmpty ps))) (framesCarried image x (nonEmpty ps) .pending)
   unfolding nonEmpty handledBy framesCarried replyMade
   frames-wait [] cleared x o earlier r h = h
   frames-wait ([] ∷ ps) cleared x o earlier r h = frames-wait ps cleared x o earlier r h
   frames-wait ((b ∷ bs) ∷ ps) cleared x o earlier r h =
-      frames-wait ps (cleared || drops (b ∷ bs)) (frameCarried image x (b ∷ bs)) (originBy o (b ∷ bs)) (earlier ++ ((b ∷ bs) ∷ [])) _ (frame-waits image x b bs)
+      frames-wait ps (cleared || drops (b ∷ bs)) (frameCarried image x (b ∷ bs)) (originBy o (b ∷ bs)) (earlier ++ ((b ∷ bs) ∷ [])) _
+      (frame-waits image x b bs)
 
 -- ---- a call takes some of the pending bytes, or is no local call, or leaves them
 
@@ -104,13 +111,16 @@ module _ (s : State) where
   takes-or (Supervisor.local Supervisor.signal) = inr refl
   takes-or (Supervisor.local Supervisor.flags) = inr refl
   takes-or (Supervisor.local (Supervisor.readRecord k)) = inr (record-leaves (Supervisor.recordKept s k))
-  takes-or (Supervisor.local (Supervisor.save room)) = inr (cond-by Same (ltb (length room) (length (Saving.saved (s .settings)))) _ _ (λ _. refl) (λ _. refl))
+  takes-or (Supervisor.local (Supervisor.save room)) =
+      inr (cond-by Same (ltb (length room) (length (Saving.saved (s .settings)))) _ _ (λ _. refl) (λ _. refl))
   takes-or (Supervisor.local (Supervisor.restore image)) = inr (restore-leaves (Saving.readImage image))
 
 -- a take receives nothing
 takes-nothing : (m : Supervisor.Made) → Takes (m .call) → Received.bytesReceivedBy m ≡ []
 unfolding Received.bytesReceivedBy Received.pieceRead
-takes-nothing m t = rw (t .1) (cond-by (λ (bs : List ℕ). bs ≡ []) (Supervisor.enough (Supervisor.local (Supervisor.take (t .0))) (m .lent)) _ _ (λ _. refl) (λ _. refl))
+takes-nothing m t =
+    rw (t .1) (cond-by (λ (bs : List ℕ). bs ≡ []) (Supervisor.enough (Supervisor.local (Supervisor.take (t .0))) (m .lent)) _ _ (λ _. refl)
+    (λ _. refl))
 
 -- ---- the newest reply, by what is left
 
@@ -186,7 +196,8 @@ module _ (x : State) (l : Log) (m : Supervisor.Made) where
     frames-pend : Waits o framedPending
     unfolding brought Received.framesClosedBy
     frames-pend =
-        frames-wait (l .asked) (imageLent (m .call)) (closedBehind (l .received) (Received.bytesReceivedBy m)) (l .cleared) x (l .origin) (nonEmpty (split (l .received) .closed)) (l .pending) (p .waits)
+        frames-wait (l .asked) (imageLent (m .call)) (closedBehind (l .received) (Received.bytesReceivedBy m)) (l .cleared) x (l .origin)
+        (nonEmpty (split (l .received) .closed)) (l .pending) (p .waits)
 
     left-or : Received.startsAnew m ≡ false → Takes (m .call) ⊎ (y .pending ≡ framedPending)
     left-or e = by (takes-or x (m .call))
@@ -202,7 +213,9 @@ module _ (x : State) (l : Log) (m : Supervisor.Made) where
     still-pends = by (Received.startsAnew m) refl
       where
         left : Takes (m .call) ⊎ (y .pending ≡ framedPending) → Waits (stillPending (y .pending) o) (y .pending)
-        left (inl t) = still-waits o (takenBytes (Supervisor.outputsMeant x (m ∷ []))) (y .pending) (rw (all-moved (m ∷ []) x (t, tt), takes-newest t) (p .waits))
+        left (inl t) =
+            still-waits o (takenBytes (Supervisor.outputsMeant x (m ∷ []))) (y .pending)
+            (rw (all-moved (m ∷ []) x (t, tt), takes-newest t) (p .waits))
         left (inr k) = still-waits o [] (y .pending) (rw k frames-pend)
 
         by : (t : Bool) → Received.startsAnew m ≡ t → Waits (stillPending (y .pending) (cond t none o)) (y .pending)
@@ -227,14 +240,16 @@ module _ (x : State) (l : Log) (m : Supervisor.Made) where
 main-pends : (x : State) (l : Log) → Pends x l → (c : MainCall) (a : MainAnswer) (out : List ℕ) (n : ℕ) → Pends x (mainLogged l c a out n)
 unfolding mainLogged
 main-pends x l p c a out n =
-    cond-by (Pends x) (restarts c a) _ _ (λ _. record { since = p .since; waits = λ r e. absurd (none-some e) }) (λ _. record { since = p .since; waits = p .waits })
+    cond-by (Pends x) (restarts c a) _ _ (λ _. record { since = p .since; waits = λ r e. absurd (none-some e) })
+    (λ _. record { since = p .since; waits = p .waits })
 
 -- ---- each call
 
 abbrev PendsIn : Ends.Ends → Type 0
 PendsIn e = Pends (view (e .supervisor)) (e .log)
 
-call-pends : (e : Ends.Ends) → Sound (e .supervisor) → PendsIn e → (t : Ends.EndCall) → EndCallTyped t → Sound (endsAfter e t .supervisor) × PendsIn (endsAfter e t)
+call-pends : (e : Ends.Ends) → Sound (e .supervisor) → PendsIn e → (t : Ends.EndCall) → EndCallTyped t
+    → Sound (endsAfter e t .supervisor) × PendsIn (endsAfter e t)
 unfolding endsAfter
 call-pends e s p (Ends.main m) typed = (s, main-pends (view (e .supervisor)) (e .log) p (m .call) _ _ _)
 call-pends e s p (Ends.supervisor m) typed =
@@ -244,13 +259,17 @@ call-pends e s p (Ends.supervisor m) typed =
 begun-pends : (s : BothStarts) → Sound (endsBegun s .supervisor) × PendsIn (endsBegun s)
 unfolding Received.receivedSinceAll Supervisor.leftMeant
 begun-pends s =
-    let k = SupervisorHistory.started (s .supervisor-parts) (s .supervisor-bytes) (s .supervisor-lent) (s .start-data) (s .start-typed) (s .supervisor-accepted) in
+    let k =
+    SupervisorHistory.started (s .supervisor-parts) (s .supervisor-bytes) (s .supervisor-lent) (s .start-data) (s .start-typed)
+    (s .supervisor-accepted) in
     (k .1, rw (k .0) (record { since = by-frames (factoryOf (s .start-data)) [] .2; waits = λ r e. absurd (none-some e) }))
 
-module _ (C : Ends.Ends → Ends.EndCall → Type 0) (of-call : (e : Ends.Ends) → Sound (e .supervisor) → PendsIn e → (t : Ends.EndCall) → EndCallTyped t → C e t) where
+module _ (C : Ends.Ends → Ends.EndCall → Type 0)
+    (of-call : (e : Ends.Ends) → Sound (e .supervisor) → PendsIn e → (t : Ends.EndCall) → EndCallTyped t → C e t) where
   calls-pend : (e : Ends.Ends) → Sound (e .supervisor) → PendsIn e → (ts : List Ends.EndCall) → Each EndCallTyped ts → Always C e ts
   calls-pend e s p [] typed = tt
-  calls-pend e s p (t ∷ ts) typed = let k = call-pends e s p t (typed .0) in (of-call e s p t (typed .0), calls-pend (endsAfter e t) (k .0) (k .1) ts (typed .1))
+  calls-pend e s p (t ∷ ts) typed =
+      let k = call-pends e s p t (typed .0) in (of-call e s p t (typed .0), calls-pend (endsAfter e t) (k .0) (k .1) ts (typed .1))
 
   from-starts : (s : BothStarts) (ts : List Ends.EndCall) → Each EndCallTyped ts → Always C (endsBegun s) ts
   from-starts s ts t = let k = begun-pends s in calls-pend (endsBegun s) (k .0) (k .1) ts t
@@ -260,7 +279,8 @@ module _ (C : Ends.Ends → Ends.EndCall → Type 0) (of-call : (e : Ends.Ends) 
 pub pending-bytes : PendingBytes
 pending-bytes = from-starts CallPends (λ e s p t typed. p .waits)
 
-main-sends : (l : Log) (c : MainCall) (a : MainAnswer) (out : List ℕ) (n : ℕ) → mainLogged l c a out n .sent ≡ cond (restarts c a) [] (l .sent)
+main-sends : (l : Log) (c : MainCall) (a : MainAnswer) (out : List ℕ) (n : ℕ)
+    → mainLogged l c a out n .sent ≡ cond (restarts c a) [] (l .sent)
 unfolding mainLogged
 main-sends l c a out n = by (restarts c a) refl
   where

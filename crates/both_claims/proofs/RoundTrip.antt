@@ -1,4 +1,5 @@
--- A request and its reply over a wire that loses nothing: the reply that carrying it out gives is handed out, once, whatever the cuts, and none is outstanding.
+-- A request and its reply over a wire that loses nothing:
+-- the reply that carrying it out gives is handed out, once, whatever the cuts, and none is outstanding.
 -- Assumes nothing.
 use mathlib.Core.Path.{_≡_, refl, sym, ap, _∙_}
 use mathlib.Core.Bool.{Bool, true, false}
@@ -112,14 +113,16 @@ module _ (p : MainParts) (v : MainPartsValid p) (j : MainLent) (command : ℕ) (
   meant-puts : mainMeantMade (mainView p) asking .answer ≡ Main.put count → PutOut (mainView p) q count (mainMeantMade (mainView p) asking)
   unfolding mainMeantMade mainMeant
   meant-puts =
-      cond-by (λ (x : MainMeans). x .answer ≡ Main.put count → PutOut (mainView p) q count x) (mainEnough (Main.request command d room) j) _ _
+      cond-by (λ (x : MainMeans). x .answer ≡ Main.put count → PutOut (mainView p) q count x) (mainEnough (Main.request command d room) j) _
+      _
       (λ _. request-puts (mainView p) q room count) (λ _ e. absurd (never-put _ _ e))
 
   made-puts : mainMade p asking .answer ≡ Main.put count → PutOut (mainView p) q count (mainMeantMade (mainView p) asking)
   made-puts put = meant-puts (sym (MainHistory.one-call p asking v .answer) ∙ put)
 
   -- it takes the next number
-  pub next-number : mainMade p asking .answer ≡ Main.put count → Layout.newestNumber (mainMade p asking .parts .requester) ≡ suc (mainView p .newest)
+  pub next-number : mainMade p asking .answer ≡ Main.put count
+      → Layout.newestNumber (mainMade p asking .parts .requester) ≡ suc (mainView p .newest)
   next-number put = newest-after p v asking ∙ ap (λ (y : MainState). y .newest) (made-puts put .state)
 
   module _ (between : mainView p .received ≡ some []) (byte : command < 256) (bytes : Each Byte d) (stays : staysOut command ≡ true) where
@@ -159,18 +162,22 @@ module _ (s : MainState) (q : Request) (room : List ℕ) (count : ℕ) where
       record { state = refl; frame = rw (← c) (overlay-inside 0 (requestFrame (s .newest) q) room (omega arith)) }))
       (λ _ e. let z : _≡_ {A = ℕ} 0 (suc count) = cc in absurd (omega arith)))
 
-module _ (p : MainParts) (v : MainPartsValid p) (j : MainLent) (q : Request) (room : List ℕ) (count : ℕ) (between : mainView p .received ≡ some [])
+module _ (p : MainParts) (v : MainPartsValid p) (j : MainLent) (q : Request) (room : List ℕ) (count : ℕ)
+    (between : mainView p .received ≡ some [])
     (calm : mainView p .recovery ≡ none) (kept : mainView p .kept ≡ some q) (bytes : Each Byte (q .payload)) where
   abbrev sending : MainMade
   sending = record { lent = j; call = Main.send room }
 
-  meant-puts-again : mainMeantMade (mainView p) sending .answer ≡ Main.put (suc count) → PutAgain (mainView p) q (suc count) (mainMeantMade (mainView p) sending)
+  meant-puts-again : mainMeantMade (mainView p) sending .answer ≡ Main.put (suc count)
+      → PutAgain (mainView p) q (suc count) (mainMeantMade (mainView p) sending)
   unfolding mainMeantMade mainMeant Requester.send
   meant-puts-again =
-      cond-by (λ (x : MainMeans). x .answer ≡ Main.put (suc count) → PutAgain (mainView p) q (suc count) x) (mainEnough (Main.send room) j) _ _
+      cond-by (λ (x : MainMeans). x .answer ≡ Main.put (suc count) → PutAgain (mainView p) q (suc count) x) (mainEnough (Main.send room) j)
+      _ _
       (λ _. send-puts (mainView p) q room count (outstanding (mainView p)) (rw (calm, kept))) (λ _ e. absurd (never-put _ _ e))
 
-  waiting-again : mainMade p sending .answer ≡ Main.put (suc count) → let x = mainMade p sending in let m = asMessage (Layout.newestNumber (x .parts .requester)) q in
+  waiting-again : mainMade p sending .answer ≡ Main.put (suc count)
+      → let x = mainMade p sending in let m = asMessage (Layout.newestNumber (x .parts .requester)) q in
       verdict (form m) ≡ good m → Waiting (x .parts) q (take (suc count) (x .out))
   waiting-again put passed =
       let k = MainHistory.one-call p sending v in
@@ -190,7 +197,8 @@ module _ (p : MainParts) (v : MainPartsValid p) (j : MainLent) (q : Request) (ro
 
 -- a request that earns a reply stays outstanding
 module _ (image : List ℕ) (s : State) (m r : Message) (earns : replyToRequest image s m ≡ some r) where
-  not-command : (c : ℕ) → replyMessage (replyOf (m .sequence) (carryOutBy (commandOfNumber c) image s m .reply)) ≡ none → eqb (m .command) c ≡ false
+  not-command : (c : ℕ) → replyMessage (replyOf (m .sequence) (carryOutBy (commandOfNumber c) image s m .reply)) ≡ none
+      → eqb (m .command) c ≡ false
   unfolding carryOut
   not-command c e = ne-eqb (m .command) c (λ (k : m .command ≡ c). none-some {x = r} (sym e ∙ rw (← k) earns))
 
@@ -212,7 +220,9 @@ module _ (q : Parts) (s : Sound q) (idle : view q .received ≡ some []) (image 
 
     delivered-form : allReceived (b .before) ++ b .ahead ≡ form m
     unfolding frame
-    delivered-form = snoc-same _ _ (append-assoc (allReceived (b .before)) (b .ahead) (0 ∷ []) ∙ ap (λ (z : List ℕ). allReceived (b .before) ++ z) (sym (b .closed)) ∙ b .whole)
+    delivered-form =
+        snoc-same _ _ (append-assoc (allReceived (b .before)) (b .ahead) (0 ∷ [])
+        ∙ ap (λ (z : List ℕ). allReceived (b .before) ++ z) (sym (b .closed)) ∙ b .whole)
 
     pub delivered-parts : Sound q' × (view q' ≡ withReceived (frameCarried image (view q) (form m)) (some []))
     delivered-parts =
@@ -220,7 +230,8 @@ module _ (q : Parts) (s : Sound q) (idle : view q .received ≡ some []) (image 
         let k = one-call (Supervisor.left q (b .before)) (b .last) (f .2) (b .last-typed) in
         let e = k .leaves .0 ∙ ap (λ (x : State). Supervisor.meantMade x (b .last) .state) (f .1) in (
           k .leaves .1,
-          e ∙ delivered image (b .before) (b .last) (view q) (b .receive) (b .with-image) idle (form m) (b .ahead) (above-zero (message m)) delivered-form (b .closed),
+          e ∙ delivered image (b .before) (b .last) (view q) (b .receive) (b .with-image) idle (form m) (b .ahead) (above-zero (message m))
+              delivered-form (b .closed),
         )
 
     pub reply-waits : view q' .pending ≡ waits
@@ -251,7 +262,8 @@ unfolding cobs
 form-some xs = omega arith
 
 -- a 00 that was owed, or nothing
-owed-read : (b : Bool) (s : MainState) → s .received ≡ some [] → Requester.receive s (owed b) ≡ Requester.receiveResult (length (owed b)) (Requester.dropped s)
+owed-read : (b : Bool) (s : MainState) → s .received ≡ some []
+    → Requester.receive s (owed b) ≡ Requester.receiveResult (length (owed b)) (Requester.dropped s)
 unfolding Requester.receive Requester.mainByte
 owed-read false s e = refl
 owed-read true s e =
@@ -302,7 +314,8 @@ module _ (p : MainParts) (v : MainPartsValid p) (q : Request) (kept : mainView p
       (a ∙ rw c, y ∙ rw d, z)
 
   -- in any cuts
-  in-any : (b : Bool) (cs : List MainRead) → afterMainReads (listening p) cs .bytes ≡ owed b ++ frame r → Answered (owed b ++ frame r) (afterMainReads (listening p) cs)
+  in-any : (b : Bool) (cs : List MainRead) → afterMainReads (listening p) cs .bytes ≡ owed b ++ frame r
+      → Answered (owed b ++ frame r) (afterMainReads (listening p) cs)
   in-any b cs e =
       let t = in-two b in
       rw (cut p v cs (owedRead b ∷ (frameRead ∷ [])) (e ∙ sym (t .1))) t
@@ -310,7 +323,8 @@ module _ (p : MainParts) (v : MainPartsValid p) (q : Request) (kept : mainView p
 -- ---- the claim
 
 -- a request that waits
-module _ (q : Parts) (s : Sound q) (idle : view q .received ≡ some []) (p : MainParts) (a : Request) (fr : List ℕ) (w : Waiting p a fr) where
+module _ (q : Parts) (s : Sound q) (idle : view q .received ≡ some []) (p : MainParts) (a : Request) (fr : List ℕ)
+    (w : Waiting p a fr) where
   abbrev n : ℕ
   n = Layout.newestNumber (p .requester)
 
@@ -318,8 +332,8 @@ module _ (q : Parts) (s : Sound q) (idle : view q .received ≡ some []) (p : Ma
   m = asMessage n a
 
   -- the whole reply is heard as the answer
-  pub whole-heard : (image : List ℕ) → Each Byte image → verdict (form m) ≡ good m → (r : Message) → replyToRequest image (view q) m ≡ some r
-      → InRange r × (r .sequence ≡ replySequence (mainView p .newest)) × (r .command ≡ 0x02 → ⊥)
+  pub whole-heard : (image : List ℕ) → Each Byte image → verdict (form m) ≡ good m → (r : Message)
+      → replyToRequest image (view q) m ≡ some r → InRange r × (r .sequence ≡ replySequence (mainView p .newest)) × (r .command ≡ 0x02 → ⊥)
   whole-heard image each passed r earns =
       let nonzero = no-zero (message m) (message-each m (w .in-range .typed .payload)) in
       let t = reply-of image (view q) m r earns in (
@@ -344,7 +358,8 @@ module _ (q : Parts) (s : Sound q) (idle : view q .received ≡ some []) (p : Ma
       } in
       let e : takenOf t ≡ waits q s idle image m passed r earns = reply-taken q s idle image m passed r earns f t in
       let g = whole-heard image each passed r earns in
-      let z = in-any p (w .valid) a (w .kept) (w .calm) (w .between) r (g .0) version (g .1) (g .2) (view q .terminator-owed) cs (read ∙ e) in
+      let z =
+      in-any p (w .valid) a (w .kept) (w .calm) (w .between) r (g .0) version (g .1) (g .2) (view q .terminator-owed) cs (read ∙ e) in
       (z .0, z .2 ∙ rw (w .newest))
 
 -- each end after any calls from its start
@@ -354,15 +369,18 @@ module _ (starts : BothStarts) (mains : List MainMade) (sups : List Supervisor.M
 
   supervisor-sound : Sound (Supervisor.left (endsBegun starts .supervisor) sups)
   supervisor-sound =
-      history (starts .supervisor-parts) (starts .supervisor-bytes) (starts .supervisor-lent) (starts .start-data) (starts .start-typed) (starts .supervisor-accepted) sups sups-typed .2
+      history (starts .supervisor-parts) (starts .supervisor-bytes) (starts .supervisor-lent) (starts .start-data) (starts .start-typed)
+      (starts .supervisor-accepted) sups sups-typed .2
 
 pub round-trip : RoundTrip
 round-trip starts mains sups typed between idle j command d room byte bytes count put image each passed r earns version =
     let p = mainLeft (endsBegun starts .main) mains in
     let q = Supervisor.left (endsBegun starts .supervisor) sups in
-    let w = waiting p (main-valid starts mains sups typed) j command d room count between byte bytes (replied-stays image (view q) _ r earns) put in
+    let w =
+    waiting p (main-valid starts mains sups typed) j command d room count between byte bytes (replied-stays image (view q) _ r earns) put in
     let asked = mainMade p (record { lent = j; call = Main.request command d room }) .parts in
-    answered q (supervisor-sound starts mains sups typed) idle asked (record { command = command; payload = d }) _ w image each passed r earns version
+    answered q (supervisor-sound starts mains sups typed) idle asked (record { command = command; payload = d }) _ w image each passed r
+    earns version
 
 pub round-trip-again : RoundTripAgain
 round-trip-again starts mains sups typed between idle j a room calm kept bytes count put image each passed =

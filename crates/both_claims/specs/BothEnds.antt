@@ -1,4 +1,5 @@
--- What is claimed of both ends: which replies count as put out, what an answer comes from, how old a list can be, and exchanges in which nothing is lost.
+-- What is claimed of both ends: which replies count as put out, what an answer comes from, how old a list
+-- can be, and exchanges in which nothing is lost.
 -- Assumes nothing: these are definitions and statements.
 use mathlib.Core.Path.{_≡_}
 use mathlib.Core.Bool.{true}
@@ -19,14 +20,17 @@ use Rattle.supervisor.specs.Calls as SupervisorCalls
 use Rattle.supervisor_claims.specs.View.{view}
 use Rattle.supervisor_claims.specs.Histories as Supervisor
 use Rattle.supervisor_claims.specs.LastSet.{ReadBack}
-use Rattle.both_claims.specs.Ends.{Ends, EndCall, main, EndCallTyped, Log, endsAfter, endsAfterAll, BothStarts, endsBegun, Begun, Always, Wire, WireAfter}
-use Rattle.both_claims.specs.Ends.{InOrder, InOrderAfter, CallFresh, CallOf, AlertFresh, MainGoesOn, AlertAgainst, lookupRequest, FreshValue}
+use Rattle.both_claims.specs.Ends.{Ends, EndCall, main, EndCallTyped, Log, endsAfter, endsAfterAll, BothStarts, endsBegun, Begun}
+use Rattle.both_claims.specs.Ends.{Always, Wire, WireAfter}
+use Rattle.both_claims.specs.Ends.{InOrder, InOrderAfter, CallFresh, CallOf, AlertFresh, MainGoesOn, AlertAgainst, lookupRequest}
+use Rattle.both_claims.specs.Ends.{FreshValue}
 use Rattle.both_claims.specs.Ends.{CallStays, GoesOn, ValueAgainst, ValueSince, ValueNotOlder, ValueNewer, NoRequest, HadValue}
 use Rattle.both_claims.specs.Pending.{CallPends, CallSends}
 use Rattle.both_claims.specs.RoundTrip.{Trip}
 use Rattle.both_claims.specs.Exchanges.{Exchanges, Clean, Served, setRequest, ExchangesOf}
 
--- ---- What the claims are over: calls of both ends in any order, with arguments of their types, further starts among them, each lent any run of each part
+-- ---- What the claims are over:
+-- calls of both ends in any order, with arguments of their types, further starts among them, each lent any run of each part
 
 -- C holds of each call behind a start of each end, over any wire
 abbrev pub FromStarts : (Ends → EndCall → Type 0) → Type 0
@@ -40,9 +44,11 @@ OverWire C = (e : Ends) → Begun e → (ts : List EndCall) → Each EndCallType
 abbrev pub GoesOnInOrder : Ends → List EndCall → Type 0
 GoesOnInOrder e ts = Always GoesOn e ts × Always InOrderAfter e ts
 
--- any moment since the main processor's end was just started, where H holds of the calls by then: P holds of both ends then, and of the calls behind it
+-- any moment since the main processor's end was just started, where H holds of the calls by then:
+-- P holds of both ends then, and of the calls behind it
 abbrev pub AtMoment : (Ends → List EndCall → Type 0) → (Ends → List EndCall → Type 0) → Type 0
-AtMoment H P = (b : Ends) → Begun b → (ts us : List EndCall) → Each EndCallTyped ts → Each EndCallTyped us → H b ts → P (endsAfterAll b ts) us
+AtMoment H P = (b : Ends) → Begun b → (ts us : List EndCall) → Each EndCallTyped ts → Each EndCallTyped us → H b ts
+    → P (endsAfterAll b ts) us
 
 -- ---- Replies that count as put out
 
@@ -53,7 +59,8 @@ abbrev pub SentByTake : Type 0
 SentByTake = FromStarts CallSends
 
 pub record RepliesPutOut : Type 0 where
-  -- As long as the newest reply since the main processor's end was started counts as not put out, the bytes pending are what is left of its frame.
+  -- As long as the newest reply since the main processor's end was started counts as not put out,
+  -- the bytes pending are what is left of its frame.
   -- They are more than its 00, and a 00 may be owed ahead of it.
   pub pending-bytes : PendingBytes
   -- Only a take puts a reply out, and only the one that was pending: it moves all that is left of its frame but the 00 at most.
@@ -73,7 +80,8 @@ AlertAnswer = OverWire (CallOf AlertFresh)
 
 abbrev pub AlertSince : Type 0
 AlertSince =
-    AtMoment (Always WireAfter) (λ e us. e .log .cleared ≡ true → Always MainGoesOn e us → Always WireAfter e us → Always (CallOf (AlertAgainst e)) e us)
+    AtMoment (Always WireAfter)
+    (λ e us. e .log .cleared ≡ true → Always MainGoesOn e us → Always WireAfter e us → Always (CallOf (AlertAgainst e)) e us)
 
 pub record Answers : Type 0 where
   -- a wire that keeps the order, and on which each frame is read once at most, is as `Wire` says
@@ -93,7 +101,8 @@ abbrev pub ListAge : Type 0
 ListAge = OverWire (CallOf FreshValue)
 
 abbrev pub NotReplaced : Type 0
-NotReplaced = AtMoment (Always WireAfter) (λ e us. Each CallStays us → Always WireAfter e us → Always (CallOf (ValueAgainst e (ValueSince e))) e us)
+NotReplaced =
+    AtMoment (Always WireAfter) (λ e us. Each CallStays us → Always WireAfter e us → Always (CallOf (ValueAgainst e (ValueSince e))) e us)
 
 abbrev pub ListNotOlder : Type 0
 ListNotOlder = AtMoment (Always WireAfter) (λ e us. GoesOnInOrder e us → Always (CallOf (ValueAgainst e (ValueNotOlder e))) e us)
@@ -101,7 +110,8 @@ ListNotOlder = AtMoment (Always WireAfter) (λ e us. GoesOnInOrder e us → Alwa
 abbrev pub NeverReplaced : Type 0
 NeverReplaced = AtMoment GoesOnInOrder (λ e us. GoesOnInOrder e us → Always (CallOf (ValueAgainst e (ValueNewer e))) e us)
 
--- a lookup is put out at the moment, and no further request of the caller's behind it; interrupts, recoveries and repetitions may come in between
+-- a lookup is put out at the moment, and no further request of the caller's behind it;
+-- interrupts, recoveries and repetitions may come in between
 abbrev pub ValueAsked : Type 0
 ValueAsked = AtMoment GoesOnInOrder (λ e us.
     (k most : ℕ) → ReadBack k → most < 65536 → (j : MainLent) (room : List ℕ) (count : ℕ)
@@ -119,7 +129,8 @@ pub record ListAges : Type 0 where
   -- Where the wire has kept the order, too: it is the value then, or one set since by a request newer than all read by then.
   -- Or it was set by the newest of those once more, which undoes a restore or a start of the supervisor ahead of that moment.
   pub list-not-older : ListNotOlder
-  -- With no restore and no start of the supervisor since the main processor's end was started: the value then, or one that a newer request set.
+  -- With no restore and no start of the supervisor since the main processor's end was started:
+  -- the value then, or one that a newer request set.
   -- So no list that was replaced before the lookup was put out is its answer, unless a newer request sets it.
   pub never-replaced : NeverReplaced
   -- and where the caller puts no further request out, it is exactly the value that the key had as the lookup was put out

@@ -1,5 +1,5 @@
--- Both ends: calls of the two in any order, what each has put out and read since the main processor's end was last started, the wire between them,
--- and what an answer must come from. Assumes nothing: these are definitions.
+-- Both ends: calls of the two in any order, what each has put out and read since the main processor's end was last started, the wire
+-- between them, and what an answer must come from. Assumes nothing: these are definitions.
 use mathlib.Core.Path.{_≡_}
 use mathlib.Core.Bool.{Bool, true, false, cond, _&&_, _||_}
 use mathlib.Core.List.{List, [], _∷_, _++_, map}
@@ -10,7 +10,8 @@ use lib.Count.{ones}
 use lib.Dec.{eqb}
 use lib.ListN.{length, take}
 use Rattle.octets.specs.Bytes.{Each, Byte, bytes}
-use Rattle.line.specs.Numbers.{status-length, first-version, command-reboot, command-power-off, command-alert, command-key-lookup, reply-status, reply-key-lookup}
+use Rattle.line.specs.Numbers.{status-length, first-version, command-reboot, command-power-off, command-alert, command-key-lookup}
+use Rattle.line.specs.Numbers.{reply-status, reply-key-lookup}
 use Rattle.line.specs.Message.{Message}
 use Rattle.line.specs.Frame.{frame}
 use Rattle.line_claims.specs.Pieces.{split, nonEmpty}
@@ -34,7 +35,8 @@ use Rattle.supervisor_claims.specs.Sound.{Bytes}
 use Rattle.supervisor_claims.specs.Histories as Supervisor
 use Rattle.supervisor_claims.specs.FrameHistory as Received
 use Rattle.supervisor_claims.specs.FrameHistory.{frameCarried}
-use Rattle.supervisor_claims.specs.LastSet.{requestsIn, setBy, setAfter, recordsRestored, Origin, sinceStart, sinceMore, sinceMade, setSince, fittedOf, ReadBack}
+use Rattle.supervisor_claims.specs.LastSet.{requestsIn, setBy, setAfter, recordsRestored, Origin, sinceStart, sinceMore, sinceMade}
+use Rattle.supervisor_claims.specs.LastSet.{setSince, fittedOf, ReadBack}
 use Rattle.supervisor_claims.specs.Replies.{replyBy}
 
 -- an element of a list has the property
@@ -77,8 +79,8 @@ pub record Handled : Type 0 where
   pub origin : ℕ → Origin
   -- the frames that the main processor's end had put out by then, since its last accepted start
   pub asked : List Frame
-  -- whether the supervisor had been started, together with that start or since, or had carried out a reboot or power-off since: each drops the retained
-  -- alert reply
+  -- whether the supervisor had been started, together with that start or since, or had carried out a reboot or power-off since: each drops
+  -- the retained alert reply
   pub cleared : Bool
 
 -- the message of a reply
@@ -113,13 +115,14 @@ pub record Log : Type 0 where
   pub cleared : Bool
   -- its newest reply, where more of it than its 00 is still to be taken
   pub pending : Option Message
-  -- its replies that were taken, but for their 00 at most: any 00 behind ends the frame; one that was made before the main processor's end was started is not
-  -- among them
+  -- its replies that were taken, but for their 00 at most: any 00 behind ends the frame; one that was made before the main processor's end
+  -- was started is not among them
   pub sent : List Message
 
 -- nothing yet; given are whether the supervisor was just started too, the bytes that it had received, and where its keys' values came from
 abbrev pub emptyLog : Bool → List ℕ → (ℕ → Origin) → Log
-emptyLog started w o = record { read = []; asked = []; received = w; origin = o; heard = []; handled = []; cleared = started; pending = none; sent = [] }
+emptyLog started w o =
+    record { read = []; asked = []; received = w; origin = o; heard = []; handled = []; cleared = started; pending = none; sent = [] }
 
 -- both just started
 abbrev pub firstLog : Log
@@ -275,7 +278,8 @@ pub record BothStarts : Type 0 where
   pub supervisor-lent : Supervisor.Lent
   pub start-data : List ℕ
   pub start-typed : Supervisor.Typed (Supervisor.start start-data)
-  pub supervisor-accepted : Supervisor.made supervisor-parts (record { lent = supervisor-lent; call = Supervisor.start start-data }) .answer ≡ Supervisor.done
+  pub supervisor-accepted : Supervisor.made supervisor-parts (record { lent = supervisor-lent; call = Supervisor.start start-data }) .answer
+      ≡ Supervisor.done
 
 -- both ends then
 abbrev pub endsBegun : BothStarts → Ends
@@ -303,9 +307,9 @@ Always C e (t ∷ ts) = C e t × Always C (endsAfter e t) ts
 
 -- ---- The wire
 
--- each good message that an end has read since the main processor's end was last started is that of a whole frame that the other has put out since. Bytes may
--- be lost, delayed, cut and damaged; frames may come late, twice and in another order. But each good message read is, byte for byte, that of a frame put out
--- since that start and, if a reply, made since
+-- each good message that an end has read since the main processor's end was last started is that of a whole frame that the other has put
+-- out since. Bytes may be lost, delayed, cut and damaged; frames may come late, twice and in another order. But each good message read is,
+-- byte for byte, that of a frame put out since that start and, if a reply, made since
 pub record Wire (l : Log) : Type 0 where
   pub to-supervisor : Each (λ (m : Message). Any (λ (x : Frame). x .bytes ≡ frame m) (l .asked)) (l .heard)
   pub to-main : Each (λ (r : Message). Any (λ (y : Message). frame y ≡ frame r) (l .sent)) (got l)
@@ -331,7 +335,8 @@ WireAfter e t = Wire (endsAfter e t .log)
 abbrev pub asMessage : ℕ → Request → Message
 asMessage n q = record { version = 1; sequence = n; command = q .command; payload = q .payload }
 
--- the supervisor carried out exactly this request under this number, after the main processor's end had put it out, and r is the reply that it made
+-- the supervisor carried out exactly this request under this number, after the main processor's end
+-- had put it out, and r is the reply that it made
 pub record CarriedOut (n : ℕ) (q : Request) (r : Message) (h : Handled) : Type 0 where
   -- the frame is the one put out under n, byte for byte
   pub form : h .form ++ (0 ∷ []) ≡ requestFrame n q
@@ -348,14 +353,16 @@ pub record Fresh (s : MainState) (l : Log) (r : Message) : Type 0 where
   pub waiting : outstanding s ≡ some request
   pub made : Any (CarriedOut (s .newest) request r) (l .handled)
 
--- what is handed out: outside a recovery an answer; in it a status with its number of set bits, to the status request, or an alert's answer, to the alert
--- request
+-- what is handed out: outside a recovery an answer; in it a status with its number of set bits, to the status request, or an alert's
+-- answer, to the alert request
 abbrev pub FreshReport : MainState → Log → MainCalls.HandedReport → List ℕ → Type 0
 FreshReport s l (MainCalls.HandedReport.refused n) d = Unit {0}
 FreshReport s l MainCalls.nothing d = Unit {0}
-FreshReport s l (MainCalls.answered v q c n) d = (s .recovery ≡ none) × Fresh s l (record { version = v; sequence = q; command = c; payload = d })
+FreshReport s l (MainCalls.answered v q c n) d =
+    (s .recovery ≡ none) × Fresh s l (record { version = v; sequence = q; command = c; payload = d })
 FreshReport s l (MainCalls.status x o k) d =
-    (s .recovery ≡ some RequesterState.fetch) × (r : Message) × Fresh s l r × (messageStatus r ≡ x) × (messageOptions r ≡ o) × (ones x ≡ k) × (r .command ≡ reply-status)
+    (s .recovery ≡ some RequesterState.fetch) × (r : Message) × Fresh s l r × (messageStatus r ≡ x) × (messageOptions r ≡ o) × (ones x ≡ k)
+    × (r .command ≡ reply-status)
     × (length (r .payload) ≡ status-length)
 FreshReport s l (MainCalls.alerted v q c n) d =
     (s .recovery ≡ some RequesterState.alert) × Fresh s l (record { version = v; sequence = q; command = c; payload = d })
@@ -384,13 +391,13 @@ pub record AlertTaken (n : ℕ) (q : Request) (r : Message) (h : Handled) : Type
   pub none-retained : retainedUnder n (h .state .retained) ≡ false
   pub oldest-waiting : r .payload ≡ alertData (oldest (h .state .waiting))
 
--- an answer to an alert request holds an alert that was taken in carrying out that request, after it was put out, if no alert reply from before the main
--- processor's end was started was still retained: if the supervisor was started together with it or since, or carried out a reboot or power-off since, and
--- then this request
+-- an answer to an alert request holds an alert that was taken in carrying out that request, after it was put out, if no alert reply from
+-- before the main processor's end was started was still retained: if the supervisor was started together with it or since, or carried out a
+-- reboot or power-off since, and then this request
 abbrev pub AlertFresh : MainState → Log → Message → Type 0
 AlertFresh s l r =
-    (q : Request) → outstanding s ≡ some q → q .command ≡ command-alert → Any (λ (h : Handled). CarriedOut (s .newest) q r h × (h .cleared ≡ true)) (l .handled)
-    → Any (AlertTaken (s .newest) q r) (l .handled)
+    (q : Request) → outstanding s ≡ some q → q .command ≡ command-alert
+    → Any (λ (h : Handled). CarriedOut (s .newest) q r h × (h .cleared ≡ true)) (l .handled) → Any (AlertTaken (s .newest) q r) (l .handled)
 
 -- the message that is handed out as an answer or an alert's answer
 abbrev pub messageReported : MainCalls.HandedReport → List ℕ → Option Message
@@ -408,7 +415,8 @@ messageHanded (Main.received used t e u) d = messageReported t d
 
 -- of each message that a call hands out so, with both ends as it found them
 abbrev pub CallOf : (MainState → Log → Message → Type 0) → Ends → EndCall → Type 0
-CallOf P e (main m) = let d = mainMade (e .main) m in (r : Message) → messageHanded (d .answer) (d .out) ≡ some r → P (mainView (e .main)) (e .log) r
+CallOf P e (main m) =
+    let d = mainMade (e .main) m in (r : Message) → messageHanded (d .answer) (d .out) ≡ some r → P (mainView (e .main)) (e .log) r
 CallOf P e (supervisor m) = Unit {0}
 
 -- ---- What a lookup's answer comes from
@@ -420,17 +428,19 @@ lookupRequest k most = record { command = command-key-lookup; payload = bytes 1 
 -- the supervisor carried the lookup out, after it was put out
 pub record ValueThen (n k most : ℕ) (r : Message) (h : Handled) : Type 0 where
   pub carried-out : CarriedOut n (lookupRequest k most) r h
-  -- the answer is the value that key k had then: result 2 where it had none, 3 where the value is longer than maxresponse, else 0 and the value
+  -- the answer is the value that key k had then:
+  -- result 2 where it had none, 3 where the value is longer than maxresponse, else 0 and the value
   pub value : let f = fittedOf most (entryOf (h .state) k) in r .payload ≡ f .result ∷ f .value
-  -- and that is the value of the last successful set of key k, or what the last accepted restore left if that is later, among what the supervisor had carried
-  -- out since its last start; a restored image may itself be old
+  -- and that is the value of the last successful set of key k, or what the last accepted restore left if that is later, among what the
+  -- supervisor had carried out since its last start; a restored image may itself be old
   pub last-set : entryOf (h .state) k ≡ setSince k (h .origin k)
 
 -- of a lookup that is outstanding, of a settings key that is read back
 abbrev pub FreshValue : MainState → Log → Message → Type 0
 FreshValue s l r =
     (k most : ℕ) → ReadBack k → most < 65536 → outstanding s ≡ some (lookupRequest k most)
-    → (r .version ≡ first-version) × (r .sequence ≡ replySequence (s .newest)) × (r .command ≡ reply-key-lookup) × Any (ValueThen (s .newest) k most r) (l .handled)
+    → (r .version ≡ first-version) × (r .sequence ≡ replySequence (s .newest)) × (r .command ≡ reply-key-lookup)
+    × Any (ValueThen (s .newest) k most r) (l .handled)
 
 -- the frames that the supervisor has received since its last accepted start, without the empty ones
 abbrev pub handledFrames : Ends → List (List ℕ)
@@ -469,10 +479,12 @@ pub record ValueSince (e : Ends) (n k most : ℕ) (r : Message) (h : Handled) : 
   -- the value is that of the last successful set since then, or else the one that key k had then
   pub last-since : entryOf (h .state) k ≡ setAfter k (entryOf (view (e .supervisor)) k) (requestsIn later)
 
--- of a lookup that is outstanding under a number under which nothing had been put out by the moment e: P holds of a moment at which it was carried out
+-- of a lookup that is outstanding under a number under which nothing had been put out by the moment e:
+-- P holds of a moment at which it was carried out
 abbrev pub ValueAgainst : Ends → (ℕ → ℕ → ℕ → Message → Handled → Type 0) → MainState → Log → Message → Type 0
 ValueAgainst e P s l r =
-    (k most : ℕ) → ReadBack k → most < 65536 → outstanding s ≡ some (lookupRequest k most) → NotAsked e (s .newest) → Any (P (s .newest) k most r) (l .handled)
+    (k most : ℕ) → ReadBack k → most < 65536 → outstanding s ≡ some (lookupRequest k most) → NotAsked e (s .newest)
+    → Any (P (s .newest) k most r) (l .handled)
 
 -- ---- What an alert's answer comes from, against an earlier moment
 
@@ -481,9 +493,11 @@ abbrev pub MainGoesOn : Ends → EndCall → Type 0
 MainGoesOn e (main m) = restarts (m .call) (mainMade (e .main) m .answer) ≡ false
 MainGoesOn e (supervisor m) = Unit {0}
 
--- an answer to an alert request that had not been put out at that moment holds an alert that was taken in carrying out that request, after it was put out
+-- an answer to an alert request that had not been put out at that moment holds an alert that was taken in
+-- carrying out that request, after it was put out
 abbrev pub AlertAgainst : Ends → MainState → Log → Message → Type 0
-AlertAgainst e s l r = (q : Request) → outstanding s ≡ some q → q .command ≡ command-alert → NotAsked e (s .newest) → Any (AlertTaken (s .newest) q r) (l .handled)
+AlertAgainst e s l r = (q : Request) → outstanding s ≡ some q → q .command ≡ command-alert → NotAsked e (s .newest)
+    → Any (AlertTaken (s .newest) q r) (l .handled)
 
 -- ---- On a wire that keeps the order
 
@@ -495,8 +509,8 @@ GoesOn e (supervisor m) = Stays m
 abbrev pub InOrderAfter : Ends → EndCall → Type 0
 InOrderAfter e t = InOrder (endsAfter e t .log)
 
--- a request with a higher number than all that the supervisor had read by an earlier moment, since the main processor's last accepted start; or the newest
--- of those once more
+-- a request with a higher number than all that the supervisor had read by an earlier moment, since the main processor's last accepted
+-- start; or the newest of those once more
 abbrev pub NotOlder : Ends → Message → Type 0
 NotOlder e m = Each (λ (y : Message). (y .sequence < m .sequence) ⊎ (y ≡ m)) (e .log .heard)
 
@@ -506,15 +520,18 @@ pub record ValueNotOlder (e : Ends) (n k most : ℕ) (r : Message) (h : Handled)
   pub not-older : Each (NotOlder e) (requestsIn (value-since .later))
   -- so the value is the one that key k had then, or was set since by such a request
   pub from : let v = entryOf (h .state) k .value in
-      (v ≡ entryOf (view (e .supervisor)) k .value) ⊎ Any (λ (m : Message). (setBy k m ≡ v) × NotOlder e m) (requestsIn (value-since .later))
+      (v ≡ entryOf (view (e .supervisor)) k .value)
+      ⊎ Any (λ (m : Message). (setBy k m ≡ v) × NotOlder e m) (requestsIn (value-since .later))
 
 -- the same with higher numbers only
 pub record ValueNewer (e : Ends) (n k most : ℕ) (r : Message) (h : Handled) : Type 0 where
   pub value-since : ValueSince e n k most r h
-  -- the value is the one that key k had then, or was set since by a request with a higher number than all that the supervisor had read by then
+  -- the value is the one that key k had then, or was set since by a request with a higher number
+  -- than all that the supervisor had read by then
   pub from : let v = entryOf (h .state) k .value in
       (v ≡ entryOf (view (e .supervisor)) k .value)
-      ⊎ Any (λ (m : Message). (setBy k m ≡ v) × Each (λ (y : Message). y .sequence < m .sequence) (e .log .heard)) (requestsIn (value-since .later))
+      ⊎ Any (λ (m : Message). (setBy k m ≡ v) × Each (λ (y : Message). y .sequence < m .sequence) (e .log .heard))
+      (requestsIn (value-since .later))
 
 -- ---- What a lookup's answer is where nothing more is put out
 
@@ -538,8 +555,10 @@ abbrev pub NoRequest : Ends → EndCall → Type 0
 NoRequest e (main m) = putsRequest (m .call) (mainMade (e .main) m .answer) ≡ false
 NoRequest e (supervisor m) = Unit {0}
 
--- the answer to this lookup is the value that key k had at an earlier moment: result 2 where it had none, 3 where the value is longer than maxresponse, else
+-- the answer to this lookup is the value that key k had at an earlier moment:
+-- result 2 where it had none, 3 where the value is longer than maxresponse, else
 -- 0 and the value
 abbrev pub HadValue : Ends → ℕ → ℕ → MainState → Log → Message → Type 0
 HadValue e k most s l r =
-    outstanding s ≡ some (lookupRequest k most) → let f = fittedOf most (entryOf (view (e .supervisor)) k) in r .payload ≡ f .result ∷ f .value
+    outstanding s ≡ some (lookupRequest k most)
+    → let f = fittedOf most (entryOf (view (e .supervisor)) k) in r .payload ≡ f .result ∷ f .value

@@ -21,7 +21,8 @@ use Rattle.responder.specs.Requests.{good, verdict, known, lengthAllowed}
 use Rattle.supervisor_claims.specs.View.{view}
 use Rattle.supervisor_claims.specs.Histories as Supervisor
 use Rattle.supervisor_claims.specs.Replies.{movedBytes}
-use Rattle.both_claims.specs.Ends.{Ends, EndCall, main, supervisor, InOrderAfter, GoesOn, replyToRequest, asMessage, endsAfter, endsAfterAll, Always, EndCallTyped, messageHanded}
+use Rattle.both_claims.specs.Ends.{Ends, EndCall, main, supervisor, InOrderAfter, GoesOn, replyToRequest, asMessage, endsAfter}
+use Rattle.both_claims.specs.Ends.{endsAfterAll, Always, EndCallTyped, messageHanded}
 
 -- ---- an exchange
 
@@ -49,7 +50,8 @@ pub record Exchange (e : Ends) : Type 0 where
   pub first : reply .version ≡ 1
   -- the calls behind it are lent enough, and the room for the reply is at least as long as its frame
   pub frame-lent : Supervisor.Lent
-  pub frame-enough : Supervisor.enough (Supervisor.receive image (take count (requestDid e request room request-lent .out))) frame-lent ≡ true
+  pub frame-enough : Supervisor.enough (Supervisor.receive image (take count (requestDid e request room request-lent .out))) frame-lent
+      ≡ true
   pub space : List ℕ
   pub space-bytes : Each Byte space
   pub long : length (frame reply) ≤ length space
@@ -72,13 +74,16 @@ abbrev pub exchangeTake : {e : Ends} → Exchange e → Supervisor.Made
 exchangeTake x = record { lent = x .take-lent; call = Supervisor.local (Supervisor.take (x .space)) }
 
 abbrev pub replyBytesTaken : {e : Ends} → Exchange e → List ℕ
-replyBytesTaken {e} x = let d = Supervisor.made (Supervisor.made (e .supervisor) (exchangeDelivery x) .parts) (exchangeTake x) in movedBytes (d .answer) (d .out)
+replyBytesTaken {e} x =
+    let d = Supervisor.made (Supervisor.made (e .supervisor) (exchangeDelivery x) .parts) (exchangeTake x) in
+    movedBytes (d .answer) (d .out)
 
 abbrev pub exchangeAnswer : {e : Ends} → Exchange e → MainMade
 exchangeAnswer x = record { lent = x .reply-lent; call = Main.receive (replyBytesTaken x) }
 
 abbrev pub exchangeCalls : {e : Ends} → Exchange e → List EndCall
-exchangeCalls x = main (exchangeRequest x) ∷ (supervisor (exchangeDelivery x) ∷ (supervisor (exchangeTake x) ∷ (main (exchangeAnswer x) ∷ [])))
+exchangeCalls x =
+    main (exchangeRequest x) ∷ (supervisor (exchangeDelivery x) ∷ (supervisor (exchangeTake x) ∷ (main (exchangeAnswer x) ∷ [])))
 
 -- ---- the messages that calls hand out as an answer or an alert's answer, one after the other
 
@@ -99,7 +104,8 @@ allHanded e (t ∷ ts) = callHanded e t ++ allHanded (endsAfter e t) ts
 -- one after the other, each from where the one before left both ends
 pub data Exchanges : Ends → List EndCall → Type 0 where
   finished : {e : Ends} → Exchanges e []
-  next : {e : Ends} {ts : List EndCall} (x : Exchange e) → Exchanges (endsAfterAll e (exchangeCalls x)) ts → Exchanges e (exchangeCalls x ++ ts)
+  next : {e : Ends} {ts : List EndCall} (x : Exchange e) → Exchanges (endsAfterAll e (exchangeCalls x)) ts
+      → Exchanges e (exchangeCalls x ++ ts)
 
 -- their requests, and their replies
 unfoldable pub requestsExchanged : {e : Ends} {ts : List EndCall} → Exchanges e ts → List Request

@@ -1,4 +1,5 @@
--- A request and its reply over a wire that loses nothing: its frame in any cuts, the takes that move the reply, and what is then handed out.
+-- A request and its reply over a wire that loses nothing:
+-- its frame in any cuts, the takes that move the reply, and what is then handed out.
 -- Assumes nothing: these are definitions.
 use mathlib.Core.Path.{_≡_}
 use mathlib.Core.Bool.{false}
@@ -73,16 +74,21 @@ takenOf {q} t = takenBytes (Supervisor.outputs q (t .takes))
 
 -- a message that is handed out as the answer
 abbrev pub handedOut : Message → HandedEvent
-handedOut r = record { report = MainCalls.answered (r .version) (r .sequence) (r .command) (length (r .payload)); payload = r .payload; ended = false }
+handedOut r = record {
+  report = MainCalls.answered (r .version) (r .sequence) (r .command) (length (r .payload));
+  payload = r .payload;
+  ended = false;
+}
 
--- The frame fr of the request a was just put out, which left the parts p. It is delivered to the supervisor's parts q in any cuts; the whole table passes it
--- and it earns a reply of version 1. The reply is taken whole, behind a 00 where one is owed, and delivered in any cuts. Then exactly the reply that carrying
--- out that request gives in the supervisor's state is handed out, once, and none is outstanding.
+-- The frame fr of the request a was just put out, which left the parts p. It is delivered to the supervisor's parts q in any cuts; the
+-- whole table passes it and it earns a reply of version 1. The reply is taken whole, behind a 00 where one is owed, and delivered in any
+-- cuts. Then exactly the reply that carrying out that request gives in the supervisor's state is handed out, once, and none is outstanding.
 abbrev pub Trip : Parts → MainParts → Request → List ℕ → Type 0
 Trip q p a fr =
     let n = Layout.newestNumber (p .requester) in
     let m = asMessage n a in
-    (image : List ℕ) → Each Byte image → verdict (form m) ≡ good m → (r : Message) → replyToRequest image (view q) m ≡ some r → r .version ≡ 1
+    (image : List ℕ) → Each Byte image → verdict (form m) ≡ good m → (r : Message) → replyToRequest image (view q) m ≡ some r
+    → r .version ≡ 1
     → (b : Delivery image fr) (t : Taking (deliveredTo q b)) (cs : List MainRead) → let x = afterMainReads (listening p) cs in
     x .bytes ≡ takenOf t
     → (x .handed ≡ handedOut r ∷ [])

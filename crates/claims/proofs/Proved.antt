@@ -11,7 +11,8 @@ use Rattle.requester_claims.proofs.Proved as Main
 use Rattle.both_claims.proofs.Proved as Both
 use Rattle.rot_claims.proofs.Proved as Rot
 use Rattle.plain_claims.proofs.Proved as Plain
-use Rattle.claims.specs.Claims.{NumberDue, AsItWas, Demand1, Demand2, Demand3, Samples, Item1, Item2, Item3, Item4, Item5, Item6, Item7}
+use Rattle.claims.specs.Claims.{NumberDue, AsItWas, Demand1, Demand2, Demand3, Samples, Item1, Item2, Item3, Item4, Item5, Item6}
+use Rattle.claims.specs.Claims.{Item7}
 use Rattle.claims.specs.Claims.{Item8, Item9, Item10, Item11, Item12, Item13, Item14, BothEnds}
 
 pub number-due : NumberDue

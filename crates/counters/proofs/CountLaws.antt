@@ -24,7 +24,8 @@ use Rattle.responder.specs.Receive as Receive
 use Rattle.responder.specs.declared.receive.Received.{Received}
 use Rattle.responder.specs.declared.receive.Received.the-variants as received
 use Rattle.responder.proofs.KeptLaws.{answering-valid, carried-valid}
-use Rattle.responder.proofs.StepLaws.{parts-valid, valid-parts, read-valid, data-short, served-small, Held, begun, over, valid-step-used, went}
+use Rattle.responder.proofs.StepLaws.{parts-valid, valid-parts, read-valid, data-short, served-small, Held, begun, over, valid-step-used}
+use Rattle.responder.proofs.StepLaws.{went}
 use Rattle.counters.specs.declared.Counters.{Counters}
 use Rattle.counters.specs.Count.{bumpedFor, bumpedForAll}
 use Rattle.counters.specs.Counting.{endings, counting}
@@ -60,8 +61,10 @@ module _ (image f : List ℕ) (i : Receive.Inner) (factory : validFactory f ≡ 
   message-stays version sequence command d short h =
       by (versionServed version) (leb (2 ^ 63) sequence) (not (known command)) (not (lengthAllowed command (length d))) refl
     where
-      by : (a b c e : Bool) → versionServed version ≡ a → Stays (cond (not a) (failure 5 first-version (some sequence)) (cond b (failure 6 version (some sequence))
-          (cond c (failure 3 first-version none) (cond e (failure 7 version (some sequence)) (good (Receive.messageBy version sequence command d))))))
+      by : (a b c e : Bool) → versionServed version ≡ a
+          → Stays (cond (not a) (failure 5 first-version (some sequence)) (cond b (failure 6 version (some sequence))
+          (cond c (failure 3 first-version none)
+          (cond e (failure 7 version (some sequence)) (good (Receive.messageBy version sequence command d))))))
       by false b c e k = failure-stays 5 first-version (some sequence)
       by true true c e k = failure-stays 6 version (some sequence)
       by true false true e k = failure-stays 3 first-version none
@@ -112,8 +115,8 @@ abbrev Tested : Parts → Parts → Bool → Type 0
 Tested p q refused = (q ≡ p) × (refused ≡ not (Receive.validParts p))
 
 -- an empty piece that is received changes nothing, and is refused where the parts are
-pub tested-parts : (image : List ℕ) (p : Parts) {q : Parts} {n : Option ℕ} → record { refusal = n; parts = q } ≡ Receive.receivePromise image p []
-    → Tested p q (isSome n)
+pub tested-parts : (image : List ℕ) (p : Parts) {q : Parts} {n : Option ℕ}
+    → record { refusal = n; parts = q } ≡ Receive.receivePromise image p [] → Tested p q (isSome n)
 unfolding Receive.receivePromise Receive.feedBytes
 tested-parts image p {q} {n} e =
     cond-by (λ (x : Receive.ReceiveOutcome). record { refusal = n; parts = q } ≡ x → Tested p q (isSome n)) (Receive.validParts p) _ _
@@ -129,11 +132,13 @@ module _ (s : List ℕ) (b : ℕ) (bs : List ℕ) where
 
 -- what is left of a piece is counted on from what a step counts
 valid-step-counts : (piece s : List ℕ) (c : Counters) → let o = LineReader.readPiece s piece in
-    bumpedForAll c (endings s piece) ≡ bumpedForAll (bumpedFor c (Receive.endedByReader (o .state) (o .answer))) (endings (o .state) (drop (o .used) piece))
+    bumpedForAll c (endings s piece)
+    ≡ bumpedForAll (bumpedFor c (Receive.endedByReader (o .state) (o .answer))) (endings (o .state) (drop (o .used) piece))
 unfolding LineReader.readPiece LineReader.oneByteLater Receive.endedByReader endings bumpedFor bumpedForAll
 valid-step-counts [] s c = refl
 valid-step-counts (zero ∷ bs) s c = refl
-valid-step-counts (suc b ∷ bs) s c = rw (read-next s b bs, ne-eqb (suc b) 0 (λ e. omega arith)) (valid-step-counts bs (LineReader.pushed s (suc b)) c)
+valid-step-counts (suc b ∷ bs) s c =
+    rw (read-next s b bs, ne-eqb (suc b) 0 (λ e. omega arith)) (valid-step-counts bs (LineReader.pushed s (suc b)) c)
 
 -- the parts and the counters at an offset of the piece: what is left of it is received and counted on
 pub record Counted (image piece : List ℕ) (p₀ p : Parts) (c t : Counters) (at : ℕ) : Type 0 where
@@ -154,15 +159,16 @@ counted-none image piece {p} {q} c h e =
     let v : Receive.validParts q ≡ true = rw (h .0) (not-false _ (sym (h .1) ∙ e)) in
     record { held = begun image piece q v; same = rw v }
 
-pub counted-all : {image piece : List ℕ} {p₀ q p : Parts} {c t : Counters} {at : ℕ} → q ≡ p₀ → Counted image piece q p c t at → length piece ≤ at
-    → Done image piece p₀ c received.Done t p
+pub counted-all : {image piece : List ℕ} {p₀ q p : Parts} {c t : Counters} {at : ℕ} → q ≡ p₀ → Counted image piece q p c t at
+    → length piece ≤ at → Done image piece p₀ c received.Done t p
 unfolding endings bumpedForAll
 counted-all {piece = piece} {c = c} {t = t} e h l =
     let k : t ≡ counting c _ piece = sym (h .same ∙ rw (drop-of-length-le piece l)) in
     (rw e at (over (h .held) l), rw e at k)
 
 -- a step at an offset of the piece
-module _ {image piece : List ℕ} {p₀ p p' : Parts} {c t : Counters} {at : ℕ} {n : ℕ} {g : Receive.Ended} (h : Counted image piece p₀ p c t at) (l : at < length piece)
+module _ {image piece : List ℕ} {p₀ p p' : Parts} {c t : Counters} {at : ℕ} {n : ℕ} {g : Receive.Ended}
+    (h : Counted image piece p₀ p c t at) (l : at < length piece)
     (e : record { used = n; ended = g; parts = p' } ≡ Receive.stepPromise image p (take (length piece - at) (drop at piece))) where
   abbrev left : List ℕ
   left = drop at piece
@@ -175,7 +181,8 @@ module _ {image piece : List ℕ} {p₀ p p' : Parts} {c t : Counters} {at : ℕ
 
   pub counted-on : {t' : Counters} → t' ≡ bumpedFor t g → ((i : ℕ) → getD (p' .reader) i 0 < 256)
       → length (p' .reader) ≡ length (p .reader) → length (p' .outbox) ≡ length (p .outbox)
-      → length (p' .settings) ≡ length (p .settings) → length (p' .registers) ≡ length (p .registers) → Counted image piece p₀ p' c t' (at + n)
+      → length (p' .settings) ≡ length (p .settings) → length (p' .registers) ≡ length (p .registers)
+      → Counted image piece p₀ p' c t' (at + n)
   unfolding Receive.validStep Receive.afterAnswer
   counted-on b k r o s m =
       let whole : length left ≤ length piece - at = rw length-drop (omega arith) in

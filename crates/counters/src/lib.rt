@@ -141,7 +141,12 @@ pub fn step_counted(
     settings: &mut [u8],
     registers: &mut [u8],
 ) -> Stepped
-    ensures { λ r. ⌜ (stepOutcome r (parts (now (reader .exit)) (now (outbox .exit)) (now (factory .entry)) (now (settings .exit)) (now (registers .exit))) ≡ stepPromise (now (image .entry)) (parts (now (reader .entry)) (now (outbox .entry)) (now (factory .entry)) (now (settings .entry)) (now (registers .entry))) (now (piece .entry))) × (now (block .exit) ≡ bumpedFor (now (block .entry)) (stepReport (r .outcome))) ⌝ }
+    ensures { λ r. ⌜ (stepOutcome r
+        (parts (now (reader .exit)) (now (outbox .exit)) (now (factory .entry)) (now (settings .exit)) (now (registers .exit)))
+        ≡ stepPromise (now (image .entry))
+        (parts (now (reader .entry)) (now (outbox .entry)) (now (factory .entry)) (now (settings .entry)) (now (registers .entry)))
+        (now (piece .entry)))
+        × (now (block .exit) ≡ bumpedFor (now (block .entry)) (stepReport (r .outcome))) ⌝ }
 {
     let done = responder::receive::step(image, piece, reader, outbox, factory, settings, registers);
     bump(block, done.outcome);
@@ -159,7 +164,15 @@ pub fn receive_tallied(
     settings: &mut [u8],
     registers: &mut [u8],
 ) -> Tallied
-    ensures { λ r. ⌜ (receiveOutcome (r .answer) (parts (now (reader .exit)) (now (outbox .exit)) (now (factory .entry)) (now (settings .exit)) (now (registers .exit))) ≡ receivePromise (now (image .entry)) (parts (now (reader .entry)) (now (outbox .entry)) (now (factory .entry)) (now (settings .entry)) (now (registers .entry))) (now (piece .entry))) × (r .counters ≡ counting counters (parts (now (reader .entry)) (now (outbox .entry)) (now (factory .entry)) (now (settings .entry)) (now (registers .entry))) (now (piece .entry))) ⌝ }
+    ensures { λ r. ⌜ (receiveOutcome (r .answer)
+        (parts (now (reader .exit)) (now (outbox .exit)) (now (factory .entry)) (now (settings .exit)) (now (registers .exit)))
+        ≡ receivePromise (now (image .entry))
+        (parts (now (reader .entry)) (now (outbox .entry)) (now (factory .entry)) (now (settings .entry)) (now (registers .entry)))
+        (now (piece .entry)))
+        × (r .counters
+        ≡ counting counters
+        (parts (now (reader .entry)) (now (outbox .entry)) (now (factory .entry)) (now (settings .entry)) (now (registers .entry)))
+        (now (piece .entry))) ⌝ }
 {
     let mut tally = counters;
     if are_refused(image, piece, reader, outbox, factory, settings, registers) {
@@ -202,7 +215,10 @@ fn are_refused(
     settings: &mut [u8],
     registers: &mut [u8],
 ) -> bool
-    ensures { λ r. ⌜ (parts (now (reader .exit)) (now (outbox .exit)) (now (factory .entry)) (now (settings .exit)) (now (registers .exit)) ≡ parts (now (reader .entry)) (now (outbox .entry)) (now (factory .entry)) (now (settings .entry)) (now (registers .entry))) × (r ≡ not (validParts (parts (now (reader .entry)) (now (outbox .entry)) (now (factory .entry)) (now (settings .entry)) (now (registers .entry))))) ⌝ }
+    ensures { λ r. ⌜ (parts (now (reader .exit)) (now (outbox .exit)) (now (factory .entry)) (now (settings .exit)) (now (registers .exit))
+        ≡ parts (now (reader .entry)) (now (outbox .entry)) (now (factory .entry)) (now (settings .entry)) (now (registers .entry)))
+        × (r ≡ not (validParts
+        (parts (now (reader .entry)) (now (outbox .entry)) (now (factory .entry)) (now (settings .entry)) (now (registers .entry))))) ⌝ }
 {
     let received = responder::receive::receive(
         image,
@@ -230,7 +246,15 @@ pub fn receive_counted(
     settings: &mut [u8],
     registers: &mut [u8],
 ) -> Received
-    ensures { λ r. ⌜ (receiveOutcome r (parts (now (reader .exit)) (now (outbox .exit)) (now (factory .entry)) (now (settings .exit)) (now (registers .exit))) ≡ receivePromise (now (image .entry)) (parts (now (reader .entry)) (now (outbox .entry)) (now (factory .entry)) (now (settings .entry)) (now (registers .entry))) (now (piece .entry))) × (now (block .exit) ≡ counting (now (block .entry)) (parts (now (reader .entry)) (now (outbox .entry)) (now (factory .entry)) (now (settings .entry)) (now (registers .entry))) (now (piece .entry))) ⌝ }
+    ensures { λ r. ⌜ (receiveOutcome r
+        (parts (now (reader .exit)) (now (outbox .exit)) (now (factory .entry)) (now (settings .exit)) (now (registers .exit)))
+        ≡ receivePromise (now (image .entry))
+        (parts (now (reader .entry)) (now (outbox .entry)) (now (factory .entry)) (now (settings .entry)) (now (registers .entry)))
+        (now (piece .entry)))
+        × (now (block .exit)
+        ≡ counting (now (block .entry))
+        (parts (now (reader .entry)) (now (outbox .entry)) (now (factory .entry)) (now (settings .entry)) (now (registers .entry)))
+        (now (piece .entry))) ⌝ }
 {
     let tallied = receive_tallied(
         *block,

@@ -24,7 +24,8 @@ use Rattle.counters.specs.Count.{endedByFrame, bumpedFor, bumpedForAll}
 use Rattle.counters.specs.Counting.{endings, counting}
 use Rattle.supervisor_claims.specs.View.{view}
 use Rattle.supervisor_claims.specs.Histories
-use Rattle.supervisor_claims.specs.Histories.{Call, Answer, refused, Did, did, upTo, endedMeant, endedInPiece, Lent, lentOf, enough, Made, made}
+use Rattle.supervisor_claims.specs.Histories.{Call, Answer, refused, Did, did, upTo, endedMeant, endedInPiece, Lent, lentOf, enough, Made}
+use Rattle.supervisor_claims.specs.Histories.{made}
 use Rattle.supervisor_claims.specs.FrameHistory.{pieceRead, bytesReceivedBy, endedByFrames, progressOf}
 use Rattle.supervisor_claims.specs.Sound.{Sound}
 use Rattle.supervisor_claims.proofs.Sound.{valid-long}
@@ -58,7 +59,9 @@ endings-frames : (bs s p : List ℕ) → LineReader.validReader s ≡ true → r
 unfolding endings endedAll split
 endings-frames [] s p v e h = rw (append-nil, split-none p h)
 endings-frames (zero ∷ bs) s p v e h =
-    let i = endings-frames bs (LineReader.finish s .state) [] (finished-kept s v .valid) (finished-received s v ∙ sym (tail-within [] (omega arith))) tt in
+    let i =
+    endings-frames bs (LineReader.finish s .state) [] (finished-kept s v .valid)
+    (finished-received s v ∙ sym (tail-within [] (omega arith))) tt in
     rw (split-at p bs h, finish-ends s p v e, i)
 endings-frames (suc b ∷ bs) s p v e h =
     let r = valid-ready s v in
@@ -80,7 +83,8 @@ step-endings (suc b ∷ bs) s c = rw (eqb·suc-zero, eqb·suc-zero) (step-ending
 
 -- enough is lent of sound parts
 lent-enough : (l : Lent) (p : Parts) → Sound p → EnoughOfAll l
-    → (Receive.validParts (lentOf l p) ≡ true) × (LineReader.validReader (lentOf l p .reader) ≡ true) × (receivedOf (lentOf l p .reader) ≡ view p .received)
+    → (Receive.validParts (lentOf l p) ≡ true) × (LineReader.validReader (lentOf l p .reader) ≡ true)
+    × (receivedOf (lentOf l p .reader) ≡ view p .received)
 unfolding view
 lent-enough l p s w =
     let v = lent-sound l p w s .valid in
@@ -99,7 +103,9 @@ module _ (image piece : List ℕ) (l : Lent) (p : Parts) where
   receive-refused e = by (Receive.validParts q) refl
     where
       by : (t : Bool) → Receive.validParts q ≡ t → t ≡ false
-      by true v = absurd (unrefused _ (rw v tt) (ap (λ (x : Did). x .answer) (made-12 p (record { lent = l; call = Histories.receive image piece }) e)))
+      by true v =
+          absurd
+          (unrefused _ (rw v tt) (ap (λ (x : Did). x .answer) (made-12 p (record { lent = l; call = Histories.receive image piece }) e)))
       by false v = refl
 
   step-refused : enough (Histories.step image piece) l ≡ false → Receive.validParts q ≡ false
@@ -107,7 +113,9 @@ module _ (image piece : List ℕ) (l : Lent) (p : Parts) where
   step-refused e = by (Receive.validParts q) refl
     where
       by : (t : Bool) → Receive.validParts q ≡ t → t ≡ false
-      by true v = absurd (unrefused _ (rw (v, valid-step-stepped image q piece) tt) (ap (λ (x : Did). x .answer) (made-12 p (record { lent = l; call = Histories.step image piece }) e)))
+      by true v =
+          absurd (unrefused _ (rw (v, valid-step-stepped image q piece) tt)
+          (ap (λ (x : Did). x .answer) (made-12 p (record { lent = l; call = Histories.step image piece }) e)))
       by false v = refl
 
 -- ---- one call
@@ -134,14 +142,16 @@ module _ (w : List ℕ) (p : Parts) (s : Sound p) (h : Since (split w .rest) (vi
   abbrev Counts : Lent → Call → Type 0
   Counts l k = didCounted c (lentOf l p) k .block ≡ bumpedForAll c (endedAll (closedBehind w (cond (enough k l) (pieceRead k) [])))
 
-  receive-counts : (image piece : List ℕ) (l : Lent) (t : Bool) → enough (Histories.receive image piece) l ≡ t → Counts l (Histories.receive image piece)
+  receive-counts : (image piece : List ℕ) (l : Lent) (t : Bool) → enough (Histories.receive image piece) l ≡ t
+      → Counts l (Histories.receive image piece)
   unfolding didCounted pieceRead counting
   receive-counts image piece l true e =
       let k = widened-enough l p (valid-long {p = p} (s .valid)) (Histories.receive image piece) e in
       rw (e, lent-enough l p s k .0) (read-counts l piece k)
   receive-counts image piece l false e = rw (e, receive-refused image piece l p e) (none-counts true)
 
-  step-counts : (image piece : List ℕ) (l : Lent) (t : Bool) → enough (Histories.step image piece) l ≡ t → Counts l (Histories.step image piece)
+  step-counts : (image piece : List ℕ) (l : Lent) (t : Bool) → enough (Histories.step image piece) l ≡ t
+      → Counts l (Histories.step image piece)
   unfolding didCounted pieceRead Receive.stepPromise Receive.validStep
   step-counts image piece l true e =
       let k = widened-enough l p (valid-long {p = p} (s .valid)) (Histories.step image piece) e in

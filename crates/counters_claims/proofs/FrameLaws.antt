@@ -51,7 +51,8 @@ frames-so (m ∷ ms) w = by (startsAnew m) refl (frames-so ms []) (frames-so ms 
 
     by : (t : Bool) → startsAnew m ≡ t → framesOfStretches (stretches [] ms) ≡ closedSince [] ms
         → framesOfStretches (stretches (w ++ bs) ms) ≡ split (w ++ bs) .closed ++ closedSince (w ++ bs) ms
-        → framesOfStretches (cond t (w ∷ stretches [] ms) (stretches (w ++ bs) ms)) ≡ split w .closed ++ (closedBehind w bs ++ closedSince (cond t [] (w ++ bs)) ms)
+        → framesOfStretches (cond t (w ∷ stretches [] ms) (stretches (w ++ bs) ms))
+        ≡ split w .closed ++ (closedBehind w bs ++ closedSince (cond t [] (w ++ bs)) ms)
     by true e i j = rw (start-reads m e, closed-none w, i)
     by false e i j = rw (j, closed-join w bs, append-assoc (split w .closed) (closedBehind w bs))
 

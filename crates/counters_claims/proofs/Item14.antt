@@ -32,18 +32,24 @@ unfoldable blocksByFrames : List ℕ → List Lending → List (Option Counters)
 blocksByFrames w [] = []
 blocksByFrames w (x ∷ xs) = countedBy w (x .call) (x .block) ∷ blocksByFrames (receivedSince w (x .call)) xs
 
-block-by-frames : (w : List ℕ) (p : Parts) → Sound p → Since (split w .rest) (view p) → (m : Made) (block : Option Counters) → blockBy p m block ≡ countedBy w m block
+block-by-frames : (w : List ℕ) (p : Parts) → Sound p → Since (split w .rest) (view p) → (m : Made) (block : Option Counters)
+    → blockBy p m block ≡ countedBy w m block
 block-by-frames w p s h m none = refl
 block-by-frames w p s h m (some c) = rw (call-counts w p s h c m)
 
-blocks-by-frames : (xs : List Lending) → AllTyped (unlent xs) → (w : List ℕ) (p : Parts) → Sound p → Since (split w .rest) (view p) → blocksLending p xs ≡ blocksByFrames w xs
+blocks-by-frames : (xs : List Lending) → AllTyped (unlent xs) → (w : List ℕ) (p : Parts) → Sound p → Since (split w .rest) (view p)
+    → blocksLending p xs ≡ blocksByFrames w xs
 unfolding blocksLending blocksByFrames unlent
 blocks-by-frames [] t w p s h = refl
 blocks-by-frames (x ∷ xs) t w p s h =
     let m = x .call in
     let k = one-call p m s (t .0) .leaves in
     let g : Since (split (receivedSince w m) .rest) (view (made p m .parts)) = rw (k .0) (made-carried w (view p) h m .1) in
-    rw (block-by-frames w p s h m (x .block), same-by p m (x .block), blocks-by-frames xs (t .1) (receivedSince w m) (made p m .parts) (k .1) g)
+    rw (
+      block-by-frames w p s h m (x .block),
+      same-by p m (x .block),
+      blocks-by-frames xs (t .1) (receivedSince w m) (made p m .parts) (k .1) g,
+    )
 
 pub two-counted-states : TwoCountedStates
 two-counted-states r s e xs t h k =
@@ -51,7 +57,8 @@ two-counted-states r s e xs t h k =
     let q = leftByRun s in
     let w = receivedInRun r in
     let since = run-since r in
-    let other : Since (split w .rest) (view q) = record { received = sym (ap (λ (x : State). x .received) e) ∙ since .received; nonzero = since .nonzero } in (
+    let other : Since (split w .rest) (view q) =
+    record { received = sym (ap (λ (x : State). x .received) e) ∙ since .received; nonzero = since .nonzero } in (
       same-as-unlent p xs .0 ∙ two-states r s e (unlent xs) t h k .0 ∙ sym (same-as-unlent q xs .0),
       blocks-by-frames xs t w p (run-sound r) since ∙ sym (blocks-by-frames xs t w q (run-sound s) other),
     )

@@ -1,4 +1,5 @@
--- Document 02's item 8 over whole lists of calls: each counter is the number of such frames since the block was cleared, and nothing else depends on a block.
+-- Document 02's item 8 over whole lists of calls:
+-- each counter is the number of such frames since the block was cleared, and nothing else depends on a block.
 -- Assumes nothing.
 use mathlib.Core.Path.{_≡_, refl, sym, ap, _∙_}
 use mathlib.Core.List.{List, [], _∷_, _++_}
@@ -19,7 +20,8 @@ use Rattle.supervisor_claims.proofs.claims.History.{one-call, history}
 use Rattle.supervisor_claims.proofs.claims.InOrder.{verdict-over}
 use Rattle.supervisor_claims.proofs.claims.FramesClaim.{made-carried, by-frames}
 use Rattle.counters_claims.specs.CountHistory.{didCounted, madeCounted, Lending, didLending, outputsLending, leftLending, unlent}
-use Rattle.counters_claims.specs.CountHistory.{CountEvent, plain, counted, clear, Held, afterEvent, afterEvents, callsOfEvents, allCounted, endedAll}
+use Rattle.counters_claims.specs.CountHistory.{CountEvent, plain, counted, clear, Held, afterEvent, afterEvents, callsOfEvents}
+use Rattle.counters_claims.specs.CountHistory.{allCounted, endedAll}
 use Rattle.counters_claims.specs.Item8.{CountersCount, CountersFromStart, OverlongOnce, BlocksAlone}
 use Rattle.counters_claims.proofs.FrameLaws.{ended-append, closedSince, frames-since}
 use Rattle.counters_claims.proofs.TallyLaws.{bumped-tally, bumped-append}
@@ -43,7 +45,8 @@ pub same-by : (p : Parts) (m : Made) (block : Option Counters) → didLending p 
 same-by p m none = refl
 same-by p m (some c) = same-made c p m
 
-pub same-as-unlent : (p : Parts) (xs : List Lending) → (outputsLending p xs ≡ outputs p (unlent xs)) × (leftLending p xs ≡ left p (unlent xs))
+pub same-as-unlent : (p : Parts) (xs : List Lending)
+    → (outputsLending p xs ≡ outputs p (unlent xs)) × (leftLending p xs ≡ left p (unlent xs))
 unfolding outputsLending leftLending unlent outputs left
 same-as-unlent p [] = (refl, refl)
 same-as-unlent p (x ∷ xs) =
@@ -59,15 +62,18 @@ blocks-alone p xs ys e =
 -- ---- the calls of a history
 
 -- a call that is lent the block leaves the parts that it leaves without
-after-counted : (h : Held) (m : Made) → afterEvent h (counted m) ≡ record { parts = made (h .parts) m .parts; block = madeCounted (h .block) (h .parts) m .block }
+after-counted : (h : Held) (m : Made)
+    → afterEvent h (counted m) ≡ record { parts = made (h .parts) m .parts; block = madeCounted (h .block) (h .parts) m .block }
 unfolding afterEvent
-after-counted h m = ap (λ (d : Did). record { parts = d .parts; block = madeCounted (h .block) (h .parts) m .block }) (same-made (h .block) (h .parts) m)
+after-counted h m =
+    ap (λ (d : Did). record { parts = d .parts; block = madeCounted (h .block) (h .parts) m .block }) (same-made (h .block) (h .parts) m)
 
 parts-so : (es : List CountEvent) (h : Held) → afterEvents h es .parts ≡ left (h .parts) (callsOfEvents es)
 unfolding afterEvents afterEvent callsOfEvents left
 parts-so [] h = refl
 parts-so (plain m ∷ es) h = parts-so es (afterEvent h (plain m))
-parts-so (counted m ∷ es) h = parts-so es (afterEvent h (counted m)) ∙ ap (λ (x : Held). left (x .parts) (callsOfEvents es)) (after-counted h m)
+parts-so (counted m ∷ es) h =
+    parts-so es (afterEvent h (counted m)) ∙ ap (λ (x : Held). left (x .parts) (callsOfEvents es)) (after-counted h m)
 parts-so (clear ∷ es) h = parts-so es (afterEvent h clear)
 
 after-append : (es fs : List CountEvent) (h : Held) → afterEvents h (es ++ fs) ≡ afterEvents (afterEvents h es) fs
@@ -99,7 +105,8 @@ counters-count p b l d typed e block before t ms u =
     let x = after-append before (clear ∷ allCounted ms) (record { parts = q; block = block }) in
     let y = since-counts ms u w (left q (callsOfEvents before)) (k .2) (rw (k .1) h) clearedCounters in
     ap (λ (z : Held). z .block) x
-    ∙ (ap (λ (r : Parts). afterEvents (record { parts = r; block = clearedCounters }) (allCounted ms) .block) (parts-so before (record { parts = q; block = block }))
+    ∙ (ap (λ (r : Parts). afterEvents (record { parts = r; block = clearedCounters }) (allCounted ms) .block)
+    (parts-so before (record { parts = q; block = block }))
     ∙ (y ∙ rw (frames-since w ms) (bumped-tally (endedAll (closedSince w ms)))))
 
 pub counters-from-start : OfStart CountersFromStart

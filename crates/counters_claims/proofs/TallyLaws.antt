@@ -1,4 +1,5 @@
--- Laws of the numbers: a block that is bumped for frames one after the other holds the numbers of such frames, and every frame is counted once.
+-- Laws of the numbers: a block that is bumped for frames one after the other holds the numbers
+-- of such frames, and every frame is counted once.
 -- Assumes nothing.
 use mathlib.Core.Path.{_≡_, refl, _∙_}
 use mathlib.Core.Bool.{Bool, true, false, cond, not}
@@ -18,7 +19,8 @@ use Rattle.line.specs.Judge.{sequenceOf, fields, decoded, wrongLength, wrongChe
 use Rattle.responder.specs.Requests.{Verdict, failure, good, versionServed, known, lengthAllowed, tested, testedWhere, verdict}
 use Rattle.responder.specs.Receive.{Ended, endedByVerdict}
 use Rattle.counters.specs.declared.Counters.{Counters}
-use Rattle.counters.specs.Count.{most-counted, endedByFrame, oneMore, raised, isGood, isEmpty, isReason, clearedCounters, bumpedFor, bumpedForAll, howMany, tallyOf}
+use Rattle.counters.specs.Count.{most-counted, endedByFrame, oneMore, raised, isGood, isEmpty, isReason, clearedCounters, bumpedFor}
+use Rattle.counters.specs.Count.{bumpedForAll, howMany, tallyOf}
 use Rattle.counters_claims.specs.CountHistory.{endedAll}
 use Rattle.counters_claims.specs.Item8.{nine, EachCountedOnce}
 
@@ -31,7 +33,8 @@ raisedAll counts n (e ∷ es) = raisedAll counts (raised (counts e) n) es
 
 one-more-most : (n : ℕ) → n ≤ most-counted → oneMore n ≤ most-counted
 unfolding oneMore
-one-more-most n h = cond-by (λ x. x ≤ most-counted) (ltb n most-counted) _ _ (λ e. let l = ltb-true n most-counted e in omega arith) (λ e. h)
+one-more-most n h =
+    cond-by (λ x. x ≤ most-counted) (ltb n most-counted) _ _ (λ e. let l = ltb-true n most-counted e in omega arith) (λ e. h)
 
 -- a number and so many more, or the largest
 one-more : (n k : ℕ) → n ≤ most-counted → min (oneMore n + k) most-counted ≡ min (n + (1 + k)) most-counted
@@ -74,7 +77,17 @@ pub bumped-tally : (es : List Ended) → bumpedForAll clearedCounters es ≡ tal
 unfolding tallyOf
 bumped-tally es =
     bumped-each es clearedCounters
-    ∙ rw (one isGood, one isEmpty, one (isReason 1), one (isReason 2), one (isReason 3), one (isReason 4), one (isReason 5), one (isReason 6), one (isReason 7))
+    ∙ rw (
+      one isGood,
+      one isEmpty,
+      one (isReason 1),
+      one (isReason 2),
+      one (isReason 3),
+      one (isReason 4),
+      one (isReason 5),
+      one (isReason 6),
+      one (isReason 7),
+    )
   where
     one : (counts : Ended → Bool) → raisedAll counts 0 es ≡ min (howMany counts es) most-counted
     one counts = rw zero-add at (raised-some counts es 0 (omega arith))
@@ -98,9 +111,11 @@ Once v = bumps (endedByVerdict v) ≡ 1
 tested-once : (m : Message) → Once (tested m)
 unfolding tested
 tested-once m =
-    by (not (versionServed (m .version))) (leb (2 ^ 63) (m .sequence)) (not (known (m .command))) (not (lengthAllowed (m .command) (length (m .payload))))
+    by (not (versionServed (m .version))) (leb (2 ^ 63) (m .sequence)) (not (known (m .command)))
+    (not (lengthAllowed (m .command) (length (m .payload))))
   where
-    by : (a b c d : Bool) → Once (cond a (failure 5 first-version (some (m .sequence))) (cond b (failure 6 (m .version) (some (m .sequence)))
+    by : (a b c d : Bool)
+        → Once (cond a (failure 5 first-version (some (m .sequence))) (cond b (failure 6 (m .version) (some (m .sequence)))
         (cond c (failure 3 first-version none) (cond d (failure 7 (m .version) (some (m .sequence))) (good m)))))
     by true b c d = refl
     by false true c d = refl

@@ -28,7 +28,8 @@ didCounted c p (Histories.start d) = record { did = did p (Histories.start d); b
 didCounted c p (Histories.receive image piece) =
     let r = receivePromise image p piece in record { did = didBy (refusal (r .refusal)) [] (r .parts); block = counting c p piece }
 didCounted c p (Histories.step image piece) =
-    let r = stepPromise image p piece in record { did = didBy (stepAnswer (r .used) (r .ended)) [] (r .parts); block = bumpedFor c (r .ended) }
+    let r = stepPromise image p piece in
+    record { did = didBy (stepAnswer (r .used) (r .ended)) [] (r .parts); block = bumpedFor c (r .ended) }
 didCounted c p (Histories.local k) = record { did = did p (Histories.local k); block = c }
 
 -- lent some of the parts' bytes

@@ -6,15 +6,18 @@ use Prim.Native.Nat.{_+_, _<_}
 use Rattle.supervisor.specs.Limits.{last-edition}
 use Rattle.supervisor_claims.specs.View.{view}
 use Rattle.supervisor_claims.specs.Histories.{AllTyped}
-use Rattle.supervisor_claims.specs.TwoRuns.{Run, leftByRun, receivedInRun, SameButPassphrase, withoutPassphrase, passphraseEdition, setsToCome}
+use Rattle.supervisor_claims.specs.TwoRuns.{Run, leftByRun, receivedInRun, SameButPassphrase, withoutPassphrase, passphraseEdition}
+use Rattle.supervisor_claims.specs.TwoRuns.{setsToCome}
 use Rattle.counters_claims.specs.CountHistory.{Lending, outputsLending, blocksLending, unlent}
 
--- behind both runs any calls, each lent any block or none, the same in both, with the edition below its end in both by more than the sets to come:
+-- behind both runs any calls, each lent any block or none, the same in both, with the edition below
+-- its end in both by more than the sets to come:
 -- they give the same, and leave each block the same
 abbrev pub CountedAlike : Run → Run → Type 0
 CountedAlike r s = (xs : List Lending) → AllTyped (unlent xs) → let n = setsToCome (receivedInRun r) (unlent xs) in
     passphraseEdition (leftByRun r) + n < last-edition → passphraseEdition (leftByRun s) + n < last-edition
-    → (outputsLending (leftByRun r) xs ≡ outputsLending (leftByRun s) xs) × (blocksLending (leftByRun r) xs ≡ blocksLending (leftByRun s) xs)
+    → (outputsLending (leftByRun r) xs ≡ outputsLending (leftByRun s) xs)
+    × (blocksLending (leftByRun r) xs ≡ blocksLending (leftByRun s) xs)
 
 abbrev pub TwoCountedRuns : Type 0
 TwoCountedRuns = (r s : Run) → SameButPassphrase (leftByRun r) (leftByRun s) → CountedAlike r s

@@ -13,11 +13,14 @@ use Rattle.counters.specs.Count.{endedByFrame, isGood, isEmpty, isReason, howMa
 use Rattle.supervisor_claims.specs.Histories.{Lent, Made, made, AllTyped, startWith, OfStart}
 use Rattle.supervisor_claims.specs.FrameHistory.{receivedSinceAll}
 use Rattle.counters_claims.specs.CountHistory.{Lending, outputsLending, leftLending, unlent}
-use Rattle.counters_claims.specs.CountHistory.{CountEvent, plain, clear, afterEvents, callsOfEvents, allCounted, framesSince, endedAll}
+use Rattle.counters_claims.specs.CountHistory.{CountEvent, plain, clear, afterEvents, callsOfEvents, allCounted, framesSince}
+use Rattle.counters_claims.specs.CountHistory.{endedAll}
 
 -- a number for each of the nine kinds of frames that a block counts, all together
 abbrev pub nine : ((Ended → Bool) → ℕ) → ℕ
-nine n = n isGood + (n isEmpty + (n (isReason 1) + (n (isReason 2) + (n (isReason 3) + (n (isReason 4) + (n (isReason 5) + (n (isReason 6) + n (isReason 7))))))))
+nine n =
+    n isGood + (n isEmpty
+    + (n (isReason 1) + (n (isReason 2) + (n (isReason 3) + (n (isReason 4) + (n (isReason 5) + (n (isReason 6) + n (isReason 7))))))))
 
 abbrev pub CountersCount : Parts → Lent → List ℕ → Type 0
 CountersCount p l d = (block : Counters) (before : List CountEvent) → AllTyped (callsOfEvents before) → (ms : List Made) → AllTyped ms
@@ -26,7 +29,8 @@ CountersCount p l d = (block : Counters) (before : List CountEvent) → AllTyped
 
 abbrev pub CountersFromStart : Parts → Lent → List ℕ → Type 0
 CountersFromStart p l d = (block : Counters) (ms : List Made) → AllTyped ms
-    → afterEvents (record { parts = p; block = block }) (clear ∷ plain (startWith l d) ∷ allCounted ms) .block ≡ tallyOf (endedAll (framesSince [] ms))
+    → afterEvents (record { parts = p; block = block }) (clear ∷ plain (startWith l d) ∷ allCounted ms) .block
+    ≡ tallyOf (endedAll (framesSince [] ms))
 
 abbrev pub OverlongOnce : Type 0
 OverlongOnce = (f : List ℕ) → longest-form < length f → endedByFrame f ≡ Ended.failed 1
@@ -39,7 +43,8 @@ BlocksAlone = (p : Parts) (xs ys : List Lending) → unlent xs ≡ unlent ys
     → (outputsLending p xs ≡ outputsLending p ys) × (leftLending p xs ≡ leftLending p ys)
 
 pub record CountersItem8 : Type 0 where
-  -- After an accepted start: any calls, lent the block or not, and clears of it; a clear; then any calls, lent the block wherever they take one.
+  -- After an accepted start: any calls, lent the block or not, and clears of it; a clear;
+  -- then any calls, lent the block wherever they take one.
   -- Each counter is the number of such frames whose 00 was received since that clear, or 4,294,967,295 where that is more (`tallyOf`).
   -- What had come of a frame before the clear counts with it; what a start drops does not (`framesSince`).
   pub counters-count : OfStart CountersCount

@@ -1,4 +1,5 @@
--- What is claimed of the field counters, in the order in which to read it: calls that are lent counter blocks, then the statements of `Item8` and `Item14`.
+-- What is claimed of the field counters, in the order in which to read it:
+-- calls that are lent counter blocks, then the statements of `Item8` and `Item14`.
 -- proofs/ has one element of each record of theirs. Assumes nothing.
 pub mod CountHistory
 pub mod Item8

@@ -9,7 +9,8 @@ use lib.ListN.{length, take, set, length-append, length-set}
 use lib.Seq.{take-length}
 use Rattle.octets.specs.Bytes.{bytes, overlay, put, copied}
 use Rattle.octets.proofs.Numbers.{length-bytes}
-use Rattle.octets.proofs.Overlay.{length-overlay, overlay-inside, overlay-next, overlay-none, overlay-one, put-fits, copied-fits, length-put, length-copied}
+use Rattle.octets.proofs.Overlay.{length-overlay, overlay-inside, overlay-next, overlay-none, overlay-one, put-fits, copied-fits}
+use Rattle.octets.proofs.Overlay.{length-put, length-copied}
 use Rattle.line.specs.Limits.{header-length, longest-data}
 use Rattle.line.specs.Checksum.{checksum}
 use Rattle.line.specs.Message.{magic, body, message}

@@ -50,10 +50,12 @@ sums-append (b ∷ bs) rest first second =
     ∙ rw (e, second-more (length bs) first second b (weighted bs))
 
 sums-block : (s : List ℕ) (at n first second : ℕ) → at + n ≤ length s → first < 255 → second < 255
-    → sums ((first + total (run at n s)) % 255) ((second + (n * first + weighted (run at n s))) % 255) (drop (at + n) s) ≡ sums first second (drop at s)
+    → sums ((first + total (run at n s)) % 255) ((second + (n * first + weighted (run at n s))) % 255) (drop (at + n) s)
+    ≡ sums first second (drop at s)
 sums-block s at n first second h k l =
     sym
-    (rw (take-append-drop n (drop at s), drop-drop n at s, length-run at n s h) at (sums-append (run at n s) (drop n (drop at s)) first second))
+    (rw (take-append-drop n (drop at s), drop-drop n at s, length-run at n s h)
+    at (sums-append (run at n s) (drop n (drop at s)) first second))
     ∙ sums-start first second (drop at s) k l
 
 -- ---- the sums of a list
@@ -76,7 +78,8 @@ pub total-next : (xs : List ℕ) (i : ℕ) → i < length xs → total (take (i 
 unfolding total
 total-next xs i h = rw (add-one, take-suc xs i 0 h) (omega (arith, total-append (take i xs) (getD xs i 0 ∷ [])))
 
-pub weighted-next : (xs : List ℕ) (i : ℕ) → i < length xs → weighted (take (i + 1) xs) ≡ weighted (take i xs) + (total (take i xs) + getD xs i 0)
+pub weighted-next : (xs : List ℕ) (i : ℕ) → i < length xs
+    → weighted (take (i + 1) xs) ≡ weighted (take i xs) + (total (take i xs) + getD xs i 0)
 unfolding weighted
 weighted-next xs i h = rw (add-one, take-suc xs i 0 h) (omega (arith, weighted-append (take i xs) (getD xs i 0 ∷ [])))
 
@@ -99,12 +102,15 @@ at-most-set most (x ∷ xs) (suc i) v h e zero = e zero
 at-most-set most (x ∷ xs) (suc i) v h e (suc k) = at-most-set most xs i v h (λ j. e (suc j)) k
 
 pub added-next : (xs cs : List ℕ) (i v : ℕ) {all : List ℕ} → i < length xs → i < length cs → v ≡ getD cs i 0 + getD xs i 0
-    → all ≡ take i cs ++ addedRow (drop i xs) (drop i cs) → all ≡ take (i + 1) (set cs i v) ++ addedRow (drop (i + 1) xs) (drop (i + 1) (set cs i v))
+    → all ≡ take i cs ++ addedRow (drop i xs) (drop i cs)
+    → all ≡ take (i + 1) (set cs i v) ++ addedRow (drop (i + 1) xs) (drop (i + 1) (set cs i v))
 unfolding addedRow
 added-next xs cs i v h k e f =
-    rw (add-one, take-suc-set cs i v k, drop-set-lt (suc i) cs i v (omega arith), append-snoc, e) (rw (drop-cons xs i 0 h, drop-cons cs i 0 k) at f)
+    rw (add-one, take-suc-set cs i v k, drop-set-lt (suc i) cs i v (omega arith), append-snoc, e)
+    (rw (drop-cons xs i 0 h, drop-cons cs i 0 k) at f)
 
-pub added-end : (xs cs : List ℕ) (i : ℕ) {all : List ℕ} → length xs ≤ i → length cs ≤ i → all ≡ take i cs ++ addedRow (drop i xs) (drop i cs) → cs ≡ all
+pub added-end : (xs cs : List ℕ) (i : ℕ) {all : List ℕ} → length xs ≤ i → length cs ≤ i
+    → all ≡ take i cs ++ addedRow (drop i xs) (drop i cs) → cs ≡ all
 unfolding addedRow
 added-end xs cs i h k e = sym (rw (drop-of-length-le xs h, drop-of-length-le cs k, take-all i cs k, append-nil) at e)
 
@@ -171,7 +177,8 @@ summed-none =
       second = refl;
     }
 
-module _ (n : ℕ) (bs xs firsts seconds : List ℕ) (h : n < column-rows) (k : length xs ≡ columns) (l : AtMost 255 xs) (e : Summed n bs firsts seconds) where
+module _ (n : ℕ) (bs xs firsts seconds : List ℕ) (h : n < column-rows) (k : length xs ≡ columns) (l : AtMost 255 xs)
+    (e : Summed n bs firsts seconds) where
   -- both sums have room for a row more
   pub first-addable : Addable firsts xs
   first-addable = (e .first-length, k, λ j. omega (arith, e .first-most j, l j))
@@ -198,11 +205,13 @@ module _ (n : ℕ) (bs xs firsts seconds : List ℕ) (h : n < column-rows) (k : 
         second-most = rw (most-more n) (at-most-added (255 * (n + 1)) (most n) (addedRow xs firsts) seconds first-more (e .second-most));
         first = omega (arith, total-append bs xs);
         second =
-            omega (arith, total-added (addedRow xs firsts) seconds (omega (arith, length-added xs firsts)), rw k at (weighted-append bs xs));
+            omega
+            (arith, total-added (addedRow xs firsts) seconds (omega (arith, length-added xs firsts)), rw k at (weighted-append bs xs));
       }
 
 -- one row more of the block from an offset on
-pub summed-next : (n at : ℕ) (s xs firsts seconds ones twos : List ℕ) → n < column-rows → xs ≡ run (at + n * columns) columns s → length xs ≡ columns
+pub summed-next : (n at : ℕ) (s xs firsts seconds ones twos : List ℕ) → n < column-rows → xs ≡ run (at + n * columns) columns s
+    → length xs ≡ columns
     → AtMost 255 xs → ones ≡ addedRow xs firsts → twos ≡ addedRow ones seconds → Summed n (run at (n * columns) s) firsts seconds
     → Summed (n + 1) (run at ((n + 1) * columns) s) ones twos
 summed-next n at s xs firsts seconds ones twos h e k l f g i =
@@ -210,12 +219,15 @@ summed-next n at s xs firsts seconds ones twos h e k l f g i =
     rw (g, f, m, run-add at (n * columns) columns s, ← e) (summed-row n (run at (n * columns) s) xs firsts seconds h k l i)
 
 -- all rows of the block from an offset on: what the definition's sums are behind it
-pub summed-block : (s firsts seconds : List ℕ) (at first second one two weight : ℕ) → at + block-length ≤ length s → first < 255 → second < 255
+pub summed-block : (s firsts seconds : List ℕ) (at first second one two weight : ℕ) → at + block-length ≤ length s → first < 255
+    → second < 255
     → Summed column-rows (run at block-length s) firsts seconds → one ≡ total firsts → weight ≡ weighted firsts → two ≡ total seconds
-    → sums ((first + one) % 255) ((second + first * block-length + (two * columns + weight - one * columns)) % 255) (drop (at + block-length) s)
+    → sums ((first + one) % 255) ((second + first * block-length + (two * columns + weight - one * columns)) % 255)
+    (drop (at + block-length) s)
     ≡ sums first second (drop at s)
 summed-block s firsts seconds at first second one two weight h k l e f g i =
     let t : one ≡ total (run at block-length s) = omega (arith, e .first) in
-    let w : second + first * block-length + (two * columns + weight - one * columns) ≡ second + (block-length * first + weighted (run at block-length s))
+    let w : second + first * block-length + (two * columns + weight - one * columns)
+    ≡ second + (block-length * first + weighted (run at block-length s))
     = omega (arith, e .second) in
     rw (w, t) (sums-block s at block-length first second h k l)

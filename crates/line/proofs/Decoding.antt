@@ -43,7 +43,8 @@ gives-end (suc left) z = tt
 gives-plain : (left : ℕ) (z : Bool) (bs : List ℕ) → Gives (groupBytes left z bs) (plainGroup left z bs)
 unfolding groupBytes plainGroup
 gives-plain left z [] = gives-end left z
-gives-plain zero z (c ∷ cs) = gives-unless (eqb c 0 || lastOneAfterFull c cs) _ _ (gives-map (impliedZero z) _ _ (gives-plain (c - 1) (ltb c 255) cs))
+gives-plain zero z (c ∷ cs) =
+    gives-unless (eqb c 0 || lastOneAfterFull c cs) _ _ (gives-map (impliedZero z) _ _ (gives-plain (c - 1) (ltb c 255) cs))
 gives-plain (suc left) z (b ∷ bs) = gives-map (b ∷ []) _ _ (gives-plain left z bs)
 
 bad-none : (r : Option (List ℕ)) → Bad ≡ measured r → r ≡ none
@@ -159,7 +160,8 @@ ones-behind (suc j) o cs =
 ones-counted : (z : Bool) (j o : ℕ) (cs : List ℕ)
     → counted o (groupBytes 0 z (replicate (suc j) 1 ++ cs)) ≡ counted (o + one-if z + j) (groupBytes 0 true cs)
 unfolding groupBytes
-ones-counted z j o cs = counted-map o (impliedZero z) (groupBytes 0 true (replicate j 1 ++ cs)) ∙ rw length-zeros (ones-behind j (o + one-if z) cs)
+ones-counted z j o cs =
+    counted-map o (impliedZero z) (groupBytes 0 true (replicate j 1 ++ cs)) ∙ rw length-zeros (ones-behind j (o + one-if z) cs)
 
 -- ---- the group at an offset of the first n bytes of s
 

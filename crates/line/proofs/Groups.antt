@@ -9,7 +9,8 @@ use native.Mathlib.Omega.{arith}
 use lib.ListN.{length, take, drop, set, replicate, length-set, length-append, length-drop, length-replicate}
 use lib.Seq.{drop-drop, take-take, take-add, take-at, drop-at, take-length, length-take-le, append-snoc}
 use Rattle.octets.specs.Bytes.{run, overlay, copied}
-use Rattle.octets.proofs.Overlay.{run-take, length-run, length-overlay, overlay-more, overlay-next, overlay-none, copied-fits, length-copied}
+use Rattle.octets.proofs.Overlay.{run-take, length-run, length-overlay, overlay-more, overlay-next, overlay-none, copied-fits}
+use Rattle.octets.proofs.Overlay.{length-copied}
 use Rattle.line.specs.Runs.{nonzero}
 use Rattle.line.specs.Cobs.{groups, unlessEnd, cobs}
 use Rattle.line.proofs.Runs.{nonzero-most, nonzero-take}
@@ -169,7 +170,8 @@ module _ {s : List ℕ} {n i o k : ℕ} (t : NextGroup s n i o k) where
       let l : length (take o (cobs (take n s))) ≡ o = length-take-le o (cobs (take n s)) (omega arith) in
       record {
         size = simp (length-copied, length-set) (p .size);
-        bytes = rw (p .bytes, t .taken) (rw l at (put-group (take o (cobs (take n s))) out₀ s i k (k + 1) (omega (arith, t)) (omega arith)));
+        bytes =
+            rw (p .bytes, t .taken) (rw l at (put-group (take o (cobs (take n s))) out₀ s i k (k + 1) (omega (arith, t)) (omega arith)));
       }
 
 -- ---- zeros where a group begins: each is a group of no bytes

@@ -18,7 +18,8 @@ use Rattle.line.specs.Limits.{header-length, checksum-length, shortest-m
 use Rattle.line.specs.Judge.{wrongLength, payloadOf}
 use Rattle.line.specs.Cobs.{uncobs}
 use Rattle.line.specs.Reader.{frame-offset, reader-length, overlong, receivedCount, withCount, receivedBytes, pushedAll}
-use Rattle.line.specs.Reader.{empty, failed, FrameOutcome, frameOutcome, unpacked, finishForm, finish, dataRefusal, partOf, dataPromise}
+use Rattle.line.specs.Reader.{empty, failed, FrameOutcome, frameOutcome, unpacked, finishForm, finish, dataRefusal, partOf}
+use Rattle.line.specs.Reader.{dataPromise}
 use Rattle.line.proofs.State.{Ready, ready-valid, length-counted, count-counted, run-counted, pushes-fit, pushes-some}
 use Rattle.line.proofs.Lent.{fit-length}
 
@@ -70,7 +71,9 @@ module _ (s t : List ℕ) (h : reader-length ≤ length s) (z : receivedCount s 
   -- how many bytes it holds
   pub held-count : cond (ltb longest-form (length t)) overlong (length t) ≡ receivedCount (pushedAll s t)
   unfolding pushedAll
-  held-count = cond-by (λ n. n ≡ receivedCount (pushedAll s t)) (ltb longest-form (length t)) overlong (length t) (λ e. over (ltb-true _ _ e)) (λ e. within t refl (ltb-false _ _ e))
+  held-count =
+      cond-by (λ n. n ≡ receivedCount (pushedAll s t)) (ltb longest-form (length t)) overlong (length t) (λ e. over (ltb-true _ _ e))
+      (λ e. within t refl (ltb-false _ _ e))
     where
       over : longest-form < length t → overlong ≡ receivedCount (pushedAll s t)
       over l =
@@ -93,7 +96,8 @@ module _ (s : List ℕ) (h : reader-length ≤ length s) where
   unfolding unpacked receivedCount
   unpacked-keeps none = (refl, refl)
   unpacked-keeps (some xs) =
-      cond-by (λ (x : List ℕ). (length x ≡ length s) × (number (run 0 2 x) ≡ number (run 0 2 s))) (wrongLength xs) _ _ (λ e. (refl, refl)) (λ e.
+      cond-by (λ (x : List ℕ). (length x ≡ length s) × (number (run 0 2 x) ≡ number (run 0 2 s))) (wrongLength xs) _ _ (λ e. (refl, refl))
+      (λ e.
       let l = fit-length xs e in
       (length-overlay frame-offset xs s (omega arith), ap number (overlay-before frame-offset 0 2 xs s (omega arith) (omega arith))))
 
@@ -104,7 +108,8 @@ module _ (s : List ℕ) (h : reader-length ≤ length s) where
   data-unpacked xs k e =
       let n = length xs - shortest-message in
       let l = fit-length xs e in
-      let u : (length (overlay frame-offset xs s) ≡ length s) × (receivedCount (overlay frame-offset xs s) ≡ receivedCount s) = rw e at (unpacked-keeps (some xs)) in
+      let u : (length (overlay frame-offset xs s) ≡ length s) × (receivedCount (overlay frame-offset xs s) ≡ receivedCount s) =
+      rw e at (unpacked-keeps (some xs)) in
       let m : length (payloadOf xs) ≡ n = simp (length-drop, length-take) (omega arith) in
       let t : header-length + n ≡ length xs - checksum-length = omega arith in
       rw (m, ready-valid (overlay frame-offset xs s) (omega arith, omega arith), le-ltb longest-data n (omega arith))

@@ -10,7 +10,8 @@ use lib.Dec.{leb, ltb}
 use lib.ListN.{length, take, drop, getD, set, replicate, length-append, length-replicate}
 use lib.Seq.{slice, length-slice, drop-drop}
 use Rattle.octets.specs.Bytes.{run, overlay, movedDown}
-use Rattle.octets.proofs.Overlay.{length-run, length-overlay, overlay-none, overlay-after, overlay-next, overlay-more, overlay-getD-after, movedDown-fits}
+use Rattle.octets.proofs.Overlay.{length-run, length-overlay, overlay-none, overlay-after, overlay-next, overlay-more, overlay-getD-after}
+use Rattle.octets.proofs.Overlay.{movedDown-fits}
 use Rattle.line.specs.Cobs.{impliedZero}
 use Rattle.line.specs.Decoding.{one-if, plainGroup, plain}
 use Rattle.line.proofs.Alike.{run-within, alike-next}

@@ -15,10 +15,12 @@ use Rattle.octets.proofs.Overlay.{length-run, overlay-inside}
 use Rattle.line.specs.Limits.{checksum-length, shortest-message, longest-message, longest-form}
 use Rattle.line.specs.Checksum.{checksum}
 use Rattle.line.specs.Message.{magic}
-use Rattle.line.specs.Judge.{bodyOf, checksumOf, magicOf, versionOf, sequenceOf, commandOf, payloadOf, fields, wrongLength, judgeForm, judge}
+use Rattle.line.specs.Judge.{bodyOf, checksumOf, magicOf, versionOf, sequenceOf, commandOf, payloadOf, fields, wrongLength, judgeForm}
+use Rattle.line.specs.Judge.{judge}
 use Rattle.line.specs.Cobs.{uncobs}
 use Rattle.line.specs.Decoding.{measured, plain}
-use Rattle.line.specs.Reader.{frame-offset, reader-length, ReadReport, failed, message, verdictReport, frameOutcome, unpacked, finishForm}
+use Rattle.line.specs.Reader.{frame-offset, reader-length, ReadReport, failed, message, verdictReport, frameOutcome, unpacked}
+use Rattle.line.specs.Reader.{finishForm}
 use Rattle.line.specs.declared.cobs.Measured.{Measured}
 use Rattle.line.specs.declared.cobs.Measured.the-variants.{Bad, Length}
 use Rattle.line.proofs.Decoding.{measured-bad, measured-length}
@@ -29,7 +31,8 @@ length-part s k h = rw add-sub-cancel-left (length-run frame-offset k s h)
 
 -- a decoded message of k bytes, and the numbers that are read of it
 module _ (xs : List ℕ) (k : ℕ) (e : length xs ≡ k) (h : shortest-message ≤ k) (i : k ≤ longest-message) {a b q : ℕ}
-    (at-end : a ≡ numberAt 2 xs (k - checksum-length)) (of-body : b ≡ checksum (take (k - checksum-length) xs)) (sequence : q ≡ sequenceOf xs) where
+    (at-end : a ≡ numberAt 2 xs (k - checksum-length)) (of-body : b ≡ checksum (take (k - checksum-length) xs))
+    (sequence : q ≡ sequenceOf xs) where
   length-right : wrongLength xs ≡ false
   length-right = rw (e, le-ltb k shortest-message h, le-ltb longest-message k i)
 
@@ -48,7 +51,8 @@ module _ (xs : List ℕ) (k : ℕ) (e : length xs ≡ k) (h : shortest-message �
     unfolding verdictReport judgeForm
     report-magic n = rw (length-right, ← checksum-read, ← checksum-made, eq-eqb a b same, ← first, ne-eqb m magic n, sequence)
 
-    pub report-good : {v d : ℕ} → m ≡ magic → v ≡ versionOf xs → d ≡ commandOf xs → message v q d (k - shortest-message) ≡ verdictReport (judgeForm (some xs))
+    pub report-good : {v d : ℕ} → m ≡ magic → v ≡ versionOf xs → d ≡ commandOf xs
+        → message v q d (k - shortest-message) ≡ verdictReport (judgeForm (some xs))
     unfolding verdictReport judgeForm fields
     report-good g version command =
         let l : length (payloadOf xs) ≡ k - shortest-message = simp (length-drop, length-take) (omega arith) in
@@ -73,7 +77,8 @@ module _ (form s : List ℕ) (l : length form ≤ longest-form) where
     unfolding finishForm verdictReport judgeForm unpacked
     finish-length t = rw (judge-form, e, t)
 
-    finish-message : wrongLength xs ≡ false → frameOutcome (verdictReport (judgeForm (some xs))) (overlay frame-offset xs s) ≡ finishForm form s
+    finish-message : wrongLength xs ≡ false
+        → frameOutcome (verdictReport (judgeForm (some xs))) (overlay frame-offset xs s) ≡ finishForm form s
     unfolding finishForm unpacked
     finish-message t = rw (judge-form, e, t)
 
@@ -94,7 +99,8 @@ module _ (form s : List ℕ) (l : length form ≤ longest-form) where
           finish-length (plain form) (p .0) (rw (p .1, lt-ltb longest-message k h, or-true))
 
       pub finish-fits : shortest-message ≤ k → k ≤ longest-message → frame-offset ≤ length s → {t : List ℕ} {a : ReadReport}
-          → t ≡ overlay frame-offset (plain form) s → a ≡ verdictReport (judgeForm (some (run frame-offset k t))) → frameOutcome a t ≡ finishForm form s
+          → t ≡ overlay frame-offset (plain form) s → a ≡ verdictReport (judgeForm (some (run frame-offset k t)))
+          → frameOutcome a t ≡ finishForm form s
       finish-fits h j i u v =
           let p = measured-length form k (sym b ∙ e) in
           let w = finish-message (plain form) (p .0) (rw (p .1, le-ltb k shortest-message h, le-ltb longest-message k j)) in

@@ -51,7 +51,8 @@ module _ (t u : List ℕ) (h : reader-length ≤ length t) where
 
   pub valid-append : validReader (t ++ u) ≡ validReader t
   unfolding validReader
-  valid-append = rw (count-append, le-leb reader-length (length t) h, le-leb reader-length (length (t ++ u)) (simp length-append (omega arith)))
+  valid-append =
+      rw (count-append, le-leb reader-length (length t) h, le-leb reader-length (length (t ++ u)) (simp length-append (omega arith)))
 
   pub dataOf-append : (n : ℕ) → dataPromise (t ++ u) n ≡ dataPromise t n
   unfolding dataPromise dataRefusal partOf
@@ -83,7 +84,8 @@ module _ (t u : List ℕ) (h : reader-length ≤ length t) where
       (λ e.
       let k = ltb-true (receivedCount t) longest-form e in
       let l = length-overlay (frame-offset + receivedCount t) (b ∷ []) t (omega arith) in
-      rw (overlay-append t u (frame-offset + receivedCount t) (b ∷ []) (omega arith)) (counted-append _ u (omega arith) (receivedCount t + 1)))
+      rw (overlay-append t u (frame-offset + receivedCount t) (b ∷ []) (omega arith))
+      (counted-append _ u (omega arith) (receivedCount t + 1)))
       (λ e. counted-append t u h overlong))
 
   pub finish-append : finish (t ++ u) ≡ behind u (finish t)
@@ -93,4 +95,7 @@ module _ (t u : List ℕ) (h : reader-length ≤ length t) where
       rw (count-append t u h, counted-append t u h 0)
       (cond-map (behind u) (eqb (receivedCount t) 0) (λ e. refl) (λ e.
       cond-map (behind u) (ltb longest-form (receivedCount t)) (λ f. refl) (λ f.
-      rw (kept-append t u h (ltb-false longest-form (receivedCount t) f), unpacked-append (withCount 0 t) u (omega arith) (uncobs (receivedBytes t))))))
+      rw (
+        kept-append t u h (ltb-false longest-form (receivedCount t) f),
+        unpacked-append (withCount 0 t) u (omega arith) (uncobs (receivedBytes t)),
+      ))))

@@ -10,7 +10,8 @@ use lib.ListN.{length, take}
 use lib.Seq.{take-length}
 use borrow.Author.Tests.{ne-eqb}
 use Rattle.line.specs.Runs.{nonzero}
-use Rattle.line.specs.Reader.{ReadReport, refused, more, validReader, pushed, pushedAll, FrameOutcome, frameOutcome, finish, ReadOutcome, oneByteLater, readPiece, readPromise}
+use Rattle.line.specs.Reader.{ReadReport, refused, more, validReader, pushed, pushedAll, FrameOutcome, frameOutcome, finish}
+use Rattle.line.specs.Reader.{ReadOutcome, oneByteLater, readPiece, readPromise}
 use Rattle.line.proofs.Runs.{nonzero-length}
 use Rattle.line.proofs.State.{Ready, valid-ready, ready-pushes}
 
@@ -67,7 +68,8 @@ module _ (s p : List ℕ) (v : validReader s ≡ true) {n : ℕ} (e : n ≡ leng
       let m = read-more s p (sym e ∙ f) in
       cc (accepted, take-length p)
 
-  pub reading-stop : (n ≡ length p → ⊥) → {a : ReadReport} {u : List ℕ} → frameOutcome a u ≡ finish t → outcomeOf (n + 1) a u ≡ readPromise s p
+  pub reading-stop : (n ≡ length p → ⊥) → {a : ReadReport} {u : List ℕ} → frameOutcome a u ≡ finish t
+      → outcomeOf (n + 1) a u ≡ readPromise s p
   reading-stop f w =
       let l = ahead-most p in
       let m = read-stop s p (omega arith) in

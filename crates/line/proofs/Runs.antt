@@ -114,7 +114,8 @@ nonzero-one k xs h l b =
     nonzero-add k 1 xs h ∙ rw (drop-cons xs k 0 l) (omega (arith, m, nonzero-most 0 (drop (suc k) xs)))
 
 -- j bytes that are not zero are next
-pub reached-block : (most k j : ℕ) (xs : List ℕ) → k + j ≤ most → length (nonzero j (drop k xs)) ≡ j → runLength most k xs ≡ runLength most (k + j) xs
+pub reached-block : (most k j : ℕ) (xs : List ℕ) → k + j ≤ most → length (nonzero j (drop k xs)) ≡ j
+    → runLength most k xs ≡ runLength most (k + j) xs
 reached-block most k j xs h l =
     let e : j + (most - (k + j)) ≡ most - k = omega arith in
     omega (arith, rw (e, drop-drop) at (nonzero-add j (most - (k + j)) (drop k xs) l))

@@ -13,7 +13,8 @@ use borrow.Author.Tests.{leb-true, le-leb, ltb-true, ltb-false, lt-ltb, le-ltb}
 use Rattle.octets.specs.Bytes.{bytes, run, overlay, copied}
 use Rattle.octets.proofs.Conditions.{cond-by}
 use Rattle.octets.proofs.Numbers.{length-bytes}
-use Rattle.octets.proofs.Overlay.{length-overlay, overlay-after, overlay-none, overlay-again, overlay-next, overlay-swap, put-fits, number-put, copied-fits}
+use Rattle.octets.proofs.Overlay.{length-overlay, overlay-after, overlay-none, overlay-again, overlay-next, overlay-swap, put-fits}
+use Rattle.octets.proofs.Overlay.{number-put, copied-fits}
 use Rattle.line.specs.Limits.{longest-form}
 use Rattle.line.specs.Reader.{frame-offset, reader-length, overlong, receivedCount, withCount, validReader, pushed, pushedAll}
 
@@ -68,7 +69,8 @@ module _ (n : ℕ) (s : List ℕ) (b : ℕ) (h : reader-length ≤ length s) whe
         lt-ltb n longest-form l,
         overlay-counted n s (omega arith) n (b ∷ []) (omega arith),
       )
-      (counted-again n (overlay (frame-offset + n) (b ∷ []) s) (rw (length-overlay (frame-offset + n) (b ∷ []) s (omega arith)) (omega arith)) (n + 1))
+      (counted-again n (overlay (frame-offset + n) (b ∷ []) s)
+      (rw (length-overlay (frame-offset + n) (b ∷ []) s (omega arith)) (omega arith)) (n + 1))
 
   pushed-over : longest-form ≤ n → n ≤ overlong → pushed (withCount n s) b ≡ withCount overlong s
   unfolding pushed
@@ -89,8 +91,11 @@ ready-pushed s b r =
     cond-by (λ t. (length t ≡ length s) × (receivedCount t ≤ overlong)) (ltb (receivedCount s) longest-form) _ _
     (λ e.
     let l = ltb-true (receivedCount s) longest-form e in
-    let k = length-overlay (frame-offset + receivedCount s) (b ∷ []) s (omega arith) in
-    (length-counted _ _ (omega arith) ∙ k, rw (count-counted (receivedCount s + 1) (overlay (frame-offset + receivedCount s) (b ∷ []) s) (omega arith) (omega arith)) (omega arith)))
+    let k = length-overlay (frame-offset + receivedCount s) (b ∷ []) s (omega arith) in (
+      length-counted _ _ (omega arith) ∙ k,
+      rw (count-counted (receivedCount s + 1) (overlay (frame-offset + receivedCount s) (b ∷ []) s) (omega arith) (omega arith))
+          (omega arith),
+    ))
     (λ e. (length-counted overlong s (omega arith), rw (count-counted overlong s (omega arith) (omega arith)) (omega arith)))
 
 -- ---- bytes of a frame
@@ -117,7 +122,8 @@ pushes-counted (b ∷ bs) n s h l =
     let e = length-overlay (frame-offset + n) (b ∷ []) s (omega arith) in
     let i : frame-offset + (n + 1) ≡ frame-offset + n + 1 = omega arith in
     let j : n + 1 + length bs ≡ n + suc (length bs) = omega arith in
-    rw (pushed-room n s b h (omega arith), pushes-counted bs (n + 1) (overlay (frame-offset + n) (b ∷ []) s) (omega arith) (omega arith), i, j)
+    rw
+    (pushed-room n s b h (omega arith), pushes-counted bs (n + 1) (overlay (frame-offset + n) (b ∷ []) s) (omega arith) (omega arith), i, j)
     (ap (withCount (n + suc (length bs))) (overlay-next (frame-offset + n) (b ∷ []) bs s (omega arith)))
 
 -- behind too many bytes nothing is kept
@@ -138,7 +144,8 @@ pushes-again [] s r k = absurd (omega arith)
 pushes-again (b ∷ bs) s r k = rw (pushed-again s b r)
 
 module _ (bs s : List ℕ) (r : Ready s) (k : 0 < length bs) where
-  pub pushes-fit : receivedCount s + length bs ≤ longest-form → pushedAll s bs ≡ withCount (receivedCount s + length bs) (overlay (frame-offset + receivedCount s) bs s)
+  pub pushes-fit : receivedCount s + length bs ≤ longest-form
+      → pushedAll s bs ≡ withCount (receivedCount s + length bs) (overlay (frame-offset + receivedCount s) bs s)
   pushes-fit l = pushes-again bs s r k ∙ pushes-counted bs (receivedCount s) s (r .0) l
 
   pub pushes-over : longest-form ≤ receivedCount s → pushedAll s bs ≡ withCount overlong s
@@ -174,7 +181,8 @@ module _ (s p : List ℕ) (n : ℕ) (r : Ready s) (k : 0 < n) (l : n ≤ length 
       rw (copied-fits p 0 room s (frame-offset + receivedCount s) (omega arith) (omega arith), ← take-take room n p (omega arith))
       (sym (pushes-some (take n p) s r (omega arith) m (omega arith)))
 
-  pub append-fit : n ≤ longest-form - receivedCount s → withCount (receivedCount s + n) (copied p 0 n s (frame-offset + receivedCount s)) ≡ pushedAll s (take n p)
+  pub append-fit : n ≤ longest-form - receivedCount s
+      → withCount (receivedCount s + n) (copied p 0 n s (frame-offset + receivedCount s)) ≡ pushedAll s (take n p)
   append-fit m =
       let e = length-take-le n p l in
       let f = pushes-fit (take n p) s r (omega arith) (omega arith) in

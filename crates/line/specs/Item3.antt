@@ -9,7 +9,8 @@ use Rattle.line.specs.Columns.{column-rows, total, weighted, most}
 
 abbrev pub SumsAppend : Type 0
 SumsAppend = (bs rest : List ℕ) (first second : ℕ)
-    → sums (first % 255) (second % 255) (bs ++ rest) ≡ sums ((first + total bs) % 255) ((second + (length bs * first + weighted bs)) % 255) rest
+    → sums (first % 255) (second % 255) (bs ++ rest)
+    ≡ sums ((first + total bs) % 255) ((second + (length bs * first + weighted bs)) % 255) rest
 
 abbrev pub AllFit : Type 0
 AllFit = most column-rows < 65536

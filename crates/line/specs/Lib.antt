@@ -1,4 +1,5 @@
--- The meaning of the line layer in document 01's order, Limits to Judge; what the code's own contracts cite, Columns, Runs and Decoding; what is claimed of blocks, Item3;
+-- The meaning of the line layer in document 01's order, Limits to Judge; what the code's own contracts cite, Columns, Runs and Decoding;
+-- what is claimed of blocks, Item3;
 -- and what each public call answers and leaves, Reader and Writer. Assumes nothing.
 pub mod Limits
 pub mod Numbers

@@ -81,7 +81,9 @@ verdictReport (good m) = message (m .version) (m .sequence) (m .command) (length
 
 -- One byte that is not 00: kept, or one too many.
 unfoldable pub pushed : List ℕ → ℕ → List ℕ
-pushed s b = cond (ltb (receivedCount s) longest-form) (withCount (receivedCount s + 1) (overlay (frame-offset + receivedCount s) (b ∷ []) s)) (withCount overlong s)
+pushed s b =
+    cond (ltb (receivedCount s) longest-form) (withCount (receivedCount s + 1) (overlay (frame-offset + receivedCount s) (b ∷ []) s))
+    (withCount overlong s)
 
 -- bytes that are not 00, one after the other
 unfoldable pub pushedAll : List ℕ → List ℕ → List ℕ
@@ -127,7 +129,8 @@ oneByteLater o = record { used = suc (o .used); answer = o .answer; state = o .s
 -- a piece, byte by byte, up to and with its first 00
 unfoldable pub readPiece : List ℕ → List ℕ → ReadOutcome
 readPiece s [] = record { used = 0; answer = more; state = s }
-readPiece s (b ∷ bs) = cond (eqb b 0) (record { used = 1; answer = finish s .answer; state = finish s .state }) (oneByteLater (readPiece (pushed s b) bs))
+readPiece s (b ∷ bs) =
+    cond (eqb b 0) (record { used = 1; answer = finish s .answer; state = finish s .state }) (oneByteLater (readPiece (pushed s b) bs))
 
 -- a call of `read`; one refused as 12 reads nothing and leaves the state
 unfoldable pub readPromise : List ℕ → List ℕ → ReadOutcome
@@ -146,7 +149,8 @@ abbrev pub readerStartOutcome : Started → List ℕ → ReaderStartOutcome
 readerStartOutcome r s = record { refusal = readerStartReport r; state = s }
 
 unfoldable pub readerStartPromise : List ℕ → ReaderStartOutcome
-readerStartPromise s = cond (leb reader-length (length s)) (record { refusal = none; state = withCount 0 s }) (record { refusal = some 12; state = s })
+readerStartPromise s =
+    cond (leb reader-length (length s)) (record { refusal = none; state = withCount 0 s }) (record { refusal = some 12; state = s })
 
 -- A call of `tail`: how many bytes of an unfinished frame have come, or that they are more than the longest form has.
 pub data TailReport : Type 0 where
@@ -160,7 +164,8 @@ tailReport (tail-answer.Bytes n) = unfinished n
 tailReport tail-answer.Longer = longer
 
 unfoldable pub tailPromise : List ℕ → TailReport
-tailPromise s = cond (validReader s) (cond (ltb longest-form (receivedCount s)) longer (unfinished (receivedCount s))) (TailReport.refused 12)
+tailPromise s =
+    cond (validReader s) (cond (ltb longest-form (receivedCount s)) longer (unfinished (receivedCount s))) (TailReport.refused 12)
 
 -- The bytes from the data's offset on, so many: the data of the message that a call of `read` handed out with that length, in the
 -- state as that call left it; for any other length, or after another call of `read`, the bytes that stand there.

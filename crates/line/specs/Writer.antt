@@ -32,7 +32,8 @@ writeOutcome r out = record { answer = writeReport r; out = out }
 
 -- the message of a call: its data stand in two parts
 abbrev pub messageOfParts : ℕ → ℕ → ℕ → List ℕ → List ℕ → Message
-messageOfParts version sequence command head rest = record { version = version; sequence = sequence; command = command; payload = head ++ rest }
+messageOfParts version sequence command head rest =
+    record { version = version; sequence = sequence; command = command; payload = head ++ rest }
 
 -- bytes at the start of the room, where they fit
 unfoldable pub writeInto : List ℕ → List ℕ → WriteOutcome

@@ -120,7 +120,8 @@ fn last_one_after_full(s: &[u8], n: usize, i: usize, c: usize) -> bool
     s[i + c] == 1
 }
 
-// The length that the first n bytes of s decode to, unless they are no COBS form: one less for each full group, and for the last group's zero.
+// The length that the first n bytes of s decode to, unless they are no COBS form:
+// one less for each full group, and for the last group's zero.
 pub(crate) fn decoded_length(s: &[u8], n: usize) -> Measured
     requires { ⌜ n ≤ length (now s) ⌝ }
     ensures { λ r. ⌜ r ≡ measured (uncobs (take n (now (s .entry)))) ⌝ }

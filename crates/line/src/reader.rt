@@ -14,7 +14,10 @@ ghost use Rattle.line.specs.Limits.{shortest-message, longest-message, l
 ghost use Rattle.line.specs.Cobs.{uncobs};
 ghost use Rattle.line.specs.Decoding.{measured, plain};
 ghost use Rattle.line.specs.Judge.{judgeForm};
-ghost use Rattle.line.specs.Reader.{frame-offset, reader-length, overlong, receivedCount, withCount, validReader, readReport, verdictReport, pushedAll, frameOutcome, finishForm, finish, readOutcome, readPromise, readerStartOutcome, readerStartPromise, tailReport, tailPromise, dataReport, dataRefusal, dataPromise};
+ghost use Rattle.line.specs.Reader.{frame-offset, reader-length, overlong, receivedCount, withCount, validReader, readReport};
+ghost use Rattle.line.specs.Reader.{verdictReport, pushedAll, frameOutcome, finishForm, finish, readOutcome, readPromise};
+ghost use Rattle.line.specs.Reader.{readerStartOutcome, readerStartPromise, tailReport, tailPromise, dataReport, dataRefusal};
+ghost use Rattle.line.specs.Reader.{dataPromise};
 
 const FRAME_OFFSET: usize = 2;
 
@@ -234,7 +237,8 @@ fn decode_frame(state: &mut [u8], n: usize)
 fn finish_form(state: &mut [u8], n: usize) -> Answer
     requires { ⌜ reader-length ≤ length (now state) ⌝ }
     requires { ⌜ n ≤ longest-form ⌝ }
-    ensures { λ r. ⌜ frameOutcome (readReport r) (now (state .exit)) ≡ finishForm (run frame-offset n (now (state .entry))) (now (state .entry)) ⌝ }
+    ensures { λ r. ⌜ frameOutcome (readReport r) (now (state .exit))
+        ≡ finishForm (run frame-offset n (now (state .entry))) (now (state .entry)) ⌝ }
 {
     let m = frame_length(state, n);
     match m {

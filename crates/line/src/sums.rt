@@ -83,7 +83,9 @@ fn row_sums(row: &[u16; COLUMNS]) -> Sums
 fn block(body: &[u8], at: usize, sums: Sums) -> Sums
     requires { ⌜ at + block-length ≤ length (now body) ⌝ }
     requires { ⌜ (sums .first < 255) × (sums .second < 255) ⌝ }
-    ensures { λ r. ⌜ (r .first < 255) × (r .second < 255) × (sumsOf (r .first) (r .second) (drop (at + block-length) (now (body .entry))) ≡ sumsOf (sums .first) (sums .second) (drop at (now (body .entry)))) ⌝ }
+    ensures { λ r. ⌜ (r .first < 255) × (r .second < 255)
+        × (sumsOf (r .first) (r .second) (drop (at + block-length) (now (body .entry)))
+        ≡ sumsOf (sums .first) (sums .second) (drop at (now (body .entry)))) ⌝ }
 {
     let mut firsts = [0u16; COLUMNS];
     let mut seconds = [0u16; COLUMNS];
@@ -96,7 +98,8 @@ fn block(body: &[u8], at: usize, sums: Sums) -> Sums
     }
     let one = row_sums(&firsts);
     let two = row_sums(&seconds);
-    // In the second sum a byte counts once for each byte from it to the block's end: 16 times for each row below, and in its own by its column.
+    // In the second sum a byte counts once for each byte from it to the block's end:
+    // 16 times for each row below, and in its own by its column.
     let added = two.first * COLUMNS as u32 + one.second - one.first * COLUMNS as u32;
     Sums {
         first: (sums.first + one.first) % 255,

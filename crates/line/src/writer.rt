@@ -34,7 +34,8 @@ pub fn write(
     rest: &[u8],
     out: &mut [u8],
 ) -> Written
-    ensures { λ r. ⌜ writeOutcome r (now (out .exit)) ≡ writePromise (messageOfParts version sequence command (now (head .entry)) (now (rest .entry))) (now (out .entry)) ⌝ }
+    ensures { λ r. ⌜ writeOutcome r (now (out .exit))
+        ≡ writePromise (messageOfParts version sequence command (now (head .entry)) (now (rest .entry))) (now (out .entry)) ⌝ }
 {
     if limits::LONGEST_DATA < head.len() {
         return Written::TooLong;
@@ -62,7 +63,8 @@ fn write_by(
 ) -> Written
     requires { ⌜ length (now head) + length (now rest) ≤ longest-data ⌝ }
     requires { ⌜ shortest-message + length (now head) + length (now rest) ≤ length (now m) ⌝ }
-    ensures { λ r. ⌜ writeOutcome r (now (out .exit)) ≡ writePromise (messageOfParts version sequence command (now (head .entry)) (now (rest .entry))) (now (out .entry)) ⌝ }
+    ensures { λ r. ⌜ writeOutcome r (now (out .exit))
+        ≡ writePromise (messageOfParts version sequence command (now (head .entry)) (now (rest .entry))) (now (out .entry)) ⌝ }
 {
     let n = assemble(version, sequence, command, head, rest, m);
     send(m, n, out)

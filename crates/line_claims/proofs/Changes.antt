@@ -23,7 +23,8 @@ first-on s d x y h =
 -- second sums that differ by e, then first sums that differ by d
 second-on : (t e n d : ℕ) → ((t + e) % 255 + (n + d) % 255) % 255 ≡ ((t + n) % 255 + (e + d)) % 255
 second-on t e n d =
-    mod-add-mod (t + e) 255 ((n + d) % 255) ∙ add-mod-mod (t + e) (n + d) 255 ∙ ap (λ m. m % 255) (omega arith) ∙ sym (mod-add-mod (t + n) 255 (e + d))
+    mod-add-mod (t + e) 255 ((n + d) % 255) ∙ add-mod-mod (t + e) (n + d) 255 ∙ ap (λ m. m % 255) (omega arith)
+    ∙ sym (mod-add-mod (t + n) 255 (e + d))
 
 -- weights that are one higher count every change once more
 weighed-suc : (weight : ℕ → ℕ) (cs : List ℕ) → weighed (λ i. suc (weight i)) cs ≡ summed cs + weighed weight cs
@@ -46,7 +47,8 @@ no-difference s d h = omega arith
 
 -- ahead of these bytes the first sums differ by d and the second ones by e
 differing : (xs ys : List ℕ) (s t d e : ℕ) → length xs ≡ length ys → Each Byte xs → s < 255 → t < 255
-    → (sums s t xs ≡ sums ((s + d) % 255) ((t + e) % 255) ys) ↔ (Multiple (d + summed (byteChanges xs ys)) × (e % 255 ≡ placed (byteChanges xs ys) % 255))
+    → (sums s t xs ≡ sums ((s + d) % 255) ((t + e) % 255) ys)
+    ↔ (Multiple (d + summed (byteChanges xs ys)) × (e % 255 ≡ placed (byteChanges xs ys) % 255))
 unfolding sums byteChanges weighed
 differing [] [] s t d e l b h k = rw add-zero (
   λ f. let r = both s t ((s + d) % 255) ((t + e) % 255) h (omega arith) f in (no-difference s d h .0 (r .0), no-difference t e k .0 (r .1)),
@@ -56,7 +58,8 @@ differing [] (y ∷ ys) s t d e l b h k = absurd (omega arith)
 differing (x ∷ xs) [] s t d e l b h k = absurd (omega arith)
 differing (x ∷ xs) (y ∷ ys) s t d e l b h k =
     let c = byteChange x y in
-    let r = differing xs ys ((s + x) % 255) ((t + (s + x) % 255) % 255) (d + c) (e + (d + c)) (omega arith) (b .1) (omega arith) (omega arith) in
+    let r =
+    differing xs ys ((s + x) % 255) ((t + (s + x) % 255) % 255) (d + c) (e + (d + c)) (omega arith) (b .1) (omega arith) (omega arith) in
     rw (first-on s d x y (b .0), second-on t e ((s + x) % 255) (d + c), weighed-suc (λ i. i) (byteChanges xs ys))
     (Iff·trans r (one-more d e c (summed (byteChanges xs ys)) (placed (byteChanges xs ys))))
 

@@ -24,7 +24,8 @@ pub checksum-claim : ChecksumClaim
 checksum-claim xs ys n h k =
     let p = n .place in
     let r = same-but-two 1 p xs ys (omega arith) (n .lengths) (n .elsewhere) h in
-    let at : (i : ℕ) → Multiple (changeAt i xs ys) ↔ SameOr00Ff (getD xs i 0) (getD ys i 0) = λ i. alike _ _ (byte-at xs h i) (byte-at ys k i) in (
+    let at : (i : ℕ) → Multiple (changeAt i xs ys) ↔ SameOr00Ff (getD xs i 0) (getD ys i 0) =
+    λ i. alike _ _ (byte-at xs h i) (byte-at ys k i) in (
       λ e i. elim (ℕ-discrete i p) [
         | yes u ↦ at i .0 (rw u (omega (arith, r .0 e)))
         | no u ↦ elim (ℕ-discrete i (p + 1)) [ yes v ↦ at i .0 (rw v (omega (arith, r .0 e))) | no v ↦ inl (n .elsewhere i u v) ]

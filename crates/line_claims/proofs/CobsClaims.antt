@@ -1,4 +1,5 @@
--- What COBS keeps of a list: reading its form gives it back, the form has no zero byte, bytes are read from bytes, and the form's length is bounded.
+-- What COBS keeps of a list: reading its form gives it back, the form has no zero byte, bytes are
+-- read from bytes, and the form's length is bounded.
 -- Assumes nothing.
 use mathlib.Core.Path.{_≡_, refl}
 use mathlib.Core.Bool.{Bool, true, false, _&&_, _||_}
@@ -56,7 +57,13 @@ groups-read (zero ∷ xs) room done n h e =
     rw (eqb·suc-zero, no-last-one xs, sub-one, groups-read xs places-left 0 _ refl (add-zero _), lt-ltb (suc n) full-code (omega arith))
 groups-read (suc b ∷ []) zero done n h e = refl
 groups-read (suc b ∷ x ∷ xs) zero done n h e =
-    rw (eqb·suc-zero, no-last-one (x ∷ xs), sub-one, groups-read (x ∷ xs) places-left 0 _ refl (add-zero _), le-ltb (suc n) full-code (omega arith))
+    rw (
+      eqb·suc-zero,
+      no-last-one (x ∷ xs),
+      sub-one,
+      groups-read (x ∷ xs) places-left 0 _ refl (add-zero _),
+      le-ltb (suc n) full-code (omega arith),
+    )
 groups-read (suc b ∷ xs) (suc room) done n h e = rw (groups-read xs room (suc done) n (omega arith) (omega arith))
 
 pub round-trip : LineRoundTrip
@@ -100,7 +107,8 @@ module _ (P : ℕ → Type 0) (of-zero : P 0) where
   EachRead none = Unit {0}
   EachRead (some xs) = Each P xs
 
-  then-each : (f : List ℕ → List ℕ) → ((xs : List ℕ) → Each P xs → Each P (f xs)) → (o : Option (List ℕ)) → EachRead o → EachRead (Option·map f o)
+  then-each : (f : List ℕ → List ℕ) → ((xs : List ℕ) → Each P xs → Each P (f xs)) → (o : Option (List ℕ)) → EachRead o
+      → EachRead (Option·map f o)
   then-each f h none r = tt
   then-each f h (some xs) r = h xs r
 
@@ -112,7 +120,8 @@ module _ (P : ℕ → Type 0) (of-zero : P 0) where
   unfolding groupBytes
   group-each [] zero holds h = tt
   group-each [] (suc left) holds h = tt
-  group-each (b ∷ bs) (suc left) holds h = then-each (λ xs. b ∷ xs) (λ xs k. (h .0, k)) (groupBytes left holds bs) (group-each bs left holds (h .1))
+  group-each (b ∷ bs) (suc left) holds h =
+      then-each (λ xs. b ∷ xs) (λ xs k. (h .0, k)) (groupBytes left holds bs) (group-each bs left holds (h .1))
   group-each (c ∷ cs) zero holds h =
       cond-by EachRead (eqb c 0 || lastOneAfterFull c cs) _ _ (λ e. tt) (λ e.
       then-each (λ xs. impliedZero holds ++ xs) (λ xs k. each-append P (impliedZero holds) xs (zeros-each holds) k)

@@ -49,9 +49,12 @@ divides-one : (n k c : ℕ) → 0 < n → prime n ≡ true → (k * c % n ≡ 0)
 divides-one n k c h p = (
   λ e.
       let m : k % n * (c % n) % n ≡ 0 = rw mul-comm (sym (product-mod n c (k % n)) ∙ rw mul-comm (sym (product-mod n k c) ∙ e)) in
-      let t : zeroOnly n (k % n) (c % n) ≡ true = below-at n (zeroOnly n (k % n)) (below-at n (λ a. below n (zeroOnly n a)) p (k % n) (mod-lt k h)) (c % n) (mod-lt c h) in
+      let t : zeroOnly n (k % n) (c % n) ≡ true =
+      below-at n (zeroOnly n (k % n)) (below-at n (λ a. below n (zeroOnly n a)) p (k % n) (mod-lt k h)) (c % n) (mod-lt c h) in
       zero-factor (k % n) (c % n) (eqb-true _ _ (rw m at t)),
-  λ d. elim d [ inl e ↦ rw (product-mod n k c, e, zero-mul, zero-mod) | inr e ↦ rw (mul-comm k c, product-mod n c k, e, zero-mul, zero-mod) ],
+  λ d.
+      elim d
+      [ inl e ↦ rw (product-mod n k c, e, zero-mul, zero-mod) | inr e ↦ rw (mul-comm k c, product-mod n c k, e, zero-mul, zero-mod) ],
 )
 
 -- ---- 255 divides a number where 3, 5 and 17 do
@@ -68,7 +71,8 @@ three-primes m = (
 pub multiple-factors : (k c : ℕ) → Multiple (k * c) ↔ Factors k c
 multiple-factors k c =
     Iff·trans (three-primes (k * c))
-    (Iff·and (divides-one 3 k c (omega arith) refl) (Iff·and (divides-one 5 k c (omega arith) refl) (divides-one 17 k c (omega arith) refl)))
+    (Iff·and (divides-one 3 k c (omega arith) refl)
+    (Iff·and (divides-one 5 k c (omega arith) refl) (divides-one 17 k c (omega arith) refl)))
 
 pub checksum-distance : ChecksumDistance
 checksum-distance k p xs ys d g h = Iff·trans (checksum-apart k p xs ys d g h) (Iff·and Iff·rfl (multiple-factors k (changeAt p xs ys)))

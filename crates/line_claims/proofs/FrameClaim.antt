@@ -1,4 +1,5 @@
--- Claims over calls of a line reader: a frame that is handed out as a message is that message's frame, so that the answers determine the bytes that were read.
+-- Claims over calls of a line reader:
+-- a frame that is handed out as a message is that message's frame, so that the answers determine the bytes that were read.
 -- Assumes nothing.
 use mathlib.Core.Path.{_≡_, refl, sym, ap, _∙_}
 use mathlib.Core.List.{List, [], _∷_, _++_, map, map-append, append-assoc}
@@ -13,7 +14,8 @@ use Rattle.line.specs.Reader.{verdictReport, reader-length}
 use Rattle.line_claims.specs.Pieces.{nonEmpty, withZeros, NonZero}
 use Rattle.line_claims.proofs.Pieces.{split-each, split-whole}
 use Rattle.line_claims.proofs.SpellingClaim.{good-form, good-frame}
-use Rattle.line_claims.specs.Calls.{LineCall, afterLineCalls, freshReader, frameReport, gathered, goodOf, reasonOf, goodMessages, failureReasons}
+use Rattle.line_claims.specs.Calls.{LineCall, afterLineCalls, freshReader, frameReport, gathered, goodOf, reasonOf, goodMessages}
+use Rattle.line_claims.specs.Calls.{failureReasons}
 use Rattle.line_claims.proofs.ReaderClaim.{any-stream, any-messages, any-failures}
 use Rattle.line_claims.specs.Calls.{Reader, frameOf, goodFrames, reportedBytes}
 use Rattle.line_claims.specs.Item6.{piecesRead, HandedFrames, HandedWire, AnswersDetermine}
@@ -44,12 +46,14 @@ module _ (p : List ℕ) (rs : List ℕ) (P : LineVerdict → Type 0) where
       by (good m) j e h = h m j e
 
 -- wire bytes, where none fails
-pieces-wire : (ps : List (List ℕ)) → Each (Each NonZero) ps → failureReasons (nonEmpty ps) ≡ [] → WireBytes (goodMessages (nonEmpty ps)) (withZeros ps)
+pieces-wire : (ps : List (List ℕ)) → Each (Each NonZero) ps → failureReasons (nonEmpty ps) ≡ []
+    → WireBytes (goodMessages (nonEmpty ps)) (withZeros ps)
 unfolding withZeros nonEmpty gathered
 pieces-wire [] n e = over
 pieces-wire ([] ∷ ps) n e = idle (pieces-wire ps (n .1) e)
 pieces-wire ((b ∷ bs) ∷ ps) n e =
-    first-good (b ∷ bs) (failureReasons (nonEmpty ps)) (λ v. WireBytes (goodOf v ++ goodMessages (nonEmpty ps)) ((b ∷ bs) ++ 0 ∷ withZeros ps)) e
+    first-good (b ∷ bs) (failureReasons (nonEmpty ps))
+    (λ v. WireBytes (goodOf v ++ goodMessages (nonEmpty ps)) ((b ∷ bs) ++ 0 ∷ withZeros ps)) e
     (λ m j f. rw (frame-ahead (b ∷ bs) m (withZeros ps) (n .0) j) (sent (good-form (b ∷ bs) m (n .0) j .1) (pieces-wire ps (n .1) f)))
 
 pieces-reported : (ps : List (List ℕ)) → Each (Each NonZero) ps → failureReasons (nonEmpty ps) ≡ []

@@ -1,4 +1,5 @@
--- Claims: the tests make of the COBS form of a message in range that message, what they find good, and a received checksum with a byte ff never matches.
+-- Claims: the tests make of the COBS form of a message in range that message, what they find good, and a
+-- received checksum with a byte ff never matches.
 -- Assumes nothing.
 use mathlib.Core.Path.{_≡_, refl}
 use mathlib.Core.Bool.{false}
@@ -15,7 +16,8 @@ use Rattle.line.specs.Limits.{shortest-message, longest-message, longest-form}
 use Rattle.line.specs.Checksum.{checksum}
 use Rattle.line.specs.Message.{magic, Message, InRange, body, message}
 use Rattle.line.specs.Cobs.{cobs, uncobs}
-use Rattle.line.specs.Judge.{LineVerdict, failure, good, bodyOf, checksumOf, magicOf, fields, wrongLength, wrongChecksum, wrongMagic, judgeForm, judge}
+use Rattle.line.specs.Judge.{LineVerdict, failure, good, bodyOf, checksumOf, magicOf, fields, wrongLength, wrongChecksum, wrongMagic}
+use Rattle.line.specs.Judge.{judgeForm, judge}
 use Rattle.line_claims.proofs.CobsClaims.{round-trip, form-fits}
 use Rattle.line.proofs.Checksum.{checksum-low}
 use Rattle.line.proofs.Message.{length-message}
@@ -55,7 +57,8 @@ pub record Good (form : List ℕ) (m : Message) : Type 0 where
 
 pub judge-good : (form : List ℕ) (m : Message) → judge form ≡ good m → Good form m
 unfolding judge judgeForm
-judge-good form m = cond-by (λ o. judgeForm o ≡ good m → Good form m) (ltb longest-form (length form)) _ _ (λ e p. never p) (λ e. by (uncobs form) refl)
+judge-good form m =
+    cond-by (λ o. judgeForm o ≡ good m → Good form m) (ltb longest-form (length form)) _ _ (λ e p. never p) (λ e. by (uncobs form) refl)
   where
     Gives : LineVerdict → Type 0
     Gives v = v ≡ good m → Good form m

@@ -95,7 +95,8 @@ within-rest at m s t e = rw (← drop-drop m at s) (rest-again at s (t ++ drop m
 
 module _ (published : ℕ) (s : List ℕ) where
   -- what came back is lent, and what comes back then replaces it
-  pub lent-again : (l : Loan) (t : List ℕ) → length t ≡ length (lentPart published l s) → lentPart published l (backPart published l s t) ≡ t
+  pub lent-again : (l : Loan) (t : List ℕ) → length t ≡ length (lentPart published l s)
+      → lentPart published l (backPart published l s t) ≡ t
   unfolding lentPart backPart
   lent-again (first n) t e = front-again n s t e .0
   lent-again (within at n) t e =

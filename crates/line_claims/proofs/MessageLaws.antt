@@ -92,7 +92,8 @@ module _ (xs : List ℕ) (each : Each Byte xs) where
     body-written : body (fields xs) ≡ bodyOf xs
     unfolding body fields
     body-written =
-        ap (λ (v : ℕ). bytes 4 v ++ (bytes 4 (versionOf xs) ++ (bytes 8 (sequenceOf xs) ++ (bytes 1 (commandOf xs) ++ payloadOf xs)))) (sym first)
+        ap (λ (v : ℕ). bytes 4 v ++ (bytes 4 (versionOf xs) ++ (bytes 8 (sequenceOf xs) ++ (bytes 1 (commandOf xs) ++ payloadOf xs))))
+        (sym first)
         ∙ rw (
           number-run 4 0 xs (omega arith) each,
           number-run 4 4 xs (omega arith) each,
@@ -108,4 +109,5 @@ module _ (xs : List ℕ) (each : Each Byte xs) where
     message-written e =
         let at = length xs - checksum-length in
         let two : length (drop at xs) ≡ 2 = simp length-drop (omega arith) in
-        rw (body-written, ← e) (ap (λ (l : List ℕ). bodyOf xs ++ l) (rw two at (bytes-number (drop at xs) (each-drop Byte at xs each))) ∙ take-append-drop at xs)
+        rw (body-written, ← e)
+        (ap (λ (l : List ℕ). bodyOf xs ++ l) (rw two at (bytes-number (drop at xs) (each-drop Byte at xs each))) ∙ take-append-drop at xs)

@@ -23,7 +23,8 @@ split-none (zero ∷ p) h = absurd (omega arith)
 split-none (suc b ∷ p) h = rw (split-none p (h .1))
 
 ahead-closed : (b : ℕ) (ps : List (List ℕ)) (rest : List ℕ)
-    → aheadOfPieces b (ps ++ rest ∷ []) [] ≡ record { closed = aheadOfPieces b ps rest .closed ++ aheadOfPieces b ps rest .rest ∷ []; rest = [] }
+    → aheadOfPieces b (ps ++ rest ∷ []) []
+    ≡ record { closed = aheadOfPieces b ps rest .closed ++ aheadOfPieces b ps rest .rest ∷ []; rest = [] }
 ahead-closed b [] rest = refl
 ahead-closed b (p ∷ ps) rest = refl
 
@@ -55,7 +56,8 @@ nonEmpty-append ((b ∷ bs) ∷ ps) qs = rw (nonEmpty-append ps qs)
 -- ---- joined pieces
 
 ahead-join : (b : ℕ) (ps : List (List ℕ)) (rest more : List ℕ) → let z = aheadOfPieces (suc b) ps rest in let x = split (rest ++ more) in
-    aheadOfPieces (suc b) (ps ++ x .closed) (x .rest) ≡ record { closed = z .closed ++ split (z .rest ++ more) .closed; rest = split (z .rest ++ more) .rest }
+    aheadOfPieces (suc b) (ps ++ x .closed) (x .rest)
+    ≡ record { closed = z .closed ++ split (z .rest ++ more) .closed; rest = split (z .rest ++ more) .rest }
 unfolding split
 ahead-join b [] rest more = refl
 ahead-join b (p ∷ ps) rest more = refl
@@ -79,7 +81,8 @@ closed-join w more = rw (closed-rest w more, split-join w more)
 
 -- ---- the list again
 
-ahead-whole : (b : ℕ) (ps : List (List ℕ)) (rest : List ℕ) → let z = aheadOfPieces b ps rest in withZeros (z .closed) ++ z .rest ≡ b ∷ (withZeros ps ++ rest)
+ahead-whole : (b : ℕ) (ps : List (List ℕ)) (rest : List ℕ)
+    → let z = aheadOfPieces b ps rest in withZeros (z .closed) ++ z .rest ≡ b ∷ (withZeros ps ++ rest)
 unfolding withZeros
 ahead-whole b [] rest = refl
 ahead-whole b (p ∷ ps) rest = refl
@@ -101,4 +104,5 @@ module _ (P Q : ℕ → Type 0) (kept : (b : ℕ) → P (suc b) → Q (suc b)) w
   unfolding split
   split-each [] h = (tt, tt)
   split-each (zero ∷ w) h = let r = split-each w (h .1) in ((tt, r .0), r .1)
-  split-each (suc b ∷ w) h = let r = split-each w (h .1) in ahead-each (suc b) (split w .closed) (split w .rest) (kept b (h .0)) (r .0) (r .1)
+  split-each (suc b ∷ w) h =
+      let r = split-each w (h .1) in ahead-each (suc b) (split w .closed) (split w .rest) (kept b (h .0)) (r .0) (r .1)

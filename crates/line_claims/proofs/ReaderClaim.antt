@@ -15,7 +15,8 @@ use Rattle.line.specs.Message.{Message, InRange}
 use Rattle.line.specs.Cobs.{uncobs}
 use Rattle.line.specs.Judge.{LineVerdict, failure, good, fields, wrongLength, wrongChecksum, wrongMagic, judgeForm, judge}
 use Rattle.line.specs.Reader.{verdictReport, reader-length, frame-offset, receivedCount, withCount, pushedAll}
-use Rattle.line.specs.Reader.{overlong, unpacked, FrameOutcome, finishForm, finish, ReaderStartOutcome, readerStartPromise, unfinished, longer, tailPromise}
+use Rattle.line.specs.Reader.{overlong, unpacked, FrameOutcome, finishForm, finish, ReaderStartOutcome, readerStartPromise, unfinished}
+use Rattle.line.specs.Reader.{longer, tailPromise}
 use Rattle.octets.proofs.Conditions.{cond-by, cond-both}
 use Rattle.line.proofs.State.{Ready, ready-valid, length-counted, count-counted, pushes-append, ready-pushes}
 use Rattle.line.proofs.Lent.{count-append}
@@ -25,14 +26,16 @@ use Rattle.line_claims.specs.Pieces.{split, nonEmpty, form}
 use Rattle.line_claims.proofs.Pieces.{split-close, split-more, nonEmpty-append}
 use Rattle.line_claims.proofs.WireClaim.{wire-forms, wire-range}
 use Rattle.line_claims.proofs.LoanLaws.{lent-enough, front}
-use Rattle.line_claims.specs.Calls.{LineCall, read, start, lentState, back, messagesHanded, reasonsReported, answersTo00, Reader, readerOn}
+use Rattle.line_claims.specs.Calls.{LineCall, read, start, lentState, back, messagesHanded, reasonsReported, answersTo00, Reader}
+use Rattle.line_claims.specs.Calls.{readerOn}
 use Rattle.line_claims.specs.Calls.{afterRestart, afterStart, afterLineCall, afterLineCalls, freshReader}
 use Rattle.line_claims.specs.Calls.{tailMeant, frameReport, gathered, goodOf, reasonOf, goodMessages, failureReasons}
 use Rattle.line_claims.proofs.Streams.{afterByte, stream, stream-read, bytesRead, call-stream, reads-stream}
 use Rattle.line_claims.specs.Demand3.{HandsOut, AnyStream, AnyMessages, AnyFailures, AnyTail, LineCut}
 use Rattle.line_claims.specs.Demand1.{StaysValid}
 
-pub gathered-append : {A : Type 0} (f : LineVerdict → List A) (ps qs : List (List ℕ)) → gathered f (ps ++ qs) ≡ gathered f ps ++ gathered f qs
+pub gathered-append : {A : Type 0} (f : LineVerdict → List A) (ps qs : List (List ℕ))
+    → gathered f (ps ++ qs) ≡ gathered f ps ++ gathered f qs
 unfolding gathered
 gathered-append f [] qs = refl
 gathered-append f (p ∷ ps) qs = rw (gathered-append f ps qs, append-assoc)
@@ -171,7 +174,8 @@ unfolding afterLineCall afterStart readerStartPromise afterRestart
 call-follows r (read c) f = rw (call-stream r c) (stream-follows (bytesRead r c) r f)
 call-follows r (start lent) f =
     let t = lentState lent (r .state) in
-    cond-by (λ (x : ReaderStartOutcome). Follows (afterRestart r (back lent (r .state) (x .state)) (x .refusal))) (leb reader-length (length t)) _ _
+    cond-by (λ (x : ReaderStartOutcome). Follows (afterRestart r (back lent (r .state) (x .state)) (x .refusal)))
+    (leb reader-length (length t)) _ _
     (λ e.
     let l = leb-true reader-length (length t) e in
     let c = cleared t l in
@@ -192,7 +196,8 @@ module _ (room : List ℕ) (enough : reader-length ≤ length room) (cs : List L
   unfolding freshReader readerStartPromise
   follows =
       let c = cleared room enough in
-      rw (le-leb reader-length (length room) enough) (calls-follow cs (readerOn (withCount 0 room)) (fresh-follows (withCount 0 room) (c .0) (c .1)))
+      rw (le-leb reader-length (length room) enough)
+      (calls-follow cs (readerOn (withCount 0 room)) (fresh-follows (withCount 0 room) (c .0) (c .1)))
 
   pub any-stream : AnyStream (afterLineCalls (freshReader room) cs)
   any-stream = follows .answered
@@ -217,9 +222,11 @@ module _ (room : List ℕ) (enough : reader-length ≤ length room) (cs : List L
   any-tail =
       let r = afterLineCalls (freshReader room) cs in
       let t = split (r .bytes) .rest in
-      let c : cond (ltb longest-form (length t)) overlong (length t) ≡ receivedCount (r .state) = rw (follows .state) (held-count (follows .base) t (follows .enough) (follows .clear)) in
+      let c : cond (ltb longest-form (length t)) overlong (length t) ≡ receivedCount (r .state) =
+      rw (follows .state) (held-count (follows .base) t (follows .enough) (follows .clear)) in
       rw (stays-valid, ← c)
-      (cond-by (λ n. cond (ltb longest-form n) longer (unfinished n) ≡ cond (ltb longest-form (length t)) longer (unfinished (length t))) (ltb longest-form (length t)) _ _
+      (cond-by (λ n. cond (ltb longest-form n) longer (unfinished n) ≡ cond (ltb longest-form (length t)) longer (unfinished (length t)))
+      (ltb longest-form (length t)) _ _
       (λ e. rw e) (λ e. refl))
 
 pub cut : LineCut

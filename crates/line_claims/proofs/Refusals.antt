@@ -14,15 +14,18 @@ use Rattle.octets.proofs.Conditions.{cond-by}
 use Rattle.line.specs.Limits.{longest-data, longest-form}
 use Rattle.line.specs.Frame.{frame}
 use Rattle.line.specs.Judge.{LineVerdict, failure, good}
-use Rattle.line.specs.Reader.{ReadReport, refused, more, empty, message, failed, verdictReport, reader-length, receivedCount, validReader, pushed, FrameOutcome, finishForm, finish}
-use Rattle.line.specs.Reader.{ReadOutcome, oneByteLater, readPiece, readPromise, ReaderStartOutcome, readerStartPromise, TailReport, unfinished, longer, tailPromise}
+use Rattle.line.specs.Reader.{ReadReport, refused, more, empty, message, failed, verdictReport, reader-length, receivedCount, validReader}
+use Rattle.line.specs.Reader.{pushed, FrameOutcome, finishForm, finish}
+use Rattle.line.specs.Reader.{ReadOutcome, oneByteLater, readPiece, readPromise, ReaderStartOutcome, readerStartPromise, TailReport}
+use Rattle.line.specs.Reader.{unfinished, longer, tailPromise}
 use Rattle.line.specs.Reader.{dataRefusal, partOf, dataPromise}
 use Rattle.line.specs.Writer
 use Rattle.line.proofs.State.{valid-ready}
 use Rattle.line.proofs.Lent.{valid-append}
 use Rattle.line_claims.proofs.CobsClaims.{frame-fits}
 use Rattle.line_claims.proofs.LoanLaws.{back-same, lent-long, lent-short, front}
-use Rattle.line_claims.specs.Calls.{LineCall, read, start, lentState, messagesHanded, reasonsReported, answersTo00, afterLineRead, afterOutcome}
+use Rattle.line_claims.specs.Calls.{LineCall, read, start, lentState, messagesHanded, reasonsReported, answersTo00, afterLineRead}
+use Rattle.line_claims.specs.Calls.{afterOutcome}
 use Rattle.line_claims.specs.Calls.{afterRestart, afterStart, afterLineCall, afterLineCalls, freshReader}
 use Rattle.line_claims.proofs.WriterClaim.{sent-wire}
 use Rattle.line_claims.proofs.ReaderClaim.{hands-out, stays-valid}
@@ -68,7 +71,8 @@ verdict-report (good m) = refl
 finish-report : (s : List ℕ) → isRefused (finish s .answer) ≡ false
 unfolding finish finishForm
 finish-report s =
-    cond-by Says (eqb (receivedCount s) 0) _ _ (λ e. refl) (λ e. cond-by Says (ltb longest-form (receivedCount s)) _ _ (λ f. refl) (λ f. verdict-report _))
+    cond-by Says (eqb (receivedCount s) 0) _ _ (λ e. refl)
+    (λ e. cond-by Says (ltb longest-form (receivedCount s)) _ _ (λ f. refl) (λ f. verdict-report _))
   where
     Says : FrameOutcome → Type 0
     Says x = isRefused (x .answer) ≡ false
@@ -85,7 +89,8 @@ not-both p q = let z : _≡_ {A = ℕ} 0 1 = cc in omega arith
 pub refused-exactly : LineRefusedExactly
 unfolding readPromise
 refused-exactly s piece = (
-  cond-by (λ (o : ReadOutcome). o .answer ≡ refused 12 → validReader s ≡ false) (validReader s) _ _ (λ e a. absurd (not-both (piece-report s piece) (ap isRefused a))) (λ e a. e),
+  cond-by (λ (o : ReadOutcome). o .answer ≡ refused 12 → validReader s ≡ false) (validReader s) _ _
+      (λ e a. absurd (not-both (piece-report s piece) (ap isRefused a))) (λ e a. e),
   λ e. rw e,
 )
 
@@ -132,8 +137,8 @@ data-not-handed s k n e = rw e
 pub start-refused-exactly : StartRefusedExactly
 unfolding readerStartPromise firstFailing
 start-refused-exactly room =
-    cond-by (λ (x : ReaderStartOutcome). x .refusal ≡ cond (ltb (length room) reader-length) (some 12) none) (leb reader-length (length room)) _ _
-    (λ e. rw (le-ltb (length room) reader-length (leb-true _ _ e)))
+    cond-by (λ (x : ReaderStartOutcome). x .refusal ≡ cond (ltb (length room) reader-length) (some 12) none)
+    (leb reader-length (length room)) _ _ (λ e. rw (le-ltb (length room) reader-length (leb-true _ _ e)))
     (λ e. rw (lt-ltb (length room) reader-length (leb-false _ _ e)))
 
 pub start-untouched : StartUntouched
@@ -150,8 +155,13 @@ valid-answers : (part : List ℕ) → validReader part ≡ true → NotRefused p
 unfolding tailPromise dataRefusal readerStartPromise
 valid-answers part v = record {
   reads = λ piece a. not-both (refused-exactly part piece .0 a) v;
-  tails = rw v (λ a. not-both (cond-by (λ x. tailRefused x ≡ false) (ltb longest-form (receivedCount part)) longer (unfinished (receivedCount part)) (λ e. refl) (λ e. refl)) (ap tailRefused a));
-  hands = λ n. rw v (λ a. not-both (cond-by (λ x. twelve x ≡ false) (ltb longest-data n) (some 9) none (λ e. refl) (λ e. refl)) (ap twelve a));
+  tails =
+      rw v (λ a.
+      not-both (cond-by (λ x. tailRefused x ≡ false) (ltb longest-form (receivedCount part)) longer (unfinished (receivedCount part))
+      (λ e. refl) (λ e. refl))
+      (ap tailRefused a));
+  hands =
+      λ n. rw v (λ a. not-both (cond-by (λ x. twelve x ≡ false) (ltb longest-data n) (some 9) none (λ e. refl) (λ e. refl)) (ap twelve a));
   starts = rw (le-leb reader-length (length part) (valid-ready part v .0));
 }
 
@@ -182,4 +192,5 @@ module _ (room : List ℕ) (enough : reader-length ≤ length room) (cs : List L
 
 pub room-enough : RoomEnough
 unfolding Writer.writePromise Writer.writeInto
-room-enough m out r h = rw (le-ltb longest-data (length (m .payload)) (r .fits), le-ltb (length out) (length (frame m)) (omega (arith, frame-fits m r)))
+room-enough m out r h =
+    rw (le-ltb longest-data (length (m .payload)) (r .fits), le-ltb (length out) (length (frame m)) (omega (arith, frame-fits m r)))

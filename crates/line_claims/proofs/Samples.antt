@@ -11,5 +11,6 @@ use Rattle.line_claims.specs.Samples.{lineSampleMeant, status-request, l
 use Rattle.line_claims.specs.Demand3.{LineSamplesHold}
 
 pub samples-hold : LineSamplesHold
-unfolding lineSampleMeant lineSamples status-request number bytes equal sums checksum body message groups cobs groupBytes uncobs frame fields judgeForm judge
+unfolding lineSampleMeant lineSamples status-request number bytes equal sums checksum body message groups cobs groupBytes uncobs frame
+    fields judgeForm judge
 samples-hold = refl

@@ -1,4 +1,5 @@
--- Claims: a form of bytes 1 to 255 that is read is the one that is written (document 02's item 6), and a frame that is read as a message is that message's frame.
+-- Claims: a form of bytes 1 to 255 that is read is the one that is written (document 02's item 6), and a frame
+-- that is read as a message is that message's frame.
 -- Assumes nothing.
 use mathlib.Core.Path.{_≡_, refl, sym, ap, _∙_}
 use mathlib.Core.Bool.{Bool, true, false, cond}
@@ -13,7 +14,8 @@ use borrow.Author.Tests.{ltb-true, ltb-false, eq-eqb}
 use Rattle.octets.specs.Bytes.{Byte, Each, equal}
 use Rattle.line.specs.Limits.{longest-group}
 use Rattle.line.specs.Message.{Message, InRange, message}
-use Rattle.line.specs.Cobs.{full-code, places-left, Group, coded, unlessEnd, groups, cobs, impliedZero, lastOneAfterFull, groupBytes, uncobs}
+use Rattle.line.specs.Cobs.{full-code, places-left, Group, coded, unlessEnd, groups, cobs, impliedZero, lastOneAfterFull, groupBytes}
+use Rattle.line.specs.Cobs.{uncobs}
 use Rattle.line.specs.Frame.{frame}
 use Rattle.line.specs.Judge.{good, judgeForm, judge}
 use Rattle.line.proofs.Lent.{fit-length}
@@ -54,8 +56,8 @@ code-read k holds cs xs e = go (lastOneAfterFull (suc k) cs) refl (rw (eqb·suc-
 
 -- ---- what is read was written
 
--- a group with `left` bytes to come is the next of a message: one that a zero follows has at most `room` more and a place, a full one has all its
--- places, and no last 01 stands after it
+-- a group with `left` bytes to come is the next of a message: one that a zero follows has at most `room` more and a place, a full one has
+-- all its places, and no last 01 stands after it
 abbrev Next : Bool → ℕ → ℕ → List ℕ → Type 0
 Next true left room bs = left ≤ room
 Next false left room bs = (left ≡ suc room) × (equal (drop left bs) (1 ∷ []) ≡ false)
@@ -75,12 +77,13 @@ byte-next true left room b bs h = omega arith
 byte-next false left room b bs h = (omega arith, h .1)
 
 -- a group that is not a lone 01 is read as something
-some-read : (k : ℕ) (cs xs : List ℕ) → Each NonZero cs → equal (suc k ∷ cs) (1 ∷ []) ≡ false → groupBytes k (ltb (suc k) full-code) cs ≡ some xs
-    → xs ≡ [] → ⊥
+some-read : (k : ℕ) (cs xs : List ℕ) → Each NonZero cs → equal (suc k ∷ cs) (1 ∷ []) ≡ false
+    → groupBytes k (ltb (suc k) full-code) cs ≡ some xs → xs ≡ [] → ⊥
 unfolding groupBytes equal
 some-read zero [] xs n h e z = let f : _≡_ {A = ℕ} 0 1 = cc in omega arith
 some-read (suc k) [] xs n h e z = never e
-some-read (suc k) (b ∷ bs) xs n h e z = let m = byte-read b k (ltb (suc (suc k)) full-code) bs xs e in let f : _≡_ {A = ℕ} 0 1 = cc in omega arith
+some-read (suc k) (b ∷ bs) xs n h e z =
+    let m = byte-read b k (ltb (suc (suc k)) full-code) bs xs e in let f : _≡_ {A = ℕ} 0 1 = cc in omega arith
 some-read zero (zero ∷ cs) xs n h e z = absurd (omega (arith, n .0))
 some-read zero (suc c ∷ cs) xs n h e z = let m = code-read c true cs xs e in let w = m .whole in let f : _≡_ {A = ℕ} 0 1 = cc in omega arith
 
@@ -108,7 +111,8 @@ read-back (suc b ∷ suc c ∷ cs) (suc zero) zero false xs f n e =
     let m = byte-read (suc b) 0 false (suc c ∷ cs) xs e in
     let k = code-read c false cs (m .0) (m .1) in
     let r = read-back cs c places-left (ltb (suc c) full-code) (k .rest) (fresh-next c cs (n .1 .0 .1) (k .spelled)) (n .1 .1) (k .read) in
-    let s = unless-end (k .rest) (coded (groups places-left (k .rest))) (some-read c cs (k .rest) (n .1 .1) (f .1) (k .read)) ∙ ap coded r in
+    let s =
+    unless-end (k .rest) (coded (groups places-left (k .rest))) (some-read c cs (k .rest) (n .1 .1) (f .1) (k .read)) ∙ ap coded r in
     rw (← m .2, ← k .whole, s)
 read-back (suc b ∷ bs) (suc left) (suc room) holds xs f n e =
     let m = byte-read (suc b) left holds bs xs e in
@@ -148,8 +152,10 @@ good-form (b ∷ bs) m n e =
     let g = judge-good (b ∷ bs) m e in
     let l = fit-length (g .xs) (g .fits) in
     let each = uncobs-each (b ∷ bs) (g .xs) (nonzero-byte (b ∷ bs) n) (g .decoded) in
-    let w = message-written (g .xs) each (l .0) (g .first) (g .sums) in
-    (rw (g .is, w) (read-written (b ∷ bs) (g .xs) (record { some-byte = cons-some; bytes = n }) (g .decoded)), rw (g .is) (fields-range (g .xs) each (l .1)))
+    let w = message-written (g .xs) each (l .0) (g .first) (g .sums) in (
+      rw (g .is, w) (read-written (b ∷ bs) (g .xs) (record { some-byte = cons-some; bytes = n }) (g .decoded)),
+      rw (g .is) (fields-range (g .xs) each (l .1)),
+    )
 
 pub good-frame : GoodFrame
 unfolding frame

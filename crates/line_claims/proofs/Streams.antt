@@ -7,13 +7,15 @@ use native.Mathlib.Omega.{arith}
 use lib.Dec.{eqb·suc-zero}
 use lib.ListN.{length, take}
 use lib.Seq.{append-snoc}
-use Rattle.line.specs.Reader.{ReadReport, refused, more, empty, message, failed, reader-length, validReader, pushed, finish, ReadOutcome, oneByteLater, readPiece, readPromise}
+use Rattle.line.specs.Reader.{ReadReport, refused, more, empty, message, failed, reader-length, validReader, pushed, finish, ReadOutcome}
+use Rattle.line.specs.Reader.{oneByteLater, readPiece, readPromise}
 use Rattle.octets.proofs.Conditions.{cond-by}
 use Rattle.line.proofs.State.{Ready, valid-ready, ready-pushed}
 use Rattle.line.proofs.Lent.{dataOf-append, pushed-append, finish-append}
 use Rattle.line.proofs.Held.{finish-leaves}
 use Rattle.line_claims.proofs.LoanLaws.{back-same, lent-enough, front}
-use Rattle.line_claims.specs.Calls.{LineRead, lentState, messagesHanded, reasonsReported, answersTo00, Reader, extended, afterOutcome, afterLineRead, afterLineCall, afterLineCalls, afterLineReads}
+use Rattle.line_claims.specs.Calls.{LineRead, lentState, messagesHanded, reasonsReported, answersTo00, Reader, extended, afterOutcome}
+use Rattle.line_claims.specs.Calls.{afterLineRead, afterLineCall, afterLineCalls, afterLineReads}
 
 -- a reader after one byte
 unfoldable pub afterByte : Reader → ℕ → Reader

@@ -24,11 +24,12 @@ use Rattle.line_claims.specs.Demand1.{WriterRefusedExactly, WriterUntouc
 use Rattle.line_claims.specs.Demand3.{Sent, over, idle, wrote, WrittenFrame, OneMeaningSent}
 
 -- an answer other than a refusal is given only where the bytes fit the room
-sent-bytes : (bs room : List ℕ) (n : ℕ) → writeInto bs room .answer ≡ WriteReport.wrote n → (n ≡ length bs) × (take n (writeInto bs room .out) ≡ bs)
+sent-bytes : (bs room : List ℕ) (n : ℕ) → writeInto bs room .answer ≡ WriteReport.wrote n
+    → (n ≡ length bs) × (take n (writeInto bs room .out) ≡ bs)
 unfolding writeInto
 sent-bytes bs room n =
-    cond-by (λ (o : WriteOutcome). o .answer ≡ WriteReport.wrote n → (n ≡ length bs) × (take n (o .out) ≡ bs)) (ltb (length room) (length bs)) _ _
-    (λ e p. (cc, cc))
+    cond-by (λ (o : WriteOutcome). o .answer ≡ WriteReport.wrote n → (n ≡ length bs) × (take n (o .out) ≡ bs))
+    (ltb (length room) (length bs)) _ _ (λ e p. (cc, cc))
     (λ e p. let q : n ≡ length bs = cc in (q, rw q (overlay-inside 0 bs room (omega arith))))
 
 -- ---- When it is refused

@@ -10,7 +10,8 @@ use Rattle.line.specs.Message.{Message}
 use Rattle.line.specs.Judge.{LineVerdict, failure, good, judge}
 use Rattle.line.specs.Limits.{longest-form}
 use Rattle.line.specs.Reader.{TailReport, unfinished, longer}
-use Rattle.line.specs.Reader.{ReadReport, refused, more, empty, message, failed, verdictReport, reader-length, ReadOutcome, readPromise, ReaderStartOutcome, readerStartPromise, dataPromise}
+use Rattle.line.specs.Reader.{ReadReport, refused, more, empty, message, failed, verdictReport, reader-length, ReadOutcome, readPromise}
+use Rattle.line.specs.Reader.{ReaderStartOutcome, readerStartPromise, dataPromise}
 use Rattle.line_claims.specs.Loans.{Loan, lentPart, backPart}
 use Rattle.line.specs.Frame.{frame}
 
@@ -41,7 +42,8 @@ unfoldable pub messagesHanded : ReadReport → List ℕ → List Message
 messagesHanded (refused number) s = []
 messagesHanded more s = []
 messagesHanded empty s = []
-messagesHanded (message version sequence command n) s = (record { version = version; sequence = sequence; command = command; payload = dataPromise s n }) ∷ []
+messagesHanded (message version sequence command n) s =
+    (record { version = version; sequence = sequence; command = command; payload = dataPromise s n }) ∷ []
 messagesHanded (failed reason sequence) s = []
 
 -- the reason that an answer reports
@@ -60,7 +62,8 @@ answersTo00 empty = empty ∷ []
 answersTo00 (message version sequence command n) = message version sequence command n ∷ []
 answersTo00 (failed reason sequence) = failed reason sequence ∷ []
 
--- a reader since its start: the messages that its calls handed out, the reasons that they reported, their answers to a 00, the bytes that they read, and the state
+-- a reader since its start: the messages that its calls handed out, the reasons that they reported, their answers
+-- to a 00, the bytes that they read, and the state
 pub record Reader : Type 0 where
   pub messages : List Message
   pub failures : List ℕ
@@ -152,7 +155,8 @@ unfoldable pub goodFrames : List (List ℕ) → List (List ℕ)
 goodFrames [] = []
 goodFrames (p ∷ ps) = frameOf p (judge p) ++ goodFrames ps
 
--- the bytes that answers to a 00 determine, with the messages that they handed out: a 00 for an empty frame, and a message's frame; a failure gives none
+-- the bytes that answers to a 00 determine, with the messages that they handed out:
+-- a 00 for an empty frame, and a message's frame; a failure gives none
 unfoldable pub reportedBytes : List ReadReport → List Message → List ℕ
 reportedBytes [] ms = []
 reportedBytes (empty ∷ report) ms = 0 ∷ reportedBytes report ms
@@ -162,6 +166,7 @@ reportedBytes (failed reason sequence ∷ report) ms = []
 reportedBytes (refused number ∷ report) ms = []
 reportedBytes (more ∷ report) ms = []
 
--- what holds of a fresh line reader after any list of calls: a room of sufficient length, of any contents, a start on it, and calls with any loans
+-- what holds of a fresh line reader after any list of calls:
+-- a room of sufficient length, of any contents, a start on it, and calls with any loans
 abbrev pub OfFreshReader : (Reader → Type 0) → Type 0
 OfFreshReader P = (room : List ℕ) → reader-length ≤ length room → (cs : List LineCall) → P (afterLineCalls (freshReader room) cs)

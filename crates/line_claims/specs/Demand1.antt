@@ -12,7 +12,8 @@ use Rattle.octets.specs.Bytes.{run}
 use Rattle.line.specs.Limits.{longest-data}
 use Rattle.line.specs.Message.{Message}
 use Rattle.line.specs.Frame.{frame}
-use Rattle.line.specs.Reader.{refused, reader-length, validReader, readPromise, readerStartPromise, TailReport, tailPromise, dataRefusal, dataPromise}
+use Rattle.line.specs.Reader.{refused, reader-length, validReader, readPromise, readerStartPromise, TailReport, tailPromise, dataRefusal}
+use Rattle.line.specs.Reader.{dataPromise}
 use Rattle.line.specs.Writer as LineWriter
 use Rattle.line_claims.specs.Loans.{Loan, within, lentPart, enoughPart}
 use Rattle.line_claims.specs.TableTests.{TableTest, test, firstFailing}
@@ -110,7 +111,8 @@ WriterUntouched = (m : Message) (room : List ℕ) (n : ℕ)
 
 abbrev pub WriterWrites : Type 0
 WriterWrites = (m : Message) (room : List ℕ) → firstFailing (writerTests m room) ≡ none
-    → LineWriter.writePromise m room ≡ record { answer = LineWriter.wrote (length (frame m)); out = frame m ++ drop (length (frame m)) room }
+    → LineWriter.writePromise m room
+    ≡ record { answer = LineWriter.wrote (length (frame m)); out = frame m ++ drop (length (frame m)) room }
 
 pub record LineAsItWas : Type 0 where
   -- a refused call reads nothing and leaves the state as it was

@@ -1,4 +1,5 @@
--- Demand 3: wire bytes determine the list of messages, any calls of a fresh line reader hand out exactly those read, and what the checksum misses.
+-- Demand 3: wire bytes determine the list of messages, any calls of a fresh line reader hand out
+-- exactly those read, and what the checksum misses.
 -- Assumes nothing: these are definitions and statements.
 use mathlib.Core.Path.{_≡_}
 use mathlib.Core.Bool.{true, false}
@@ -17,19 +18,21 @@ use Rattle.line.specs.Judge.{failure, sequenceOf, checksumOf, wrongLength, wron
 use Rattle.line.specs.Reader.{validReader, readPromise, tailPromise}
 use Rattle.line.specs.Writer.{WriteReport, writePromise}
 use Rattle.line_claims.specs.Pieces.{NonZero, split, nonEmpty}
-use Rattle.line_claims.specs.Calls.{LineRead, Reader, readerOn, afterLineReads, OfFreshReader, frameReport, goodMessages, failureReasons, tailMeant}
+use Rattle.line_claims.specs.Calls.{LineRead, Reader, readerOn, afterLineReads, OfFreshReader, frameReport, goodMessages}
+use Rattle.line_claims.specs.Calls.{failureReasons, tailMeant}
 use Rattle.line_claims.specs.Changes.{Near, AllSameOr00Ff}
 use Rattle.line_claims.specs.Samples.{lineSampleMeant, lineSamples}
 use Rattle.line_claims.specs.Demand1.{WriterWrites}
 
 -- ---- Wire bytes determine the list of messages
 
--- wire bytes made of what the writer put out, each call with arguments of its types and in any room, and any number of 00 before, between and after
+-- wire bytes made of what the writer put out, each call with arguments of its types and in any room,
+-- and any number of 00 before, between and after
 pub data Sent : List Message → List ℕ → Type 0 where
   over : Sent [] []
   idle : {ms : List Message} {w : List ℕ} → Sent ms w → Sent ms (0 ∷ w)
-  wrote : {m : Message} {ms : List Message} {w : List ℕ} (room : List ℕ) (n : ℕ) → MessageTyped m → writePromise m room .answer ≡ WriteReport.wrote n → Sent ms w
-      → Sent (m ∷ ms) (take n (writePromise m room .out) ++ w)
+  wrote : {m : Message} {ms : List Message} {w : List ℕ} (room : List ℕ) (n : ℕ) → MessageTyped m
+      → writePromise m room .answer ≡ WriteReport.wrote n → Sent ms w → Sent (m ∷ ms) (take n (writePromise m room .out) ++ w)
 
 abbrev pub OneMeaning : Type 0
 OneMeaning = (ms ns : List Message) (w : List ℕ) → WireBytes ms w → WireBytes ns w → ms ≡ ns
@@ -39,7 +42,8 @@ WrittenFrame = (m : Message) (room : List ℕ) (n : ℕ) → writePromise m room
     → (n ≡ length (frame m)) × (take n (writePromise m room .out) ≡ frame m) × (length (m .payload) ≤ longest-data)
 
 abbrev pub RoomEnough : Type 0
-RoomEnough = (m : Message) (out : List ℕ) → InRange m → longest-form + 1 ≤ length out → writePromise m out .answer ≡ WriteReport.wrote (length (frame m))
+RoomEnough = (m : Message) (out : List ℕ) → InRange m → longest-form + 1 ≤ length out
+    → writePromise m out .answer ≡ WriteReport.wrote (length (frame m))
 
 abbrev pub OneMeaningSent : Type 0
 OneMeaningSent = (ms ns : List Message) (w : List ℕ) → Sent ms w → Sent ns w → ms ≡ ns
@@ -103,7 +107,8 @@ abbrev pub AcceptedStops : Type 0
 AcceptedStops = (s piece : List ℕ) → validReader s ≡ true → Stops piece (readPromise s piece .used)
 
 abbrev pub LineCut : Type 0
-LineCut = (s : List ℕ) (cs ds : List LineRead) → afterLineReads (readerOn s) cs .bytes ≡ afterLineReads (readerOn s) ds .bytes → afterLineReads (readerOn s) cs ≡ afterLineReads (readerOn s) ds
+LineCut = (s : List ℕ) (cs ds : List LineRead) → afterLineReads (readerOn s) cs .bytes ≡ afterLineReads (readerOn s) ds .bytes
+    → afterLineReads (readerOn s) cs ≡ afterLineReads (readerOn s) ds
 
 pub record FreshReader : Type 0 where
   -- where the bytes read are wire bytes, the messages handed out are exactly theirs, in order, and no failure is reported
@@ -139,7 +144,8 @@ abbrev pub FfReason2 : Type 0
 FfReason2 = (xs : List ℕ) → wrongLength xs ≡ false → ReceivedFf xs → judgeForm (some xs) ≡ failure 2 (some (sequenceOf xs))
 
 pub record BlindSpots : Type 0 where
-  -- bodies of one length that differ in one byte or in two neighbouring ones: equal checksums exactly where each differing place has 00 against ff
+  -- bodies of one length that differ in one byte or in two neighbouring ones:
+  -- equal checksums exactly where each differing place has 00 against ff
   pub checksum-claim : ChecksumClaim
   -- a received checksum that holds a byte ff never matches, whatever the length
   pub ff-never-matches : FfNeverMatches

@@ -11,7 +11,8 @@ use Rattle.line_claims.specs.Changes.{Multiple, byteChanges, summed, pla
 
 -- bodies that differ at places p and p + k alone, and a condition on these under which their checksums agree
 abbrev pub AgreeExactly : (ℕ → ℕ → List ℕ → List ℕ → Type 0) → Type 0
-AgreeExactly P = (k p : ℕ) (xs ys : List ℕ) → DifferApart k p xs ys → Each Byte xs → Each Byte ys → (checksum xs ≡ checksum ys) ↔ P k p xs ys
+AgreeExactly P = (k p : ℕ) (xs ys : List ℕ) → DifferApart k p xs ys → Each Byte xs → Each Byte ys
+    → (checksum xs ≡ checksum ys) ↔ P k p xs ys
 
 abbrev pub ChecksumApart : Type 0
 ChecksumApart = AgreeExactly (λ k p xs ys. Missed k (changeAt p xs ys) (changeAt (p + k) xs ys))
@@ -35,7 +36,8 @@ ChecksumChanges = (xs ys : List ℕ) → length xs ≡ length ys → Each Byte x
     → (checksum xs ≡ checksum ys) ↔ (Multiple (summed (byteChanges xs ys)) × Multiple (placed (byteChanges xs ys)))
 
 pub record LineItem12 : Type 0 where
-  -- the checksums agree exactly when the two changes sum to a multiple of 255 and k times the first change is one too, for every length and place
+  -- the checksums agree exactly when the two changes sum to a multiple of 255 and k times the first
+  -- change is one too, for every length and place
   pub checksum-apart : ChecksumApart
   -- the case k = 255: exactly when the two changes sum to a multiple of 255
   pub checksum-255-apart : Checksum255Apart

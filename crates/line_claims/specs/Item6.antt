@@ -43,7 +43,8 @@ HandedWire r = Each Byte (r .bytes) → r .failures ≡ []
     → WireBytes (r .messages) (withZeros (piecesRead r)) × (r .bytes ≡ withZeros (piecesRead r) ++ split (r .bytes) .rest)
 
 abbrev pub AnswersDetermine : Reader → Type 0
-AnswersDetermine r = Each Byte (r .bytes) → r .failures ≡ [] → r .bytes ≡ reportedBytes (r .answered) (r .messages) ++ split (r .bytes) .rest
+AnswersDetermine r = Each Byte (r .bytes) → r .failures ≡ []
+    → r .bytes ≡ reportedBytes (r .answered) (r .messages) ++ split (r .bytes) .rest
 
 pub record LineItem6 : Type 0 where
   -- a last 01 after a full group, behind any groups or none, is reason 1 ahead of the length test: whatever the decoded length

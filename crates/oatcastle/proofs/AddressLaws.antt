@@ -52,4 +52,5 @@ module _ (rows : List (List ℕ)) (s : List ℕ) where
   pub joined-all : (i : ℕ) (t : List ℕ) → length rows ≡ i → length s ≡ i * 6 → Joined rows s i t → t ≡ flatten rows
   unfolding overlay
   joined-all i t e l j =
-      j .bytes ∙ rw (drop-of-length-le s {i = 0 + length (first i rows)} (omega (arith, j .long)), append-nil, take-all i rows (omega arith))
+      j .bytes
+      ∙ rw (drop-of-length-le s {i = 0 + length (first i rows)} (omega (arith, j .long)), append-nil, take-all i rows (omega arith))

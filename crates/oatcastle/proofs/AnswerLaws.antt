@@ -15,7 +15,8 @@ use Rattle.octets.proofs.Conditions.{cond-by}
 use Rattle.oatcastle.specs.Answers.{CallOutcome, callOutcome, CallReport, refused, given, writingAnswer, writingAfter, writingBoth}
 
 -- one number more
-pub puts-more : (i : ℕ) (xs s : List ℕ) → i < length xs → i < length s → set (overlay 0 (take i xs) s) i (getD xs i 0) ≡ overlay 0 (take (i + 1) xs) s
+pub puts-more : (i : ℕ) (xs s : List ℕ) → i < length xs → i < length s
+    → set (overlay 0 (take i xs) s) i (getD xs i 0) ≡ overlay 0 (take (i + 1) xs) s
 puts-more i xs s h l = rw zero-add at (overlay-run-more 0 0 i xs s (omega arith) (omega arith))
 
 -- bytes copied to a room that is long enough
@@ -31,7 +32,8 @@ module _ (xs lent : List ℕ) where
   unfolding writingAnswer
   writingAnswer-fits h = rw (le-ltb (length lent) (length xs) h)
 
-  pub writingAnswer-copied : {s : List ℕ} → length xs ≤ length lent → s ≡ copied xs 0 (length xs) lent 0 → callOutcome 0 s ≡ writingAnswer (given xs) lent
+  pub writingAnswer-copied : {s : List ℕ} → length xs ≤ length lent → s ≡ copied xs 0 (length xs) lent 0
+      → callOutcome 0 s ≡ writingAnswer (given xs) lent
   writingAnswer-copied h e = rw (e, copied-all xs lent h) (writingAnswer-fits h)
 
 -- ---- a call that changes what else it was lent
@@ -61,14 +63,15 @@ writes-leaves k before after (given ns) t = t
 
 module _ {A : Type 0} (before after : A) (answer : List ℕ) {k : ℕ} where
   -- a shorter answer is refused ahead of the call
-  pub answering-short : (s : CallReport) → Says k s → length answer < k → callOutcome 8 (before, answer) ≡ writingAfter s before after answer
+  pub answering-short : (s : CallReport) → Says k s → length answer < k
+      → callOutcome 8 (before, answer) ≡ writingAfter s before after answer
   unfolding writingAfter
   answering-short (refused n) g h = rw g
   answering-short (given ns) g h = rw (lt-ltb (length answer) (length ns) (omega arith))
 
   -- any other is answered behind it
-  pub answering-given : {r : ℕ} {answer' : List ℕ} (s : CallReport) → Leaves k before after s → k ≤ length answer → callOutcome r answer' ≡ writingAnswer s answer
-      → callOutcome r (after, answer') ≡ writingAfter s before after answer
+  pub answering-given : {r : ℕ} {answer' : List ℕ} (s : CallReport) → Leaves k before after s → k ≤ length answer
+      → callOutcome r answer' ≡ writingAnswer s answer → callOutcome r (after, answer') ≡ writingAfter s before after answer
   unfolding writingAnswer writingAfter
   answering-given (refused n) g h e = rw (g, ap (λ (x : CallOutcome (List ℕ)). x .number) e, ap (λ (x : CallOutcome (List ℕ)). x .left) e)
   answering-given (given ns) g h e =
@@ -78,7 +81,8 @@ module _ {A : Type 0} (before after : A) (answer : List ℕ) {k : ℕ} where
 
 -- ---- bytes to a room and numbers to an answer
 
-pub writingBoth-no-room : (ns bs room answer : List ℕ) → length room < length bs → callOutcome 8 (room, answer) ≡ writingBoth (given ns) bs room answer
+pub writingBoth-no-room : (ns bs room answer : List ℕ) → length room < length bs
+    → callOutcome 8 (room, answer) ≡ writingBoth (given ns) bs room answer
 unfolding writingBoth
 writingBoth-no-room ns bs room answer h = rw (lt-ltb (length room) (length bs) h)
 
@@ -91,7 +95,8 @@ module _ (count : ℕ) (numbers : List ℕ) (m : count ≤ length numbers) where
   pub first-short : (answer : List ℕ) → length answer < count → callOutcome 8 answer ≡ writingAnswer (given (take count numbers)) answer
   first-short answer h = writingAnswer-short (take count numbers) answer (rw first h)
 
-  pub first-fits : (answer : List ℕ) → count ≤ length answer → callOutcome 0 (overlay 0 (take count numbers) answer) ≡ writingAnswer (given (take count numbers)) answer
+  pub first-fits : (answer : List ℕ) → count ≤ length answer
+      → callOutcome 0 (overlay 0 (take count numbers) answer) ≡ writingAnswer (given (take count numbers)) answer
   first-fits answer h = writingAnswer-fits (take count numbers) answer (rw first h)
 
   -- with bytes to a room
@@ -102,8 +107,11 @@ module _ (count : ℕ) (numbers : List ℕ) (m : count ≤ length numbers) where
         cond-by (λ (x : CallOutcome (List ℕ × List ℕ)). callOutcome 8 (room, answer) ≡ x) (ltb (length room) (length bs)) _ _ (λ _. refl)
         (λ _. answering-short room _ answer (given (take count numbers)) first h)
 
-    pub writingBoth-given : {r : ℕ} {copy answer' : List ℕ} → count ≤ length answer → length bs ≤ length room → copy ≡ copied bs 0 (length bs) room 0
-        → callOutcome r answer' ≡ writingAnswer (given (take count numbers)) answer → callOutcome r (copy, answer') ≡ writingBoth (given (take count numbers)) bs room answer
+    pub writingBoth-given : {r : ℕ} {copy answer' : List ℕ} → count ≤ length answer → length bs ≤ length room
+        → copy ≡ copied bs 0 (length bs) room 0
+        → callOutcome r answer' ≡ writingAnswer (given (take count numbers)) answer
+        → callOutcome r (copy, answer') ≡ writingBoth (given (take count numbers)) bs room answer
     unfolding writingBoth
     writingBoth-given h l e f =
-        rw (le-ltb (length room) (length bs) l, e, copied-all bs room l) (answering-given room _ answer (given (take count numbers)) first h f)
+        rw (le-ltb (length room) (length bs) l, e, copied-all bs room l)
+        (answering-given room _ answer (given (take count numbers)) first h f)

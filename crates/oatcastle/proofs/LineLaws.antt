@@ -13,7 +13,8 @@ use Rattle.line.specs.Limits.{longest-data, longest-form}
 use Rattle.line.specs.Message.{Message}
 use Rattle.line.specs.Judge.{LineVerdict, failure, good, judge}
 use Rattle.line.specs.Reader as LineReader
-use Rattle.line.specs.Reader.{verdictReport, finishForm, finish, oneByteLater, readPiece, readPromise, receivedBytes, receivedCount, validReader}
+use Rattle.line.specs.Reader.{verdictReport, finishForm, finish, oneByteLater, readPiece, readPromise, receivedBytes, receivedCount}
+use Rattle.line.specs.Reader.{validReader}
 use Rattle.line.specs.Frame.{frame}
 use Rattle.line.specs.Writer as LineWriter
 use Rattle.line.specs.Writer.{writeReport, writeInto, writePromise}
@@ -50,7 +51,9 @@ spoken-finish s =
 pub spoken : (s piece : List ℕ) → Spoken (readPiece s piece .answer)
 unfolding readPiece oneByteLater
 spoken s [] = tt
-spoken s (b ∷ bs) = cond-by (λ (o : LineReader.ReadOutcome). Spoken (o .answer)) (eqb b 0) _ _ (λ _. spoken-finish s) (λ _. spoken (LineReader.pushed s b) bs)
+spoken s (b ∷ bs) =
+    cond-by (λ (o : LineReader.ReadOutcome). Spoken (o .answer)) (eqb b 0) _ _ (λ _. spoken-finish s)
+    (λ _. spoken (LineReader.pushed s b) bs)
 
 given-read : (used : ℕ) (a : LineReader.ReadReport) → Spoken a → Writes 7 (readGiven used a)
 unfolding readGiven
@@ -78,7 +81,8 @@ module _ (s piece answer : List ℕ) where
         let report = readGiven (o .used) (o .answer) in
         answering-short s (o .state) answer report (writes-says 7 report (writes (o .used))) h
 
-    pub read-given : (read : Reading) {r : ℕ} {after answer' : List ℕ} → 7 ≤ length answer → LineReader.readOutcome read after ≡ readPromise s piece
+    pub read-given : (read : Reading) {r : ℕ} {after answer' : List ℕ} → 7 ≤ length answer
+        → LineReader.readOutcome read after ≡ readPromise s piece
         → callOutcome r answer' ≡ writingAnswer (readGiven (read .used) (LineReader.readReport (read .answer))) answer
         → callOutcome r (after, answer') ≡ lineReadCall s piece answer
     unfolding lineReadCall
@@ -108,7 +112,9 @@ module _ (m : Message) (out answer : List ℕ) where
     unfolding lineWriteCall
     write-short h = answering-short out (writePromise m out .out) answer (writeGiven (writePromise m out .answer)) (settles .0) h
 
-    pub write-given : (w : Written) {r : ℕ} {after answer' : List ℕ} → 1 ≤ length answer → LineWriter.writeOutcome w after ≡ writePromise m out
-        → callOutcome r answer' ≡ writingAnswer (writeGiven (writeReport w)) answer → callOutcome r (after, answer') ≡ lineWriteCall m out answer
+    pub write-given : (w : Written) {r : ℕ} {after answer' : List ℕ} → 1 ≤ length answer
+        → LineWriter.writeOutcome w after ≡ writePromise m out
+        → callOutcome r answer' ≡ writingAnswer (writeGiven (writeReport w)) answer
+        → callOutcome r (after, answer') ≡ lineWriteCall m out answer
     unfolding lineWriteCall
     write-given w {after} h e f = rw (← e) (answering-given out after answer (writeGiven (writeReport w)) (rw (← e) at settles .1) h f)

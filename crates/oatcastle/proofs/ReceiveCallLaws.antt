@@ -10,7 +10,8 @@ use Rattle.line.specs.Reader as LineReader
 use Rattle.supervisor.specs.Calls.{Parts}
 use Rattle.responder.specs.Requests.{Verdict, failure, good, tested}
 use Rattle.responder.specs.Receive
-use Rattle.responder.specs.Receive.{endedByReader, endedByVerdict, stepReport, feedBytes, validParts, validStep, stepPromise, receiveReport, receivePromise}
+use Rattle.responder.specs.Receive.{endedByReader, endedByVerdict, stepReport, feedBytes, validParts, validStep, stepPromise, receiveReport}
+use Rattle.responder.specs.Receive.{receivePromise}
 use Rattle.responder.specs.declared.receive.Stepped.{Stepped}
 use Rattle.responder.specs.declared.receive.Received.{Received}
 use Rattle.oatcastle.specs.Answers.{callOutcome, writingAnswer, writingAfter}
@@ -58,7 +59,8 @@ module _ (image : List ℕ) (p : Parts) (piece answer : List ℕ) where
   unfolding receivePromise feedBytes
   step-short t h e f =
       rw (f, ap (λ (x : Receive.ReceiveOutcome). x .refusal) e, ap (λ (x : Receive.ReceiveOutcome). x .parts) e)
-      (cond-by (λ (x : Receive.ReceiveOutcome). callOutcome (shortNumber (x .refusal)) (x .parts, answer) ≡ stepCall image p piece answer) (validParts p) _ _
+      (cond-by (λ (x : Receive.ReceiveOutcome). callOutcome (shortNumber (x .refusal)) (x .parts, answer) ≡ stepCall image p piece answer)
+      (validParts p) _ _
       (short h) refusal)
 
   leaves : Leaves 3 p (stepPromise image p piece .parts) (stepGiven (stepPromise image p piece .used) (stepPromise image p piece .ended))
@@ -68,8 +70,10 @@ module _ (image : List ℕ) (p : Parts) (piece answer : List ℕ) where
       cond-by (λ (o : Receive.StepOutcome). Leaves 3 p (o .parts) (stepGiven (o .used) (o .ended))) (validParts p) _ _
       (λ v. writes-leaves 3 p (o .parts) (stepGiven (o .used) (o .ended)) (given-valid (o .used))) (λ _. refl)
 
-  pub step-given : (t : Stepped) {r : ℕ} {q : Parts} {answer' : List ℕ} → 3 ≤ length answer → Receive.stepOutcome t q ≡ stepPromise image p piece
-      → callOutcome r answer' ≡ writingAnswer (stepGiven (t .used) (stepReport (t .outcome))) answer → callOutcome r (q, answer') ≡ stepCall image p piece answer
+  pub step-given : (t : Stepped) {r : ℕ} {q : Parts} {answer' : List ℕ} → 3 ≤ length answer
+      → Receive.stepOutcome t q ≡ stepPromise image p piece
+      → callOutcome r answer' ≡ writingAnswer (stepGiven (t .used) (stepReport (t .outcome))) answer
+      → callOutcome r (q, answer') ≡ stepCall image p piece answer
   unfolding stepCall
   step-given t {q} h e f =
       rw (← e) (answering-given p q answer (stepGiven (t .used) (stepReport (t .outcome))) (rw (← e) at leaves) h f)

@@ -21,10 +21,12 @@ use Rattle.requester.specs.Requester
 use Rattle.requester.specs.Layout
 use Rattle.requester.specs.Valid.{validRequester}
 use Rattle.requester.specs.Calls
-use Rattle.requester.specs.Calls.{MainParts, putInto, withRequest, requestPromise, sendPromise, handedReportOf, heardOf, heardOutcomeOf, mainReceiveValid, mainReceivePromise, mainValidParts}
+use Rattle.requester.specs.Calls.{MainParts, putInto, withRequest, requestPromise, sendPromise, handedReportOf, heardOf, heardOutcomeOf}
+use Rattle.requester.specs.Calls.{mainReceiveValid, mainReceivePromise, mainValidParts}
 use Rattle.requester.specs.declared.receive.Received.{Received}
 use Rattle.oatcastle.specs.Answers.{callOutcome, CallReport, writingAnswer, writingAfter}
-use Rattle.oatcastle.specs.RequesterCalls.{putGiven, putCallOutcome, requestCall, sendCall, shortPut, receiptGiven, receiptCallOutcome, listenCall, shortReceipt}
+use Rattle.oatcastle.specs.RequesterCalls.{putGiven, putCallOutcome, requestCall, sendCall, shortPut, receiptGiven}
+use Rattle.oatcastle.specs.RequesterCalls.{receiptCallOutcome, listenCall, shortReceipt}
 use Rattle.oatcastle.proofs.AnswerLaws.{Says, Leaves, Writes, writes-says, writes-leaves, answering-short, answering-given}
 
 -- ---- Request and send
@@ -42,13 +44,15 @@ module _ (r out answer : List ℕ) where
   abbrev Kept : Calls.PutOutcome → Type 0
   Kept o = Leaves {A = List ℕ × List ℕ} 1 (r, out) (o .requester, o .out) (putGiven (o .report))
 
-  refused-short : (n : ℕ) (z : List ℕ) → Short (Calls.putOutcome (Calls.PutReport.refused n) z r) (Calls.putOutcome (Calls.PutReport.refused n) out r)
+  refused-short : (n : ℕ) (z : List ℕ)
+      → Short (Calls.putOutcome (Calls.PutReport.refused n) z r) (Calls.putOutcome (Calls.PutReport.refused n) out r)
   unfolding shortPut putGiven writingAfter
   refused-short n z = refl
 
   put-says : (bs after : List ℕ) → Says 1 (putGiven (putInto bs out r after .report))
   unfolding putInto putGiven
-  put-says bs after = cond-by (λ (o : Calls.PutOutcome). Says 1 (putGiven (o .report))) (ltb (length out) (length bs)) _ _ (λ _. refl) (λ _. refl)
+  put-says bs after =
+      cond-by (λ (o : Calls.PutOutcome). Says 1 (putGiven (o .report))) (ltb (length out) (length bs)) _ _ (λ _. refl) (λ _. refl)
 
   put-short : (bs after z : List ℕ) → length answer < 1 → length z < length bs → Short (putInto bs z r after) (putInto bs out r after)
   unfolding putInto shortPut
@@ -65,7 +69,8 @@ module _ (r out answer : List ℕ) where
   put-kept bs after = cond-by Kept (ltb (length out) (length bs)) _ _ (λ _. refl) (λ _. refl)
 
   -- the answer to the caller, of what a call answered and left
-  put-given : (o : Calls.PutOutcome) → Kept o → {a : Calls.PutReport} {r' out' : List ℕ} {n : ℕ} {answer' : List ℕ} → 1 ≤ length answer → Calls.putOutcome a out' r' ≡ o
+  put-given : (o : Calls.PutOutcome) → Kept o → {a : Calls.PutReport} {r' out' : List ℕ} {n : ℕ} {answer' : List ℕ} → 1 ≤ length answer
+      → Calls.putOutcome a out' r' ≡ o
       → callOutcome n answer' ≡ writingAnswer (putGiven a) answer → callOutcome n ((r', out'), answer') ≡ putCallOutcome o r out answer
   put-given o k {a} h e f = rw (← e) (answering-given (r, out) _ answer (putGiven a) (rw (← e) at k) h f)
 
@@ -76,7 +81,8 @@ module _ (r out answer : List ℕ) where
     abbrev kept : List ℕ
     kept = withRequest (suc (Layout.newestNumber r)) command d r
 
-    pub request-short : (z : List ℕ) {a : Calls.PutReport} {r' z' : List ℕ} {n : ℕ} → length answer < 1 → length z ≡ 1 → Calls.putOutcome a z' r' ≡ requestPromise r command d z
+    pub request-short : (z : List ℕ) {a : Calls.PutReport} {r' z' : List ℕ} {n : ℕ} → length answer < 1 → length z ≡ 1
+        → Calls.putOutcome a z' r' ≡ requestPromise r command d z
         → n ≡ shortPut a → callOutcome n ((r', out), answer) ≡ requestCall r command d out answer
     unfolding requestCall requestPromise
     request-short z l h e f =
@@ -88,8 +94,10 @@ module _ (r out answer : List ℕ) where
         cond-both Short (leb last-number (Layout.newestNumber r)) (λ _. refused-short 14 z) (λ _. put-short asked kept z l (omega arith)))))
         (λ _. refused-short 12 z))
 
-    pub request-given : {a : Calls.PutReport} {r' out' : List ℕ} {n : ℕ} {answer' : List ℕ} → 1 ≤ length answer → Calls.putOutcome a out' r' ≡ requestPromise r command d out
-        → callOutcome n answer' ≡ writingAnswer (putGiven a) answer → callOutcome n ((r', out'), answer') ≡ requestCall r command d out answer
+    pub request-given : {a : Calls.PutReport} {r' out' : List ℕ} {n : ℕ} {answer' : List ℕ} → 1 ≤ length answer
+        → Calls.putOutcome a out' r' ≡ requestPromise r command d out
+        → callOutcome n answer' ≡ writingAnswer (putGiven a) answer
+        → callOutcome n ((r', out'), answer') ≡ requestCall r command d out answer
     unfolding requestCall requestPromise
     request-given h e f =
         put-given (requestPromise r command d out)
@@ -114,8 +122,8 @@ module _ (r out answer : List ℕ) where
   unfolding putGiven
   nothing-kept = refl
 
-  pub send-short : (z : List ℕ) {a : Calls.PutReport} {r' z' : List ℕ} {n : ℕ} → length answer < 1 → length z ≡ 1 → Calls.putOutcome a z' r' ≡ sendPromise r z
-      → n ≡ shortPut a → callOutcome n ((r', out), answer) ≡ sendCall r out answer
+  pub send-short : (z : List ℕ) {a : Calls.PutReport} {r' z' : List ℕ} {n : ℕ} → length answer < 1 → length z ≡ 1
+      → Calls.putOutcome a z' r' ≡ sendPromise r z → n ≡ shortPut a → callOutcome n ((r', out), answer) ≡ sendCall r out answer
   unfolding sendCall sendPromise
   send-short z l h e f =
       let b = some-bytes (Layout.newestNumber r) (Layout.outRequest r) in
@@ -124,7 +132,8 @@ module _ (r out answer : List ℕ) where
       (λ _. cond-both Short (Layout.isUnsent r) (λ _. put-short sent flagged z l (omega arith)) (λ _. nothing-short z l))
       (λ _. refused-short 12 z))
 
-  pub send-given : {a : Calls.PutReport} {r' out' : List ℕ} {n : ℕ} {answer' : List ℕ} → 1 ≤ length answer → Calls.putOutcome a out' r' ≡ sendPromise r out
+  pub send-given : {a : Calls.PutReport} {r' out' : List ℕ} {n : ℕ} {answer' : List ℕ} → 1 ≤ length answer
+      → Calls.putOutcome a out' r' ≡ sendPromise r out
       → callOutcome n answer' ≡ writingAnswer (putGiven a) answer → callOutcome n ((r', out'), answer') ≡ sendCall r out answer
   unfolding sendCall sendPromise
   send-given h e f =
@@ -169,13 +178,16 @@ module _ (p : MainParts) (answer : List ℕ) where
       by true e = rw e
       by false e = rw (e, take-nil) (rw e)
 
-  pub listen-short : (t : Received) (piece : List ℕ) {q : MainParts} {n : ℕ} → length answer < 7 → Calls.mainReceiveOutcome t q ≡ mainReceivePromise p []
+  pub listen-short : (t : Received) (piece : List ℕ) {q : MainParts} {n : ℕ} → length answer < 7
+      → Calls.mainReceiveOutcome t q ≡ mainReceivePromise p []
       → n ≡ shortReceipt (Calls.handedReport (t .handed)) → callOutcome n (q, answer) ≡ listenCall p piece answer
   unfolding mainReceivePromise listenCall shortReceipt receiptGiven writingAfter
   listen-short t piece l e f =
       let x = mainReceiveValid p piece in
       rw (f, ap (λ (y : Calls.MainReceiveOutcome). y .report) e, ap (λ (y : Calls.MainReceiveOutcome). y .parts) e)
-      (cond-both (λ (y z : Calls.MainReceiveOutcome). callOutcome (shortReceipt (y .report)) (y .parts, answer) ≡ receiptCallOutcome z p answer) (mainValidParts p)
+      (cond-both
+      (λ (y z : Calls.MainReceiveOutcome). callOutcome (shortReceipt (y .report)) (y .parts, answer) ≡ receiptCallOutcome z p answer)
+      (mainValidParts p)
       (λ _. rw (none-received, none-handed)
       (answering-short p (x .parts) answer (givenBy x) (writes-says 7 (givenBy x) (receipt-writes piece)) l))
       (λ _. refl))
@@ -187,9 +199,12 @@ module _ (p : MainParts) (answer : List ℕ) where
       cond-by (λ (y : Calls.MainReceiveOutcome). Leaves 7 p (y .parts) (givenBy y)) (mainValidParts p) _ _
       (λ _. writes-leaves 7 p (x .parts) (givenBy x) (receipt-writes piece)) (λ _. refl)
 
-  pub listen-given : (t : Received) (piece : List ℕ) {q : MainParts} {n : ℕ} {answer' : List ℕ} → 7 ≤ length answer → Calls.mainReceiveOutcome t q ≡ mainReceivePromise p piece
-      → callOutcome n answer' ≡ writingAnswer (receiptGiven (t .used) (Calls.handedReport (t .handed)) (t .ended) (t .unsent)) answer → callOutcome n (q, answer') ≡ listenCall p piece answer
+  pub listen-given : (t : Received) (piece : List ℕ) {q : MainParts} {n : ℕ} {answer' : List ℕ} → 7 ≤ length answer
+      → Calls.mainReceiveOutcome t q ≡ mainReceivePromise p piece
+      → callOutcome n answer' ≡ writingAnswer (receiptGiven (t .used) (Calls.handedReport (t .handed)) (t .ended) (t .unsent)) answer
+      → callOutcome n (q, answer') ≡ listenCall p piece answer
   unfolding listenCall
   listen-given t piece {q} h e f =
       rw (← e)
-      (answering-given p q answer (receiptGiven (t .used) (Calls.handedReport (t .handed)) (t .ended) (t .unsent)) (rw (← e) at (listen-kept piece)) h f)
+      (answering-given p q answer (receiptGiven (t .used) (Calls.handedReport (t .handed)) (t .ended) (t .unsent))
+      (rw (← e) at (listen-kept piece)) h f)

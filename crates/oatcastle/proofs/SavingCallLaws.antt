@@ -37,7 +37,8 @@ module _ (s out answer : List ℕ) where
     save-short h = answering-short out (Calls.savePromise s out .room) answer (saveGiven (Calls.savePromise s out .report)) (settles .0) h
 
     pub save-given : (w : Saved) {r : ℕ} {after answer' : List ℕ} → 1 ≤ length answer → Calls.saveOutcome w after ≡ Calls.savePromise s out
-        → callOutcome r answer' ≡ writingAnswer (saveGiven (Calls.saveReport w)) answer → callOutcome r (after, answer') ≡ saveCall s out answer
+        → callOutcome r answer' ≡ writingAnswer (saveGiven (Calls.saveReport w)) answer
+        → callOutcome r (after, answer') ≡ saveCall s out answer
     unfolding saveCall
     save-given w {after} h e f = rw (← e) (answering-given out after answer (saveGiven (Calls.saveReport w)) (rw (← e) at settles .1) h f)
 
@@ -53,7 +54,8 @@ module _ (s image answer : List ℕ) where
     unfolding restoreCall
     restore-short h = rw (v, lt-ltb (length answer) 1 h)
 
-    pub restore-answered : {w r : Restored} {after : List ℕ} → w ≡ r → 1 ≤ length answer → Calls.restoreOutcome w after ≡ Calls.restorePromise s image
+    pub restore-answered : {w r : Restored} {after : List ℕ} → w ≡ r → 1 ≤ length answer
+        → Calls.restoreOutcome w after ≡ Calls.restorePromise s image
         → restoreCallOutcome (Calls.restoreReport r) after answer ≡ restoreCall s image answer
     unfolding restoreCall
     restore-answered q h e = rw (v, le-ltb (length answer) 1 h, ← e, q)

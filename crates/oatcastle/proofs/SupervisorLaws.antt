@@ -32,12 +32,15 @@ module _ (outbox room answer : List ℕ) where
         let report = takeGiven (Calls.takePromise outbox room .report) in
         answering-short (outbox, room) _ answer report (writes-says 1 report writes) h
 
-    pub take-given : (t : Taken) {r : ℕ} {o s answer' : List ℕ} → 1 ≤ length answer → Calls.takeOutcome t o s ≡ Calls.takePromise outbox room
-        → callOutcome r answer' ≡ writingAnswer (takeGiven (takeReport t)) answer → callOutcome r ((o, s), answer') ≡ takeCall outbox room answer
+    pub take-given : (t : Taken) {r : ℕ} {o s answer' : List ℕ} → 1 ≤ length answer
+        → Calls.takeOutcome t o s ≡ Calls.takePromise outbox room
+        → callOutcome r answer' ≡ writingAnswer (takeGiven (takeReport t)) answer
+        → callOutcome r ((o, s), answer') ≡ takeCall outbox room answer
     unfolding takeCall
     take-given t {o} {s} h e f =
         let report = takeGiven (takeReport t) in
-        rw (← e) (answering-given (outbox, room) (o, s) answer report (writes-leaves 1 (outbox, room) (o, s) report (rw (← e) at writes)) h f)
+        rw (← e)
+        (answering-given (outbox, room) (o, s) answer report (writes-leaves 1 (outbox, room) (o, s) report (rw (← e) at writes)) h f)
 
 -- ---- a flag as a number
 

@@ -19,7 +19,8 @@ unfoldable pub lineStartCall : List ℕ → CallOutcome (List ℕ)
 lineStartCall s = lineStarted (LineReader.readerStartPromise s)
 
 -- ---- Read: used, kind, reason, version, sequence, command, length
--- kind 0: more bytes are wanted; 1: an empty frame; 2: a message; 3: a failure, with its reason, and the request's sequence where the reply carries it
+-- kind 0: more bytes are wanted; 1: an empty frame; 2: a message;
+-- 3: a failure, with its reason, and the request's sequence where the reply carries it
 
 unfoldable pub readGiven : ℕ → LineReader.ReadReport → CallReport
 readGiven used (LineReader.refused n) = refused n

@@ -45,7 +45,8 @@ unfoldable pub interruptCall : List ℕ → CallOutcome (List ℕ)
 interruptCall r = interruptDone (Calls.interruptPromise r)
 
 -- ---- Receive: used, kind, ended, unsent, and three numbers
--- kind 0: nothing; 1: the answer, and 3: the answer to a recovery's 0x0a, each with sequence, command and length; 2: status, options, set bits
+-- kind 0: nothing; 1: the answer, and 3: the answer to a recovery's 0x0a, each with sequence,
+-- command and length; 2: status, options, set bits
 
 unfoldable pub receiptGiven : ℕ → Calls.HandedReport → Bool → Bool → CallReport
 receiptGiven used (Calls.HandedReport.refused n) e u = refused n

@@ -17,7 +17,8 @@ rotShortNumber (RotAnswers.handed type n) = 8
 rotShortNumber (RotAnswers.wrote n) = 8
 
 -- ---- Read: kind, type, length
--- kind 0: nothing was sent; 1: a message, with its type and its payload's length; 2: an echo request, with the length of its answer in the room
+-- kind 0: nothing was sent; 1: a message, with its type and its payload's length;
+-- 2: an echo request, with the length of its answer in the room
 
 unfoldable pub rotReadGiven : RotAnswers.RotReport → CallReport
 rotReadGiven (RotAnswers.refused n) = refused n

@@ -6,7 +6,8 @@ use mathlib.Core.Option.{Option, none, some}
 use Prim.Native.Nat.{ℕ}
 use Rattle.supervisor.specs.Calls
 use Rattle.supervisor.specs.declared.registers.Kind.{Kind}
-use Rattle.oatcastle.specs.Answers.{CallOutcome, callOutcome, callNumber, CallReport, refused, given, writingAnswer, writingAfter, writingBoth, flag}
+use Rattle.oatcastle.specs.Answers.{CallOutcome, callOutcome, callNumber, CallReport, refused, given, writingAnswer, writingAfter}
+use Rattle.oatcastle.specs.Answers.{writingBoth, flag}
 
 -- ---- Start
 
@@ -47,7 +48,8 @@ lookupGiven (Calls.LookupReport.refused n) = refused n
 
 unfoldable pub lookupCall : List ℕ → List ℕ → ℕ → ℕ → List ℕ → List ℕ → CallOutcome (List ℕ × List ℕ)
 lookupCall factory settings key most room answer =
-    writingBoth (lookupGiven (Calls.lookupResultPromise factory settings key most)) (Calls.lookupPromise factory settings key most) room answer
+    writingBoth (lookupGiven (Calls.lookupResultPromise factory settings key most)) (Calls.lookupPromise factory settings key most) room
+    answer
 
 -- ---- The edition of a key: the result, and the edition
 
@@ -82,4 +84,5 @@ recordGiven (Calls.is (some e)) = given (1 ∷ e .code ∷ e .whole ∷ e .kept 
 recordGiven (Calls.RegisterReport.refused n) = refused n
 
 unfoldable pub recordCall : List ℕ → Kind → List ℕ → List ℕ → CallOutcome (List ℕ × List ℕ)
-recordCall registers kind room answer = writingBoth (recordGiven (Calls.recordPromise registers kind)) (Calls.recordBytesPromise registers kind) room answer
+recordCall registers kind room answer =
+    writingBoth (recordGiven (Calls.recordPromise registers kind)) (Calls.recordBytesPromise registers kind) room answer

@@ -44,7 +44,8 @@ pub(crate) fn write_both(
     answer: &mut [u64],
 ) -> u32
     requires { ⌜ count ≤ most-numbers ⌝ }
-    ensures { λ r. ⌜ callOutcome r (now (room .exit), now (answer .exit)) ≡ writingBoth (given (take count numbers)) (now («bytes» .entry)) (now (room .entry)) (now (answer .entry)) ⌝ }
+    ensures { λ r. ⌜ callOutcome r (now (room .exit), now (answer .exit))
+        ≡ writingBoth (given (take count numbers)) (now («bytes» .entry)) (now (room .entry)) (now (answer .entry)) ⌝ }
 {
     if answer.len() < count {
         return refusals::NO_ROOM;

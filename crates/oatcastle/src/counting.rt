@@ -38,7 +38,15 @@ pub extern "C" fn oatcastle_receive_counted(
     settings: &mut [u8],
     registers: &mut [u8],
 ) -> u32
-    ensures { λ r. ⌜ (callOutcome r (parts (now (reader .exit)) (now (outbox .exit)) (now (factory .entry)) (now (settings .exit)) (now (registers .exit))) ≡ receiveCall (now (image .entry)) (parts (now (reader .entry)) (now (outbox .entry)) (now (factory .entry)) (now (settings .entry)) (now (registers .entry))) (now (piece .entry))) × (now (counters .exit) ≡ counting (now (counters .entry)) (parts (now (reader .entry)) (now (outbox .entry)) (now (factory .entry)) (now (settings .entry)) (now (registers .entry))) (now (piece .entry))) ⌝ }
+    ensures { λ r. ⌜ (callOutcome r
+        (parts (now (reader .exit)) (now (outbox .exit)) (now (factory .entry)) (now (settings .exit)) (now (registers .exit)))
+        ≡ receiveCall (now (image .entry))
+        (parts (now (reader .entry)) (now (outbox .entry)) (now (factory .entry)) (now (settings .entry)) (now (registers .entry)))
+        (now (piece .entry)))
+        × (now (counters .exit)
+        ≡ counting (now (counters .entry))
+        (parts (now (reader .entry)) (now (outbox .entry)) (now (factory .entry)) (now (settings .entry)) (now (registers .entry)))
+        (now (piece .entry))) ⌝ }
 {
     let numbered = receive_numbered(
         *counters,
@@ -65,7 +73,15 @@ fn receive_numbered(
     settings: &mut [u8],
     registers: &mut [u8],
 ) -> Numbered
-    ensures { λ r. ⌜ (callOutcome (r .answer) (parts (now (reader .exit)) (now (outbox .exit)) (now (factory .entry)) (now (settings .exit)) (now (registers .exit))) ≡ receiveCall (now (image .entry)) (parts (now (reader .entry)) (now (outbox .entry)) (now (factory .entry)) (now (settings .entry)) (now (registers .entry))) (now (piece .entry))) × (r .counters ≡ counting counters (parts (now (reader .entry)) (now (outbox .entry)) (now (factory .entry)) (now (settings .entry)) (now (registers .entry))) (now (piece .entry))) ⌝ }
+    ensures { λ r. ⌜ (callOutcome (r .answer)
+        (parts (now (reader .exit)) (now (outbox .exit)) (now (factory .entry)) (now (settings .exit)) (now (registers .exit)))
+        ≡ receiveCall (now (image .entry))
+        (parts (now (reader .entry)) (now (outbox .entry)) (now (factory .entry)) (now (settings .entry)) (now (registers .entry)))
+        (now (piece .entry)))
+        × (r .counters
+        ≡ counting counters
+        (parts (now (reader .entry)) (now (outbox .entry)) (now (factory .entry)) (now (settings .entry)) (now (registers .entry)))
+        (now (piece .entry))) ⌝ }
 {
     let tallied = counters::receive_tallied(
         counters,

@@ -22,7 +22,8 @@ ghost use Rattle.line.specs.Reader.{readReport};
 ghost use Rattle.line.specs.Writer as LineWriter;
 ghost use Rattle.line.specs.Writer.{messageOfParts};
 ghost use Rattle.oatcastle.specs.Answers.{callOutcome, writingAnswer};
-ghost use Rattle.oatcastle.specs.LineCalls.{lineStartCall, readGiven, lineReadCall, lineDataCall, lineTailCall, writeGiven, lineWriteCall, lineChecksumCall};
+ghost use Rattle.oatcastle.specs.LineCalls.{lineStartCall, readGiven, lineReadCall, lineDataCall, lineTailCall, writeGiven};
+ghost use Rattle.oatcastle.specs.LineCalls.{lineWriteCall, lineChecksumCall};
 
 // How many numbers `oatcastle_line_read` answers.
 const READ_NUMBERS: usize = 7;
@@ -42,7 +43,8 @@ pub extern "C" fn oatcastle_line_start(state: &mut [u8]) -> u32
 // Reads a piece to its end, or up to and with its first 00.
 #[no_mangle]
 pub extern "C" fn oatcastle_line_read(state: &mut [u8], piece: &[u8], answer: &mut [u64]) -> u32
-    ensures { λ r. ⌜ callOutcome r (now (state .exit), now (answer .exit)) ≡ lineReadCall (now (state .entry)) (now (piece .entry)) (now (answer .entry)) ⌝ }
+    ensures { λ r. ⌜ callOutcome r (now (state .exit), now (answer .exit))
+        ≡ lineReadCall (now (state .entry)) (now (piece .entry)) (now (answer .entry)) ⌝ }
 {
     if !line::reader::is_valid(state) {
         return refusals::BAD_STATE;
@@ -132,7 +134,9 @@ pub extern "C" fn oatcastle_line_write(
     out: &mut [u8],
     answer: &mut [u64],
 ) -> u32
-    ensures { λ r. ⌜ callOutcome r (now (out .exit), now (answer .exit)) ≡ lineWriteCall (messageOfParts version sequence command (now (head .entry)) (now (rest .entry))) (now (out .entry)) (now (answer .entry)) ⌝ }
+    ensures { λ r. ⌜ callOutcome r (now (out .exit), now (answer .exit))
+        ≡ lineWriteCall (messageOfParts version sequence command (now (head .entry)) (now (rest .entry))) (now (out .entry))
+        (now (answer .entry)) ⌝ }
 {
     if limits::LONGEST_DATA < head.len() {
         return refusals::TOO_LONG;
@@ -149,7 +153,8 @@ pub extern "C" fn oatcastle_line_write(
 
 // The number of the writer's answer.
 fn answer_written(answer: &mut [u64], written: Written) -> u32
-    ensures { λ r. ⌜ callOutcome r (now (answer .exit)) ≡ writingAnswer (writeGiven (LineWriter.writeReport written)) (now (answer .entry)) ⌝ }
+    ensures { λ r. ⌜ callOutcome r (now (answer .exit))
+        ≡ writingAnswer (writeGiven (LineWriter.writeReport written)) (now (answer .entry)) ⌝ }
 {
     match written {
         Written::Done(n) => write_answer(answer, [n as u64, 0, 0, 0, 0, 0, 0], 1),

@@ -15,7 +15,8 @@ pub extern "C" fn oatcastle_probe_update(
     indices: &[usize],
     results: &[u8],
 ) -> u32
-    ensures { λ r. ⌜ callOutcome r (now (list .exit)) ≡ probeUpdateCall (now (list .entry)) (now (indices .entry)) (now (results .entry)) ⌝ }
+    ensures { λ r. ⌜ callOutcome r (now (list .exit))
+        ≡ probeUpdateCall (now (list .entry)) (now (indices .entry)) (now (results .entry)) ⌝ }
 {
     update_number(probes::update(list, indices, results))
 }

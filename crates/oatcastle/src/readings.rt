@@ -14,7 +14,8 @@ ghost use mathlib.Core.Path.{_≡_};
 ghost use Rattle.supervisor.specs.Calls.{lookupReport, recordReport};
 ghost use Rattle.supervisor.specs.declared.registers.Kind.the-variants.{BootFailure, Panic};
 ghost use Rattle.oatcastle.specs.Answers.{callOutcome, writingBoth};
-ghost use Rattle.oatcastle.specs.SupervisorCalls.{lookupGiven, lookupCall, editionCall, signalCall, flagsCall, recordGiven, recordCall};
+ghost use Rattle.oatcastle.specs.SupervisorCalls.{lookupGiven, lookupCall, editionCall, signalCall, flagsCall, recordGiven};
+ghost use Rattle.oatcastle.specs.SupervisorCalls.{recordCall};
 
 // Looks a key up and copies its value.
 #[no_mangle]
@@ -26,7 +27,8 @@ pub extern "C" fn oatcastle_lookup<'a>(
     room: &mut [u8],
     answer: &mut [u64],
 ) -> u32
-    ensures { λ r. ⌜ callOutcome r (now (room .exit), now (answer .exit)) ≡ lookupCall (now (factory .entry)) (now (settings .entry)) key maxresponse (now (room .entry)) (now (answer .entry)) ⌝ }
+    ensures { λ r. ⌜ callOutcome r (now (room .exit), now (answer .exit))
+        ≡ lookupCall (now (factory .entry)) (now (settings .entry)) key maxresponse (now (room .entry)) (now (answer .entry)) ⌝ }
 {
     let value = keys::lookup(factory, settings, key, maxresponse);
     let found = keys::lookup_result(factory, settings, key, maxresponse);
@@ -35,7 +37,8 @@ pub extern "C" fn oatcastle_lookup<'a>(
 
 // A value, and the numbers of a lookup's answer.
 fn answer_value(value: &[u8], found: Found, room: &mut [u8], answer: &mut [u64]) -> u32
-    ensures { λ r. ⌜ callOutcome r (now (room .exit), now (answer .exit)) ≡ writingBoth (lookupGiven (lookupReport found)) (now (value .entry)) (now (room .entry)) (now (answer .entry)) ⌝ }
+    ensures { λ r. ⌜ callOutcome r (now (room .exit), now (answer .exit))
+        ≡ writingBoth (lookupGiven (lookupReport found)) (now (value .entry)) (now (room .entry)) (now (answer .entry)) ⌝ }
 {
     match found {
         Found::Refused => refusals::BAD_STATE,
@@ -55,7 +58,8 @@ pub extern "C" fn oatcastle_edition(
     key: u8,
     answer: &mut [u64],
 ) -> u32
-    ensures { λ r. ⌜ callOutcome r (now (answer .exit)) ≡ editionCall (now (factory .entry)) (now (settings .entry)) key (now (answer .entry)) ⌝ }
+    ensures { λ r. ⌜ callOutcome r (now (answer .exit))
+        ≡ editionCall (now (factory .entry)) (now (settings .entry)) key (now (answer .entry)) ⌝ }
 {
     let found = keys::edition(factory, settings, key);
     match found {
@@ -103,7 +107,8 @@ pub extern "C" fn oatcastle_boot_failure(
     room: &mut [u8],
     answer: &mut [u64],
 ) -> u32
-    ensures { λ r. ⌜ callOutcome r (now (room .exit), now (answer .exit)) ≡ recordCall (now (registers .entry)) BootFailure (now (room .entry)) (now (answer .entry)) ⌝ }
+    ensures { λ r. ⌜ callOutcome r (now (room .exit), now (answer .exit))
+        ≡ recordCall (now (registers .entry)) BootFailure (now (room .entry)) (now (answer .entry)) ⌝ }
 {
     read_record(registers, Kind::BootFailure, room, answer)
 }
@@ -111,13 +116,15 @@ pub extern "C" fn oatcastle_boot_failure(
 // The record of a panic, and its kept bytes.
 #[no_mangle]
 pub extern "C" fn oatcastle_panic(registers: &[u8], room: &mut [u8], answer: &mut [u64]) -> u32
-    ensures { λ r. ⌜ callOutcome r (now (room .exit), now (answer .exit)) ≡ recordCall (now (registers .entry)) Panic (now (room .entry)) (now (answer .entry)) ⌝ }
+    ensures { λ r. ⌜ callOutcome r (now (room .exit), now (answer .exit))
+        ≡ recordCall (now (registers .entry)) Panic (now (room .entry)) (now (answer .entry)) ⌝ }
 {
     read_record(registers, Kind::Panic, room, answer)
 }
 
 fn read_record(registers: &[u8], kind: Kind, room: &mut [u8], answer: &mut [u64]) -> u32
-    ensures { λ r. ⌜ callOutcome r (now (room .exit), now (answer .exit)) ≡ recordCall (now (registers .entry)) kind (now (room .entry)) (now (answer .entry)) ⌝ }
+    ensures { λ r. ⌜ callOutcome r (now (room .exit), now (answer .exit))
+        ≡ recordCall (now (registers .entry)) kind (now (room .entry)) (now (answer .entry)) ⌝ }
 {
     let kept = supervisor::registers::record_bytes(registers, kind);
     let found = supervisor::registers::record(registers, kind);
@@ -126,7 +133,8 @@ fn read_record(registers: &[u8], kind: Kind, room: &mut [u8], answer: &mut [u64]
 
 // Kept bytes, and the numbers of a record.
 fn answer_record(kept: &[u8], found: Recorded, room: &mut [u8], answer: &mut [u64]) -> u32
-    ensures { λ r. ⌜ callOutcome r (now (room .exit), now (answer .exit)) ≡ writingBoth (recordGiven (recordReport found)) (now (kept .entry)) (now (room .entry)) (now (answer .entry)) ⌝ }
+    ensures { λ r. ⌜ callOutcome r (now (room .exit), now (answer .exit))
+        ≡ writingBoth (recordGiven (recordReport found)) (now (kept .entry)) (now (room .entry)) (now (answer .entry)) ⌝ }
 {
     match found {
         Recorded::Refused => refusals::BAD_STATE,

@@ -28,7 +28,11 @@ pub extern "C" fn oatcastle_receive(
     settings: &mut [u8],
     registers: &mut [u8],
 ) -> u32
-    ensures { λ r. ⌜ callOutcome r (parts (now (reader .exit)) (now (outbox .exit)) (now (factory .entry)) (now (settings .exit)) (now (registers .exit))) ≡ receiveCall (now (image .entry)) (parts (now (reader .entry)) (now (outbox .entry)) (now (factory .entry)) (now (settings .entry)) (now (registers .entry))) (now (piece .entry)) ⌝ }
+    ensures { λ r. ⌜ callOutcome r
+        (parts (now (reader .exit)) (now (outbox .exit)) (now (factory .entry)) (now (settings .exit)) (now (registers .exit)))
+        ≡ receiveCall (now (image .entry))
+        (parts (now (reader .entry)) (now (outbox .entry)) (now (factory .entry)) (now (settings .entry)) (now (registers .entry)))
+        (now (piece .entry)) ⌝ }
 {
     let received = responder::receive::receive(
         image,
@@ -58,7 +62,12 @@ pub extern "C" fn oatcastle_step(
     registers: &mut [u8],
     answer: &mut [u64],
 ) -> u32
-    ensures { λ r. ⌜ callOutcome r (parts (now (reader .exit)) (now (outbox .exit)) (now (factory .entry)) (now (settings .exit)) (now (registers .exit)), now (answer .exit)) ≡ stepCall (now (image .entry)) (parts (now (reader .entry)) (now (outbox .entry)) (now (factory .entry)) (now (settings .entry)) (now (registers .entry))) (now (piece .entry)) (now (answer .entry)) ⌝ }
+    ensures { λ r. ⌜ callOutcome r (
+      parts (now (reader .exit)) (now (outbox .exit)) (now (factory .entry)) (now (settings .exit)) (now (registers .exit)),
+      now (answer .exit),
+    ) ≡ stepCall (now (image .entry))
+        (parts (now (reader .entry)) (now (outbox .entry)) (now (factory .entry)) (now (settings .entry)) (now (registers .entry)))
+        (now (piece .entry)) (now (answer .entry)) ⌝ }
 {
     if answer.len() < STEP_NUMBERS {
         let received = responder::receive::receive(

@@ -15,7 +15,8 @@ use requester::start::Started;
 ghost use mathlib.Core.Path.{_≡_};
 ghost use Rattle.requester.specs.Calls.{mainParts, requestReport, sendReport, handedReport};
 ghost use Rattle.oatcastle.specs.Answers.{callOutcome, writingAnswer, flag};
-ghost use Rattle.oatcastle.specs.RequesterCalls.{requesterStartCall, putGiven, requestCall, sendCall, shortPut, interruptCall, receiptGiven, listenCall, shortReceipt};
+ghost use Rattle.oatcastle.specs.RequesterCalls.{requesterStartCall, putGiven, requestCall, sendCall, shortPut, interruptCall};
+ghost use Rattle.oatcastle.specs.RequesterCalls.{receiptGiven, listenCall, shortReceipt};
 
 // How many numbers `oatcastle_requester_receive` answers.
 const RECEIVE_NUMBERS: usize = 7;
@@ -26,7 +27,8 @@ const NO_ROOM: usize = 1;
 // Begins the main processor's end.
 #[no_mangle]
 pub extern "C" fn oatcastle_requester_start(reader: &mut [u8], requester: &mut [u8]) -> u32
-    ensures { λ r. ⌜ callOutcome r (mainParts (now (reader .exit)) (now (requester .exit))) ≡ requesterStartCall (mainParts (now (reader .entry)) (now (requester .entry))) ⌝ }
+    ensures { λ r. ⌜ callOutcome r (mainParts (now (reader .exit)) (now (requester .exit)))
+        ≡ requesterStartCall (mainParts (now (reader .entry)) (now (requester .entry))) ⌝ }
 {
     let started = requester::start::start(reader, requester);
     match started {
@@ -44,7 +46,8 @@ pub extern "C" fn oatcastle_requester_request(
     out: &mut [u8],
     answer: &mut [u64],
 ) -> u32
-    ensures { λ r. ⌜ callOutcome r ((now (requester .exit), now (out .exit)), now (answer .exit)) ≡ requestCall (now (requester .entry)) command (now («data» .entry)) (now (out .entry)) (now (answer .entry)) ⌝ }
+    ensures { λ r. ⌜ callOutcome r ((now (requester .exit), now (out .exit)), now (answer .exit))
+        ≡ requestCall (now (requester .entry)) command (now («data» .entry)) (now (out .entry)) (now (answer .entry)) ⌝ }
 {
     if answer.len() < 1 {
         let mut none = [0u8; NO_ROOM];
@@ -101,7 +104,8 @@ pub extern "C" fn oatcastle_requester_send(
     out: &mut [u8],
     answer: &mut [u64],
 ) -> u32
-    ensures { λ r. ⌜ callOutcome r ((now (requester .exit), now (out .exit)), now (answer .exit)) ≡ sendCall (now (requester .entry)) (now (out .entry)) (now (answer .entry)) ⌝ }
+    ensures { λ r. ⌜ callOutcome r ((now (requester .exit), now (out .exit)), now (answer .exit))
+        ≡ sendCall (now (requester .entry)) (now (out .entry)) (now (answer .entry)) ⌝ }
 {
     if answer.len() < 1 {
         let mut none = [0u8; NO_ROOM];
@@ -141,7 +145,8 @@ pub extern "C" fn oatcastle_requester_receive(
     requester: &mut [u8],
     answer: &mut [u64],
 ) -> u32
-    ensures { λ r. ⌜ callOutcome r (mainParts (now (reader .exit)) (now (requester .exit)), now (answer .exit)) ≡ listenCall (mainParts (now (reader .entry)) (now (requester .entry))) (now (piece .entry)) (now (answer .entry)) ⌝ }
+    ensures { λ r. ⌜ callOutcome r (mainParts (now (reader .exit)) (now (requester .exit)), now (answer .exit))
+        ≡ listenCall (mainParts (now (reader .entry)) (now (requester .entry))) (now (piece .entry)) (now (answer .entry)) ⌝ }
 {
     if answer.len() < RECEIVE_NUMBERS {
         let received = requester::receive::receive(&piece[0..0], reader, requester);
@@ -166,7 +171,9 @@ fn short_received(handed: Handed) -> u32
 
 // The numbers of a receive's answer.
 fn answer_received(answer: &mut [u64], received: Received) -> u32
-    ensures { λ r. ⌜ callOutcome r (now (answer .exit)) ≡ writingAnswer (receiptGiven (received .used) (handedReport (received .handed)) (received .ended) (received .unsent)) (now (answer .entry)) ⌝ }
+    ensures { λ r. ⌜ callOutcome r (now (answer .exit))
+        ≡ writingAnswer (receiptGiven (received .used) (handedReport (received .handed)) (received .ended) (received .unsent))
+        (now (answer .entry)) ⌝ }
 {
     let used = received.used as u64;
     let ended = flag_number(received.ended);

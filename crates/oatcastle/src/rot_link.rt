@@ -14,7 +14,8 @@ ghost use Rattle.rot.specs.Reading as RotReading;
 ghost use Rattle.rot.specs.Writing as RotWriting;
 ghost use Rattle.rot.specs.Writing.{rotMessageOf};
 ghost use Rattle.oatcastle.specs.Answers.{callOutcome, writingAnswer};
-ghost use Rattle.oatcastle.specs.RotCalls.{rotShortNumber, rotReadGiven, rotReadCall, rotPayloadCall, rotWriteGiven, rotWriteCall, rotCrcCall};
+ghost use Rattle.oatcastle.specs.RotCalls.{rotShortNumber, rotReadGiven, rotReadCall, rotPayloadCall, rotWriteGiven, rotWriteCall};
+ghost use Rattle.oatcastle.specs.RotCalls.{rotCrcCall};
 
 // How many numbers `oatcastle_rot_read` answers.
 const ROT_READ_NUMBERS: usize = 3;
@@ -25,7 +26,8 @@ const NO_ROOM: usize = 1;
 // Reads what came over the link. With too short an answer it is read with no room for the echo's answer.
 #[no_mangle]
 pub extern "C" fn oatcastle_rot_read(input: &[u8], out: &mut [u8], answer: &mut [u64]) -> u32
-    ensures { λ r. ⌜ callOutcome r (now (out .exit), now (answer .exit)) ≡ rotReadCall (now (input .entry)) (now (out .entry)) (now (answer .entry)) ⌝ }
+    ensures { λ r. ⌜ callOutcome r (now (out .exit), now (answer .exit))
+        ≡ rotReadCall (now (input .entry)) (now (out .entry)) (now (answer .entry)) ⌝ }
 {
     if answer.len() < ROT_READ_NUMBERS {
         let mut none = [0u8; NO_ROOM];
@@ -51,7 +53,8 @@ pub extern "C" fn oatcastle_rot_write(
     out: &mut [u8],
     answer: &mut [u64],
 ) -> u32
-    ensures { λ r. ⌜ callOutcome r (now (out .exit), now (answer .exit)) ≡ rotWriteCall (rotMessageOf kind (now (payload .entry))) (now (out .entry)) (now (answer .entry)) ⌝ }
+    ensures { λ r. ⌜ callOutcome r (now (out .exit), now (answer .exit))
+        ≡ rotWriteCall (rotMessageOf kind (now (payload .entry))) (now (out .entry)) (now (answer .entry)) ⌝ }
 {
     if answer.len() < 1 {
         let mut none = [0u8; NO_ROOM];
@@ -72,7 +75,8 @@ pub extern "C" fn oatcastle_rot_crc(bytes: &[u8], answer: &mut [u64]) -> u32
 
 // The numbers of the reader's answer.
 fn answer_read(answer: &mut [u64], read: Answer) -> u32
-    ensures { λ r. ⌜ callOutcome r (now (answer .exit)) ≡ writingAnswer (rotReadGiven (RotReading.rotReadReport read)) (now (answer .entry)) ⌝ }
+    ensures { λ r. ⌜ callOutcome r (now (answer .exit))
+        ≡ writingAnswer (rotReadGiven (RotReading.rotReadReport read)) (now (answer .entry)) ⌝ }
 {
     match read {
         Answer::Refused(why) => number(why),
@@ -100,7 +104,8 @@ fn answer_read(answer: &mut [u64], read: Answer) -> u32
 
 // The number of the writer's answer.
 fn answer_sent(answer: &mut [u64], written: Written) -> u32
-    ensures { λ r. ⌜ callOutcome r (now (answer .exit)) ≡ writingAnswer (rotWriteGiven (RotWriting.rotWriteReport written)) (now (answer .entry)) ⌝ }
+    ensures { λ r. ⌜ callOutcome r (now (answer .exit))
+        ≡ writingAnswer (rotWriteGiven (RotWriting.rotWriteReport written)) (now (answer .entry)) ⌝ }
 {
     match written {
         Written::Done(n) => write_answer(answer, [n as u64, 0, 0, 0, 0, 0, 0], 1),

@@ -12,7 +12,8 @@ ghost use Rattle.oatcastle.specs.SavingCalls.{saveGiven, saveCall, resto
 // Writes the settings that have a value as an image.
 #[no_mangle]
 pub extern "C" fn oatcastle_save(settings: &[u8], out: &mut [u8], answer: &mut [u64]) -> u32
-    ensures { λ r. ⌜ callOutcome r (now (out .exit), now (answer .exit)) ≡ saveCall (now (settings .entry)) (now (out .entry)) (now (answer .entry)) ⌝ }
+    ensures { λ r. ⌜ callOutcome r (now (out .exit), now (answer .exit))
+        ≡ saveCall (now (settings .entry)) (now (out .entry)) (now (answer .entry)) ⌝ }
 {
     if !supervisor::valid::settings_are_valid(settings) {
         return refusals::BAD_STATE;
@@ -38,7 +39,8 @@ fn answer_saved(answer: &mut [u64], saved: Saved) -> u32
 // Replaces the saved settings by those of an image, if it has no fault.
 #[no_mangle]
 pub extern "C" fn oatcastle_restore(settings: &mut [u8], image: &[u8], answer: &mut [u64]) -> u32
-    ensures { λ r. ⌜ callOutcome r (now (settings .exit), now (answer .exit)) ≡ restoreCall (now (settings .entry)) (now (image .entry)) (now (answer .entry)) ⌝ }
+    ensures { λ r. ⌜ callOutcome r (now (settings .exit), now (answer .exit))
+        ≡ restoreCall (now (settings .entry)) (now (image .entry)) (now (answer .entry)) ⌝ }
 {
     if !supervisor::valid::settings_are_valid(settings) {
         return refusals::BAD_STATE;

@@ -22,7 +22,10 @@ pub extern "C" fn oatcastle_start(
     settings: &mut [u8],
     registers: &mut [u8],
 ) -> u32
-    ensures { λ r. ⌜ callOutcome r (parts (now (reader .exit)) (now (outbox .exit)) (now (factory .exit)) (now (settings .exit)) (now (registers .exit))) ≡ startCall (now («data» .entry)) (parts (now (reader .entry)) (now (outbox .entry)) (now (factory .entry)) (now (settings .entry)) (now (registers .entry))) ⌝ }
+    ensures { λ r. ⌜ callOutcome r
+        (parts (now (reader .exit)) (now (outbox .exit)) (now (factory .exit)) (now (settings .exit)) (now (registers .exit)))
+        ≡ startCall (now («data» .entry))
+        (parts (now (reader .entry)) (now (outbox .entry)) (now (factory .entry)) (now (settings .entry)) (now (registers .entry))) ⌝ }
 {
     let started = supervisor::start::start(data, reader, outbox, factory, settings, registers);
     start_number(started)
@@ -41,7 +44,8 @@ fn start_number(started: Started) -> u32
 // Moves the smaller of the room and the bytes pending.
 #[no_mangle]
 pub extern "C" fn oatcastle_take(outbox: &mut [u8], room: &mut [u8], answer: &mut [u64]) -> u32
-    ensures { λ r. ⌜ callOutcome r ((now (outbox .exit), now (room .exit)), now (answer .exit)) ≡ takeCall (now (outbox .entry)) (now (room .entry)) (now (answer .entry)) ⌝ }
+    ensures { λ r. ⌜ callOutcome r ((now (outbox .exit), now (room .exit)), now (answer .exit))
+        ≡ takeCall (now (outbox .entry)) (now (room .entry)) (now (answer .entry)) ⌝ }
 {
     if !supervisor::valid::outbox_is_valid(outbox) {
         return refusals::BAD_STATE;

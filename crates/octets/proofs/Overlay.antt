@@ -8,7 +8,8 @@ use native.Mathlib.Nat.{add-zero, zero-add, suc-add, add-assoc}
 use native.Mathlib.Numerals.{add-one}
 use native.Mathlib.Omega.{arith}
 use lib.ListN.{length, take, drop, set, getD, length-append, length-drop, take-append-drop, List·getD-append}
-use lib.Seq.{take-suc, take-add, getD-drop, take-nil, drop-nil, drop-drop, take-take, take-at, drop-at, take-append-le, drop-append-le, take-append-add, drop-append-add, length-take-le, append-snoc, set-split}
+use lib.Seq.{take-suc, take-add, getD-drop, take-nil, drop-nil, drop-drop, take-take, take-at, drop-at, take-append-le, drop-append-le}
+use lib.Seq.{take-append-add, drop-append-add, length-take-le, append-snoc, set-split}
 use borrow.Author.Tests.{leb-true, le-leb, lt-leb}
 use Rattle.octets.specs.Bytes.{Byte, Each, number, bytes, run, numberAt, fits, overlay, put, copied, movedDown}
 use Rattle.octets.proofs.Each.{each-append, each-take, each-drop, each-run}
@@ -76,7 +77,12 @@ pub overlay-part : (at j n : ℕ) (xs s : List ℕ) → at ≤ length s → j + 
     → run (at + j) n (overlay at xs s) ≡ run j n xs
 overlay-part at j n xs s h l =
     let m : n ≤ length (drop j xs) = simp length-drop (omega arith) in
-    rw (← drop-drop j at (overlay at xs s), overlay-from at xs s h, drop-append-le j xs (drop (at + length xs) s) (omega arith), take-append-le n (drop j xs) _ m)
+    rw (
+      ← drop-drop j at (overlay at xs s),
+      overlay-from at xs s h,
+      drop-append-le j xs (drop (at + length xs) s) (omega arith),
+      take-append-le n (drop j xs) _ m,
+    )
 
 pub overlay-inside : (at : ℕ) (xs s : List ℕ) → at ≤ length s → run at (length xs) (overlay at xs s) ≡ xs
 overlay-inside at xs s h = rw (overlay-from at xs s h) (take-at xs _ (length xs) refl)

@@ -52,7 +52,8 @@ decoding-bytes form = group-bytes 0 false form
 abbrev failed : Decoding
 failed = record { whole = false; bytes = [] }
 
-group-byte : (left : ℕ) (z : Bool) (b : ℕ) (bs : List ℕ) → 0 < left → decodeGroup left z (b ∷ bs) ≡ behind (b ∷ []) (decodeGroup (left - 1) z bs)
+group-byte : (left : ℕ) (z : Bool) (b : ℕ) (bs : List ℕ) → 0 < left
+    → decodeGroup left z (b ∷ bs) ≡ behind (b ∷ []) (decodeGroup (left - 1) z bs)
 unfolding decodeGroup
 group-byte zero z b bs h = absurd (omega arith)
 group-byte (suc left) z b bs h = simp unary-clauses
@@ -71,7 +72,8 @@ module _ (z : Bool) (c : ℕ) (cs : List ℕ) where
   unfolding decodeGroup
   code-last e = rw (← e, or-true)
 
-  code-other : (c ≡ 0 → ⊥) → false ≡ lastOneAfterFull c cs → decodeGroup 0 z (c ∷ cs) ≡ behind (impliedZero z) (decodeGroup (c - 1) (ltb c 255) cs)
+  code-other : (c ≡ 0 → ⊥) → false ≡ lastOneAfterFull c cs
+      → decodeGroup 0 z (c ∷ cs) ≡ behind (impliedZero z) (decodeGroup (c - 1) (ltb c 255) cs)
   unfolding decodeGroup
   code-other e l = rw (ne-eqb c 0 e, ← l)
 
@@ -85,8 +87,8 @@ group-length zero z [] = omega arith
 group-length (suc left) z [] = omega arith
 group-length (suc left) z (b ∷ bs) = omega (arith, group-length left z bs)
 group-length zero z (c ∷ cs) =
-    cond-by (λ (d : Decoding). length (d .bytes) ≤ suc (length cs) + length (impliedZero z)) (eqb c 0 || lastOneAfterFull c cs) _ _ (λ e. omega arith)
-    (λ e. rw length-append (omega (arith, group-length (c - 1) (ltb c 255) cs, zeros-most (ltb c 255))))
+    cond-by (λ (d : Decoding). length (d .bytes) ≤ suc (length cs) + length (impliedZero z)) (eqb c 0 || lastOneAfterFull c cs) _ _
+    (λ e. omega arith) (λ e. rw length-append (omega (arith, group-length (c - 1) (ltb c 255) cs, zeros-most (ltb c 255))))
 
 -- a form decodes to no more bytes than it has
 pub decoding-length : (form : List ℕ) → length (decodeForm form .bytes) ≤ length form
@@ -108,7 +110,8 @@ module _ (form : List ℕ) where
   unfolding decodedReport
   bad-none e = decoding-bytes form ∙ rw (report-not (decodeForm form .whole) (length (decodeForm form .bytes)) e)
 
-  pub length-some : {k : ℕ} → Length k ≡ decodedReport (decodeForm form) → (uncobs form ≡ some (decodeForm form .bytes)) × (length (decodeForm form .bytes) ≡ k)
+  pub length-some : {k : ℕ} → Length k ≡ decodedReport (decodeForm form)
+      → (uncobs form ≡ some (decodeForm form .bytes)) × (length (decodeForm form .bytes) ≡ k)
   unfolding decodedReport
   length-some {k} e =
       let s = report-by (decodeForm form .whole) (decodeForm form .bytes) k e in
@@ -172,7 +175,8 @@ module _ (form m₀ m : List ℕ) (left : ℕ) (z : Bool) (n i : ℕ) (mid : Mid
       pub stop-zero : b ≡ 0 → (Bad ≡ decodedReport (decodeForm form)) × (m ≡ overlay 0 (decodeForm form .bytes) m₀)
       stop-zero f = stop false (rw (at-byte, none-left) (code-zero z b (drop (i + 1) form) f))
 
-      pub stop-last : true ≡ lastOneAfterFull b (drop (i + 1) form) → (Bad ≡ decodedReport (decodeForm form)) × (m ≡ overlay 0 (decodeForm form .bytes) m₀)
+      pub stop-last : true ≡ lastOneAfterFull b (drop (i + 1) form)
+          → (Bad ≡ decodedReport (decodeForm form)) × (m ≡ overlay 0 (decodeForm form .bytes) m₀)
       stop-last f = stop false (rw (at-byte, none-left) (code-last z b (drop (i + 1) form) f))
 
       pub middle-code : (b ≡ 0 → ⊥) → false ≡ lastOneAfterFull b (drop (i + 1) form) → i < length m₀

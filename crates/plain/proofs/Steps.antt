@@ -60,7 +60,8 @@ module _ (w : List ℕ) (at : ℕ) where
       let f = first (drop at w) p ps e in
       let a = f .after in
       let t : run at (length p) w ≡ p = ap (take (length p)) (f .whole) ∙ take-at p (0 ∷ a) (length p) refl in
-      let d : drop (at + length p) w ≡ 0 ∷ a = sym (drop-drop (length p) at w) ∙ ap (drop (length p)) (f .whole) ∙ drop-at p (0 ∷ a) (length p) refl in
+      let d : drop (at + length p) w ≡ 0 ∷ a =
+      sym (drop-drop (length p) at w) ∙ ap (drop (length p)) (f .whole) ∙ drop-at p (0 ∷ a) (length p) refl in
       let g : drop (at + length p + 1) w ≡ a = sym (drop-drop 1 (at + length p) w) ∙ ap (drop 1) d in
       let l = ap length (f .whole) ∙ length-append p (0 ∷ a) in
       record { within = omega (arith, length-drop at w); step = rw (t, g, f .closed, f .rest, e) }

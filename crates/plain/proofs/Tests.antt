@@ -16,7 +16,8 @@ use Rattle.line.specs.Limits.{header-length, shortest-message, longest-message,
 use Rattle.line.specs.Checksum.{sums, checksum}
 use Rattle.line.specs.Message.{magic}
 use Rattle.line.specs.Cobs.{uncobs}
-use Rattle.line.specs.Judge.{LineVerdict, failure, good, bodyOf, checksumOf, magicOf, sequenceOf, payloadOf, fields, wrongLength, judgeForm, judge}
+use Rattle.line.specs.Judge.{LineVerdict, failure, good, bodyOf, checksumOf, magicOf, sequenceOf, payloadOf, fields, wrongLength, judgeForm}
+use Rattle.line.specs.Judge.{judge}
 use Rattle.plain.specs.Answers.{decodeForm, decodedInto}
 use Rattle.plain.specs.Inner.{decodedReport}
 use Rattle.plain.specs.declared.Decoded.{Decoded}
@@ -76,15 +77,31 @@ module _ (m : List ℕ) (n : ℕ) (l : n ≤ length m) where
 
         pub tested-magic : (g ≡ magic → ⊥) → failure 4 (some q) ≡ judgeForm (some (take n m))
         unfolding judgeForm
-        tested-magic f = rw (length-right, checksum-at, body-at, ← at-end, ← of-body, eq-eqb a b same, magic-at, ne-eqb g magic f, sequence-at)
+        tested-magic f =
+            rw (length-right, checksum-at, body-at, ← at-end, ← of-body, eq-eqb a b same, magic-at, ne-eqb g magic f, sequence-at)
 
         pub tested-good : {v d : ℕ} → g ≡ magic → v ≡ numberAt 4 m 4 → d ≡ numberAt 1 m 16
-            → good (record { version = v; sequence = q; command = d; payload = run header-length (n - shortest-message) m }) ≡ judgeForm (some (take n m))
+            → good (record { version = v; sequence = q; command = d; payload = run header-length (n - shortest-message) m })
+            ≡ judgeForm (some (take n m))
         unfolding judgeForm fields
         tested-good f version command =
             let v = number-at 4 4 (omega arith) ∙ sym version in
             let d = number-at 1 16 (omega arith) ∙ sym command in
-            rw (length-right, checksum-at, body-at, ← at-end, ← of-body, eq-eqb a b same, magic-at, eq-eqb g magic f, sequence-at, v, d, ← payload-at, body-at)
+            rw (
+              length-right,
+              checksum-at,
+              body-at,
+              ← at-end,
+              ← of-body,
+              eq-eqb a b same,
+              magic-at,
+              eq-eqb g magic f,
+              sequence-at,
+              v,
+              d,
+              ← payload-at,
+              body-at,
+            )
 
 -- ---- a whole frame
 
@@ -95,7 +112,8 @@ module _ (form m : List ℕ) where
   over-judged h = rw (lt-ltb longest-form (length form) h) (refl, refl)
 
   -- and any other, which was decoded
-  module _ (h : length form ≤ longest-form) {d : Decoded} (report : d ≡ decodedReport (decodeForm form)) {m′ : List ℕ} (left : m′ ≡ overlay 0 (decodeForm form .bytes) m) where
+  module _ (h : length form ≤ longest-form) {d : Decoded} (report : d ≡ decodedReport (decodeForm form)) {m′ : List ℕ}
+      (left : m′ ≡ overlay 0 (decodeForm form .bytes) m) where
     judge-form : judge form ≡ judgeForm (uncobs form)
     unfolding judge
     judge-form = rw (le-ltb longest-form (length form) h)

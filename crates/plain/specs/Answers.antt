@@ -37,7 +37,8 @@ plainVerdict BadLength m = failure 3 none
 plainVerdict (BadChecksum sequence) m = failure 2 (some sequence)
 plainVerdict (BadMagic sequence) m = failure 4 (some sequence)
 
--- `groupBytes` with the bytes that come ahead of a failure: whether the form is one, and its bytes up to the code byte that fails or to the end
+-- `groupBytes` with the bytes that come ahead of a failure:
+-- whether the form is one, and its bytes up to the code byte that fails or to the end
 pub record Decoding : Type 0 where
   pub whole : Bool
   pub bytes : List ℕ
@@ -50,7 +51,8 @@ decodeGroup zero holds [] = record { whole = true; bytes = [] }
 decodeGroup (suc left) holds [] = record { whole = false; bytes = [] }
 decodeGroup (suc left) holds (b ∷ bs) = behind (b ∷ []) (decodeGroup left holds bs)
 decodeGroup zero holds (c ∷ cs) =
-    cond (eqb c 0 || lastOneAfterFull c cs) (record { whole = false; bytes = [] }) (behind (impliedZero holds) (decodeGroup (c - 1) (ltb c full-code) cs))
+    cond (eqb c 0 || lastOneAfterFull c cs) (record { whole = false; bytes = [] })
+    (behind (impliedZero holds) (decodeGroup (c - 1) (ltb c full-code) cs))
 
 unfoldable pub decodeForm : List ℕ → Decoding
 decodeForm form = decodeGroup 0 false form

@@ -13,7 +13,8 @@ use Rattle.plain.specs.Listing.{listedFrame, listedFrames, listing}
 use Rattle.plain_claims.specs.Agreement.{listedBy, reportsOf, nonEmptyReport, nonEmptyReports, tailOfLength}
 use Rattle.plain_claims.specs.Item13.{Agreement}
 
-listed-gathered : {A : Type 0} (f : LineVerdict → List A) (at : ℕ) (ps : List (List ℕ)) → gathered f (nonEmpty ps) ≡ listedBy f (listedFrames at ps)
+listed-gathered : {A : Type 0} (f : LineVerdict → List A) (at : ℕ) (ps : List (List ℕ))
+    → gathered f (nonEmpty ps) ≡ listedBy f (listedFrames at ps)
 unfolding gathered nonEmpty listedBy listedFrames listedFrame
 listed-gathered f at [] = refl
 listed-gathered f at ([] ∷ ps) = listed-gathered f (at + 0 + 1) ps

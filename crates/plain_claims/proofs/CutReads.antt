@@ -79,7 +79,8 @@ module _ (room : List ℕ) (enough : reader-length ≤ length room) (l : Loan) (
   unfolding callsFor joinedPieces
   reads-from cs [] = simp append-nil
   reads-from cs (p ∷ ps) =
-      ap bytesAfter (sym (append-assoc cs (given p ∷ []) (behindEach l p ++ callsFor l ps)) ∙ sym (append-assoc (cs ++ given p ∷ []) (behindEach l p) (callsFor l ps)))
+      ap bytesAfter (sym (append-assoc cs (given p ∷ []) (behindEach l p ++ callsFor l ps))
+      ∙ sym (append-assoc (cs ++ given p ∷ []) (behindEach l p) (callsFor l ps)))
       ∙ reads-from ((cs ++ given p ∷ []) ++ behindEach l p) ps ∙ rw (whole-piece cs p, append-assoc)
 
 pub cut-reads : CutReads

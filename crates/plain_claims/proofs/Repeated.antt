@@ -42,7 +42,8 @@ module _ (w : List ℕ) where
   repeated-from (frame {at = at} {n = n} answer array e v r) = rw (step-frame at n e, v, repeated-from r)
 
   -- there is such a listing
-  module _ (answer : List ℕ → Answer) (array : List ℕ → List ℕ) (promise : (form : List ℕ) → plainVerdict (answer form) (array form) ≡ judge form) where
+  module _ (answer : List ℕ → Answer) (array : List ℕ → List ℕ)
+      (promise : (form : List ℕ) → plainVerdict (answer form) (array form) ≡ judge form) where
     ends-by : (left at : ℕ) → length w - at < left → (p : Piece) → p ≡ pieceAt w at → RepeatedFrom w at (listedFrom w at)
     ends-by zero at h p e = absurd (omega arith)
     ends-by (suc left) at h (Tail n) e = rw (at-tail w at e .step) (tail e)

@@ -12,5 +12,6 @@ use Rattle.plain_claims.specs.Samples.{plainSamples}
 use Rattle.plain_claims.specs.Item13.{PlainSamplesHold}
 
 pub samples-hold : PlainSamplesHold
-unfolding plainSamples status-request listing split listedFrames listedFrame number equal sums checksum groupBytes uncobs fields judgeForm judge
+unfolding plainSamples status-request listing split listedFrames listedFrame number equal sums checksum groupBytes uncobs fields judgeForm
+    judge
 samples-hold = refl

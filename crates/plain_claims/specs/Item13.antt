@@ -17,8 +17,8 @@ use Rattle.plain.specs.declared.Answer.{Answer}
 use Rattle.plain_claims.specs.Samples.{plainSamples, plainSampleMeant}
 use Rattle.plain_claims.specs.Agreement.{Agrees, joinedPieces, callsFor}
 
--- What is listed from an offset on: `next` is asked there; at the tail the listing ends; an empty frame is passed over; any other is handed to `judged`,
--- whose answer and array give the verdict; it goes on behind the frame's 00.
+-- What is listed from an offset on: `next` is asked there; at the tail the listing ends; an empty frame is passed over; any other is handed
+-- to `judged`, whose answer and array give the verdict; it goes on behind the frame's 00.
 pub data RepeatedFrom (w : List ℕ) : ℕ → Listing → Type 0 where
   tail : {at n : ℕ} → Tail n ≡ pieceAt w at → RepeatedFrom w at (record { entries = []; tail = n })
   empty : {at : ℕ} {l : Listing} → Frame 0 ≡ pieceAt w at → RepeatedFrom w (at + 1) l → RepeatedFrom w at l
@@ -40,13 +40,14 @@ abbrev pub Repeated : Type 0
 Repeated = (w : List ℕ) (l : Listing) → RepeatedFrom w 0 l → l ≡ listing w
 
 abbrev pub EndsReached : Type 0
-EndsReached = (w : List ℕ) (answer : List ℕ → Answer) (array : List ℕ → List ℕ) → ((form : List ℕ) → plainVerdict (answer form) (array form) ≡ judge form)
-    → RepeatedFrom w 0 (listing w)
+EndsReached = (w : List ℕ) (answer : List ℕ → Answer) (array : List ℕ → List ℕ)
+    → ((form : List ℕ) → plainVerdict (answer form) (array form) ≡ judge form) → RepeatedFrom w 0 (listing w)
 
 pub record PlainItem13 : Type 0 where
   -- L10 then L12, and the edges of a listing, as a single table, over the meaning itself
   pub samples-hold : PlainSamplesHold
-  -- for every stream: any calls of a fresh line reader that read exactly that stream since its last accepted start give what the listing has.
+  -- for every stream: any calls of a fresh line reader that read exactly that stream since its
+  -- last accepted start give what the listing has.
   -- Refused calls, empty pieces and further starts may be among them, whatever each is lent and however the stream is cut.
   pub agreement : Agreement
   -- every stream has such calls in every cut: those for any pieces, empty ones too, read the bytes of all, in order

@@ -26,9 +26,15 @@ plainSamples =
       is = record { entries = badForm 0 ∷ (record { start = 2; verdict = good status-request }) ∷ []; tail = 0 };
     })
     -- starts count terminators and empty frames; the tail counts its own bytes alone
-    ∷ (record { stream = 0x00 ∷ 0x02 ∷ 0x00 ∷ 0x00 ∷ 0x02 ∷ 0x00 ∷ 0x07 ∷ 0x07 ∷ []; is = record { entries = badForm 1 ∷ badForm 4 ∷ []; tail = 2 } })
+    ∷ (record {
+      stream = 0x00 ∷ 0x02 ∷ 0x00 ∷ 0x00 ∷ 0x02 ∷ 0x00 ∷ 0x07 ∷ 0x07 ∷ [];
+      is = record { entries = badForm 1 ∷ badForm 4 ∷ []; tail = 2 };
+    })
     -- an overlong frame is listed once; a tail keeps its length
-    ∷ (record { stream = replicate 4141 1 ++ 0x00 ∷ 0x02 ∷ 0x00 ∷ replicate 4141 1; is = record { entries = badForm 0 ∷ badForm 4142 ∷ []; tail = 4141 } })
+    ∷ (record {
+      stream = replicate 4141 1 ++ 0x00 ∷ 0x02 ∷ 0x00 ∷ replicate 4141 1;
+      is = record { entries = badForm 0 ∷ badForm 4142 ∷ []; tail = 4141 };
+    })
     ∷ []
 
 abbrev pub plainSampleMeant : PlainSample → PlainSample

@@ -12,7 +12,8 @@ use lib.Dec.{T, eqb}
 use borrow.Author.Tests.{eq-eqb, ne-eqb}
 use Rattle.probes.specs.declared.Probe.{Probe}
 use Rattle.probes.specs.declared.Updated.the-variants.{Done, Refused}
-use Rattle.probes.specs.Probes.{ProbeChange, probeChange, probeChanges, good, withResult, latest, probesFrom, updateReport, updateOutcome, updatePromise, resultSet}
+use Rattle.probes.specs.Probes.{ProbeChange, probeChange, probeChanges, good, withResult, latest, probesFrom, updateReport}
+use Rattle.probes.specs.Probes.{updateOutcome, updatePromise, resultSet}
 
 -- ---- The changes of two lists from offset i on
 
@@ -38,7 +39,8 @@ applied l [] = l
 applied l (c ∷ cs) = applied (resultSet l (c .index) (c .result)) cs
 
 pub applied-more : (l : List Probe) (is rs : List ℕ) (i : ℕ) → i < length is → i < length rs
-    → applied (resultSet l (getD is i 0) (getD rs i 0)) (probeChanges (drop (i + 1) is) (drop (i + 1) rs)) ≡ applied l (probeChanges (drop i is) (drop i rs))
+    → applied (resultSet l (getD is i 0) (getD rs i 0)) (probeChanges (drop (i + 1) is) (drop (i + 1) rs))
+    ≡ applied l (probeChanges (drop i is) (drop i rs))
 unfolding applied
 applied-more l is rs i h k = ap (applied l) (sym (changes-more is rs i h k))
 
@@ -53,18 +55,21 @@ unfolding probesFrom latest
 no-changes k [] = refl
 no-changes k (p ∷ ps) = ap (λ (us : List Probe). p ∷ us) (no-changes (suc k) ps)
 
-first-change : (k : ℕ) (l : List Probe) (c : ProbeChange) (cs : List ProbeChange) → probesFrom k (probesFrom k l (c ∷ [])) cs ≡ probesFrom k l (c ∷ cs)
+first-change : (k : ℕ) (l : List Probe) (c : ProbeChange) (cs : List ProbeChange)
+    → probesFrom k (probesFrom k l (c ∷ [])) cs ≡ probesFrom k l (c ∷ cs)
 unfolding probesFrom latest
 first-change k [] c cs = refl
 first-change k (p ∷ ps) c cs =
-    ap (λ (us : List Probe). withResult p (latest k cs (cond (eqb (c .index) k) (c .result) (p .result))) ∷ us) (first-change (suc k) ps c cs)
+    ap (λ (us : List Probe). withResult p (latest k cs (cond (eqb (c .index) k) (c .result) (p .result))) ∷ us)
+    (first-change (suc k) ps c cs)
 
 -- a change below part k changes no record from there on
 change-below : (k : ℕ) (l : List Probe) (i r : ℕ) → i < k → probesFrom k l (probeChange i r ∷ []) ≡ l
 unfolding probesFrom latest
 change-below k [] i r h = refl
 change-below k (p ∷ ps) i r h =
-    ap (λ (b : Bool). withResult p (cond b r (p .result)) ∷ probesFrom (suc k) ps (probeChange i r ∷ [])) (ne-eqb i k (λ e. lt-irrefl k (subst (λ (m : ℕ). m < k) e h)))
+    ap (λ (b : Bool). withResult p (cond b r (p .result)) ∷ probesFrom (suc k) ps (probeChange i r ∷ []))
+    (ne-eqb i k (λ e. lt-irrefl k (subst (λ (m : ℕ). m < k) e h)))
     ∙ ap (λ (us : List Probe). p ∷ us) (change-below (suc k) ps i r (lt-of-lt-of-le h (le-suc k)))
 
 -- one change is one record written
@@ -72,11 +77,15 @@ one-change : (k : ℕ) (l : List Probe) (i r : ℕ) → probesFrom k l (probeCha
 unfolding probesFrom latest
 one-change k [] i r = refl
 one-change k (p ∷ ps) zero r =
-    ap (λ (b : Bool). withResult p (cond b r (p .result)) ∷ probesFrom (suc k) ps (probeChange (zero + k) r ∷ [])) (eq-eqb (zero + k) k (zero-add k))
-    ∙ ap (λ (us : List Probe). withResult p r ∷ us) (change-below (suc k) ps (zero + k) r (subst (λ (m : ℕ). m < suc k) (sym (zero-add k)) (lt-suc-self k)))
+    ap (λ (b : Bool). withResult p (cond b r (p .result)) ∷ probesFrom (suc k) ps (probeChange (zero + k) r ∷ []))
+    (eq-eqb (zero + k) k (zero-add k))
+    ∙ ap (λ (us : List Probe). withResult p r ∷ us)
+    (change-below (suc k) ps (zero + k) r (subst (λ (m : ℕ). m < suc k) (sym (zero-add k)) (lt-suc-self k)))
 one-change k (p ∷ ps) (suc i) r =
-    ap (λ (b : Bool). withResult p (cond b r (p .result)) ∷ probesFrom (suc k) ps (probeChange (suc i + k) r ∷ [])) (ne-eqb (suc i + k) k (λ e. lt-irrefl k (above e)))
-    ∙ ap (λ (j : ℕ). p ∷ probesFrom (suc k) ps (probeChange j r ∷ [])) (suc-add i k ∙ sym (add-suc i k)) ∙ ap (λ (us : List Probe). p ∷ us) (one-change (suc k) ps i r)
+    ap (λ (b : Bool). withResult p (cond b r (p .result)) ∷ probesFrom (suc k) ps (probeChange (suc i + k) r ∷ []))
+    (ne-eqb (suc i + k) k (λ e. lt-irrefl k (above e)))
+    ∙ ap (λ (j : ℕ). p ∷ probesFrom (suc k) ps (probeChange j r ∷ [])) (suc-add i k ∙ sym (add-suc i k))
+    ∙ ap (λ (us : List Probe). p ∷ us) (one-change (suc k) ps i r)
   where
     above : suc i + k ≡ k → k < k
     above e = omega (arith, e)
@@ -86,7 +95,8 @@ unfolding applied
 applied-records l [] = sym (no-changes 0 l)
 applied-records l (c ∷ cs) =
     applied-records (resultSet l (c .index) (c .result)) cs
-    ∙ ap (λ (us : List Probe). probesFrom 0 us cs) (sym (one-change 0 l (c .index) (c .result)) ∙ ap (λ (j : ℕ). probesFrom 0 l (probeChange j (c .result) ∷ [])) (add-zero (c .index)))
+    ∙ ap (λ (us : List Probe). probesFrom 0 us cs)
+    (sym (one-change 0 l (c .index) (c .result)) ∙ ap (λ (j : ℕ). probesFrom 0 l (probeChange j (c .result) ∷ [])) (add-zero (c .index)))
     ∙ first-change 0 l c cs
 
 -- ---- The call's two ends
@@ -100,7 +110,8 @@ passed : {A : Type 0} (b : Bool) (x y : A) → T (not b) → y ≡ cond b x y
 passed true x y t = absurd t
 passed false x y t = refl
 
-pub update-done : (l : List Probe) (is rs : List ℕ) → T (good (length l) is rs) → updateOutcome Done (applied l (probeChanges is rs)) ≡ updatePromise l is rs
+pub update-done : (l : List Probe) (is rs : List ℕ) → T (good (length l) is rs)
+    → updateOutcome Done (applied l (probeChanges is rs)) ≡ updatePromise l is rs
 unfolding updateReport updatePromise
 update-done l is rs t = ap (updateOutcome Done) (applied-records l (probeChanges is rs)) ∙ chosen (good (length l) is rs) _ _ t
 

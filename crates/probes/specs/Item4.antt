@@ -8,7 +8,8 @@ use Prim.Native.Nat.{ℕ, _<_}
 use lib.ListN.{length, getD}
 use Rattle.probes.specs.declared.Probe.{Probe}
 use Rattle.probes.specs.declared.Updated.the-variants.{Done, Refused}
-use Rattle.probes.specs.Probes.{ProbeChange, probeChanges, withResult, latest, probesFrom, updateOutcome, updatePromise, no-probe, resultSet}
+use Rattle.probes.specs.Probes.{ProbeChange, probeChanges, withResult, latest, probesFrom, updateOutcome, updatePromise, no-probe}
+use Rattle.probes.specs.Probes.{resultSet}
 use Rattle.probes.specs.Samples.{three, ProbeSample, probeSamples}
 
 -- no change of a list names part k
@@ -31,13 +32,16 @@ abbrev pub AsLong : Type 0
 AsLong = (k : ℕ) (l : List Probe) (cs : List ProbeChange) → length (probesFrom k l cs) ≡ length l
 
 abbrev pub AddressesStay : Type 0
-AddressesStay = (k : ℕ) (l : List Probe) (cs : List ProbeChange) → map (λ (p : Probe). p .address) (probesFrom k l cs) ≡ map (λ (p : Probe). p .address) l
+AddressesStay = (k : ℕ) (l : List Probe) (cs : List ProbeChange)
+    → map (λ (p : Probe). p .address) (probesFrom k l cs) ≡ map (λ (p : Probe). p .address) l
 
 abbrev pub OthersStay : Type 0
 OthersStay = (l : List Probe) (i r k : ℕ) → (k ≡ i → ⊥) → getD (resultSet l i r) k no-probe ≡ getD l k no-probe
 
 abbrev pub ProbeSamplesHold : Type 0
-ProbeSamplesHold = map (λ (s : ProbeSample). updatePromise three (s .indices) (s .results)) probeSamples ≡ map (λ (s : ProbeSample). s .outcome) probeSamples
+ProbeSamplesHold =
+    map (λ (s : ProbeSample). updatePromise three (s .indices) (s .results)) probeSamples
+    ≡ map (λ (s : ProbeSample). s .outcome) probeSamples
 
 abbrev pub EmptyList : Type 0
 EmptyList = (updatePromise [] [] [] ≡ updateOutcome Done []) × (updatePromise [] (0 ∷ []) (0 ∷ []) ≡ updateOutcome Refused [])

@@ -19,7 +19,8 @@ pub enum Updated {
 // Gives each part that `indices` names the result at the same index of `results`, the later one where a part is named
 // twice. All changes are tested before the first is made.
 pub fn update(list: &mut [Probe], indices: &[usize], results: &[u8]) -> Updated
-    ensures { λ r. ⌜ updateOutcome r (now (list .exit)) ≡ updatePromise (now (list .entry)) (now (indices .entry)) (now (results .entry)) ⌝ }
+    ensures { λ r. ⌜ updateOutcome r (now (list .exit))
+        ≡ updatePromise (now (list .entry)) (now (indices .entry)) (now (results .entry)) ⌝ }
 {
     if !changes_are_good(list.len(), indices, results) {
         return Updated::Refused;

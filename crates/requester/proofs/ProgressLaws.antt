@@ -17,7 +17,8 @@ use Rattle.requester.specs.Calls.{progressed}
 module _ (r : List ℕ) (long : Layout.requester-length ≤ length r) where
   -- the four fields, one after the other
   pub progress-set : (number recovery unsent kept : ℕ) {t : List ℕ} → t ≡ put Layout.number-offset (bytes 8 number) r
-      → set (set (set t Layout.recovery-offset recovery) Layout.unsent-offset unsent) Layout.kept-offset kept ≡ progressed number recovery unsent kept r
+      → set (set (set t Layout.recovery-offset recovery) Layout.unsent-offset unsent) Layout.kept-offset kept
+      ≡ progressed number recovery unsent kept r
   unfolding progressed bytes
   progress-set number recovery unsent kept e =
       rw (
@@ -52,8 +53,8 @@ module _ (r : List ℕ) (long : Layout.requester-length ≤ length r) where
 
   -- a request behind the first fields
   pub request-kept : (command : ℕ) (d : List ℕ) {t u : List ℕ} → length d ≤ longest-data
-      → t ≡ put Layout.length-offset (bytes 2 (length d)) (set r Layout.command-offset command) → u ≡ copied d 0 (length d) t Layout.kept-data-offset
-      → u ≡ overlay Layout.command-offset (command ∷ bytes 2 (length d) ++ d) r
+      → t ≡ put Layout.length-offset (bytes 2 (length d)) (set r Layout.command-offset command)
+      → u ≡ copied d 0 (length d) t Layout.kept-data-offset → u ≡ overlay Layout.command-offset (command ∷ bytes 2 (length d) ++ d) r
   unfolding bytes
   request-kept command d h a b =
       let head = command ∷ bytes 2 (length d) in

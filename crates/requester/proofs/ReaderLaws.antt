@@ -103,7 +103,8 @@ data-length s n v h =
 -- what holds of a state by an answer of `tail`
 abbrev pub TailHolds : List ℕ → LineReader.TailReport → Type 0
 TailHolds s (LineReader.TailReport.refused n) = LineReader.validReader s ≡ false
-TailHolds s (LineReader.unfinished n) = (LineReader.validReader s ≡ true) × (n ≡ LineReader.receivedCount s) × (LineReader.receivedCount s ≤ longest-form)
+TailHolds s (LineReader.unfinished n) =
+    (LineReader.validReader s ≡ true) × (n ≡ LineReader.receivedCount s) × (LineReader.receivedCount s ≤ longest-form)
 TailHolds s LineReader.longer = (LineReader.validReader s ≡ true) × (longest-form < LineReader.receivedCount s)
 
 pub tail-holds : (s : List ℕ) {x : LineReader.TailReport} → x ≡ LineReader.tailPromise s → TailHolds s x
@@ -111,5 +112,6 @@ unfolding LineReader.tailPromise
 tail-holds s e =
     rw e
     (cond-by (TailHolds s) (LineReader.validReader s) _ _
-    (λ v. cond-by (TailHolds s) (ltb longest-form (LineReader.receivedCount s)) _ _ (λ f. (v, ltb-true _ _ f)) (λ f. (v, refl, ltb-false _ _ f)))
+    (λ v.
+    cond-by (TailHolds s) (ltb longest-form (LineReader.receivedCount s)) _ _ (λ f. (v, ltb-true _ _ f)) (λ f. (v, refl, ltb-false _ _ f)))
     (λ v. v))

@@ -12,7 +12,8 @@ use Rattle.requester.specs.Requester
 use Rattle.requester.specs.Layout
 use Rattle.requester.specs.Valid.{validRequester}
 use Rattle.requester.specs.Calls
-use Rattle.requester.specs.Calls.{MainParts, mainParts, HandedReport, MainReceiveOutcome, heardOf, heardOutcomeOf, partMoved, partMovedTo, mainReceiveValid, mainReceivePromise, mainValidParts, readable}
+use Rattle.requester.specs.Calls.{MainParts, mainParts, HandedReport, MainReceiveOutcome, heardOf, heardOutcomeOf, partMoved}
+use Rattle.requester.specs.Calls.{partMovedTo, mainReceiveValid, mainReceivePromise, mainValidParts, readable}
 use Rattle.requester.specs.Hearing.{OutcomeReport, outcomeReportOf}
 use Rattle.requester.proofs.ValidLaws.{parts-valid}
 use Rattle.requester.proofs.ReaderLaws.{read-by, take-min}
@@ -28,11 +29,13 @@ invalid-requester p e = rw (e, and-false)
 abbrev pub receipt : ℕ → HandedReport → Bool → Bool → MainParts → MainReceiveOutcome
 receipt used t ended unsent p = record { used = used; report = t; ended = ended; unsent = unsent; parts = p }
 
-pub receive-refused : (p : MainParts) (piece : List ℕ) → mainValidParts p ≡ false → receipt 0 (HandedReport.refused 12) false false p ≡ mainReceivePromise p piece
+pub receive-refused : (p : MainParts) (piece : List ℕ) → mainValidParts p ≡ false
+    → receipt 0 (HandedReport.refused 12) false false p ≡ mainReceivePromise p piece
 unfolding mainReceivePromise
 receive-refused p piece e = rw e
 
-pub receive-received : (p : MainParts) (piece : List ℕ) {x : MainReceiveOutcome} → mainValidParts p ≡ true → x ≡ mainReceiveValid p piece → x ≡ mainReceivePromise p piece
+pub receive-received : (p : MainParts) (piece : List ℕ) {x : MainReceiveOutcome} → mainValidParts p ≡ true → x ≡ mainReceiveValid p piece
+    → x ≡ mainReceivePromise p piece
 unfolding mainReceivePromise
 receive-received p piece v e = rw v e
 
@@ -41,7 +44,8 @@ outcomeBy used a reader = record { used = used; answer = a; state = reader }
 
 -- by the reader's answer and the state that it left
 module _ (p : MainParts) (piece : List ℕ) (v : mainValidParts p ≡ true) {used : ℕ} {a : LineReader.ReadReport} {reader : List ℕ} where
-  module _ {n end : ℕ} (e : n ≡ LineReader.receivedCount (p .reader)) (l : n ≤ longest-form) (f : end ≡ min (LineReader.overlong - n) (length piece))
+  module _ {n end : ℕ} (e : n ≡ LineReader.receivedCount (p .reader)) (l : n ≤ longest-form)
+      (f : end ≡ min (LineReader.overlong - n) (length piece))
       (w : outcomeBy used a reader ≡ LineReader.readPromise (p .reader) (take end piece)) where
     short : LineReader.receivedCount (p .reader) ≤ longest-form
     short = rw e at l
@@ -52,7 +56,8 @@ module _ (p : MainParts) (piece : List ℕ) (v : mainValidParts p ≡ true) {use
         (read-by (p .reader) (take end piece) (parts-valid p v .reader) w)
 
     pub heard-received : {t : HandedReport} {x : Requester.Next} {ended unsent : Bool} {r : List ℕ}
-        → record { report = t; next = x } ≡ outcomeReportOf (heardOutcomeOf (p .requester) (heardOf (Layout.newestNumber (p .requester)) reader a))
+        → record { report = t; next = x }
+        ≡ outcomeReportOf (heardOutcomeOf (p .requester) (heardOf (Layout.newestNumber (p .requester)) reader a))
         → partMoved ended r ≡ partMovedTo x (p .requester) → unsent ≡ Layout.isUnsent r
         → receipt used t ended unsent (mainParts reader r) ≡ mainReceiveValid p piece
     unfolding mainReceiveValid
@@ -66,8 +71,10 @@ module _ (p : MainParts) (piece : List ℕ) (v : mainValidParts p ≡ true) {use
           u,
         )
 
-  pub rest-received : {unsent : Bool} → longest-form < LineReader.receivedCount (p .reader) → outcomeBy used a reader ≡ LineReader.readPromise (p .reader) piece
-      → unsent ≡ Layout.isUnsent (p .requester) → receipt used Calls.nothing false unsent (mainParts reader (p .requester)) ≡ mainReceiveValid p piece
+  pub rest-received : {unsent : Bool} → longest-form < LineReader.receivedCount (p .reader)
+      → outcomeBy used a reader ≡ LineReader.readPromise (p .reader) piece
+      → unsent ≡ Layout.isUnsent (p .requester)
+      → receipt used Calls.nothing false unsent (mainParts reader (p .requester)) ≡ mainReceiveValid p piece
   unfolding mainReceiveValid heardOutcomeOf partMovedTo Calls.handedReportOf
   rest-received l w u =
       let q = read-by (p .reader) piece (parts-valid p v .reader) w in

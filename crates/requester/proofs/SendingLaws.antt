@@ -36,13 +36,15 @@ abbrev putIf : Bool → List ℕ → List ℕ → List ℕ → List ℕ → PutO
 putIf b bs out before after = cond b (putOutcome (refused 8) out before) (putOutcome (wrote (length bs)) (overlay 0 bs out) after)
 
 module _ (bs out before after : List ℕ) {a : Writer.WriteReport} {room : List ℕ} where
-  wrote-by : (b : Bool) (n : ℕ) → a ≡ Writer.wrote n → answering a room ≡ sentIf b bs out → putOutcome (wrote n) room after ≡ putIf b bs out before after
+  wrote-by : (b : Bool) (n : ℕ) → a ≡ Writer.wrote n → answering a room ≡ sentIf b bs out
+      → putOutcome (wrote n) room after ≡ putIf b bs out before after
   wrote-by true n f e = let z : _≡_ {A = ℕ} 0 1 = cc (ap (λ (o : Writer.WriteOutcome). o .answer) e) in absurd (omega arith)
   wrote-by false n f e =
       let k : n ≡ length bs = cc (ap (λ (o : Writer.WriteOutcome). o .answer) e) in
       rw (k, ap (λ (o : Writer.WriteOutcome). o .out) e)
 
-  short-by : (b : Bool) → a ≡ Writer.refused 8 → answering a room ≡ sentIf b bs out → putOutcome (refused 8) room before ≡ putIf b bs out before after
+  short-by : (b : Bool) → a ≡ Writer.refused 8 → answering a room ≡ sentIf b bs out
+      → putOutcome (refused 8) room before ≡ putIf b bs out before after
   short-by true f e = rw (ap (λ (o : Writer.WriteOutcome). o .out) e)
   short-by false f e = let z : _≡_ {A = ℕ} 0 1 = cc (ap (λ (o : Writer.WriteOutcome). o .answer) e) in absurd (omega arith)
 
@@ -64,7 +66,8 @@ module _ (bs out before after : List ℕ) {a : Writer.WriteReport} {room : List 
     put-never f = never-by (ltb (length out) (length bs)) f e
 
 -- the frame of a message whose data fit
-pub written : (n : ℕ) (q : Request) (out head rest : List ℕ) {o : Writer.WriteOutcome} → length (q .payload) ≤ longest-data → head ++ rest ≡ q .payload
+pub written : (n : ℕ) (q : Request) (out head rest : List ℕ) {o : Writer.WriteOutcome} → length (q .payload) ≤ longest-data
+    → head ++ rest ≡ q .payload
     → o ≡ Writer.writePromise (Writer.messageOfParts 1 n (q .command) head rest) out → o ≡ Writer.writeInto (requestFrame n q) out
 unfolding Writer.writePromise requestFrame
 written n q out head rest l e w =
@@ -117,7 +120,8 @@ module _ (r : List ℕ) (command : ℕ) (d out : List ℕ) where
 
 -- ---- the one outstanding
 
-pub step-request : (n : ℕ) (q : Request) → (n ≡ 0 → ⊥) → n ≤ 3 → Layout.requestIn (Layout.stepAt n) q ≡ record { command = stepCommand n; payload = [] }
+pub step-request : (n : ℕ) (q : Request) → (n ≡ 0 → ⊥) → n ≤ 3
+    → Layout.requestIn (Layout.stepAt n) q ≡ record { command = stepCommand n; payload = [] }
 unfolding Layout.stepAt stepCommand stepRequest
 step-request zero q h l = absurd (h refl)
 step-request (suc zero) q h l = refl
@@ -125,9 +129,12 @@ step-request (suc (suc zero)) q h l = refl
 step-request (suc (suc (suc zero))) q h l = refl
 step-request (suc (suc (suc (suc n)))) q h l = absurd (omega arith)
 
-module _ (r out : List ℕ) (v : RequesterValid r) {n t : ℕ} (e : n ≡ Layout.newestNumber r) (f : t ≡ Layout.recoveryOf r) {o : Writer.WriteOutcome} where
+module _ (r out : List ℕ) (v : RequesterValid r) {n t : ℕ} (e : n ≡ Layout.newestNumber r) (f : t ≡ Layout.recoveryOf r)
+    {o : Writer.WriteOutcome} where
   pub kept-written : {command k : ℕ} → t ≡ 0 → k ≡ Layout.keptLength r → command ≡ Layout.keptCommand r
-      → o ≡ Writer.writePromise (Writer.messageOfParts 1 n command (take (Layout.kept-data-offset + k - Layout.kept-data-offset) (drop Layout.kept-data-offset r)) []) out
+      → o ≡ Writer.writePromise
+      (Writer.messageOfParts 1 n command (take (Layout.kept-data-offset + k - Layout.kept-data-offset) (drop Layout.kept-data-offset r)) [])
+      out
       → o ≡ Writer.writeInto (requestFrame (Layout.newestNumber r) (Layout.outRequest r)) out
   unfolding Layout.outRequest Layout.keptRequest Layout.stepAt
   kept-written {command} {k} z p q w =
@@ -136,7 +143,8 @@ module _ (r out : List ℕ) (v : RequesterValid r) {n t : ℕ} (e : n ≡ Layout
       rw (← e, ← f, z, ← p, ← q)
       (written n (record { command = command; payload = d }) out d [] (omega (arith, v)) (append-nil d) (rw add-sub-cancel-left at w))
 
-  pub step-written : {command : ℕ} → (t ≡ 0 → ⊥) → command ≡ stepCommand t → o ≡ Writer.writePromise (Writer.messageOfParts 1 n command [] []) out
+  pub step-written : {command : ℕ} → (t ≡ 0 → ⊥) → command ≡ stepCommand t
+      → o ≡ Writer.writePromise (Writer.messageOfParts 1 n command [] []) out
       → o ≡ Writer.writeInto (requestFrame (Layout.newestNumber r) (Layout.outRequest r)) out
   unfolding Layout.outRequest
   step-written {command} z p w =

@@ -20,7 +20,8 @@ use Rattle.line.specs.declared.reader.Head.{Head}
 use Rattle.requester.specs.Limits.{last-number}
 use Rattle.requester.specs.State.{RecoveryStep, fetch, acknowledge, alert, isSome}
 use Rattle.requester.specs.Requester
-use Rattle.requester.specs.Requester.{Heard, ground, other, answer, hear, failsDecode, replySequence, serve, fetched, answeredIn, hearIn, settle, anew, idle}
+use Rattle.requester.specs.Requester.{Heard, ground, other, answer, hear, failsDecode, replySequence, serve, fetched, answeredIn}
+use Rattle.requester.specs.Requester.{hearIn, settle, anew, idle}
 use Rattle.requester.specs.Layout
 use Rattle.requester.specs.Calls
 use Rattle.requester.specs.Calls.{handedReport, handedReportOf, progressed, partMoved, partMovedTo}
@@ -82,18 +83,21 @@ module _ (s : List ℕ) (h : Head) (v : LineReader.validReader s ≡ true) (l : 
   held = headMessage h (LineReader.dataPromise s (h .length))
 
   module _ (original : Bool) where
-    pub fetch-other : (h .command ≡ 0x06 → ⊥) → outcomeReport (record { handed = handed.Nothing; next = next.Again }) ≡ outcomeReportOf (fetched original held)
+    pub fetch-other : (h .command ≡ 0x06 → ⊥)
+        → outcomeReport (record { handed = handed.Nothing; next = next.Again }) ≡ outcomeReportOf (fetched original held)
     unfolding fetched handedReport handedReportOf nextOf
     fetch-other e = rw (ne-eqb (h .command) 0x06 e)
 
     module _ (a : h .command ≡ 0x06) where
-      pub fetch-length : (h .length ≡ 16 → ⊥) → outcomeReport (record { handed = handed.Nothing; next = next.Again }) ≡ outcomeReportOf (fetched original held)
+      pub fetch-length : (h .length ≡ 16 → ⊥)
+          → outcomeReport (record { handed = handed.Nothing; next = next.Again }) ≡ outcomeReportOf (fetched original held)
       unfolding fetched handedReport handedReportOf nextOf
       fetch-length e = rw (eq-eqb (h .command) 0x06 a, data-length s (h .length) v l, ne-eqb (h .length) 16 e)
 
-      pub fetch-status : {d : List ℕ} {n o : ℕ} {x : Requester.Next} → h .length ≡ 16 → d ≡ LineReader.dataPromise s (h .length) → n ≡ numberAt 8 d 0 → o ≡ numberAt 8 d 8
-          → x ≡ serve original n
-          → record { report = handedReport (handed.Status (record { status = n; options = o; «set_bits» = ones n })); next = x } ≡ outcomeReportOf (fetched original held)
+      pub fetch-status : {d : List ℕ} {n o : ℕ} {x : Requester.Next} → h .length ≡ 16 → d ≡ LineReader.dataPromise s (h .length)
+          → n ≡ numberAt 8 d 0 → o ≡ numberAt 8 d 8 → x ≡ serve original n
+          → record { report = handedReport (handed.Status (record { status = n; options = o; «set_bits» = ones n })); next = x }
+          ≡ outcomeReportOf (fetched original held)
       unfolding fetched handedReport handedReportOf
       fetch-status e f p q w =
           rw (eq-eqb (h .command) 0x06 a, data-length s (h .length) v l, eq-eqb (h .length) 16 e, ← f, ← p, ← q, w)
@@ -121,7 +125,8 @@ module _ (s : List ℕ) (h : Head) (v : LineReader.validReader s ≡ true) (l : 
 
 -- ---- whether one is outstanding
 
-settled-none : (a k : Bool) (t : Option RecoveryStep) (h : Heard) → (not a || k) ≡ false → settle (cond a none t) k h ≡ Requester.heardOutcome Requester.nothing Requester.same
+settled-none : (a k : Bool) (t : Option RecoveryStep) (h : Heard) → (not a || k) ≡ false
+    → settle (cond a none t) k h ≡ Requester.heardOutcome Requester.nothing Requester.same
 unfolding settle
 settled-none true true t h e = absurd (false≢true (sym e))
 settled-none true false t h e = refl
@@ -132,7 +137,8 @@ unfolding settle
 settled-some none k h e = absurd (false≢true e)
 settled-some (some t) k h e = refl
 
-settled-out : (a k : Bool) (t : Option RecoveryStep) (h : Heard) → isSome t ≡ true → (not a || k) ≡ true → settle (cond a none t) k h ≡ hearIn (cond a none t) k h
+settled-out : (a k : Bool) (t : Option RecoveryStep) (h : Heard) → isSome t ≡ true → (not a || k) ≡ true
+    → settle (cond a none t) k h ≡ hearIn (cond a none t) k h
 unfolding settle
 settled-out true true t h s e = refl
 settled-out true false t h s e = absurd (false≢true e)
@@ -140,11 +146,13 @@ settled-out false k t h s e = settled-some t k h s
 
 module _ (r : List ℕ) (h : Heard) where
   -- with none outstanding, all is dropped
-  pub settles-none : Layout.isOutstanding r ≡ false → settle (Layout.recoveryStep r) (Layout.isKept r) h ≡ Requester.heardOutcome Requester.nothing Requester.same
+  pub settles-none : Layout.isOutstanding r ≡ false
+      → settle (Layout.recoveryStep r) (Layout.isKept r) h ≡ Requester.heardOutcome Requester.nothing Requester.same
   unfolding Layout.isOutstanding Layout.stepAt
   settles-none e = settled-none (eqb (Layout.recoveryOf r) 0) (Layout.isKept r) _ h e
 
-  pub settles-out : Layout.isOutstanding r ≡ true → settle (Layout.recoveryStep r) (Layout.isKept r) h ≡ hearIn (Layout.recoveryStep r) (Layout.isKept r) h
+  pub settles-out : Layout.isOutstanding r ≡ true
+      → settle (Layout.recoveryStep r) (Layout.isKept r) h ≡ hearIn (Layout.recoveryStep r) (Layout.isKept r) h
   unfolding Layout.isOutstanding Layout.stepAt
   settles-out e =
       settled-out (eqb (Layout.recoveryOf r) 0) (Layout.isKept r) _ h
@@ -158,12 +166,13 @@ module _ (r : List ℕ) (h : Heard) where
 -- ---- what comes next
 
 module _ (r : List ℕ) {n : ℕ} (e : n ≡ Layout.newestNumber r) where
-  pub number-spent : (t : Option RecoveryStep) {r' : List ℕ} → last-number ≤ n → r' ≡ progressed n 0 0 0 r → partMoved true r' ≡ partMovedTo (anew t) r
+  pub number-spent : (t : Option RecoveryStep) {r' : List ℕ} → last-number ≤ n → r' ≡ progressed n 0 0 0 r
+      → partMoved true r' ≡ partMovedTo (anew t) r
   unfolding partMovedTo
   number-spent t l w = rw (w, ← e, le-leb last-number n l)
 
-  pub number-taken : (step : ℕ) {k : ℕ} {r' : List ℕ} → step ≤ 3 → n < last-number → k ≡ Layout.keptFlag r → r' ≡ progressed (n + 1) step 1 k r
-      → partMoved false r' ≡ partMovedTo (anew (Layout.stepAt step)) r
+  pub number-taken : (step : ℕ) {k : ℕ} {r' : List ℕ} → step ≤ 3 → n < last-number → k ≡ Layout.keptFlag r
+      → r' ≡ progressed (n + 1) step 1 k r → partMoved false r' ≡ partMovedTo (anew (Layout.stepAt step)) r
   unfolding partMovedTo
   number-taken step s l f w = rw (w, ← e, lt-leb last-number n l, ← f, step-number step s, add-one)
 

@@ -73,7 +73,9 @@ pub cramped : (p : MainParts) → (MainLongEnough p → ⊥) → mainStartOutcom
 unfolding mainStartPromise Calls.mainStartReport
 cramped p f = rw (sym (untrue (mainLongEnough p) (λ e. f (is-long-enough p e))))
 
-pub begun : (p : MainParts) → MainLongEnough p → {a : Option ℕ} {reader requester : List ℕ} → record { refusal = a; state = reader } ≡ LineReader.readerStartPromise (p .reader)
-    → requester ≡ overlay 0 (replicate Layout.kept-data-offset 0) (p .requester) → mainStartOutcome started.Done (Calls.mainParts reader requester) ≡ mainStartPromise p
+pub begun : (p : MainParts) → MainLongEnough p → {a : Option ℕ} {reader requester : List ℕ}
+    → record { refusal = a; state = reader } ≡ LineReader.readerStartPromise (p .reader)
+    → requester ≡ overlay 0 (replicate Layout.kept-data-offset 0) (p .requester)
+    → mainStartOutcome started.Done (Calls.mainParts reader requester) ≡ mainStartPromise p
 unfolding mainStartPromise Calls.mainStartReport Calls.mainFreshParts
 begun p r e f = rw (long-enough-is p r, f, ap (λ (x : LineReader.ReaderStartOutcome). x .state) e)

@@ -45,7 +45,8 @@ mainLongEnough p = leb LineReader.reader-length (length (p .reader)) && leb Layo
 
 -- no number used, nothing kept, no recovery, nothing to go out
 unfoldable pub mainFreshParts : MainParts → MainParts
-mainFreshParts p = mainParts (LineReader.readerStartPromise (p .reader) .state) (overlay 0 (replicate Layout.kept-data-offset 0) (p .requester))
+mainFreshParts p =
+    mainParts (LineReader.readerStartPromise (p .reader) .state) (overlay 0 (replicate Layout.kept-data-offset 0) (p .requester))
 
 -- the table's number of a refusal; none where the call is carried out
 unfoldable pub mainStartReport : Started → Option ℕ
@@ -99,7 +100,8 @@ putOutcome a out r = record { report = a; out = out; requester = r }
 
 -- bytes at the start of the room, where they fit
 unfoldable pub putInto : List ℕ → List ℕ → List ℕ → List ℕ → PutOutcome
-putInto bs out before after = cond (ltb (length out) (length bs)) (putOutcome (refused 8) out before) (putOutcome (wrote (length bs)) (overlay 0 bs out) after)
+putInto bs out before after =
+    cond (ltb (length out) (length bs)) (putOutcome (refused 8) out before) (putOutcome (wrote (length bs)) (overlay 0 bs out) after)
 
 -- a request under the newest number, kept unless it never stays outstanding
 unfoldable pub withRequest : ℕ → ℕ → List ℕ → List ℕ → List ℕ

@@ -9,11 +9,13 @@ use lib.Count.{ones}
 use lib.ListN.{length}
 use Rattle.octets.specs.Bytes.{numberAt, bit}
 use Rattle.line.specs.Limits.{longest-data, longest-form}
-use Rattle.line.specs.Numbers.{first-version, top-bit, all-ones, status-length, command-reboot, command-power-off, command-boot-failure, reply-decode-failure, reply-status}
+use Rattle.line.specs.Numbers.{first-version, top-bit, all-ones, status-length, command-reboot, command-power-off, command-boot-failure}
+use Rattle.line.specs.Numbers.{reply-decode-failure, reply-status}
 use Rattle.line.specs.Message.{Message}
 use Rattle.line.specs.Judge.{LineVerdict, failure, good, judge}
 use Rattle.requester.specs.Limits.{last-number}
-use Rattle.requester.specs.State.{Request, RecoveryStep, fetch, acknowledge, alert, MainState, mainState, isSome, outstanding, requestFrame}
+use Rattle.requester.specs.State.{Request, RecoveryStep, fetch, acknowledge, alert, MainState, mainState, isSome, outstanding}
+use Rattle.requester.specs.State.{requestFrame}
 
 -- ---- The caller's calls
 
@@ -209,7 +211,8 @@ mainClosed (some (b ∷ bs)) s = afterHeard (hear (s .newest) (judge (b ∷ bs))
 -- one byte more; the 4,141st without a 00 is a ground
 abbrev pub mainMore : Option (List ℕ) → ℕ → MainState → Result
 mainMore none b s = dropped s
-mainMore (some bs) b s = cond (ltb (length bs) longest-form) (dropped (mainWithReceived s (some (bs ++ b ∷ [])))) (afterHeard ground (mainWithReceived s none))
+mainMore (some bs) b s =
+    cond (ltb (length bs) longest-form) (dropped (mainWithReceived s (some (bs ++ b ∷ [])))) (afterHeard ground (mainWithReceived s none))
 
 unfoldable pub mainByte : MainState → ℕ → Result
 mainByte s b = cond (eqb b 0) (mainClosed (s .received) (mainWithReceived s (some []))) (mainMore (s .received) b s)

@@ -90,7 +90,8 @@ fn serve(original: bool, status: u64) -> Next
 fn settle_fetch(reader: &[u8], original: bool, head: Head) -> Outcome
     requires { ⌜ readerValid (now reader) ≡ true ⌝ }
     requires { ⌜ head .length ≤ longest-data ⌝ }
-    ensures { λ r. ⌜ outcomeReport r ≡ outcomeReportOf (fetched original (headMessage head (dataPromise (now (reader .entry)) (head .length)))) ⌝ }
+    ensures { λ r. ⌜ outcomeReport r
+        ≡ outcomeReportOf (fetched original (headMessage head (dataPromise (now (reader .entry)) (head .length)))) ⌝ }
 {
     if head.command != numbers::REPLY_STATUS {
         return Outcome {
@@ -123,7 +124,10 @@ fn settle_fetch(reader: &[u8], original: bool, head: Head) -> Outcome
 fn settle_answer(reader: &[u8], requester: &[u8], head: Head) -> Outcome
     requires { ⌜ readerValid (now reader) ≡ true ⌝ }
     requires { ⌜ head .length ≤ longest-data ⌝ }
-    ensures { λ r. ⌜ outcomeReport r ≡ outcomeReportOf (answeredIn (recoveryStep (now (requester .entry))) (isKept (now (requester .entry))) (headMessage head (dataPromise (now (reader .entry)) (head .length)))) ⌝ }
+    ensures { λ r. ⌜ outcomeReport r
+        ≡ outcomeReportOf
+        (answeredIn (recoveryStep (now (requester .entry))) (isKept (now (requester .entry)))
+        (headMessage head (dataPromise (now (reader .entry)) (head .length)))) ⌝ }
 {
     let step = octets::read_u8(requester, layout::RECOVERY_OFFSET);
     if step == layout::NO_STEP {
@@ -152,7 +156,11 @@ fn settle_message(reader: &[u8], requester: &[u8], head: Head) -> Outcome
     requires { ⌜ readerValid (now reader) ≡ true ⌝ }
     requires { ⌜ validRequester (now requester) ≡ true ⌝ }
     requires { ⌜ head .length ≤ longest-data ⌝ }
-    ensures { λ r. ⌜ outcomeReport r ≡ outcomeReportOf (heardOutcomeOf (now (requester .entry)) (some (hear (newestNumber (now (requester .entry))) (good (headMessage head (dataPromise (now (reader .entry)) (head .length))))))) ⌝ }
+    ensures { λ r. ⌜ outcomeReport r
+        ≡ outcomeReportOf
+        (heardOutcomeOf (now (requester .entry))
+        (some
+        (hear (newestNumber (now (requester .entry))) (good (headMessage head (dataPromise (now (reader .entry)) (head .length))))))) ⌝ }
 {
     if !progress::is_outstanding(requester) {
         return Outcome {
@@ -194,7 +202,8 @@ fn settle_ground(requester: &[u8]) -> Outcome
 // No 00 has come: a ground where the frame has passed 4,140 bytes.
 fn settle_more(reader: &[u8], requester: &[u8]) -> Outcome
     requires { ⌜ readerValid (now reader) ≡ true ⌝ }
-    ensures { λ r. ⌜ outcomeReport r ≡ outcomeReportOf (heardOutcomeOf (now (requester .entry)) (cond (isOverlong (now (reader .entry))) (some ground) none)) ⌝ }
+    ensures { λ r. ⌜ outcomeReport r
+        ≡ outcomeReportOf (heardOutcomeOf (now (requester .entry)) (cond (isOverlong (now (reader .entry))) (some ground) none)) ⌝ }
 {
     let tail = line::reader::tail(reader);
     match tail {
@@ -219,7 +228,10 @@ pub(crate) fn settle(reader: &[u8], requester: &[u8], answer: Answer) -> Outcome
     requires { ⌜ readerValid (now reader) ≡ true ⌝ }
     requires { ⌜ validRequester (now requester) ≡ true ⌝ }
     requires { ⌜ dataFit (readReport answer) ≡ true ⌝ }
-    ensures { λ r. ⌜ outcomeReport r ≡ outcomeReportOf (heardOutcomeOf (now (requester .entry)) (heardOf (newestNumber (now (requester .entry))) (now (reader .entry)) (readReport answer))) ⌝ }
+    ensures { λ r. ⌜ outcomeReport r
+        ≡ outcomeReportOf
+        (heardOutcomeOf (now (requester .entry))
+        (heardOf (newestNumber (now (requester .entry))) (now (reader .entry)) (readReport answer))) ⌝ }
 {
     match answer {
         Answer::Refused => settle_none(),

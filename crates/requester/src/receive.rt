@@ -23,7 +23,8 @@ pub struct Received {
 
 // Reads a piece up to and with its first 00 or a frame's 4,141st byte, or to its end, and goes by what was heard.
 pub fn receive(piece: &[u8], reader: &mut [u8], requester: &mut [u8]) -> Received
-    ensures { λ r. ⌜ mainReceiveOutcome r (mainParts (now (reader .exit)) (now (requester .exit))) ≡ mainReceivePromise (mainParts (now (reader .entry)) (now (requester .entry))) (now (piece .entry)) ⌝ }
+    ensures { λ r. ⌜ mainReceiveOutcome r (mainParts (now (reader .exit)) (now (requester .exit)))
+        ≡ mainReceivePromise (mainParts (now (reader .entry)) (now (requester .entry))) (now (piece .entry)) ⌝ }
 {
     if !valid::requester_is_valid(requester) {
         return Received {
@@ -51,7 +52,8 @@ fn listen(piece: &[u8], reader: &mut [u8], requester: &mut [u8], n: usize) -> Re
     requires { ⌜ mainValidParts (mainParts (now reader) (now requester)) ≡ true ⌝ }
     requires { ⌜ n ≡ receivedCount (now reader) ⌝ }
     requires { ⌜ n ≤ longest-form ⌝ }
-    ensures { λ r. ⌜ mainReceiveOutcome r (mainParts (now (reader .exit)) (now (requester .exit))) ≡ mainReceiveValid (mainParts (now (reader .entry)) (now (requester .entry))) (now (piece .entry)) ⌝ }
+    ensures { λ r. ⌜ mainReceiveOutcome r (mainParts (now (reader .exit)) (now (requester .exit)))
+        ≡ mainReceiveValid (mainParts (now (reader .entry)) (now (requester .entry))) (now (piece .entry)) ⌝ }
 {
     let end = octets::min(layout::OVERLONG - n, piece.len());
     let read = line::reader::read(reader, &piece[..end]);
@@ -74,7 +76,8 @@ fn listen(piece: &[u8], reader: &mut [u8], requester: &mut [u8], n: usize) -> Re
 fn skip(piece: &[u8], reader: &mut [u8], requester: &[u8]) -> Received
     requires { ⌜ mainValidParts (mainParts (now reader) (now requester)) ≡ true ⌝ }
     requires { ⌜ longest-form < receivedCount (now reader) ⌝ }
-    ensures { λ r. ⌜ mainReceiveOutcome r (mainParts (now (reader .exit)) (now (requester .entry))) ≡ mainReceiveValid (mainParts (now (reader .entry)) (now (requester .entry))) (now (piece .entry)) ⌝ }
+    ensures { λ r. ⌜ mainReceiveOutcome r (mainParts (now (reader .exit)) (now (requester .entry)))
+        ≡ mainReceiveValid (mainParts (now (reader .entry)) (now (requester .entry))) (now (piece .entry)) ⌝ }
 {
     let read = line::reader::read(reader, piece);
     let used = read.used;

@@ -37,7 +37,8 @@ pub enum Sent {
 
 // Puts out a request's frame under the next number and keeps the request, unless it never stays outstanding.
 pub fn request(requester: &mut [u8], command: u8, data: &[u8], out: &mut [u8]) -> Requested
-    ensures { λ r. ⌜ putOutcome (requestReport r) (now (out .exit)) (now (requester .exit)) ≡ requestPromise (now (requester .entry)) command (now («data» .entry)) (now (out .entry)) ⌝ }
+    ensures { λ r. ⌜ putOutcome (requestReport r) (now (out .exit)) (now (requester .exit))
+        ≡ requestPromise (now (requester .entry)) command (now («data» .entry)) (now (out .entry)) ⌝ }
 {
     if !valid::requester_is_valid(requester) {
         return Requested::Refused;
@@ -88,7 +89,8 @@ fn keep(requester: &mut [u8], number: u64, command: u8, data: &[u8])
 
 // Puts out the frame of the one outstanding, where it is to go out.
 pub fn send(requester: &mut [u8], out: &mut [u8]) -> Sent
-    ensures { λ r. ⌜ putOutcome (sendReport r) (now (out .exit)) (now (requester .exit)) ≡ sendPromise (now (requester .entry)) (now (out .entry)) ⌝ }
+    ensures { λ r. ⌜ putOutcome (sendReport r) (now (out .exit)) (now (requester .exit))
+        ≡ sendPromise (now (requester .entry)) (now (out .entry)) ⌝ }
 {
     if !valid::requester_is_valid(requester) {
         return Sent::Refused;
@@ -110,7 +112,8 @@ pub fn send(requester: &mut [u8], out: &mut [u8]) -> Sent
 // The frame of the one outstanding: a step of a recovery, or the request kept.
 fn write_outstanding(requester: &[u8], out: &mut [u8]) -> Written
     requires { ⌜ validRequester (now requester) ≡ true ⌝ }
-    ensures { λ r. ⌜ writeOutcome r (now (out .exit)) ≡ lineSending (requestFrame (newestNumber (now (requester .entry))) (outRequest (now (requester .entry)))) (now (out .entry)) ⌝ }
+    ensures { λ r. ⌜ writeOutcome r (now (out .exit))
+        ≡ lineSending (requestFrame (newestNumber (now (requester .entry))) (outRequest (now (requester .entry)))) (now (out .entry)) ⌝ }
 {
     let number = octets::read_u64(requester, layout::NUMBER_OFFSET);
     let step = octets::read_u8(requester, layout::RECOVERY_OFFSET);

@@ -15,7 +15,8 @@ pub enum Started {
 
 // Begins the main processor's end: no number used, nothing outstanding.
 pub fn start(reader: &mut [u8], requester: &mut [u8]) -> Started
-    ensures { λ r. ⌜ mainStartOutcome r (mainParts (now (reader .exit)) (now (requester .exit))) ≡ mainStartPromise (mainParts (now (reader .entry)) (now (requester .entry))) ⌝ }
+    ensures { λ r. ⌜ mainStartOutcome r (mainParts (now (reader .exit)) (now (requester .exit)))
+        ≡ mainStartPromise (mainParts (now (reader .entry)) (now (requester .entry))) ⌝ }
 {
     if reader.len() < line::reader::STATE_LENGTH {
         return Started::Refused;

@@ -69,7 +69,8 @@ module _ (P : Message → Type 0) where
   settled-hands (some t) k ground w = tt
   settled-hands (some t) k other w = tt
   settled-hands (some fetch) k (answer m) w =
-      cond-by (λ (o : Requester.HeardOutcome). Hands P (o .handed)) (eqb (m .command) 0x06 && eqb (length (m .payload)) status-length) _ _ (λ _. tt) (λ _. tt)
+      cond-by (λ (o : Requester.HeardOutcome). Hands P (o .handed)) (eqb (m .command) 0x06 && eqb (length (m .payload)) status-length) _ _
+      (λ _. tt) (λ _. tt)
   settled-hands (some acknowledge) k (answer m) w = tt
   settled-hands (some alert) k (answer m) w = w
 
@@ -80,11 +81,13 @@ abbrev Closes : Option (List ℕ) → ℕ → Message → Type 0
 Closes bs b m = (b ≡ 0) × (xs : List ℕ) × (bs ≡ some xs) × (judge xs ≡ good m)
 
 module _ (s : MainState) where
-  closes-hands : (b : ℕ) → b ≡ 0 → (bs : Option (List ℕ)) → Hands (Closes bs b) (Requester.mainClosed bs (Requester.mainWithReceived s (some [])) .handed)
+  closes-hands : (b : ℕ) → b ≡ 0 → (bs : Option (List ℕ))
+      → Hands (Closes bs b) (Requester.mainClosed bs (Requester.mainWithReceived s (some [])) .handed)
   closes-hands b z none = tt
   closes-hands b z (some []) = tt
   closes-hands b z (some (x ∷ xs)) =
-      settled-hands (Closes (some (x ∷ xs)) b) (s .recovery) (isSome (s .kept)) _ (by (hear (s .newest) (judge (x ∷ xs))) (heard-good (s .newest) (judge (x ∷ xs))))
+      settled-hands (Closes (some (x ∷ xs)) b) (s .recovery) (isSome (s .kept)) _
+      (by (hear (s .newest) (judge (x ∷ xs))) (heard-good (s .newest) (judge (x ∷ xs))))
     where
       by : (h : Heard) → HeardGood (judge (x ∷ xs)) h → HeardHas (Closes (some (x ∷ xs)) b) h
       by ground g = tt
@@ -114,9 +117,14 @@ hands-then P Q f (Requester.alerted m) w = f m w
 
 at-once : (b : ℕ) (bs : List ℕ) (x : Option (List ℕ)) (m : Message) → Closes x b m → Comes (b ∷ bs) x 1 m
 at-once b bs x m w =
-    record { ended = record { since = w .1; ahead = 0; begun = w .2; read = refl; closed = w .0 }; whole = tt; judged = rw append-nil (w .3) }
+    record {
+      ended = record { since = w .1; ahead = 0; begun = w .2; read = refl; closed = w .0 };
+      whole = tt;
+      judged = rw append-nil (w .3);
+    }
 
-later : (b : ℕ) (bs : List ℕ) → 1 ≤ b → (x : Option (List ℕ)) (used : ℕ) (m : Message) → Comes bs (grown x b) used m → Comes (b ∷ bs) x (suc used) m
+later : (b : ℕ) (bs : List ℕ) → 1 ≤ b → (x : Option (List ℕ)) (used : ℕ) (m : Message) → Comes bs (grown x b) used m
+    → Comes (b ∷ bs) x (suc used) m
 unfolding grown
 later b bs z none used m w = let f : _≡_ {A = ℕ} 0 1 = (let e = w .ended .begun in cc) in absurd (omega arith)
 later b bs z (some xs) used m w =
@@ -128,7 +136,8 @@ later b bs z (some xs) used m w =
       judged = rw append-snoc at (rw f at (w .judged));
     }
 
-receive-hands : (piece : List ℕ) (s : MainState) → Hands (Comes piece (s .received) (Requester.receive s piece .used)) (Requester.receive s piece .result .handed)
+receive-hands : (piece : List ℕ) (s : MainState)
+    → Hands (Comes piece (s .received) (Requester.receive s piece .used)) (Requester.receive s piece .result .handed)
 unfolding Requester.receive
 receive-hands [] s = tt
 receive-hands (b ∷ bs) s = by (Requester.stops s b) refl (λ x. receive-hands bs (Requester.mainWithReceived s x))
@@ -137,8 +146,10 @@ receive-hands (b ∷ bs) s = by (Requester.stops s b) refl (λ x. receive-hands 
     P x = Hands (Comes (b ∷ bs) (s .received) (x .used)) (x .result .handed)
 
     by : (t : Bool) → Requester.stops s b ≡ t
-        → ((x : Option (List ℕ)) → let r = Requester.receive (Requester.mainWithReceived s x) bs in Hands (Comes bs x (r .used)) (r .result .handed))
-        → let r = Requester.receive (Requester.mainByte s b .state) bs in P (cond t (Requester.receiveResult 1 (Requester.mainByte s b)) (Requester.receiveResult (suc (r .used)) (r .result)))
+        → ((x : Option (List ℕ))
+        → let r = Requester.receive (Requester.mainWithReceived s x) bs in Hands (Comes bs x (r .used)) (r .result .handed))
+        → let r = Requester.receive (Requester.mainByte s b .state) bs in P (cond t (Requester.receiveResult 1 (Requester.mainByte s b))
+        (Requester.receiveResult (suc (r .used)) (r .result)))
     by true e i = hands-then (Closes (s .received) b) _ (at-once b bs (s .received)) (Requester.mainByte s b .handed) (byte-hands s b)
     by false e i =
         let x = grown (s .received) b in
@@ -161,6 +172,7 @@ answer-bytes p v l piece =
     let k = one-call p (record { lent = l; call = Histories.receive piece }) v in
     let r = Requester.receive (mainView p) piece in
     rw (k .answer, k .out)
-    (cond-by (λ (x : MainMeans). OfAnswer (Comes piece (mainView p .received)) (x .answer) (x .out)) (mainEnough (Histories.receive piece) l) _ _
+    (cond-by (λ (x : MainMeans). OfAnswer (Comes piece (mainView p .received)) (x .answer) (x .out))
+    (mainEnough (Histories.receive piece) l) _ _
     (λ _. hands-report (Comes piece (mainView p .received) (r .used)) (r .result .handed) (receive-hands piece (mainView p)))
     (λ _. tt))

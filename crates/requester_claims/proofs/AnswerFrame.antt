@@ -24,7 +24,8 @@ use Rattle.requester.specs.Calls
 use Rattle.requester.specs.Calls.{HandedReport}
 use Rattle.requester_claims.specs.View.{mainView}
 use Rattle.requester_claims.specs.Histories
-use Rattle.requester_claims.specs.Histories.{MainCall, MainAnswer, refused, done, put, received, MainMeans, mainMeant, MainMade, mainMade, mainMeantMade, mainEnough, mainLeft, mainLeftMeant}
+use Rattle.requester_claims.specs.Histories.{MainCall, MainAnswer, refused, done, put, received, MainMeans, mainMeant, MainMade}
+use Rattle.requester_claims.specs.Histories.{mainMade, mainMeantMade, mainEnough, mainLeft, mainLeftMeant}
 use Rattle.requester_claims.proofs.MeaningLaws.{positive}
 use Rattle.requester_claims.proofs.History.{history}
 use Rattle.requester_claims.specs.Histories.{mainStarted, OfStarted}
@@ -49,12 +50,14 @@ moved-received Requester.idle s = refl
 hears-since : (h : Heard) (s : MainState) → Since (s .received) → Since (Requester.afterHeard h s .state .received)
 hears-since h s w = rw (moved-received (settle (s .recovery) (isSome (s .kept)) h .next) s) w
 
-closes-since : (bs : Option (List ℕ)) (s : MainState) → Since (Requester.mainClosed bs (Requester.mainWithReceived s (some [])) .state .received)
+closes-since : (bs : Option (List ℕ)) (s : MainState)
+    → Since (Requester.mainClosed bs (Requester.mainWithReceived s (some [])) .state .received)
 closes-since none s = tt
 closes-since (some []) s = tt
 closes-since (some (b ∷ bs)) s = hears-since (hear (s .newest) (judge (b ∷ bs))) (Requester.mainWithReceived s (some [])) tt
 
-more-since : (bs : Option (List ℕ)) (b : ℕ) (s : MainState) → NonZero b → Since bs → Since (s .received) → Since (Requester.mainMore bs b s .state .received)
+more-since : (bs : Option (List ℕ)) (b : ℕ) (s : MainState) → NonZero b → Since bs → Since (s .received)
+    → Since (Requester.mainMore bs b s .state .received)
 more-since none b s z w h = h
 more-since (some bs) b s z w h =
     cond-by (λ (x : Requester.Result). Since (x .state .received)) (ltb (length bs) longest-form) _ _
@@ -66,12 +69,14 @@ byte-since s b h w =
     cond-by (λ (x : Requester.Result). Since (x .state .received)) (eqb b 0) _ _
     (λ _. closes-since (s .received) s) (λ e. more-since (s .received) b s (positive b (eqb-false b 0 e), omega arith) w w)
 
-receive-since : (piece : List ℕ) (s : MainState) → Each Byte piece → Since (s .received) → Since (Requester.receive s piece .result .state .received)
+receive-since : (piece : List ℕ) (s : MainState) → Each Byte piece → Since (s .received)
+    → Since (Requester.receive s piece .result .state .received)
 unfolding Requester.receive
 receive-since [] s h w = w
 receive-since (b ∷ bs) s h w =
     let v = byte-since s b (h .0) w in
-    cond-by (λ (x : Requester.ReceiveResult). Since (x .result .state .received)) (Requester.stops s b) _ _ (λ _. v) (λ _. receive-since bs (Requester.mainByte s b .state) (h .1) v)
+    cond-by (λ (x : Requester.ReceiveResult). Since (x .result .state .received)) (Requester.stops s b) _ _ (λ _. v)
+    (λ _. receive-since bs (Requester.mainByte s b .state) (h .1) v)
 
 -- the calls that receive nothing keep them
 module _ (s : MainState) where
@@ -93,7 +98,8 @@ module _ (s : MainState) where
   pub send-keeps : (room : ℕ) (q : Option Request) → DoneKeeps (Requester.sentOf room q s)
   send-keeps room none = refl
   send-keeps room (some q) =
-      cond-by DoneKeeps (s .unsent) _ _ (λ _. cond-by DoneKeeps (ltb room (length (requestFrame (s .newest) q))) _ _ (λ _. refl) (λ _. refl)) (λ _. refl)
+      cond-by DoneKeeps (s .unsent) _ _
+      (λ _. cond-by DoneKeeps (ltb room (length (requestFrame (s .newest) q))) _ _ (λ _. refl) (λ _. refl)) (λ _. refl)
 
   pub put-keeps : (x : Requester.MainDone) (room : List ℕ) → Histories.putMeans (x .refusal) room (x .out) (x .state) .state ≡ x .state
   put-keeps x room = by (x .refusal)
@@ -109,12 +115,14 @@ module _ (s : MainState) where
       let x = Requester.request (length room) (record { command = command; payload = d }) s in
       rw (put-keeps x room, request-keeps (length room) (record { command = command; payload = d })) w
   meant-since Histories.interrupt h w = rw (interrupt-keeps (s .recovery)) w
-  meant-since (Histories.send room) h w = rw (put-keeps (Requester.sentOf (length room) (outstanding s) s) room, send-keeps (length room) (outstanding s)) w
+  meant-since (Histories.send room) h w =
+      rw (put-keeps (Requester.sentOf (length room) (outstanding s) s) room, send-keeps (length room) (outstanding s)) w
   meant-since (Histories.receive piece) h w = receive-since piece s h w
 
   made-since : (m : MainMade) → PieceTyped (m .call) → Since (s .received) → Since (mainMeantMade s m .state .received)
   unfolding mainMeantMade
-  made-since m h w = cond-by (λ (x : MainMeans). Since (x .state .received)) (mainEnough (m .call) (m .lent)) _ _ (λ _. meant-since (m .call) h w) (λ _. w)
+  made-since m h w =
+      cond-by (λ (x : MainMeans). Since (x .state .received)) (mainEnough (m .call) (m .lent)) _ _ (λ _. meant-since (m .call) h w) (λ _. w)
 
 left-since : (s : MainState) (ms : List MainMade) → AllPiecesTyped ms → Since (s .received) → Since (mainLeftMeant s ms .received)
 unfolding mainLeftMeant
@@ -137,7 +145,10 @@ module _ (piece : List ℕ) (h : Each Byte piece) (bs : Option (List ℕ)) (w : 
       let x = c .ended in
       let f : Each NonZero (x .since) = rw (x .begun) at w in
       let g = both (take (x .ahead) piece) (each-take Byte (x .ahead) piece h) (c .whole) in
-      record { ended = x; framed = good-frame (x .since ++ take (x .ahead) piece) m (each-append NonZero (x .since) (take (x .ahead) piece) f g) (c .judged) }
+      record {
+        ended = x;
+        framed = good-frame (x .since ++ take (x .ahead) piece) m (each-append NonZero (x .since) (take (x .ahead) piece) f g) (c .judged);
+      }
 
 -- a property that follows from another
 module _ (P Q : ℕ → Message → Type 0) (f : (used : ℕ) (m : Message) → P used m → Q used m) where
@@ -160,4 +171,5 @@ answer-frame p l h ms t k piece b =
     let q = mainLeft (mainStarted p l) ms in
     let w : Since (mainView q .received) = rw (i .1) (left-since mainFresh ms t fresh-since) in
     let m : MainMade = record { lent = k; call = Histories.receive piece } in
-    answer-then _ _ (comes-framed piece b (mainView q .received) w) (mainMade q m .answer) (mainMade q m .out) (answer-bytes q (i .2) k piece)
+    answer-then _ _ (comes-framed piece b (mainView q .received) w) (mainMade q m .answer) (mainMade q m .out)
+    (answer-bytes q (i .2) k piece)

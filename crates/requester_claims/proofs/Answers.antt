@@ -22,12 +22,14 @@ use Rattle.requester.specs.Layout
 use Rattle.requester.specs.Calls.{MainParts, handedReportOf}
 use Rattle.requester_claims.specs.View.{mainView, keptRequestOf}
 use Rattle.requester_claims.specs.Histories
-use Rattle.requester_claims.specs.Histories.{MainCall, received, MainMeans, putMeans, mainDoneMeans, mainMeant, MainMade, mainMade, mainMeantMade, mainLeft, mainEnough}
+use Rattle.requester_claims.specs.Histories.{MainCall, received, MainMeans, putMeans, mainDoneMeans, mainMeant, MainMade, mainMade}
+use Rattle.requester_claims.specs.Histories.{mainMeantMade, mainLeft, mainEnough}
 use Rattle.requester_claims.proofs.MeaningLaws.{grown, quiet-byte}
 use Rattle.requester_claims.proofs.History.{one-call, started}
 use Rattle.requester_claims.specs.Histories.{mainStarted, OfStarted, OfValid}
 use Rattle.requester_claims.specs.Item2.{AnswerMatches, AnswersCounted, OneAnswerEach}
-use Rattle.requester_claims.specs.Answers.{OfReport, OfAnswer, MessageMatching, answersReported, answersIn, requestsByCall, answersCounted, requestsCounted, keptNumber}
+use Rattle.requester_claims.specs.Answers.{OfReport, OfAnswer, MessageMatching, answersReported, answersIn, requestsByCall}
+use Rattle.requester_claims.specs.Answers.{answersCounted, requestsCounted, keptNumber}
 
 -- ---- answers that match
 
@@ -64,7 +66,8 @@ module _ (n : ℕ) where
   settled-matches (some t) k ground w = tt
   settled-matches (some t) k other w = tt
   settled-matches (some fetch) k (answer m) w =
-      cond-by (λ (o : Requester.HeardOutcome). HandedMatches n (o .handed)) (eqb (m .command) 0x06 && eqb (length (m .payload)) status-length) _ _ (λ _. tt) (λ _. tt)
+      cond-by (λ (o : Requester.HeardOutcome). HandedMatches n (o .handed))
+      (eqb (m .command) 0x06 && eqb (length (m .payload)) status-length) _ _ (λ _. tt) (λ _. tt)
   settled-matches (some acknowledge) k (answer m) w = tt
   settled-matches (some alert) k (answer m) w = w
 
@@ -79,12 +82,14 @@ module _ (s : MainState) where
   closes-matches : (bs : Option (List ℕ)) → ResultMatches (Requester.mainClosed bs (Requester.mainWithReceived s (some [])))
   closes-matches none = nothing-matches
   closes-matches (some []) = nothing-matches
-  closes-matches (some (b ∷ bs)) = settled-matches (s .newest) (s .recovery) (isSome (s .kept)) _ (heard-matches (s .newest) (judge (b ∷ bs)))
+  closes-matches (some (b ∷ bs)) =
+      settled-matches (s .newest) (s .recovery) (isSome (s .kept)) _ (heard-matches (s .newest) (judge (b ∷ bs)))
 
   more-matches : (bs : Option (List ℕ)) (b : ℕ) → ResultMatches (Requester.mainMore bs b s)
   more-matches none b = nothing-matches
   more-matches (some bs) b =
-      cond-by ResultMatches (ltb (length bs) longest-form) _ _ (λ _. nothing-matches) (λ _. settled-matches (s .newest) (s .recovery) (isSome (s .kept)) ground tt)
+      cond-by ResultMatches (ltb (length bs) longest-form) _ _ (λ _. nothing-matches)
+      (λ _. settled-matches (s .newest) (s .recovery) (isSome (s .kept)) ground tt)
 
   byte-matches : (b : ℕ) → ResultMatches (Requester.mainByte s b)
   unfolding Requester.mainByte
@@ -98,8 +103,10 @@ receive-matches (b ∷ bs) s = by (Requester.stops s b) refl (λ x. receive-matc
     P : Requester.ReceiveResult → Type 0
     P x = HandedMatches (s .newest) (x .result .handed)
 
-    by : (t : Bool) → Requester.stops s b ≡ t → ((x : Option (List ℕ)) → HandedMatches (s .newest) (Requester.receive (Requester.mainWithReceived s x) bs .result .handed))
-        → let r = Requester.receive (Requester.mainByte s b .state) bs in P (cond t (Requester.receiveResult 1 (Requester.mainByte s b)) (Requester.receiveResult (suc (r .used)) (r .result)))
+    by : (t : Bool) → Requester.stops s b ≡ t
+        → ((x : Option (List ℕ)) → HandedMatches (s .newest) (Requester.receive (Requester.mainWithReceived s x) bs .result .handed))
+        → let r = Requester.receive (Requester.mainByte s b .state) bs in P (cond t (Requester.receiveResult 1 (Requester.mainByte s b))
+        (Requester.receiveResult (suc (r .used)) (r .result)))
     by true e i = byte-matches s b
     by false e i = rw (quiet-byte s b e) (i (grown (s .received) b))
 
@@ -121,7 +128,8 @@ module _ (s : MainState) where
   meant-matches : (c : MainCall) → MeansMatches (mainMeant s c)
   unfolding mainMeant
   meant-matches Histories.start = tt
-  meant-matches (Histories.request command d room) = put-matches room (Requester.request (length room) (record { command = command; payload = d }) s)
+  meant-matches (Histories.request command d room) =
+      put-matches room (Requester.request (length room) (record { command = command; payload = d }) s)
   meant-matches Histories.interrupt = done-matches (Requester.interrupt s .refusal) s
   meant-matches (Histories.send room) = put-matches room (Requester.send (length room) s)
   meant-matches (Histories.receive piece) = receive-matches piece s
@@ -173,7 +181,8 @@ unfolding Requester.movedTo
 moved-kept Requester.same s = omega arith
 moved-kept Requester.again s = omega arith
 moved-kept (Requester.anew t) s =
-    cond-by (λ (m : Requester.Moved). keptNumber (m .state .kept) ≤ keptNumber (s .kept)) (leb last-number (s .newest)) _ _ (λ _. omega arith) (λ _. omega arith)
+    cond-by (λ (m : Requester.Moved). keptNumber (m .state .kept) ≤ keptNumber (s .kept)) (leb last-number (s .newest)) _ _
+    (λ _. omega arith) (λ _. omega arith)
 moved-kept Requester.idle s = omega arith
 
 idle-kept : (s : MainState) → keptNumber (Requester.movedTo Requester.idle s .state .kept) ≡ 0
@@ -188,7 +197,8 @@ module _ (s : MainState) where
   hears-balanced : (h : Heard) → Balanced s (Requester.afterHeard h s)
   hears-balanced h = by (settle (s .recovery) (isSome (s .kept)) h) (settled-counted (s .recovery) (isSome (s .kept)) h)
     where
-      by : (o : Requester.HeardOutcome) → Counted (isSome (s .kept)) o → answersOut (o .handed) + keptNumber (Requester.movedTo (o .next) s .state .kept) ≤ keptNumber (s .kept)
+      by : (o : Requester.HeardOutcome) → Counted (isSome (s .kept)) o
+          → answersOut (o .handed) + keptNumber (Requester.movedTo (o .next) s .state .kept) ≤ keptNumber (s .kept)
       by o (no-answer e) = omega (arith, moved-kept (o .next) s)
       by o (one-answer e k n) = rw (n, idle-kept s, e) (omega (arith, kept-one (s .kept) k))
 
@@ -206,7 +216,8 @@ module _ (s : MainState) where
   more-balanced none b = nothing-balanced s s refl
   more-balanced (some bs) b =
       cond-by (Balanced s) (ltb (length bs) longest-form) _ _
-      (λ _. nothing-balanced s (Requester.mainWithReceived s (some (bs ++ b ∷ []))) refl) (λ _. hears-balanced (Requester.mainWithReceived s none) ground)
+      (λ _. nothing-balanced s (Requester.mainWithReceived s (some (bs ++ b ∷ []))) refl)
+      (λ _. hears-balanced (Requester.mainWithReceived s none) ground)
 
   byte-balanced : (b : ℕ) → Balanced s (Requester.mainByte s b)
   unfolding Requester.mainByte
@@ -217,8 +228,10 @@ unfolding Requester.receive
 receive-balanced [] s = nothing-balanced s s refl
 receive-balanced (b ∷ bs) s = by (Requester.stops s b) refl (λ x. receive-balanced bs (Requester.mainWithReceived s x))
   where
-    by : (t : Bool) → Requester.stops s b ≡ t → ((x : Option (List ℕ)) → Balanced s (Requester.receive (Requester.mainWithReceived s x) bs .result))
-        → let r = Requester.receive (Requester.mainByte s b .state) bs in Balanced s (cond t (Requester.receiveResult 1 (Requester.mainByte s b)) (Requester.receiveResult (suc (r .used)) (r .result)) .result)
+    by : (t : Bool) → Requester.stops s b ≡ t
+        → ((x : Option (List ℕ)) → Balanced s (Requester.receive (Requester.mainWithReceived s x) bs .result))
+        → let r = Requester.receive (Requester.mainByte s b .state) bs in Balanced s (cond t
+        (Requester.receiveResult 1 (Requester.mainByte s b)) (Requester.receiveResult (suc (r .used)) (r .result)) .result)
     by true e i = byte-balanced s b
     by false e i = rw (quiet-byte s b e) (i (grown (s .received) b))
 
@@ -249,17 +262,20 @@ module _ (s : MainState) where
           by true = omega arith
           by false = omega arith
 
-  interrupt-balanced : (t : Option RecoveryStep) → MeansBalanced Histories.interrupt (mainDoneMeans (Requester.interruptedIn t s .refusal) (Requester.interruptedIn t s .state))
+  interrupt-balanced : (t : Option RecoveryStep)
+      → MeansBalanced Histories.interrupt (mainDoneMeans (Requester.interruptedIn t s .refusal) (Requester.interruptedIn t s .state))
   interrupt-balanced (some t) = omega arith
   interrupt-balanced none =
-      cond-by (λ (x : Requester.MainDone). MeansBalanced Histories.interrupt (mainDoneMeans (x .refusal) (x .state))) (leb last-number (s .newest)) _ _ (λ _. omega arith) (λ _. omega arith)
+      cond-by (λ (x : Requester.MainDone). MeansBalanced Histories.interrupt (mainDoneMeans (x .refusal) (x .state)))
+      (leb last-number (s .newest)) _ _ (λ _. omega arith) (λ _. omega arith)
 
   send-balanced : (room : List ℕ) (q : Option Request) → PutBalanced (Histories.send room) room (Requester.sentOf (length room) q s)
   send-balanced room none = omega arith
   send-balanced room (some q) =
       let c = Histories.send room in
       cond-by (PutBalanced c room) (s .unsent) _ _
-      (λ _. cond-by (PutBalanced c room) (ltb (length room) (length (requestFrame (s .newest) q))) _ _ (λ _. omega arith) (λ _. omega arith))
+      (λ _.
+      cond-by (PutBalanced c room) (ltb (length room) (length (requestFrame (s .newest) q))) _ _ (λ _. omega arith) (λ _. omega arith))
       (λ _. omega arith)
 
   meant-balanced : (c : MainCall) → MeansBalanced c (mainMeant s c)
@@ -272,7 +288,8 @@ module _ (s : MainState) where
 
   made-balanced : (m : MainMade) → MeansBalanced (m .call) (mainMeantMade s m)
   unfolding mainMeantMade
-  made-balanced m = cond-by (MeansBalanced (m .call)) (mainEnough (m .call) (m .lent)) _ _ (λ _. meant-balanced (m .call)) (λ _. omega arith)
+  made-balanced m =
+      cond-by (MeansBalanced (m .call)) (mainEnough (m .call) (m .lent)) _ _ (λ _. meant-balanced (m .call)) (λ _. omega arith)
 
 kept-is : (p : MainParts) → mainView p .kept ≡ keptRequestOf (p .requester)
 unfolding mainView

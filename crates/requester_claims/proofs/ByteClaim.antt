@@ -29,7 +29,8 @@ use Rattle.requester.specs.Hearing.{dataFit}
 use Rattle.requester.proofs.ReaderLaws.{read-leaves, data-length}
 use Rattle.requester_claims.specs.View.{mainView}
 use Rattle.requester_claims.proofs.NextClaim.{kept-some, moves, Given, given-nothing, given-ground, given-good}
-use Rattle.requester_claims.proofs.ReceivedClaim.{received-none, received-some, length-kept, pushed-count, pushed-received, over-count, over-received, finished-received, finished-empty, finished-heard}
+use Rattle.requester_claims.proofs.ReceivedClaim.{received-none, received-some, length-kept, pushed-count, pushed-received}
+use Rattle.requester_claims.proofs.ReceivedClaim.{over-count, over-received, finished-received, finished-empty, finished-heard}
 use Rattle.requester_claims.proofs.OneByte.{Fed, fed, fedBy, feed, stopsAt, Walked, walk, receiptOf}
 use Rattle.requester_claims.specs.Histories.{MainLengths}
 
@@ -59,8 +60,8 @@ kept-none : (s : List ℕ) → LineReader.receivedCount s ≡ 0 → LineReader.r
 unfolding LineReader.receivedBytes
 kept-none s e = rw e
 
-module _ (p : MainParts) (v : MainPartsValid p) (reader : List ℕ) (bs : Option (List ℕ)) (ready : Ready reader) (long : length reader ≡ length (p .reader))
-    (e : receivedOf reader ≡ bs) where
+module _ (p : MainParts) (v : MainPartsValid p) (reader : List ℕ) (bs : Option (List ℕ)) (ready : Ready reader)
+    (long : length reader ≡ length (p .reader)) (e : receivedOf reader ≡ bs) where
   drop-follows : Follows p (fedBy p reader none) (dropped (Requester.mainWithReceived (mainView p) bs))
   unfolding fedBy heardOutcomeOf Calls.partMovedTo mainView
   drop-follows = record {
@@ -105,7 +106,8 @@ module _ (number : ℕ) (reader : List ℕ) (t : Option RecoveryStep) (k : Bool)
   given-heard (LineReader.failed reason sequence) v f = given-ground reader t k
   given-heard (LineReader.message version sequence command n) v f =
       let l = data-length reader n v (leb-true _ _ f) in
-      given-good reader (record { version = version; sequence = sequence; command = command; payload = LineReader.dataPromise reader n }) (rw l) number t k
+      given-good reader (record { version = version; sequence = sequence; command = command; payload = LineReader.dataPromise reader n })
+      (rw l) number t k
 
 -- ---- one byte
 
@@ -139,13 +141,16 @@ module _ (p : MainParts) (v : MainPartsValid p) where
   finish-ready = let l = finish-leaves s (r .0) in (omega (arith, r .0), omega arith)
 
   finish-given : (LineReader.receivedCount s ≡ 0 → ⊥) → n ≤ longest-form
-      → Given (LineReader.finish s .state) (settle (Layout.recoveryStep (p .requester)) (Layout.isKept (p .requester)) (hear (Layout.newestNumber (p .requester)) (judge (LineReader.receivedBytes s))) .handed)
+      → Given (LineReader.finish s .state)
+      (settle (Layout.recoveryStep (p .requester)) (Layout.isKept (p .requester))
+      (hear (Layout.newestNumber (p .requester)) (judge (LineReader.receivedBytes s))) .handed)
   unfolding LineReader.readPiece
   finish-given z h =
       let number = Layout.newestNumber (p .requester) in
       let fit = read-leaves (0 ∷ []) s r .fit in
       rw (finished-heard number s r z h) at
-      (given-heard number (LineReader.finish s .state) (Layout.recoveryStep (p .requester)) (Layout.isKept (p .requester)) (LineReader.finish s .answer) (ready-valid _ finish-ready) fit)
+      (given-heard number (LineReader.finish s .state) (Layout.recoveryStep (p .requester)) (Layout.isKept (p .requester))
+      (LineReader.finish s .answer) (ready-valid _ finish-ready) fit)
 
   -- a 00
   close-follows : Follows p (feed p 0) (mainByte (mainView p) 0)
@@ -167,7 +172,12 @@ module _ (p : MainParts) (v : MainPartsValid p) where
           let z = eqb-false n 0 f in
           let h = ltb-false longest-form n e in
           let k : 0 < length (LineReader.receivedBytes s) = rw (length-kept s (r .0) h) (positive n z) in
-          rw (e, finished-heard (Layout.newestNumber (p .requester)) s r z h, received-some s h, closes-some (LineReader.receivedBytes s) (Requester.mainWithReceived (mainView p) (some [])) k)
+          rw (
+            e,
+            finished-heard (Layout.newestNumber (p .requester)) s r z h,
+            received-some s h,
+            closes-some (LineReader.receivedBytes s) (Requester.mainWithReceived (mainView p) (some [])) k,
+          )
           (hear-follows p v t (some []) finish-ready (finish-leaves s (r .0) .0) (finished-received s r) _ (finish-given z h))
 
   -- any other byte
@@ -193,15 +203,28 @@ module _ (p : MainParts) (v : MainPartsValid p) where
           let c = pushed-count s (suc b) r h in
           let l = ltb-false longest-form n e in
           let k = length-kept s (r .0) l in
-          rw (e, le-ltb longest-form (LineReader.receivedCount t) (omega arith), eqb·suc-zero, received-some s l, lt-ltb (length (LineReader.receivedBytes s)) longest-form (omega arith))
+          rw (
+            e,
+            le-ltb longest-form (LineReader.receivedCount t) (omega arith),
+            eqb·suc-zero,
+            received-some s l,
+            lt-ltb (length (LineReader.receivedBytes s)) longest-form (omega arith),
+          )
           (drop-follows p v t (some (LineReader.receivedBytes s ++ suc b ∷ [])) ready long (pushed-received s (suc b) r h))
       by false false e f =
           let h = ltb-false n longest-form f in
           let c = over-count s (suc b) r h in
           let l = ltb-false longest-form n e in
           let k = length-kept s (r .0) l in
-          rw (e, lt-ltb longest-form (LineReader.receivedCount t) (omega arith), eqb·suc-zero, received-some s l, le-ltb (length (LineReader.receivedBytes s)) longest-form (omega arith))
-          (hear-follows p v t none ready long (over-received s (suc b) r h) ground (given-ground t (Layout.recoveryStep (p .requester)) (Layout.isKept (p .requester))))
+          rw (
+            e,
+            lt-ltb longest-form (LineReader.receivedCount t) (omega arith),
+            eqb·suc-zero,
+            received-some s l,
+            le-ltb (length (LineReader.receivedBytes s)) longest-form (omega arith),
+          )
+          (hear-follows p v t none ready long (over-received s (suc b) r h) ground
+          (given-ground t (Layout.recoveryStep (p .requester)) (Layout.isKept (p .requester))))
 
   pub feed-follows : (b : ℕ) → Follows p (feed p b) (mainByte (mainView p) b)
   feed-follows zero = close-follows
@@ -231,7 +254,8 @@ walk-follows (b ∷ bs) p v =
     let f = feed-follows p v b in
     let i = rw (f .state) at (walk-follows bs (feed p b .parts) (f .valid)) in
     rw (stops-alike p v b)
-    (cond-both (λ (w : Walked) (x : Requester.ReceiveResult). (w .used ≡ x .used) × Follows p (w .fed) (x .result)) (Requester.stops (mainView p) b)
+    (cond-both (λ (w : Walked) (x : Requester.ReceiveResult). (w .used ≡ x .used) × Follows p (w .fed) (x .result))
+    (Requester.stops (mainView p) b)
     (λ e. (refl, f))
     (λ e. (
       ap suc (i .0),
@@ -252,7 +276,8 @@ later x = record { used = suc (x .used); report = x .report; ended = x .ended; u
 
 module _ (p : MainParts) (r : Ready (p .reader)) where
   -- one byte more may be read where the frame has not passed 4,140
-  room : LineReader.receivedCount (p .reader) ≤ longest-form → LineReader.overlong - LineReader.receivedCount (p .reader) ≡ suc (longest-form - LineReader.receivedCount (p .reader))
+  room : LineReader.receivedCount (p .reader) ≤ longest-form
+      → LineReader.overlong - LineReader.receivedCount (p .reader) ≡ suc (longest-form - LineReader.receivedCount (p .reader))
   room h = omega arith
 
   received-none-read : mainReceiveValid p [] ≡ receiptOf (walk p [])
@@ -272,12 +297,19 @@ module _ (p : MainParts) (r : Ready (p .reader)) where
       by false e = rw (e, room (ltb-false _ _ e))
 
   -- a byte that fills the frame
-  received-filled : (b : ℕ) (bs : List ℕ) → LineReader.receivedCount (p .reader) ≡ longest-form → mainReceiveValid p (suc b ∷ bs) ≡ receiptOf (walk p (suc b ∷ bs))
+  received-filled : (b : ℕ) (bs : List ℕ) → LineReader.receivedCount (p .reader) ≡ longest-form
+      → mainReceiveValid p (suc b ∷ bs) ≡ receiptOf (walk p (suc b ∷ bs))
   unfolding mainReceiveValid walk LineReader.readPiece LineReader.oneByteLater feed fedBy
   received-filled b bs z =
       let h : LineReader.receivedCount (p .reader) ≤ longest-form = omega arith in
       let k : longest-form - LineReader.receivedCount (p .reader) ≡ 0 = omega arith in
-      rw (le-ltb longest-form (LineReader.receivedCount (p .reader)) h, room h, k, eqb·suc-zero, eq-eqb (LineReader.receivedCount (p .reader)) longest-form z)
+      rw (
+        le-ltb longest-form (LineReader.receivedCount (p .reader)) h,
+        room h,
+        k,
+        eqb·suc-zero,
+        eq-eqb (LineReader.receivedCount (p .reader)) longest-form z,
+      )
 
   -- any other hands nothing out and changes the reader's part alone
   pub feed-quiet : (b : ℕ) → (LineReader.receivedCount (p .reader) ≡ longest-form → ⊥)
@@ -309,7 +341,8 @@ module _ (p : MainParts) (r : Ready (p .reader)) where
       t : List ℕ
       t = LineReader.pushed (p .reader) (suc b)
 
-      by : (x : Bool) → isOverlong (p .reader) ≡ x → mainReceiveValid p (suc b ∷ bs) ≡ later (mainReceiveValid (mainParts t (p .requester)) bs)
+      by : (x : Bool) → isOverlong (p .reader) ≡ x
+          → mainReceiveValid p (suc b ∷ bs) ≡ later (mainReceiveValid (mainParts t (p .requester)) bs)
       by true e =
           let h = ltb-true longest-form n e in
           let c = over-count (p .reader) (suc b) r (omega arith) in
@@ -333,7 +366,8 @@ received-walk (suc b ∷ bs) p r =
     t : List ℕ
     t = LineReader.pushed (p .reader) (suc b)
 
-    by : (x : Bool) → eqb (LineReader.receivedCount (p .reader)) longest-form ≡ x → mainReceiveValid (mainParts t (p .requester)) bs ≡ receiptOf (walk (mainParts t (p .requester)) bs)
+    by : (x : Bool) → eqb (LineReader.receivedCount (p .reader)) longest-form ≡ x
+        → mainReceiveValid (mainParts t (p .requester)) bs ≡ receiptOf (walk (mainParts t (p .requester)) bs)
         → mainReceiveValid p (suc b ∷ bs) ≡ receiptOf (walk p (suc b ∷ bs))
     by true e i = received-filled p r b bs (eqb-true _ _ e)
     by false e i =

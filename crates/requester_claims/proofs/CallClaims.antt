@@ -18,7 +18,8 @@ use Rattle.line.specs.Limits.{longest-data}
 use Rattle.line.specs.Reader as LineReader
 use Rattle.line.proofs.State.{valid-ready, ready-valid, length-counted, count-counted}
 use Rattle.requester.specs.Limits.{last-number}
-use Rattle.requester.specs.State.{Request, RecoveryStep, fetch, acknowledge, alert, MainState, mainState, mainFresh, isSome, outstandingOf, requestFrame}
+use Rattle.requester.specs.State.{Request, RecoveryStep, fetch, acknowledge, alert, MainState, mainState, mainFresh, isSome, outstandingOf}
+use Rattle.requester.specs.State.{requestFrame}
 use Rattle.requester.specs.Requester
 use Rattle.requester.specs.Requester.{staysOut}
 use Rattle.requester.specs.Layout
@@ -27,9 +28,11 @@ use Rattle.requester.specs.Calls.{MainParts, handedReportOf, MainPartsValid, Ma
 use Rattle.requester.proofs.ValidLaws.{RequesterValid, requester-valid, valid-requester, valid-parts, long-enough-is}
 use Rattle.requester_claims.specs.View.{keptRequestOf, held, mainView}
 use Rattle.requester_claims.specs.Histories
-use Rattle.requester_claims.specs.Histories.{MainCall, MainAnswer, mainDidBy, mainDid, mainRefusal, withRequester, putDid, mainMeans, putMeans, mainMeant}
+use Rattle.requester_claims.specs.Histories.{MainCall, MainAnswer, mainDidBy, mainDid, mainRefusal, withRequester, putDid, mainMeans}
+use Rattle.requester_claims.specs.Histories.{putMeans, mainMeant}
 use Rattle.requester_claims.specs.Histories.{receiptDid, receiveAnswer}
-use Rattle.requester_claims.proofs.FieldLaws.{progressed-held, progressed-valid, progressed-long, progressed-number, progressed-recovery, progressed-unsent, progressed-kept}
+use Rattle.requester_claims.proofs.FieldLaws.{progressed-held, progressed-valid, progressed-long, progressed-number}
+use Rattle.requester_claims.proofs.FieldLaws.{progressed-recovery, progressed-unsent, progressed-kept}
 use Rattle.requester_claims.proofs.FieldLaws.{flagged-held, flagged-valid, flagged-long, asked-held, asked-valid, asked-long}
 use Rattle.requester_claims.proofs.ReceivedClaim.{received-some}
 use Rattle.requester_claims.specs.Demand1.{MainMeets}
@@ -42,8 +45,8 @@ module _ (p : MainParts) (v : MainPartsValid p) where
   unchanged a bs = record { answer = refl; out = refl; state = refl; valid = v; lengths = lengths-same }
 
   -- or the main processor's part alone
-  changed : (a : MainAnswer) (bs r : List ℕ) (s : MainState) → held r (receivedOf (p .reader)) ≡ s → RequesterValid r → length r ≡ length (p .requester)
-      → MainMeets p (mainDidBy a bs (withRequester p r)) (mainMeans a bs s)
+  changed : (a : MainAnswer) (bs r : List ℕ) (s : MainState) → held r (receivedOf (p .reader)) ≡ s → RequesterValid r
+      → length r ≡ length (p .requester) → MainMeets p (mainDidBy a bs (withRequester p r)) (mainMeans a bs s)
   unfolding mainView
   changed a bs r s e w l = record {
     answer = refl;
@@ -60,7 +63,8 @@ step-some : (t : ℕ) → (P : Option RecoveryStep → Type 0) → P (some fetch
 step-some t P a b c = cond-by P (eqb t 1) _ _ (λ _. a) (λ _. cond-by P (eqb t 2) _ _ (λ _. b) (λ _. c))
 
 module _ (r : List ℕ) where
-  pub outstanding-is : outstandingOf (Layout.recoveryStep r) (keptRequestOf r) ≡ cond (Layout.isOutstanding r) (some (Layout.outRequest r)) none
+  pub outstanding-is : outstandingOf (Layout.recoveryStep r) (keptRequestOf r)
+      ≡ cond (Layout.isOutstanding r) (some (Layout.outRequest r)) none
   unfolding Layout.stepAt Layout.isOutstanding Layout.outRequest keptRequestOf
   outstanding-is = by (eqb (Layout.recoveryOf r) 0)
     where
@@ -73,7 +77,9 @@ module _ (r : List ℕ) where
       P : Option RecoveryStep → Type 0
       P t = outstandingOf t k ≡ some (Layout.requestIn t q)
 
-      by : (b : Bool) → let t = cond b none (cond (eqb (Layout.recoveryOf r) 1) (some fetch) (cond (eqb (Layout.recoveryOf r) 2) (some acknowledge) (some alert))) in
+      by : (b : Bool)
+          → let t = cond b none (cond (eqb (Layout.recoveryOf r) 1) (some fetch)
+          (cond (eqb (Layout.recoveryOf r) 2) (some acknowledge) (some alert))) in
           outstandingOf t k ≡ cond (not b || Layout.isKept r) (some (Layout.requestIn t q)) none
       by true = refl
       by false = step-some (Layout.recoveryOf r) P refl refl refl
@@ -105,7 +111,9 @@ module _ (p : MainParts) (room : MainLongEnough p) where
   fresh-valid : RequesterValid t
   unfolding staysOut number
   fresh-valid = record {
-    long = omega (arith, length-overlay 0 (replicate Layout.kept-data-offset 0) (p .requester) (omega (arith, room .requester)), room .requester);
+    long =
+        omega
+        (arith, length-overlay 0 (replicate Layout.kept-data-offset 0) (p .requester) (omega (arith, room .requester)), room .requester);
     number = rw (zeros 0 8 (omega arith)) (omega arith);
     recovery = rw (zeros 8 1 (omega arith)) (omega arith);
     unsent = rw (zeros 9 1 (omega arith)) (omega arith);
@@ -131,11 +139,15 @@ module _ (p : MainParts) (room : MainLongEnough p) where
         out = refl;
         state = rw started-received fresh-held;
         valid = record { reader = ready-valid _ (omega (arith, room .reader), omega arith); requester = valid-requester t fresh-valid };
-        lengths = record { reader = l; requester = length-overlay 0 (replicate Layout.kept-data-offset 0) (p .requester) (omega (arith, room .requester)) };
+        lengths = record {
+          reader = l;
+          requester = length-overlay 0 (replicate Layout.kept-data-offset 0) (p .requester) (omega (arith, room .requester));
+        };
       })
 
 -- what is handed out is no refusal
-pub report-received : (used : ℕ) (h : Requester.Handed) (e u : Bool) → receiveAnswer used (handedReportOf h) e u ≡ Histories.received used (handedReportOf h) e u
+pub report-received : (used : ℕ) (h : Requester.Handed) (e u : Bool)
+    → receiveAnswer used (handedReportOf h) e u ≡ Histories.received used (handedReportOf h) e u
 unfolding handedReportOf
 report-received used Requester.nothing e u = refl
 report-received used (Requester.answered m) e u = refl
@@ -172,11 +184,21 @@ module _ (p : MainParts) (v : MainPartsValid p) where
         (λ e.
         let t = Calls.progressed n 0 0 1 r in
         let x = progressed-valid n 0 0 1 r w s (omega arith) (omega arith) (omega arith) in (
-          asked-held command d t x l bs ∙ rw (progressed-number n 0 0 1 r w s, progressed-recovery n 0 0 1 r w, progressed-unsent n 0 0 1 r w, progressed-kept n 0 0 1 r w),
+          asked-held command d t x l bs
+              ∙ rw (
+                progressed-number n 0 0 1 r w s,
+                progressed-recovery n 0 0 1 r w,
+                progressed-unsent n 0 0 1 r w,
+                progressed-kept n 0 0 1 r w,
+              ),
           asked-valid command d t x l e,
           asked-long command d t x l ∙ progressed-long n 0 0 1 r w,
         ))
-        (λ e. (progressed-held n 0 0 0 r w s bs, progressed-valid n 0 0 0 r w s (omega arith) (omega arith) (omega arith), progressed-long n 0 0 0 r w))
+        (λ e. (
+          progressed-held n 0 0 0 r w s bs,
+          progressed-valid n 0 0 0 r w s (omega arith) (omega arith) (omega arith),
+          progressed-long n 0 0 0 r w,
+        ))
 
     abbrev Asks : Calls.PutOutcome → Requester.MainDone → Type 0
     Asks t x = MainMeets p (putDid p t) (putMeans (x .refusal) room (x .out) (x .state))
@@ -195,10 +217,14 @@ module _ (p : MainParts) (v : MainPartsValid p) where
   -- ---- interrupt
 
   abbrev Interrupts : Calls.InterruptOutcome → Requester.MainDone → Type 0
-  Interrupts t x = MainMeets p (mainDidBy (mainRefusal (t .refusal)) [] (withRequester p (t .requester))) (Histories.mainDoneMeans (x .refusal) (x .state))
+  Interrupts t x =
+      MainMeets p (mainDidBy (mainRefusal (t .refusal)) [] (withRequester p (t .requester)))
+      (Histories.mainDoneMeans (x .refusal) (x .state))
 
   -- a recovery is begun, or there is no number for it
-  begin-meets : Interrupts (cond (leb last-number (Layout.newestNumber r)) (Calls.interruptOutcome (some 14) r) (Calls.interruptOutcome none (Calls.progressed (suc (Layout.newestNumber r)) 1 1 (Layout.keptFlag r) r)))
+  begin-meets : Interrupts
+      (cond (leb last-number (Layout.newestNumber r)) (Calls.interruptOutcome (some 14) r)
+      (Calls.interruptOutcome none (Calls.progressed (suc (Layout.newestNumber r)) 1 1 (Layout.keptFlag r) r)))
       (Requester.interruptedIn none (mainView p))
   unfolding mainView Layout.stepAt keptRequestOf
   begin-meets =
@@ -206,7 +232,8 @@ module _ (p : MainParts) (v : MainPartsValid p) where
       let s = leb-false last-number (Layout.newestNumber r) e in
       let n = suc (Layout.newestNumber r) in
       changed p v Histories.done [] _ _ (progressed-held n 1 1 (Layout.keptFlag r) r w (omega arith) bs)
-      (progressed-valid n 1 1 (Layout.keptFlag r) r w (omega arith) (omega arith) (omega arith) (w .kept)) (progressed-long n 1 1 (Layout.keptFlag r) r w))
+      (progressed-valid n 1 1 (Layout.keptFlag r) r w (omega arith) (omega arith) (omega arith) (w .kept))
+      (progressed-long n 1 1 (Layout.keptFlag r) r w))
 
   -- in a recovery nothing is added
   meanwhile-meets : (t : RecoveryStep) → Interrupts (Calls.interruptOutcome none r) (Requester.interruptedIn (some t) (mainView p))
@@ -217,8 +244,11 @@ module _ (p : MainParts) (v : MainPartsValid p) where
   interrupt-meets =
       let t = Layout.recoveryOf r in
       rw (v .requester)
-      (cond-both (λ (x : Calls.InterruptOutcome) (y : Option RecoveryStep). Interrupts x (Requester.interruptedIn y (mainView p))) (eqb t 0) (λ _. begin-meets)
-      (λ _. step-some t (λ y. Interrupts (Calls.interruptOutcome none r) (Requester.interruptedIn y (mainView p))) (meanwhile-meets fetch) (meanwhile-meets acknowledge) (meanwhile-meets alert)))
+      (cond-both (λ (x : Calls.InterruptOutcome) (y : Option RecoveryStep). Interrupts x (Requester.interruptedIn y (mainView p))) (eqb t 0)
+      (λ _. begin-meets)
+      (λ _.
+      step-some t (λ y. Interrupts (Calls.interruptOutcome none r) (Requester.interruptedIn y (mainView p))) (meanwhile-meets fetch)
+      (meanwhile-meets acknowledge) (meanwhile-meets alert)))
 
   -- ---- send
 
@@ -230,7 +260,8 @@ module _ (p : MainParts) (v : MainPartsValid p) where
     frame = requestFrame (Layout.newestNumber r) (Layout.outRequest r)
 
     flag-meets : Sends (Calls.putInto frame room r (overlay Layout.unsent-offset (0 ∷ []) r))
-        (Requester.putOut (length room) frame (mainView p) (mainState (Layout.newestNumber r) (keptRequestOf r) (Layout.recoveryStep r) false bs))
+        (Requester.putOut (length room) frame (mainView p)
+        (mainState (Layout.newestNumber r) (keptRequestOf r) (Layout.recoveryStep r) false bs))
     unfolding Calls.putInto
     flag-meets =
         cond-both Sends (ltb (length room) (length frame)) (λ _. unchanged p v (Histories.refused 8) room) (λ _.
@@ -244,7 +275,8 @@ module _ (p : MainParts) (v : MainPartsValid p) where
     send-meets = rw (v .requester, outstanding-is r) (by (Layout.isOutstanding r) (eqb (Layout.unsentOf r) 1) refl)
       where
         by : (a b : Bool) → eqb (Layout.unsentOf r) 1 ≡ b
-            → Sends (cond (a && b) (Calls.putInto frame room r (overlay Layout.unsent-offset (0 ∷ []) r)) (Calls.putOutcome (Calls.wrote 0) room r))
+            → Sends
+            (cond (a && b) (Calls.putInto frame room r (overlay Layout.unsent-offset (0 ∷ []) r)) (Calls.putOutcome (Calls.wrote 0) room r))
             (Requester.sentOf (length room) (cond a (some (Layout.outRequest r)) none) (mainView p))
         by true true e = rw e (rw e at flag-meets)
         by true false e = rw e (rw e at nothing-meets)
@@ -252,7 +284,8 @@ module _ (p : MainParts) (v : MainPartsValid p) where
 
   -- ---- receive
 
-  receive-meets : (piece : List ℕ) → MainMeets p (receiptDid (Calls.mainReceivePromise p piece)) (Histories.receiveMeans (Requester.receive (mainView p) piece))
+  receive-meets : (piece : List ℕ)
+      → MainMeets p (receiptDid (Calls.mainReceivePromise p piece)) (Histories.receiveMeans (Requester.receive (mainView p) piece))
   unfolding Calls.mainReceivePromise receiptDid
   receive-meets piece =
       let f = walk-follows piece p v in

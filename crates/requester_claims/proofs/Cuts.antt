@@ -1,4 +1,5 @@
--- The cut law: receives that read the same bytes hand out the same, in order, and leave the same bytes in every part, whatever each is lent.
+-- The cut law: receives that read the same bytes hand out the same, in order, and leave the
+-- same bytes in every part, whatever each is lent.
 -- Assumes nothing.
 use mathlib.Core.Path.{_≡_, refl, sym, ap, _∙_}
 use mathlib.Core.Bool.{Bool, true, false, cond, false≢true}
@@ -13,7 +14,8 @@ use Rattle.requester.specs.Calls
 use Rattle.requester.specs.Calls.{MainParts, handedReportOf, MainPartsValid}
 use Rattle.requester.proofs.ValidLaws.{valid-parts}
 use Rattle.requester_claims.specs.Histories
-use Rattle.requester_claims.specs.Histories.{MainCall, MainAnswer, refused, done, put, received, MainDid, mainDid, handedDataIn, receiptDid, mainEnough, MainMade, mainMade}
+use Rattle.requester_claims.specs.Histories.{MainCall, MainAnswer, refused, done, put, received, MainDid, mainDid, handedDataIn}
+use Rattle.requester_claims.specs.Histories.{receiptDid, mainEnough, MainMade, mainMade}
 use Rattle.requester_claims.proofs.OneByte.{Fed, feed, stopsAt, Walked, walked, walk}
 use Rattle.requester_claims.proofs.ByteClaim.{feed-follows, feed-quiet, received-walk}
 use Rattle.requester_claims.proofs.CallClaims.{report-received}
@@ -21,7 +23,8 @@ use Rattle.requester_claims.proofs.LentCalls.{whole, too-little}
 use Rattle.requester_claims.proofs.History.{one-call, valid-long-enough, started}
 use Rattle.requester_claims.specs.Histories.{OfStarted, OfValid}
 use Rattle.requester_claims.specs.Item2.{MainCut, CutBetween}
-use Rattle.requester_claims.specs.Cuts.{handedEvents, MainRead, Listener, listening, answeredBy, afterMainRead, afterMainReads, stretchOutputs, leftByStretches}
+use Rattle.requester_claims.specs.Cuts.{handedEvents, MainRead, Listener, listening, answeredBy, afterMainRead, afterMainReads}
+use Rattle.requester_claims.specs.Cuts.{stretchOutputs, leftByStretches}
 
 -- ---- byte by byte
 
@@ -59,11 +62,13 @@ quiet x (suc b) v e =
     rw (feed-quiet p (valid-ready (p .reader) (v .reader)) b (eqb-false _ _ (rw eqb·suc-zero at e)), append-nil)
 
 -- more bytes behind those of a byte that hands nothing out
-fed-later : (x : Listener) (b : ℕ) (cs : List ℕ) (f : Fed) → MainPartsValid (x .parts) → stopsAt (x .parts .reader) b ≡ false → fedTo x (b ∷ cs) f ≡ fedTo (afterByte x b) cs f
+fed-later : (x : Listener) (b : ℕ) (cs : List ℕ) (f : Fed) → MainPartsValid (x .parts) → stopsAt (x .parts .reader) b ≡ false
+    → fedTo x (b ∷ cs) f ≡ fedTo (afterByte x b) cs f
 unfolding fedTo
 fed-later x b cs f v e = rw (quiet x b v e) (rw append-snoc)
 
-walk-stream : (piece : List ℕ) (x : Listener) → MainPartsValid (x .parts) → let w = walk (x .parts) piece in fedTo x (take (w .used) piece) (w .fed) ≡ stream x (take (w .used) piece)
+walk-stream : (piece : List ℕ) (x : Listener) → MainPartsValid (x .parts)
+    → let w = walk (x .parts) piece in fedTo x (take (w .used) piece) (w .fed) ≡ stream x (take (w .used) piece)
 unfolding walk stream fedTo afterByte handedEvents handedReportOf
 walk-stream [] x v = rw (append-nil, append-nil)
 walk-stream (b ∷ bs) x v =
@@ -76,7 +81,8 @@ walk-stream (b ∷ bs) x v =
     i = walk (y .parts) bs
 
     by : (t : Bool) → stopsAt (x .parts .reader) b ≡ t → fedTo y (take (i .used) bs) (i .fed) ≡ stream y (take (i .used) bs)
-        → let w = cond t (walked 1 (feed (x .parts) b)) (walked (suc (i .used)) (i .fed)) in fedTo x (take (w .used) (b ∷ bs)) (w .fed) ≡ stream x (take (w .used) (b ∷ bs))
+        → let w = cond t (walked 1 (feed (x .parts) b)) (walked (suc (i .used))
+        (i .fed)) in fedTo x (take (w .used) (b ∷ bs)) (w .fed) ≡ stream x (take (w .used) (b ∷ bs))
     by true e h = refl
     by false e h = fed-later x b (take (i .used) bs) (i .fed) v e ∙ h
 
@@ -98,7 +104,11 @@ unfolding mainDid Calls.mainReceivePromise receiptDid fedTo
 did-stream x c v =
     let p = x .parts in
     let w = walk p (c .piece) in
-    rw (valid-parts p v, received-walk (c .piece) p (valid-ready (p .reader) (v .reader)), report-received (w .used) (w .fed .handed) (w .fed .ended) _)
+    rw (
+      valid-parts p v,
+      received-walk (c .piece) p (valid-ready (p .reader) (v .reader)),
+      report-received (w .used) (w .fed .handed) (w .fed .ended) _,
+    )
     (walk-stream (c .piece) x v)
 
 call-stream : (x : Listener) (c : MainRead) → MainPartsValid (x .parts) → afterMainRead x c ≡ stream x (bytesRead x c)

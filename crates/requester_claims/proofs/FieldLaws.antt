@@ -111,7 +111,8 @@ module _ (u : ℕ) (r : List ℕ) (v : RequesterValid r) where
   flagged-unsent : Layout.unsentOf flagged ≡ u
   flagged-unsent = ap number (overlay-inside Layout.unsent-offset (u ∷ []) r (omega (arith, v .long))) ∙ number-byte u
 
-  pub flagged-held : (bs : Option (List ℕ)) → held flagged bs ≡ mainState (Layout.newestNumber r) (keptRequestOf r) (Layout.recoveryStep r) (eqb u 1) bs
+  pub flagged-held : (bs : Option (List ℕ))
+      → held flagged bs ≡ mainState (Layout.newestNumber r) (keptRequestOf r) (Layout.recoveryStep r) (eqb u 1) bs
   unfolding keptRequestOf
   flagged-held bs =
       rw (
@@ -154,24 +155,29 @@ module _ (command : ℕ) (d r : List ℕ) (v : RequesterValid r) (l : length d �
   asked-command : Layout.keptCommand asked ≡ command
   unfolding bytes
   asked-command =
-      ap number (overlay-part Layout.command-offset 0 1 (command ∷ bytes 2 (length d) ++ d) r (omega (arith, v .long)) (omega arith)) ∙ number-byte command
+      ap number (overlay-part Layout.command-offset 0 1 (command ∷ bytes 2 (length d) ++ d) r (omega (arith, v .long)) (omega arith))
+      ∙ number-byte command
 
   asked-length : Layout.keptLength asked ≡ length d
   unfolding bytes
   asked-length =
-      ap number (overlay-part Layout.command-offset 1 2 (command ∷ bytes 2 (length d) ++ d) r (omega (arith, v .long)) (omega arith)) ∙ number-bytes 2 (length d) (omega arith)
+      ap number (overlay-part Layout.command-offset 1 2 (command ∷ bytes 2 (length d) ++ d) r (omega (arith, v .long)) (omega arith))
+      ∙ number-bytes 2 (length d) (omega arith)
 
   asked-data : run Layout.kept-data-offset (length d) asked ≡ d
   unfolding bytes
   asked-data =
-      overlay-part Layout.command-offset 3 (length d) (command ∷ bytes 2 (length d) ++ d) r (omega (arith, v .long)) (omega arith) ∙ take-length d
+      overlay-part Layout.command-offset 3 (length d) (command ∷ bytes 2 (length d) ++ d) r (omega (arith, v .long)) (omega arith)
+      ∙ take-length d
 
   pub asked-long : length asked ≡ length r
   unfolding bytes
   asked-long = length-overlay Layout.command-offset (command ∷ bytes 2 (length d) ++ d) r (omega (arith, v .long))
 
   pub asked-held : (bs : Option (List ℕ))
-      → held asked bs ≡ mainState (Layout.newestNumber r) (cond (Layout.isKept r) (some (record { command = command; payload = d })) none) (Layout.recoveryStep r) (eqb (Layout.unsentOf r) 1) bs
+      → held asked bs
+      ≡ mainState (Layout.newestNumber r) (cond (Layout.isKept r) (some (record { command = command; payload = d })) none)
+      (Layout.recoveryStep r) (eqb (Layout.unsentOf r) 1) bs
   unfolding keptRequestOf Layout.keptRequest
   asked-held bs =
       rw (

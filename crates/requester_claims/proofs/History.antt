@@ -1,4 +1,5 @@
--- The claim over lists of calls: what each answers, writes and leaves is document 02's, whatever is lent; refusals; 12 only where too little is lent.
+-- The claim over lists of calls: what each answers, writes and leaves is document 02's, whatever is lent; refusals;
+-- 12 only where too little is lent.
 -- Assumes nothing.
 use mathlib.Core.Path.{_≡_, refl, sym, subst, _∙_}
 use mathlib.Core.Bool.{Bool, true, false, and-eq-true-iff}
@@ -23,9 +24,12 @@ use Rattle.requester.proofs.ValidLaws.{requester-valid, is-long-enough}
 use Rattle.line.proofs.State.{valid-ready}
 use Rattle.requester_claims.specs.View.{mainView}
 use Rattle.requester_claims.specs.Histories
-use Rattle.requester_claims.specs.Histories.{MainCall, MainAnswer, refused, done, put, received, MainDid, mainDidBy, mainDid, putDid, mainRefusal, receiptDid, handedDataIn}
-use Rattle.requester_claims.specs.Histories.{mainMeans, putMeans, mainDoneMeans, mainMeant, MainLent, mainLentOf, mainEnough, MainMade, mainUntouched, mainMade, mainMeantMade}
-use Rattle.requester_claims.specs.Histories.{mainOutputs, mainLeft, mainOutputsMeant, mainLeftMeant, mainStartCall, Accepted, OfReached, OfValid}
+use Rattle.requester_claims.specs.Histories.{MainCall, MainAnswer, refused, done, put, received, MainDid, mainDidBy, mainDid, putDid}
+use Rattle.requester_claims.specs.Histories.{mainRefusal, receiptDid, handedDataIn}
+use Rattle.requester_claims.specs.Histories.{mainMeans, putMeans, mainDoneMeans, mainMeant, MainLent, mainLentOf, mainEnough}
+use Rattle.requester_claims.specs.Histories.{MainMade, mainUntouched, mainMade, mainMeantMade}
+use Rattle.requester_claims.specs.Histories.{mainOutputs, mainLeft, mainOutputsMeant, mainLeftMeant, mainStartCall, Accepted}
+use Rattle.requester_claims.specs.Histories.{OfReached, OfValid}
 use Rattle.requester_claims.specs.Item2.{Follow, MainCallsMeant, MainNo12, MainRefusedHolds, MainRefusedMade}
 use Rattle.requester_claims.proofs.ByteClaim.{lengths-same, lengths-then}
 use Rattle.requester_claims.specs.Demand1.{MainMeets, CallAsMeant}
@@ -45,7 +49,8 @@ module _ (p : MainParts) where
   Held c d = WhereRefused (d .answer) (λ n. (d .parts ≡ p) × (d .out ≡ mainUntouched c))
 
   held : (c : MainCall) → Held c (mainDid p c)
-  unfolding mainDid Calls.mainStartPromise Calls.requestPromise Calls.putInto Calls.interruptPromise Calls.sendPromise Calls.mainReceivePromise Calls.mainReceiveValid receiptDid handedDataIn
+  unfolding mainDid Calls.mainStartPromise Calls.requestPromise Calls.putInto Calls.interruptPromise Calls.sendPromise
+      Calls.mainReceivePromise Calls.mainReceiveValid receiptDid handedDataIn
   held Histories.start = cond-by P (Calls.mainLongEnough p) _ _ (λ _. tt) (λ _. (refl, refl))
     where
       P : Calls.MainStartOutcome → Type 0
@@ -70,7 +75,8 @@ module _ (p : MainParts) where
       P t = Held Histories.interrupt (mainDidBy (mainRefusal (t .refusal)) [] (Histories.withRequester p (t .requester)))
   held (Histories.send room) =
       cond-by P (validRequester (p .requester)) _ _
-      (λ _. cond-by P (Layout.isUnsent (p .requester)) _ _ (λ _. cond-by P (ltb (length room) _) _ _ (λ _. (refl, refl)) (λ _. tt)) (λ _. tt))
+      (λ _.
+      cond-by P (Layout.isUnsent (p .requester)) _ _ (λ _. cond-by P (ltb (length room) _) _ _ (λ _. (refl, refl)) (λ _. tt)) (λ _. tt))
       (λ _. (refl, refl))
     where
       P : Calls.PutOutcome → Type 0
@@ -102,12 +108,14 @@ module _ (s : MainState) where
   sent-12 room none = tt
   sent-12 room (some q) =
       cond-by (PutNot12 room) (s .unsent) _ _
-      (λ _. cond-by (PutNot12 room) (ltb (length room) (length (requestFrame (s .newest) q))) _ _ (λ _ f. omega (arith, f)) (λ _. tt)) (λ _. tt)
+      (λ _. cond-by (PutNot12 room) (ltb (length room) (length (requestFrame (s .newest) q))) _ _ (λ _ f. omega (arith, f)) (λ _. tt))
+      (λ _. tt)
 
   interrupted-12 : (t : Option RecoveryStep) → Not12 (mainDoneMeans (Requester.interruptedIn t s .refusal) s .answer)
   interrupted-12 (some t) = tt
   interrupted-12 none =
-      cond-by (λ (x : Requester.MainDone). Not12 (mainDoneMeans (x .refusal) s .answer)) (leb last-number (s .newest)) _ _ (λ _ f. omega (arith, f)) (λ _. tt)
+      cond-by (λ (x : Requester.MainDone). Not12 (mainDoneMeans (x .refusal) s .answer)) (leb last-number (s .newest)) _ _
+      (λ _ f. omega (arith, f)) (λ _. tt)
 
   meant-12 : (c : MainCall) → Not12 (mainMeant s c .answer)
   unfolding mainMeant Requester.request Requester.interrupt Requester.send
@@ -128,7 +136,8 @@ never-12 s m e f = let h : mainMeant s (m .call) .answer ≡ refused 12 = rw e a
 -- ---- one call
 
 pub valid-long-enough : (p : MainParts) → MainPartsValid p → MainLongEnough p
-valid-long-enough p v = record { reader = valid-ready (p .reader) (v .reader) .0; requester = requester-valid (p .requester) (v .requester) .long }
+valid-long-enough p v =
+    record { reader = valid-ready (p .reader) (v .reader) .0; requester = requester-valid (p .requester) (v .requester) .long }
 
 -- whatever is lent: the answer, what is written outside the state, and the valid parts that are left
 pub one-call : (p : MainParts) (m : MainMade) → MainPartsValid p → MainMeets p (mainMade p m) (mainMeantMade (mainView p) m)
@@ -152,7 +161,8 @@ unfolding mainOutputs mainLeft mainOutputsMeant mainLeftMeant
 follow q v [] = (refl, refl, v, lengths-same)
 follow q v (m ∷ ms) =
     let k = one-call q m v in
-    let i : Follow (mainMade q m .parts) (mainMade q m .parts) (mainMeantMade (mainView q) m .state) ms = rw (k .state) at (follow (mainMade q m .parts) (k .valid) ms) in
+    let i : Follow (mainMade q m .parts) (mainMade q m .parts) (mainMeantMade (mainView q) m .state) ms =
+    rw (k .state) at (follow (mainMade q m .parts) (k .valid) ms) in
     (rw (k .answer, k .out, i .0), i .1, i .2, lengths-then (k .lengths) (i .3))
 
 -- ---- the first start, on any bytes
@@ -162,7 +172,8 @@ module _ (p : MainParts) (l : MainLent) where
   undone n e = subst (λ a. WhereRefused a (λ _. ⊥)) (sym e) tt
 
   -- a start that is accepted had the published length of each part
-  accepted : (x : Bool) → Calls.mainLongEnough (mainLentOf l p) ≡ x → Accepted p l → MainLongEnough p × (mainEnough Histories.start l ≡ true)
+  accepted : (x : Bool) → Calls.mainLongEnough (mainLentOf l p) ≡ x → Accepted p l
+      → MainLongEnough p × (mainEnough Histories.start l ≡ true)
   unfolding mainMade mainDid Calls.mainStartPromise mainEnough
   accepted false e h = absurd (undone 12 (rw e at h))
   accepted true e h =

@@ -1,4 +1,5 @@
--- A call that is lent enough of each part that it takes does what it does on the whole parts; any other is refused as 12 and changes nothing.
+-- A call that is lent enough of each part that it takes does what it does on the whole parts;
+-- any other is refused as 12 and changes nothing.
 -- Assumes nothing.
 use mathlib.Core.Path.{_≡_, refl, sym, _∙_}
 use mathlib.Core.Bool.{Bool, true, false, _&&_, false≢true, and-eq-true-iff}
@@ -19,7 +20,8 @@ use Rattle.requester.proofs.Cases.{untrue}
 use Rattle.requester.proofs.ValidLaws.{requester-valid, parts-valid, is-long-enough}
 use Rattle.requester.proofs.ReaderLaws.{read-leaves}
 use Rattle.requester_claims.specs.Histories
-use Rattle.requester_claims.specs.Histories.{MainCall, MainLent, mainDid, mainLentOf, enoughReader, enoughRequester, mainEnough, mainMade, handedDataIn, receiptDid}
+use Rattle.requester_claims.specs.Histories.{MainCall, MainLent, mainDid, mainLentOf, enoughReader, enoughRequester, mainEnough}
+use Rattle.requester_claims.specs.Histories.{mainMade, handedDataIn, receiptDid}
 use Rattle.requester_claims.specs.Item2.{TooLittle, WholeRequest}
 use Rattle.requester_claims.proofs.Locality
 
@@ -151,7 +153,8 @@ module _ (l : MainLent) (p : MainParts) where
       )
 
 pub too-little : TooLittle
-unfolding mainEnough mainMade mainDid Calls.mainStartPromise Calls.requestPromise Calls.interruptPromise Calls.sendPromise Calls.mainReceivePromise receiptDid handedDataIn
+unfolding mainEnough mainMade mainDid Calls.mainStartPromise Calls.requestPromise Calls.interruptPromise Calls.sendPromise
+    Calls.mainReceivePromise receiptDid handedDataIn
 too-little l p Histories.start e = rw (fails _ _ e (room-enough l p)) (simp back-same)
 too-little l p (Histories.request command d out) e = rw (fails _ _ e (requester-enough l p)) (simp back-same)
 too-little l p Histories.interrupt e = rw (fails _ _ e (requester-enough l p)) (simp back-same)

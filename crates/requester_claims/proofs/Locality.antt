@@ -83,18 +83,24 @@ module _ (t u : List ℕ) (long : Layout.requester-length ≤ length t) where
   flag-behind : (x : ℕ) → overlay Layout.unsent-offset (x ∷ []) (t ++ u) ≡ overlay Layout.unsent-offset (x ∷ []) t ++ u
   flag-behind x = overlay-append t u Layout.unsent-offset (x ∷ []) (omega arith)
 
-  kept-behind : (n command : ℕ) (d : List ℕ) → length d ≤ longest-data → Calls.withRequest n command d (t ++ u) ≡ Calls.withRequest n command d t ++ u
+  kept-behind : (n command : ℕ) (d : List ℕ) → length d ≤ longest-data
+      → Calls.withRequest n command d (t ++ u) ≡ Calls.withRequest n command d t ++ u
   unfolding Calls.withRequest bytes
   kept-behind n command d h =
       cond-map (λ x. x ++ u) (staysOut command)
-      (λ _. rw (progressed-behind n 0 0 1) (overlay-append (progressed n 0 0 1 t) u Layout.command-offset (command ∷ bytes 2 (length d) ++ d) (omega (arith, length-progressed t long n 0 0 1))))
+      (λ _.
+      rw (progressed-behind n 0 0 1)
+      (overlay-append (progressed n 0 0 1 t) u Layout.command-offset (command ∷ bytes 2 (length d) ++ d)
+      (omega (arith, length-progressed t long n 0 0 1))))
       (λ _. progressed-behind n 0 0 0)
 
-  put-behind : (bs room x : List ℕ) {after : List ℕ} → after ≡ x ++ u → Calls.putInto bs room (t ++ u) after ≡ putBehind u (Calls.putInto bs room t x)
+  put-behind : (bs room x : List ℕ) {after : List ℕ} → after ≡ x ++ u
+      → Calls.putInto bs room (t ++ u) after ≡ putBehind u (Calls.putInto bs room t x)
   unfolding Calls.putInto
   put-behind bs room x e = cond-map (putBehind u) (ltb (length room) (length bs)) (λ _. refl) (λ _. rw e)
 
-  pub requesting-behind : (command : ℕ) (d room : List ℕ) → Calls.requestPromise (t ++ u) command d room ≡ putBehind u (Calls.requestPromise t command d room)
+  pub requesting-behind : (command : ℕ) (d room : List ℕ)
+      → Calls.requestPromise (t ++ u) command d room ≡ putBehind u (Calls.requestPromise t command d room)
   unfolding Calls.requestPromise
   requesting-behind command d room =
       rw (valid-behind, outstanding-behind, number-behind 8 Layout.number-offset (omega arith))
@@ -102,7 +108,8 @@ module _ (t u : List ℕ) (long : Layout.requester-length ≤ length t) where
       cond-map (putBehind u) (ltb longest-data (length d)) (λ _. refl) (λ e.
       cond-map (putBehind u) (Layout.isOutstanding t) (λ _. refl) (λ _.
       cond-map (putBehind u) (leb last-number (Layout.newestNumber t)) (λ _. refl) (λ _.
-      put-behind (requestFrame (suc (Layout.newestNumber t)) (record { command = command; payload = d })) room _ (kept-behind (suc (Layout.newestNumber t)) command d (ltb-false _ _ e))))))
+      put-behind (requestFrame (suc (Layout.newestNumber t)) (record { command = command; payload = d })) room _
+      (kept-behind (suc (Layout.newestNumber t)) command d (ltb-false _ _ e))))))
       (λ _. refl))
 
   pub sending-behind : (room : List ℕ) → Calls.sendPromise (t ++ u) room ≡ putBehind u (Calls.sendPromise t room)
@@ -111,16 +118,23 @@ module _ (t u : List ℕ) (long : Layout.requester-length ≤ length t) where
       rw (valid-behind, unsent-behind, number-behind 8 Layout.number-offset (omega arith))
       (cond-map (putBehind u) (validRequester t) (λ v.
       rw (request-behind (requester-valid t v .size))
-      (cond-map (putBehind u) (Layout.isUnsent t) (λ _. put-behind (requestFrame (Layout.newestNumber t) (Layout.outRequest t)) room _ (flag-behind 0)) (λ _. refl)))
+      (cond-map (putBehind u) (Layout.isUnsent t)
+      (λ _. put-behind (requestFrame (Layout.newestNumber t) (Layout.outRequest t)) room _ (flag-behind 0)) (λ _. refl)))
       (λ _. refl))
 
   pub interrupting-behind : Calls.interruptPromise (t ++ u) ≡ interruptBehind u (Calls.interruptPromise t)
   unfolding Calls.interruptPromise
   interrupting-behind =
-      rw (valid-behind, number-behind 1 Layout.recovery-offset (omega arith), number-behind 8 Layout.number-offset (omega arith), number-behind 1 Layout.kept-offset (omega arith))
+      rw (
+        valid-behind,
+        number-behind 1 Layout.recovery-offset (omega arith),
+        number-behind 8 Layout.number-offset (omega arith),
+        number-behind 1 Layout.kept-offset (omega arith),
+      )
       (cond-map (interruptBehind u) (validRequester t) (λ _.
       cond-map (interruptBehind u) (eqb (Layout.recoveryOf t) 0) (λ _.
-      cond-map (interruptBehind u) (leb last-number (Layout.newestNumber t)) (λ _. refl) (λ _. rw (progressed-behind (suc (Layout.newestNumber t)) _ 1 (Layout.keptFlag t))))
+      cond-map (interruptBehind u) (leb last-number (Layout.newestNumber t)) (λ _. refl)
+      (λ _. rw (progressed-behind (suc (Layout.newestNumber t)) _ 1 (Layout.keptFlag t))))
       (λ _. refl))
       (λ _. refl))
 
@@ -161,7 +175,8 @@ read-behind (suc b ∷ bs) s u r =
     let p = ready-pushed s (suc b) r in
     rw (eqb·suc-zero, pushed-append s u (r .0) (suc b)) (rw (read-behind bs (LineReader.pushed s (suc b)) u (omega (arith, r .0), p .1)))
 
-heard-behind : (n : ℕ) (s u : List ℕ) → LineReader.reader-length ≤ length s → (a : LineReader.ReadReport) → heardOf n (s ++ u) a ≡ heardOf n s a
+heard-behind : (n : ℕ) (s u : List ℕ) → LineReader.reader-length ≤ length s → (a : LineReader.ReadReport)
+    → heardOf n (s ++ u) a ≡ heardOf n s a
 unfolding heardOf
 heard-behind n s u h (LineReader.refused k) = refl
 heard-behind n s u h LineReader.more = rw (count-append s u h)
@@ -175,14 +190,17 @@ abbrev pub partsBehind : List ℕ → List ℕ → MainParts → MainParts
 partsBehind a u p = mainParts (p .reader ++ a) (p .requester ++ u)
 
 abbrev receiptBehind : List ℕ → List ℕ → Calls.MainReceiveOutcome → Calls.MainReceiveOutcome
-receiptBehind a u x = record { used = x .used; report = x .report; ended = x .ended; unsent = x .unsent; parts = partsBehind a u (x .parts) }
+receiptBehind a u x =
+    record { used = x .used; report = x .report; ended = x .ended; unsent = x .unsent; parts = partsBehind a u (x .parts) }
 
-module _ (p : MainParts) (a u : List ℕ) (reader : LineReader.reader-length ≤ length (p .reader)) (requester : Layout.requester-length ≤ length (p .requester)) where
+module _ (p : MainParts) (a u : List ℕ) (reader : LineReader.reader-length ≤ length (p .reader))
+    (requester : Layout.requester-length ≤ length (p .requester)) where
   valid-parts-behind : Calls.mainValidParts (partsBehind a u p) ≡ Calls.mainValidParts p
   unfolding Calls.mainValidParts
   valid-parts-behind = rw (valid-append (p .reader) a reader, valid-behind (p .requester) u requester)
 
-  received-behind : Calls.mainValidParts p ≡ true → (piece : List ℕ) → Calls.mainReceiveValid (partsBehind a u p) piece ≡ receiptBehind a u (Calls.mainReceiveValid p piece)
+  received-behind : Calls.mainValidParts p ≡ true → (piece : List ℕ)
+      → Calls.mainReceiveValid (partsBehind a u p) piece ≡ receiptBehind a u (Calls.mainReceiveValid p piece)
   unfolding Calls.mainReceiveValid
   received-behind v piece =
       let r = valid-ready (p .reader) (parts-valid p v .reader) in
@@ -198,15 +216,18 @@ module _ (p : MainParts) (a u : List ℕ) (reader : LineReader.reader-length ≤
         heard-behind (Layout.newestNumber (p .requester)) (o .state) a (w .ready .0) (o .answer),
         outcome-behind (p .requester) u requester h,
         moved-behind (p .requester) u requester (x .next),
-        unsent-behind (Calls.partMovedTo (x .next) (p .requester) .requester) u (omega (arith, moved-long (p .requester) u requester (x .next))),
+        unsent-behind (Calls.partMovedTo (x .next) (p .requester) .requester) u
+            (omega (arith, moved-long (p .requester) u requester (x .next))),
       )
 
-  pub receiving-behind : (piece : List ℕ) → Calls.mainReceivePromise (partsBehind a u p) piece ≡ receiptBehind a u (Calls.mainReceivePromise p piece)
+  pub receiving-behind : (piece : List ℕ)
+      → Calls.mainReceivePromise (partsBehind a u p) piece ≡ receiptBehind a u (Calls.mainReceivePromise p piece)
   unfolding Calls.mainReceivePromise
   receiving-behind piece =
       rw valid-parts-behind (cond-map (receiptBehind a u) (Calls.mainValidParts p) (λ v. received-behind v piece) (λ _. refl))
 
-  pub starting-behind : Calls.mainStartPromise (partsBehind a u p) ≡ record { refusal = Calls.mainStartPromise p .refusal; parts = partsBehind a u (Calls.mainStartPromise p .parts) }
+  pub starting-behind : Calls.mainStartPromise (partsBehind a u p)
+      ≡ record { refusal = Calls.mainStartPromise p .refusal; parts = partsBehind a u (Calls.mainStartPromise p .parts) }
   unfolding Calls.mainStartPromise Calls.mainLongEnough Calls.mainFreshParts LineReader.readerStartPromise LineReader.withCount bytes
   starting-behind =
       rw (

@@ -34,7 +34,8 @@ unfolding mainByte
 byte-more s b e = rw e
 
 -- it changes the receive progress alone, and hands nothing out
-pub quiet-byte : (s : MainState) (b : ℕ) → Requester.stops s b ≡ false → mainByte s b ≡ dropped (Requester.mainWithReceived s (grown (s .received) b))
+pub quiet-byte : (s : MainState) (b : ℕ) → Requester.stops s b ≡ false
+    → mainByte s b ≡ dropped (Requester.mainWithReceived s (grown (s .received) b))
 quiet-byte s b e =
     let h = either (eqb b 0) (Requester.fills (s .received)) e in
     byte-more s b (h .0) ∙ quiet-more s b (s .received) refl (h .1)

@@ -25,7 +25,8 @@ use Rattle.requester.proofs.ProgressLaws.{step-at}
 use Rattle.requester.proofs.ValidLaws.{RequesterValid}
 use Rattle.requester_claims.specs.View.{keptRequestOf, held}
 use Rattle.requester_claims.specs.Histories.{handedDataIn, handedData}
-use Rattle.requester_claims.proofs.FieldLaws.{progressed-held, progressed-valid, progressed-long, flagged-held, flagged-valid, flagged-long}
+use Rattle.requester_claims.proofs.FieldLaws.{progressed-held, progressed-valid, progressed-long, flagged-held, flagged-valid}
+use Rattle.requester_claims.proofs.FieldLaws.{flagged-long}
 
 pub kept-some : (r : List ℕ) → isSome (keptRequestOf r) ≡ Layout.isKept r
 unfolding keptRequestOf
@@ -92,7 +93,8 @@ module _ (reader : List ℕ) (m : Message) (g : LineReader.dataPromise reader (l
   given-answer none false = refl
   given-answer none true = g
   given-answer (some fetch) k =
-      cond-by (λ (o : Requester.HeardOutcome). Given reader (o .handed)) (eqb (m .command) 0x06 && eqb (length (m .payload)) status-length) _ _ (λ e. refl) (λ e. refl)
+      cond-by (λ (o : Requester.HeardOutcome). Given reader (o .handed)) (eqb (m .command) 0x06 && eqb (length (m .payload)) status-length)
+      _ _ (λ e. refl) (λ e. refl)
   given-answer (some acknowledge) k = refl
   given-answer (some alert) k = g
 
@@ -109,8 +111,8 @@ given-other reader none true = refl
 given-other reader (some t) k = refl
 
 -- of a good message whose data the reader's part holds
-pub given-good : (reader : List ℕ) (m : Message) → LineReader.dataPromise reader (length (m .payload)) ≡ m .payload → (n : ℕ) (t : Option RecoveryStep) (k : Bool)
-    → Given reader (settle t k (hear n (good m)) .handed)
+pub given-good : (reader : List ℕ) (m : Message) → LineReader.dataPromise reader (length (m .payload)) ≡ m .payload
+    → (n : ℕ) (t : Option RecoveryStep) (k : Bool) → Given reader (settle t k (hear n (good m)) .handed)
 unfolding hear
 given-good reader m g n t k =
     cond-by P (not (eqb (m .version) 1)) _ _ (λ _. given-ground reader t k) (λ _.

@@ -24,12 +24,14 @@ use Rattle.requester.specs.Layout
 use Rattle.requester.specs.Calls.{MainParts, MainPartsValid}
 use Rattle.requester_claims.specs.View.{mainView}
 use Rattle.requester_claims.specs.Histories
-use Rattle.requester_claims.specs.Histories.{MainCall, refused, put, received, MainMeans, mainMeans, putMeans, mainDoneMeans, mainMeant, MainMade, mainMade, mainMeantMade, mainEnough}
+use Rattle.requester_claims.specs.Histories.{MainCall, refused, put, received, MainMeans, mainMeans, putMeans, mainDoneMeans}
+use Rattle.requester_claims.specs.Histories.{mainMeant, MainMade, mainMade, mainMeantMade, mainEnough}
 use Rattle.requester_claims.proofs.MeaningLaws.{grown, quiet-byte}
 use Rattle.requester_claims.proofs.History.{one-call, history}
 use Rattle.requester_claims.specs.Histories.{OfReached, OfValid}
 use Rattle.requester_claims.specs.Item2.{OneNumber}
-use Rattle.requester_claims.specs.Numbers.{Frame, framesPutOut, frames, isStart, NoMainStart, Between, OnePerNumber, OneAbove, RequestFrame}
+use Rattle.requester_claims.specs.Numbers.{Frame, framesPutOut, frames, isStart, NoMainStart, Between, OnePerNumber, OneAbove}
+use Rattle.requester_claims.specs.Numbers.{RequestFrame}
 
 -- ---- one call
 
@@ -40,7 +42,8 @@ framed n q = record { number = n; bytes = requestFrame n q } ∷ []
 pub data Goes (s t : MainState) (fs : List Frame) : Type 0 where
   stays : t .newest ≡ s .newest → (outstanding t ≡ outstanding s) ⊎ (outstanding t ≡ none)
       → (fs ≡ []) ⊎ ((q : Request) × (outstanding s ≡ some q) × (fs ≡ framed (s .newest) q)) → Goes s t fs
-  takes : t .newest ≡ suc (s .newest) → (fs ≡ []) ⊎ ((q : Request) × ((outstanding t ≡ some q) ⊎ (outstanding t ≡ none)) × (fs ≡ framed (t .newest) q)) → Goes s t fs
+  takes : t .newest ≡ suc (s .newest)
+      → (fs ≡ []) ⊎ ((q : Request) × ((outstanding t ≡ some q) ⊎ (outstanding t ≡ none)) × (fs ≡ framed (t .newest) q)) → Goes s t fs
 
 nothing-goes : (s : MainState) → Goes s s []
 nothing-goes s = stays refl (inl refl) (inl refl)
@@ -50,7 +53,8 @@ unfolding Requester.movedTo
 moved-goes Requester.same s = nothing-goes s
 moved-goes Requester.again s = stays refl (inl refl) (inl refl)
 moved-goes (Requester.anew t) s =
-    cond-by (λ (m : Requester.Moved). Goes s (m .state) []) (leb last-number (s .newest)) _ _ (λ _. stays refl (inr refl) (inl refl)) (λ _. takes refl (inl refl))
+    cond-by (λ (m : Requester.Moved). Goes s (m .state) []) (leb last-number (s .newest)) _ _ (λ _. stays refl (inr refl) (inl refl))
+    (λ _. takes refl (inl refl))
 moved-goes Requester.idle s = stays refl (inr refl) (inl refl)
 
 -- the receive progress does not matter
@@ -76,7 +80,9 @@ module _ (s : MainState) where
 
   byte-goes : (b : ℕ) → Goes s (Requester.mainByte s b .state) []
   unfolding Requester.mainByte
-  byte-goes b = cond-by (λ (x : Requester.Result). Goes s (x .state) []) (eqb b 0) _ _ (λ _. closes-goes (s .received)) (λ _. more-goes (s .received) b)
+  byte-goes b =
+      cond-by (λ (x : Requester.Result). Goes s (x .state) []) (eqb b 0) _ _ (λ _. closes-goes (s .received))
+      (λ _. more-goes (s .received) b)
 
 receive-goes : (piece : List ℕ) (s : MainState) → Goes s (Requester.receive s piece .result .state) []
 unfolding Requester.receive
@@ -87,15 +93,19 @@ receive-goes (b ∷ bs) s =
     P : Requester.ReceiveResult → Type 0
     P x = Goes s (x .result .state) []
 
-    by : (t : Bool) → Requester.stops s b ≡ t → ((x : Option (List ℕ)) → Goes (Requester.mainWithReceived s x) (Requester.receive (Requester.mainWithReceived s x) bs .result .state) [])
-        → let r = Requester.receive (Requester.mainByte s b .state) bs in P (cond t (Requester.receiveResult 1 (Requester.mainByte s b)) (Requester.receiveResult (suc (r .used)) (r .result)))
+    by : (t : Bool) → Requester.stops s b ≡ t
+        → ((x : Option (List ℕ))
+        → Goes (Requester.mainWithReceived s x) (Requester.receive (Requester.mainWithReceived s x) bs .result .state) [])
+        → let r = Requester.receive (Requester.mainByte s b .state) bs in P (cond t (Requester.receiveResult 1 (Requester.mainByte s b))
+        (Requester.receiveResult (suc (r .used)) (r .result)))
     by true e i = byte-goes s b
     by false e i = rw (quiet-byte s b e) (progress-goes (grown (s .received) b) (i (grown (s .received) b)))
 
 -- ---- what is put out
 
 -- a frame at the start of the room
-pub frames-put : (n : ℕ) (bs room : List ℕ) → 0 < length bs → framesPutOut (put (length bs)) (overlay 0 bs room) n ≡ record { number = n; bytes = bs } ∷ []
+pub frames-put : (n : ℕ) (bs room : List ℕ) → 0 < length bs
+    → framesPutOut (put (length bs)) (overlay 0 bs room) n ≡ record { number = n; bytes = bs } ∷ []
 unfolding framesPutOut
 frames-put n [] room h = absurd (omega arith)
 frames-put n (b ∷ bs) room h = rw (overlay-inside 0 (b ∷ bs) room (omega arith))
@@ -119,7 +129,8 @@ module _ (s : MainState) where
   unfolding framesPutOut
   refused-goes k room = nothing-goes s
 
-  request-goes : (command : ℕ) (d room : List ℕ) → PutGoes room (Requester.request (length room) (record { command = command; payload = d }) s)
+  request-goes : (command : ℕ) (d room : List ℕ)
+      → PutGoes room (Requester.request (length room) (record { command = command; payload = d }) s)
   unfolding Requester.request
   request-goes command d room =
       let q : Request = record { command = command; payload = d } in
@@ -133,11 +144,13 @@ module _ (s : MainState) where
       kept : (q : Request) → (Requester.keep q ≡ some q) ⊎ (Requester.keep q ≡ none)
       kept q = cond-by (λ k. (k ≡ some q) ⊎ (k ≡ none)) (staysOut (q .command)) (some q) none (λ _. inl refl) (λ _. inr refl)
 
-  interrupt-goes : (t : Option RecoveryStep) → MeansGoes (mainDoneMeans (Requester.interruptedIn t s .refusal) (Requester.interruptedIn t s .state))
+  interrupt-goes : (t : Option RecoveryStep)
+      → MeansGoes (mainDoneMeans (Requester.interruptedIn t s .refusal) (Requester.interruptedIn t s .state))
   unfolding framesPutOut
   interrupt-goes (some t) = nothing-goes s
   interrupt-goes none =
-      cond-by (λ (x : Requester.MainDone). MeansGoes (mainDoneMeans (x .refusal) (x .state))) (leb last-number (s .newest)) _ _ (λ _. nothing-goes s) (λ _. takes refl (inl refl))
+      cond-by (λ (x : Requester.MainDone). MeansGoes (mainDoneMeans (x .refusal) (x .state))) (leb last-number (s .newest)) _ _
+      (λ _. nothing-goes s) (λ _. takes refl (inl refl))
 
   send-goes : (room : List ℕ) (q : Option Request) → outstanding s ≡ q → PutGoes room (Requester.sentOf (length room) q s)
   unfolding framesPutOut
@@ -178,7 +191,8 @@ newest-is : (p : MainParts) → Layout.newestNumber (p .requester) ≡ mainView 
 unfolding mainView
 newest-is p = refl
 
-pub newest-after : (p : MainParts) → MainPartsValid p → (m : MainMade) → Layout.newestNumber (mainMade p m .parts .requester) ≡ mainMeantMade (mainView p) m .state .newest
+pub newest-after : (p : MainParts) → MainPartsValid p → (m : MainMade)
+    → Layout.newestNumber (mainMade p m .parts .requester) ≡ mainMeantMade (mainView p) m .state .newest
 newest-after p v m = newest-is (mainMade p m .parts) ∙ ap (λ (s : MainState). s .newest) (one-call p m v .state)
 
 frames-meant : (p : MainParts) → MainPartsValid p → (ms : List MainMade) → frames p ms ≡ framesMeant (mainView p) ms
@@ -213,22 +227,29 @@ agrees-goes x {s} {t} a (stays e k f) = (record { most = omega (arith, a .most);
     behind (inr (q, o, h)) = rw h ((a .most, λ n. rw n (a .same n q o)), tt)
 agrees-goes x {s} {t} a (takes e f) = (record { most = omega (arith, a .most); same = λ n q o. absurd (omega (arith, a .most)) }, behind f)
   where
-    behind : {fs : List Frame} → (fs ≡ []) ⊎ ((q : Request) × ((outstanding t ≡ some q) ⊎ (outstanding t ≡ none)) × (fs ≡ framed (t .newest) q)) → Each (Behind x) fs
+    behind : {fs : List Frame}
+        → (fs ≡ []) ⊎ ((q : Request) × ((outstanding t ≡ some q) ⊎ (outstanding t ≡ none)) × (fs ≡ framed (t .newest) q))
+        → Each (Behind x) fs
     behind (inl h) = rw h tt
     behind (inr (q, o, h)) = rw h ((omega (arith, a .most), λ n. absurd (omega (arith, a .most))), tt)
 
 -- what a call puts out is one frame at most, a request's, and agrees with the state that is left
-pub put-goes : {s t : MainState} {fs : List Frame} → Goes s t fs → Each (λ (x : Frame). Agrees x t) fs × OnePerNumber fs × Each RequestFrame fs
+pub put-goes : {s t : MainState} {fs : List Frame} → Goes s t fs
+    → Each (λ (x : Frame). Agrees x t) fs × OnePerNumber fs × Each RequestFrame fs
 put-goes {s} {t} (stays e k (inl h)) = rw h (tt, tt, tt)
-put-goes {s} {t} (stays e k (inr (q, o, h))) = rw h ((record { most = omega arith; same = λ n r w. same k r w }, tt), (tt, tt), ((q, refl), tt))
+put-goes {s} {t} (stays e k (inr (q, o, h))) =
+    rw h ((record { most = omega arith; same = λ n r w. same k r w }, tt), (tt, tt), ((q, refl), tt))
   where
-    same : (outstanding t ≡ outstanding s) ⊎ (outstanding t ≡ none) → (r : Request) → outstanding t ≡ some r → requestFrame (s .newest) r ≡ requestFrame (s .newest) q
+    same : (outstanding t ≡ outstanding s) ⊎ (outstanding t ≡ none) → (r : Request) → outstanding t ≡ some r
+        → requestFrame (s .newest) r ≡ requestFrame (s .newest) q
     same (inl g) r w = let z : r ≡ q = cc in rw z
     same (inr g) r w = absurd (never-some g w)
 put-goes {s} {t} (takes e (inl h)) = rw h (tt, tt, tt)
-put-goes {s} {t} (takes e (inr (q, k, h))) = rw h ((record { most = omega arith; same = λ n r w. same k r w }, tt), (tt, tt), ((q, refl), tt))
+put-goes {s} {t} (takes e (inr (q, k, h))) =
+    rw h ((record { most = omega arith; same = λ n r w. same k r w }, tt), (tt, tt), ((q, refl), tt))
   where
-    same : (outstanding t ≡ some q) ⊎ (outstanding t ≡ none) → (r : Request) → outstanding t ≡ some r → requestFrame (t .newest) r ≡ requestFrame (t .newest) q
+    same : (outstanding t ≡ some q) ⊎ (outstanding t ≡ none) → (r : Request) → outstanding t ≡ some r
+        → requestFrame (t .newest) r ≡ requestFrame (t .newest) q
     same (inl g) r w = let z : r ≡ q = cc in rw z
     same (inr g) r w = absurd (never-some g w)
 
@@ -241,7 +262,8 @@ later-behind x s a (m ∷ ms) h =
     let t = mainMeantMade s m in
     each-append (Behind x) (framesOf t) (framesMeant (t .state) ms) (g .1) (later-behind x (t .state) (g .0) ms (h .1))
 
-pub joined : (fs gs : List Frame) → Each (λ (x : Frame). Each (Behind x) gs) fs → OnePerNumber fs → OnePerNumber gs → OnePerNumber (fs ++ gs)
+pub joined : (fs gs : List Frame) → Each (λ (x : Frame). Each (Behind x) gs) fs → OnePerNumber fs → OnePerNumber gs
+    → OnePerNumber (fs ++ gs)
 joined [] gs h a b = b
 joined (x ∷ fs) gs h a b = (each-append (Behind x) fs gs (a .0) (h .0), joined fs gs (h .1) (a .1) b)
 
@@ -265,7 +287,10 @@ one-meant s (m ∷ ms) h =
 
 one-above : (p : MainParts) → MainPartsValid p → (ms : List MainMade) → Between ms → OneAbove p ms
 one-above p v [] h = tt
-one-above p v (m ∷ ms) h = (rw (newest-after p v m, newest-is p) (by (call-goes (mainView p) m (h .0))), one-above (mainMade p m .parts) (one-call p m v .valid) ms (h .1))
+one-above p v (m ∷ ms) h = (
+  rw (newest-after p v m, newest-is p) (by (call-goes (mainView p) m (h .0))),
+  one-above (mainMade p m .parts) (one-call p m v .valid) ms (h .1),
+)
   where
     by : {s t : MainState} {fs : List Frame} → Goes s t fs → (t .newest ≡ s .newest) ⊎ (t .newest ≡ suc (s .newest))
     by (stays e k f) = inl e
@@ -274,7 +299,8 @@ one-above p v (m ∷ ms) h = (rw (newest-after p v m, newest-is p) (by (call-goe
 -- ---- the claim
 
 pub one-number : OfValid OneNumber
-one-number p v ms h = let i = one-meant (mainView p) ms h in (rw (frames-meant p v ms) (i .0), rw (frames-meant p v ms) (i .1), one-above p v ms h)
+one-number p v ms h =
+    let i = one-meant (mainView p) ms h in (rw (frames-meant p v ms) (i .0), rw (frames-meant p v ms) (i .1), one-above p v ms h)
 
 pub one-number-started : OfReached OneNumber
 one-number-started p l h before = one-number _ (history p l h before .2)

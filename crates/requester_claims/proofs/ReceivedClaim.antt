@@ -32,7 +32,8 @@ module _ (s : List ℕ) where
   unfolding receivedOf
   received-some h = rw (le-ltb longest-form (LineReader.receivedCount s) h)
 
-  pub length-kept : LineReader.reader-length ≤ length s → LineReader.receivedCount s ≤ longest-form → length (LineReader.receivedBytes s) ≡ LineReader.receivedCount s
+  pub length-kept : LineReader.reader-length ≤ length s → LineReader.receivedCount s ≤ longest-form
+      → length (LineReader.receivedBytes s) ≡ LineReader.receivedCount s
   unfolding LineReader.receivedBytes
   length-kept h l = length-run LineReader.frame-offset (LineReader.receivedCount s) s (omega arith)
 

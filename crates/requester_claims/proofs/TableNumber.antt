@@ -102,7 +102,8 @@ unfolding receiptDid Calls.mainReceivePromise Calls.mainReceiveValid
 receive-number n p piece = cond-not (ReceiptBy n) (Calls.mainValidParts p) (rw report-received (none-received n _ _ _ _)) (same n 12)
 
 pub main-refused-exactly : MainRefusedExactly
-unfolding mainDid mainTests firstFailing mainView Calls.mainStartPromise Calls.requestPromise Calls.putInto Calls.interruptPromise Calls.sendPromise Layout.isUnsent
+unfolding mainDid mainTests firstFailing mainView Calls.mainStartPromise Calls.requestPromise Calls.putInto Calls.interruptPromise
+    Calls.sendPromise Layout.isUnsent
 main-refused-exactly p Histories.start n = cond-not (StartBy n) (Calls.mainLongEnough p) (none-done n) (same n 12)
 main-refused-exactly p (Histories.request command d room) n =
     let r = p .requester in
@@ -128,7 +129,7 @@ main-refused-exactly p (Histories.receive piece) n = receive-number n p piece
 pub main-start-accepted : MainStartAccepted
 unfolding mainDid Calls.mainStartPromise
 main-start-accepted p = (
-  cond-by (λ (t : Calls.MainStartOutcome). mainRefusal (t .refusal) ≡ done → MainLongEnough p) (Calls.mainLongEnough p) _ _ (λ e _. is-long-enough p e)
-      (λ _ e. absurd (clash cc)),
+  cond-by (λ (t : Calls.MainStartOutcome). mainRefusal (t .refusal) ≡ done → MainLongEnough p) (Calls.mainLongEnough p) _ _
+      (λ e _. is-long-enough p e) (λ _ e. absurd (clash cc)),
   λ l. rw (long-enough-is p l),
 )

@@ -42,7 +42,8 @@ MessageMatching n m = Matching n (m .version) (m .sequence) (m .command)
 -- each call of a list: the number is the newest as the call begins
 abbrev pub AllMatch : MainParts → List MainMade → Type 0
 AllMatch p [] = Unit {0}
-AllMatch p (m ∷ ms) = OfAnswer (λ used. MessageMatching (Layout.newestNumber (p .requester))) (mainMade p m .answer) (mainMade p m .out) × AllMatch (mainMade p m .parts) ms
+AllMatch p (m ∷ ms) = OfAnswer (λ used. MessageMatching (Layout.newestNumber (p .requester))) (mainMade p m .answer) (mainMade p m .out)
+    × AllMatch (mainMade p m .parts) ms
 
 abbrev pub answersReported : HandedReport → ℕ
 answersReported (HandedReport.refused k) = 0

@@ -44,10 +44,13 @@ abbrev pub answeredBy : Listener → MainRead → MainAnswer → List ℕ → Ma
 answeredBy x c (refused n) d p = record { handed = x .handed; bytes = x .bytes; parts = p }
 answeredBy x c done d p = record { handed = x .handed; bytes = x .bytes; parts = p }
 answeredBy x c (put n) d p = record { handed = x .handed; bytes = x .bytes; parts = p }
-answeredBy x c (received used t e u) d p = record { handed = x .handed ++ handedEvents t d e; bytes = x .bytes ++ take used (c .piece); parts = p }
+answeredBy x c (received used t e u) d p =
+    record { handed = x .handed ++ handedEvents t d e; bytes = x .bytes ++ take used (c .piece); parts = p }
 
 unfoldable pub afterMainRead : Listener → MainRead → Listener
-afterMainRead x c = let d = mainMade (x .parts) (record { lent = c .lent; call = Histories.receive (c .piece) }) in answeredBy x c (d .answer) (d .out) (d .parts)
+afterMainRead x c =
+    let d = mainMade (x .parts) (record { lent = c .lent; call = Histories.receive (c .piece) }) in
+    answeredBy x c (d .answer) (d .out) (d .parts)
 
 unfoldable pub afterMainReads : Listener → List MainRead → Listener
 afterMainReads x [] = x
@@ -64,12 +67,15 @@ pub record StretchOutput : Type 0 where
   pub output : MainOutput
 
 abbrev pub stretchOutput : Listener → MainMade → StretchOutput
-stretchOutput x m = record { handed = x .handed; output = record { answer = mainMade (x .parts) m .answer; out = mainMade (x .parts) m .out } }
+stretchOutput x m =
+    record { handed = x .handed; output = record { answer = mainMade (x .parts) m .answer; out = mainMade (x .parts) m .out } }
 
 -- all that stretches hand out, answer and write, and the parts that they leave
 unfoldable pub stretchOutputs : MainParts → List Stretch → List StretchOutput
 stretchOutputs p [] = []
-stretchOutputs p (s ∷ ss) = let x = afterMainReads (listening p) (s .reads) in stretchOutput x (s .behind) ∷ stretchOutputs (mainMade (x .parts) (s .behind) .parts) ss
+stretchOutputs p (s ∷ ss) =
+    let x = afterMainReads (listening p) (s .reads) in
+    stretchOutput x (s .behind) ∷ stretchOutputs (mainMade (x .parts) (s .behind) .parts) ss
 
 unfoldable pub leftByStretches : MainParts → List Stretch → MainParts
 leftByStretches p [] = p

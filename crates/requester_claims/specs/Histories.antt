@@ -78,12 +78,14 @@ handedDataIn (Calls.status s o n) reader = []
 handedDataIn (Calls.alerted v q c n) reader = LineReader.dataPromise reader n
 
 unfoldable pub receiptDid : Calls.MainReceiveOutcome → MainDid
-receiptDid r = mainDidBy (receiveAnswer (r .used) (r .report) (r .ended) (r .unsent)) (handedDataIn (r .report) (r .parts .reader)) (r .parts)
+receiptDid r =
+    mainDidBy (receiveAnswer (r .used) (r .report) (r .ended) (r .unsent)) (handedDataIn (r .report) (r .parts .reader)) (r .parts)
 
 unfoldable pub mainDid : MainParts → MainCall → MainDid
 mainDid p start = let t = Calls.mainStartPromise p in mainDidBy (mainRefusal (t .refusal)) [] (t .parts)
 mainDid p (request command d room) = putDid p (Calls.requestPromise (p .requester) command d room)
-mainDid p interrupt = let t = Calls.interruptPromise (p .requester) in mainDidBy (mainRefusal (t .refusal)) [] (withRequester p (t .requester))
+mainDid p interrupt =
+    let t = Calls.interruptPromise (p .requester) in mainDidBy (mainRefusal (t .refusal)) [] (withRequester p (t .requester))
 mainDid p (send room) = putDid p (Calls.sendPromise (p .requester) room)
 mainDid p (receive piece) = receiptDid (Calls.mainReceivePromise p piece)
 
@@ -115,7 +117,8 @@ handedData (Requester.alerted m) = m .payload
 abbrev pub receiveMeans : Requester.ReceiveResult → MainMeans
 receiveMeans r =
     let x = r .result in
-    mainMeans (received (r .used) (handedReportOf (x .handed)) (x .ended) (Requester.toGoOut (x .state))) (handedData (x .handed)) (x .state)
+    mainMeans (received (r .used) (handedReportOf (x .handed)) (x .ended) (Requester.toGoOut (x .state))) (handedData (x .handed))
+    (x .state)
 
 unfoldable pub mainMeant : MainState → MainCall → MainMeans
 mainMeant s start = mainDoneMeans none mainFresh
@@ -195,7 +198,8 @@ mainLeft p (m ∷ ms) = mainLeft (mainMade p m .parts) ms
 
 unfoldable pub mainOutputsMeant : MainState → List MainMade → List MainOutput
 mainOutputsMeant s [] = []
-mainOutputsMeant s (m ∷ ms) = record { answer = mainMeantMade s m .answer; out = mainMeantMade s m .out } ∷ mainOutputsMeant (mainMeantMade s m .state) ms
+mainOutputsMeant s (m ∷ ms) =
+    record { answer = mainMeantMade s m .answer; out = mainMeantMade s m .out } ∷ mainOutputsMeant (mainMeantMade s m .state) ms
 
 unfoldable pub mainLeftMeant : MainState → List MainMade → MainState
 mainLeftMeant s [] = s

@@ -18,7 +18,8 @@ use Rattle.requester.specs.Calls
 use Rattle.requester.specs.Calls.{MainParts, MainPartsValid, MainLongEnough}
 use Rattle.requester_claims.specs.View.{keptRequestOf, mainView}
 use Rattle.requester_claims.specs.Histories
-use Rattle.requester_claims.specs.Histories.{MainCall, refused, done, mainDidBy, mainDid, MainLent, mainEnough, MainMade, mainUntouched, mainMade}
+use Rattle.requester_claims.specs.Histories.{MainCall, refused, done, mainDidBy, mainDid, MainLent, mainEnough, MainMade}
+use Rattle.requester_claims.specs.Histories.{mainUntouched, mainMade}
 use Rattle.requester_claims.specs.Histories.{mainOutputs, mainLeft, mainOutputsMeant, mainLeftMeant}
 use Rattle.requester_claims.specs.Histories.{MainLengths, Accepted, mainStarted, OfStarted, OfReached, OfValid}
 use Rattle.requester_claims.specs.Cuts.{MainRead, listening, afterMainReads, Stretch, stretchOutputs, leftByStretches, SameBytes}
@@ -27,7 +28,8 @@ use Rattle.requester_claims.specs.Answers.{AllMatch, answersCounted, req
 
 -- calls on q do what document 02 has of the same calls on the state s, and leave valid parts, as long as p's
 abbrev pub Follow : MainParts → MainParts → MainState → List MainMade → Type 0
-Follow p q s ms = (mainOutputs q ms ≡ mainOutputsMeant s ms) × (mainView (mainLeft q ms) ≡ mainLeftMeant s ms) × MainPartsValid (mainLeft q ms) × MainLengths p (mainLeft q ms)
+Follow p q s ms = (mainOutputs q ms ≡ mainOutputsMeant s ms) × (mainView (mainLeft q ms) ≡ mainLeftMeant s ms)
+    × MainPartsValid (mainLeft q ms) × MainLengths p (mainLeft q ms)
 
 abbrev pub MainCallsMeant : Type 0
 MainCallsMeant = (p : MainParts) (l : MainLent) → Accepted p l → (ms : List MainMade) → Follow p (mainStarted p l) mainFresh ms
@@ -68,22 +70,28 @@ abbrev pub MainStartAccepted : Type 0
 MainStartAccepted = (p : MainParts) → (mainDid p Histories.start .answer ≡ done) ↔ MainLongEnough p
 
 abbrev pub MainRefusedHolds : Type 0
-MainRefusedHolds = (p : MainParts) (c : MainCall) (n : ℕ) → mainDid p c .answer ≡ refused n → (mainDid p c .parts ≡ p) × (mainDid p c .out ≡ mainUntouched c)
+MainRefusedHolds = (p : MainParts) (c : MainCall) (n : ℕ) → mainDid p c .answer ≡ refused n
+    → (mainDid p c .parts ≡ p) × (mainDid p c .out ≡ mainUntouched c)
 
 abbrev pub MainRefusedMade : Type 0
-MainRefusedMade = (p : MainParts) (m : MainMade) (n : ℕ) → mainMade p m .answer ≡ refused n → (mainMade p m .parts ≡ p) × (mainMade p m .out ≡ mainUntouched (m .call))
+MainRefusedMade = (p : MainParts) (m : MainMade) (n : ℕ) → mainMade p m .answer ≡ refused n
+    → (mainMade p m .parts ≡ p) × (mainMade p m .out ≡ mainUntouched (m .call))
 
 abbrev pub TooLittle : Type 0
-TooLittle = (l : MainLent) (p : MainParts) (c : MainCall) → mainEnough c l ≡ false → mainMade p (record { lent = l; call = c }) ≡ mainDidBy (refused 12) (mainUntouched c) p
+TooLittle = (l : MainLent) (p : MainParts) (c : MainCall) → mainEnough c l ≡ false
+    → mainMade p (record { lent = l; call = c }) ≡ mainDidBy (refused 12) (mainUntouched c) p
 
 abbrev pub WholeRequest : Type 0
-WholeRequest = (l : MainLent) (p : MainParts) → MainLongEnough p → (c : MainCall) → mainEnough c l ≡ true → mainMade p (record { lent = l; call = c }) ≡ mainDid p c
+WholeRequest = (l : MainLent) (p : MainParts) → MainLongEnough p → (c : MainCall) → mainEnough c l ≡ true
+    → mainMade p (record { lent = l; call = c }) ≡ mainDid p c
 
 abbrev pub MainCut : MainParts → Type 0
-MainCut p = (cs ds : List MainRead) → let x = listening p in afterMainReads x cs .bytes ≡ afterMainReads x ds .bytes → afterMainReads x cs ≡ afterMainReads x ds
+MainCut p = (cs ds : List MainRead)
+    → let x = listening p in afterMainReads x cs .bytes ≡ afterMainReads x ds .bytes → afterMainReads x cs ≡ afterMainReads x ds
 
 abbrev pub CutBetween : MainParts → Type 0
-CutBetween p = (ss ts : List Stretch) → SameBytes p ss ts → (stretchOutputs p ss ≡ stretchOutputs p ts) × (leftByStretches p ss ≡ leftByStretches p ts)
+CutBetween p = (ss ts : List Stretch) → SameBytes p ss ts
+    → (stretchOutputs p ss ≡ stretchOutputs p ts) × (leftByStretches p ss ≡ leftByStretches p ts)
 
 abbrev pub OneNumber : MainParts → Type 0
 OneNumber p = (ms : List MainMade) → Between ms → OnePerNumber (frames p ms) × Each RequestFrame (frames p ms) × OneAbove p ms
@@ -92,7 +100,9 @@ abbrev pub AnswerMatches : MainParts → Type 0
 AnswerMatches p = (ms : List MainMade) → AllMatch p ms
 
 abbrev pub AnswersCounted : MainParts → Type 0
-AnswersCounted p = (ms : List MainMade) → answersCounted p ms + keptNumber (keptRequestOf (mainLeft p ms .requester)) ≤ requestsCounted p ms + keptNumber (keptRequestOf (p .requester))
+AnswersCounted p = (ms : List MainMade)
+    → answersCounted p ms + keptNumber (keptRequestOf (mainLeft p ms .requester))
+    ≤ requestsCounted p ms + keptNumber (keptRequestOf (p .requester))
 
 abbrev pub OneAnswerEach : MainParts → Type 0
 OneAnswerEach p = (ms : List MainMade) → answersCounted p ms ≤ requestsCounted p ms
@@ -134,7 +144,8 @@ pub record MainItem2 : Type 0 where
   pub answer-matches : OfValid AnswerMatches
   -- so from a start on
   pub answer-matches-started : OfStarted AnswerMatches
-  -- One is outstanding, and answered once: answers handed out and requests still kept are at most requests that stay outstanding and those kept at first.
+  -- One is outstanding, and answered once:
+  -- answers handed out and requests still kept are at most requests that stay outstanding and those kept at first.
   pub answers-counted : OfValid AnswersCounted
   -- from a start on, no more answers than requests that stay outstanding
   pub one-answer-each : OfStarted OneAnswerEach

@@ -56,7 +56,8 @@ abbrev pub AnswerBytes : MainParts → Type 0
 AnswerBytes p = (l : MainLent) (piece : List ℕ) → MainReceives Comes p l piece
 
 abbrev pub AnswerFrame : MainParts → Type 0
-AnswerFrame p = (ms : List MainMade) → AllPiecesTyped ms → (l : MainLent) (piece : List ℕ) → Each Byte piece → MainReceives Framed (mainLeft p ms) l piece
+AnswerFrame p = (ms : List MainMade) → AllPiecesTyped ms → (l : MainLent) (piece : List ℕ) → Each Byte piece
+    → MainReceives Framed (mainLeft p ms) l piece
 
 pub record MainItem6 : Type 0 where
   -- Where a receive on valid parts hands out an answer or an alert's answer, the last byte that it read is a 00.

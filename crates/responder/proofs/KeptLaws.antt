@@ -29,7 +29,8 @@ use Rattle.supervisor.proofs.OffsetLaws.{offset-within, longest-short, Lies, se
 use Rattle.supervisor.proofs.ValidLaws.{all-each, each-all, outbox-valid, valid-outbox, settings-valid, valid-settings}
 use Rattle.supervisor.specs.Valid.{SettingValid, SettingsValid}
 use Rattle.supervisor.proofs.ValidLaws.{alert-valid, valid-alert, RecordValid, RegistersValid, registers-valid}
-use Rattle.supervisor.proofs.KeptRegisters.{FlagsValid, FailureValid, PanicValid, groups-valid, numbers-kept, flags-kept, failure-kept, panic-kept, waiting-kept, retained-kept, kept-valid}
+use Rattle.supervisor.proofs.KeptRegisters.{FlagsValid, FailureValid, PanicValid, groups-valid, numbers-kept, flags-kept, failure-kept}
+use Rattle.supervisor.proofs.KeptRegisters.{panic-kept, waiting-kept, retained-kept, kept-valid}
 use Rattle.responder.specs.Requests.{clearBit}
 use Rattle.responder.specs.Commands.{Command, commandOfNumber}
 use Rattle.responder.specs.Receive
@@ -77,7 +78,8 @@ module _ (o bs : List ℕ) (valid : validOutbox o ≡ true) (short : length bs �
   pub sent-to : Layout.outboxTo (Receive.sentBox bs o) ≡ suc (length bs)
   unfolding Receive.sentBox bytes
   sent-to =
-      ap number (overlay-part Layout.outbox-from-offset 2 2 (offsets _ _) (filled bs o) (omega arith) (omega arith)) ∙ number-bytes 2 _ (omega arith)
+      ap number (overlay-part Layout.outbox-from-offset 2 2 (offsets _ _) (filled bs o) (omega arith) (omega arith))
+      ∙ number-bytes 2 _ (omega arith)
 
   -- all behind the two offsets
   pub sent-rest : Same Layout.outbox-terminator-owed-offset Layout.outbox-length (filled bs o) (Receive.sentBox bs o)
@@ -87,8 +89,10 @@ module _ (o bs : List ℕ) (valid : validOutbox o ≡ true) (short : length bs �
   pub sent-owed : Layout.outboxTerminatorOwed (Receive.sentBox bs o) ≡ Layout.outboxTerminatorOwed o
   sent-owed =
       let v = outbox-valid o valid in
-      let early : Same 0 Layout.outbox-bytes-offset o (filled bs o) = same-before Layout.outbox-bytes-offset (0 ∷ bs) o (omega arith) (omega arith) in
-      number-same sent-rest 1 Layout.outbox-terminator-owed-offset (omega arith) ∙ number-same early 1 Layout.outbox-terminator-owed-offset (omega arith)
+      let early : Same 0 Layout.outbox-bytes-offset o (filled bs o) =
+      same-before Layout.outbox-bytes-offset (0 ∷ bs) o (omega arith) (omega arith) in
+      number-same sent-rest 1 Layout.outbox-terminator-owed-offset (omega arith)
+      ∙ number-same early 1 Layout.outbox-terminator-owed-offset (omega arith)
 
   pub box-valid : validOutbox (Receive.sentBox bs o) ≡ true
   box-valid = let v = outbox-valid o valid in valid-outbox _ (omega (arith, first-low, sent-long, sent-from, sent-to, sent-owed))
@@ -99,7 +103,8 @@ module _ (o bs : List ℕ) (valid : validOutbox o ≡ true) (short : length bs �
 middle-valid : {r s : List ℕ} → RegistersValid r → length s ≡ length r → Same 0 Layout.reboot-offset r s
     → Same Layout.alert-count-offset Layout.registers-length r s → FlagsValid s → FailureValid s → PanicValid s → validRegisters s ≡ true
 middle-valid v long before after flags failure panic =
-    groups-valid (omega arith) (numbers-kept before v (omega arith)) flags failure panic (waiting-kept after v (omega arith)) (retained-kept after v (omega arith))
+    groups-valid (omega arith) (numbers-kept before v (omega arith)) flags failure panic (waiting-kept after v (omega arith))
+    (retained-kept after v (omega arith))
 
 module _ (r : List ℕ) (v : validRegisters r ≡ true) where
   -- a flag's byte, whichever flag is set
@@ -128,8 +133,10 @@ module _ (r : List ℕ) (v : validRegisters r ≡ true) where
       = stored-after 1 at 1 r (omega arith) (omega arith) in
       let small : (i : ℕ) → numberAt 1 r i ≤ 1 → numberAt 1 (overlay at (bytes 1 1) r) i ≤ 1 = λ i. flag-small at i (omega arith) in
       rw (one-byte 1 (omega arith)) at
-      (middle-valid w (stored-long 1 at 1 r (omega arith)) (stored-before 1 at 1 r (omega arith) (omega arith)) (same-within after (omega arith))
-      (small Layout.reboot-offset (w .reboot), small Layout.power-off-offset (w .power-off)) (failure-kept after w (omega arith)) (panic-kept after w (omega arith)))
+      (middle-valid w (stored-long 1 at 1 r (omega arith)) (stored-before 1 at 1 r (omega arith) (omega arith))
+      (same-within after (omega arith))
+      (small Layout.reboot-offset (w .reboot), small Layout.power-off-offset (w .power-off)) (failure-kept after w (omega arith))
+      (panic-kept after w (omega arith)))
 
   -- no reply retained
   dropped-valid : validRegisters (overlay Layout.retained-offset (0 ∷ []) r) ≡ true
@@ -143,7 +150,8 @@ module _ (r : List ℕ) (v : validRegisters r ≡ true) where
       let text = number-same after 2 Layout.retained-alert-offset (omega arith) in
       let long = stored-long 1 at 0 r (omega arith) in
       rw (one-byte 0 (omega arith)) at
-      (groups-valid (omega arith) (numbers-kept before w (omega arith)) (flags-kept before w (omega arith)) (failure-kept before w (omega arith))
+      (groups-valid (omega arith) (numbers-kept before w (omega arith)) (flags-kept before w (omega arith))
+      (failure-kept before w (omega arith))
       (panic-kept before w (omega arith)) (waiting-kept before w (omega arith)) (omega arith))
 
   -- a status without a bit above 1
@@ -194,20 +202,24 @@ module _ (r : List ℕ) (at code : ℕ) (rest : List ℕ) (room : at + Layout.re
   pub recorded-held : Layout.recordHeld (Receive.withRecord r at code rest) at ≡ 1
   unfolding Receive.withRecord bytes
   recorded-held =
-      ap number (rw add-zero at (overlay-part at 0 1 (entry code rest) r (omega arith) (omega (arith, length-entry code rest)))) ∙ number-bytes 1 1 (omega arith)
+      ap number (rw add-zero at (overlay-part at 0 1 (entry code rest) r (omega arith) (omega (arith, length-entry code rest))))
+      ∙ number-bytes 1 1 (omega arith)
 
   pub recorded-code : code < 65536 → Layout.recordCode (Receive.withRecord r at code rest) at ≡ code
   unfolding Receive.withRecord bytes
   recorded-code h =
-      ap number (overlay-part at Layout.record-code-offset 2 (entry code rest) r (omega arith) (omega (arith, length-entry code rest))) ∙ number-bytes 2 code h
+      ap number (overlay-part at Layout.record-code-offset 2 (entry code rest) r (omega arith) (omega (arith, length-entry code rest)))
+      ∙ number-bytes 2 code h
 
   pub recorded-whole : length rest < 65536 → Layout.recordWhole (Receive.withRecord r at code rest) at ≡ length rest
   unfolding Receive.withRecord bytes
   recorded-whole h =
-      ap number (overlay-part at Layout.record-whole-offset 2 (entry code rest) r (omega arith) (omega (arith, length-entry code rest))) ∙ number-bytes 2 (length rest) h
+      ap number (overlay-part at Layout.record-whole-offset 2 (entry code rest) r (omega arith) (omega (arith, length-entry code rest)))
+      ∙ number-bytes 2 (length rest) h
 
   -- the bytes that are kept
-  pub recorded-rest : run (at + Layout.record-kept-offset) (length (take Limits.most-kept rest)) (Receive.withRecord r at code rest) ≡ take Limits.most-kept rest
+  pub recorded-rest : run (at + Layout.record-kept-offset) (length (take Limits.most-kept rest)) (Receive.withRecord r at code rest)
+      ≡ take Limits.most-kept rest
   unfolding Receive.withRecord bytes
   recorded-rest =
       let n = length (take Limits.most-kept rest) in
@@ -217,15 +229,18 @@ module _ (r : List ℕ) (at code : ℕ) (rest : List ℕ) (room : at + Layout.re
   recorded-valid most short small = let whole = recorded-whole (omega arith) in omega (arith, recorded-held)
 
 module _ (r : List ℕ) (code : ℕ) (rest : List ℕ) (v : validRegisters r ≡ true) where
-  pub boot-failure-valid : code < 256 → length rest ≤ Limits.longest-boot-failure → validRegisters (Receive.withRecord r Layout.boot-failure-offset code rest) ≡ true
+  pub boot-failure-valid : code < 256 → length rest ≤ Limits.longest-boot-failure
+      → validRegisters (Receive.withRecord r Layout.boot-failure-offset code rest) ≡ true
   boot-failure-valid byte short =
       let w = registers-valid r v in
       let at = Layout.boot-failure-offset in
       let room : at + Layout.record-length ≤ length r = omega arith in
       let before : Same 0 at r (Receive.withRecord r at code rest) = recorded-before r at code rest room (omega arith) in
-      let after : Same Layout.panic-offset Layout.registers-length r (Receive.withRecord r at code rest) = recorded-after r at code rest room (omega arith) in
+      let after : Same Layout.panic-offset Layout.registers-length r (Receive.withRecord r at code rest) =
+      recorded-after r at code rest room (omega arith) in
       let reason = recorded-code r at code rest room (omega arith) in
-      middle-valid w (recorded-long r at code rest room) (same-within before (omega arith)) (same-within after (omega arith)) (flags-kept before w (omega arith))
+      middle-valid w (recorded-long r at code rest room) (same-within before (omega arith)) (same-within after (omega arith))
+      (flags-kept before w (omega arith))
       (record { reason = omega arith; entry = recorded-valid r at code rest room _ short (omega arith) }) (panic-kept after w (omega arith))
 
   pub panic-valid : length rest ≤ Limits.longest-panic → validRegisters (Receive.withRecord r Layout.panic-offset code rest) ≡ true
@@ -234,7 +249,8 @@ module _ (r : List ℕ) (code : ℕ) (rest : List ℕ) (v : validRegisters r ≡
       let at = Layout.panic-offset in
       let room : at + Layout.record-length ≤ length r = omega arith in
       let before : Same 0 at r (Receive.withRecord r at code rest) = recorded-before r at code rest room (omega arith) in
-      let after : Same Layout.alert-count-offset Layout.registers-length r (Receive.withRecord r at code rest) = recorded-after r at code rest room (omega arith) in
+      let after : Same Layout.alert-count-offset Layout.registers-length r (Receive.withRecord r at code rest) =
+      recorded-after r at code rest room (omega arith) in
       middle-valid w (recorded-long r at code rest room) (same-within before (omega arith)) after (flags-kept before w (omega arith))
       (failure-kept before w (omega arith)) (recorded-valid r at code rest room _ short (omega arith))
 
@@ -277,7 +293,8 @@ module _ (r : List ℕ) (long : Layout.registers-length ≤ length r) where
       let k = i * Layout.alert-length + j in
       let d : Layout.alerts-offset + k ≡ Layout.alert-offset i + j = omega arith in
       let e : Layout.alert-offset 1 + k ≡ Layout.alert-offset (i + 1) + j = omega arith in
-      let p = overlay-part Layout.alerts-offset k n (run (Layout.alert-offset 1) rest-length r) r (omega arith) (omega (arith, length-rest)) in
+      let p =
+      overlay-part Layout.alerts-offset k n (run (Layout.alert-offset 1) rest-length r) r (omega arith) (omega (arith, length-rest)) in
       rw (d, run-run (Layout.alert-offset 1) rest-length k n r (omega arith), e) at p
 
 -- one alert fewer, or none still
@@ -293,14 +310,18 @@ fewer-valid r n v h =
     let early : Same 0 at t s = stored-before 1 at n t room (omega arith) in
     let late : Same Layout.alerts-offset Layout.registers-length t s = stored-after 1 at n t room (omega arith) in
     let before : Same 0 at r s = same-then (moved-before r (w .long) (omega arith)) early in
-    let after : Same Layout.retained-offset Layout.registers-length r s = same-then (moved-after r (w .long) (omega arith)) (same-within late (omega arith)) in
+    let after : Same Layout.retained-offset Layout.registers-length r s =
+    same-then (moved-after r (w .long) (omega arith)) (same-within late (omega arith)) in
     let numbers = numbers-kept before w (omega arith) in
     let count = stored-number 1 at n t room (omega arith) in
-    kept-valid (record { long = stored-long 1 at n t room ∙ long; flags-and-records = same-within before (omega arith); retained = after }) w (omega arith) (numbers .1)
+    kept-valid (record { long = stored-long 1 at n t room ∙ long; flags-and-records = same-within before (omega arith); retained = after })
+    w (omega arith) (numbers .1)
     (rw count
     (each-all (validAlert s) n (λ i k.
     let a = alert-valid r (i + 1) (all-each (validAlert r) _ (w .rest .alerts) (i + 1) (omega arith)) in
-    let size = number-same late 2 (Layout.alert-offset i) (omega arith) ∙ ap number (simp add-zero at (moved-run r (w .long) i 0 2 (omega arith) (omega arith))) in
+    let size =
+    number-same late 2 (Layout.alert-offset i) (omega arith)
+    ∙ ap number (simp add-zero at (moved-run r (w .long) i 0 2 (omega arith) (omega arith))) in
     let action = number-same late 1 (Layout.alert-offset i + Layout.alert-action-offset) (omega arith)
     ∙ ap number (moved-run r (w .long) i Layout.alert-action-offset 1 (omega arith) (omega arith)) in
     valid-alert s i (omega arith))))
@@ -319,23 +340,27 @@ module _ (r : List ℕ) (version sequence : ℕ) (small : version ≤ 2) (v : va
   retained-valid =
       let w = registers-valid r v in
       let a = retained-settled r version sequence v in
-      let before : Same 0 Layout.retained-offset r (Receive.withReply r version sequence) = retained-before r version sequence (w .long) (omega arith) in
+      let before : Same 0 Layout.retained-offset r (Receive.withReply r version sequence) =
+      retained-before r version sequence (w .long) (omega arith) in
       let held = retained-version in
-      groups-valid (omega arith) (numbers-kept before w (omega arith)) (flags-kept before w (omega arith)) (failure-kept before w (omega arith))
-      (panic-kept before w (omega arith)) (waiting-kept before w (omega arith)) (omega arith)
+      groups-valid (omega arith) (numbers-kept before w (omega arith)) (flags-kept before w (omega arith))
+      (failure-kept before w (omega arith)) (panic-kept before w (omega arith)) (waiting-kept before w (omega arith)) (omega arith)
 
   pub taken-valid : validRegisters (Receive.withTaken r version sequence) ≡ true
   unfolding Receive.withTaken
   taken-valid =
       let w = registers-valid r v in
-      let before : Same 0 Layout.retained-offset r (Receive.withReply r version sequence) = retained-before r version sequence (w .long) (omega arith) in
+      let before : Same 0 Layout.retained-offset r (Receive.withReply r version sequence) =
+      retained-before r version sequence (w .long) (omega arith) in
       let count = number-same before 1 Layout.alert-count-offset (omega arith) in
       status-valid _ (fewer-valid (Receive.withReply r version sequence) (Layout.alertCount r - 1) retained-valid (omega arith)) _
       (taken-small (Layout.statusOf r) (Layout.alertCount r) (w .status))
 
   pub alert-registers-valid : validRegisters (Receive.alertRegisters r version sequence) ≡ true
   unfolding Receive.alertRegisters
-  alert-registers-valid = cond-by (λ s. validRegisters s ≡ true) (Receive.isRetained r sequence) r (Receive.withTaken r version sequence) (λ _. v) (λ _. taken-valid)
+  alert-registers-valid =
+      cond-by (λ s. validRegisters s ≡ true) (Receive.isRetained r sequence) r (Receive.withTaken r version sequence) (λ _. v)
+      (λ _. taken-valid)
 
 -- ---- the settings
 
@@ -362,25 +387,33 @@ module _ (s v : List ℕ) (at : ℕ) (room : at + (Layout.setting-value-offset +
   pub setting-held : Layout.settingHeld (Receive.withValue s at v) at ≡ 1
   unfolding Receive.withValue bytes
   setting-held =
-      ap number (rw add-zero at (overlay-part at 0 1 (Layout.settingBytes next v) s (omega arith) (omega (arith, length-setting next v)))) ∙ number-bytes 1 1 (omega arith)
+      ap number (rw add-zero at (overlay-part at 0 1 (Layout.settingBytes next v) s (omega arith) (omega (arith, length-setting next v))))
+      ∙ number-bytes 1 1 (omega arith)
 
   pub setting-edition : Layout.settingEdition s at < Limits.last-edition → Layout.settingEdition (Receive.withValue s at v) at ≡ next
   unfolding Receive.withValue bytes
   setting-edition h =
-      ap number (overlay-part at Layout.setting-edition-offset 4 (Layout.settingBytes next v) s (omega arith) (omega (arith, length-setting next v))) ∙ number-bytes 4 next (omega arith)
+      ap number
+      (overlay-part at Layout.setting-edition-offset 4 (Layout.settingBytes next v) s (omega arith) (omega (arith, length-setting next v)))
+      ∙ number-bytes 4 next (omega arith)
 
   pub setting-size : length v < 65536 → Layout.settingLength (Receive.withValue s at v) at ≡ length v
   unfolding Receive.withValue bytes
   setting-size h =
-      ap number (overlay-part at Layout.setting-length-offset 2 (Layout.settingBytes next v) s (omega arith) (omega (arith, length-setting next v))) ∙ number-bytes 2 (length v) h
+      ap number
+      (overlay-part at Layout.setting-length-offset 2 (Layout.settingBytes next v) s (omega arith) (omega (arith, length-setting next v)))
+      ∙ number-bytes 2 (length v) h
 
   pub setting-value : run (at + Layout.setting-value-offset) (length v) (Receive.withValue s at v) ≡ v
   unfolding Receive.withValue bytes
   setting-value =
-      overlay-part at Layout.setting-value-offset (length v) (Layout.settingBytes next v) s (omega arith) (omega (arith, length-setting next v)) ∙ take-length v
+      overlay-part at Layout.setting-value-offset (length v) (Layout.settingBytes next v) s (omega arith)
+      (omega (arith, length-setting next v))
+      ∙ take-length v
 
 -- what stands before its value is the same
-pub setting-kept : {s t : List ℕ} {at shortest longest : ℕ} → Same at (at + Layout.setting-value-offset) s t → SettingValid s at shortest longest → SettingValid t at shortest longest
+pub setting-kept : {s t : List ℕ} {at shortest longest : ℕ} → Same at (at + Layout.setting-value-offset) s t
+    → SettingValid s at shortest longest → SettingValid t at shortest longest
 setting-kept {at = at} same g =
     let held = number-same same 1 at (omega arith) in
     let size = number-same same 2 (at + Layout.setting-length-offset) (omega arith) in
@@ -409,7 +442,10 @@ module _ (s v : List ℕ) (w : SettingsValid s) (key : ℕ) (h : Limits.Settings
     settings-left : validSettings (Receive.withValue s here v) ≡ true
     settings-left =
         valid-settings _
-        (record { long = omega (arith, setting-long s v here value-room, w .long); each = λ j i. setting-left j (setting-lies j key i h) (w .each j i) })
+        (record {
+          long = omega (arith, setting-long s v here value-room, w .long);
+          each = λ j i. setting-left j (setting-lies j key i h) (w .each j i);
+        })
 
 module _ (s v : List ℕ) (w : validSettings s ≡ true) where
   abbrev Left : Receive.KeyStored → Type 0
@@ -458,15 +494,21 @@ value-data-short version f s d v w =
     let key = numberAt 1 d 0 in
     let most = numberAt 2 d 1 in
     simp length-append
-    (omega (arith, head-short version (resultNumber (lookupResultPromise f s key most)) (editionNumber (editionPromise f s key)), value-short f s key most v w))
+    (omega (
+      arith,
+      head-short version (resultNumber (lookupResultPromise f s key most)) (editionNumber (editionPromise f s key)),
+      value-short f s key most v w,
+    ))
 
-pub item-short : (f : List ℕ) (index : ℕ) → validFactory f ≡ true → length (Receive.itemBytes f index) ≤ Layout.item-data-length-offset + Limits.longest-item-data
+pub item-short : (f : List ℕ) (index : ℕ) → validFactory f ≡ true
+    → length (Receive.itemBytes f index) ≤ Layout.item-data-length-offset + Limits.longest-item-data
 unfolding Receive.itemBytes
 item-short f index v =
     let at = Layout.item-offset index in
     let head = run at Layout.item-data-length-offset f in
     let tail = run (at + Layout.item-data-offset) (Receive.itemDataLength f at) f in
-    cond-by (λ l. length l ≤ Layout.item-data-length-offset + Limits.longest-item-data) (ltb index (Layout.itemCount f)) (head ++ tail) (1 ∷ replicate 33 0)
+    cond-by (λ l. length l ≤ Layout.item-data-length-offset + Limits.longest-item-data) (ltb index (Layout.itemCount f)) (head ++ tail)
+    (1 ∷ replicate 33 0)
     (λ e.
     let held = item-held f index v (ltb-true _ _ e) in
     let a = run-short at Layout.item-data-length-offset Layout.item-data-length-offset f (omega arith) in
@@ -480,7 +522,8 @@ pub alert-data-short : (r : List ℕ) (version sequence : ℕ) → validRegister
 alert-data-short r version sequence v =
     let s = Receive.alertRegisters r version sequence in
     let a = settled r version sequence v {s = s} refl in
-    run-short (Layout.retained-alert-offset + Layout.alert-action-offset) (1 + Layout.alertTextLength s Layout.retained-alert-offset) (1 + Limits.longest-alert) s (omega arith)
+    run-short (Layout.retained-alert-offset + Layout.alert-action-offset) (1 + Layout.alertTextLength s Layout.retained-alert-offset)
+    (1 + Limits.longest-alert) s (omega arith)
 
 -- a reply with data that a message may have, and with one byte
 pub reply-short : (reply : Receive.Head) (command : ℕ) (payload : List ℕ) → length payload ≤ longest-data
@@ -507,15 +550,16 @@ inner-valid i e =
 pub valid-inner : (i : Receive.Inner) → InnerValid i → Receive.validInner i ≡ true
 unfolding Receive.validInner
 valid-inner i v =
-    and-eq-true-iff (validOutbox (i .outbox)) _ .1 (v .outbox, and-eq-true-iff (validSettings (i .settings)) _ .1 (v .settings, v .registers))
+    and-eq-true-iff (validOutbox (i .outbox)) _ .1
+    (v .outbox, and-eq-true-iff (validSettings (i .settings)) _ .1 (v .settings, v .registers))
 
 -- bytes sent, and other settings and registers
 changed-valid : (o bs s r : List ℕ) → validOutbox o ≡ true → length bs ≤ longest-form + 1 → validSettings s ≡ true → validRegisters r ≡ true
     → Receive.validInner (Receive.inner (Receive.sentBox bs o) s r) ≡ true
 changed-valid o bs s r v h k l = valid-inner _ (record { outbox = box-valid o bs v h; settings = k; registers = l })
 
-pub answering-valid : (i : Receive.Inner) (reply : Receive.Head) (command : ℕ) (payload : List ℕ) → Receive.validInner i ≡ true → length payload ≤ longest-data
-    → Receive.validInner (Receive.replyAlone i reply command payload) ≡ true
+pub answering-valid : (i : Receive.Inner) (reply : Receive.Head) (command : ℕ) (payload : List ℕ) → Receive.validInner i ≡ true
+    → length payload ≤ longest-data → Receive.validInner (Receive.replyAlone i reply command payload) ≡ true
 unfolding Receive.replyAlone
 answering-valid i reply command payload v h =
     let w = inner-valid i v in
@@ -528,14 +572,15 @@ acknowledged-valid i reply r v h =
     let w = inner-valid i v in
     changed-valid _ _ _ _ (w .outbox) (reply-short reply 0x01 [] (omega arith)) (w .settings) h
 
-pub unanswered-valid : (i : Receive.Inner) (r : List ℕ) → Receive.validInner i ≡ true → validRegisters r ≡ true → Receive.validInner (Receive.noReply i r) ≡ true
+pub unanswered-valid : (i : Receive.Inner) (r : List ℕ) → Receive.validInner i ≡ true → validRegisters r ≡ true
+    → Receive.validInner (Receive.noReply i r) ≡ true
 unfolding Receive.noReply
 unanswered-valid i r v h =
     let w = inner-valid i v in
     changed-valid _ [] _ _ (w .outbox) (omega arith) (w .settings) h
 
-module _ (image f : List ℕ) (i : Receive.Inner) (version sequence : ℕ) (d : List ℕ) (small : version ≤ 2) (g : validFactory f ≡ true) (v : Receive.validInner i ≡ true)
-    (short : length d ≤ longest-data) (byte : numberAt 1 d 0 < 256) where
+module _ (image f : List ℕ) (i : Receive.Inner) (version sequence : ℕ) (d : List ℕ) (small : version ≤ 2) (g : validFactory f ≡ true)
+    (v : Receive.validInner i ≡ true) (short : length d ≤ longest-data) (byte : numberAt 1 d 0 < 256) where
   abbrev w : InnerValid i
   w = inner-valid i v
 
@@ -558,12 +603,15 @@ module _ (image f : List ℕ) (i : Receive.Inner) (version sequence : ℕ) (d : 
       let s = registers-valid r (w .registers) in
       acknowledged-valid i _ _ v (status-valid r (w .registers) _ (omega (arith, clear-small (Layout.statusOf r) 0)))
   command-valid Command.alert =
-      changed-valid _ _ _ _ (w .outbox) (reply-short _ 0x07 _ (omega (arith, alert-data-short r version sequence (w .registers)))) (w .settings) (alert-registers-valid r version sequence small (w .registers))
+      changed-valid _ _ _ _ (w .outbox) (reply-short _ 0x07 _ (omega (arith, alert-data-short r version sequence (w .registers))))
+      (w .settings) (alert-registers-valid r version sequence small (w .registers))
   command-valid Command.image-block = answering-valid i _ 0x09 _ v (omega (arith, block-short f image d))
-  command-valid Command.key-lookup = answering-valid i _ 0x0a _ v (omega (arith, value-data-short version f (i .settings) d g (w .settings)))
+  command-valid Command.key-lookup =
+      answering-valid i _ 0x0a _ v (omega (arith, value-data-short version f (i .settings) d g (w .settings)))
   command-valid Command.inventory = answering-valid i _ 0x0b _ v (omega (arith, item-short f (numberAt 4 d 0) g))
   command-valid Command.key-set =
-      changed-valid _ _ _ _ (w .outbox) (byte-reply-short _ 0x0c _) (storing-valid (i .settings) (drop 1 d) (w .settings) (numberAt 1 d 0)) (w .registers)
+      changed-valid _ _ _ _ (w .outbox) (byte-reply-short _ 0x0c _) (storing-valid (i .settings) (drop 1 d) (w .settings) (numberAt 1 d 0))
+      (w .registers)
 
   pub carried-valid : (command : ℕ) → Receive.validInner (Receive.carriedInner image f i version sequence command d) ≡ true
   unfolding Receive.carriedInner

@@ -53,7 +53,8 @@ unfolding valueHead
 value-head version result edition {n} small e f =
     let k : n - 0 ≡ n = omega arith in
     rw (k, f, e, one-byte result small, edition-put result edition)
-    (cond-both (λ n bs. take n (result ∷ bytes 4 edition) ≡ result ∷ bs) (carriesEdition version result) (λ _. edition-all edition) (λ _. refl))
+    (cond-both (λ n bs. take n (result ∷ bytes 4 edition) ≡ result ∷ bs) (carriesEdition version result) (λ _. edition-all edition)
+    (λ _. refl))
 
 -- ---- an item
 
@@ -71,7 +72,9 @@ item-held f index e h =
     record {
       low = omega arith;
       long = v .long;
-      size = cond-by (λ n. n ≤ Limits.longest-item-data) (eqb (numberAt 1 f (Layout.item-offset index)) 0) _ 0 (λ _. g .size) (λ _. omega arith);
+      size =
+          cond-by (λ n. n ≤ Limits.longest-item-data) (eqb (numberAt 1 f (Layout.item-offset index)) 0) _ 0 (λ _. g .size)
+          (λ _. omega arith);
     }
 
 pub item-there : (f : List ℕ) (index n : ℕ) → index < Layout.itemCount f → n ≡ itemDataLength f (Layout.item-offset index)

@@ -15,18 +15,23 @@ use Rattle.octets.specs.Bytes.{bytes, overlay, put, copied}
 use Rattle.octets.proofs.Numbers.{length-bytes, one-byte}
 use Rattle.octets.proofs.Overlay.{overlay-one, put-fits, next-put, next-copied}
 use Rattle.supervisor.specs.Limits.{most-kept, last-edition}
-use Rattle.supervisor.specs.Layout.{registers-length, panic-offset, record-code-offset, record-whole-offset, record-kept-offset, setting-edition-offset, setting-length-offset, setting-value-offset, settingEdition}
+use Rattle.supervisor.specs.Layout.{registers-length, panic-offset, record-code-offset, record-whole-offset, record-kept-offset}
+use Rattle.supervisor.specs.Layout.{setting-edition-offset, setting-length-offset, setting-value-offset, settingEdition}
 use Rattle.responder.specs.Receive.{withRecord, withValue, keyStored, storeBytesAt}
 
 -- a number alone
-pub number-stored : (k at : ℕ) (s : List ℕ) {v w : ℕ} {t : List ℕ} → at + k ≤ length s → v ≡ w → t ≡ put at (bytes k v) s → t ≡ overlay at (bytes k w) s
+pub number-stored : (k at : ℕ) (s : List ℕ) {v w : ℕ} {t : List ℕ} → at + k ≤ length s → v ≡ w → t ≡ put at (bytes k v) s
+    → t ≡ overlay at (bytes k w) s
 number-stored k at s {v} h e f =
     let n = length-bytes k v in
     f ∙ put-fits at (bytes k v) s (omega arith) ∙ rw e
 
 -- a byte that marks what is there, and a number behind it
-pub marked : (m k v at : ℕ) (s : List ℕ) → m < 256 → at + 1 + k ≤ length s → put (at + 1) (bytes k v) (set s at m) ≡ overlay at (bytes 1 m ++ bytes k v) s
-marked m k v at s small h = rw (overlay-one at m s (omega arith), one-byte m small) (next-put at (at + 1) (m ∷ []) s refl (bytes k v) (omega (arith, length-bytes k v)))
+pub marked : (m k v at : ℕ) (s : List ℕ) → m < 256 → at + 1 + k ≤ length s
+    → put (at + 1) (bytes k v) (set s at m) ≡ overlay at (bytes 1 m ++ bytes k v) s
+marked m k v at s small h =
+    rw (overlay-one at m s (omega arith), one-byte m small)
+    (next-put at (at + 1) (m ∷ []) s refl (bytes k v) (omega (arith, length-bytes k v)))
 
 pub length-marked : (m k v : ℕ) → length (bytes 1 m ++ bytes k v) ≡ 1 + k
 length-marked m k v = simp (length-append, length-bytes)
@@ -39,9 +44,10 @@ take-min (suc n) (x ∷ l) = rw suc-min-suc (ap (λ (t : List ℕ). x ∷ t) (ta
 
 -- ---- a record
 
-pub record-put : (r d : List ℕ) (at code from : ℕ) {whole kept : ℕ} {s t u : List ℕ} → at ≤ panic-offset → registers-length ≤ length r → from ≤ length d
-    → whole ≡ length d - from → kept ≡ min whole most-kept → s ≡ put (at + record-code-offset) (bytes 2 code) (set r at 1)
-    → t ≡ put (at + record-whole-offset) (bytes 2 whole) s → u ≡ copied d from kept t (at + record-kept-offset) → u ≡ withRecord r at code (drop from d)
+pub record-put : (r d : List ℕ) (at code from : ℕ) {whole kept : ℕ} {s t u : List ℕ} → at ≤ panic-offset → registers-length ≤ length r
+    → from ≤ length d → whole ≡ length d - from → kept ≡ min whole most-kept → s ≡ put (at + record-code-offset) (bytes 2 code) (set r at 1)
+    → t ≡ put (at + record-whole-offset) (bytes 2 whole) s → u ≡ copied d from kept t (at + record-kept-offset)
+    → u ≡ withRecord r at code (drop from d)
 unfolding withRecord
 record-put r d at code from {whole} {kept} low long l w k f g h =
     let head = bytes 1 1 ++ bytes 2 code in
@@ -92,7 +98,8 @@ module _ (s d : List ℕ) (at shortest longest : ℕ) where
     edition-last f = rw (length-drop 1 d, right-length shortest longest (length d - 1) enough short, ← e, eq-eqb edition last-edition f)
 
     pub value-put : {t u v : List ℕ} → 1 ≤ length d → at + (setting-value-offset + longest) ≤ length s → (edition ≡ last-edition → ⊥)
-        → t ≡ put (at + setting-edition-offset) (bytes 4 (edition + 1)) (set s at 1) → u ≡ put (at + setting-length-offset) (bytes 2 (length d - 1)) t
+        → t ≡ put (at + setting-edition-offset) (bytes 4 (edition + 1)) (set s at 1)
+        → u ≡ put (at + setting-length-offset) (bytes 2 (length d - 1)) t
         → v ≡ copied d 1 (length d - 1) u (at + setting-value-offset) → keyStored 0 v ≡ storeBytesAt s at shortest longest (drop 1 d)
     unfolding storeBytesAt withValue
     value-put one l o f g h =

@@ -22,7 +22,8 @@ use Rattle.line.specs.declared.writer.Written.{Written}
 use Rattle.line.specs.declared.writer.Written.the-variants.{Done}
 use Rattle.line.proofs.FrameLength.{frame-fits}
 use Rattle.line.proofs.Rest.{rest-mid, rest-overlay}
-use Rattle.supervisor.specs.Layout.{outbox-length, outbox-from-offset, outbox-to-offset, outbox-terminator-owed-offset, outbox-bytes-offset, outboxTerminatorOwed}
+use Rattle.supervisor.specs.Layout.{outbox-length, outbox-from-offset, outbox-to-offset, outbox-terminator-owed-offset, outbox-bytes-offset}
+use Rattle.supervisor.specs.Layout.{outboxTerminatorOwed}
 use Rattle.responder.specs.Receive.{sentBox, Head, replyBytes}
 
 -- ---- the frame
@@ -39,8 +40,11 @@ frame-written m o long short =
     rw (le-ltb longest-data (length (m .payload)) short, le-ltb (length (drop reply-offset o)) (length (frame m)) k)
 
 -- what a call of the writer on the rest of the outbox answers and leaves
-module _ (h : Head) (command : ℕ) (head rest o : List ℕ) (long : outbox-length ≤ length o) (short : length head + length rest ≤ longest-data)
-    (r : Written) {t : List ℕ} (done : writeOutcome r t ≡ writePromise (messageOfParts (h .version) (h .number .0) command head rest) (midOf reply-offset (length o - reply-offset) o)) where
+module _ (h : Head) (command : ℕ) (head rest o : List ℕ) (long : outbox-length ≤ length o)
+    (short : length head + length rest ≤ longest-data)
+    (r : Written) {t : List ℕ}
+    (done : writeOutcome r t
+    ≡ writePromise (messageOfParts (h .version) (h .number .0) command head rest) (midOf reply-offset (length o - reply-offset) o)) where
   abbrev reply : List ℕ
   reply = replyBytes h command (head ++ rest)
 
@@ -57,8 +61,13 @@ module _ (h : Head) (command : ℕ) (head rest o : List ℕ) (long : outbox-leng
       → (n ≡ length reply) × ((n ≤ longest-form + 1) × (putMid reply-offset (length o - reply-offset) o t ≡ overlay reply-offset reply o))
   unfolding writeReport
   reply-written {n} e =
-      let k : n ≡ length reply = cc answered in
-      (k, (omega (arith, frame-fits (messageOfParts (h .version) (h .number .0) command head rest) allowed), rw (ap (λ (w : WriteOutcome). w .out) written) (rest-overlay o reply-offset reply)))
+      let k : n ≡ length reply = cc answered in (
+        k,
+        (
+          omega (arith, frame-fits (messageOfParts (h .version) (h .number .0) command head rest) allowed),
+          rw (ap (λ (w : WriteOutcome). w .out) written) (rest-overlay o reply-offset reply),
+        ),
+      )
 
   pub reply-refused : {v : Written} → r ≡ v → (k : ℕ) → writeReport v ≡ refused k → ⊥
   reply-refused e k f = let z : _≡_ {A = ℕ} 0 1 = cc answered in omega arith
@@ -66,9 +75,11 @@ module _ (h : Head) (command : ℕ) (head rest o : List ℕ) (long : outbox-leng
 -- ---- the pending bytes
 
 -- the two offsets that say which bytes are pending are stored one after the other
-pub pending-set : (o : List ℕ) (n : ℕ) {terminator-owed first : ℕ} {t u : List ℕ} → outbox-length ≤ length o → terminator-owed ≡ outboxTerminatorOwed o → first ≡ cond (eqb terminator-owed 1) 0 1
+pub pending-set : (o : List ℕ) (n : ℕ) {terminator-owed first : ℕ} {t u : List ℕ} → outbox-length ≤ length o
+    → terminator-owed ≡ outboxTerminatorOwed o → first ≡ cond (eqb terminator-owed 1) 0 1
     → t ≡ put outbox-from-offset (bytes 2 first) (set o outbox-bytes-offset 0) → u ≡ put outbox-to-offset (bytes 2 (n + 1)) t
-    → u ≡ overlay outbox-from-offset (bytes 2 (cond (eqb (outboxTerminatorOwed o) 1) 0 1) ++ bytes 2 (suc n)) (overlay outbox-bytes-offset (0 ∷ []) o)
+    → u ≡ overlay outbox-from-offset (bytes 2 (cond (eqb (outboxTerminatorOwed o) 1) 0 1) ++ bytes 2 (suc n))
+    (overlay outbox-bytes-offset (0 ∷ []) o)
 pending-set o n {first = first} long e f p q =
     let s = overlay outbox-bytes-offset (0 ∷ []) o in
     let a = bytes 2 first in
@@ -77,12 +88,22 @@ pending-set o n {first = first} long e f p q =
     let k = length-bytes 2 (suc n) in
     let l : length s ≡ length o = length-overlay outbox-bytes-offset (0 ∷ []) o (omega arith) in
     let m : length (overlay outbox-from-offset a s) ≡ length s = length-overlay outbox-from-offset a s (omega arith) in
-    rw (q, p, add-one, overlay-one outbox-bytes-offset 0 o (omega arith), put-fits outbox-from-offset a s (omega arith), put-fits outbox-to-offset b (overlay outbox-from-offset a s) (omega arith), ← e, ← f)
+    rw (
+      q,
+      p,
+      add-one,
+      overlay-one outbox-bytes-offset 0 o (omega arith),
+      put-fits outbox-from-offset a s (omega arith),
+      put-fits outbox-to-offset b (overlay outbox-from-offset a s) (omega arith),
+      ← e,
+      ← f,
+    )
     (rw (j, zero-add) at (overlay-next outbox-from-offset a b s (omega arith)))
 
 -- a 00 ahead of the bytes, which are there already
 pub sent : (bs o : List ℕ) {n : ℕ} {t u : List ℕ} → outbox-length ≤ length o → n ≡ length bs → t ≡ overlay reply-offset bs o
-    → u ≡ overlay outbox-from-offset (bytes 2 (cond (eqb (outboxTerminatorOwed t) 1) 0 1) ++ bytes 2 (suc n)) (overlay outbox-bytes-offset (0 ∷ []) t)
+    → u ≡ overlay outbox-from-offset (bytes 2 (cond (eqb (outboxTerminatorOwed t) 1) 0 1) ++ bytes 2 (suc n))
+    (overlay outbox-bytes-offset (0 ∷ []) t)
     → u ≡ sentBox bs o
 unfolding sentBox
 sent bs o long e p q =

@@ -132,13 +132,16 @@ abbrev pub Judged : List ℕ → List ℕ → Receive.Inner → Verdict → Rece
 Judged image f i v g j = (g ≡ Receive.endedByVerdict v) × ((j ≡ Receive.innerBy image f i v) × (Receive.validInner j ≡ true))
 
 -- by a call of `fail`
-pub judged-failure : (image f o s r : List ℕ) (reason version : ℕ) (sequence : Option ℕ) {v : Verdict} {h : Receive.Head} {g : Receive.Ended} {o' : List ℕ}
+pub judged-failure : (image f o s r : List ℕ) (reason version : ℕ) (sequence : Option ℕ) {v : Verdict} {h : Receive.Head}
+    {g : Receive.Ended} {o' : List ℕ}
     → Receive.validInner (Receive.inner o s r) ≡ true → v ≡ failure reason version sequence → h ≡ Receive.failureHead version sequence
     → (g ≡ Receive.Ended.failed reason) × (o' ≡ Receive.sentBox (Receive.replyBytes h 0x02 (bytes 1 reason)) o)
     → Judged image f (Receive.inner o s r) v g (Receive.inner o' s r)
 unfolding Receive.innerBy Receive.replyAlone
 judged-failure image f o s r reason version sequence valid e n w =
-    let k = answering-valid (Receive.inner o s r) (Receive.failureHead version sequence) 0x02 (bytes 1 reason) valid (rw (length-bytes 1 reason) (omega arith)) in
+    let k =
+    answering-valid (Receive.inner o s r) (Receive.failureHead version sequence) 0x02 (bytes 1 reason) valid
+    (rw (length-bytes 1 reason) (omega arith)) in
     rw (e, w .1, n) (w .0, (refl, k))
 
 -- by a call of `carry`
@@ -156,28 +159,31 @@ unfolding Receive.noReply
 unanswered-by i registers f = rw (f .0, f .1)
 
 -- one that is answered alone, or acknowledged, by what the code has for its reply's head
-pub answered-by : (i : Receive.Inner) (version sequence command : ℕ) (payload : List ℕ) {h : Receive.Head} {o : List ℕ} → h ≡ Receive.replyHead version sequence
-    → o ≡ Receive.sentBox (Receive.replyBytes h command payload) (i .outbox)
+pub answered-by : (i : Receive.Inner) (version sequence command : ℕ) (payload : List ℕ) {h : Receive.Head} {o : List ℕ}
+    → h ≡ Receive.replyHead version sequence → o ≡ Receive.sentBox (Receive.replyBytes h command payload) (i .outbox)
     → Receive.inner o (i .settings) (i .registers) ≡ Receive.replyAlone i (Receive.replyHead version sequence) command payload
 unfolding Receive.replyAlone
 answered-by i version sequence command payload e f = rw (f, e)
 
 -- a lookup's, by the version in that head
-pub looked-by : (i : Receive.Inner) (version sequence : ℕ) (f d : List ℕ) {h : Receive.Head} {o : List ℕ} → h ≡ Receive.replyHead version sequence
+pub looked-by : (i : Receive.Inner) (version sequence : ℕ) (f d : List ℕ) {h : Receive.Head} {o : List ℕ}
+    → h ≡ Receive.replyHead version sequence
     → o ≡ Receive.sentBox (Receive.replyBytes h 0x0a (Receive.valueBytes (h .version) f (i .settings) d)) (i .outbox)
-    → Receive.inner o (i .settings) (i .registers) ≡ Receive.replyAlone i (Receive.replyHead version sequence) 0x0a (Receive.valueBytes version f (i .settings) d)
+    → Receive.inner o (i .settings) (i .registers)
+    ≡ Receive.replyAlone i (Receive.replyHead version sequence) 0x0a (Receive.valueBytes version f (i .settings) d)
 unfolding Receive.replyAlone
 looked-by i version sequence f d e g = rw (g, e)
 
-pub acknowledged-by : (i : Receive.Inner) (version sequence : ℕ) (registers : List ℕ) {h : Receive.Head} {o r : List ℕ} → h ≡ Receive.replyHead version sequence
-    → (o ≡ Receive.sentBox (Receive.replyBytes h 0x01 []) (i .outbox)) × (r ≡ registers)
+pub acknowledged-by : (i : Receive.Inner) (version sequence : ℕ) (registers : List ℕ) {h : Receive.Head} {o r : List ℕ}
+    → h ≡ Receive.replyHead version sequence → (o ≡ Receive.sentBox (Receive.replyBytes h 0x01 []) (i .outbox)) × (r ≡ registers)
     → Receive.inner o (i .settings) r ≡ Receive.acknowledged i (Receive.replyHead version sequence) registers
 unfolding Receive.acknowledged
 acknowledged-by i version sequence registers e f = rw (f .0, f .1, e)
 
 -- what its command leaves is what a valid request does, and valid; n is the first byte of its data
 pub carried-both : (image f : List ℕ) (i : Receive.Inner) (version sequence command : ℕ) (d : List ℕ) {n : ℕ} {j : Receive.Inner}
-    → versionServed version ≡ true → validFactory f ≡ true → Receive.validInner i ≡ true → length d ≤ longest-data → (n ≡ numberAt 1 d 0) × (n < 256)
+    → versionServed version ≡ true → validFactory f ≡ true → Receive.validInner i ≡ true → length d ≤ longest-data
+    → (n ≡ numberAt 1 d 0) × (n < 256)
     → (o : Option Command) → commandOfNumber command ≡ o → j ≡ Receive.commandLeavesWhere o image f i version sequence d
     → (j ≡ Receive.carriedInner image f i version sequence command d) × (Receive.validInner j ≡ true)
 unfolding Receive.carriedInner
@@ -193,8 +199,10 @@ Settled image f i reader a g j =
     (g ≡ Receive.endedByReader reader a) × ((j ≡ Receive.innerAfter image f i (Receive.verdictOf reader a)) × (Receive.validInner j ≡ true))
 
 -- by a call of `fail`
-pub settled-failure : (image f o s r reader : List ℕ) (reason : ℕ) (sequence : Option ℕ) {a : LineReader.ReadReport} {h : Receive.Head} {g : Receive.Ended} {o' : List ℕ}
-    → Receive.validInner (Receive.inner o s r) ≡ true → a ≡ LineReader.failed reason sequence → h ≡ Receive.failureHead first-version sequence
+pub settled-failure : (image f o s r reader : List ℕ) (reason : ℕ) (sequence : Option ℕ) {a : LineReader.ReadReport} {h : Receive.Head}
+    {g : Receive.Ended} {o' : List ℕ}
+    → Receive.validInner (Receive.inner o s r) ≡ true → a ≡ LineReader.failed reason sequence
+    → h ≡ Receive.failureHead first-version sequence
     → (g ≡ Receive.Ended.failed reason) × (o' ≡ Receive.sentBox (Receive.replyBytes h 0x02 (bytes 1 reason)) o)
     → Settled image f (Receive.inner o s r) reader a g (Receive.inner o' s r)
 unfolding Receive.endedByReader Receive.innerAfter Receive.verdictOf
@@ -202,7 +210,8 @@ settled-failure image f o s r reader reason sequence v e n w = rw e (judged-fail
 
 -- by a call of `request`
 pub settled-message : (image f : List ℕ) (i : Receive.Inner) (reader : List ℕ) (version sequence command n : ℕ)
-    {a : LineReader.ReadReport} {g : Receive.Ended} {j : Receive.Inner} {d : List ℕ} → a ≡ LineReader.message version sequence command n → d ≡ LineReader.dataPromise reader n
+    {a : LineReader.ReadReport} {g : Receive.Ended} {j : Receive.Inner} {d : List ℕ} → a ≡ LineReader.message version sequence command n
+    → d ≡ LineReader.dataPromise reader n
     → Judged image f i (tested (Receive.messageBy version sequence command d)) g j → Settled image f i reader a g j
 unfolding Receive.endedByReader Receive.innerAfter Receive.verdictOf
 settled-message image f i reader version sequence command n e h w = rw e (rw h at w)
@@ -213,7 +222,8 @@ settled-message image f i reader version sequence command n e h w = rw e (rw h a
 pub iteration-rest : (image piece : List ℕ) (p : Parts)
     → let o = LineReader.readPiece (p .reader) piece in
     Receive.feedBytes image p piece ≡ Receive.feedBytes image (Receive.afterAnswer image p (o .state) (o .answer)) (drop (o .used) piece)
-unfolding LineReader.readPiece LineReader.oneByteLater Receive.feedBytes Receive.feedByte Receive.afterAnswer Receive.innerAfter Receive.verdictOf
+unfolding LineReader.readPiece LineReader.oneByteLater Receive.feedBytes Receive.feedByte Receive.afterAnswer Receive.innerAfter
+    Receive.verdictOf
 iteration-rest image [] p = refl
 iteration-rest image (zero ∷ bs) p = refl
 iteration-rest image (suc b ∷ bs) p =
@@ -237,12 +247,15 @@ module _ (image piece : List ℕ) (p : Parts) (v : Receive.validParts p ≡ true
       let st : reader ≡ read .state = ap (λ (y : LineReader.ReadOutcome). y .state) q in
       let an : a ≡ read .answer = ap (λ (y : LineReader.ReadOutcome). y .answer) q in
       let us : n ≡ read .used = ap (λ (y : LineReader.ReadOutcome). y .used) q in
-      let k : LineReader.validReader reader ≡ true = rw st (read-valid (p .reader) piece (h .reader)) in
-      (rw (← us, ← st, ← an, w .0, ← w .1 .0), valid-parts (parts reader o (p .factory) s t) (record { reader = k; factory = h .factory; inner = w .1 .1 }))
+      let k : LineReader.validReader reader ≡ true = rw st (read-valid (p .reader) piece (h .reader)) in (
+        rw (← us, ← st, ← an, w .0, ← w .1 .0),
+        valid-parts (parts reader o (p .factory) s t) (record { reader = k; factory = h .factory; inner = w .1 .1 }),
+      )
 
 -- ---- the loop over a piece
 
--- the parts as they are at an offset of the piece are valid, and what is left of it is fed to them; each part has the length that it came with
+-- the parts as they are at an offset of the piece are valid, and what is left of it is fed to them;
+-- each part has the length that it came with
 pub record Held (image piece : List ℕ) (p₀ p : Parts) (at : ℕ) : Type 0 where
   pub within : at ≤ length piece
   pub valid : Receive.validParts p ≡ true
@@ -270,7 +283,8 @@ unfolding Receive.receiveReport Receive.feedBytes
 over {piece = piece} h l = rw (h .same, drop-of-length-le piece l)
 
 -- an iteration at an offset of the piece
-module _ {image piece : List ℕ} {p₀ p p' : Parts} {at : ℕ} {n : ℕ} {g : Receive.Ended} (h : Held image piece p₀ p at) (l : at < length piece)
+module _ {image piece : List ℕ} {p₀ p p' : Parts} {at : ℕ} {n : ℕ} {g : Receive.Ended} (h : Held image piece p₀ p at)
+    (l : at < length piece)
     (e : record { used = n; ended = g; parts = p' } ≡ Receive.validStep image p (take (length piece - at) (drop at piece))) where
   abbrev left : List ℕ
   left = drop at piece

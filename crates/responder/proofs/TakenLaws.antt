@@ -13,12 +13,14 @@ use lib.Seq.{take-take, drop-drop}
 use Rattle.octets.specs.Bytes.{bytes, number, run, numberAt, overlay, put, copied, movedDown}
 use Rattle.octets.proofs.Numbers.{length-bytes, number-bytes, one-byte}
 use Rattle.octets.proofs.Conditions.{cond-by}
-use Rattle.octets.proofs.Overlay.{length-run, length-overlay, overlay-before, overlay-after, overlay-inside, overlay-part, overlay-one, overlay-more, copied-fits, movedDown-fits, next-put, next-copied}
+use Rattle.octets.proofs.Overlay.{length-run, length-overlay, overlay-before, overlay-after, overlay-inside, overlay-part, overlay-one}
+use Rattle.octets.proofs.Overlay.{overlay-more, copied-fits, movedDown-fits, next-put, next-copied}
 use Rattle.supervisor.specs.Limits.{most-alerts, longest-alert}
 use Rattle.supervisor.specs.Layout
 use Rattle.supervisor.specs.Valid.{validRegisters}
 use Rattle.responder.specs.Requests.{clearBit}
-use Rattle.responder.specs.Receive.{withReply, movedAlerts, withTaken, isRetained, alertRegisters, alertParts, alertAnswered, sentBox, Head, replyHead, replyBytes}
+use Rattle.responder.specs.Receive.{withReply, movedAlerts, withTaken, isRetained, alertRegisters, alertParts, alertAnswered, sentBox}
+use Rattle.responder.specs.Receive.{Head, replyHead, replyBytes}
 use Rattle.supervisor.proofs.ValidLaws.{registers-valid, all-each, alert-valid}
 use Rattle.responder.proofs.RecordLaws.{marked, length-marked, number-stored}
 
@@ -41,8 +43,10 @@ three-zeros = refl
 
 module _ (r : List ℕ) (version sequence : ℕ) (small : version < 256) (long : Layout.registers-length ≤ length r) where
   -- action 0 and no text
-  pub none-retained : {s t : List ℕ} → Layout.alertCount r ≡ 0 → s ≡ put Layout.retained-sequence-offset (bytes 8 sequence) (set r Layout.retained-offset version)
-      → t ≡ put Layout.retained-alert-offset (bytes 2 0) s → set t (Layout.retained-alert-offset + Layout.alert-action-offset) 0 ≡ withReply r version sequence
+  pub none-retained : {s t : List ℕ} → Layout.alertCount r ≡ 0
+      → s ≡ put Layout.retained-sequence-offset (bytes 8 sequence) (set r Layout.retained-offset version)
+      → t ≡ put Layout.retained-alert-offset (bytes 2 0) s
+      → set t (Layout.retained-alert-offset + Layout.alert-action-offset) 0 ≡ withReply r version sequence
   unfolding withReply
   none-retained e f g =
       let at = Layout.retained-offset in
@@ -76,7 +80,8 @@ module _ (r : List ℕ) (version sequence : ℕ) (small : version < 256) (long :
       let k = length-run Layout.alerts-offset Layout.alert-length r (omega arith) in
       let m : t ≡ overlay 0 slot room
       = g ∙ copied-fits s Layout.alerts-offset Layout.alert-length room 0 (omega arith) (omega arith)
-      ∙ ap (λ (x : List ℕ). overlay 0 x room) (rw i (overlay-before at Layout.alerts-offset Layout.alert-length head r (omega arith) (omega arith))) in
+      ∙ ap (λ (x : List ℕ). overlay 0 x room)
+      (rw i (overlay-before at Layout.alerts-offset Layout.alert-length head r (omega arith) (omega arith))) in
       let n = ap length m ∙ length-overlay 0 slot room (omega arith) in
       let o : run 0 Layout.alert-length t ≡ slot = rw m (rw k at (overlay-inside 0 slot room (omega arith))) in
       rw (
@@ -131,13 +136,17 @@ module _ (r : List ℕ) (version sequence : ℕ) (zs : List ℕ) (room : Layout.
   pub retaining-sequence : sequence < 2 ^ 64 → numberAt 8 (retaining r version sequence zs) Layout.retained-sequence-offset ≡ sequence
   unfolding bytes
   retaining-sequence h =
-      ap number (overlay-part Layout.retained-offset 1 8 (retainedBytes version sequence zs) r room (omega arith)) ∙ number-bytes 8 sequence (omega arith)
+      ap number (overlay-part Layout.retained-offset 1 8 (retainedBytes version sequence zs) r room (omega arith))
+      ∙ number-bytes 8 sequence (omega arith)
 
-  pub retaining-alert : (j n : ℕ) → j + n ≤ length zs → run (Layout.retained-alert-offset + j) n (retaining r version sequence zs) ≡ run j n zs
+  pub retaining-alert : (j n : ℕ) → j + n ≤ length zs
+      → run (Layout.retained-alert-offset + j) n (retaining r version sequence zs) ≡ run j n zs
   unfolding bytes
   retaining-alert j n h =
       let e : Layout.retained-offset + (9 + j) ≡ Layout.retained-alert-offset + j = omega arith in
-      let part = overlay-part Layout.retained-offset (9 + j) n (retainedBytes version sequence zs) r room (omega (arith, length-retained version sequence zs)) in
+      let part =
+      overlay-part Layout.retained-offset (9 + j) n (retainedBytes version sequence zs) r room
+      (omega (arith, length-retained version sequence zs)) in
       rw (e, ← drop-drop j 9 (retainedBytes version sequence zs)) at part
 
 -- ---- the text of the reply
@@ -152,7 +161,8 @@ pub record Settled (r s : List ℕ) : Type 0 where
   pub text : Layout.alertTextLength s Layout.retained-alert-offset ≤ longest-alert
 
 module _ (r : List ℕ) (version sequence : ℕ) (v : validRegisters r ≡ true) where
-  kept-settled : (zs : List ℕ) → 2 ≤ length zs → length zs ≤ Layout.alert-length → number (take 2 zs) ≤ longest-alert → Settled r (retaining r version sequence zs)
+  kept-settled : (zs : List ℕ) → 2 ≤ length zs → length zs ≤ Layout.alert-length → number (take 2 zs) ≤ longest-alert
+      → Settled r (retaining r version sequence zs)
   kept-settled zs l m h =
       let long = registers-valid r v .long in
       let n = length-retained version sequence zs in
@@ -172,7 +182,8 @@ module _ (r : List ℕ) (version sequence : ℕ) (v : validRegisters r ≡ true)
       let some : Layout.alertCount r ≡ 0 → ⊥ = eqb-false (Layout.alertCount r) 0 e in
       let k = length-run Layout.alerts-offset Layout.alert-length r (omega arith) in
       let oldest = alert-valid r 0 (all-each _ _ (g .rest .alerts) 0 (omega arith)) in
-      kept-settled slot (omega arith) (omega arith) (rw (take-take 2 Layout.alert-length (drop Layout.alerts-offset r) (omega arith)) (oldest .size)))
+      kept-settled slot (omega arith) (omega arith)
+      (rw (take-take 2 Layout.alert-length (drop Layout.alerts-offset r) (omega arith)) (oldest .size)))
 
   -- bytes put before what is retained
   before-settled : (at : ℕ) (xs : List ℕ) {s : List ℕ} → at + length xs ≤ Layout.retained-offset → Settled r s → Settled r (overlay at xs s)
@@ -190,7 +201,10 @@ module _ (r : List ℕ) (version sequence : ℕ) (v : validRegisters r ≡ true)
       let a = retained-settled in
       before-settled Layout.status-offset _ (rw length-bytes (omega arith))
       (before-settled Layout.alert-count-offset _ (rw length-bytes (omega arith))
-      (before-settled Layout.alerts-offset _ (rw (length-run (Layout.alert-offset 1) ((most-alerts - 1) * Layout.alert-length) (withReply r version sequence) (omega arith)) (omega arith)) a))
+      (before-settled Layout.alerts-offset _
+      (rw (length-run (Layout.alert-offset 1) ((most-alerts - 1) * Layout.alert-length) (withReply r version sequence) (omega arith))
+      (omega arith))
+      a))
 
   pub settled : {s : List ℕ} → s ≡ alertRegisters r version sequence → Settled r s
   unfolding alertRegisters

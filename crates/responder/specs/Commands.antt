@@ -5,7 +5,9 @@ use mathlib.Core.List.{List, [], _∷_}
 use mathlib.Core.Option.{Option, none, some}
 use Prim.Native.Nat.{ℕ}
 use lib.Dec.{leb, eqb}
-use Rattle.line.specs.Numbers.{command-reboot, command-power-off, command-bsu, command-identity, command-mac, command-boot-failure, command-panic, command-status, command-start-acknowledged, command-alert, command-image-block, command-key-lookup, command-inventory, command-key-set}
+use Rattle.line.specs.Numbers.{command-reboot, command-power-off, command-bsu, command-identity, command-mac, command-boot-failure}
+use Rattle.line.specs.Numbers.{command-panic, command-status, command-start-acknowledged, command-alert, command-image-block}
+use Rattle.line.specs.Numbers.{command-key-lookup, command-inventory, command-key-set}
 
 pub data Command : Type 0 where
   reboot : Command
@@ -70,7 +72,8 @@ lengthRight key-set n = leb 1 n
 
 abbrev pub commands : List Command
 commands =
-    reboot ∷ power-off ∷ bsu ∷ identity ∷ mac ∷ boot-failure ∷ panic ∷ status ∷ start-acknowledged ∷ alert ∷ image-block ∷ key-lookup ∷ inventory ∷ key-set ∷ []
+    reboot ∷ power-off ∷ bsu ∷ identity ∷ mac ∷ boot-failure ∷ panic ∷ status ∷ start-acknowledged ∷ alert ∷ image-block ∷ key-lookup
+    ∷ inventory ∷ key-set ∷ []
 
 -- the one of a list that has a number
 unfoldable pub withNumber : ℕ → List Command → Option Command

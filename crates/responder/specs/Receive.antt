@@ -7,7 +7,9 @@ use Prim.Native.Nat.{ℕ, suc, _+_, _-_, _*_}
 use lib.Dec.{leb, ltb, eqb}
 use lib.ListN.{length, take, drop, replicate}
 use Rattle.octets.specs.Bytes.{bytes, run, numberAt, overlay, equal}
-use Rattle.line.specs.Numbers.{status-length, reply-acknowledged, reply-decode-failure, reply-bsu, reply-identity, reply-mac, reply-status, reply-alert, reply-image-block, reply-key-lookup, reply-inventory, reply-key-set, first-version, second-version}
+use Rattle.line.specs.Numbers.{status-length, reply-acknowledged, reply-decode-failure, reply-bsu, reply-identity, reply-mac, reply-status}
+use Rattle.line.specs.Numbers.{reply-alert, reply-image-block, reply-key-lookup, reply-inventory, reply-key-set, first-version}
+use Rattle.line.specs.Numbers.{second-version}
 use Rattle.line.specs.Message.{Message}
 use Rattle.line.specs.Frame.{frame}
 use Rattle.line.specs.Reader as LineReader
@@ -47,7 +49,8 @@ failureHead version sequence = record { version = version; number = record { 0 =
 
 -- a reply's bytes
 abbrev pub replyBytes : Head → ℕ → List ℕ → List ℕ
-replyBytes reply command payload = frame (record { version = reply .version; sequence = reply .number .0; command = command; payload = payload })
+replyBytes reply command payload =
+    frame (record { version = reply .version; sequence = reply .number .0; command = command; payload = payload })
 
 -- ---- What a request changes: the outbox, the settings and the registers
 
@@ -82,19 +85,24 @@ withRecord r at code rest =
 
 -- the retained reply's action and text
 abbrev pub retainedData : List ℕ → List ℕ
-retainedData r = run (Layout.retained-alert-offset + Layout.alert-action-offset) (1 + Layout.alertTextLength r Layout.retained-alert-offset) r
+retainedData r =
+    run (Layout.retained-alert-offset + Layout.alert-action-offset) (1 + Layout.alertTextLength r Layout.retained-alert-offset) r
 
 -- the oldest alert is retained, with the request's version and sequence, and the others move down; or action 0 and no text is retained
 unfoldable pub withReply : List ℕ → ℕ → ℕ → List ℕ
 withReply r version sequence =
-    overlay Layout.retained-offset (bytes 1 version ++ (bytes 8 sequence ++ cond (eqb (Layout.alertCount r) 0) (replicate 3 0) (run Layout.alerts-offset Layout.alert-length r))) r
+    overlay Layout.retained-offset
+    (bytes 1 version
+    ++ (bytes 8 sequence ++ cond (eqb (Layout.alertCount r) 0) (replicate 3 0) (run Layout.alerts-offset Layout.alert-length r)))
+    r
 
 unfoldable pub movedAlerts : List ℕ → List ℕ
 movedAlerts r = overlay Layout.alerts-offset (run (Layout.alert-offset 1) ((Limits.most-alerts - 1) * Layout.alert-length) r) r
 
 unfoldable pub withTaken : List ℕ → ℕ → ℕ → List ℕ
 withTaken r version sequence =
-    overlay Layout.status-offset (bytes 8 (cond (leb (Layout.alertCount r) 1) (Requests.clearBit (Layout.statusOf r) 1) (Layout.statusOf r)))
+    overlay Layout.status-offset
+    (bytes 8 (cond (leb (Layout.alertCount r) 1) (Requests.clearBit (Layout.statusOf r) 1) (Layout.statusOf r)))
     (overlay Layout.alert-count-offset (bytes 1 (Layout.alertCount r - 1))
     (movedAlerts (withReply r version sequence)))
 
@@ -131,7 +139,9 @@ itemBytes f index =
     (1 ∷ replicate 33 0)
 
 unfoldable pub blockBytes : List ℕ → List ℕ → List ℕ → List ℕ
-blockBytes f image d = cond (equal (run 0 Layout.hash-length d) (run Layout.hash-offset Layout.hash-length f)) (take Limits.longest-block (drop (numberAt 8 d Layout.hash-length) image)) []
+blockBytes f image d =
+    cond (equal (run 0 Layout.hash-length d) (run Layout.hash-offset Layout.hash-length f))
+    (take Limits.longest-block (drop (numberAt 8 d Layout.hash-length) image)) []
 
 -- the result, and in version 2 the edition where the result is 0
 abbrev pub carriesEdition : ℕ → ℕ → Bool
@@ -144,7 +154,8 @@ unfoldable pub valueBytes : ℕ → List ℕ → List ℕ → List ℕ → List 
 valueBytes version f s d =
     let key = numberAt 1 d 0 in
     let most = numberAt 2 d 1 in
-    valueHead version (resultNumber (lookupResultPromise f s key most)) (editionNumber (editionPromise f s key)) ++ lookupPromise f s key most
+    valueHead version (resultNumber (lookupResultPromise f s key most)) (editionNumber (editionPromise f s key))
+    ++ lookupPromise f s key most
 
 -- the value of a key in its setting, one edition on
 unfoldable pub withValue : List ℕ → ℕ → List ℕ → List ℕ
@@ -188,19 +199,27 @@ unfoldable pub commandLeaves : Command → List ℕ → List ℕ → Inner → �
 commandLeaves Command.reboot image f i version sequence d = noReply i (askedFor (i .registers) Layout.reboot-offset)
 commandLeaves Command.power-off image f i version sequence d = noReply i (askedFor (i .registers) Layout.power-off-offset)
 commandLeaves Command.bsu image f i version sequence d = replyAlone i (replyHead version sequence) reply-bsu (run Layout.bsu-offset 1 f)
-commandLeaves Command.identity image f i version sequence d = replyAlone i (replyHead version sequence) reply-identity (run Layout.identity-offset Layout.identity-length f)
-commandLeaves Command.mac image f i version sequence d = replyAlone i (replyHead version sequence) reply-mac (run Layout.mac-offset Layout.mac-length f)
-commandLeaves Command.boot-failure image f i version sequence d = noReply i (withRecord (i .registers) Layout.boot-failure-offset (numberAt 1 d 0) (drop 1 d))
+commandLeaves Command.identity image f i version sequence d =
+    replyAlone i (replyHead version sequence) reply-identity (run Layout.identity-offset Layout.identity-length f)
+commandLeaves Command.mac image f i version sequence d =
+    replyAlone i (replyHead version sequence) reply-mac (run Layout.mac-offset Layout.mac-length f)
+commandLeaves Command.boot-failure image f i version sequence d =
+    noReply i (withRecord (i .registers) Layout.boot-failure-offset (numberAt 1 d 0) (drop 1 d))
 commandLeaves Command.panic image f i version sequence d =
     acknowledged i (replyHead version sequence) (withRecord (i .registers) Layout.panic-offset (numberAt 2 d 0) (drop 2 d))
-commandLeaves Command.status image f i version sequence d = replyAlone i (replyHead version sequence) reply-status (run Layout.status-offset status-length (i .registers))
+commandLeaves Command.status image f i version sequence d =
+    replyAlone i (replyHead version sequence) reply-status (run Layout.status-offset status-length (i .registers))
 commandLeaves Command.start-acknowledged image f i version sequence d =
-    acknowledged i (replyHead version sequence) (overlay Layout.status-offset (bytes 8 (Requests.clearBit (Layout.statusOf (i .registers)) 0)) (i .registers))
+    acknowledged i (replyHead version sequence)
+    (overlay Layout.status-offset (bytes 8 (Requests.clearBit (Layout.statusOf (i .registers)) 0)) (i .registers))
 commandLeaves Command.alert image f i version sequence d =
     let a = alertAnswered (i .outbox) (i .registers) version sequence in inner (a .outbox) (i .settings) (a .registers)
-commandLeaves Command.image-block image f i version sequence d = replyAlone i (replyHead version sequence) reply-image-block (blockBytes f image d)
-commandLeaves Command.key-lookup image f i version sequence d = replyAlone i (replyHead version sequence) reply-key-lookup (valueBytes version f (i .settings) d)
-commandLeaves Command.inventory image f i version sequence d = replyAlone i (replyHead version sequence) reply-inventory (itemBytes f (numberAt 4 d 0))
+commandLeaves Command.image-block image f i version sequence d =
+    replyAlone i (replyHead version sequence) reply-image-block (blockBytes f image d)
+commandLeaves Command.key-lookup image f i version sequence d =
+    replyAlone i (replyHead version sequence) reply-key-lookup (valueBytes version f (i .settings) d)
+commandLeaves Command.inventory image f i version sequence d =
+    replyAlone i (replyHead version sequence) reply-inventory (itemBytes f (numberAt 4 d 0))
 commandLeaves Command.key-set image f i version sequence d =
     let k = keySetAnswered (i .outbox) (i .settings) (replyHead version sequence) d in inner (k .outbox) (k .settings) (i .registers)
 
@@ -236,7 +255,8 @@ innerAfter image f i (some v) = innerBy image f i v
 -- ---- One byte
 
 abbrev pub partsWith : Parts → List ℕ → Inner → Parts
-partsWith p reader i = record { reader = reader; outbox = i .outbox; factory = p .factory; settings = i .settings; registers = i .registers }
+partsWith p reader i =
+    record { reader = reader; outbox = i .outbox; factory = p .factory; settings = i .settings; registers = i .registers }
 
 abbrev pub innerOf : Parts → Inner
 innerOf p = inner (p .outbox) (p .settings) (p .registers)
@@ -322,4 +342,5 @@ abbrev pub receiveOutcome : Received → Parts → ReceiveOutcome
 receiveOutcome r p = record { refusal = receiveReport r; parts = p }
 
 unfoldable pub receivePromise : List ℕ → Parts → List ℕ → ReceiveOutcome
-receivePromise image p piece = cond (validParts p) (record { refusal = none; parts = feedBytes image p piece }) (record { refusal = some 12; parts = p })
+receivePromise image p piece =
+    cond (validParts p) (record { refusal = none; parts = feedBytes image p piece }) (record { refusal = some 12; parts = p })

@@ -8,14 +8,18 @@ use lib.Dec.{leb, ltb, eqb}
 use lib.ListN.{length, take, drop, replicate}
 use Rattle.octets.specs.Bytes.{bytes, numberAt, equal, run, bit}
 use Rattle.line.specs.Limits.{longest-form}
-use Rattle.line.specs.Numbers.{first-version, second-version, top-bit, all-ones, reply-acknowledged, reply-decode-failure, reply-bsu, reply-identity, reply-mac, reply-status, reply-alert, reply-image-block, reply-key-lookup, reply-inventory, reply-key-set, reason-form, reason-length, reason-version, reason-sequence, reason-data}
+use Rattle.line.specs.Numbers.{first-version, second-version, top-bit, all-ones, reply-acknowledged, reply-decode-failure, reply-bsu}
+use Rattle.line.specs.Numbers.{reply-identity, reply-mac, reply-status, reply-alert, reply-image-block, reply-key-lookup, reply-inventory}
+use Rattle.line.specs.Numbers.{reply-key-set, reason-form, reason-length, reason-version, reason-sequence, reason-data}
 use Rattle.line.specs.Message.{Message}
 use Rattle.line.specs.Frame.{frame}
 use Rattle.line.specs.Judge as Line
 use Rattle.line.specs.Judge.{judge}
-use Rattle.supervisor.specs.Limits.{inventory-bad-index, highest-key, first-setting, longest-setting, shortest-setting, last-edition, most-kept, longest-block}
+use Rattle.supervisor.specs.Limits.{inventory-bad-index, highest-key, first-setting, longest-setting, shortest-setting, last-edition}
+use Rattle.supervisor.specs.Limits.{most-kept, longest-block}
 use Rattle.supervisor.specs.State.{Item, Factory, Settings, setting, Recorded, Alert, Retained, State}
-use Rattle.supervisor.specs.State.{withStatus, withReboot, withPowerOff, withBootFailure, withPanic, withSetting, withSettings, withWaiting, withRetained, withReceived, withPending}
+use Rattle.supervisor.specs.State.{withStatus, withReboot, withPowerOff, withBootFailure, withPanic, withSetting, withSettings, withWaiting}
+use Rattle.supervisor.specs.State.{withRetained, withReceived, withPending}
 use Rattle.supervisor.specs.Number.{topSet}
 use Rattle.supervisor.specs.Local.{Found, lookup}
 use Rattle.responder.specs.Commands.{Command, commandOfNumber, isListed, mayHave}
@@ -34,14 +38,14 @@ known c = isListed (commandOfNumber c)
 unfoldable pub lengthAllowed : ℕ → ℕ → Bool
 lengthAllowed c n = mayHave (commandOfNumber c) n
 
--- what the whole table makes of a frame: a failure by its reason, the version of its reply, and the request's sequence where the reply carries that; or
--- the message of a valid request
+-- what the whole table makes of a frame: a failure by its reason, the version of its reply, and the request's sequence where the reply
+-- carries that; or the message of a valid request
 pub data Verdict : Type 0 where
   failure : ℕ → ℕ → Option ℕ → Verdict
   good : Message → Verdict
 
--- of a message that the line layer found good: version 5, top bit of the sequence 6, command 3, data length 7. The reply to a failure of reason 1 to 5 has
--- version 1, to one of reason 6 or 7 the request's
+-- of a message that the line layer found good: version 5, top bit of the sequence 6, command 3, data length 7. The reply to a failure of
+-- reason 1 to 5 has version 1, to one of reason 6 or 7 the request's
 unfoldable pub tested : Message → Verdict
 tested m =
     cond (not (versionServed (m .version))) (failure reason-version first-version (some (m .sequence)))
@@ -73,7 +77,8 @@ failureSequence (some sequence) = topSet sequence
 
 -- the reply to a failure
 unfoldable pub failedOf : ℕ → ℕ → Option ℕ → Reply
-failedOf reason version sequence = record { version = version; sequence = failureSequence sequence; command = reply-decode-failure; payload = reason ∷ [] }
+failedOf reason version sequence =
+    record { version = version; sequence = failureSequence sequence; command = reply-decode-failure; payload = reason ∷ [] }
 
 -- ---- What a valid request does: the state, and the reply's version, command and data, or none
 
@@ -118,8 +123,8 @@ panicked version s bs = replyWith (withPanic s (some (recorded (numberAt 2 bs 0)
 unfoldable pub startAcknowledged : ℕ → State → Carried
 startAcknowledged version s = replyWith (withStatus s (clearBit (s .status) 0)) version reply-acknowledged []
 
--- 0x0a: the retained reply again, as first written, where it has the request's sequence; else the oldest alert, or action 0 and no data, which is then
--- retained with the request's version and sequence, and status bit 1 is cleared if none waits
+-- 0x0a: the retained reply again, as first written, where it has the request's sequence; else the oldest alert, or action 0 and no data,
+-- which is then retained with the request's version and sequence, and status bit 1 is cleared if none waits
 abbrev pub alertData : Alert → List ℕ
 alertData a = bytes 1 (a .action) ++ a .text
 
@@ -138,7 +143,8 @@ unfoldable pub alertTaken : ℕ → State → ℕ → Carried
 alertTaken version s sequence =
     let rest = others (s .waiting) in
     let kept : Retained = record { version = version; sequence = sequence; alert = oldest (s .waiting) } in
-    replyWith (withRetained (withWaiting (withStatus s (statusAfter (s .status) rest)) rest) (some kept)) version reply-alert (alertData (oldest (s .waiting)))
+    replyWith (withRetained (withWaiting (withStatus s (statusAfter (s .status) rest)) rest) (some kept)) version reply-alert
+    (alertData (oldest (s .waiting)))
 
 unfoldable pub alertAsked : ℕ → State → ℕ → Option Retained → Carried
 alertAsked version s sequence none = alertTaken version s sequence
@@ -195,8 +201,10 @@ unfoldable pub effect : Command → List ℕ → State → Message → Carried
 effect Command.reboot image s m = reboot s
 effect Command.power-off image s m = powerOff s
 effect Command.bsu image s m = replyWith s (m .version) reply-bsu (bytes 1 (s .factory .bsu))
-effect Command.identity image s m = replyWith s (m .version) reply-identity (s .factory .model ++ (bytes 4 (s .factory .revision) ++ s .factory .serial))
-effect Command.mac image s m = replyWith s (m .version) reply-mac (s .factory .base ++ (bytes 2 (s .factory .count) ++ bytes 1 (s .factory .stride)))
+effect Command.identity image s m =
+    replyWith s (m .version) reply-identity (s .factory .model ++ (bytes 4 (s .factory .revision) ++ s .factory .serial))
+effect Command.mac image s m =
+    replyWith s (m .version) reply-mac (s .factory .base ++ (bytes 2 (s .factory .count) ++ bytes 1 (s .factory .stride)))
 effect Command.boot-failure image s m = bootFailure s (m .payload)
 effect Command.panic image s m = panicked (m .version) s (m .payload)
 effect Command.status image s m = replyWith s (m .version) reply-status (bytes 8 (s .status) ++ bytes 8 (s .options))
@@ -204,7 +212,8 @@ effect Command.start-acknowledged image s m = startAcknowledged (m .version) s
 effect Command.alert image s m = alertAsked (m .version) s (m .sequence) (s .retained)
 effect Command.image-block image s m = replyWith s (m .version) reply-image-block (block (s .factory) image (m .payload))
 effect Command.key-lookup image s m = found (m .version) s (lookup s (numberAt 1 (m .payload) 0) (numberAt 2 (m .payload) 1))
-effect Command.inventory image s m = replyWith s (m .version) reply-inventory (inventoried (itemOf (s .factory .items) (numberAt 4 (m .payload) 0)))
+effect Command.inventory image s m =
+    replyWith s (m .version) reply-inventory (inventoried (itemOf (s .factory .items) (numberAt 4 (m .payload) 0)))
 effect Command.key-set image s m = keySet (m .version) s (m .payload)
 
 -- a valid request, which has a listed command
@@ -234,7 +243,8 @@ replyOf sequence (some r) = some (record { version = r .version; sequence = topS
 
 -- ---- One received byte
 
--- a frame by the table's verdict on it: a valid request is carried out; a failure changes nothing but the receive progress and the pending reply
+-- a frame by the table's verdict on it: a valid request is carried out;
+-- a failure changes nothing but the receive progress and the pending reply
 unfoldable pub afterVerdict : List ℕ → State → Verdict → State
 afterVerdict image s (failure reason version sequence) = sent s (some (failedOf reason version sequence))
 afterVerdict image s (good m) = let c = carryOut image s m in sent (c .state) (replyOf (m .sequence) (c .reply))

@@ -20,7 +20,8 @@ pub(crate) fn alert(outbox: &mut [u8], registers: &mut [u8], version: u32, numbe
     requires { ⌜ outbox-length ≤ length (now outbox) ⌝ }
     requires { ⌜ validRegisters (now registers) ≡ true ⌝ }
     requires { ⌜ version < 256 ⌝ }
-    ensures { λ _. ⌜ alertParts (now (outbox .exit)) (now (registers .exit)) ≡ alertAnswered (now (outbox .entry)) (now (registers .entry)) version (number .0) ⌝ }
+    ensures { λ _. ⌜ alertParts (now (outbox .exit)) (now (registers .exit))
+        ≡ alertAnswered (now (outbox .entry)) (now (registers .entry)) version (number .0) ⌝ }
 {
     update_alerts(registers, version, number);
     let first = octets::read_u8(registers, layout::RETAINED_OFFSET) as u32;

@@ -30,7 +30,9 @@ pub(crate) fn send_block(
 )
     requires { ⌜ outbox-length ≤ length (now outbox) ⌝ }
     requires { ⌜ validFactory (now factory) ≡ true ⌝ }
-    ensures { λ _. ⌜ now (outbox .exit) ≡ sentBox (replyBytes reply reply-image-block (blockBytes (now (factory .entry)) (now (image .entry)) (now («data» .entry)))) (now (outbox .entry)) ⌝ }
+    ensures { λ _. ⌜ now (outbox .exit)
+        ≡ sentBox (replyBytes reply reply-image-block (blockBytes (now (factory .entry)) (now (image .entry)) (now («data» .entry))))
+        (now (outbox .entry)) ⌝ }
 {
     if !octets::same(data, 0, factory, layout::HASH_OFFSET, layout::HASH_LENGTH) {
         send_part(outbox, reply, numbers::REPLY_IMAGE_BLOCK, image, 0, 0);
@@ -57,7 +59,10 @@ pub(crate) fn send_value<'a>(
     requires { ⌜ outbox-length ≤ length (now outbox) ⌝ }
     requires { ⌜ validFactory (now factory) ≡ true ⌝ }
     requires { ⌜ validSettings (now settings) ≡ true ⌝ }
-    ensures { λ _. ⌜ now (outbox .exit) ≡ sentBox (replyBytes reply reply-key-lookup (valueBytes (reply .version) (now (factory .entry)) (now (settings .entry)) (now («data» .entry)))) (now (outbox .entry)) ⌝ }
+    ensures { λ _. ⌜ now (outbox .exit)
+        ≡ sentBox (replyBytes reply reply-key-lookup
+        (valueBytes (reply .version) (now (factory .entry)) (now (settings .entry)) (now («data» .entry))))
+        (now (outbox .entry)) ⌝ }
 {
     let key = octets::read_u8(data, 0);
     let most = octets::read_u16(data, 1);
@@ -91,7 +96,8 @@ fn head_length(version: u32, result: u8) -> usize
 pub(crate) fn send_item(outbox: &mut [u8], reply: ReplyHead, factory: &[u8], index: usize)
     requires { ⌜ outbox-length ≤ length (now outbox) ⌝ }
     requires { ⌜ validFactory (now factory) ≡ true ⌝ }
-    ensures { λ _. ⌜ now (outbox .exit) ≡ sentBox (replyBytes reply reply-inventory (itemBytes (now (factory .entry)) index)) (now (outbox .entry)) ⌝ }
+    ensures { λ _. ⌜ now (outbox .exit)
+        ≡ sentBox (replyBytes reply reply-inventory (itemBytes (now (factory .entry)) index)) (now (outbox .entry)) ⌝ }
 {
     let count = octets::read_u32(factory, layout::ITEM_COUNT_OFFSET) as usize;
     if count <= index {

@@ -16,7 +16,8 @@ ghost use Rattle.line.specs.Reader.{readReport};
 ghost use Rattle.supervisor.specs.Layout.{outbox-length};
 ghost use Rattle.supervisor.specs.Valid.{validFactory};
 ghost use Rattle.supervisor.specs.Calls.{parts};
-ghost use Rattle.responder.specs.Receive.{inner, validInner, innerAfter, verdictOf, endedByReader, stepReport, validParts, stepOutcome, stepPromise, validStep, receiveOutcome, receivePromise};
+ghost use Rattle.responder.specs.Receive.{inner, validInner, innerAfter, verdictOf, endedByReader, stepReport, validParts};
+ghost use Rattle.responder.specs.Receive.{stepOutcome, stepPromise, validStep, receiveOutcome, receivePromise};
 
 // How many bytes of the piece a call of `step` read, and how the frame ended.
 pub struct Stepped {
@@ -40,7 +41,11 @@ pub fn step(
     settings: &mut [u8],
     registers: &mut [u8],
 ) -> Stepped
-    ensures { λ r. ⌜ stepOutcome r (parts (now (reader .exit)) (now (outbox .exit)) (now (factory .entry)) (now (settings .exit)) (now (registers .exit))) ≡ stepPromise (now (image .entry)) (parts (now (reader .entry)) (now (outbox .entry)) (now (factory .entry)) (now (settings .entry)) (now (registers .entry))) (now (piece .entry)) ⌝ }
+    ensures { λ r. ⌜ stepOutcome r
+        (parts (now (reader .exit)) (now (outbox .exit)) (now (factory .entry)) (now (settings .exit)) (now (registers .exit)))
+        ≡ stepPromise (now (image .entry))
+        (parts (now (reader .entry)) (now (outbox .entry)) (now (factory .entry)) (now (settings .entry)) (now (registers .entry)))
+        (now (piece .entry)) ⌝ }
 {
     if !are_valid(reader, outbox, factory, settings, registers) {
         return Stepped {
@@ -61,7 +66,11 @@ pub fn receive(
     settings: &mut [u8],
     registers: &mut [u8],
 ) -> Received
-    ensures { λ r. ⌜ receiveOutcome r (parts (now (reader .exit)) (now (outbox .exit)) (now (factory .entry)) (now (settings .exit)) (now (registers .exit))) ≡ receivePromise (now (image .entry)) (parts (now (reader .entry)) (now (outbox .entry)) (now (factory .entry)) (now (settings .entry)) (now (registers .entry))) (now (piece .entry)) ⌝ }
+    ensures { λ r. ⌜ receiveOutcome r
+        (parts (now (reader .exit)) (now (outbox .exit)) (now (factory .entry)) (now (settings .exit)) (now (registers .exit)))
+        ≡ receivePromise (now (image .entry))
+        (parts (now (reader .entry)) (now (outbox .entry)) (now (factory .entry)) (now (settings .entry)) (now (registers .entry)))
+        (now (piece .entry)) ⌝ }
 {
     if !are_valid(reader, outbox, factory, settings, registers) {
         return Received::Refused;
@@ -91,7 +100,9 @@ fn are_valid(
     settings: &[u8],
     registers: &[u8],
 ) -> bool
-    ensures { λ r. ⌜ r ≡ validParts (parts (now (reader .entry)) (now (outbox .entry)) (now (factory .entry)) (now (settings .entry)) (now (registers .entry))) ⌝ }
+    ensures { λ r. ⌜ r
+        ≡ validParts
+        (parts (now (reader .entry)) (now (outbox .entry)) (now (factory .entry)) (now (settings .entry)) (now (registers .entry))) ⌝ }
 {
     if !line::reader::is_valid(reader) {
         return false;
@@ -119,8 +130,14 @@ fn valid_step(
     registers: &mut [u8],
 ) -> Stepped
     requires { ⌜ validParts (parts (now reader) (now outbox) (now factory) (now settings) (now registers)) ≡ true ⌝ }
-    ensures { λ r. ⌜ stepOutcome r (parts (now (reader .exit)) (now (outbox .exit)) (now (factory .entry)) (now (settings .exit)) (now (registers .exit))) ≡ validStep (now (image .entry)) (parts (now (reader .entry)) (now (outbox .entry)) (now (factory .entry)) (now (settings .entry)) (now (registers .entry))) (now (piece .entry)) ⌝ }
-    ensures { λ _. ⌜ validParts (parts (now (reader .exit)) (now (outbox .exit)) (now (factory .entry)) (now (settings .exit)) (now (registers .exit))) ≡ true ⌝ }
+    ensures { λ r. ⌜ stepOutcome r
+        (parts (now (reader .exit)) (now (outbox .exit)) (now (factory .entry)) (now (settings .exit)) (now (registers .exit)))
+        ≡ validStep (now (image .entry))
+        (parts (now (reader .entry)) (now (outbox .entry)) (now (factory .entry)) (now (settings .entry)) (now (registers .entry)))
+        (now (piece .entry)) ⌝ }
+    ensures { λ _. ⌜ validParts
+        (parts (now (reader .exit)) (now (outbox .exit)) (now (factory .entry)) (now (settings .exit)) (now (registers .exit)))
+        ≡ true ⌝ }
 {
     let read = line::reader::read(reader, piece);
     let used = read.used;
@@ -143,7 +160,10 @@ fn answer_frame(
     requires { ⌜ validFactory (now factory) ≡ true ⌝ }
     requires { ⌜ validInner (inner (now outbox) (now settings) (now registers)) ≡ true ⌝ }
     ensures { λ r. ⌜ stepReport r ≡ endedByReader (now (reader .entry)) (readReport answer) ⌝ }
-    ensures { λ _. ⌜ inner (now (outbox .exit)) (now (settings .exit)) (now (registers .exit)) ≡ innerAfter (now (image .entry)) (now (factory .entry)) (inner (now (outbox .entry)) (now (settings .entry)) (now (registers .entry))) (verdictOf (now (reader .entry)) (readReport answer)) ⌝ }
+    ensures { λ _. ⌜ inner (now (outbox .exit)) (now (settings .exit)) (now (registers .exit))
+        ≡ innerAfter (now (image .entry)) (now (factory .entry))
+        (inner (now (outbox .entry)) (now (settings .entry)) (now (registers .entry)))
+        (verdictOf (now (reader .entry)) (readReport answer)) ⌝ }
     ensures { λ _. ⌜ validInner (inner (now (outbox .exit)) (now (settings .exit)) (now (registers .exit))) ≡ true ⌝ }
 {
     match answer {

@@ -11,7 +11,8 @@ ghost use lib.ListN.{length, drop};
 ghost use Rattle.octets.specs.Bytes.{bytes, numberAt, overlay};
 ghost use Rattle.line.specs.Limits.{longest-data};
 ghost use Rattle.line.specs.Numbers.{reply-acknowledged};
-ghost use Rattle.supervisor.specs.Layout.{outbox-length, registers-length, status-offset, statusOf, power-off-offset, boot-failure-offset, panic-offset};
+ghost use Rattle.supervisor.specs.Layout.{outbox-length, registers-length, status-offset, statusOf, power-off-offset, boot-failure-offset};
+ghost use Rattle.supervisor.specs.Layout.{panic-offset};
 ghost use Rattle.responder.specs.Requests.{clearBit};
 ghost use Rattle.responder.specs.Receive.{sentBox, replyBytes, askedFor, withRecord};
 
@@ -35,7 +36,8 @@ pub(crate) fn boot_failure(outbox: &mut [u8], registers: &mut [u8], reason: u16,
     requires { ⌜ 1 ≤ length (now «data») ⌝ }
     requires { ⌜ length (now «data») ≤ longest-data ⌝ }
     ensures { λ _. ⌜ now (outbox .exit) ≡ sentBox [] (now (outbox .entry)) ⌝ }
-    ensures { λ _. ⌜ now (registers .exit) ≡ withRecord (now (registers .entry)) boot-failure-offset reason (drop 1 (now («data» .entry))) ⌝ }
+    ensures { λ _. ⌜ now (registers .exit)
+        ≡ withRecord (now (registers .entry)) boot-failure-offset reason (drop 1 (now («data» .entry))) ⌝ }
 {
     set_record(registers, layout::BOOT_FAILURE_OFFSET, reason, data, 1);
     send_none(outbox);
@@ -48,7 +50,8 @@ pub(crate) fn panic(outbox: &mut [u8], registers: &mut [u8], reply: ReplyHead, d
     requires { ⌜ 2 ≤ length (now «data») ⌝ }
     requires { ⌜ length (now «data») ≤ longest-data ⌝ }
     ensures { λ _. ⌜ now (outbox .exit) ≡ sentBox (replyBytes reply reply-acknowledged []) (now (outbox .entry)) ⌝ }
-    ensures { λ _. ⌜ now (registers .exit) ≡ withRecord (now (registers .entry)) panic-offset (numberAt 2 (now («data» .entry)) 0) (drop 2 (now («data» .entry))) ⌝ }
+    ensures { λ _. ⌜ now (registers .exit)
+        ≡ withRecord (now (registers .entry)) panic-offset (numberAt 2 (now («data» .entry)) 0) (drop 2 (now («data» .entry))) ⌝ }
 {
     set_record(
         registers,
@@ -81,7 +84,8 @@ pub(crate) fn start_acknowledged(outbox: &mut [u8], registers: &mut [u8], reply:
     requires { ⌜ outbox-length ≤ length (now outbox) ⌝ }
     requires { ⌜ registers-length ≤ length (now registers) ⌝ }
     ensures { λ _. ⌜ now (outbox .exit) ≡ sentBox (replyBytes reply reply-acknowledged []) (now (outbox .entry)) ⌝ }
-    ensures { λ _. ⌜ now (registers .exit) ≡ overlay status-offset (bytes 8 (clearBit (statusOf (now (registers .entry))) 0)) (now (registers .entry)) ⌝ }
+    ensures { λ _. ⌜ now (registers .exit)
+        ≡ overlay status-offset (bytes 8 (clearBit (statusOf (now (registers .entry))) 0)) (now (registers .entry)) ⌝ }
 {
     let status = octets::read_u64(registers, layout::STATUS_OFFSET);
     octets::write_u64(registers, layout::STATUS_OFFSET, without_bit_0(status));

@@ -50,7 +50,9 @@ pub(crate) fn request(
     requires { ⌜ validInner (inner (now outbox) (now settings) (now registers)) ≡ true ⌝ }
     requires { ⌜ length (now «data») ≤ longest-data ⌝ }
     ensures { λ r. ⌜ stepReport r ≡ endedByVerdict (tested (messageBy version (number .0) command (now («data» .entry)))) ⌝ }
-    ensures { λ _. ⌜ inner (now (outbox .exit)) (now (settings .exit)) (now (registers .exit)) ≡ innerBy (now (image .entry)) (now (factory .entry)) (inner (now (outbox .entry)) (now (settings .entry)) (now (registers .entry))) (tested (messageBy version (number .0) command (now («data» .entry)))) ⌝ }
+    ensures { λ _. ⌜ inner (now (outbox .exit)) (now (settings .exit)) (now (registers .exit))
+        ≡ innerBy (now (image .entry)) (now (factory .entry)) (inner (now (outbox .entry)) (now (settings .entry)) (now (registers .entry)))
+        (tested (messageBy version (number .0) command (now («data» .entry)))) ⌝ }
     ensures { λ _. ⌜ validInner (inner (now (outbox .exit)) (now (settings .exit)) (now (registers .exit))) ≡ true ⌝ }
 {
     let first = head::head_to(numbers::FIRST_VERSION, number);
@@ -147,7 +149,9 @@ fn carry(
     requires { ⌜ length (now «data») ≤ longest-data ⌝ }
     requires { ⌜ lengthAllowed command (length (now «data»)) ≡ true ⌝ }
     requires { ⌜ versionServed version ≡ true ⌝ }
-    ensures { λ _. ⌜ inner (now (outbox .exit)) (now (settings .exit)) (now (registers .exit)) ≡ carriedInner (now (image .entry)) (now (factory .entry)) (inner (now (outbox .entry)) (now (settings .entry)) (now (registers .entry))) version (number .0) command (now («data» .entry)) ⌝ }
+    ensures { λ _. ⌜ inner (now (outbox .exit)) (now (settings .exit)) (now (registers .exit))
+        ≡ carriedInner (now (image .entry)) (now (factory .entry))
+        (inner (now (outbox .entry)) (now (settings .entry)) (now (registers .entry))) version (number .0) command (now («data» .entry)) ⌝ }
     ensures { λ _. ⌜ validInner (inner (now (outbox .exit)) (now (settings .exit)) (now (registers .exit))) ≡ true ⌝ }
 {
     let reason = octets::byte_at(data, 0);

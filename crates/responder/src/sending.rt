@@ -21,7 +21,8 @@ ghost use Rattle.responder.specs.Receive.{sentBox, replyBytes, failed, s
 pub(crate) fn send(outbox: &mut [u8], reply: ReplyHead, command: u8, head: &[u8], rest: &[u8])
     requires { ⌜ outbox-length ≤ length (now outbox) ⌝ }
     requires { ⌜ length (now head) + length (now rest) ≤ longest-data ⌝ }
-    ensures { λ _. ⌜ now (outbox .exit) ≡ sentBox (replyBytes reply command (now (head .entry) ++ now (rest .entry))) (now (outbox .entry)) ⌝ }
+    ensures { λ _. ⌜ now (outbox .exit)
+        ≡ sentBox (replyBytes reply command (now (head .entry) ++ now (rest .entry))) (now (outbox .entry)) ⌝ }
 {
     let n = write_reply(outbox, reply, command, head, rest);
     set_pending(outbox, n);
@@ -41,7 +42,8 @@ fn write_reply(outbox: &mut [u8], reply: ReplyHead, command: u8, head: &[u8], re
     requires { ⌜ length (now head) + length (now rest) ≤ longest-data ⌝ }
     ensures { λ r. ⌜ r ≡ length (replyBytes reply command (now (head .entry) ++ now (rest .entry))) ⌝ }
     ensures { λ r. ⌜ r ≤ longest-form + 1 ⌝ }
-    ensures { λ _. ⌜ now (outbox .exit) ≡ overlay (outbox-bytes-offset + 1) (replyBytes reply command (now (head .entry) ++ now (rest .entry))) (now (outbox .entry)) ⌝ }
+    ensures { λ _. ⌜ now (outbox .exit)
+        ≡ overlay (outbox-bytes-offset + 1) (replyBytes reply command (now (head .entry) ++ now (rest .entry))) (now (outbox .entry)) ⌝ }
 {
     let number = reply.number;
     let written = line::writer::write(
@@ -63,7 +65,9 @@ fn write_reply(outbox: &mut [u8], reply: ReplyHead, command: u8, head: &[u8], re
 fn set_pending(outbox: &mut [u8], n: usize)
     requires { ⌜ outbox-length ≤ length (now outbox) ⌝ }
     requires { ⌜ n ≤ longest-form + 1 ⌝ }
-    ensures { λ _. ⌜ now (outbox .exit) ≡ overlay outbox-from-offset (bytes 2 (cond (eqb (outboxTerminatorOwed (now (outbox .entry))) 1) 0 1) ++ bytes 2 (suc n)) (overlay outbox-bytes-offset (0 ∷ []) (now (outbox .entry))) ⌝ }
+    ensures { λ _. ⌜ now (outbox .exit)
+        ≡ overlay outbox-from-offset (bytes 2 (cond (eqb (outboxTerminatorOwed (now (outbox .entry))) 1) 0 1) ++ bytes 2 (suc n))
+        (overlay outbox-bytes-offset (0 ∷ []) (now (outbox .entry))) ⌝ }
 {
     let from = first(octets::byte_at(outbox, layout::OUTBOX_TERMINATOR_OWED_OFFSET));
     outbox[layout::OUTBOX_BYTES_OFFSET] = 0;

@@ -15,7 +15,8 @@ pub(crate) fn set_key(outbox: &mut [u8], settings: &mut [u8], reply: ReplyHead, 
     requires { ⌜ outbox-length ≤ length (now outbox) ⌝ }
     requires { ⌜ settings-length ≤ length (now settings) ⌝ }
     requires { ⌜ 1 ≤ length (now «data») ⌝ }
-    ensures { λ _. ⌜ keySetParts (now (outbox .exit)) (now (settings .exit)) ≡ keySetAnswered (now (outbox .entry)) (now (settings .entry)) reply (now («data» .entry)) ⌝ }
+    ensures { λ _. ⌜ keySetParts (now (outbox .exit)) (now (settings .exit))
+        ≡ keySetAnswered (now (outbox .entry)) (now (settings .entry)) reply (now («data» .entry)) ⌝ }
 {
     let result = store(settings, octets::read_u8(data, 0), data);
     send_byte(outbox, reply, numbers::REPLY_KEY_SET, result);
@@ -43,7 +44,8 @@ fn store_at(settings: &mut [u8], at: usize, shortest: usize, longest: usize, dat
     requires { ⌜ at + (setting-value-offset + longest) ≤ length (now settings) ⌝ }
     requires { ⌜ longest < 65536 ⌝ }
     requires { ⌜ 1 ≤ length (now «data») ⌝ }
-    ensures { λ r. ⌜ keyStored r (now (settings .exit)) ≡ storeBytesAt (now (settings .entry)) at shortest longest (drop 1 (now («data» .entry))) ⌝ }
+    ensures { λ r. ⌜ keyStored r (now (settings .exit))
+        ≡ storeBytesAt (now (settings .entry)) at shortest longest (drop 1 (now («data» .entry))) ⌝ }
 {
     let n = data.len() - 1;
     if n < shortest {

@@ -12,7 +12,8 @@ use Rattle.rot.specs.Limits.{crc-field-offset, rot-header-length, longes
 use Rattle.rot.specs.Crc.{crc}
 use Rattle.rot.specs.Message.{null-protocol, version-1, listedType}
 use Rattle.rot.specs.Writing.{rotMessageOf}
-use Rattle.rot.specs.Reading.{protocolOf, typeOf, payloadLength, crcField, rotPayload, checked, failure, unsent, good, judgeMessage, judgeLength, rotJudge}
+use Rattle.rot.specs.Reading.{protocolOf, typeOf, payloadLength, crcField, rotPayload, checked, failure, unsent, good, judgeMessage}
+use Rattle.rot.specs.Reading.{judgeLength, rotJudge}
 
 module _ (input : List ℕ) where
   -- ---- down to the header's length
@@ -35,12 +36,24 @@ module _ (input : List ℕ) where
         pub short-header : length input < rot-header-length → failure 22 ≡ rotJudge input
         unfolding rotJudge
         short-header h =
-            rw (ne-eqb (length input) 0 some, ← e, ne-eqb p null-protocol sent, eq-eqb p version-1 ours, lt-ltb (length input) rot-header-length h)
+            rw (
+              ne-eqb (length input) 0 some,
+              ← e,
+              ne-eqb p null-protocol sent,
+              eq-eqb p version-1 ours,
+              lt-ltb (length input) rot-header-length h,
+            )
 
         pub header-read : rot-header-length ≤ length input → judgeLength input ≡ rotJudge input
         unfolding rotJudge
         header-read h =
-            rw (ne-eqb (length input) 0 some, ← e, ne-eqb p null-protocol sent, eq-eqb p version-1 ours, le-ltb (length input) rot-header-length h)
+            rw (
+              ne-eqb (length input) 0 some,
+              ← e,
+              ne-eqb p null-protocol sent,
+              eq-eqb p version-1 ours,
+              le-ltb (length input) rot-header-length h,
+            )
 
   -- ---- the payload's length
 
@@ -66,7 +79,8 @@ module _ (input : List ℕ) where
       → eqb field sum ≡ eqb (crcField input) (crc (checked input))
   crc-tested e s p f c = rw (f, c, s, p, e)
 
-  module _ {sum type : Bool} {t : ℕ} (e : sum ≡ eqb (crcField input) (crc (checked input))) (f : t ≡ typeOf input) (g : type ≡ listedType t) where
+  module _ {sum type : Bool} {t : ℕ} (e : sum ≡ eqb (crcField input) (crc (checked input))) (f : t ≡ typeOf input)
+      (g : type ≡ listedType t) where
     pub bad-crc : not sum ≡ true → failure 25 ≡ judgeMessage input
     unfolding judgeMessage
     bad-crc h = rw (sym e ∙ not-true sum h)

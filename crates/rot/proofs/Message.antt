@@ -51,6 +51,6 @@ assembled type crc payload s room c e₁ e₂ e₃ =
     let i₃ = e₃ ∙ copy-next _ payload s rot-header-length (simp (length-append, length-bytes)) i₂ room in
     rw (append-assoc, c) at i₃
 
-pub assembled-length : (m : RotMessage) (s : List ℕ) {t : List ℕ} → rot-header-length + length (m .payload) ≤ length s → t ≡ overlay 0 (rotMessage m) s
-    → length t ≡ length s
+pub assembled-length : (m : RotMessage) (s : List ℕ) {t : List ℕ} → rot-header-length + length (m .payload) ≤ length s
+    → t ≡ overlay 0 (rotMessage m) s → length t ≡ length s
 assembled-length m s room e = rw e (length-overlay 0 (rotMessage m) s (omega (arith, length-message m)))

@@ -13,7 +13,10 @@ use Rattle.rot.specs.Crc.{crc}
 use Rattle.rot.specs.Message.{version-1, echo-request, echo-response, listedType, RotMessage}
 use Rattle.rot.specs.Answers.{handed, rotOutcome}
 use Rattle.rot.specs.Writing.{rotMessageOf, rotWritePromise}
-use Rattle.rot.specs.Reading.{protocolOf, typeOf, payloadLength, crcField, rotPayload, checked, RotVerdict, failure, unsent, good, noInput, nothingSent, wrongProtocol, shortHeader, longPayload, cutShort, wrongCrc, wrongType, judgeMessage, judgeLength, rotJudge, judgedAs, serveMessage, answerTo, rotReadPromise, handedPart, payloadPart}
+use Rattle.rot.specs.Reading.{protocolOf, typeOf, payloadLength, crcField, rotPayload, checked, RotVerdict, failure, unsent, good}
+use Rattle.rot.specs.Reading.{noInput, nothingSent, wrongProtocol, shortHeader, longPayload, cutShort, wrongCrc, wrongType}
+use Rattle.rot.specs.Reading.{judgeMessage, judgeLength, rotJudge, judgedAs, serveMessage, answerTo, rotReadPromise, handedPart}
+use Rattle.rot.specs.Reading.{payloadPart}
 use Rattle.rot.specs.declared.reader.Verdict.{Verdict}
 use Rattle.rot.specs.declared.reader.Verdict.the-variants as verdict
 use Rattle.rot.proofs.Writing.{write-sends}
@@ -75,14 +78,16 @@ module _ (input : List ℕ) {kind : ℕ} {v : Verdict} (j : judgedAs input v ≡
   payload-handed k = rw (found, ne-eqb kind echo-request k)
 
   -- the writer's answer to an echo request is the reader's
-  pub read-echo : (out : List ℕ) → kind ≡ echo-request → rotWritePromise (rotMessageOf echo-response (rotPayload input)) out ≡ rotReadPromise input out
+  pub read-echo : (out : List ℕ) → kind ≡ echo-request
+      → rotWritePromise (rotMessageOf echo-response (rotPayload input)) out ≡ rotReadPromise input out
   unfolding serveMessage answerTo rotReadPromise
   read-echo out k =
       let s = judged-sound input _ found in
       let l : length (rotPayload input) ≤ longest-payload = rw (sound-length input s) (s .short) in
       rw (found, eq-eqb kind echo-request k) (sym (write-sends (rotMessageOf echo-response (rotPayload input)) out l refl))
 
-  pub read-handed : (out : List ℕ) → (kind ≡ echo-request → ⊥) → rotOutcome (handed kind (payloadLength input)) out ≡ rotReadPromise input out
+  pub read-handed : (out : List ℕ) → (kind ≡ echo-request → ⊥)
+      → rotOutcome (handed kind (payloadLength input)) out ≡ rotReadPromise input out
   unfolding serveMessage answerTo rotReadPromise
   read-handed out k =
       let s = judged-sound input _ found in

@@ -7,7 +7,8 @@ use mathlib.Core.List.{List, [], _∷_, _++_}
 use Prim.Native.Nat.{ℕ, zero, suc, _+_, _*_, _-_, _%_, _/_, _^_, _<_, _≤_}
 use native.Mathlib.Omega.{arith}
 use native.Mathlib.Numerals.{add-one}
-use native.Mathlib.Nat.{pow-suc, mul-assoc, mul-comm, mul-right-comm, add-mul, mul-le-mul-left, mul-lt-mul-of-pos-right, zero-add, zero-mul, div-add-mod', mod-lt, div-lt-iff-lt-mul}
+use native.Mathlib.Nat.{pow-suc, mul-assoc, mul-comm, mul-right-comm, add-mul, mul-le-mul-left, mul-lt-mul-of-pos-right, zero-add, zero-mul}
+use native.Mathlib.Nat.{div-add-mod', mod-lt, div-lt-iff-lt-mul}
 use lib.Pow.{pow-pos}
 use lib.Bits.{bitXor, xor-lt, xor-block, xor-shifted, xor-zero-r}
 use lib.Dec.{leb, eqb}
@@ -165,7 +166,8 @@ bits-shift (suc n) p v c o e h i =
     (bits-shift n (p * 2) r (afterBit c t) (omega arith) twice (mod-lt v (pow-pos n)) (after-bit-lt c t))
 
 -- ---- a byte by the table: one look for the register's top byte and the message's
-pub by-table : (c b : ℕ) → c < 2 ^ 32 → b < 2 ^ 8 → afterBits c (bits 8 b) ≡ bitXor (tableEntry (bitXor (c / 2 ^ 24) b)) (c % 2 ^ 24 * 2 ^ 8)
+pub by-table : (c b : ℕ) → c < 2 ^ 32 → b < 2 ^ 8
+    → afterBits c (bits 8 b) ≡ bitXor (tableEntry (bitXor (c / 2 ^ 24) b)) (c % 2 ^ 24 * 2 ^ 8)
 unfolding tableEntry
 by-table c b h i =
     let t = c / 2 ^ 24 in
@@ -173,6 +175,7 @@ by-table c b h i =
     let p : t * 2 ^ 24 + l ≡ c = omega arith in
     let q : b * 2 ^ 24 + 0 ≡ b * 2 ^ 24 = omega arith in
     let top : bitXor t b < 2 ^ 8 = xor-lt 8 t b (omega arith) i in
-    let met : bitXor c (b * 2 ^ 24) ≡ bitXor t b * 2 ^ 24 + l = rw (p, q, xor-zero-r l) at (xor-block 24 t b l 0 (omega arith) (omega arith)) in
+    let met : bitXor c (b * 2 ^ 24) ≡ bitXor t b * 2 ^ 24 + l =
+    rw (p, q, xor-zero-r l) at (xor-block 24 t b l 0 (omega arith) (omega arith)) in
     rw (bits-shift 8 (2 ^ 24) b c (omega arith) refl i h, met, ← xor-shifted (bitXor t b) 24 l (omega arith))
     (shifts-low 8 (bitXor t b * 2 ^ 24) l (omega arith) (omega arith))

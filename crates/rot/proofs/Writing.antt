@@ -28,7 +28,8 @@ module _ (m : RotMessage) (out : List ℕ) where
     unfolding rotWritePromise
     write-sends l = rw (le-ltb longest-payload (length (m .payload)) fits, l)
 
-    pub write-no-room : listedType (m .type) ≡ true → length out < rot-header-length + length (m .payload) → rotOutcome (refused 8) out ≡ rotWritePromise m out
+    pub write-no-room : listedType (m .type) ≡ true → length out < rot-header-length + length (m .payload)
+        → rotOutcome (refused 8) out ≡ rotWritePromise m out
     unfolding rotWriteInto
     write-no-room l h = rw (← write-sends l, lt-ltb (length out) (length (rotMessage m)) (rw (length-message m) h))
 

@@ -61,7 +61,16 @@ xor-assoc zero a b c h i j =
 xor-assoc (suc k) a b c h i j =
     let p = pow-suc 2 k in
     let r = xor-assoc k (a / 2) (b / 2) (c / 2) (omega arith) (omega arith) (omega arith) in
-    rw (xor-step (bitXor a b) c, xor-step a (bitXor b c), xor-half a b, xor-half b c, xor-odd a b, xor-odd b c, r, differ-assoc (a % 2) (b % 2) (c % 2) (omega arith) (omega arith) (omega arith))
+    rw (
+      xor-step (bitXor a b) c,
+      xor-step a (bitXor b c),
+      xor-half a b,
+      xor-half b c,
+      xor-odd a b,
+      xor-odd b c,
+      r,
+      differ-assoc (a % 2) (b % 2) (c % 2) (omega arith) (omega arith) (omega arith),
+    )
 
 pub xor-swap : (k a b c : ℕ) → a < 2 ^ k → b < 2 ^ k → c < 2 ^ k → bitXor (bitXor a b) c ≡ bitXor (bitXor a c) b
 xor-swap k a b c h i j = xor-assoc k a b c h i j ∙ ap (bitXor a) (xor-comm b c) ∙ sym (xor-assoc k a c b h j i)

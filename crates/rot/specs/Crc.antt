@@ -1,4 +1,5 @@
--- The CRC32 of the root-of-trust link, bit by bit (document 02, item 7): polynomial 04c11db7, top bit first, start 0, complemented at the end.
+-- The CRC32 of the root-of-trust link, bit by bit (document 02, item 7):
+-- polynomial 04c11db7, top bit first, start 0, complemented at the end.
 -- Assumes nothing: these are definitions.
 use mathlib.Core.Bool.{cond}
 use mathlib.Core.List.{List, [], _∷_}

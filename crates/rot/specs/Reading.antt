@@ -105,7 +105,8 @@ judgedAs input (verdict.Good kind) = good (record { type = kind; payload = rotPa
 
 -- a message: an echo request is answered in the room, any other is handed out; 8 is for the echo's answer alone
 unfoldable pub serveMessage : RotMessage → List ℕ → RotOutcome
-serveMessage m out = cond (eqb (m .type) echo-request) (rotWriteInto (rotMessage (echoed m)) out) (rotOutcome (handed (m .type) (length (m .payload))) out)
+serveMessage m out =
+    cond (eqb (m .type) echo-request) (rotWriteInto (rotMessage (echoed m)) out) (rotOutcome (handed (m .type) (length (m .payload))) out)
 
 unfoldable pub answerTo : RotVerdict → List ℕ → RotOutcome
 answerTo (failure n) out = rotOutcome (refused n) out

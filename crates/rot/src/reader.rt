@@ -12,7 +12,8 @@ ghost use Rattle.rot.specs.Message.{echo-response};
 ghost use Rattle.rot.specs.Crc.{crc};
 ghost use Rattle.rot.specs.Answers.{rotOutcome};
 ghost use Rattle.rot.specs.Writing.{rotMessageOf, rotWritePromise};
-ghost use Rattle.rot.specs.Reading.{payloadLength, crcField, checked, judgeMessage, judgeLength, rotJudge, judgedAs, rotReadReport, rotReadPromise, payloadPart};
+ghost use Rattle.rot.specs.Reading.{payloadLength, crcField, checked, judgeMessage, judgeLength, rotJudge, judgedAs, rotReadReport};
+ghost use Rattle.rot.specs.Reading.{rotReadPromise, payloadPart};
 
 // A message that is handed out: its type, and how long its payload is, which lies in the input.
 pub struct Head {
@@ -73,7 +74,8 @@ pub fn payload<'a>(input: &'a [u8]) -> &'a [u8]
 
 // The answer to an echo request with this payload.
 fn echo(payload: &[u8], out: &mut [u8]) -> Answer
-    ensures { λ r. ⌜ rotOutcome (rotReadReport r) (now (out .exit)) ≡ rotWritePromise (rotMessageOf echo-response (now (payload .entry))) (now (out .entry)) ⌝ }
+    ensures { λ r. ⌜ rotOutcome (rotReadReport r) (now (out .exit))
+        ≡ rotWritePromise (rotMessageOf echo-response (now (payload .entry))) (now (out .entry)) ⌝ }
 {
     let written = writer::write(limits::ECHO_RESPONSE, payload, out);
     match written {

@@ -20,7 +20,8 @@ pub enum Written {
 
 // Writes a message of version 1.
 pub fn write(kind: u8, payload: &[u8], out: &mut [u8]) -> Written
-    ensures { λ r. ⌜ rotOutcome (rotWriteReport r) (now (out .exit)) ≡ rotWritePromise (rotMessageOf kind (now (payload .entry))) (now (out .entry)) ⌝ }
+    ensures { λ r. ⌜ rotOutcome (rotWriteReport r) (now (out .exit))
+        ≡ rotWritePromise (rotMessageOf kind (now (payload .entry))) (now (out .entry)) ⌝ }
 {
     if limits::LONGEST_PAYLOAD < payload.len() {
         return Written::Refused(Refusal::TooLong);

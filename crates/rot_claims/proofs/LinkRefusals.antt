@@ -58,7 +58,8 @@ module _ (n : ℕ) where
   unfolding serveMessage
   served-numbered t p out = by (eqb t echo-request)
     where
-      by : (b : Bool) → Numbered (cond b (rotWriteInto (rotMessage (rotMessageOf echo-response p)) out) (rotOutcome (handed t (length p)) out))
+      by : (b : Bool)
+          → Numbered (cond b (rotWriteInto (rotMessage (rotMessageOf echo-response p)) out) (rotOutcome (handed t (length p)) out))
           (cond (b && ltb (length out) (length (rotMessage (rotMessageOf echo-response p)))) (some 8) none)
       by true = sending-numbered (rotMessage (rotMessageOf echo-response p)) out
       by false = handed-none t (length p) out

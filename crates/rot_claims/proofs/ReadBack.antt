@@ -1,4 +1,5 @@
--- What was written is read back, bytes behind it or not; the echo's answer is an echo response; equal bytes were written of equal messages alone.
+-- What was written is read back, bytes behind it or not; the echo's answer is an echo response;
+-- equal bytes were written of equal messages alone.
 -- Assumes nothing.
 use mathlib.Core.Path.{_≡_, refl, sym, ap, _∙_}
 use mathlib.Core.Bool.{true}
@@ -18,12 +19,14 @@ use Rattle.rot.specs.Crc.{crc}
 use Rattle.rot.specs.Message.{version-1, echo-request, listedType, RotMessage, headerStart, crcOf, rotMessage, echoed}
 use Rattle.rot.specs.Answers.{RotReport, refused, wrote, RotOutcome, rotWriteInto}
 use Rattle.rot.specs.Reading
-use Rattle.rot.specs.Reading.{protocolOf, typeOf, payloadLength, crcField, rotPayload, checked, failure, unsent, good, judgeMessage, judgeLength, rotJudge, serveMessage, answerTo, rotReadPromise, handedPart, payloadPart}
+use Rattle.rot.specs.Reading.{protocolOf, typeOf, payloadLength, crcField, rotPayload, checked, failure, unsent, good, judgeMessage}
+use Rattle.rot.specs.Reading.{judgeLength, rotJudge, serveMessage, answerTo, rotReadPromise, handedPart, payloadPart}
 use Rattle.rot.specs.Writing.{rotMessageOf, rotWritePromise}
 use Rattle.rot.proofs.Register.{crc-lt}
 use Rattle.rot.proofs.Message.{length-start, length-message}
 use Rattle.rot.proofs.Reading.{Sound, judged-sound, sound-length}
-use Rattle.rot_claims.specs.Item7.{Sendable, ReadAs, Echoed, ReadsBack, EchoReads, EchoBack, OneMessage, JudgedGood, ReadBytes, BehindIgnored}
+use Rattle.rot_claims.specs.Item7.{Sendable, ReadAs, Echoed, ReadsBack, EchoReads, EchoBack, OneMessage, JudgedGood, ReadBytes}
+use Rattle.rot_claims.specs.Item7.{BehindIgnored}
 
 -- ---- a message's bytes, with bytes behind them, are judged as that message
 
@@ -61,14 +64,16 @@ module _ (m : RotMessage) (behind : List ℕ) (s : Sendable m) where
   unfolding rotMessage rest
   grouped = simp append-assoc
 
-  fields : (protocolOf (headerStart m ++ rest) ≡ version-1) × (typeOf (headerStart m ++ rest) ≡ m .type) × (payloadLength (headerStart m ++ rest) ≡ length (m .payload))
+  fields : (protocolOf (headerStart m ++ rest) ≡ version-1) × (typeOf (headerStart m ++ rest) ≡ m .type)
+      × (payloadLength (headerStart m ++ rest) ≡ length (m .payload))
   unfolding headerStart number bytes
   fields = let l = s .short in (refl, omega arith, omega arith)
 
   sum : crcField (headerStart m ++ rest) ≡ crcOf m
   unfolding rest crcOf
   sum =
-      let e = between (headerStart m) (bytes 4 (crcOf m)) (m .payload ++ behind) crc-field-offset 4 (length-start m) (length-bytes 4 (crcOf m)) in
+      let e =
+      between (headerStart m) (bytes 4 (crcOf m)) (m .payload ++ behind) crc-field-offset 4 (length-start m) (length-bytes 4 (crcOf m)) in
       ap number e ∙ number-bytes 4 (crcOf m) (crc-lt (headerStart m ++ m .payload))
 
   carried : rotPayload (headerStart m ++ rest) ≡ m .payload
@@ -87,10 +92,12 @@ judged m behind s =
     let long : length (headerStart m ++ r) ≡ rot-header-length + length (m .payload) + length behind =
     simp (length-append, length-start, length-bytes) (omega arith) in
     let c = carried m behind s in
-    let over : checked (headerStart m ++ r) ≡ headerStart m ++ m .payload = rw (take-at (headerStart m) r crc-field-offset (length-start m), c) in
+    let over : checked (headerStart m ++ r) ≡ headerStart m ++ m .payload =
+    rw (take-at (headerStart m) r crc-field-offset (length-start m), c) in
     rw (
       grouped m behind s,
-      passes (headerStart m ++ r) (f .0) (omega arith) (omega arith) (omega arith) (sum m behind s ∙ ap crc (sym over)) (rw (f .1) (s .type)),
+      passes (headerStart m ++ r) (f .0) (omega arith) (omega arith) (omega arith) (sum m behind s ∙ ap crc (sym over))
+          (rw (f .1) (s .type)),
       f .1,
       c,
     )
@@ -133,7 +140,10 @@ wrote-message m room n =
     let P : RotOutcome → Type 0 = λ o. o .answer ≡ wrote n → Wrote m n o in
     cond-by P (ltb longest-payload (length (m .payload))) _ _ (λ _ e. absurd (refused-not-wrote 23 n e)) (λ l.
     cond-by P (listedType (m .type)) _ _ (λ t e.
-    record { sendable = record { type = t; short = ltb-false longest-payload (length (m .payload)) l }; bytes = sent-bytes (rotMessage m) room n e })
+    record {
+      sendable = record { type = t; short = ltb-false longest-payload (length (m .payload)) l };
+      bytes = sent-bytes (rotMessage m) room n e;
+    })
     (λ _ e. absurd (refused-not-wrote 26 n e)))
 
 pub reads-back : ReadsBack
@@ -150,14 +160,16 @@ one-message m k room hall i j e f behind after same =
     let r : rotMessage m ++ behind ≡ rotMessage k ++ after = rw (v .bytes, w .bytes) at same in
     cc
 
-served-by : (input out : List ℕ) (n : ℕ) (m : RotMessage) → rotJudge input ≡ good m → serveMessage m out .answer ≡ wrote n → Echoed input n (serveMessage m out)
+served-by : (input out : List ℕ) (n : ℕ) (m : RotMessage) → rotJudge input ≡ good m → serveMessage m out .answer ≡ wrote n
+    → Echoed input n (serveMessage m out)
 unfolding serveMessage
 served-by input out n m j =
     cond-by (λ (o : RotOutcome). o .answer ≡ wrote n → Echoed input n o) (eqb (m .type) echo-request) _ _ (λ t f.
     record { asked = m; judged = j; request = eqb-true (m .type) echo-request t; bytes = sent-bytes (rotMessage (echoed m)) out n f })
     (λ _ f. let z : _≡_ {A = ℕ} 0 1 = cc in absurd (omega arith))
 
-echoed-by : (input out : List ℕ) (n : ℕ) (j : Reading.RotVerdict) → rotJudge input ≡ j → answerTo j out .answer ≡ wrote n → Echoed input n (answerTo j out)
+echoed-by : (input out : List ℕ) (n : ℕ) (j : Reading.RotVerdict) → rotJudge input ≡ j → answerTo j out .answer ≡ wrote n
+    → Echoed input n (answerTo j out)
 unfolding answerTo
 echoed-by input out n (failure k) j e = absurd (refused-not-wrote k n e)
 echoed-by input out n unsent j e = let z : _≡_ {A = ℕ} 0 1 = cc in absurd (omega arith)
@@ -194,8 +206,10 @@ module _ (input : List ℕ) (each : Each Byte input) {m : RotMessage} (s : Sound
   unfolding found headerStart
   start-read =
       let l = s .whole in
-      let p : run 0 1 input ≡ version-1 ∷ [] = sym (number-run 1 0 input (omega arith) each) ∙ rw (s .protocol) (one-byte version-1 (omega arith)) in
-      let t : run 1 1 input ≡ typeOf input ∷ [] = sym (number-run 1 1 input (omega arith) each) ∙ one-byte (typeOf input) (number-small 1 1 input each) in
+      let p : run 0 1 input ≡ version-1 ∷ [] =
+      sym (number-run 1 0 input (omega arith) each) ∙ rw (s .protocol) (one-byte version-1 (omega arith)) in
+      let t : run 1 1 input ≡ typeOf input ∷ [] =
+      sym (number-run 1 1 input (omega arith) each) ∙ one-byte (typeOf input) (number-small 1 1 input each) in
       let n : run 2 2 input ≡ bytes 2 (payloadLength input) = sym (number-run 2 2 input (omega arith) each) in
       cc (run-add 0 1 3 input, run-add 1 1 2 input, p, t, n, sound-length input s)
 
@@ -209,12 +223,14 @@ module _ (input : List ℕ) (each : Each Byte input) {m : RotMessage} (s : Sound
       let l = s .whole in
       let c : run 4 4 input ≡ bytes 4 (crcOf found) = sym (number-run 4 4 input (omega arith) each) ∙ ap (bytes 4) sum-read in
       let h : take rot-header-length input ≡ headerStart found ++ bytes 4 (crcOf found) = cc (run-add 0 4 4 input, start-read, c) in
-      run-add 0 8 (payloadLength input) input ∙ ap (λ (x : List ℕ). x ++ rotPayload input) h ∙ append-assoc (headerStart found) (bytes 4 (crcOf found)) (rotPayload input)
+      run-add 0 8 (payloadLength input) input ∙ ap (λ (x : List ℕ). x ++ rotPayload input) h
+      ∙ append-assoc (headerStart found) (bytes 4 (crcOf found)) (rotPayload input)
 
   message-whole : input ≡ rotMessage found ++ drop (length (rotMessage found)) input
   unfolding found
   message-whole =
-      let l : length (rotMessage found) ≡ rot-header-length + payloadLength input = length-message found ∙ ap (λ (x : ℕ). rot-header-length + x) (sound-length input s) in
+      let l : length (rotMessage found) ≡ rot-header-length + payloadLength input =
+      length-message found ∙ ap (λ (x : ℕ). rot-header-length + x) (sound-length input s) in
       let t : take (length (rotMessage found)) input ≡ rotMessage found = rw l message-read in
       sym (take-append-drop (length (rotMessage found)) input) ∙ ap (λ (x : List ℕ). x ++ drop (length (rotMessage found)) input) t
 

@@ -10,5 +10,6 @@ use Rattle.rot_claims.specs.Samples.{rotSampleMeant, rotSamples}
 use Rattle.rot_claims.specs.Item7.{RotSamplesHold}
 
 pub samples-hold : RotSamplesHold
-unfolding rotSampleMeant rotSamples number bytes overlay afterBit afterBits bits afterBytes crc headerStart crcOf rotMessage rotWriteInto judgeMessage judgeLength rotJudge serveMessage answerTo rotReadPromise
+unfolding rotSampleMeant rotSamples number bytes overlay afterBit afterBits bits afterBytes crc headerStart crcOf rotMessage rotWriteInto
+    judgeMessage judgeLength rotJudge serveMessage answerTo rotReadPromise
 samples-hold = refl

@@ -31,7 +31,8 @@ pub record Sendable (m : RotMessage) : Type 0 where
 pub record ReadAs (m : RotMessage) (input : List ℕ) : Type 0 where
   pub handed-out : (m .type ≡ echo-request → ⊥) → (out : List ℕ)
       → (rotReadPromise input out ≡ rotOutcome (handed (m .type) (length (m .payload))) out) × (payloadPart input ≡ m .payload)
-  pub echo : m .type ≡ echo-request → (out : List ℕ) → (rotReadPromise input out ≡ rotWriteInto (rotMessage (echoed m)) out) × (payloadPart input ≡ [])
+  pub echo : m .type ≡ echo-request → (out : List ℕ)
+      → (rotReadPromise input out ≡ rotWriteInto (rotMessage (echoed m)) out) × (payloadPart input ≡ [])
 
 -- a call of the reader that wrote has answered an echo request
 pub record Echoed (input : List ℕ) (n : ℕ) (o : RotOutcome) : Type 0 where
@@ -55,7 +56,8 @@ linkTests input out =
     ∷ [])
 
 abbrev pub LinkRefusedExactly : Type 0
-LinkRefusedExactly = (input out : List ℕ) (n : ℕ) → (rotReadPromise input out .answer ≡ refused n) ↔ (firstFailing (linkTests input out) ≡ some n)
+LinkRefusedExactly = (input out : List ℕ) (n : ℕ)
+    → (rotReadPromise input out .answer ≡ refused n) ↔ (firstFailing (linkTests input out) ≡ some n)
 
 abbrev pub LinkUntouched : Type 0
 LinkUntouched = (input out : List ℕ) (n : ℕ) → rotReadPromise input out .answer ≡ refused n → rotReadPromise input out .out ≡ out
@@ -91,29 +93,35 @@ abbrev pub RotSamplesHold : Type 0
 RotSamplesHold = map rotSampleMeant rotSamples ≡ rotSamples
 
 abbrev pub ReadsBack : Type 0
-ReadsBack = (m : RotMessage) (room : List ℕ) (n : ℕ) → rotWritePromise m room .answer ≡ wrote n → (behind : List ℕ) → ReadAs m (take n (rotWritePromise m room .out) ++ behind)
+ReadsBack = (m : RotMessage) (room : List ℕ) (n : ℕ) → rotWritePromise m room .answer ≡ wrote n → (behind : List ℕ)
+    → ReadAs m (take n (rotWritePromise m room .out) ++ behind)
 
 abbrev pub EchoReads : Type 0
 EchoReads = (input out : List ℕ) (n : ℕ) → rotReadPromise input out .answer ≡ wrote n
-    → (e : Echoed input n (rotReadPromise input out)) × ((behind : List ℕ) → ReadAs (echoed (e .asked)) (take n (rotReadPromise input out .out) ++ behind))
+    → (e : Echoed input n (rotReadPromise input out))
+    × ((behind : List ℕ) → ReadAs (echoed (e .asked)) (take n (rotReadPromise input out .out) ++ behind))
 
 abbrev pub EchoBack : Type 0
-EchoBack = (payload room out : List ℕ) (n k : ℕ) → let w = rotWritePromise (rotMessageOf echo-request payload) room in w .answer ≡ wrote n → (behind : List ℕ)
+EchoBack = (payload room out : List ℕ) (n k : ℕ)
+    → let w = rotWritePromise (rotMessageOf echo-request payload) room in w .answer ≡ wrote n → (behind : List ℕ)
     → let r = rotReadPromise (take n (w .out) ++ behind) out in r .answer ≡ wrote k → (after : List ℕ)
     → ReadAs (rotMessageOf echo-response payload) (take k (r .out) ++ after)
 
 abbrev pub OneMessage : Type 0
-OneMessage = (m k : RotMessage) (room hall : List ℕ) (i j : ℕ) → rotWritePromise m room .answer ≡ wrote i → rotWritePromise k hall .answer ≡ wrote j
+OneMessage = (m k : RotMessage) (room hall : List ℕ) (i j : ℕ) → rotWritePromise m room .answer ≡ wrote i
+    → rotWritePromise k hall .answer ≡ wrote j
     → (behind after : List ℕ) → take i (rotWritePromise m room .out) ++ behind ≡ take j (rotWritePromise k hall .out) ++ after → m ≡ k
 
 abbrev pub JudgedGood : Type 0
 JudgedGood = (m : RotMessage) (behind : List ℕ) → Sendable m → rotJudge (rotMessage m ++ behind) ≡ good m
 
 abbrev pub ReadBytes : Type 0
-ReadBytes = (input : List ℕ) (m : RotMessage) → Each Byte input → rotJudge input ≡ good m → input ≡ rotMessage m ++ drop (length (rotMessage m)) input
+ReadBytes = (input : List ℕ) (m : RotMessage) → Each Byte input → rotJudge input ≡ good m
+    → input ≡ rotMessage m ++ drop (length (rotMessage m)) input
 
 abbrev pub BehindIgnored : Type 0
-BehindIgnored = (input : List ℕ) (m : RotMessage) → Each Byte input → rotJudge input ≡ good m → (behind : List ℕ) → rotJudge (input ++ behind) ≡ good m
+BehindIgnored = (input : List ℕ) (m : RotMessage) → Each Byte input → rotJudge input ≡ good m → (behind : List ℕ)
+    → rotJudge (input ++ behind) ≡ good m
 
 pub record RotItem7 : Type 0 where
   -- 003's two echo messages, as a single table, over the meaning itself
@@ -134,7 +142,8 @@ pub record RotItem7 : Type 0 where
   pub crc-by-table : ByTable
   -- what was written in any room, with any bytes behind it, is read as that message
   pub reads-back : ReadsBack
-  -- where the reader wrote, its input was an echo request; its answer, with any bytes behind it, is read as an echo response with the same payload
+  -- where the reader wrote, its input was an echo request;
+  -- its answer, with any bytes behind it, is read as an echo response with the same payload
   pub echo-reads : EchoReads
   -- an echo request that was written, read, and its answer read: the payload comes back
   pub echo-back : EchoBack

@@ -32,7 +32,8 @@ module _ (s : List ℕ) (key at : ℕ) {held : ℕ} (p : at ≡ setting-offset k
   unfolding savedRecordBytes
   no-record h = rw (← p, ← e, ne-eqb held 1 h)
 
-  a-record : (n : ℕ) → n ≡ settingLength s at → held ≡ 1 → savedRecordBytes s key ≡ savedRecord key (settingEdition s at) (run (at + setting-value-offset) n s)
+  a-record : (n : ℕ) → n ≡ settingLength s at → held ≡ 1
+      → savedRecordBytes s key ≡ savedRecord key (settingEdition s at) (run (at + setting-value-offset) n s)
   unfolding savedRecordBytes
   a-record n f h = rw (← p, ← e, ← f, eq-eqb held 1 h)
 
@@ -45,21 +46,28 @@ module _ (s : List ℕ) (key at : ℕ) {held : ℕ} (p : at ≡ setting-offset k
       record {
         within = within;
         its-bytes = r;
-        size = rw r (length-record key (settingEdition s at) _ ∙ ap (λ (m : ℕ). 11 + m) (length-run (at + setting-value-offset) n s within));
+        size =
+            rw r (length-record key (settingEdition s at) _ ∙ ap (λ (m : ℕ). 11 + m) (length-run (at + setting-value-offset) n s within));
       }
 
-pub record-most : (s : List ℕ) (key : ℕ) → validSettings s ≡ true → SettingsKey key → length (savedRecordBytes s key) ≤ 11 + longest-setting key
+pub record-most : (s : List ℕ) (key : ℕ) → validSettings s ≡ true → SettingsKey key
+    → length (savedRecordBytes s key) ≤ 11 + longest-setting key
 record-most s key valid k = by (eqb (settingHeld s (setting-offset key)) 1) refl
   where
     by : (t : Bool) → eqb (settingHeld s (setting-offset key)) 1 ≡ t → length (savedRecordBytes s key) ≤ 11 + longest-setting key
     by true e =
-        omega (arith, held-record s key (setting-offset key) refl refl refl (eqb-true _ _ e) valid k .size, settings-valid s valid .each key k .size)
+        omega (
+          arith,
+          held-record s key (setting-offset key) refl refl refl (eqb-true _ _ e) valid k .size,
+          settings-valid s valid .each key k .size,
+        )
     by false e = omega (arith, ap length (no-record s key (setting-offset key) refl refl (eqb-false _ _ e)))
 
 -- ---- one record after the other
 
 module _ (s : List ℕ) (i : ℕ) (h : i < saved-count) where
-  pub records-on : savedRecordsFrom s (saved-count - i) (first-setting + i) ≡ savedRecordBytes s (first-setting + i) ++ savedRecordsFrom s (saved-count - (i + 1)) (first-setting + (i + 1))
+  pub records-on : savedRecordsFrom s (saved-count - i) (first-setting + i)
+      ≡ savedRecordBytes s (first-setting + i) ++ savedRecordsFrom s (saved-count - (i + 1)) (first-setting + (i + 1))
   unfolding savedRecordsFrom
   records-on =
       let e : saved-count - i ≡ suc (saved-count - (i + 1)) = omega arith in
@@ -70,9 +78,10 @@ module _ (s : List ℕ) (i : ℕ) (h : i < saved-count) where
       ≡ length (savedRecordBytes s (first-setting + i)) + length (savedRecordsFrom s (saved-count - (i + 1)) (first-setting + (i + 1)))
   length-on = rw (records-on, length-append)
 
-  pub records-put : (at : ℕ) (out : List ℕ) {t : List ℕ} {there : ℕ} → at ≤ length out → there ≡ at + length (savedRecordBytes s (first-setting + i))
-      → t ≡ overlay at (savedRecordBytes s (first-setting + i)) out
-      → overlay there (savedRecordsFrom s (saved-count - (i + 1)) (first-setting + (i + 1))) t ≡ overlay at (savedRecordsFrom s (saved-count - i) (first-setting + i)) out
+  pub records-put : (at : ℕ) (out : List ℕ) {t : List ℕ} {there : ℕ} → at ≤ length out
+      → there ≡ at + length (savedRecordBytes s (first-setting + i)) → t ≡ overlay at (savedRecordBytes s (first-setting + i)) out
+      → overlay there (savedRecordsFrom s (saved-count - (i + 1)) (first-setting + (i + 1))) t
+      ≡ overlay at (savedRecordsFrom s (saved-count - i) (first-setting + i)) out
   records-put at out l e f = rw (e, f, records-on) (overlay-next at (savedRecordBytes s (first-setting + i)) _ out l)
 
 pub records-end : (s : List ℕ) (i : ℕ) → saved-count ≤ i → savedRecordsFrom s (saved-count - i) (first-setting + i) ≡ end-mark
@@ -80,7 +89,8 @@ unfolding savedRecordsFrom
 records-end s i h = let e : saved-count - i ≡ 0 = omega arith in rw e
 
 -- the end mark, where no record is left
-pub end-put : (s out : List ℕ) (i at : ℕ) → saved-count ≤ i → at + length (savedRecordsFrom s (saved-count - i) (first-setting + i)) ≤ length out
+pub end-put : (s out : List ℕ) (i at : ℕ) → saved-count ≤ i
+    → at + length (savedRecordsFrom s (saved-count - i) (first-setting + i)) ≤ length out
     → copied end-mark 0 2 out at ≡ overlay at (savedRecordsFrom s (saved-count - i) (first-setting + i)) out
 end-put s out i at h l =
     let e = records-end s i h in

@@ -20,7 +20,8 @@ use Rattle.supervisor.specs.Valid.{validSettings}
 use Rattle.supervisor.proofs.OffsetLaws.{offset-within, longest-short, Lies, setting-lies}
 use Rattle.supervisor.proofs.ValidLaws.{settings-valid, valid-settings}
 use Rattle.supervisor.specs.Valid.{SettingValid, SettingsValid}
-use Rattle.saving.specs.Saving.{highest-saved, saved-count, savedLengthAt, savedEntryAt, SavedEntry, ImageRead, fault, good, readImage}
+use Rattle.saving.specs.Saving.{highest-saved, saved-count, savedLengthAt, savedEntryAt, SavedEntry, ImageRead, fault, good}
+use Rattle.saving.specs.Saving.{readImage}
 use Rattle.saving.specs.Calls.{RestoreOutcome, cleared, putEntry, putEntries, restoreOutcomeBy, restorePromise, entriesIn}
 use Rattle.saving.proofs.StepLaws.{Passed}
 use Rattle.saving.proofs.ReadLaws.{entries-each}
@@ -58,7 +59,8 @@ module _ (s xs : List ℕ) (key : ℕ) (w : SettingsValid s) (k : SettingsKey ke
       let size = number-same same 2 (at + setting-length-offset) (omega arith) in
       record { held = omega arith; size = omega arith; short = ⊎-map (λ l. omega arith) (λ n. omega arith) (v .short) }
 
-  module _ (saved : key ≤ highest-saved) (held : numberAt 1 xs 0 ≤ 1) (size : numberAt 2 xs setting-length-offset ≤ longest-setting key) where
+  module _ (saved : key ≤ highest-saved) (held : numberAt 1 xs 0 ≤ 1)
+      (size : numberAt 2 xs setting-length-offset ≤ longest-setting key) where
     this-valid : SettingValid (overlay here xs s) here (shortest-setting key) (longest-setting key)
     this-valid =
         let a = ap number (rw add-zero at (overlay-part here 0 1 xs s (omega (arith, put-room)) (omega arith))) in
@@ -119,14 +121,16 @@ module _ (e : SavedEntry) (a : Allowed e) (s : List ℕ) (w : SettingsValid s) w
   unfolding number bytes
   entry-valid =
       let l = length-setting (e .edition) (e .value) in
-      put-valid s xs (e .key) w (a .its-key) (omega arith) (omega (arith, a .short)) (a .saved) (omega arith) (omega (arith, a .short, longest-short (e .key)))
+      put-valid s xs (e .key) w (a .its-key) (omega arith) (omega (arith, a .short)) (a .saved) (omega arith)
+      (omega (arith, a .short, longest-short (e .key)))
 
   entry-long : length (putEntry e s) ≡ length s
   entry-long =
       let l = length-setting (e .edition) (e .value) in
       put-long s xs (e .key) w (a .its-key) (omega arith) (omega (arith, a .short))
 
-pub all-valid : (es : List SavedEntry) → Each Allowed es → (s : List ℕ) → SettingsValid s → SettingsValid (putEntries es s) × (length (putEntries es s) ≡ length s)
+pub all-valid : (es : List SavedEntry) → Each Allowed es → (s : List ℕ) → SettingsValid s
+    → SettingsValid (putEntries es s) × (length (putEntries es s) ≡ length s)
 unfolding putEntries
 all-valid [] a s w = (w, refl)
 all-valid (e ∷ es) a s w =
@@ -175,4 +179,7 @@ module _ (s image : List ℕ) where
   unfolding restorePromise
   restored-bytes b i =
       cond-by (λ (r : RestoreOutcome). Each Byte (r .settings)) (validSettings s) _ _
-      (λ _. bytes-by b (readImage image) (entries-each image (λ e. Each Byte (e .value)) (λ before at key there p. each-run (at + 9) (savedLengthAt image at) image i))) (λ _. b)
+      (λ _.
+      bytes-by b (readImage image)
+      (entries-each image (λ e. Each Byte (e .value)) (λ before at key there p. each-run (at + 9) (savedLengthAt image at) image i)))
+      (λ _. b)

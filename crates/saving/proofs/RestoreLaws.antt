@@ -12,8 +12,10 @@ use Rattle.octets.specs.Bytes.{bytes, overlay, sameRun}
 use Rattle.supervisor.specs.Limits.{first-setting, SettingsKey}
 use Rattle.supervisor.specs.Layout.{setting-offset, setting-value-offset, settings-length}
 use Rattle.supervisor.proofs.OffsetLaws.{offset-within}
-use Rattle.saving.specs.Saving.{saved-count, end-mark, ImageRead, fault, good, to, imageStep, savedLengthAt, savedEntryAt, readImageFrom, readImage}
-use Rattle.saving.specs.Calls.{settingHead, RestoreOutcome, done, faulty, cleared, putEntry, putEntries, restoreOutcomeBy, faultIn, entriesIn, WholeRecord}
+use Rattle.saving.specs.Saving.{saved-count, end-mark, ImageRead, fault, good, to, imageStep, savedLengthAt, savedEntryAt}
+use Rattle.saving.specs.Saving.{readImageFrom, readImage}
+use Rattle.saving.specs.Calls.{settingHead, RestoreOutcome, done, faulty, cleared, putEntry, putEntries, restoreOutcomeBy, faultIn}
+use Rattle.saving.specs.Calls.{entriesIn, WholeRecord}
 use Rattle.saving.proofs.StepLaws.{passed}
 use Rattle.saving.proofs.ReadLaws.{read-at, entries-ahead, further, fault-behind, record-here, end-here}
 
@@ -50,8 +52,8 @@ module _ (image s : List ℕ) (at : ℕ) (whole : List ℕ) (l : Left image s at
   pub whole-here : sameRun image at end-mark 0 2 ≡ false → WholeRecord image at
   whole-here h = let p = here h in passed image (l .before) at (p .2) .whole
 
-  pub on-left : sameRun image at end-mark 0 2 ≡ false → {t : List ℕ} {there : ℕ} → t ≡ putEntry (savedEntryAt image at) s → there ≡ at + (11 + savedLengthAt image at)
-      → Left image t there whole
+  pub on-left : sameRun image at end-mark 0 2 ≡ false → {t : List ℕ} {there : ℕ} → t ≡ putEntry (savedEntryAt image at) s
+      → there ≡ at + (11 + savedLengthAt image at) → Left image t there whole
   unfolding putEntries
   on-left h e f =
       let p = here h in
@@ -63,7 +65,9 @@ module _ (image s : List ℕ) (at : ℕ) (whole : List ℕ) (l : Left image s at
         before = p .0;
         within = rw i (g .1);
         no-fault = rw i n;
-        rest = rw (i, e) (rw (read-at image (l .before) at (p .2), entries-ahead (savedEntryAt image at) (readImageFrom image (p .0) (p .1)) n) at (l .rest));
+        rest =
+            rw (i, e) (rw (read-at image (l .before) at (p .2), entries-ahead (savedEntryAt image at) (readImageFrom image (p .0) (p .1)) n)
+            at (l .rest));
       }
 
   pub none-left : sameRun image at end-mark 0 2 ≡ true → s ≡ whole
@@ -72,13 +76,14 @@ module _ (image s : List ℕ) (at : ℕ) (whole : List ℕ) (l : Left image s at
 
 -- ---- both, by what reading found
 
-pub restored-good : (s : List ℕ) (r : ImageRead) {t u : List ℕ} → faultIn r ≡ none → t ≡ cleared saved-count s → u ≡ putEntries (entriesIn r) t
-    → record { report = done; settings = u } ≡ restoreOutcomeBy s r
+pub restored-good : (s : List ℕ) (r : ImageRead) {t u : List ℕ} → faultIn r ≡ none → t ≡ cleared saved-count s
+    → u ≡ putEntries (entriesIn r) t → record { report = done; settings = u } ≡ restoreOutcomeBy s r
 unfolding restoreOutcomeBy
 restored-good s (fault n at) h e f = cc
 restored-good s (good es) h e f = rw (f, e)
 
-pub restored-not : (s : List ℕ) (r : ImageRead) {n at : ℕ} → some (n, at) ≡ faultIn r → record { report = faulty n at; settings = s } ≡ restoreOutcomeBy s r
+pub restored-not : (s : List ℕ) (r : ImageRead) {n at : ℕ} → some (n, at) ≡ faultIn r
+    → record { report = faulty n at; settings = s } ≡ restoreOutcomeBy s r
 unfolding restoreOutcomeBy
 restored-not s (fault m there) {n} {at} h =
     let e : _≡_ {A = ℕ × ℕ} (n, at) (m, there) = cc in

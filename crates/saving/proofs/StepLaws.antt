@@ -46,7 +46,8 @@ module _ (image : List ℕ) (at : ℕ) where
   unfolding recordStep
   head-cut h = sym (complete-both image (at + 7) (at + 9) _ (omega arith) ∙ rw (lt-ltb (length image) (at + 9) h))
 
-  module _ (n key most : ℕ) (e : n ≡ savedLengthAt image at) (k : key ≡ savedKeyAt image at) (m : most ≡ longest-setting key) (head : at + 9 ≤ length image) where
+  module _ (n key most : ℕ) (e : n ≡ savedLengthAt image at) (k : key ≡ savedKeyAt image at) (m : most ≡ longest-setting key)
+      (head : at + 9 ≤ length image) where
     pub value-long : most < n → bad 32 (at + 7) ≡ recordStep image at
     unfolding recordStep
     value-long h =
@@ -59,7 +60,8 @@ module _ (image : List ℕ) (at : ℕ) where
           rw (le-ltb (length image) (at + 7) (omega arith), le-ltb (length image) (at + 9) head, ← k, ← e, ← m, le-ltb most n short)
           (sym (complete-both image (at + (9 + n)) (at + (11 + n)) _ (omega arith) ∙ rw (lt-ltb (length image) (at + (11 + n)) h)))
 
-      module _ (sum given : ℕ) (whole : at + (11 + n) ≤ length image) (s : sum ≡ checksum (run at (9 + n) image)) (g : given ≡ numberAt 2 image (at + (9 + n))) where
+      module _ (sum given : ℕ) (whole : at + (11 + n) ≤ length image) (s : sum ≡ checksum (run at (9 + n) image))
+          (g : given ≡ numberAt 2 image (at + (9 + n))) where
         pub sum-wrong : (given ≡ sum → ⊥) → bad 33 (at + (9 + n)) ≡ recordStep image at
         unfolding recordStep
         sum-wrong h =
@@ -130,7 +132,8 @@ module _ (image : List ℕ) (before at : ℕ) where
           to-key : imageStep image before at ≡ cond t (recordStep image at) (bad 31 (at + 2))
           unfolding imageStep
           to-key =
-              rw (le-ltb (length image) (at + 2) two, is-end more, is-record, not-false r mark, le-ltb (length image) (at + 3) three, ← k, ← g)
+              rw
+              (le-ltb (length image) (at + 2) two, is-end more, is-record, not-false r mark, le-ltb (length image) (at + 3) three, ← k, ← g)
 
           pub key-wrong : not t ≡ true → bad 31 (at + 2) ≡ imageStep image before at
           key-wrong h = rw (to-key, not-true t h)

@@ -115,7 +115,8 @@ restoreOutcomeBy s (good es) = record { report = done; settings = putEntries es 
 
 -- test 12, then the whole image
 unfoldable pub restorePromise : List ℕ → List ℕ → RestoreOutcome
-restorePromise s image = cond (validSettings s) (restoreOutcomeBy s (Saving.readImage image)) (record { report = RestoreReport.refused 12; settings = s })
+restorePromise s image =
+    cond (validSettings s) (restoreOutcomeBy s (Saving.readImage image)) (record { report = RestoreReport.refused 12; settings = s })
 
 -- ---- The parts of restoring
 

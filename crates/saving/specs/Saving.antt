@@ -138,8 +138,8 @@ unfoldable pub readImageIn : ℕ → List ℕ → ℕ → ℕ → ImageRead
 readImageIn zero image before at = fault 34 (length image)
 readImageIn (suc n) image before at = readImageBy (readImageIn n image) image at (imageStep image before at)
 
--- behind a record of the key `before`, or 0 where there is none. Keys rise, so that no image has more records than there are saved settings, and more
--- iterations change nothing (`iterations-enough`)
+-- behind a record of the key `before`, or 0 where there is none. Keys rise, so that no image has more records than there are saved
+-- settings, and more iterations change nothing (`iterations-enough`)
 unfoldable pub readImageFrom : List ℕ → ℕ → ℕ → ImageRead
 readImageFrom image before at = readImageIn (suc saved-count) image before at
 

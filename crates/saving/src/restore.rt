@@ -10,7 +10,8 @@ ghost use lib.ListN.{length};
 ghost use Rattle.octets.specs.Bytes.{overlay};
 ghost use Rattle.supervisor.specs.Layout.{settings-length, setting-value-offset};
 ghost use Rattle.saving.specs.Saving.{saved-count, savedLengthAt, savedEntryAt, follows, recordStep, imageStep, readImage};
-ghost use Rattle.saving.specs.Calls.{settingHead, cleared, putEntry, putEntries, restoreOutcome, restorePromise, imageStepOf, foundOf, faultIn, entriesIn, WholeRecord};
+ghost use Rattle.saving.specs.Calls.{settingHead, cleared, putEntry, putEntries, restoreOutcome, restorePromise, imageStepOf};
+ghost use Rattle.saving.specs.Calls.{foundOf, faultIn, entriesIn, WholeRecord};
 
 // The faults of an image.
 const BAD_MARK: u8 = 30;

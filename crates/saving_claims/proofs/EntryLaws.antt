@@ -12,7 +12,8 @@ use borrow.Author.Tests.{eqb-true, eqb-false, eq-eqb, ne-eqb}
 use Rattle.octets.specs.Bytes.{Each}
 use Rattle.supervisor.specs.Limits.{first-setting}
 use Rattle.supervisor.specs.State.{unset, Settings}
-use Rattle.saving.specs.Saving.{highest-saved, saved-count, end-mark, savedRecord, imageFrom, SavedEntry, settingIn, replaced, restoredSettings}
+use Rattle.saving.specs.Saving.{highest-saved, saved-count, end-mark, savedRecord, imageFrom, SavedEntry, settingIn, replaced}
+use Rattle.saving.specs.Saving.{restoredSettings}
 use Rattle.saving_claims.specs.Item11.{SavableBy, Savable, aheadOf, entriesOf}
 
 -- ---- the settings of n keys from a key on, by records
@@ -22,7 +23,8 @@ settingsIn zero key es = []
 settingsIn (suc n) key es = settingIn key es ∷ settingsIn n (suc key) es
 
 -- the saved settings are replaced, the others stay
-pub restored-split : (es : List SavedEntry) (ys : Settings) → saved-count ≤ length ys → restoredSettings es ys ≡ settingsIn saved-count first-setting es ++ drop saved-count ys
+pub restored-split : (es : List SavedEntry) (ys : Settings) → saved-count ≤ length ys
+    → restoredSettings es ys ≡ settingsIn saved-count first-setting es ++ drop saved-count ys
 unfolding replaced settingsIn
 restored-split es [] h = absurd (omega arith)
 restored-split es (a ∷ []) h = absurd (omega arith)
@@ -47,7 +49,8 @@ absent (e ∷ es) key h = rw (ne-eqb (e .key) key (λ i. omega (arith, h .0))) (
 
 -- ---- the records of settings give the settings
 
-above-by : (low key edition : ℕ) (o : Option (List ℕ)) (es : List SavedEntry) → low < key → Each (λ e. low < e .key) es → Each (λ e. low < e .key) (aheadOf key edition o es)
+above-by : (low key edition : ℕ) (o : Option (List ℕ)) (es : List SavedEntry) → low < key → Each (λ e. low < e .key) es
+    → Each (λ e. low < e .key) (aheadOf key edition o es)
 above-by low key edition none es h k = k
 above-by low key edition (some v) es h k = (h, k)
 
@@ -56,7 +59,8 @@ unfolding entriesOf
 above [] low key h = tt
 above (x ∷ xs) low key h = above-by low key (x .edition) (x .value) (entriesOf (suc key) xs) h (above xs low (suc key) (omega arith))
 
-kept-by : (n key edition : ℕ) (o : Option (List ℕ)) (es : List SavedEntry) (xs : Settings) → SavableBy key edition o → Each (λ e. key < e .key) es
+kept-by : (n key edition : ℕ) (o : Option (List ℕ)) (es : List SavedEntry) (xs : Settings) → SavableBy key edition o
+    → Each (λ e. key < e .key) es
     → settingsIn n (suc key) es ≡ xs → settingsIn (suc n) key (aheadOf key edition o es) ≡ record { edition = edition; value = o } ∷ xs
 unfolding settingsIn settingIn
 kept-by n key edition none es xs h k e = rw (absent es key k, e, h)
@@ -67,7 +71,8 @@ pub settings-kept : (xs : Settings) (key : ℕ) → Savable key xs → settingsI
 unfolding entriesOf settingsIn
 settings-kept [] key h = refl
 settings-kept (x ∷ xs) key h =
-    kept-by (length xs) key (x .edition) (x .value) (entriesOf (suc key) xs) xs (h .0) (above xs key (suc key) (omega arith)) (settings-kept xs (suc key) (h .1))
+    kept-by (length xs) key (x .edition) (x .value) (entriesOf (suc key) xs) xs (h .0) (above xs key (suc key) (omega arith))
+    (settings-kept xs (suc key) (h .1))
 
 -- ---- records in key order, and their bytes
 
@@ -95,7 +100,8 @@ length-settings zero key es = refl
 length-settings (suc n) key es = ap suc (length-settings n (suc key) es)
 
 -- the settings of records are saved as these records
-pub settings-written : (n key : ℕ) (es : List SavedEntry) → Rising key es → key + n ≡ suc highest-saved → imageFrom key (settingsIn n key es) ≡ written es
+pub settings-written : (n key : ℕ) (es : List SavedEntry) → Rising key es → key + n ≡ suc highest-saved
+    → imageFrom key (settingsIn n key es) ≡ written es
 unfolding settingsIn imageFrom written settingIn
 settings-written zero key [] h e = refl
 settings-written zero key (x ∷ es) h e = absurd (omega (arith, h .0, h .2))
@@ -103,8 +109,10 @@ settings-written (suc n) key [] h e = settings-written n (suc key) [] tt (omega 
 settings-written (suc n) key (x ∷ es) h e =
     by (eqb (x .key) key) refl (settings-written n (suc key) es) (settings-written n (suc key) (x ∷ es))
   where
-    by : (t : Bool) → eqb (x .key) key ≡ t → (Rising (suc key) es → suc key + n ≡ suc highest-saved → imageFrom (suc key) (settingsIn n (suc key) es) ≡ written es)
-        → (Rising (suc key) (x ∷ es) → suc key + n ≡ suc highest-saved → imageFrom (suc key) (settingsIn n (suc key) (x ∷ es)) ≡ written (x ∷ es))
+    by : (t : Bool) → eqb (x .key) key ≡ t
+        → (Rising (suc key) es → suc key + n ≡ suc highest-saved → imageFrom (suc key) (settingsIn n (suc key) es) ≡ written es)
+        → (Rising (suc key) (x ∷ es) → suc key + n ≡ suc highest-saved
+        → imageFrom (suc key) (settingsIn n (suc key) (x ∷ es)) ≡ written (x ∷ es))
         → imageFrom key (settingsIn (suc n) key (x ∷ es)) ≡ written (x ∷ es)
     by true f here behind =
         let k = eqb-true (x .key) key f in

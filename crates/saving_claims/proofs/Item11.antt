@@ -18,7 +18,8 @@ use Rattle.saving.proofs.ReadLaws.{read-at, reading-by}
 use Rattle.saving_claims.proofs.RecordLaws.{end-read, record-read, entry-read, rest-here, record-exact}
 use Rattle.saving_claims.specs.Item11.{SavableBy, Savable, aheadOf, entriesOf, records, SavedRead, SettingsRestored}
 use Rattle.saving_claims.specs.Item11.{SavedRestoresInto, ImageExact, ImageOne, SavedOmits, OtherKey31}
-use Rattle.saving_claims.proofs.EntryLaws.{settingsIn, restored-split, settings-kept, Rising, written, rising-first, length-settings, settings-written}
+use Rattle.saving_claims.proofs.EntryLaws.{settingsIn, restored-split, settings-kept, Rising, written, rising-first, length-settings}
+use Rattle.saving_claims.proofs.EntryLaws.{settings-written}
 
 -- ---- what is saved, and a key that is not
 
@@ -40,9 +41,11 @@ other-key-31 k rest h l = rw (key-step k rest l)
 -- ---- what was saved restores
 
 module _ (image : List ℕ) where
-  record-first : (xs : Settings) (key before at edition : ℕ) (o : Option (List ℕ)) → before < key → first-setting ≤ key → key ≤ highest-saved → SavableBy key edition o
+  record-first : (xs : Settings) (key before at edition : ℕ) (o : Option (List ℕ)) → before < key → first-setting ≤ key
+      → key ≤ highest-saved → SavableBy key edition o
       → drop at image ≡ recordFor key (record { edition = edition; value = o }) ++ imageFrom (suc key) xs
-      → ((before at : ℕ) → before < suc key → drop at image ≡ imageFrom (suc key) xs → readImageFrom image before at ≡ good (entriesOf (suc key) xs))
+      → ((before at : ℕ) → before < suc key → drop at image ≡ imageFrom (suc key) xs
+      → readImageFrom image before at ≡ good (entriesOf (suc key) xs))
       → readImageFrom image before at ≡ good (aheadOf key edition o (entriesOf (suc key) xs))
   record-first xs key before at edition none h lower upper s e rest = rest before at (omega arith) e
   record-first xs key before at edition (some v) h lower upper s e rest =
@@ -54,8 +57,8 @@ module _ (image : List ℕ) where
       )
 
   -- from a key on
-  saved-read-from : (xs : Settings) (key before at : ℕ) → before < key → first-setting ≤ key → key + length xs ≤ suc highest-saved → Savable key xs
-      → drop at image ≡ imageFrom key xs → readImageFrom image before at ≡ good (entriesOf key xs)
+  saved-read-from : (xs : Settings) (key before at : ℕ) → before < key → first-setting ≤ key → key + length xs ≤ suc highest-saved
+      → Savable key xs → drop at image ≡ imageFrom key xs → readImageFrom image before at ≡ good (entriesOf key xs)
   unfolding imageFrom entriesOf
   saved-read-from [] key before at h lower upper s e = read-at image before at (end-read image before at e)
   saved-read-from (x ∷ xs) key before at h lower upper s e =
@@ -86,7 +89,8 @@ module _ (image : List ℕ) (byte : Each Byte image) where
   Exact before at (fault n there) = Unit {0}
   Exact before at (good es) = (drop at image ≡ written es) × Rising (suc before) es
 
-  exact-more : (before at key there : ℕ) (r : ImageRead) → Passed image before at key there → Exact key there r → Exact before at (aheadOfRead (savedEntryAt image at) r)
+  exact-more : (before at key there : ℕ) (r : ImageRead) → Passed image before at key there → Exact key there r
+      → Exact before at (aheadOfRead (savedEntryAt image at) r)
   unfolding written
   exact-more before at key there (fault n offset) p h = tt
   exact-more before at key there (good es) p h =
@@ -109,7 +113,10 @@ unfolding saved
 image-exact image byte es e ys long =
     let x = rw e at (read-exact image byte) in
     x .0
-    ∙ sym (rw (restored-split es ys long, take-at (settingsIn saved-count first-setting es) (drop saved-count ys) saved-count (length-settings saved-count first-setting es))
+    ∙ sym (rw (
+      restored-split es ys long,
+      take-at (settingsIn saved-count first-setting es) (drop saved-count ys) saved-count (length-settings saved-count first-setting es),
+    )
     (settings-written saved-count first-setting es (rising-first 1 es (x .1)) refl))
 
 pub image-one : ImageOne

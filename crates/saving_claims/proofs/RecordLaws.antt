@@ -23,7 +23,8 @@ use Rattle.saving.proofs.StepLaws.{Passed, end-good, key-good, record-good}
 use Rattle.saving.proofs.StoreLaws.{length-body, length-record}
 
 -- the bytes of an image from an offset on begin with those of a list
-run-here : (image xs rest : List ℕ) (at : ℕ) → drop at image ≡ xs ++ rest → (j n : ℕ) → j + n ≤ length xs → run (at + j) n image ≡ run j n xs
+run-here : (image xs rest : List ℕ) (at : ℕ) → drop at image ≡ xs ++ rest → (j n : ℕ) → j + n ≤ length xs
+    → run (at + j) n image ≡ run j n xs
 run-here image xs rest at e j n h = rw (← drop-drop j at image, e) (run-append xs rest j n h)
 
 length-here : (image xs rest : List ℕ) (at : ℕ) → drop at image ≡ xs ++ rest → length image - at ≡ length xs + length rest
@@ -74,12 +75,14 @@ module _ (image : List ℕ) (at key edition : ℕ) (v rest : List ℕ) (e : drop
 
   body-here : run at (9 + length v) image ≡ recordBody key edition v
   unfolding savedRecord
-  body-here = rw add-zero at (part 0 (9 + length v) (omega arith)) ∙ take-at (recordBody key edition v) _ (9 + length v) (length-body key edition v)
+  body-here =
+      rw add-zero at (part 0 (9 + length v) (omega arith)) ∙ take-at (recordBody key edition v) _ (9 + length v) (length-body key edition v)
 
   sum-here : numberAt 2 image (at + (9 + length v)) ≡ checksum (recordBody key edition v)
   unfolding savedRecord bytes
   sum-here =
-      ap number (part (9 + length v) 2 (omega arith) ∙ ap (take 2) (drop-at (recordBody key edition v) _ (9 + length v) (length-body key edition v)))
+      ap number
+      (part (9 + length v) 2 (omega arith) ∙ ap (take 2) (drop-at (recordBody key edition v) _ (9 + length v) (length-body key edition v)))
       ∙ number-bytes 2 (checksum (recordBody key edition v)) (checksum-bound (recordBody key edition v))
 
   a-mark : sameRun image at record-mark 0 2 ≡ true
@@ -92,7 +95,8 @@ module _ (image : List ℕ) (at key edition : ℕ) (v rest : List ℕ) (e : drop
   pub record-read : (before : ℕ) → before < key → imageStep image before at ≡ to key (at + size)
   unfolding follows
   record-read before above =
-      sym (record-good image at (length v) key (longest-setting key) (sym size-here) (sym key-here) refl (omega (arith, long)) short _ _ long
+      sym
+      (record-good image at (length v) key (longest-setting key) (sym size-here) (sym key-here) refl (omega (arith, long)) short _ _ long
       (ap checksum (sym body-here)) (sym sum-here) refl
       ∙ key-good image before at (omega (arith, long)) refl no-end refl (rw a-mark) (omega (arith, long)) (sym key-here) refl
       (rw (le-leb first-setting key lower, le-leb key highest-saved upper, lt-ltb before key above)))

@@ -9,5 +9,6 @@ use Rattle.saving_claims.specs.Samples.{imageSampleMeant, imageSamples}
 use Rattle.saving_claims.specs.Item11.{ImageSamplesHold}
 
 pub samples-hold : ImageSamplesHold
-unfolding imageSampleMeant imageSamples number bytes equal sums checksum longest-setting savedRecord follows recordStep imageStep readImageIn readImageFrom readImage
+unfolding imageSampleMeant imageSamples number bytes equal sums checksum longest-setting savedRecord follows recordStep imageStep
+    readImageIn readImageFrom readImage
 samples-hold = refl

@@ -49,11 +49,12 @@ abbrev pub SettingsRestored : Settings → Type 0
 SettingsRestored xs = restoredSettings (records xs) xs ≡ xs
 
 abbrev pub SavedRestoresInto : Settings → Type 0
-SavedRestoresInto xs = (ys : Settings) → saved-count ≤ length ys → restoredSettings (records xs) ys ≡ take saved-count xs ++ drop saved-count ys
+SavedRestoresInto xs = (ys : Settings) → saved-count ≤ length ys
+    → restoredSettings (records xs) ys ≡ take saved-count xs ++ drop saved-count ys
 
 abbrev pub ImageExact : Type 0
-ImageExact = (image : List ℕ) → Each Byte image → (es : List SavedEntry) → readImage image ≡ good es → (ys : Settings) → saved-count ≤ length ys
-    → image ≡ saved (restoredSettings es ys)
+ImageExact = (image : List ℕ) → Each Byte image → (es : List SavedEntry) → readImage image ≡ good es → (ys : Settings)
+    → saved-count ≤ length ys → image ≡ saved (restoredSettings es ys)
 
 abbrev pub ImageOne : Type 0
 ImageOne = (i j : List ℕ) → Each Byte i → Each Byte j → (es fs : List SavedEntry) → readImage i ≡ good es → readImage j ≡ good fs

@@ -12,7 +12,8 @@ use Rattle.octets.specs.Bytes.{bytes, overlay, put, copied}
 use Rattle.octets.proofs.Numbers.{length-bytes, one-byte}
 use Rattle.octets.proofs.Overlay.{length-overlay, length-put, length-copied, overlay-one, overlay-next, overlay-more, put-fits, copied-fits}
 use Rattle.supervisor.specs.Limits.{most-alerts, longest-alert}
-use Rattle.supervisor.specs.Layout.{registers-length, status-offset, alert-count-offset, alert-offset, alert-action-offset, alert-text-offset, statusOf, alertCount}
+use Rattle.supervisor.specs.Layout.{registers-length, status-offset, alert-count-offset, alert-offset, alert-action-offset}
+use Rattle.supervisor.specs.Layout.{alert-text-offset, statusOf, alertCount}
 use Rattle.supervisor.specs.Local.{setBit}
 use Rattle.supervisor.specs.Valid.{validRegisters}
 use Rattle.supervisor.specs.Calls.{registersOutcome, postReport, withAlert, postPromise}
@@ -29,7 +30,13 @@ slot at action text r h l =
     let k : length head ≡ alert-text-offset = simp length-append (omega arith) in
     let m = rw two at (overlay-more at action (bytes 2 n) r (omega arith)) in
     let t : length (overlay at head r) ≡ length r = length-overlay at head r (omega arith) in
-    rw (put-fits at (bytes 2 n) r (omega arith), m, copied-fits text 0 n (overlay at head r) (at + alert-text-offset) (omega arith) (omega arith), take-length, one-byte action h)
+    rw (
+      put-fits at (bytes 2 n) r (omega arith),
+      m,
+      copied-fits text 0 n (overlay at head r) (at + alert-text-offset) (omega arith) (omega arith),
+      take-length,
+      one-byte action h,
+    )
     (rw (k, append-assoc) at (overlay-next at head text r (omega arith)))
 
 pub length-slot : (r text : List ℕ) (at action : ℕ) {s t : List ℕ} → s ≡ put at (bytes 2 (length text)) r
@@ -37,10 +44,11 @@ pub length-slot : (r text : List ℕ) (at action : ℕ) {s t : List ℕ} → s �
 length-slot r text at action f g = rw g (simp (length-copied, length-set) (rw f (length-put at (bytes 2 (length text)) r)))
 
 -- the three, then the count, then the status
-pub alert-put : (r text : List ℕ) {count action status : ℕ} {s t u : List ℕ} → registers-length ≤ length r → count ≡ alertCount r → count < most-alerts
-    → length text ≤ longest-alert → action < 256 → s ≡ put (alert-offset count) (bytes 2 (length text)) r
+pub alert-put : (r text : List ℕ) {count action status : ℕ} {s t u : List ℕ} → registers-length ≤ length r → count ≡ alertCount r
+    → count < most-alerts → length text ≤ longest-alert → action < 256 → s ≡ put (alert-offset count) (bytes 2 (length text)) r
     → t ≡ copied text 0 (length text) (set s (alert-offset count + alert-action-offset) action) (alert-offset count + alert-text-offset)
-    → status ≡ setBit (statusOf r) 1 → u ≡ put status-offset (bytes 8 status) (set t alert-count-offset (count + 1)) → u ≡ withAlert r action text
+    → status ≡ setBit (statusOf r) 1 → u ≡ put status-offset (bytes 8 status) (set t alert-count-offset (count + 1))
+    → u ≡ withAlert r action text
 unfolding withAlert
 alert-put r text {count} {action} {status} {t} long e few short byte f g h i =
     let n = length-slot r text _ _ f g in
@@ -79,6 +87,7 @@ module _ (r : List ℕ) (action : ℕ) (text : List ℕ) where
       unfolding postReport postPromise
       post-full m = rw (v, ne-eqb action 0 a, le-ltb longest-alert (length text) l, le-ltb (alertCount r) most-alerts (omega arith))
 
-      pub post-done : {s : List ℕ} → count < most-alerts → s ≡ withAlert r action text → registersOutcome (postReport Done) s ≡ postPromise r action text
+      pub post-done : {s : List ℕ} → count < most-alerts → s ≡ withAlert r action text
+          → registersOutcome (postReport Done) s ≡ postPromise r action text
       unfolding postReport postPromise
       post-done m f = rw (v, ne-eqb action 0 a, le-ltb longest-alert (length text) l, lt-ltb (alertCount r) most-alerts (omega arith), f)

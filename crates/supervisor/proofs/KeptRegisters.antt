@@ -36,8 +36,8 @@ pub record WaitingValid (r : List ℕ) : Type 0 where
 abbrev pub RetainedValid : List ℕ → Type 0
 RetainedValid r = (Layout.retainedVersion r ≤ 2) × (Layout.alertTextLength r Layout.retained-alert-offset ≤ Limits.longest-alert)
 
-pub groups-valid : {s : List ℕ} → Layout.registers-length ≤ length s → NumbersValid s → FlagsValid s → FailureValid s → PanicValid s → WaitingValid s
-    → RetainedValid s → validRegisters s ≡ true
+pub groups-valid : {s : List ℕ} → Layout.registers-length ≤ length s → NumbersValid s → FlagsValid s → FailureValid s → PanicValid s
+    → WaitingValid s → RetainedValid s → validRegisters s ≡ true
 groups-valid {s} long numbers flags failure panic waiting retained =
     valid-registers s
     (record {
@@ -60,7 +60,8 @@ groups-valid {s} long numbers flags failure panic waiting retained =
 -- ---- a group whose bytes are the same
 
 module _ {from to : ℕ} {r s : List ℕ} (same : Same from to r s) where
-  pub alerts-valid : (n : ℕ) → (from ≤ Layout.alerts-offset) × (Layout.alert-offset n ≤ to) → validAlerts r n ≡ true → validAlerts s n ≡ true
+  pub alerts-valid : (n : ℕ) → (from ≤ Layout.alerts-offset) × (Layout.alert-offset n ≤ to) → validAlerts r n ≡ true
+      → validAlerts s n ≡ true
   alerts-valid n h v =
       each-all (validAlert s) n (λ i k.
       let a = alert-valid r i (all-each (validAlert r) n v i k) in
@@ -118,5 +119,5 @@ pub kept-valid : {r s : List ℕ} → Kept r s → RegistersValid r
     → validAlerts s (Layout.alertCount s) ≡ true → validRegisters s ≡ true
 kept-valid k v small options alerts =
     let middle = k .flags-and-records in
-    groups-valid (omega arith) (small .0, options) (flags-kept middle v (omega arith)) (failure-kept middle v (omega arith)) (panic-kept middle v (omega arith))
-    (record { count = small .1; alerts = alerts }) (retained-kept (k .retained) v (omega arith))
+    groups-valid (omega arith) (small .0, options) (flags-kept middle v (omega arith)) (failure-kept middle v (omega arith))
+    (panic-kept middle v (omega arith)) (record { count = small .1; alerts = alerts }) (retained-kept (k .retained) v (omega arith))

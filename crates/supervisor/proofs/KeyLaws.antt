@@ -14,7 +14,8 @@ use Rattle.supervisor.specs.Limits
 use Rattle.supervisor.specs.Limits.{highest-key}
 use Rattle.supervisor.specs.Layout
 use Rattle.supervisor.specs.Valid.{validFactory, validSettings}
-use Rattle.supervisor.specs.Calls.{settingAt, locationOf, resultAt, lookupResultPromise, within, valueIn, lookupPromise, editionReportAt, editionPromise}
+use Rattle.supervisor.specs.Calls.{settingAt, locationOf, resultAt, lookupResultPromise, within, valueIn, lookupPromise}
+use Rattle.supervisor.specs.Calls.{editionReportAt, editionPromise}
 use Rattle.supervisor.specs.declared.keys.Location.{Location}
 use Rattle.supervisor.proofs.OffsetLaws.{longest-short, settings-key}
 use Rattle.supervisor.proofs.ValidLaws.{FactoryValid, factory-valid, settings-valid}
@@ -35,8 +36,8 @@ module _
 
 -- ---- the edition of a key
 
-pub edition-found : (f s : List ℕ) (key : ℕ) (p : Location) → (validFactory f && validSettings s) ≡ true → key ≤ highest-key → p ≡ locationOf f s key
-    → editionPromise f s key ≡ editionReportAt s key p
+pub edition-found : (f s : List ℕ) (key : ℕ) (p : Location) → (validFactory f && validSettings s) ≡ true → key ≤ highest-key
+    → p ≡ locationOf f s key → editionPromise f s key ≡ editionReportAt s key p
 unfolding editionPromise
 edition-found f s key p v k e = rw (v, le-ltb highest-key key k, e)
 
@@ -44,7 +45,8 @@ edition-found f s key p v k e = rw (v, le-ltb highest-key key k, e)
 
 within-short : (most at n : ℕ) (s : List ℕ) → n ≤ Limits.longest-value → length (within most n (run at n s)) ≤ Limits.longest-value
 within-short most at n s h =
-    cond-by (λ v. length v ≤ Limits.longest-value) (ltb most n) [] (run at n s) (λ _. omega arith) (λ _. omega (arith, length-take n (drop at s)))
+    cond-by (λ v. length v ≤ Limits.longest-value) (ltb most n) [] (run at n s) (λ _. omega arith)
+    (λ _. omega (arith, length-take n (drop at s)))
 
 module _ (f s : List ℕ) (most : ℕ) where
   -- the value at an offset
@@ -53,7 +55,9 @@ module _ (f s : List ℕ) (most : ℕ) where
 
   setting-short : (at : ℕ) → Layout.settingLength s at ≤ Limits.longest-value → Short (settingAt s at)
   unfolding settingAt valueIn
-  setting-short at h = cond-by Short (eqb (Layout.settingHeld s at) 1) _ _ (λ _. within-short most (at + Layout.setting-value-offset) _ s h) (λ _. omega arith)
+  setting-short at h =
+      cond-by Short (eqb (Layout.settingHeld s at) 1) _ _ (λ _. within-short most (at + Layout.setting-value-offset) _ s h)
+      (λ _. omega arith)
 
   location-short : (key : ℕ) → FactoryValid f → SettingsValid s → key ≤ highest-key → Short (locationOf f s key)
   unfolding locationOf valueIn
@@ -64,7 +68,8 @@ module _ (f s : List ℕ) (most : ℕ) where
       cond-by Short (eqb key Limits.passphrase-key) _ _ (λ _. omega arith) (λ _.
       setting-short (Layout.setting-offset key) (omega (arith, w .each key (settings-key key a b c h), longest-short key))))))
 
-pub value-short : (f s : List ℕ) (key most : ℕ) → validFactory f ≡ true → validSettings s ≡ true → length (lookupPromise f s key most) ≤ Limits.longest-value
+pub value-short : (f s : List ℕ) (key most : ℕ) → validFactory f ≡ true → validSettings s ≡ true
+    → length (lookupPromise f s key most) ≤ Limits.longest-value
 unfolding lookupPromise
 value-short f s key most v w =
     rw (v, w)

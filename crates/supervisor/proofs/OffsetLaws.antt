@@ -10,7 +10,8 @@ use lib.Dec.{ltb, eqb}
 use lib.ListN.{length, take, getD}
 use borrow.Author.Tests.{ltb-true, ltb-false, eqb-false}
 use Rattle.octets.specs.Bytes.{Each}
-use Rattle.supervisor.specs.Limits.{highest-key, first-setting, SettingsKey, longest-settings, longest-setting, shortest-settings, passphrase-key, longest-value}
+use Rattle.supervisor.specs.Limits.{highest-key, first-setting, SettingsKey, longest-settings, longest-setting, shortest-settings}
+use Rattle.supervisor.specs.Limits.{passphrase-key, longest-value}
 use Rattle.supervisor.specs.Layout.{setting-value-offset, settings-size, setting-offset, settings-length}
 
 -- ---- a list of longest values
@@ -37,7 +38,8 @@ longest-within (n ∷ l) most e (suc i) = longest-within l most (e .1) i
 
 pub longest-short : (key : ℕ) → longest-setting key ≤ longest-value
 unfolding longest-setting
-longest-short key = longest-within longest-settings longest-value (omega arith, (omega arith, (omega arith, (omega arith, tt)))) (key - first-setting)
+longest-short key =
+    longest-within longest-settings longest-value (omega arith, (omega arith, (omega arith, (omega arith, tt)))) (key - first-setting)
 
 -- only the passphrase has a shortest value
 pub none-shortest : (i : ℕ) → (i ≡ passphrase-key - first-setting → ⊥) → getD shortest-settings i 0 ≡ 0

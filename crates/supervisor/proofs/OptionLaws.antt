@@ -20,7 +20,8 @@ module _ (r : List ℕ) (options : ℕ) where
   unfolding optionsReport optionsPromise
   options-refused v = rw v
 
-  pub options-bad : validRegisters r ≡ true → optionsAllowed options ≡ false → registersOutcome (optionsReport BadOption) r ≡ optionsPromise r options
+  pub options-bad : validRegisters r ≡ true → optionsAllowed options ≡ false
+      → registersOutcome (optionsReport BadOption) r ≡ optionsPromise r options
   unfolding optionsReport optionsPromise
   options-bad v a = rw (v, a)
 

@@ -23,14 +23,16 @@ unfolding takeReport takePromise
 take-refused o room e = rw e
 
 -- the last of n bytes
-last-of-run : (at n : ℕ) (o : List ℕ) → 0 < n → at + n ≤ length o → getD (run at n o) (length (run at n o) - 1) 0 ≡ numberAt 1 o (at + n - 1)
+last-of-run : (at n : ℕ) (o : List ℕ) → 0 < n → at + n ≤ length o
+    → getD (run at n o) (length (run at n o) - 1) 0 ≡ numberAt 1 o (at + n - 1)
 last-of-run at n o p h =
     let e : at + (n - 1) ≡ at + n - 1 = omega arith in
     rw (length-run at n o h, getD-take n (drop at o) (n - 1) 0 (omega arith), getD-drop at o (n - 1) 0, e)
     (number-one o (at + n - 1) (omega arith))
 
 after-some : (bs o : List ℕ) → 0 < length bs
-    → overlay outbox-terminator-owed-offset (lastNonZeroFlag bs ∷ []) (overlay outbox-from-offset (bytes 2 (outboxFrom o + length bs)) o) ≡ outboxAfterTake bs o
+    → overlay outbox-terminator-owed-offset (lastNonZeroFlag bs ∷ []) (overlay outbox-from-offset (bytes 2 (outboxFrom o + length bs)) o)
+    ≡ outboxAfterTake bs o
 unfolding outboxAfterTake
 after-some [] o h = absurd (omega arith)
 after-some (b ∷ bs) o h = refl
@@ -51,11 +53,14 @@ module _ (o room : List ℕ) {from to n : ℕ} (valid : validOutbox o ≡ true) 
       omega (arith, min-le-right (length room) (to - from))
 
   room-after : copied o (outbox-bytes-offset + from) n room 0 ≡ overlay 0 (takeableBytes o room) room
-  room-after = rw (← same, ← first) (copied-fits o (outbox-bytes-offset + from) n room 0 there (omega (arith, min-le-left (length room) (to - from))))
+  room-after =
+      rw (← same, ← first)
+      (copied-fits o (outbox-bytes-offset + from) n room 0 there (omega (arith, min-le-left (length room) (to - from))))
 
   -- where the pending bytes now begin is stored, then whether a 00 is owed
   outbox-after : 0 < n
-      → set (put outbox-from-offset (bytes 2 (from + n)) o) outbox-terminator-owed-offset (cond (eqb (numberAt 1 o (outbox-bytes-offset + from + n - 1)) 0) 0 1)
+      → set (put outbox-from-offset (bytes 2 (from + n)) o) outbox-terminator-owed-offset
+      (cond (eqb (numberAt 1 o (outbox-bytes-offset + from + n - 1)) 0) 0 1)
       ≡ outboxAfterTake (takeableBytes o room) o
   outbox-after p =
       let at = outbox-bytes-offset + from in
@@ -64,12 +69,17 @@ module _ (o room : List ℕ) {from to n : ℕ} (valid : validOutbox o ≡ true) 
       let k : length offset ≡ 2 = length-bytes 2 (from + n) in
       let q : length (run at n o) ≡ n = length-run at n o h in
       let l : length (overlay outbox-from-offset offset o) ≡ length o = length-overlay outbox-from-offset offset o (omega arith) in
-      rw (← same, ← first, put-fits outbox-from-offset offset o (omega arith), overlay-one outbox-terminator-owed-offset _ (overlay outbox-from-offset offset o) (omega arith))
+      rw (
+        ← same,
+        ← first,
+        put-fits outbox-from-offset offset o (omega arith),
+        overlay-one outbox-terminator-owed-offset _ (overlay outbox-from-offset offset o) (omega arith),
+      )
       (rw (last-of-run at n o p h, q, ← first) at (after-some (run at n o) o (omega arith)))
 
   pub take-some : {last owed : ℕ} {s t : List ℕ} → (n ≡ 0 → ⊥) → last ≡ numberAt 1 o (outbox-bytes-offset + from + n - 1)
-      → s ≡ copied o (outbox-bytes-offset + from) n room 0 → t ≡ put outbox-from-offset (bytes 2 (from + n)) o → owed ≡ cond (eqb last 0) 0 1
-      → takeOutcome (Moved n) (set t outbox-terminator-owed-offset owed) s ≡ takePromise o room
+      → s ≡ copied o (outbox-bytes-offset + from) n room 0 → t ≡ put outbox-from-offset (bytes 2 (from + n)) o
+      → owed ≡ cond (eqb last 0) 0 1 → takeOutcome (Moved n) (set t outbox-terminator-owed-offset owed) s ≡ takePromise o room
   unfolding takeReport takePromise
   take-some z f g h k =
       let p : 0 < n = omega arith in

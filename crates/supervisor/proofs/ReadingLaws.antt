@@ -8,7 +8,7 @@ use borrow.Author.Tests.{eq-eqb}
 use Rattle.supervisor.specs.Layout.{recordHeld, recordCode, recordWhole}
 use Rattle.supervisor.specs.Calls.{keptCount, recordAt}
 
-pub record-found : (r : List ℕ) (at code whole kept : ℕ) → recordHeld r at ≡ 1 → code ≡ recordCode r at → whole ≡ recordWhole r at → kept ≡ keptCount r at
-    → some (record { code = code; whole = whole; kept = kept }) ≡ recordAt r at
+pub record-found : (r : List ℕ) (at code whole kept : ℕ) → recordHeld r at ≡ 1 → code ≡ recordCode r at → whole ≡ recordWhole r at
+    → kept ≡ keptCount r at → some (record { code = code; whole = whole; kept = kept }) ≡ recordAt r at
 unfolding recordAt
 record-found r at code whole kept h c w k = rw (eq-eqb (recordHeld r at) 1 h, c, w, k)

@@ -119,11 +119,13 @@ all-long reader outbox factory settings registers h =
 
 pub long-enough-is : (p : Parts) → longEnough p ≡ true → LongEnough p
 unfolding longEnough
-long-enough-is p e = omega (arith, all-long (length (p .reader)) (length (p .outbox)) (length (p .factory)) (length (p .settings)) (length (p .registers)) e)
+long-enough-is p e =
+    omega (arith, all-long (length (p .reader)) (length (p .outbox)) (length (p .factory)) (length (p .settings)) (length (p .registers)) e)
 
 pub is-long-enough : (p : Parts) → LongEnough p → longEnough p ≡ true
 unfolding longEnough
-is-long-enough p r = rw (le-leb _ _ (r .reader), le-leb _ _ (r .outbox), le-leb _ _ (r .factory), le-leb _ _ (r .settings), le-leb _ _ (r .registers))
+is-long-enough p r =
+    rw (le-leb _ _ (r .reader), le-leb _ _ (r .outbox), le-leb _ _ (r .factory), le-leb _ _ (r .settings), le-leb _ _ (r .registers))
 
 -- an answer with the parts as they are
 abbrev kept : Started → Parts → StartOutcome
@@ -140,8 +142,8 @@ unfolding startPromise startReport
 unfit d p r e = rw (is-long-enough p r, e)
 
 -- the reader's part
-reader-begun : (s t : List ℕ) (a : Reader-Started) → Reader.reader-length ≤ length s → Reader.readerStartOutcome a t ≡ Reader.readerStartPromise s
-    → t ≡ Reader.withCount 0 s
+reader-begun : (s t : List ℕ) (a : Reader-Started) → Reader.reader-length ≤ length s
+    → Reader.readerStartOutcome a t ≡ Reader.readerStartPromise s → t ≡ Reader.withCount 0 s
 unfolding Reader.readerStartPromise
 reader-begun s t a h e = ap (λ (o : Reader.ReaderStartOutcome). o .state) (rw (le-leb _ _ h) at e)
 

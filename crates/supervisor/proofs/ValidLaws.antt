@@ -89,7 +89,8 @@ each-all p (suc n) f = and (Valid.all p n) (p n) (each-all p n (λ i l. f i (ome
 -- ---- start data
 
 pub record ItemGood (d : List ℕ) (i : ℕ) : Type 0 where
-  pub result : (numberAt 1 d (Layout.item-offset i) ≡ 0) ⊎ (numberAt 1 d (Layout.item-offset i) ≡ 2) ⊎ (numberAt 1 d (Layout.item-offset i) ≡ 3)
+  pub result : (numberAt 1 d (Layout.item-offset i) ≡ 0) ⊎ (numberAt 1 d (Layout.item-offset i) ≡ 2)
+      ⊎ (numberAt 1 d (Layout.item-offset i) ≡ 3)
   pub size : numberAt 1 d (Layout.item-offset i + Layout.item-data-length-offset) ≤ Limits.longest-item-data
 
 pub item-good : (d : List ℕ) (i : ℕ) → Valid.goodItem d i ≡ true → ItemGood d i
@@ -175,22 +176,28 @@ valid-factory f v =
 
 -- ---- the settings store
 
-pub setting-valid : (s : List ℕ) (at shortest longest : ℕ) → Valid.validSetting s at shortest longest ≡ true → SettingValid s at shortest longest
+pub setting-valid : (s : List ℕ) (at shortest longest : ℕ) → Valid.validSetting s at shortest longest ≡ true
+    → SettingValid s at shortest longest
 unfolding Valid.validSetting
 setting-valid s at shortest longest e =
     let a = le-and _ _ _ e in
     let b = le-and _ _ _ (a .1) in
-    record { held = a .0; size = b .0; short = ⊎-map (leb-true _ _) (λ t. let z = both _ _ t in (eqb-true _ _ (z .0), eqb-true _ _ (z .1))) (either _ _ (b .1)) }
+    record {
+      held = a .0;
+      size = b .0;
+      short = ⊎-map (leb-true _ _) (λ t. let z = both _ _ t in (eqb-true _ _ (z .0), eqb-true _ _ (z .1))) (either _ _ (b .1));
+    }
 
-pub valid-setting : (s : List ℕ) (at shortest longest : ℕ) → SettingValid s at shortest longest → Valid.validSetting s at shortest longest ≡ true
+pub valid-setting : (s : List ℕ) (at shortest longest : ℕ) → SettingValid s at shortest longest
+    → Valid.validSetting s at shortest longest ≡ true
 unfolding Valid.validSetting
 valid-setting s at shortest longest v =
     and-le _ _ _ (v .held)
     (and-le _ _ _ (v .size) (or _ _ (⊎-map (le-leb _ _) (λ z. and _ _ (eq-eqb _ _ (z .0)) (eq-eqb _ _ (z .1))) (v .short))))
 
 -- where the length is below the shortest no value is held
-pub none-held : (s : List ℕ) (at shortest longest : ℕ) → Valid.validSetting s at shortest longest ≡ true → Layout.settingLength s at < shortest
-    → (Layout.settingLength s at ≡ 0) × (Layout.settingHeld s at ≡ 0)
+pub none-held : (s : List ℕ) (at shortest longest : ℕ) → Valid.validSetting s at shortest longest ≡ true
+    → Layout.settingLength s at < shortest → (Layout.settingLength s at ≡ 0) × (Layout.settingHeld s at ≡ 0)
 none-held s at shortest longest e h = ⊎-elim (λ l. absurd (omega arith)) (λ z. z) (setting-valid s at shortest longest e .short)
 
 pub settings-valid : (s : List ℕ) → Valid.validSettings s ≡ true → SettingsValid s

@@ -47,7 +47,8 @@ pub record Parts : Type 0 where
 
 -- parts by their names, in this order
 abbrev pub parts : List ℕ → List ℕ → List ℕ → List ℕ → List ℕ → Parts
-parts reader outbox factory settings registers = record { reader = reader; outbox = outbox; factory = factory; settings = settings; registers = registers }
+parts reader outbox factory settings registers =
+    record { reader = reader; outbox = outbox; factory = factory; settings = settings; registers = registers }
 
 -- every part has its published length
 unfoldable pub longEnough : Parts → Bool
@@ -128,7 +129,11 @@ takeableBytes o room = run (Layout.outbox-bytes-offset + Layout.outboxFrom o) (t
 unfoldable pub takePromise : List ℕ → List ℕ → TakeOutcome
 takePromise o room =
     cond (validOutbox o)
-    (record { report = moved (takeable o room); outbox = outboxAfterTake (takeableBytes o room) o; room = overlay 0 (takeableBytes o room) room })
+    (record {
+      report = moved (takeable o room);
+      outbox = outboxAfterTake (takeableBytes o room) o;
+      room = overlay 0 (takeableBytes o room) room;
+    })
     (record { report = refused 12; outbox = o; room = room })
 
 -- ---- Post an alert
@@ -174,14 +179,17 @@ optionsReport options-set.BadOption = some 13
 unfoldable pub optionsPromise : List ℕ → ℕ → RegistersOutcome
 optionsPromise r options =
     cond (validRegisters r)
-    (cond (Local.optionsAllowed options) (registersOutcome none (overlay Layout.options-offset (bytes 8 options) r)) (registersOutcome (some 13) r))
+    (cond (Local.optionsAllowed options) (registersOutcome none (overlay Layout.options-offset (bytes 8 options) r))
+    (registersOutcome (some 13) r))
     (registersOutcome (some 12) r)
 
 -- ---- Look a key up
 
 -- where a key's value lies: from which byte of a store, and how many
 unfoldable pub settingAt : List ℕ → ℕ → Location
-settingAt s at = cond (eqb (Layout.settingHeld s at) 1) (location.Settings (at + Layout.setting-value-offset) (Layout.settingLength s at)) location.Nowhere
+settingAt s at =
+    cond (eqb (Layout.settingHeld s at) 1) (location.Settings (at + Layout.setting-value-offset) (Layout.settingLength s at))
+    location.Nowhere
 
 -- of a key from 0 to 6; the passphrase is not handed out
 unfoldable pub locationOf : List ℕ → List ℕ → ℕ → Location
@@ -294,7 +302,8 @@ flagsReport (flags.Read a) = is (a .reboot, a .«power_off»)
 
 unfoldable pub flagsPromise : List ℕ → RegisterReport (Bool × Bool)
 flagsPromise r =
-    cond (validRegisters r) (is (eqb (numberAt 1 r Layout.reboot-offset) 1, eqb (numberAt 1 r Layout.power-off-offset) 1)) (RegisterReport.refused 12)
+    cond (validRegisters r) (is (eqb (numberAt 1 r Layout.reboot-offset) 1, eqb (numberAt 1 r Layout.power-off-offset) 1))
+    (RegisterReport.refused 12)
 
 unfoldable pub recordOffset : Kind → ℕ
 recordOffset kind.BootFailure = Layout.boot-failure-offset
@@ -316,7 +325,8 @@ keptCount r at = min (Layout.recordWhole r at) Limits.most-kept
 
 unfoldable pub recordAt : List ℕ → ℕ → Option RecordRead
 recordAt r at =
-    cond (eqb (Layout.recordHeld r at) 1) (some (record { code = Layout.recordCode r at; whole = Layout.recordWhole r at; kept = keptCount r at })) none
+    cond (eqb (Layout.recordHeld r at) 1)
+    (some (record { code = Layout.recordCode r at; whole = Layout.recordWhole r at; kept = keptCount r at })) none
 
 unfoldable pub recordPromise : List ℕ → Kind → RegisterReport (Option RecordRead)
 recordPromise r k = cond (validRegisters r) (is (recordAt r (recordOffset k))) (RegisterReport.refused 12)
@@ -325,5 +335,6 @@ recordPromise r k = cond (validRegisters r) (is (recordAt r (recordOffset k))) (
 unfoldable pub recordBytesPromise : List ℕ → Kind → List ℕ
 recordBytesPromise r k =
     cond (validRegisters r)
-    (cond (eqb (Layout.recordHeld r (recordOffset k)) 1) (run (recordOffset k + Layout.record-kept-offset) (keptCount r (recordOffset k)) r) [])
+    (cond (eqb (Layout.recordHeld r (recordOffset k)) 1) (run (recordOffset k + Layout.record-kept-offset) (keptCount r (recordOffset k)) r)
+    [])
     []

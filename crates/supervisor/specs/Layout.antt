@@ -4,7 +4,8 @@ use Prim.Native.Nat.{ℕ, _+_, _-_, _*_}
 use mathlib.Core.List.{List, [], _∷_, _++_}
 use lib.ListN.{length, take}
 use Rattle.octets.specs.Bytes.{bytes, numberAt}
-use Rattle.supervisor.specs.Limits.{most-items, longest-item-data, longest-image-id, first-setting, longest-settings, most-alerts, longest-alert, most-kept, most-pending}
+use Rattle.supervisor.specs.Limits.{most-items, longest-item-data, longest-image-id, first-setting, longest-settings, most-alerts}
+use Rattle.supervisor.specs.Limits.{longest-alert, most-kept, most-pending}
 
 -- ---- The outbox: the pending bytes run from `outbox-from` up to `outbox-to` among the bytes at `outbox-bytes`.
 

@@ -7,8 +7,10 @@ use Prim.Native.Nat.{ℕ, zero, suc, _+_, _^_}
 use lib.Dec.{leb, ltb, eqb}
 use lib.ListN.{length, take, drop, getD}
 use Rattle.octets.specs.Bytes.{bytes, bit}
-use Rattle.supervisor.specs.Limits.{bsu-a, bsu-b, inventory-item, inventory-absent, inventory-failed, most-items, longest-item-data, longest-image-id, highest-key, passphrase-key, most-alerts, longest-alert, highest-option}
-use Rattle.supervisor.specs.State.{Item, Factory, Setting, State, setting, withStatus, withOptions, withWaiting, withPending, withTerminatorOwed, fresh}
+use Rattle.supervisor.specs.Limits.{bsu-a, bsu-b, inventory-item, inventory-absent, inventory-failed, most-items, longest-item-data}
+use Rattle.supervisor.specs.Limits.{longest-image-id, highest-key, passphrase-key, most-alerts, longest-alert, highest-option}
+use Rattle.supervisor.specs.State.{Item, Factory, Setting, State, setting, withStatus, withOptions, withWaiting, withPending}
+use Rattle.supervisor.specs.State.{withTerminatorOwed, fresh}
 
 -- ---- Start data: refused as 11
 
@@ -117,7 +119,8 @@ edition s key =
 -- ---- Alerts, options and sending: the state afterwards
 
 unfoldable pub withPosted : State → ℕ → List ℕ → State
-withPosted s action text = withWaiting (withStatus s (setBit (s .status) 1)) (s .waiting ++ ((record { action = action; text = text }) ∷ []))
+withPosted s action text =
+    withWaiting (withStatus s (setBit (s .status) 1)) (s .waiting ++ ((record { action = action; text = text }) ∷ []))
 
 -- tests 13, 9, 10
 unfoldable pub post : State → ℕ → List ℕ → Done

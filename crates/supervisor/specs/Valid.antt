@@ -117,4 +117,5 @@ pub record SettingValid (s : List ℕ) (at shortest longest : ℕ) : Type 0 wher
 -- what validSettings tests, as facts
 pub record SettingsValid (s : List ℕ) : Type 0 where
   pub long : Layout.settings-length ≤ length s
-  pub each : (key : ℕ) → Limits.SettingsKey key → SettingValid s (Layout.setting-offset key) (Limits.shortest-setting key) (Limits.longest-setting key)
+  pub each : (key : ℕ) → Limits.SettingsKey key
+      → SettingValid s (Layout.setting-offset key) (Limits.shortest-setting key) (Limits.longest-setting key)

@@ -20,7 +20,8 @@ pub enum Posted {
 
 // Posts an alert.
 pub fn post(registers: &mut [u8], action: u8, text: &[u8]) -> Posted
-    ensures { λ r. ⌜ registersOutcome (postReport r) (now (registers .exit)) ≡ postPromise (now (registers .entry)) action (now (text .entry)) ⌝ }
+    ensures { λ r. ⌜ registersOutcome (postReport r) (now (registers .exit))
+        ≡ postPromise (now (registers .entry)) action (now (text .entry)) ⌝ }
 {
     if !valid::registers_are_valid(registers) {
         return Posted::Refused;

@@ -6,7 +6,8 @@ ghost use mathlib.Core.Path.{_≡_};
 ghost use mathlib.Core.Bool.{_&&_};
 ghost use Prim.Native.Nat.{_<_};
 ghost use Rattle.supervisor.specs.Valid.{validFactory, validSettings};
-ghost use Rattle.supervisor.specs.Calls.{resultNumber, lookupReport, lookupResultPromise, lookupPromise, editionReport, editionPromise, editionNumber, locationOf, settingAt, sized, within};
+ghost use Rattle.supervisor.specs.Calls.{resultNumber, lookupReport, lookupResultPromise, lookupPromise, editionReport};
+ghost use Rattle.supervisor.specs.Calls.{editionPromise, editionNumber, locationOf, settingAt, sized, within};
 ghost use Rattle.octets.specs.Bytes.{run};
 
 pub enum Found {

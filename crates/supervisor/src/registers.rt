@@ -6,7 +6,8 @@ ghost use mathlib.Core.Path.{_≡_};
 ghost use Prim.Native.Nat.{_≤_, _<_};
 ghost use Rattle.supervisor.specs.Limits.{most-kept};
 ghost use Rattle.supervisor.specs.Layout.{panic-offset};
-ghost use Rattle.supervisor.specs.Calls.{signalReport, signalPromise, flagsReport, flagsPromise, recordOffset, recordReport, recordPromise, recordBytesPromise, keptCount};
+ghost use Rattle.supervisor.specs.Calls.{signalReport, signalPromise, flagsReport, flagsPromise, recordOffset, recordReport};
+ghost use Rattle.supervisor.specs.Calls.{recordPromise, recordBytesPromise, keptCount};
 
 pub enum SignalRead {
     Refused,

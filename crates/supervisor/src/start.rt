@@ -27,7 +27,10 @@ pub fn start(
     settings: &mut [u8],
     registers: &mut [u8],
 ) -> Started
-    ensures { λ r. ⌜ startOutcome r (parts (now (reader .exit)) (now (outbox .exit)) (now (factory .exit)) (now (settings .exit)) (now (registers .exit))) ≡ startPromise (now («data» .entry)) (parts (now (reader .entry)) (now (outbox .entry)) (now (factory .entry)) (now (settings .entry)) (now (registers .entry))) ⌝ }
+    ensures { λ r. ⌜ startOutcome r
+        (parts (now (reader .exit)) (now (outbox .exit)) (now (factory .exit)) (now (settings .exit)) (now (registers .exit)))
+        ≡ startPromise (now («data» .entry))
+        (parts (now (reader .entry)) (now (outbox .entry)) (now (factory .entry)) (now (settings .entry)) (now (registers .entry))) ⌝ }
 {
     if reader.len() < line::reader::STATE_LENGTH {
         return Started::Refused;

@@ -4,7 +4,9 @@ use crate::layout;
 ghost use mathlib.Core.Path.{_≡_};
 ghost use Prim.Native.Nat.{_<_};
 ghost use Rattle.supervisor.specs.Local.{optionsAllowed};
-ghost use Rattle.supervisor.specs.Valid.{goodItem, goodItems, goodStart, validOutbox, validFactory, validSetting, validValues, validSettings, validRecord, validText, validAlert, validAlerts, validRecordsAndAlerts, validRegisters};
+ghost use Rattle.supervisor.specs.Valid.{goodItem, goodItems, goodStart, validOutbox, validFactory, validSetting, validValues};
+ghost use Rattle.supervisor.specs.Valid.{validSettings, validRecord, validText, validAlert, validAlerts, validRecordsAndAlerts};
+ghost use Rattle.supervisor.specs.Valid.{validRegisters};
 ghost use Rattle.supervisor.specs.Limits.{setting-count};
 
 // Whether item i has a result of 0, 2 or 3 and at most 64 bytes of data.

@@ -9,10 +9,17 @@ use lib.ListN.{length}
 use Rattle.line.proofs.State.{valid-ready}
 use Rattle.supervisor.specs.Calls.{Parts}
 use Rattle.supervisor.proofs.ValidLaws.{outbox-valid, factory-valid, settings-valid, registers-valid}
-use Rattle.supervisor_claims.specs.ByPart.{Part, reader, outbox, factory, settings, registers, published, part, validPart, partsBy, withPart, everyPart, Every}
+use Rattle.supervisor_claims.specs.ByPart.{Part, reader, outbox, factory, settings, registers, published, part, validPart, partsBy}
+use Rattle.supervisor_claims.specs.ByPart.{withPart, everyPart, Every}
 
 pub every : {P : Part → Type 0} → ((i : Part) → P i) → Every P
-every f = record { reader = f Part.reader; outbox = f Part.outbox; factory = f Part.factory; settings = f Part.settings; registers = f Part.registers }
+every f = record {
+  reader = f Part.reader;
+  outbox = f Part.outbox;
+  factory = f Part.factory;
+  settings = f Part.settings;
+  registers = f Part.registers;
+}
 
 pub of : {P : Part → Type 0} → Every P → (i : Part) → P i
 of e Part.reader = e .reader
@@ -41,15 +48,26 @@ part-by f Part.settings = refl
 part-by f Part.registers = refl
 
 pub every-by : (f : Part → List ℕ) (P : Part → List ℕ → Type 0) → ((i : Part) → P i (f i)) → Every (λ i. P i (part (partsBy f) i))
-every-by f P h = record { reader = h Part.reader; outbox = h Part.outbox; factory = h Part.factory; settings = h Part.settings; registers = h Part.registers }
+every-by f P h = record {
+  reader = h Part.reader;
+  outbox = h Part.outbox;
+  factory = h Part.factory;
+  settings = h Part.settings;
+  registers = h Part.registers;
+}
 
 pub every-with : (P : Part → List ℕ → Type 0) (p : Parts) (i : Part) (s : List ℕ) → Every (λ j. P j (part p j)) → P i s
     → Every (λ j. P j (part (withPart p i s) j))
-every-with P p Part.reader s e h = record { reader = h; outbox = e .outbox; factory = e .factory; settings = e .settings; registers = e .registers }
-every-with P p Part.outbox s e h = record { reader = e .reader; outbox = h; factory = e .factory; settings = e .settings; registers = e .registers }
-every-with P p Part.factory s e h = record { reader = e .reader; outbox = e .outbox; factory = h; settings = e .settings; registers = e .registers }
-every-with P p Part.settings s e h = record { reader = e .reader; outbox = e .outbox; factory = e .factory; settings = h; registers = e .registers }
-every-with P p Part.registers s e h = record { reader = e .reader; outbox = e .outbox; factory = e .factory; settings = e .settings; registers = h }
+every-with P p Part.reader s e h =
+    record { reader = h; outbox = e .outbox; factory = e .factory; settings = e .settings; registers = e .registers }
+every-with P p Part.outbox s e h =
+    record { reader = e .reader; outbox = h; factory = e .factory; settings = e .settings; registers = e .registers }
+every-with P p Part.factory s e h =
+    record { reader = e .reader; outbox = e .outbox; factory = h; settings = e .settings; registers = e .registers }
+every-with P p Part.settings s e h =
+    record { reader = e .reader; outbox = e .outbox; factory = e .factory; settings = h; registers = e .registers }
+every-with P p Part.registers s e h =
+    record { reader = e .reader; outbox = e .outbox; factory = e .factory; settings = e .settings; registers = h }
 
 pub parts-same : (f g : Part → List ℕ) → ((i : Part) → f i ≡ g i) → partsBy f ≡ partsBy g
 parts-same f g h = rw (h Part.reader, h Part.outbox, h Part.factory, h Part.settings, h Part.registers)

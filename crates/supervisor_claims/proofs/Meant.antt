@@ -31,4 +31,5 @@ Reads (some r) bs none = ⊥
 Reads (some r) bs (some x) = (r .code ≡ x .code) × (r .whole ≡ x .whole) × (r .kept ≡ length (x .kept)) × (bs ≡ x .kept)
 
 abbrev pub RecordedAs : Calls.Parts → Kind → Option Recorded → Type 0
-RecordedAs p k x = (r : Option Calls.RecordRead) × (Calls.recordPromise (p .registers) k ≡ Calls.is r) × Reads r (Calls.recordBytesPromise (p .registers) k) x
+RecordedAs p k x = (r : Option Calls.RecordRead) × (Calls.recordPromise (p .registers) k ≡ Calls.is r)
+    × Reads r (Calls.recordBytesPromise (p .registers) k) x

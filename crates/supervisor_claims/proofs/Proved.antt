@@ -27,7 +27,8 @@ use Rattle.supervisor_claims.proofs.claims.WithdrawnKeys.{value-last-se
 use Rattle.supervisor_claims.proofs.claims.WithdrawnKeys.{set-answered, list-edition-answered}
 use Rattle.supervisor_claims.proofs.claims.WithdrawnKeys.{passphrase-unread, passphrase-unread-locally}
 use Rattle.supervisor_claims.proofs.claims.RetainedClaim.{retained-stays, reboot-forgets, power-off-forgets, fresh-alert}
-use Rattle.supervisor_claims.proofs.claims.AlertClaim.{local-keeps, failed-keeps, request-retains, retained-exactly, fresh-alert-answered, fresh-after-reboot}
+use Rattle.supervisor_claims.proofs.claims.AlertClaim.{local-keeps, failed-keeps, request-retains, retained-exactly}
+use Rattle.supervisor_claims.proofs.claims.AlertClaim.{fresh-alert-answered, fresh-after-reboot}
 use Rattle.supervisor_claims.proofs.claims.SavedClaim.{key-savable, save-writes, saved-restores, accepted-exact}
 use Rattle.supervisor_claims.proofs.claims.SavingRefusals.{save-refused-exactly, restore-refused-exactly, restore-fault}
 use Rattle.saving_claims.proofs.Item11.{saved-omits, other-key-31}

@@ -24,7 +24,8 @@ use Rattle.supervisor_claims.proofs.claims.TwoRunLaws.{Like, Room, Pair
 
 -- the same comes out, and what is left differs only in the passphrase
 abbrev Follow : List ℕ → List Made → State → State → Type 0
-Follow w ms s t = (outputsByFrames w s ms ≡ outputsByFrames w t ms) × (withoutPassphrase (leftByFrames w s ms) ≡ withoutPassphrase (leftByFrames w t ms))
+Follow w ms s t =
+    (outputsByFrames w s ms ≡ outputsByFrames w t ms) × (withoutPassphrase (leftByFrames w s ms) ≡ withoutPassphrase (leftByFrames w t ms))
 
 like-without : {s t : State} → Like s t → withoutPassphrase s ≡ withoutPassphrase t
 like-without {s} {t} l =
@@ -35,7 +36,8 @@ unfolding setsToCome outputsByFrames leftByFrames
 calls-follow [] w s t p = (refl, like-without (p .like))
 calls-follow (m ∷ ms) w s t p = by (startsAnew m) refl (calls-follow ms (receivedSince w m))
   where
-    by : (b : Bool) → startsAnew m ≡ b → ((x y : State) → Pair (setsToCome (receivedSince w m) ms) x y → Follow (receivedSince w m) ms x y) → Follow w (m ∷ ms) s t
+    by : (b : Bool) → startsAnew m ≡ b → ((x y : State) → Pair (setsToCome (receivedSince w m) ms) x y → Follow (receivedSince w m) ms x y)
+        → Follow w (m ∷ ms) s t
     by true e rest =
         let g = anew-same w s t m e in
         (rw g, ap (λ (x : Means). withoutPassphrase (leftByFrames (receivedSince w m) (x .state) ms)) g)
@@ -70,9 +72,15 @@ two-states r s e ms t h k =
     let a = follows p (run-sound r) ms t in
     let b = follows q (run-sound s) ms t in
     let c = frames-follow ms w (view p) since in
-    let d = frames-follow ms w (view q) (record { received = sym (ap (λ (x : State). x .received) e) ∙ since .received; nonzero = since .nonzero }) in
+    let d =
+    frames-follow ms w (view q)
+    (record { received = sym (ap (λ (x : State). x .received) e) ∙ since .received; nonzero = since .nonzero }) in
     let f = calls-follow ms w (view p) (view q)
-    (record { like = without-like (view p) (view q) e; left = view-room (setsToCome w ms) p (omega arith); right = view-room (setsToCome w ms) q (omega arith) }) in
+    (record {
+      like = without-like (view p) (view q) e;
+      left = view-room (setsToCome w ms) p (omega arith);
+      right = view-room (setsToCome w ms) q (omega arith);
+    }) in
     (rw (a .0, b .0, ← c .0, ← d .0) (f .0), rw (a .1, b .1, ← c .1, ← d .1) (f .1))
 
 -- parts that are the same but for the passphrase's record hold such states

@@ -1,4 +1,5 @@
--- Alerts: when a reply is retained, by the requests received; what a reboot, a failed frame and a local call leave of alerts; an alert request and its reply.
+-- Alerts: when a reply is retained, by the requests received; what a reboot, a failed frame and a local call leave of alerts;
+-- an alert request and its reply.
 -- Assumes nothing: these are definitions.
 use mathlib.Core.Path.{_≡_}
 use mathlib.Core.Bool.{Bool, true, false, cond}
@@ -35,7 +36,9 @@ retains (some r) = true
 
 -- after a valid request: none after a reboot or power-off, one after an alert request, else as before
 unfoldable pub retainsAfter : Bool → Message → Bool
-retainsAfter before m = cond (eqb (m .command) command-reboot) false (cond (eqb (m .command) command-power-off) false (cond (eqb (m .command) command-alert) true before))
+retainsAfter before m =
+    cond (eqb (m .command) command-reboot) false
+    (cond (eqb (m .command) command-power-off) false (cond (eqb (m .command) command-alert) true before))
 
 -- after valid requests, in order
 unfoldable pub retainsAll : Bool → List Message → Bool

@@ -1,4 +1,5 @@
--- Demand 1 of the supervisor's calls: any bytes, any arguments, any loans; each number of the table exactly where it is due, and everything lent as it was.
+-- Demand 1 of the supervisor's calls: any bytes, any arguments, any loans;
+-- each number of the table exactly where it is due, and everything lent as it was.
 -- Assumes nothing: these are definitions and statements.
 use mathlib.Core.Path.{_≡_}
 use mathlib.Core.Bool.{Bool, true, false, not}
@@ -96,7 +97,8 @@ abbrev pub ReaderNo12 : Type 0
 ReaderNo12 = AfterReaderCalls (λ p q. Never12 q)
 
 abbrev pub PartsFit : Type 0
-PartsFit = LineReader.reader-length + Layout.outbox-length + Layout.factory-length + Layout.settings-length + Layout.registers-length ≤ 65536
+PartsFit =
+    LineReader.reader-length + Layout.outbox-length + Layout.factory-length + Layout.settings-length + Layout.registers-length ≤ 65536
 
 pub record SupervisorNumberDue : Type 0 where
   -- Every call on any parts whatever: 12 exactly where a part that it takes is not as 12 requires.

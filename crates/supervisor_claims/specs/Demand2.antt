@@ -27,9 +27,11 @@ use Rattle.supervisor_claims.specs.Histories
 use Rattle.supervisor_claims.specs.Histories.{Typed, Answer, refused, done, found, did, upTo, Lent, enough, Made, made}
 use Rattle.supervisor_claims.specs.Histories.{Output, outputs, left, outputsMeant, leftMeant, AllTyped}
 use Rattle.supervisor_claims.specs.Histories.{receiveWith, locally, FromStart, AfterCalls}
-use Rattle.supervisor_claims.specs.FrameHistory.{receivedSinceAll, frameCarried, progressOf, afterAllFrames, outputsByFrames, leftByFrames, carriedFrames, Replied, OnRequest}
+use Rattle.supervisor_claims.specs.FrameHistory.{receivedSinceAll, frameCarried, progressOf, afterAllFrames, outputsByFrames}
+use Rattle.supervisor_claims.specs.FrameHistory.{leftByFrames, carriedFrames, Replied, OnRequest}
 use Rattle.supervisor_claims.specs.FrameHistory.{OnFrame, DoneLeaving, answeredWith}
-use Rattle.supervisor_claims.specs.LastSet.{successful, setAfter, origin, originBehind, setSince, Has, fittedOf, lookupOf, lookupReply, ReadBack}
+use Rattle.supervisor_claims.specs.LastSet.{successful, setAfter, origin, originBehind, setSince, Has, fittedOf, lookupOf}
+use Rattle.supervisor_claims.specs.LastSet.{lookupReply, ReadBack}
 use Rattle.supervisor_claims.specs.Replies.{Cycle, Ample, byteByByte, streamOf, takenBytes, replies}
 
 -- ---- State and replies are those got by carrying out the valid requests, once each and in order, with the local calls where they fell
@@ -59,7 +61,8 @@ Starts p t (Local.refused n) = t ≡ record { refusal = some n; parts = p }
 Starts p t (Local.left s) = (t .refusal ≡ none) × (view (t .parts) ≡ s) × Valid (t .parts)
 
 abbrev pub StartMeant : Type 0
-StartMeant = (d : List ℕ) → length d ≡ Layout.start-length → (p : Parts) → Calls.longEnough p ≡ true → Starts p (Calls.startPromise d p) (Local.start (factoryOf d))
+StartMeant = (d : List ℕ) → length d ≡ Layout.start-length → (p : Parts) → Calls.longEnough p ≡ true
+    → Starts p (Calls.startPromise d p) (Local.start (factoryOf d))
 
 abbrev pub EachOnce : Type 0
 EachOnce = (ms : List Made) → CarriedOnce ms
@@ -72,17 +75,20 @@ abbrev pub NoZeros : List ℕ → Type 0
 NoZeros = Each (λ b. 1 ≤ b)
 
 abbrev pub FramesInOrderBehind : Type 0
-FramesInOrderBehind = (image : List ℕ) (s : State) (p bs : List ℕ) → NoZeros p → s .received ≡ progressOf p → receiveStream image s bs ≡ afterAllFrames image s (p ++ bs)
+FramesInOrderBehind = (image : List ℕ) (s : State) (p bs : List ℕ) → NoZeros p → s .received ≡ progressOf p
+    → receiveStream image s bs ≡ afterAllFrames image s (p ++ bs)
 
 abbrev pub ReceivedSince : Type 0
-ReceivedSince = (f : Factory) (ms : List Made) → let p = split (receivedSinceAll [] ms) .rest in (leftMeant (fresh f) ms .received ≡ progressOf p) × NoZeros p
+ReceivedSince = (f : Factory) (ms : List Made)
+    → let p = split (receivedSinceAll [] ms) .rest in (leftMeant (fresh f) ms .received ≡ progressOf p) × NoZeros p
 
 abbrev pub FramesInOrderAfter : Type 0
 FramesInOrderAfter = (f : Factory) (ms : List Made) (image bs : List ℕ)
     → let s = leftMeant (fresh f) ms in receiveStream image s bs ≡ afterAllFrames image s (split (receivedSinceAll [] ms) .rest ++ bs)
 
 abbrev pub RequestCarried : Type 0
-RequestCarried = (image : List ℕ) (s : State) (b : ℕ) (bs : List ℕ) (m : Message) → verdict (b ∷ bs) ≡ good m → let c = carryOut image s m in
+RequestCarried = (image : List ℕ) (s : State) (b : ℕ) (bs : List ℕ) (m : Message) → verdict (b ∷ bs) ≡ good m
+    → let c = carryOut image s m in
     frameCarried image s (b ∷ bs) ≡ withPending (c .state) (owed (s .terminator-owed) ++ replyFrame (replyOf (m .sequence) (c .reply)))
 
 abbrev pub RepliesInOrder : Type 0
@@ -95,7 +101,8 @@ ValueLastSet ms q = (k : ℕ) → SettingsKey k → Local.entryOf (view q) k ≡
 -- a lookup of key k over the wire is answered with what the key has by the requests before it
 abbrev pub LookupAnswered : List Made → Parts → ℕ → Type 0
 LookupAnswered ms q k = (version n most : ℕ) → most < 65536
-    → OnRequest ms (lookupOf version n k most) (λ bs c. Replied q (made q c) (lookupReply version n most (setSince k (originBehind k ms bs))))
+    → OnRequest ms (lookupOf version n k most)
+    (λ bs c. Replied q (made q c) (lookupReply version n most (setSince k (originBehind k ms bs))))
 
 abbrev pub LastSet : List Made → Parts → Type 0
 LastSet ms q = (k : ℕ) → ReadBack k → LookupAnswered ms q k
@@ -104,8 +111,8 @@ abbrev pub WithdrawnListAnswered : List Made → Parts → Type 0
 WithdrawnListAnswered ms q = LookupAnswered ms q 5
 
 abbrev pub LookupLastSet : List Made → Parts → Type 0
-LookupLastSet ms q = (k : ℕ) → ReadBack k → (most : ℕ) → most < 65536 → (j : Lent) → enough (Histories.local (Histories.lookup k most)) j ≡ true
-    → let r = made q (locally j (Histories.lookup k most)) in
+LookupLastSet ms q = (k : ℕ) → ReadBack k → (most : ℕ) → most < 65536 → (j : Lent)
+    → enough (Histories.local (Histories.lookup k most)) j ≡ true → let r = made q (locally j (Histories.lookup k most)) in
     let f = fittedOf most (setSince k (origin k ms)) in
     (r .answer ≡ found (f .result) (length (f .value))) × (r .out ≡ f .value)
 
@@ -114,15 +121,17 @@ SetSuccessful = (z : Settings) (v : List ℕ) (k : ℕ) → SettingsKey k → (x
     → eqb (storeValue z k v .result) 0 ≡ (not (wrongValueLength k (length v)) && not (eqb (x .edition) last-edition))
 
 abbrev pub SuccessfulExactly : Type 0
-SuccessfulExactly = (k : ℕ) → SettingsKey k → (x : Setting) → x .edition ≤ last-edition → (ms : List Message) (z : Settings) → Has z k (setAfter k x ms)
-    → (m : Message) (v : List ℕ) → m .command ≡ command-key-set → m .payload ≡ k ∷ v
+SuccessfulExactly = (k : ℕ) → SettingsKey k → (x : Setting) → x .edition ≤ last-edition → (ms : List Message) (z : Settings)
+    → Has z k (setAfter k x ms) → (m : Message) (v : List ℕ) → m .command ≡ command-key-set → m .payload ≡ k ∷ v
     → successful (x .edition) k (ms ++ (m ∷ [])) ≡ successful (x .edition) k ms ++ cond (eqb (storeValue z k v .result) 0) (v ∷ []) []
 
 pub record RequestsCarriedOut : Type 0 where
-  -- Demand 2 in one statement, over any calls, whatever each is lent. The bytes received since the last accepted start are joined (`receivedSinceAll`).
-  -- A receive or step takes, in order, those frames of the joined bytes that are not empty and whose 00 it brings. It carries out each valid request,
-  -- with the image lent to it, and answers every other with its numbered failure. A local call does what document 01 has of it. A call that is lent too
-  -- little is refused as 12 and does nothing. Every answer, all that is written outside the state, and the state that is left are those got so.
+  -- Demand 2 in one statement, over any calls, whatever each is lent.
+  -- The bytes received since the last accepted start are joined (`receivedSinceAll`).
+  -- A receive or step takes, in order, those frames of the joined bytes that are not empty and whose 00 it brings. It carries out each
+  -- valid request, with the image lent to it, and answers every other with its numbered failure. A local call does what document 01 has of
+  -- it. A call that is lent too little is refused as 12 and does nothing. Every answer, all that is written outside the
+  -- state, and the state that is left are those got so.
   -- The frames so taken since the last accepted start are all of them, each exactly once and in order.
   pub history-frames : HistoryFrames
   -- the same byte by byte: every answer, all that is written outside the state, and the state that is left are document 01's
@@ -143,8 +152,8 @@ pub record RequestsCarriedOut : Type 0 where
   pub request-carried : RequestCarried
   -- replies: with everything taken after each byte, the bytes taken are the frames of the replies to the non-empty frames, in order
   pub replies-in-order : RepliesInOrder
-  -- A settings key starts from the last accepted start or, of a saved key, from a later restore. The successful sets since then count its edition on,
-  -- and its value is that of the last of them.
+  -- A settings key starts from the last accepted start or, of a saved key, from a later restore. The successful sets since then count its
+  -- edition on, and its value is that of the last of them.
   pub value-last-set : AfterCalls ValueLastSet
   -- a lookup of any settings key but the passphrase is answered with that, in either version; all requests before its 00 count
   pub last-set : AfterCalls LastSet
@@ -176,7 +185,8 @@ abbrev pub EmptyFrameIgnored : List Made → Parts → Type 0
 EmptyFrameIgnored ms q = OnFrame ms [] (λ ahead c. DoneLeaving (made q c) (view (made q ahead .parts)))
 
 abbrev pub AheadOfZero : List Made → Parts → Type 0
-AheadOfZero ms q = (j : Lent) (image bs : List ℕ) → let c = receiveWith image j bs in Typed (c .call) → enough (c .call) j ≡ true → NoZeros bs
+AheadOfZero ms q = (j : Lent) (image bs : List ℕ)
+    → let c = receiveWith image j bs in Typed (c .call) → enough (c .call) j ≡ true → NoZeros bs
     → DoneLeaving (made q c) (withReceived (view q) (progressOf (split (receivedSinceAll [] ms) .rest ++ bs)))
 
 pub record NumberedFailures : Type 0 where
@@ -226,7 +236,8 @@ StepReceives = (image : List ℕ) (p : Parts) (piece : List ℕ)
 
 abbrev pub StepThenReceive : Type 0
 StepThenReceive = (image : List ℕ) (p : Parts) (piece : List ℕ) → Bytes p → Each Byte image → Each Byte piece
-    → did (did p (Histories.step image piece) .parts) (Histories.receive image (drop (upTo piece) piece)) ≡ did p (Histories.receive image piece)
+    → did (did p (Histories.step image piece) .parts) (Histories.receive image (drop (upTo piece) piece))
+    ≡ did p (Histories.receive image piece)
 
 -- calls of step, each on what the one before left of the piece
 unfoldable pub stepCalls : ℕ → List ℕ → Parts → List ℕ → Parts
@@ -238,7 +249,8 @@ StepsReceive = (n : ℕ) (image : List ℕ) (p : Parts) (piece : List ℕ) → S
     → stepCalls n image p piece ≡ did p (Histories.receive image piece) .parts
 
 pub record Cuts : Type 0 where
-  -- the same bytes in any two lists of pieces, received with one image and one loan and nothing in between, on any parts: the same bytes in every part
+  -- the same bytes in any two lists of pieces, received with one image and one loan and nothing in
+  -- between, on any parts: the same bytes in every part
   pub cut-any : CutAny
   -- a piece in two calls of receive, on any parts: the same answer, and the same bytes in every part
   pub cut : Cut

@@ -1,4 +1,5 @@
--- Calls of a supervisor by the frames of the received bytes: each is carried out or answered at the call that brings its 00; a request and its reply.
+-- Calls of a supervisor by the frames of the received bytes:
+-- each is carried out or answered at the call that brings its 00; a request and its reply.
 -- Assumes nothing: these are definitions.
 use mathlib.Core.Path.{_≡_}
 use mathlib.Core.Bool.{Bool, true, false, cond, not, _&&_}
@@ -108,7 +109,8 @@ carriedMade w s m = cond (enough (m .call) (m .lent)) (carriedCall w s (m .call)
 -- each call's answer and what it wrote in the caller's room or handed out
 unfoldable pub outputsByFrames : List ℕ → State → List Made → List Output
 outputsByFrames w s [] = []
-outputsByFrames w s (m ∷ ms) = let c = carriedMade w s m in (record { answer = c .answer; out = c .out }) ∷ outputsByFrames (receivedSince w m) (c .state) ms
+outputsByFrames w s (m ∷ ms) =
+    let c = carriedMade w s m in (record { answer = c .answer; out = c .out }) ∷ outputsByFrames (receivedSince w m) (c .state) ms
 
 -- the state that they leave
 unfoldable pub leftByFrames : List ℕ → State → List Made → State
@@ -142,8 +144,10 @@ answeredWith s r = withPending (withReceived s (some [])) (owed (s .terminator-o
 abbrev pub Replied : Parts → Did → List ℕ → Type 0
 Replied q r reply = (r .answer ≡ done) × (view (r .parts) .pending ≡ owed (view q .terminator-owed) ++ reply)
 
--- What holds where the request m comes behind calls: the bytes bs and a 00 are received, and the frame that this 00 closes is m. A receive whose piece ends
--- with that 00 stands for any. Cutting the stream elsewhere changes nothing (`cut-any`); a step is a receive up to the first 00 (`step-receives`).
+-- What holds where the request m comes behind calls: the bytes bs and a 00 are received, and the frame that this 00 closes is m. A receive
+-- whose piece ends with that 00 stands for any. Cutting the stream elsewhere changes nothing (`cut-any`); a step is
+-- a receive up to the first 00 (`step-receives`).
 abbrev pub OnRequest : List Made → Message → (List ℕ → Made → Type 0) → Type 0
-OnRequest ms m P = (j : Lent) (image bs : List ℕ) → let c = receiveWith image j (bs ++ (0 ∷ [])) in Typed (c .call) → enough (c .call) j ≡ true
+OnRequest ms m P = (j : Lent) (image bs : List ℕ)
+    → let c = receiveWith image j (bs ++ (0 ∷ [])) in Typed (c .call) → enough (c .call) j ≡ true
     → verdict (split (receivedSinceAll [] ms ++ bs) .rest) ≡ good m → P bs c

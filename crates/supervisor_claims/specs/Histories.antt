@@ -1,4 +1,5 @@
--- Calls of a supervisor, one after the other: what each answers and leaves by the promises, and what document 01 has of it; calls from a fresh start.
+-- Calls of a supervisor, one after the other:
+-- what each answers and leaves by the promises, and what document 01 has of it; calls from a fresh start.
 -- Assumes nothing: these are definitions.
 use mathlib.Core.Path.{_≡_}
 use mathlib.Core.Bool.{Bool, true, cond, not, _||_}
@@ -149,18 +150,23 @@ unfoldable pub did : Parts → Call → Did
 did p (start d) = let t = Calls.startPromise d p in didBy (refusal (t .refusal)) [] (t .parts)
 did p (receive image piece) = let r = Receive.receivePromise image p piece in didBy (refusal (r .refusal)) [] (r .parts)
 did p (step image piece) = let r = Receive.stepPromise image p piece in didBy (stepAnswer (r .used) (r .ended)) [] (r .parts)
-did p (local (take room)) = let t = Calls.takePromise (p .outbox) room in didBy (takeAnswer (t .report)) (t .room) (withOutbox p (t .outbox))
-did p (local (post action text)) = let c = Calls.postPromise (p .registers) action text in didBy (refusal (c .refusal)) [] (withRegisters p (c .registers))
-did p (local (setOptions options)) = let c = Calls.optionsPromise (p .registers) options in didBy (refusal (c .refusal)) [] (withRegisters p (c .registers))
+did p (local (take room)) =
+    let t = Calls.takePromise (p .outbox) room in didBy (takeAnswer (t .report)) (t .room) (withOutbox p (t .outbox))
+did p (local (post action text)) =
+    let c = Calls.postPromise (p .registers) action text in didBy (refusal (c .refusal)) [] (withRegisters p (c .registers))
+did p (local (setOptions options)) =
+    let c = Calls.optionsPromise (p .registers) options in didBy (refusal (c .refusal)) [] (withRegisters p (c .registers))
 did p (local (lookup key most)) =
-    didBy (lookupAnswer (Calls.lookupResultPromise (p .factory) (p .settings) key most)) (Calls.lookupPromise (p .factory) (p .settings) key most) p
+    didBy (lookupAnswer (Calls.lookupResultPromise (p .factory) (p .settings) key most))
+    (Calls.lookupPromise (p .factory) (p .settings) key most) p
 did p (local (edition key)) = didBy (editionAnswer (Calls.editionPromise (p .factory) (p .settings) key)) [] p
 did p (local signal) = didBy (registerAnswer asserted (Calls.signalPromise (p .registers))) [] p
 did p (local flags) = didBy (registerAnswer flagsAsked (Calls.flagsPromise (p .registers))) [] p
 did p (local (save room)) = let t = SavingCalls.savePromise (p .settings) room in didBy (saveAnswer (t .report)) (t .room) p
 did p (local (restore image)) =
     let t = SavingCalls.restorePromise (p .settings) image in didBy (restoreAnswer (t .report)) [] (withSettingsPart p (t .settings))
-did p (local (readRecord k)) = didBy (registerAnswer recorded (Calls.recordPromise (p .registers) k)) (Calls.recordBytesPromise (p .registers) k) p
+did p (local (readRecord k)) =
+    didBy (registerAnswer recorded (Calls.recordPromise (p .registers) k)) (Calls.recordBytesPromise (p .registers) k) p
 
 -- ---- By document 01
 
@@ -189,7 +195,8 @@ endedMeant (some v) = Receive.endedByVerdict v
 -- how the frame ends that began with these bytes
 unfoldable pub endedInPiece : Option (List ℕ) → List ℕ → Ended
 endedInPiece received [] = Ended.more
-endedInPiece received (b ∷ bs) = cond (eqb b 0) (endedMeant (Requests.verdictSince received)) (endedInPiece (Requests.moreReceived received b) bs)
+endedInPiece received (b ∷ bs) =
+    cond (eqb b 0) (endedMeant (Requests.verdictSince received)) (endedInPiece (Requests.moreReceived received b) bs)
 
 abbrev pub recordKept : State → Kind → Option Recorded
 recordKept s kind.BootFailure = s .boot-failure

@@ -1,4 +1,5 @@
--- Document 02's item 11, saving the settings: over the supervisor's parts, what was saved restores, and an accepted image is the saved form of what it leaves.
+-- Document 02's item 11, saving the settings:
+-- over the supervisor's parts, what was saved restores, and an accepted image is the saved form of what it leaves.
 -- Assumes nothing: these are definitions and statements.
 use mathlib.Core.Path.{_≡_}
 use mathlib.Core.Bool.{true, not}
@@ -29,7 +30,8 @@ abbrev pub ImageMeant : Type 0
 ImageMeant = (s : List ℕ) → SavingCalls.imageBytes s ≡ saved (settingsOf s)
 
 abbrev pub GoodMeant : Type 0
-GoodMeant = (s : List ℕ) → SettingsValid s → (image : List ℕ) → Each Byte image → (es : List SavedEntry) → Saving.readImage image ≡ Saving.good es
+GoodMeant = (s : List ℕ) → SettingsValid s → (image : List ℕ) → Each Byte image → (es : List SavedEntry)
+    → Saving.readImage image ≡ Saving.good es
     → settingsOf (SavingCalls.putEntries es (SavingCalls.cleared saved-count s)) ≡ Saving.restoredSettings es (settingsOf s)
 
 -- a setting without a value has edition 0; one with a value has one that is not too long, and an edition of 32 bits
@@ -44,13 +46,16 @@ abbrev pub savedImageOf : Parts → List ℕ
 savedImageOf q = saved (view q .settings)
 
 abbrev pub SaveWrites : List Made → Parts → Type 0
-SaveWrites ms q = (j : Lent) (room : List ℕ) → Each Byte room → enough (Histories.local (Histories.save room)) j ≡ true → length (savedImageOf q) ≤ length room
-    → let r = made q (locally j (Histories.save room)) in (r .answer ≡ written (length (savedImageOf q))) × (r .out ≡ overlay 0 (savedImageOf q) room)
+SaveWrites ms q = (j : Lent) (room : List ℕ) → Each Byte room → enough (Histories.local (Histories.save room)) j ≡ true
+    → length (savedImageOf q) ≤ length room
+    → let r = made q (locally j (Histories.save room)) in (r .answer
+    ≡ written (length (savedImageOf q))) × (r .out ≡ overlay 0 (savedImageOf q) room)
 
 abbrev pub SavedRestores : List Made → Parts → Type 0
 SavedRestores ms p = (q : Parts) → Sound q → (j : Lent) → enough (Histories.local (Histories.restore (savedImageOf p))) j ≡ true
     → let r = made q (locally j (Histories.restore (savedImageOf p))) in
-    (r .answer ≡ done) × (view (r .parts) ≡ withSettings (view q) (take saved-count (view p .settings) ++ drop saved-count (view q .settings)))
+    (r .answer ≡ done)
+    × (view (r .parts) ≡ withSettings (view q) (take saved-count (view p .settings) ++ drop saved-count (view q .settings)))
 
 abbrev pub AcceptedExact : Type 0
 AcceptedExact = (q : Parts) → Sound q → (j : Lent) (image : List ℕ) → Each Byte image

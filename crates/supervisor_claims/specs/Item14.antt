@@ -15,7 +15,8 @@ use Rattle.supervisor_claims.specs.Histories.{found, foundEdition, Lent,
 use Rattle.supervisor_claims.specs.Histories.{outputs, left, AllTyped, locally, AfterCalls}
 use Rattle.supervisor_claims.specs.FrameHistory.{Replied, OnRequest}
 use Rattle.supervisor_claims.specs.LastSet.{lookupOf, SetAnswered}
-use Rattle.supervisor_claims.specs.TwoRuns.{Run, leftByRun, receivedInRun, SameButPassphrase, withoutPassphrase, passphraseEdition, setsToCome}
+use Rattle.supervisor_claims.specs.TwoRuns.{Run, leftByRun, receivedInRun, SameButPassphrase, withoutPassphrase, passphraseEdition}
+use Rattle.supervisor_claims.specs.TwoRuns.{setsToCome}
 use Rattle.saving_claims.specs.Item11.{SavedOmits, OtherKey31}
 use Rattle.supervisor_claims.specs.Item4.{ValueLengths}
 use Rattle.supervisor_claims.specs.Item5.{StoresNothing}
@@ -30,13 +31,15 @@ PassphraseUnread ms q = (version n most : ℕ) → most < 65536
     → OnRequest ms (lookupOf version n Limits.passphrase-key most) (λ bs c. Replied q (made q c) (passphraseReply version n))
 
 abbrev pub PassphraseUnreadLocally : List Made → Parts → Type 0
-PassphraseUnreadLocally ms q = (most : ℕ) → most < 65536 → (j : Lent) → enough (Histories.local (Histories.lookup Limits.passphrase-key most)) j ≡ true
+PassphraseUnreadLocally ms q = (most : ℕ) → most < 65536 → (j : Lent)
+    → enough (Histories.local (Histories.lookup Limits.passphrase-key most)) j ≡ true
     → let r = made q (locally j (Histories.lookup Limits.passphrase-key most)) in
     let f = made q (locally j (Histories.edition Limits.passphrase-key)) in
     (r .answer ≡ found 4 0) × (r .out ≡ []) × (f .answer ≡ foundEdition 4 0)
 
 abbrev pub TwoRuns : Type 0
-TwoRuns = (r s : Run) → SameButPassphrase (leftByRun r) (leftByRun s) → (ms : List Made) → AllTyped ms → let n = setsToCome (receivedInRun r) ms in
+TwoRuns = (r s : Run) → SameButPassphrase (leftByRun r) (leftByRun s) → (ms : List Made) → AllTyped ms
+    → let n = setsToCome (receivedInRun r) ms in
     passphraseEdition (leftByRun r) + n < Limits.last-edition → passphraseEdition (leftByRun s) + n < Limits.last-edition
     → outputs (leftByRun r) ms ≡ outputs (leftByRun s) ms
 

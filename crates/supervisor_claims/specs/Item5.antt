@@ -1,4 +1,5 @@
--- Document 02's item 5: every stored setting carries an edition that counts its successful sets since start, and a version 2 lookup hands it out.
+-- Document 02's item 5: every stored setting carries an edition that counts its successful sets
+-- since start, and a version 2 lookup hands it out.
 -- Assumes nothing: these are definitions and statements.
 use mathlib.Core.Path.{_≡_}
 use mathlib.Core.List.{List, [], _∷_, _++_}
@@ -27,10 +28,12 @@ use Rattle.supervisor_claims.specs.Demand2.{ValueLastSet, SuccessfulExac
 
 -- the reply in version 2 that hands out an edition and a value
 unfoldable pub editionReply : ℕ → ℕ → List ℕ → List ℕ
-editionReply n edition v = frame (record { version = second-version; sequence = topSet n; command = reply-key-lookup; payload = 0 ∷ (bytes 4 edition ++ v) })
+editionReply n edition v =
+    frame (record { version = second-version; sequence = topSet n; command = reply-key-lookup; payload = 0 ∷ (bytes 4 edition ++ v) })
 
 abbrev pub ListEditionAnswered : List Made → Parts → Type 0
-ListEditionAnswered ms q = (n most : ℕ) → most < 65536 → OnRequest ms (lookupOf second-version n 5 most) (λ bs c. let x = originBehind 5 ms bs in
+ListEditionAnswered ms q = (n most : ℕ) → most < 65536
+    → OnRequest ms (lookupOf second-version n 5 most) (λ bs c. let x = originBehind 5 ms bs in
     (vs : List (List ℕ)) (v : List ℕ) → successful (x .setting .edition) 5 (x .requests) ≡ vs ++ (v ∷ []) → length v ≤ most
     → Replied q (made q c) (editionReply n (x .setting .edition + (length vs + 1)) v))
 
@@ -64,8 +67,8 @@ pub record SupervisorItem5 : Type 0 where
   pub value-last-set : AfterCalls ValueLastSet
   -- which sets are successful: those that answer 0
   pub successful-exactly : SuccessfulExactly
-  -- A version 2 lookup of the withdrawn-key list, where v is the value of the last of these sets and the others are vs: the edition before the value is
-  -- the number of these sets, on top of the restored edition. The value is v.
+  -- A version 2 lookup of the withdrawn-key list, where v is the value of the last of these sets and the others are vs: the edition before
+  -- the value is the number of these sets, on top of the restored edition. The value is v.
   pub list-edition-answered : AfterCalls ListEditionAnswered
   -- a set at edition 4,294,967,295 answers 4, in both versions, where results 1 to 3 don't apply
   pub set-answered : AfterCalls SetAnswered

@@ -1,4 +1,5 @@
--- The successful sets of a settings key among the requests of received bytes: how many, and the last; and a lookup of that key with its reply.
+-- The successful sets of a settings key among the requests of received bytes: how many, and the last;
+-- and a lookup of that key with its reply.
 -- Assumes nothing: these are definitions.
 use mathlib.Core.Path.{_≡_}
 use mathlib.Core.Bool.{cond, _||_}
@@ -24,7 +25,8 @@ use Rattle.saving.specs.Saving.{SavedEntry}
 use Rattle.responder.specs.Requests.{Verdict, failure, good, verdict, wrongValueLength, editionBytes}
 use Rattle.supervisor_claims.specs.Histories
 use Rattle.supervisor_claims.specs.Histories.{LocalCall, Call, Made, enough, made}
-use Rattle.supervisor_claims.specs.FrameHistory.{pieceRead, isAcceptedStart, receivedSince, receivedSinceAll, framesClosedBy, Replied, OnRequest}
+use Rattle.supervisor_claims.specs.FrameHistory.{pieceRead, isAcceptedStart, receivedSince, receivedSinceAll, framesClosedBy, Replied}
+use Rattle.supervisor_claims.specs.FrameHistory.{OnRequest}
 
 -- ---- Requests
 
@@ -71,7 +73,8 @@ unfoldable pub lastOr : Option (List ℕ) → List (List ℕ) → Option (List �
 lastOr before [] = before
 lastOr before (v ∷ vs) = lastOr (some v) vs
 
--- what a settings key has that had x ahead of these requests: the edition counts the successful sets, and the value is that of the last of them
+-- what a settings key has that had x ahead of these requests:
+-- the edition counts the successful sets, and the value is that of the last of them
 unfoldable pub setAfter : ℕ → Setting → List Message → Setting
 setAfter k x ms =
     let vs = successful (x .edition) k ms in
@@ -159,7 +162,12 @@ lookupOf version n k most = record { version = version; sequence = n; command = 
 unfoldable pub lookupReply : ℕ → ℕ → ℕ → Setting → List ℕ
 lookupReply version n most x =
     let f = fittedOf most x in
-    frame (record { version = version; sequence = topSet n; command = reply-key-lookup; payload = f .result ∷ (editionBytes version f ++ f .value) })
+    frame (record {
+      version = version;
+      sequence = topSet n;
+      command = reply-key-lookup;
+      payload = f .result ∷ (editionBytes version f ++ f .value);
+    })
 
 -- a settings key that is read back
 pub record ReadBack (k : ℕ) : Type 0 where

@@ -1,4 +1,5 @@
--- The replies that frames earn, in order; and a stream received byte by byte, everything taken after each byte, in any rooms, with the bytes taken.
+-- The replies that frames earn, in order;
+-- and a stream received byte by byte, everything taken after each byte, in any rooms, with the bytes taken.
 -- Assumes nothing: these are definitions.
 use mathlib.Core.Path.{_≡_}
 use mathlib.Core.Bool.{true}
@@ -12,7 +13,8 @@ use Rattle.supervisor.specs.Limits.{most-pending}
 use Rattle.supervisor.specs.State.{State}
 use Rattle.responder.specs.Requests.{Verdict, failure, good, Reply, verdict, carryOut, replyFrame, replyOf, failedOf}
 use Rattle.supervisor_claims.specs.Histories
-use Rattle.supervisor_claims.specs.Histories.{Answer, refused, done, stepped, moved, found, foundEdition, written, faulty, asserted, asked, recorded}
+use Rattle.supervisor_claims.specs.Histories.{Answer, refused, done, stepped, moved, found, foundEdition, written, faulty, asserted}
+use Rattle.supervisor_claims.specs.Histories.{asked, recorded}
 use Rattle.supervisor_claims.specs.Histories.{Lent, Made, enough, Output, receiveWith, locally}
 
 -- ---- Replies

@@ -40,7 +40,8 @@ record-begin = Layout.setting-offset Limits.passphrase-key
 abbrev pub record-end : ℕ
 record-end = record-begin + (Layout.setting-value-offset + Limits.longest-setting Limits.passphrase-key)
 
--- parts with the same bytes, but for those of the passphrase's record in the settings store: presence, edition, length and all bytes that a value can have
+-- parts with the same bytes, but for those of the passphrase's record in the settings store:
+-- presence, edition, length and all bytes that a value can have
 pub record SameButPassphrase (p q : Parts) : Type 0 where
   pub reader : p .reader ≡ q .reader
   pub outbox : p .outbox ≡ q .outbox
@@ -56,9 +57,13 @@ withoutPassphrase s = withSettings s (withSetting (s .settings) Limits.passphras
 abbrev pub passphraseEdition : Parts → ℕ
 passphraseEdition p = Layout.settingEdition (p .settings) record-begin
 
--- The sets to come: among the valid requests in the frames whose 00 these calls bring behind the received bytes w, the sets of the passphrase with a value of
--- 8 to 63 bytes. No other request can raise its edition. An accepted start puts it back to 0, in both runs, so that no set behind one counts.
+-- The sets to come: among the valid requests in the frames whose 00 these calls bring behind the received
+-- bytes w, the sets of the passphrase with a value of
+-- 8 to 63 bytes. No other request can raise its edition.
+-- An accepted start puts it back to 0, in both runs, so that no set behind one counts.
 -- The first run's received bytes serve for both: the two readers' parts are equal.
 unfoldable pub setsToCome : List ℕ → List Made → ℕ
 setsToCome w [] = 0
-setsToCome w (m ∷ ms) = cond (startsAnew m) 0 (length (setsOf Limits.passphrase-key (requestsIn (framesClosedBy w (bytesReceivedBy m)))) + setsToCome (receivedSince w m) ms)
+setsToCome w (m ∷ ms) =
+    cond (startsAnew m) 0
+    (length (setsOf Limits.passphrase-key (requestsIn (framesClosedBy w (bytesReceivedBy m)))) + setsToCome (receivedSince w m) ms)

@@ -57,7 +57,11 @@ settingsOf s = tabulated (λ i. settingOf s (Layout.setting-offset (Limits.first
 unfoldable pub recordedOf : List ℕ → ℕ → Option Recorded
 recordedOf r at =
     cond (eqb (Layout.recordHeld r at) 1)
-    (some (record { code = Layout.recordCode r at; whole = Layout.recordWhole r at; kept = run (at + Layout.record-kept-offset) (keptCount r at) r }))
+    (some (record {
+      code = Layout.recordCode r at;
+      whole = Layout.recordWhole r at;
+      kept = run (at + Layout.record-kept-offset) (keptCount r at) r;
+    }))
     none
 
 unfoldable pub alertOf : List ℕ → ℕ → Alert

@@ -55,7 +55,8 @@ module _ (base v i : ℕ) (text : List ℕ) (h : i < length text) where
   digits-next : withDigits base v (drop i text) ≡ withDigits base v (getD text i 0 ∷ drop (i + 1) text)
   digits-next = rw (add-one i, ← drop-cons text i 0 h)
 
-  pub digits-one : digit (getD text i 0) < base → withDigits base v (drop i text) ≡ withDigits base (withDigit base v (digit (getD text i 0))) (drop (i + 1) text)
+  pub digits-one : digit (getD text i 0) < base
+      → withDigits base v (drop i text) ≡ withDigits base (withDigit base v (digit (getD text i 0))) (drop (i + 1) text)
   unfolding withDigits
   digits-one l = digits-next ∙ rw (lt-ltb _ _ l)
 
@@ -85,7 +86,8 @@ digest-cut d b =
     let e : d * 31 + b + 1 ≡ d % 65521 * 31 + b + 1 + d / 65521 * 31 * 65521 = omega arith in
     sym (rw e (add-mul-mod-self-right (d % 65521 * 31 + b + 1) (d / 65521 * 31) 65521))
 
-pub digest-next : (d i : ℕ) (s : List ℕ) → i < length s → digestOn d (drop i s) ≡ digestOn ((d * 31 + getD s i 0 + 1) % 65521) (drop (i + 1) s)
+pub digest-next : (d i : ℕ) (s : List ℕ) → i < length s
+    → digestOn d (drop i s) ≡ digestOn ((d * 31 + getD s i 0 + 1) % 65521) (drop (i + 1) s)
 unfolding digestOn
 digest-next d i s h = rw (add-one i, drop-cons s i 0 h)
 
@@ -114,7 +116,8 @@ module _ (line room : List ℕ) (n : ℕ) where
 
   -- it fits
   pub add-fits : n + adds line ≤ length room
-      → (n + adds line ≡ countAfter line room n) × (overlay n (values (addedAt line (take n room)) (adds line)) room ≡ roomAfter line room n)
+      → (n + adds line ≡ countAfter line room n)
+      × (overlay n (values (addedAt line (take n room)) (adds line)) room ≡ roomAfter line room n)
   unfolding countAfter roomAfter bytesAdded
   add-fits h =
       let l = length-values (addedAt line (take n room)) (adds line) in
@@ -122,7 +125,8 @@ module _ (line room : List ℕ) (n : ℕ) where
 
   -- one byte more: the piece in front of it is still as it was
   pub add-more : (j : ℕ) → n + j < length room
-      → set (overlay n (values (addedAt line (take n room)) j) room) (n + j) (addedAt line (take n (overlay n (values (addedAt line (take n room)) j) room)) j)
+      → set (overlay n (values (addedAt line (take n room)) j) room) (n + j)
+      (addedAt line (take n (overlay n (values (addedAt line (take n room)) j) room)) j)
       ≡ overlay n (values (addedAt line (take n room)) (j + 1)) room
   add-more j h =
       let f = addedAt line (take n room) in

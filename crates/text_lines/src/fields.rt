@@ -5,7 +5,8 @@ ghost use mathlib.Core.Bool.{cond};
 ghost use Prim.Native.Nat.{_-_, _%_, _≤_, _<_};
 ghost use lib.Dec.{eqb};
 ghost use lib.ListN.{drop};
-ghost use Rattle.text_lines.specs.Fields.{keyOf, behindKey, field as fieldOf, digit as digitOf, withDigit, numberAhead, decimalIn, hexIn, pairAt};
+ghost use Rattle.text_lines.specs.Fields.{keyOf, behindKey, field as fieldOf, digit as digitOf, withDigit, numberAhead, decimalIn};
+ghost use Rattle.text_lines.specs.Fields.{hexIn, pairAt};
 
 // How many bytes the key and the space behind it have.
 const KEY_LENGTH: usize = 2;

@@ -50,7 +50,8 @@ fn added_at(line: &[u8], piece: &[u8], j: usize) -> u8
 
 // Adds what the line says to the room's first n bytes; how many they are then.
 pub fn add(line: &[u8], room: &mut [u8], n: usize) -> usize
-    ensures { λ r. ⌜ (r ≡ countAfter (now (line .entry)) (now (room .entry)) n) × (now (room .exit) ≡ roomAfter (now (line .entry)) (now (room .entry)) n) ⌝ }
+    ensures { λ r. ⌜ (r ≡ countAfter (now (line .entry)) (now (room .entry)) n)
+        × (now (room .exit) ≡ roomAfter (now (line .entry)) (now (room .entry)) n) ⌝ }
 {
     let more = how_many(line);
     if room.len() < n {

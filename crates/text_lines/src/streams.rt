@@ -1,4 +1,5 @@
-// Lines of standard input, and printing to standard output, each number with one space in front. No contract can say what is read or printed;
+// Lines of standard input, and printing to standard output, each number with one space in front.
+// No contract can say what is read or printed;
 // what is lent to be printed stays as it is. Assumes nothing: output that cannot be written is lost.
 use crate::digest::digest_on;
 use crate::fields;

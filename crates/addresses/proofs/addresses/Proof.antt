@@ -1,4 +1,5 @@
--- `addresses::addresses` meets its contract. The loop's invariant: the rows are those of a plan that counts i addresses, and the next row is address i.
+-- `addresses::addresses` meets its contract.
+-- The loop's invariant: the rows are those of a plan that counts i addresses, and the next row is address i.
 -- Assumes nothing.
 use Prim.Native.Nat.{ℕ, _-_, _≤_, min}
 use mathlib.Core.Path.{_≡_, sym, _∙_}
@@ -37,8 +38,11 @@ loop-holds c =
 
 loop-again : tie.Need-loop-again Inv-loop μ-loop
 loop-again c =
-    let l = c .before .before .loop in
-    (search needs, rw (l .inv .1, l .inv .2) (rows-more _ _ (l .i) (search needs)), rw (c .next-row .ensures, l .inv .2, next-sum, address-next))
+    let l = c .before .before .loop in (
+      search needs,
+      rw (l .inv .1, l .inv .2) (rows-more _ _ (l .i) (search needs)),
+      rw (c .next-row .ensures, l .inv .2, next-sum, address-next),
+    )
 
 returns-2 : tie.Need-returns-2 Inv-loop μ-loop
 returns-2 c =

@@ -11,7 +11,8 @@ use Rattle.addresses.proofs.next_row.Statement.{statement}
 use Rattle.addresses.proofs.next_row.Tie as tie
 
 abbrev Inv-loop : tie.InvT-loop
-Inv-loop stride next₀ carry₀ left₀ next carry left = (left ≤ 6) × (carry < 256) × (length next ≡ 6) × (nextRow next₀ stride ≡ rest left next carry)
+Inv-loop stride next₀ carry₀ left₀ next carry left =
+    (left ≤ 6) × (carry < 256) × (length next ≡ 6) × (nextRow next₀ stride ≡ rest left next carry)
 
 abbrev μ-loop : tie.MeasureT-loop
 μ-loop stride next₀ carry₀ left₀ next carry left = left
@@ -24,8 +25,12 @@ add-sum c = search needs
 
 loop-again : tie.Need-loop-again Inv-loop μ-loop
 loop-again c =
-    let l = c .before .before .loop in
-    (search needs, search needs, search needs, rw (l .inv .3, c .wide2 .ensures .0) (rest-less (l .left) (l .next) (l .carry) (search needs) (search needs)))
+    let l = c .before .before .loop in (
+      search needs,
+      search needs,
+      search needs,
+      rw (l .inv .3, c .wide2 .ensures .0) (rest-less (l .left) (l .next) (l .carry) (search needs) (search needs)),
+    )
 
 returns : tie.Need-returns Inv-loop μ-loop
 returns c =

@@ -1,4 +1,5 @@
--- `audit::list` meets its contract. The loop's invariant: the text up to an offset of the capture is written, and the text is that and what is left.
+-- `audit::list` meets its contract.
+-- The loop's invariant: the text up to an offset of the capture is written, and the text is that and what is left.
 -- Assumes nothing.
 use mathlib.Core.Path.{_≡_, refl, sym, _∙_}
 use Prim.Native.Nat.{_+_, _-_, _≤_, _<_}
@@ -72,7 +73,8 @@ loop-again c =
     let a = start asked .args in (
       omega (arith, within c),
       search needs,
-      middle-next (now (a .capture)) (now (a .text)) (iteration .text) (iteration .at) (iteration .k) _ (iteration .inv .2) (found c) _ _ (wrote .put-frame .ensures .0) (wrote .put-frame .ensures .1),
+      middle-next (now (a .capture)) (now (a .text)) (iteration .text) (iteration .at) (iteration .k) _ (iteration .inv .2) (found c) _ _
+          (wrote .put-frame .ensures .0) (wrote .put-frame .ensures .1),
     )
 
 put-tail-requires : tie.Need-put-tail-requires Inv-loop μ-loop
@@ -97,5 +99,6 @@ pub list-spec : {M : Type 1} → statement M
 list-spec =
     tie.close
     (tie.spec
-    Inv-loop μ-loop (λ c. (search needs, refl, middle-start _ _)) (λ c κs. search needs) (λ c. search needs) put-frame-requires add-at add-at-2 loop-less loop-again
+    Inv-loop μ-loop (λ c. (search needs, refl, middle-start _ _)) (λ c κs. search needs) (λ c. search needs) put-frame-requires add-at
+    add-at-2 loop-less loop-again
     (λ c. search needs) put-tail-requires (λ c. search needs) returns)

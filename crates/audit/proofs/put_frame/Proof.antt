@@ -30,7 +30,8 @@ returns-2 c =
     let long = length-run (a .at) (a .n) (now (a .capture)) (omega arith) in
     let report = rw add-sub-cancel-left at (judged .judged .ensures .0) in
     let some : 0 < length (run (a .at) (a .n) (now (a .capture))) = omega (arith, test .if1 .left) in (
-      rw (frame-line (a .at) (run (a .at) (a .n) (now (a .capture))) _ _ some report) at (wrote-then (number .put-number .ensures .0) (end .put-answer .ensures .0)),
+      rw (frame-line (a .at) (run (a .at) (a .n) (now (a .capture))) _ _ some report)
+          at (wrote-then (number .put-number .ensures .0) (end .put-answer .ensures .0)),
       omega arith,
     )
 

@@ -14,8 +14,10 @@ put-requires c κs =
 returns : tie.Need-returns
 returns c =
     let d = c .before .before .before .before .before .decimal .ensures in
-    let wrote = c .before .before .put .ensures in
-    (rw (number-put _ _ _ (d .0) (d .1 .0) (d .1 .1)) at wrote, omega (arith, wrote .ends, number-length _ _ _ (d .0) (d .1 .0) (d .1 .1) (omega arith)))
+    let wrote = c .before .before .put .ensures in (
+      rw (number-put _ _ _ (d .0) (d .1 .0) (d .1 .1)) at wrote,
+      omega (arith, wrote .ends, number-length _ _ _ (d .0) (d .1 .0) (d .1 .1) (omega arith)),
+    )
 
 pub put-number-spec : {M : Type 1} → statement M
 put-number-spec =

@@ -1,4 +1,5 @@
--- Calls of both ends in any order: what holds of the parts of both and of what was put out and read, from two starts on, and claims about each call.
+-- Calls of both ends in any order:
+-- what holds of the parts of both and of what was put out and read, from two starts on, and claims about each call.
 -- Assumes nothing.
 use mathlib.Core.Path.{_≡_, refl}
 use mathlib.Core.Bool.{Bool, true, false}
@@ -23,7 +24,8 @@ use Rattle.supervisor_claims.proofs.claims.History as SupervisorHistory
 use Rattle.supervisor_claims.specs.FrameHistory.{progressOf}
 use Rattle.supervisor_claims.specs.LastSet.{Origin}
 use Rattle.both_claims.specs.Ends
-use Rattle.both_claims.specs.Ends.{Log, emptyLog, CallOf, restarts, supervisorLogged, BothStarts, endsBegun, Begun, together, MainTyped, EndCallTyped, endsAfter, Wire, endsAfterAll, Always, WireAfter, mainLogged}
+use Rattle.both_claims.specs.Ends.{Log, emptyLog, CallOf, restarts, supervisorLogged, BothStarts, endsBegun, Begun, together}
+use Rattle.both_claims.specs.Ends.{MainTyped, EndCallTyped, endsAfter, Wire, endsAfterAll, Always, WireAfter, mainLogged}
 use Rattle.both_claims.proofs.laws.Ranges.{fresh-ranged}
 use Rattle.both_claims.proofs.laws.Held.{held-parts}
 use Rattle.both_claims.proofs.laws.Lists.{none-some}
@@ -64,12 +66,15 @@ module _ (e : Ends.Ends) (both : Both e) where
         kept = rw (k .state, main-log m) (main-kept (mainView (e .main)) (e .log) (both .kept) m typed);
       }
 
-  supervisor-call : (m : Supervisor.Made) → Supervisor.Typed (m .call) → Wire (endsAfter e (Ends.supervisor m) .log) → Both (endsAfter e (Ends.supervisor m))
+  supervisor-call : (m : Supervisor.Made) → Supervisor.Typed (m .call) → Wire (endsAfter e (Ends.supervisor m) .log)
+      → Both (endsAfter e (Ends.supervisor m))
   unfolding endsAfter
   supervisor-call m typed w = record {
     main = both .main;
     supervisor = SupervisorHistory.one-call (e .supervisor) m (both .supervisor) typed .leaves .1;
-    kept = supervisor-kept (mainView (e .main)) (e .log) (both .kept) (view (e .supervisor)) (held-parts (e .supervisor) (both .supervisor)) m typed _ w;
+    kept =
+        supervisor-kept (mainView (e .main)) (e .log) (both .kept) (view (e .supervisor)) (held-parts (e .supervisor) (both .supervisor)) m
+        typed _ w;
   }
 
   pub keeps-both : (t : Ends.EndCall) → EndCallTyped t → Wire (endsAfter e t .log) → Both (endsAfter e t)
@@ -80,8 +85,10 @@ module _ (e : Ends.Ends) (both : Both e) where
 
 -- with what is given of each call
 module _ (Else : Ends.Ends → Type 0) (Given C : Ends.Ends → Ends.EndCall → Type 0)
-    (of-call : (e : Ends.Ends) → Both e → Else e → (t : Ends.EndCall) → EndCallTyped t → Wire (endsAfter e t .log) → Given e t → C e t × Else (endsAfter e t)) where
-  pub each-given : (e : Ends.Ends) → Both e → Else e → (ts : List Ends.EndCall) → Each EndCallTyped ts → Always WireAfter e ts → Always Given e ts → Always C e ts
+    (of-call : (e : Ends.Ends) → Both e → Else e → (t : Ends.EndCall) → EndCallTyped t → Wire (endsAfter e t .log) → Given e t
+    → C e t × Else (endsAfter e t)) where
+  pub each-given : (e : Ends.Ends) → Both e → Else e → (ts : List Ends.EndCall) → Each EndCallTyped ts → Always WireAfter e ts
+      → Always Given e ts → Always C e ts
   each-given e both other [] typed w g = tt
   each-given e both other (t ∷ ts) typed w g =
       let k = of-call e both other t (typed .0) (w .0) (g .0) in
@@ -89,12 +96,16 @@ module _ (Else : Ends.Ends → Type 0) (Given C : Ends.Ends → Ends.EndCall →
 
 -- with what else each call keeps
 module _ (Else : Ends.Ends → Type 0) (C : Ends.Ends → Ends.EndCall → Type 0)
-    (of-call : (e : Ends.Ends) → Both e → Else e → (t : Ends.EndCall) → EndCallTyped t → Wire (endsAfter e t .log) → C e t × Else (endsAfter e t)) where
-  pub each-call : (e : Ends.Ends) → Both e → Else e → (ts : List Ends.EndCall) → Each EndCallTyped ts → Always WireAfter e ts → Always C e ts
-  each-call e both other ts typed w = each-given Else WireAfter C (λ e both other t typed w g. of-call e both other t typed w) e both other ts typed w w
+    (of-call : (e : Ends.Ends) → Both e → Else e → (t : Ends.EndCall) → EndCallTyped t → Wire (endsAfter e t .log)
+    → C e t × Else (endsAfter e t)) where
+  pub each-call : (e : Ends.Ends) → Both e → Else e → (ts : List Ends.EndCall) → Each EndCallTyped ts → Always WireAfter e ts
+      → Always C e ts
+  each-call e both other ts typed w =
+      each-given Else WireAfter C (λ e both other t typed w g. of-call e both other t typed w) e both other ts typed w w
 
   -- what holds after calls
-  pub after-calls : (e : Ends.Ends) → Both e → Else e → (ts : List Ends.EndCall) → Each EndCallTyped ts → Always WireAfter e ts → Both (endsAfterAll e ts) × Else (endsAfterAll e ts)
+  pub after-calls : (e : Ends.Ends) → Both e → Else e → (ts : List Ends.EndCall) → Each EndCallTyped ts → Always WireAfter e ts
+      → Both (endsAfterAll e ts) × Else (endsAfterAll e ts)
   unfolding endsAfterAll
   after-calls e both other [] typed w = (both, other)
   after-calls e both other (t ∷ ts) typed w =
@@ -123,7 +134,9 @@ unfolding endsAfter mainLogged supervisorLogged
 plain-call e p (Ends.main m) typed = record {
   main = MainHistory.one-call (e .main) m (p .main) .valid;
   supervisor = p .supervisor;
-  bytes = cond-by (λ (l : Log). Each Byte (l .received)) (restarts (m .call) (mainMade (e .main) m .answer)) _ _ (λ _. p .bytes) (λ _. p .bytes);
+  bytes =
+      cond-by (λ (l : Log). Each Byte (l .received)) (restarts (m .call) (mainMade (e .main) m .answer)) _ _ (λ _. p .bytes)
+      (λ _. p .bytes);
 }
 plain-call e p (Ends.supervisor m) typed = record {
   main = p .main;
@@ -132,11 +145,14 @@ plain-call e p (Ends.supervisor m) typed = record {
 }
 
 -- with what else each call keeps
-module _ (Else : Ends.Ends → Type 0) (of-call : (e : Ends.Ends) → Plain e → Else e → (t : Ends.EndCall) → EndCallTyped t → Else (endsAfter e t)) where
-  any-calls : (e : Ends.Ends) → Plain e → Else e → (ts : List Ends.EndCall) → Each EndCallTyped ts → Plain (endsAfterAll e ts) × Else (endsAfterAll e ts)
+module _ (Else : Ends.Ends → Type 0)
+    (of-call : (e : Ends.Ends) → Plain e → Else e → (t : Ends.EndCall) → EndCallTyped t → Else (endsAfter e t)) where
+  any-calls : (e : Ends.Ends) → Plain e → Else e → (ts : List Ends.EndCall) → Each EndCallTyped ts
+      → Plain (endsAfterAll e ts) × Else (endsAfterAll e ts)
   unfolding endsAfterAll
   any-calls e p other [] typed = (p, other)
-  any-calls e p other (t ∷ ts) typed = any-calls (endsAfter e t) (plain-call e p t (typed .0)) (of-call e p other t (typed .0)) ts (typed .1)
+  any-calls e p other (t ∷ ts) typed =
+      any-calls (endsAfter e t) (plain-call e p t (typed .0)) (of-call e p other t (typed .0)) ts (typed .1)
 
 -- ---- the main processor's end just started
 
@@ -161,7 +177,9 @@ together-both s =
     let x = MainHistory.started (s .main-parts) (s .main-lent) (s .main-accepted) in
     record {
       main = x .valid;
-      supervisor = SupervisorHistory.started (s .supervisor-parts) (s .supervisor-bytes) (s .supervisor-lent) (s .start-data) (s .start-typed) (s .supervisor-accepted) .1;
+      supervisor =
+          SupervisorHistory.started (s .supervisor-parts) (s .supervisor-bytes) (s .supervisor-lent) (s .start-data) (s .start-typed)
+          (s .supervisor-accepted) .1;
       kept = rw (x .state) (started-kept true [] _ tt);
     }
 
@@ -173,14 +191,20 @@ again-both : (e : Ends.Ends) → Plain e → (l : MainLent) → mainMade (e .mai
 unfolding endsAfter mainLogged
 again-both e p l a =
     let x = MainHistory.started (e .main) l a in
-    record { main = x .valid; supervisor = p .supervisor; kept = rw (x .state, a) (started-kept false (e .log .received) (e .log .origin) (p .bytes)) }
+    record {
+      main = x .valid;
+      supervisor = p .supervisor;
+      kept = rw (x .state, a) (started-kept false (e .log .received) (e .log .origin) (p .bytes));
+    }
 
 pub begun-both : (e : Ends.Ends) → Begun e → Both e
 begun-both e (together s) = together-both s
 begun-both e (Ends.later s ts t l a) =
-    again-both (endsAfterAll (endsBegun s) ts) (any-calls (λ x. Unit {0}) (λ x p u y typed. tt) (endsBegun s) (together-plain s) tt ts t .0) l a
+    again-both (endsAfterAll (endsBegun s) ts) (any-calls (λ x. Unit {0}) (λ x p u y typed. tt) (endsBegun s) (together-plain s) tt ts t .0)
+    l a
 
-module _ (Else : Ends.Ends → Type 0) (first : (s : BothStarts) → Else (endsBegun s)) (of-call : (e : Ends.Ends) → Sound (e .supervisor) → Else e → (t : Ends.EndCall) → EndCallTyped t → Else (endsAfter e t)) where
+module _ (Else : Ends.Ends → Type 0) (first : (s : BothStarts) → Else (endsBegun s))
+    (of-call : (e : Ends.Ends) → Sound (e .supervisor) → Else e → (t : Ends.EndCall) → EndCallTyped t → Else (endsAfter e t)) where
   pub begun-else : (e : Ends.Ends) → Begun e → Else e
   begun-else e (together s) = first s
   begun-else e (Ends.later s ts t l a) =

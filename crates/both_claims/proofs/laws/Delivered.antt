@@ -40,7 +40,8 @@ call-receives image x (Histories.receive i piece) r = rw r
 call-receives image x (Histories.step i piece) r = rw r
 call-receives image x (Histories.local c) r = absurd r
 
-made-receives : (image : List ℕ) (x : State) (m : Made) → ReceivesWith image (m .call) → meantMade x m .state ≡ receiveStream image x (bytesReceivedBy m)
+made-receives : (image : List ℕ) (x : State) (m : Made) → ReceivesWith image (m .call)
+    → meantMade x m .state ≡ receiveStream image x (bytesReceivedBy m)
 unfolding meantMade bytesReceivedBy receiveStream
 made-receives image x m r = by (enough (m .call) (m .lent)) refl
   where
@@ -63,21 +64,25 @@ module _ (image : List ℕ) where
   before-receives (m ∷ ms) x r h =
       let i = some-image (m .call) (r .0) in
       let k = each-split (bytesReceivedBy m) (allReceived ms) h in
-      let e : meantMade x m .state ≡ receiveStream image x (bytesReceivedBy m) = made-receives (i .0) x m (i .1) ∙ image-free (i .0) image (bytesReceivedBy m) (k .0) x in
-      rw e (before-receives ms (receiveStream image x (bytesReceivedBy m)) (r .1) (k .1)) ∙ sym (stream-append image x (bytesReceivedBy m) (allReceived ms))
+      let e : meantMade x m .state ≡ receiveStream image x (bytesReceivedBy m) =
+      made-receives (i .0) x m (i .1) ∙ image-free (i .0) image (bytesReceivedBy m) (k .0) x in
+      rw e (before-receives ms (receiveStream image x (bytesReceivedBy m)) (r .1) (k .1))
+      ∙ sym (stream-append image x (bytesReceivedBy m) (allReceived ms))
     where
       each-split : (xs ys : List ℕ) → Each (λ b. 1 ≤ b) (xs ++ ys) → Each (λ b. 1 ≤ b) xs × Each (λ b. 1 ≤ b) ys
       each-split [] ys h = (tt, h)
       each-split (x ∷ xs) ys h = let k = each-split xs ys (h .1) in ((h .0, k .0), k .1)
 
   -- the pieces before, and the last one, which ends with the 00
-  pub delivered : (before : List Made) (last : Made) (x : State) → Each (λ (m : Made). TakesPiece (m .call)) before → ReceivesWith image (last .call) → x .received ≡ some []
+  pub delivered : (before : List Made) (last : Made) (x : State) → Each (λ (m : Made). TakesPiece (m .call)) before
+      → ReceivesWith image (last .call) → x .received ≡ some []
       → (form bs : List ℕ) → Each (λ b. 1 ≤ b) form → allReceived before ++ bs ≡ form → bytesReceivedBy last ≡ bs ++ (0 ∷ [])
       → meantMade (leftMeant x before) last .state ≡ withReceived (frameCarried image x form) (some [])
   unfolding split framesCarried
   delivered before last x r i idle form bs h e f =
       let k = before-receives before x r (each-front (allReceived before) bs (rw e h)) in
-      let whole : allReceived before ++ (bs ++ (0 ∷ [])) ≡ form ++ (0 ∷ []) = sym (append-assoc (allReceived before) bs (0 ∷ [])) ∙ ap (λ (z : List ℕ). z ++ (0 ∷ [])) e in
+      let whole : allReceived before ++ (bs ++ (0 ∷ [])) ≡ form ++ (0 ∷ []) =
+      sym (append-assoc (allReceived before) bs (0 ∷ [])) ∙ ap (λ (z : List ℕ). z ++ (0 ∷ [])) e in
       let y = rw (split-at form [] h, tail-within [] (omega arith)) at (in-order image x (form ++ (0 ∷ [])) idle) in
       made-receives image (leftMeant x before) last i
       ∙ rw (k, f) (sym (stream-append image x (allReceived before) (bs ++ (0 ∷ []))) ∙ ap (receiveStream image x) whole ∙ y)
@@ -99,11 +104,13 @@ module _ (x : State) (room : List ℕ) where
   unfolding Local.taken Local.afterTake
   moved-rest = take-append-drop (length room) (x .pending)
 
-take-moves : (x : State) (room : List ℕ) → let d = meant x (Histories.local (Histories.take room)) in movedBytes (d .answer) (d .out) ++ d .state .pending ≡ x .pending
+take-moves : (x : State) (room : List ℕ)
+    → let d = meant x (Histories.local (Histories.take room)) in movedBytes (d .answer) (d .out) ++ d .state .pending ≡ x .pending
 unfolding meant
 take-moves x room = rw (moved-bytes x room) (moved-rest x room)
 
-made-moves : (x : State) (m : Made) → Takes (m .call) → let d = meantMade x m in movedBytes (d .answer) (d .out) ++ d .state .pending ≡ x .pending
+made-moves : (x : State) (m : Made) → Takes (m .call)
+    → let d = meantMade x m in movedBytes (d .answer) (d .out) ++ d .state .pending ≡ x .pending
 unfolding meantMade
 made-moves x m h = by (enough (m .call) (m .lent))
   where
@@ -113,7 +120,8 @@ made-moves x m h = by (enough (m .call) (m .lent))
     by false = refl
 
 -- the bytes that takes move, and then those that are left, are those that were pending
-pub all-moved : (ts : List Made) (x : State) → Each (λ (m : Made). Takes (m .call)) ts → takenBytes (outputsMeant x ts) ++ leftMeant x ts .pending ≡ x .pending
+pub all-moved : (ts : List Made) (x : State) → Each (λ (m : Made). Takes (m .call)) ts
+    → takenBytes (outputsMeant x ts) ++ leftMeant x ts .pending ≡ x .pending
 unfolding takenBytes outputsMeant leftMeant
 all-moved [] x h = refl
 all-moved (m ∷ ts) x h =

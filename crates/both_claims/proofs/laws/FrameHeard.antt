@@ -27,7 +27,8 @@ use Rattle.requester_claims.specs.Cuts.{handedEvents, MainRead, Listener, after
 
 -- ---- a frame
 
-closes-byte : (p : List ℕ) (s : MainState) → s .received ≡ some p → 1 ≤ length p → Requester.mainByte s 0 ≡ afterHeard (hear (s .newest) (judge p)) (mainWithReceived s (some []))
+closes-byte : (p : List ℕ) (s : MainState) → s .received ≡ some p → 1 ≤ length p
+    → Requester.mainByte s 0 ≡ afterHeard (hear (s .newest) (judge p)) (mainWithReceived s (some []))
 unfolding Requester.mainByte
 closes-byte [] s e l = absurd (omega arith)
 closes-byte (c ∷ cs) s e l = ap (λ (x : Option (List ℕ)). Requester.mainClosed x (mainWithReceived s (some []))) e
@@ -43,8 +44,10 @@ more-byte p s b e h =
     ∙ ap (λ (x : Option (List ℕ)). mainWithReceived s (grown x (suc b))) e
 
 -- behind the bytes p, which have come
-pub frame-heard : (f p : List ℕ) (s : MainState) → Each (λ b. 1 ≤ b) f → s .received ≡ some p → 1 ≤ length (p ++ f) → length (p ++ f) ≤ longest-form
-    → Requester.receive s (f ++ (0 ∷ [])) ≡ receiveResult (length (f ++ (0 ∷ []))) (afterHeard (hear (s .newest) (judge (p ++ f))) (mainWithReceived s (some [])))
+pub frame-heard : (f p : List ℕ) (s : MainState) → Each (λ b. 1 ≤ b) f → s .received ≡ some p → 1 ≤ length (p ++ f)
+    → length (p ++ f) ≤ longest-form
+    → Requester.receive s (f ++ (0 ∷ []))
+    ≡ receiveResult (length (f ++ (0 ∷ []))) (afterHeard (hear (s .newest) (judge (p ++ f))) (mainWithReceived s (some [])))
 unfolding Requester.receive
 frame-heard [] p s z e l h = rw append-nil (ap (receiveResult 1) (closes-byte p s e (rw append-nil at l)))
 frame-heard (zero ∷ f) p s z e l h = absurd (omega (arith, z .0))
@@ -57,14 +60,21 @@ frame-heard (suc b ∷ f) p s z e l h =
 -- ---- an answer
 
 -- a good reply under the newest number that is no decode failure
-pub heard-answer : (n : ℕ) (r : Message) → r .version ≡ 1 → r .sequence ≡ replySequence n → (r .command ≡ 0x02 → ⊥) → hear n (good r) ≡ answer r
+pub heard-answer : (n : ℕ) (r : Message) → r .version ≡ 1 → r .sequence ≡ replySequence n → (r .command ≡ 0x02 → ⊥)
+    → hear n (good r) ≡ answer r
 unfolding hear
 heard-answer n r v q c =
-    rw (eq-eqb (r .version) 1 v, le-ltb (r .sequence) (2 ^ 63) (omega (arith, q)), ne-eqb (r .command) 0x02 c, eq-eqb (r .sequence) (replySequence n) q)
+    rw (
+      eq-eqb (r .version) 1 v,
+      le-ltb (r .sequence) (2 ^ 63) (omega (arith, q)),
+      ne-eqb (r .command) 0x02 c,
+      eq-eqb (r .sequence) (replySequence n) q,
+    )
 
 -- the request kept is answered, and nothing is outstanding
 pub answers-kept : (s : MainState) (q : Request) (r : Message) (x : Option (List ℕ)) → s .recovery ≡ none → s .kept ≡ some q
-    → afterHeard (answer r) (mainWithReceived s x) ≡ Requester.result (Requester.answered r) (Requester.moved false (mainState (s .newest) none none false x))
+    → afterHeard (answer r) (mainWithReceived s x)
+    ≡ Requester.result (Requester.answered r) (Requester.moved false (mainState (s .newest) none none false x))
 unfolding Requester.settle Requester.movedTo
 answers-kept s q r x t k = rw (t, k)
 
@@ -72,12 +82,14 @@ answers-kept s q r x t k = rw (t, k)
 
 -- one that is lent enough
 pub record ReadsAs (x : Listener) (piece : List ℕ) (y : Listener) : Type 0 where
-  pub handed : let z = Requester.receive (mainView (x .parts)) piece .result in y .handed ≡ x .handed ++ handedEvents (handedReportOf (z .handed)) (Main.handedData (z .handed)) (z .ended)
+  pub handed : let z = Requester.receive (mainView (x .parts)) piece .result in
+      y .handed ≡ x .handed ++ handedEvents (handedReportOf (z .handed)) (Main.handedData (z .handed)) (z .ended)
   pub bytes : y .bytes ≡ x .bytes ++ take (Requester.receive (mainView (x .parts)) piece .used) piece
   pub state : mainView (y .parts) ≡ Requester.receive (mainView (x .parts)) piece .result .state
   pub valid : MainPartsValid (y .parts)
 
-pub one-read : (x : Listener) (c : MainRead) → MainPartsValid (x .parts) → mainEnough (Main.receive (c .piece)) (c .lent) ≡ true → ReadsAs x (c .piece) (afterMainRead x c)
+pub one-read : (x : Listener) (c : MainRead) → MainPartsValid (x .parts) → mainEnough (Main.receive (c .piece)) (c .lent) ≡ true
+    → ReadsAs x (c .piece) (afterMainRead x c)
 unfolding afterMainRead mainMeantMade mainMeant
 one-read x c v e =
     let k = one-call (x .parts) (record { lent = c .lent; call = Main.receive (c .piece) }) v in

@@ -24,7 +24,8 @@ nonEmpty-each P ((b ∷ bs) ∷ ps) h = (h .0, nonEmpty-each P ps (h .1))
 pub closed-nonzero : (w bs : List ℕ) → Each Byte w → Each Byte bs → Each (Each NonZero) (nonEmpty (split (split w .rest ++ bs) .closed))
 closed-nonzero w bs h k =
     nonEmpty-each (Each NonZero) (split (split w .rest ++ bs) .closed)
-    (split-each Byte NonZero (λ b i. (omega arith, omega (arith, i))) (split w .rest ++ bs) (each-append Byte (split w .rest) bs (split-each Byte Byte (λ b i. i) w h .1) k) .0)
+    (split-each Byte NonZero (λ b i. (omega arith, omega (arith, i))) (split w .rest ++ bs)
+    (each-append Byte (split w .rest) bs (split-each Byte Byte (λ b i. i) w h .1) k) .0)
 
 pub frames-nonzero : (w bs : List ℕ) → Each Byte w → Each Byte bs → Each (Each NonZero) (Received.framesClosedBy w bs)
 unfolding Received.framesClosedBy

@@ -52,11 +52,15 @@ unfolding view
 held-parts p s =
     let h = valid-ready (p .reader) (s .valid .reader) .0 in
     let k = started-kept (p .reader) h in
-    let t = LineReader.withCount 0 (p .reader) in
-    (withPart p Part.reader t, sound-with p Part.reader t s (k .valid) (k .bytes (s .bytes .reader)) (k .long) .0, rw (received-none (p .reader) h))
+    let t = LineReader.withCount 0 (p .reader) in (
+      withPart p Part.reader t,
+      sound-with p Part.reader t s (k .valid) (k .bytes (s .bytes .reader)) (k .long) .0,
+      rw (received-none (p .reader) h),
+    )
 
 -- a frame
-framed-receiving : (image : List ℕ) (x : State) (r : Option (List ℕ)) (f : List ℕ) → frameCarried image (withReceived x r) f ≡ withReceived (frameCarried image x f) r
+framed-receiving : (image : List ℕ) (x : State) (r : Option (List ℕ)) (f : List ℕ)
+    → frameCarried image (withReceived x r) f ≡ withReceived (frameCarried image x f) r
 unfolding frameCarried
 framed-receiving image x r [] = refl
 framed-receiving image x r (b ∷ bs) = judged-receiving image x r (verdict (b ∷ bs))
@@ -101,11 +105,17 @@ module _ (image : List ℕ) (each : Each Byte image) (x : State) (f : List ℕ) 
   pub reply-in-range : (m : Message) → verdict f ≡ good m → (r : Message) → replyToRequest image x m ≡ some r → InRange r
   reply-in-range m v r e =
       let o = carried-lined (some []) (x .pending) (x .terminator-owed) x image m .reply in
-      let same : replyToRequest image (view (held .0)) m ≡ some r = ap (λ (y : State). replyToRequest image y m) (held .2) ∙ ap (λ z. replyMessage (replyOf (m .sequence) z)) o ∙ e in
+      let same : replyToRequest image (view (held .0)) m ≡ some r =
+      ap (λ (y : State). replyToRequest image y m) (held .2) ∙ ap (λ z. replyMessage (replyOf (m .sequence) z)) o ∙ e in
       let k = reply-sendable (held .0) (held .1) image each m (good-typed f m (nonzero-bytes f nonzero .0) v) r same in
       let t = reply-of image x m r e in
       let low = passes f m v .low in
       record {
-        typed = record { version = version-low m (good-typed f m (nonzero-bytes f nonzero .0) v) r (t .version); sequence = omega (arith, low, t .sequence, top-set (m .sequence) low); command = t .command; payload = k .1 };
+        typed = record {
+          version = version-low m (good-typed f m (nonzero-bytes f nonzero .0) v) r (t .version);
+          sequence = omega (arith, low, t .sequence, top-set (m .sequence) low);
+          command = t .command;
+          payload = k .1;
+        };
         fits = k .0;
       }

@@ -21,7 +21,8 @@ use Rattle.requester.specs.Requester
 use Rattle.requester.specs.Requester.{Handed, Heard, ground, other, answer, settle, Result, mainWithReceived}
 use Rattle.requester.specs.Calls.{handedReportOf}
 use Rattle.requester_claims.specs.Histories as Main
-use Rattle.requester_claims.specs.Histories.{MainMeans, mainMeans, putMeans, mainDoneMeans, mainMeant, mainMeantMade, mainEnough, MainCall, MainMade}
+use Rattle.requester_claims.specs.Histories.{MainMeans, mainMeans, putMeans, mainDoneMeans, mainMeant, mainMeantMade, mainEnough, MainCall}
+use Rattle.requester_claims.specs.Histories.{MainMade}
 use Rattle.requester_claims.specs.Numbers.{framesPutOut}
 use Rattle.requester_claims.proofs.Numbers.{framesOf, framed, frames-put, some-bytes}
 use Rattle.both_claims.specs.Ends.{messageHanded, restarts, requestOf, putsRequest}
@@ -88,7 +89,8 @@ module _ (s : MainState) where
   settled-after (some alert) k e (answer m) = anew-after s _ (some fetch)
 
 -- the receive progress does not matter
-progress-after : (s : MainState) (bs : Option (List ℕ)) {h : Handed} {t : MainState} → KeptAfter (mainWithReceived s bs) h t → KeptAfter s h t
+progress-after : (s : MainState) (bs : Option (List ℕ)) {h : Handed} {t : MainState} → KeptAfter (mainWithReceived s bs) h t
+    → KeptAfter s h t
 progress-after s bs (same e n) = same e n
 progress-after s bs (answered r e k n) = answered r e k n
 progress-after s bs (ended l k n) = ended l k n
@@ -103,7 +105,8 @@ came-after s x (hearing bs h e f) = rw e (progress-after s bs (settled-after (ma
 pub data NoNew (s : MainState) (x : MainMeans) : Type 0 where
   keeps : x .state .kept ≡ s .kept → s .newest ≤ x .state .newest
       → (framesOf x ≡ []) ⊎ ((q : Request) × (outstanding s ≡ some q) × (framesOf x ≡ framed (s .newest) q)) → NoNew s x
-  answers : (r : Message) → messageHanded (x .answer) (x .out) ≡ some r → x .state .kept ≡ none → x .state .newest ≡ s .newest → framesOf x ≡ [] → NoNew s x
+  answers : (r : Message) → messageHanded (x .answer) (x .out) ≡ some r → x .state .kept ≡ none → x .state .newest ≡ s .newest
+      → framesOf x ≡ [] → NoNew s x
   ends : last-number ≤ s .newest → x .state .kept ≡ none → x .state .newest ≡ s .newest → framesOf x ≡ [] → NoNew s x
 
 -- a new one, under the next number
@@ -123,7 +126,8 @@ not-some : {A : Type 0} (o : Option A) → isSome o ≡ false → o ≡ none
 not-some none e = refl
 not-some (some x) e = absurd (false≢true (sym e))
 
-after-receive : (s : MainState) (used : ℕ) (x : Result) → KeptAfter s (x .handed) (x .state) → NoNew s (Main.receiveMeans (Requester.receiveResult used x))
+after-receive : (s : MainState) (used : ℕ) (x : Result) → KeptAfter s (x .handed) (x .state)
+    → NoNew s (Main.receiveMeans (Requester.receiveResult used x))
 unfolding framesPutOut handedReportOf Main.handedData
 after-receive s used x (same e n) = keeps e n (inl refl)
 after-receive s used x (answered r e k n) = answers r (rw e refl) k n refl
@@ -137,7 +141,8 @@ module _ (s : MainState) where
   abbrev PutBy : MainCall → List ℕ → Requester.MainDone → Type 0
   PutBy c room x = RequestBy s c (putMeans (x .refusal) room (x .out) (x .state))
 
-  request-by : (command : ℕ) (d room : List ℕ) → PutBy (Main.request command d room) room (Requester.request (length room) (record { command = command; payload = d }) s)
+  request-by : (command : ℕ) (d room : List ℕ)
+      → PutBy (Main.request command d room) room (Requester.request (length room) (record { command = command; payload = d }) s)
   unfolding Requester.request
   request-by command d room =
       let q : Request = record { command = command; payload = d } in
@@ -160,11 +165,13 @@ module _ (s : MainState) where
         },
       )))))
 
-  interrupt-by : (t : Option RecoveryStep) → RequestBy s Main.interrupt (mainDoneMeans (Requester.interruptedIn t s .refusal) (Requester.interruptedIn t s .state))
+  interrupt-by : (t : Option RecoveryStep)
+      → RequestBy s Main.interrupt (mainDoneMeans (Requester.interruptedIn t s .refusal) (Requester.interruptedIn t s .state))
   unfolding framesPutOut
   interrupt-by (some t) = inr (refl, keeps refl (omega arith) (inl refl))
   interrupt-by none =
-      cond-by (λ (x : Requester.MainDone). RequestBy s Main.interrupt (mainDoneMeans (x .refusal) (x .state))) (leb last-number (s .newest)) _ _
+      cond-by (λ (x : Requester.MainDone). RequestBy s Main.interrupt (mainDoneMeans (x .refusal) (x .state))) (leb last-number (s .newest))
+      _ _
       (λ _. inr (refl, keeps refl (omega arith) (inl refl))) (λ _. inr (refl, keeps refl (omega arith) (inl refl)))
 
   send-by : (room : List ℕ) (q : Option Request) → outstanding s ≡ q → PutBy (Main.send room) room (Requester.sentOf (length room) q s)
@@ -174,7 +181,8 @@ module _ (s : MainState) where
       let c = Main.send room in
       cond-by (PutBy c room) (s .unsent) _ _
       (λ _. cond-by (PutBy c room) (ltb (length room) (length (requestFrame (s .newest) q))) _ _ (λ _. refused-by c 8 room) (λ _.
-      inr (refl, keeps refl (omega arith) (inr (q, e, frames-put (s .newest) (requestFrame (s .newest) q) room (some-bytes (s .newest) q))))))
+      inr
+      (refl, keeps refl (omega arith) (inr (q, e, frames-put (s .newest) (requestFrame (s .newest) q) room (some-bytes (s .newest) q))))))
       (λ _. inr (refl, keeps refl (omega arith) (inl refl)))
 
   -- a receive by what came of it

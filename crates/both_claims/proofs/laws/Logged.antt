@@ -47,12 +47,14 @@ module _ (w : List ℕ) (whole : split w .rest ≡ []) (m : Message) where
   unfolding split
   rest-whole = rw (split-join w (frame m), whole) (ap (λ (z : List ℕ). split z .rest) (sym (append-nil (frame m))) ∙ rw (split-frame m []))
 
-  pub good-whole : InRange m → goodMessages (nonEmpty (split (w ++ frame m) .closed)) ≡ goodMessages (nonEmpty (split w .closed)) ++ (m ∷ [])
+  pub good-whole : InRange m
+      → goodMessages (nonEmpty (split (w ++ frame m) .closed)) ≡ goodMessages (nonEmpty (split w .closed)) ++ (m ∷ [])
   good-whole r = rw (split-join w (frame m), whole, nonEmpty-append, forms-of m, gathered-append, good-of m r)
 
 -- ---- what was put out and read
 
-pub record Logged (l : Log) (read : List ℕ) (asked : List Frame) (received : List ℕ) (heard : List Message) (pending : Option Message) (sent : List Message) : Type 0 where
+pub record Logged (l : Log) (read : List ℕ) (asked : List Frame) (received : List ℕ) (heard : List Message) (pending : Option Message)
+    (sent : List Message) : Type 0 where
   pub reads : l .read ≡ read
   pub asks : l .asked ≡ asked
   pub receives : l .received ≡ received
@@ -63,7 +65,8 @@ pub record Logged (l : Log) (read : List ℕ) (asked : List Frame) (received : L
 pub logged : (l : Log) → Logged l (l .read) (l .asked) (l .received) (l .heard) (l .pending) (l .sent)
 logged l = record { reads = refl; asks = refl; receives = refl; hears = refl; waits = refl; sends = refl }
 
-module _ {l : Log} {read : List ℕ} {asked : List Frame} {received : List ℕ} {heard : List Message} {pending : Option Message} {sent : List Message}
+module _ {l : Log} {read : List ℕ} {asked : List Frame} {received : List ℕ} {heard : List Message} {pending : Option Message}
+    {sent : List Message}
     (k : Logged l read asked received heard pending sent) where
   pub logged-in-order : Among (List ℕ) (map frame heard) (map (λ (x : Frame). x .bytes) asked)
       → Among (List ℕ) (map frame (goodMessages (nonEmpty (split read .closed)))) (map frame sent) → InOrder l
@@ -72,11 +75,14 @@ module _ {l : Log} {read : List ℕ} {asked : List Frame} {received : List ℕ} 
   pub main-logs : (c : MainCall) (a : MainAnswer) (out : List ℕ) (n : ℕ) → restarts c a ≡ false
       → Logged (mainLogged l c a out n) (read ++ bytesReadBy c a) (asked ++ framesPutOut a out n) received heard pending sent
   unfolding mainLogged
-  main-logs c a out n e = rw e (record { reads = rw (k .reads); asks = rw (k .asks); receives = k .receives; hears = k .hears; waits = k .waits; sends = k .sends })
+  main-logs c a out n e =
+      rw e
+      (record { reads = rw (k .reads); asks = rw (k .asks); receives = k .receives; hears = k .hears; waits = k .waits; sends = k .sends })
 
   pub supervisor-logs : (s : State) (m : Supervisor.Made) (waiting : List ℕ) → Received.startsAnew m ≡ false
       → let r = newestReply pending (brought l s m) in
-      Logged (supervisorLogged l s m waiting) read asked (received ++ Received.bytesReceivedBy m) (heard ++ goodMessages (Received.framesClosedBy received (Received.bytesReceivedBy m)))
+      Logged (supervisorLogged l s m waiting) read asked (received ++ Received.bytesReceivedBy m)
+      (heard ++ goodMessages (Received.framesClosedBy received (Received.bytesReceivedBy m)))
       (stillPending waiting r) (sent ++ takenBy waiting r)
   unfolding supervisorLogged Received.receivedSince
   supervisor-logs s m waiting e = record {
@@ -89,7 +95,8 @@ module _ {l : Log} {read : List ℕ} {asked : List Frame} {received : List ℕ} 
   }
 
 -- the frame that a request puts out
-pub frames-one : (count : ℕ) (out : List ℕ) (n : ℕ) → 1 ≤ length (take count out) → framesPutOut (Main.put count) out n ≡ (record { number = n; bytes = take count out }) ∷ []
+pub frames-one : (count : ℕ) (out : List ℕ) (n : ℕ) → 1 ≤ length (take count out)
+    → framesPutOut (Main.put count) out n ≡ (record { number = n; bytes = take count out }) ∷ []
 unfolding framesPutOut
 frames-one zero out n h = absurd (omega arith)
 frames-one (suc k) out n h = refl
@@ -104,15 +111,18 @@ module _ (l : Log) (s : State) (m : Supervisor.Made) where
 
   -- one that brings one
   pub brought-one : (f : List ℕ) → Received.framesClosedBy (l .received) (Received.bytesReceivedBy m) ≡ f ∷ []
-      → (r : Message) → replyMessage (replyBy (imageLent (m .call)) s (verdict f)) ≡ some r → (o : Option Message) → newestReply o (brought l s m) ≡ some r
+      → (r : Message) → replyMessage (replyBy (imageLent (m .call)) s (verdict f)) ≡ some r → (o : Option Message)
+      → newestReply o (brought l s m) ≡ some r
   unfolding brought handledBy replyMade
   brought-one f e r g o = rw e g
 
 -- more of it than its 00 is left, or nothing
-pub some-left : (bs : List ℕ) → 2 ≤ length bs → (o : Option Message) (r : Message) → o ≡ some r → (stillPending bs o ≡ some r) × (takenBy bs o ≡ [])
+pub some-left : (bs : List ℕ) → 2 ≤ length bs → (o : Option Message) (r : Message) → o ≡ some r
+    → (stillPending bs o ≡ some r) × (takenBy bs o ≡ [])
 some-left [] h o r e = absurd (omega arith)
 some-left (b ∷ []) h o r e = absurd (omega arith)
 some-left (b ∷ (c ∷ bs)) h o r e = rw e (refl, refl)
 
-pub none-left : (bs : List ℕ) → bs ≡ [] → (o : Option Message) (r : Message) → o ≡ some r → (stillPending bs o ≡ none) × (takenBy bs o ≡ r ∷ [])
+pub none-left : (bs : List ℕ) → bs ≡ [] → (o : Option Message) (r : Message) → o ≡ some r
+    → (stillPending bs o ≡ none) × (takenBy bs o ≡ r ∷ [])
 none-left bs h o r e = rw (h, e) (refl, refl)

@@ -1,4 +1,5 @@
--- A call of the main processor's end keeps what holds of both, and what it hands out was made by the supervisor in carrying out the request outstanding.
+-- A call of the main processor's end keeps what holds of both, and what it hands out was made by the
+-- supervisor in carrying out the request outstanding.
 -- Assumes nothing.
 use mathlib.Core.Path.{_≡_, refl, sym, ap, _∙_}
 use mathlib.Core.Bool.{Bool, true, false, _&&_, false≢true, and-eq-true-iff}
@@ -20,12 +21,14 @@ use Rattle.line_claims.specs.Pieces.{split, nonEmpty}
 use Rattle.line_claims.proofs.Pieces.{split-join, closed-rest, closed-join, nonEmpty-append}
 use Rattle.line_claims.specs.Calls.{goodOf, goodMessages}
 use Rattle.line_claims.proofs.ReaderClaim.{gathered-append}
-use Rattle.requester.specs.State.{Request, RecoveryStep, fetch, acknowledge, alert, outstanding, outstandingOf, isSome, MainState, mainFresh}
+use Rattle.requester.specs.State.{Request, RecoveryStep, fetch, acknowledge, alert, outstanding, outstandingOf, isSome, MainState}
+use Rattle.requester.specs.State.{mainFresh}
 use Rattle.requester.specs.Requester
 use Rattle.requester.specs.Requester.{Heard, ground, other, answer, hear, settle}
 use Rattle.requester.specs.Calls.{handedReportOf}
 use Rattle.requester_claims.specs.Histories as Main
-use Rattle.requester_claims.specs.Histories.{mainMeant, mainMeantMade, mainEnough, MainAnswer, MainCall, MainMade, MainMeans, mainDoneMeans, mainMeans, mainUntouched}
+use Rattle.requester_claims.specs.Histories.{mainMeant, mainMeantMade, mainEnough, MainAnswer, MainCall, MainMade, MainMeans, mainDoneMeans}
+use Rattle.requester_claims.specs.Histories.{mainMeans, mainUntouched}
 use Rattle.requester_claims.specs.Answers.{Matching}
 use Rattle.requester_claims.proofs.Answers.{heard-matches}
 use Rattle.requester_claims.proofs.AnswerFrame.{request-keeps, interrupt-keeps, send-keeps, put-keeps}
@@ -34,7 +37,8 @@ use Rattle.requester_claims.proofs.Numbers.{framesOf, Goes, Agrees, agrees-goes
 use Rattle.supervisor_claims.specs.FrameHistory.{progressOf}
 use Rattle.supervisor_claims.proofs.laws.Progress.{rest-nonzero}
 use Rattle.both_claims.specs.Ends
-use Rattle.both_claims.specs.Ends.{MainTyped, Wire, FreshBy, bytesReadBy, restarts, mainLogged, Any, Handled, Log, replyMade, Fresh, FreshReport}
+use Rattle.both_claims.specs.Ends.{MainTyped, Wire, FreshBy, bytesReadBy, restarts, mainLogged, Any, Handled, Log, replyMade, Fresh}
+use Rattle.both_claims.specs.Ends.{FreshReport}
 use Rattle.both_claims.proofs.laws.Lists.{front-more, none-some, any-so, each-right, each-then, each-and, each-any}
 use Rattle.both_claims.proofs.laws.GoodFrames.{closed-nonzero, good-range}
 use Rattle.both_claims.proofs.laws.MainReads.{HeardFrom, Came, quiet, hearing, Reads, piece-reads}
@@ -82,19 +86,22 @@ module _ (s : MainState) (l : Log) (kept : Kept s l) where
   sent-made : (r : Message) → Sent r → Any (λ (y : Message). MadeTo (l .handled) y × (frame y ≡ frame r)) (l .sent)
   sent-made r i = each-any (MadeTo (l .handled)) (λ (y : Message). frame y ≡ frame r) _ (λ y a b. (a, b)) (l .sent) (kept .sent) i
 
-  fresh-sent : (r : Message) → InRange r → hear (s .newest) (good r) ≡ answer r → Sent r → (q : Request) → outstanding s ≡ some q → Fresh s l r
+  fresh-sent : (r : Message) → InRange r → hear (s .newest) (good r) ≡ answer r → Sent r → (q : Request) → outstanding s ≡ some q
+      → Fresh s l r
   fresh-sent r range e i q w =
       let match : Matching (s .newest) (r .version) (r .sequence) (r .command) = rw e at (heard-matches (s .newest) (good r)) in
       record {
         request = q;
         waiting = w;
         made = any-so (λ (y : Message). MadeTo (l .handled) y × (frame y ≡ frame r)) (λ y a.
-            each-any (Known s) (λ (h : Handled). replyMade h ≡ some y) _ (λ h k m. carried-out s (kept .ranged) q w r h k match range y (a .1) m) (l .handled) (kept .handled) (a .0))
+            each-any (Known s) (λ (h : Handled). replyMade h ≡ some y) _
+            (λ h k m. carried-out s (kept .ranged) q w r h k match range y (a .1) m) (l .handled) (kept .handled) (a .0))
             (l .sent) (sent-made r i);
       }
 
   -- by what is outstanding
-  settled-fresh : (t : Option RecoveryStep) (k : Option Request) (r : Message) → s .recovery ≡ t → ((q : Request) → outstandingOf t k ≡ some q → Fresh s l r)
+  settled-fresh : (t : Option RecoveryStep) (k : Option Request) (r : Message) → s .recovery ≡ t
+      → ((q : Request) → outstandingOf t k ≡ some q → Fresh s l r)
       → let o = settle t (isSome k) (answer r) in FreshReport s l (handedReportOf (o .handed)) (Main.handedData (o .handed))
   unfolding settle handedReportOf Main.handedData Requester.fetched
   settled-fresh none none r i f = tt
@@ -107,7 +114,8 @@ module _ (s : MainState) (l : Log) (kept : Kept s l) where
   settled-fresh (some alert) k r i f = (i, f _ refl)
 
   -- nothing is handed out
-  silent : (t : Option RecoveryStep) (k : Bool) (h : Heard) → HeardFrom 0 [] h → let o = settle t k h in FreshReport s l (handedReportOf (o .handed)) (Main.handedData (o .handed))
+  silent : (t : Option RecoveryStep) (k : Bool) (h : Heard) → HeardFrom 0 [] h
+      → let o = settle t k h in FreshReport s l (handedReportOf (o .handed)) (Main.handedData (o .handed))
   unfolding settle handedReportOf
   silent t k (answer m) f = let z : _≡_ {A = ℕ} 0 1 = (let e = f .1 in cc) in absurd (omega arith)
   silent none false ground f = tt
@@ -135,7 +143,8 @@ module _ (s : MainState) (l : Log) (kept : Kept s l) where
   reads-of piece = piece-reads piece s tail (rest-nonzero (l .read)) (kept .progress)
 
   -- the bytes since the last 00
-  call-progress : (c : MainCall) → isStart c ≡ false → let x = mainMeant s c in x .state .received ≡ progressOf (split (l .read ++ bytesReadBy c (x .answer)) .rest)
+  call-progress : (c : MainCall) → isStart c ≡ false
+      → let x = mainMeant s c in x .state .received ≡ progressOf (split (l .read ++ bytesReadBy c (x .answer)) .rest)
   unfolding mainMeant Requester.interrupt Requester.send
   call-progress Main.start h = absurd (false≢true (sym h))
   call-progress (Main.request command d room) h =
@@ -161,7 +170,8 @@ module _ (s : MainState) (l : Log) (kept : Kept s l) where
     left-ranged = made-ranged s (kept .ranged) m typed (λ piece. reads-ranged s _ (kept .ranged) (reads-of piece))
 
     -- a call that is no accepted start
-    goes-kept : Goes s (does .state) (framesOf does) → does .state .received ≡ progressOf (split (l .read ++ bytesReadBy (m .call) (does .answer)) .rest)
+    goes-kept : Goes s (does .state) (framesOf does)
+        → does .state .received ≡ progressOf (split (l .read ++ bytesReadBy (m .call) (does .answer)) .rest)
         → restarts (m .call) (does .answer) ≡ false → Kept (does .state) logged
     unfolding mainLogged
     goes-kept g e n =
@@ -172,12 +182,22 @@ module _ (s : MainState) (l : Log) (kept : Kept s l) where
           read = each-append Byte (l .read) _ (kept .read) (read-bytes (m .call) typed (does .answer));
           bytes = kept .bytes;
           asked = each-append (PutOut (does .state)) (l .asked) (framesOf does) (each-then (PutOut s) _ still (l .asked) (kept .asked))
-              (each-and (λ (x : Frame). Agrees x (does .state)) RangedFrame _ (λ x a r. record { agrees = a; ranged = r }) (framesOf does) (put-goes g .0) (left-ranged .1));
+              (each-and (λ (x : Frame). Agrees x (does .state)) RangedFrame _ (λ x a r. record { agrees = a; ranged = r }) (framesOf does)
+              (put-goes g .0) (left-ranged .1));
           ordered =
-              joined (l .asked) (framesOf does) (each-then (PutOut s) _ (λ x w. agrees-goes x (w .agrees) g .1) (l .asked) (kept .asked)) (kept .ordered) (put-goes g .1);
+              joined (l .asked) (framesOf does) (each-then (PutOut s) _ (λ x w. agrees-goes x (w .agrees) g .1) (l .asked) (kept .asked))
+              (kept .ordered) (put-goes g .1);
           heard = kept .heard;
           before = each-then _ _ (λ (h : Handled) f. front-more (framesOf does) f) (l .handled) (kept .before);
-          handled = each-then (Known s) _ (λ h k. record { nonzero = k .nonzero; asked = each-then (PutOut s) _ still (h .asked) (k .asked); put-out = k .put-out; reply = k .reply }) (l .handled) (kept .handled);
+          handled =
+              each-then (Known s) _
+              (λ h k.
+              record {
+                nonzero = k .nonzero;
+                asked = each-then (PutOut s) _ still (h .asked) (k .asked);
+                put-out = k .put-out;
+                reply = k .reply;
+              }) (l .handled) (kept .handled);
           pending = kept .pending;
           sent = kept .sent;
         })
@@ -188,7 +208,19 @@ module _ (s : MainState) (l : Log) (kept : Kept s l) where
     -- an accepted start
     fresh-kept : Kept mainFresh (Ends.emptyLog false (l .received) (l .origin))
     unfolding mainFresh progressOf split
-    fresh-kept = record { progress = refl; ranged = fresh-ranged; read = tt; bytes = kept .bytes; asked = tt; ordered = tt; heard = tt; handled = tt; before = tt; pending = λ r e. absurd (none-some e); sent = tt }
+    fresh-kept = record {
+      progress = refl;
+      ranged = fresh-ranged;
+      read = tt;
+      bytes = kept .bytes;
+      asked = tt;
+      ordered = tt;
+      heard = tt;
+      handled = tt;
+      before = tt;
+      pending = λ r e. absurd (none-some e);
+      sent = tt;
+    }
 
     -- lent too little
     little : mainEnough (m .call) (m .lent) ≡ false → does ≡ mainMeans (Main.refused 12) (mainUntouched (m .call)) s
@@ -212,11 +244,13 @@ module _ (s : MainState) (l : Log) (kept : Kept s l) where
             goes-kept (call-goes s m (λ _. e)) (rw (little e, read-refused (m .call), append-nil) (kept .progress)) (rw (little e))
         by true true e i = start-kept (whole e ∙ rw (start-is (m .call) i)) i
         by true false e i =
-            goes-kept (call-goes s m (λ f. absurd (false≢true (sym i ∙ f)))) (rw (whole e) (call-progress (m .call) i)) (no-restart (m .call) i (does .answer))
+            goes-kept (call-goes s m (λ f. absurd (false≢true (sym i ∙ f)))) (rw (whole e) (call-progress (m .call) i))
+            (no-restart (m .call) i (does .answer))
 
   -- ---- what it hands out
 
-  put-fresh : (room : List ℕ) (x : Requester.MainDone) → let y = Main.putMeans (x .refusal) room (x .out) (x .state) in FreshBy s l (y .answer) (y .out)
+  put-fresh : (room : List ℕ) (x : Requester.MainDone)
+      → let y = Main.putMeans (x .refusal) room (x .out) (x .state) in FreshBy s l (y .answer) (y .out)
   put-fresh room x = by (x .refusal)
     where
       by : (k : Option ℕ) → let y = Main.putMeans k room (x .out) (x .state) in FreshBy s l (y .answer) (y .out)
@@ -228,11 +262,13 @@ module _ (s : MainState) (l : Log) (kept : Kept s l) where
   done-fresh (some k) t = tt
 
   -- the messages that it reads were sent
-  call-fresh : (c : MainCall) → MainTyped c → Each Sent (goodMessages (nonEmpty (split (tail ++ bytesReadBy c (mainMeant s c .answer)) .closed)))
+  call-fresh : (c : MainCall) → MainTyped c
+      → Each Sent (goodMessages (nonEmpty (split (tail ++ bytesReadBy c (mainMeant s c .answer)) .closed)))
       → FreshBy s l (mainMeant s c .answer) (mainMeant s c .out)
   unfolding mainMeant
   call-fresh Main.start t i = tt
-  call-fresh (Main.request command d room) t i = put-fresh room (Requester.request (length room) (record { command = command; payload = d }) s)
+  call-fresh (Main.request command d room) t i =
+      put-fresh room (Requester.request (length room) (record { command = command; payload = d }) s)
   call-fresh Main.interrupt t i = done-fresh (Requester.interrupt s .refusal) (Requester.interrupt s .state)
   call-fresh (Main.send room) t i = put-fresh room (Requester.send (length room) s)
   call-fresh (Main.receive piece) t i =
@@ -249,11 +285,13 @@ module _ (s : MainState) (l : Log) (kept : Kept s l) where
         let bs = bytesReadBy (m .call) a in
         let x : Each Sent (goodMessages (nonEmpty (split (l .read ++ bs) .closed))) = (rw r at w) .to-main in
         let fs = split (l .read) .closed in
-        let e : goodMessages (nonEmpty (split (l .read ++ bs) .closed)) ≡ goodMessages (nonEmpty fs) ++ goodMessages (nonEmpty (split (tail ++ bs) .closed)) =
+        let e : goodMessages (nonEmpty (split (l .read ++ bs) .closed))
+        ≡ goodMessages (nonEmpty fs) ++ goodMessages (nonEmpty (split (tail ++ bs) .closed)) =
         rw (closed-join (l .read) bs, closed-rest (l .read) bs, nonEmpty-append fs _, gathered-append goodOf (nonEmpty fs) _) in
         each-right Sent (goodMessages (nonEmpty fs)) _ (rw e at x)
 
-    pub main-fresh : let x = mainMeantMade s m in Wire (mainLogged l (m .call) (x .answer) (x .out) (x .state .newest)) → FreshBy s l (x .answer) (x .out)
+    pub main-fresh : let x = mainMeantMade s m in
+        Wire (mainLogged l (m .call) (x .answer) (x .out) (x .state .newest)) → FreshBy s l (x .answer) (x .out)
     unfolding mainMeantMade mainMeant
     main-fresh w = by (mainEnough (m .call) (m .lent)) refl
       where
@@ -264,4 +302,6 @@ module _ (s : MainState) (l : Log) (kept : Kept s l) where
             by-start : (u : Bool) → isStart (m .call) ≡ u → let x = mainMeant s (m .call) in
                 Wire (mainLogged l (m .call) (x .answer) (x .out) (x .state .newest)) → FreshBy s l (x .answer) (x .out)
             by-start true i v = rw (start-is (m .call) i) tt
-            by-start false i v = let x = mainMeant s (m .call) in call-fresh (m .call) typed (last-read (x .answer) (x .out) (x .state .newest) (no-restart (m .call) i (x .answer)) v)
+            by-start false i v =
+                let x = mainMeant s (m .call) in
+                call-fresh (m .call) typed (last-read (x .answer) (x .out) (x .state .newest) (no-restart (m .call) i (x .answer)) v)

@@ -1,4 +1,5 @@
--- What a receive of the main processor's end comes to, by the bytes that it has read since its start: an answer is the good message of the frame that ended.
+-- What a receive of the main processor's end comes to, by the bytes that it has read since its start:
+-- an answer is the good message of the frame that ended.
 -- Assumes nothing.
 use mathlib.Core.Path.{_≡_, refl, sym, ap, _∙_}
 use mathlib.Core.Bool.{Bool, true, false, cond, _||_, false≢true}
@@ -64,12 +65,14 @@ unfolding nonEmpty
 closes-came s [] = rw (tail-within [] (omega arith)) (refl, quiet (some []) refl)
 closes-came s (b ∷ bs) = by (ltb longest-form (length (b ∷ bs))) refl
   where
-    by : (over : Bool) → ltb longest-form (length (b ∷ bs)) ≡ over → let r = Requester.mainClosed (progressOf (b ∷ bs)) (mainWithReceived s (some [])) in
+    by : (over : Bool) → ltb longest-form (length (b ∷ bs)) ≡ over
+        → let r = Requester.mainClosed (progressOf (b ∷ bs)) (mainWithReceived s (some [])) in
         (r .state .received ≡ some []) × Came s (goodMessages ((b ∷ bs) ∷ [])) r
     by true k = rw (tail-over (b ∷ bs) (ltb-true _ _ k)) (refl, quiet (some []) refl)
     by false k =
         let h = hear (s .newest) (judge (b ∷ bs)) in
-        rw (tail-within (b ∷ bs) (ltb-false _ _ k)) (hears-progress s (some []) h, hearing (some []) h refl (heard-from (s .newest) (b ∷ bs)))
+        rw (tail-within (b ∷ bs) (ltb-false _ _ k))
+        (hears-progress s (some []) h, hearing (some []) h refl (heard-from (s .newest) (b ∷ bs)))
 
 module _ (s : MainState) (p : List ℕ) (z : Each (λ b. 1 ≤ b) p) (e : s .received ≡ progressOf p) where
   closes-byte : Requester.mainByte s 0 ≡ Requester.mainClosed (progressOf p) (mainWithReceived s (some []))
@@ -144,7 +147,8 @@ later : (s : MainState) (x : Option (List ℕ)) (ms : List Message) (r : Result)
 later s x ms r (quiet y e) = quiet y e
 later s x ms r (hearing y h e f) = hearing y h e f
 
-reads-later : (s : MainState) (x : Option (List ℕ)) (p : List ℕ) (b : ℕ) (bs : List ℕ) (r : Result) → Reads (mainWithReceived s x) (p ++ (b ∷ [])) bs r → Reads s p (b ∷ bs) r
+reads-later : (s : MainState) (x : Option (List ℕ)) (p : List ℕ) (b : ℕ) (bs : List ℕ) (r : Result)
+    → Reads (mainWithReceived s x) (p ++ (b ∷ [])) bs r → Reads s p (b ∷ bs) r
 reads-later s x p b bs r h =
     let k = append-snoc p b bs in
     record { progress = rw k at (h .progress); came = later s x _ r (rw k at (h .came)) }
@@ -158,12 +162,16 @@ pub piece-reads : (piece : List ℕ) (s : MainState) (p : List ℕ) → Each (λ
     → let r = Requester.receive s piece in Reads s p (take (r .used) piece) (r .result)
 unfolding Requester.receive
 piece-reads [] s p z e = record { progress = rw (append-nil, split-none p z) e; came = quiet (s .received) refl }
-piece-reads (b ∷ bs) s p z e = by (Requester.stops s b) refl (λ h f. piece-reads bs (mainWithReceived s (grown (s .received) b)) (p ++ (b ∷ [])) h f)
+piece-reads (b ∷ bs) s p z e =
+    by (Requester.stops s b) refl (λ h f. piece-reads bs (mainWithReceived s (grown (s .received) b)) (p ++ (b ∷ [])) h f)
   where
     by : (t : Bool) → Requester.stops s b ≡ t
         → (Each (λ b. 1 ≤ b) (p ++ (b ∷ [])) → grown (s .received) b ≡ progressOf (p ++ (b ∷ []))
-        → let r = Requester.receive (mainWithReceived s (grown (s .received) b)) bs in Reads (mainWithReceived s (grown (s .received) b)) (p ++ (b ∷ [])) (take (r .used) bs) (r .result))
-        → let r = cond t (Requester.receiveResult 1 (Requester.mainByte s b)) (let x = Requester.receive (Requester.mainByte s b .state) bs in Requester.receiveResult (suc (x .used)) (x .result)) in
+        → let r = Requester.receive (mainWithReceived s
+        (grown (s .received) b)) bs in Reads (mainWithReceived s (grown (s .received) b)) (p ++ (b ∷ [])) (take (r .used) bs) (r .result))
+        → let r = cond t (Requester.receiveResult 1 (Requester.mainByte s b)) (let x =
+        Requester.receive (Requester.mainByte s b .state) bs in
+        Requester.receiveResult (suc (x .used)) (x .result)) in
         Reads s p (take (r .used) (b ∷ bs)) (r .result)
     by true k i = at-stop b k
       where

@@ -1,5 +1,5 @@
--- One exchange in which nothing is lost, from both ends at rest: what was put out and read after each of its calls is in order, the reply is handed out, and
--- both ends are at rest again. Assumes nothing.
+-- One exchange in which nothing is lost, from both ends at rest: what was put out and read after each of its calls is in order, the reply
+-- is handed out, and both ends are at rest again. Assumes nothing.
 use mathlib.Core.Path.{_≡_, refl, sym, ap, _∙_}
 use mathlib.Core.Bool.{Bool, true, false}
 use mathlib.Core.List.{List, [], _∷_, _++_, append-nil}
@@ -42,8 +42,10 @@ use Rattle.supervisor_claims.specs.Replies.{replyBy, takenBytes}
 use Rattle.supervisor_claims.proofs.claims.LastSetLaws.{frames-owed}
 use Rattle.supervisor_claims.proofs.laws.TakenAll.{Quiet, larger-room, after-all, frame-last}
 use Rattle.both_claims.specs.Ends
-use Rattle.both_claims.specs.Ends.{GoesOn, acceptsRestore, got, over, InOrderAfter, replyMessage, newestReply, brought, asMessage, endsAfter, endsAfterAll, Always, EndCallTyped}
-use Rattle.both_claims.proofs.RoundTrip.{Waiting, next-number, waiting, replied-stays, reply-heard, whole-heard, delivered-parts, reply-waits, reply-taken}
+use Rattle.both_claims.specs.Ends.{GoesOn, acceptsRestore, got, over, InOrderAfter, replyMessage, newestReply, brought, asMessage}
+use Rattle.both_claims.specs.Ends.{endsAfter, endsAfterAll, Always, EndCallTyped}
+use Rattle.both_claims.proofs.RoundTrip.{Waiting, next-number, waiting, replied-stays, reply-heard, whole-heard, delivered-parts}
+use Rattle.both_claims.proofs.RoundTrip.{reply-waits, reply-taken}
 use Rattle.both_claims.specs.RoundTrip.{Delivery, Taking, allReceived}
 use Rattle.both_claims.proofs.FreshAnswer.{in-order-wire}
 use Rattle.both_claims.proofs.laws.Lists.{none-some, more-among, both-among}
@@ -51,9 +53,11 @@ use Rattle.both_claims.proofs.laws.Table.{frame-some}
 use Rattle.both_claims.proofs.laws.MainCalls.{no-restart}
 use Rattle.both_claims.proofs.laws.SupervisorFrames.{frames-none}
 use Rattle.both_claims.proofs.laws.BothCalls.{Both, keeps-both}
-use Rattle.both_claims.proofs.laws.Logged.{Logged, logged, logged-in-order, main-logs, supervisor-logs, brought-none, brought-one, some-left, none-left}
+use Rattle.both_claims.proofs.laws.Logged.{Logged, logged, logged-in-order, main-logs, supervisor-logs, brought-none, brought-one}
+use Rattle.both_claims.proofs.laws.Logged.{some-left, none-left}
 use Rattle.both_claims.proofs.laws.Logged.{frames-one, frames-whole, rest-whole, good-whole, good-of}
-use Rattle.both_claims.specs.Exchanges.{Exchange, exchangeRequest, requestBytes, exchangeDelivery, exchangeTake, replyBytesTaken, exchangeAnswer, exchangeCalls, allHanded}
+use Rattle.both_claims.specs.Exchanges.{Exchange, exchangeRequest, requestBytes, exchangeDelivery, exchangeTake, replyBytesTaken}
+use Rattle.both_claims.specs.Exchanges.{exchangeAnswer, exchangeCalls, allHanded}
 use Rattle.both_claims.specs.Ends.{InOrder}
 
 -- ---- between two exchanges
@@ -75,10 +79,12 @@ tail-none bs e = by (ltb longest-form (length bs)) refl
     by true k = absurd (none-some (sym (tail-over bs (ltb-true _ _ k)) ∙ e))
     by false k = let f : some bs ≡ some [] = sym (tail-within bs (ltb-false _ _ k)) ∙ e in cc
 
-both-after : (e : Ends.Ends) → Both e → (ts : List Ends.EndCall) → Each EndCallTyped ts → Always InOrderAfter e ts → Both (endsAfterAll e ts)
+both-after : (e : Ends.Ends) → Both e → (ts : List Ends.EndCall) → Each EndCallTyped ts → Always InOrderAfter e ts
+    → Both (endsAfterAll e ts)
 unfolding endsAfterAll
 both-after e both [] typed o = both
-both-after e both (t ∷ ts) typed o = both-after (endsAfter e t) (keeps-both e both t (typed .0) (in-order-wire _ (o .0))) ts (typed .1) (o .1)
+both-after e both (t ∷ ts) typed o =
+    both-after (endsAfter e t) (keeps-both e both t (typed .0) (in-order-wire _ (o .0))) ts (typed .1) (o .1)
 
 module _ (e : Ends.Ends) (rest : AtRest e) (x : Exchange e) where
   abbrev q : Request
@@ -115,8 +121,8 @@ module _ (e : Ends.Ends) (rest : AtRest e) (x : Exchange e) where
 
   waits-for : Waiting (asks .parts) q (requestBytes x)
   waits-for =
-      waiting (e .main) (rest .both .main) (x .request-lent) (q .command) (q .payload) (x .room) (x .count) main-between (x .request-typed .0) (x .request-typed .1)
-      (replied-stays (x .image) (view (e .supervisor)) m r (x .earns)) (x .put)
+      waiting (e .main) (rest .both .main) (x .request-lent) (q .command) (q .payload) (x .room) (x .count) main-between
+      (x .request-typed .0) (x .request-typed .1) (replied-stays (x .image) (view (e .supervisor)) m r (x .earns)) (x .put)
 
   whole-frame : requestBytes x ≡ frame m
   unfolding requestFrame
@@ -125,11 +131,13 @@ module _ (e : Ends.Ends) (rest : AtRest e) (x : Exchange e) where
   abbrev put-frame : Frame
   put-frame = record { number = n; bytes = requestBytes x }
 
-  first-log : Logged (e₁ .log) (e .log .read) (e .log .asked ++ (put-frame ∷ [])) (e .log .received) (e .log .heard) (e .log .pending) (e .log .sent)
+  first-log : Logged (e₁ .log) (e .log .read) (e .log .asked ++ (put-frame ∷ [])) (e .log .received) (e .log .heard) (e .log .pending)
+      (e .log .sent)
   unfolding endsAfter
   first-log =
       let f = frames-one (x .count) (asks .out) n (rw whole-frame (let k = frame-some m in omega (arith, k))) in
-      rw (x .put) (rw (f, append-nil (e .log .read)) at (main-logs (logged (e .log)) (Main.request (q .command) (q .payload) (x .room)) (Main.put (x .count)) (asks .out) n refl))
+      rw (x .put) (rw (f, append-nil (e .log .read))
+      at (main-logs (logged (e .log)) (Main.request (q .command) (q .payload) (x .room)) (Main.put (x .count)) (asks .out) n refl))
 
   -- ---- its frame
 
@@ -172,17 +180,25 @@ module _ (e : Ends.Ends) (rest : AtRest e) (x : Exchange e) where
       record {
         sound = d .0;
         between = ap (λ (y : State). y .received) (d .1);
-        pending = reply-waits (e .supervisor) s (rest .between) (x .image) m (x .passed) r (x .earns) delivery ∙ rw (rest .quiet .terminator-owed);
-        none-owed = ap (λ (y : State). y .terminator-owed) (d .1) ∙ frames-owed (x .image) (form m ∷ []) (view (e .supervisor)) ∙ rest .quiet .terminator-owed;
+        pending =
+            reply-waits (e .supervisor) s (rest .between) (x .image) m (x .passed) r (x .earns) delivery
+            ∙ rw (rest .quiet .terminator-owed);
+        none-owed =
+            ap (λ (y : State). y .terminator-owed) (d .1) ∙ frames-owed (x .image) (form m ∷ []) (view (e .supervisor))
+            ∙ rest .quiet .terminator-owed;
       }
 
-  second-log : Logged (e₂ .log) (e .log .read) (e .log .asked ++ (put-frame ∷ [])) (e .log .received ++ frame m) (e .log .heard ++ (m ∷ [])) (some r) (e .log .sent)
+  second-log : Logged (e₂ .log) (e .log .read) (e .log .asked ++ (put-frame ∷ [])) (e .log .received ++ frame m) (e .log .heard ++ (m ∷ []))
+      (some r) (e .log .sent)
   unfolding endsAfter Received.startsAnew Received.isAcceptedStart replyBy replyOf
   second-log =
       let made : replyMessage (replyBy (x .image) (view (e .supervisor)) (verdict (form m))) ≡ some r = rw (x .passed) (x .earns) in
-      let frames : Received.framesClosedBy (e .log .received) (Received.bytesReceivedBy (exchangeDelivery x)) ≡ form m ∷ [] = rw received-whole (frames-whole (e .log .received) (rest .whole) m) in
+      let frames : Received.framesClosedBy (e .log .received) (Received.bytesReceivedBy (exchangeDelivery x)) ≡ form m ∷ [] =
+      rw received-whole (frames-whole (e .log .received) (rest .whole) m) in
       let w = supervisor-logs first-log (view (e .supervisor)) (exchangeDelivery x) (view q₂ .pending) (rw (x .frame-enough)) in
-      let o = brought-one (e₁ .log) (view (e .supervisor)) (exchangeDelivery x) (form m) (rw (first-log .receives) frames) r made (e .log .pending) in
+      let o =
+      brought-one (e₁ .log) (view (e .supervisor)) (exchangeDelivery x) (form m) (rw (first-log .receives) frames) r made
+      (e .log .pending) in
       let p = some-left (view q₂ .pending) (rw (replied .pending) (frame-some r)) _ r o in
       record {
         reads = w .reads;
@@ -207,13 +223,16 @@ module _ (e : Ends.Ends) (rest : AtRest e) (x : Exchange e) where
       ∙ after-all (view q₂)
       ∙ rw (replied .between, replied .pending, replied .none-owed, frame-last r)
 
-  third-log : Logged (e₃ .log) (e .log .read) (e .log .asked ++ (put-frame ∷ [])) (e .log .received ++ frame m) (e .log .heard ++ (m ∷ [])) none (e .log .sent ++ (r ∷ []))
+  third-log : Logged (e₃ .log) (e .log .read) (e .log .asked ++ (put-frame ∷ [])) (e .log .received ++ frame m) (e .log .heard ++ (m ∷ []))
+      none (e .log .sent ++ (r ∷ []))
   unfolding endsAfter Received.startsAnew Received.isAcceptedStart Received.bytesReceivedBy Received.pieceRead gathered
   third-log =
       let w₂ = e .log .received ++ frame m in
-      let none-brought : Received.framesClosedBy (e₂ .log .received) (Received.bytesReceivedBy (exchangeTake x)) ≡ [] = rw (x .take-enough) (frames-none (e₂ .log .received)) in
+      let none-brought : Received.framesClosedBy (e₂ .log .received) (Received.bytesReceivedBy (exchangeTake x)) ≡ [] =
+      rw (x .take-enough) (frames-none (e₂ .log .received)) in
       let w = supervisor-logs second-log (view q₂) (exchangeTake x) (view q₃ .pending) (rw (x .take-enough)) in
-      let o : newestReply (some r) (brought (e₂ .log) (view q₂) (exchangeTake x)) ≡ some r = rw (brought-none (e₂ .log) (view q₂) (exchangeTake x) none-brought) in
+      let o : newestReply (some r) (brought (e₂ .log) (view q₂) (exchangeTake x)) ≡ some r =
+      rw (brought-none (e₂ .log) (view q₂) (exchangeTake x) none-brought) in
       let p = none-left (view q₃ .pending) (ap (λ (s : State). s .pending) all-taken) _ r o in
       record {
         reads = w .reads;
@@ -234,17 +253,21 @@ module _ (e : Ends.Ends) (rest : AtRest e) (x : Exchange e) where
         take = ((x .space, refl), tt);
         all = ap (λ (y : State). y .pending) all-taken;
       } in
-      sym (append-nil (replyBytesTaken x)) ∙ reply-taken (e .supervisor) s (rest .between) (x .image) m (x .passed) r (x .earns) delivery t ∙ rw (rest .quiet .terminator-owed)
+      sym (append-nil (replyBytesTaken x)) ∙ reply-taken (e .supervisor) s (rest .between) (x .image) m (x .passed) r (x .earns) delivery t
+      ∙ rw (rest .quiet .terminator-owed)
 
   abbrev hears : MainDid
   hears = mainMade (asks .parts) (exchangeAnswer x)
 
   answers : InRange r × (r .sequence ≡ replySequence (mainView (asks .parts) .newest)) × (r .command ≡ 0x02 → ⊥)
-  answers = whole-heard (e .supervisor) (rest .both .supervisor) (rest .between) (asks .parts) q (requestBytes x) waits-for (x .image) (x .image-bytes) (x .passed) r (x .earns)
+  answers =
+      whole-heard (e .supervisor) (rest .both .supervisor) (rest .between) (asks .parts) q (requestBytes x) waits-for (x .image)
+      (x .image-bytes) (x .passed) r (x .earns)
 
   -- the reply is handed out, and none is outstanding
   record Answered : Type 0 where
-    answer : hears .answer ≡ Main.received (length (frame r)) (MainCalls.answered (r .version) (r .sequence) (r .command) (length (r .payload))) false false
+    answer : hears .answer
+        ≡ Main.received (length (frame r)) (MainCalls.answered (r .version) (r .sequence) (r .command) (length (r .payload))) false false
     out : hears .out ≡ r .payload
     state : mainView (hears .parts) ≡ mainState (mainView (asks .parts) .newest) none none false (some [])
 
@@ -258,11 +281,14 @@ module _ (e : Ends.Ends) (rest : AtRest e) (x : Exchange e) where
       let k = MainHistory.one-call (asks .parts) (exchangeAnswer x) (w .valid) in
       record { answer = rw (enough, h) at (k .answer); out = rw (enough, h) at (k .out); state = rw (enough, h) at (k .state) }
 
-  fourth-log : Logged (e₄ .log) (e .log .read ++ frame r) (e .log .asked ++ (put-frame ∷ [])) (e .log .received ++ frame m) (e .log .heard ++ (m ∷ [])) none (e .log .sent ++ (r ∷ []))
+  fourth-log : Logged (e₄ .log) (e .log .read ++ frame r) (e .log .asked ++ (put-frame ∷ [])) (e .log .received ++ frame m)
+      (e .log .heard ++ (m ∷ [])) none (e .log .sent ++ (r ∷ []))
   unfolding endsAfter framesPutOut
   fourth-log =
       let c = exchangeAnswer x .call in
-      let k = main-logs third-log c (hears .answer) (hears .out) (Layout.newestNumber (hears .parts .requester)) (no-restart c refl (hears .answer)) in
+      let k =
+      main-logs third-log c (hears .answer) (hears .out) (Layout.newestNumber (hears .parts .requester))
+      (no-restart c refl (hears .answer)) in
       record {
         reads = k .reads ∙ rw (answered .answer, taken-whole, take-length);
         asks = k .asks ∙ rw (answered .answer, append-nil (e .log .asked ++ (put-frame ∷ [])));
@@ -275,7 +301,8 @@ module _ (e : Ends.Ends) (rest : AtRest e) (x : Exchange e) where
   -- ---- in order
 
   pub exchange-typed : Each EndCallTyped (exchangeCalls x)
-  exchange-typed = (x .request-typed, ((x .image-bytes, put-bytes), (x .space-bytes, (rw taken-whole (frame-bytes r (answers .0 .typed .payload)), tt))))
+  exchange-typed =
+      (x .request-typed, ((x .image-bytes, put-bytes), (x .space-bytes, (rw taken-whole (frame-bytes r (answers .0 .typed .payload)), tt))))
 
   pub exchange-in-order : Always InOrderAfter e (exchangeCalls x)
   exchange-in-order =
@@ -298,7 +325,8 @@ module _ (e : Ends.Ends) (rest : AtRest e) (x : Exchange e) where
     idle = rw (answered .state);
     between = ap (λ (s : State). s .received) all-taken;
     whole = rw (fourth-log .receives) (rest-whole (e .log .received) (rest .whole) m);
-    quiet = record { pending = ap (λ (s : State). s .pending) all-taken; terminator-owed = ap (λ (s : State). s .terminator-owed) all-taken };
+    quiet =
+        record { pending = ap (λ (s : State). s .pending) all-taken; terminator-owed = ap (λ (s : State). s .terminator-owed) all-taken };
     in-order = exchange-in-order .1 .1 .1 .0;
   }
 
@@ -308,7 +336,10 @@ module _ (e : Ends.Ends) (rest : AtRest e) (x : Exchange e) where
       let b = x .frame-enough in
       let t = x .take-enough in (
         no-restart (exchangeRequest x .call) refl (asks .answer),
-        (record { no-start = rw b; no-restore = rw b }, (record { no-start = rw t; no-restore = rw t }, (no-restart (exchangeAnswer x .call) refl (hears .answer), tt))),
+        (
+          record { no-start = rw b; no-restore = rw b },
+          (record { no-start = rw t; no-restore = rw t }, (no-restart (exchangeAnswer x .call) refl (hears .answer), tt)),
+        ),
       )
 
   -- a number was taken

@@ -1,4 +1,5 @@
--- What the main processor's end keeps and puts out is in range: numbers to the last one, commands and data of bytes, data that fit a message.
+-- What the main processor's end keeps and puts out is in range:
+-- numbers to the last one, commands and data of bytes, data that fit a message.
 -- Assumes nothing.
 use mathlib.Core.Path.{_≡_, refl}
 use mathlib.Core.List.{List}
@@ -13,11 +14,13 @@ use Rattle.octets.proofs.Conditions.{cond-by}
 use Rattle.line.specs.Limits.{longest-data}
 use Rattle.line.specs.Message.{InRange}
 use Rattle.requester.specs.Limits.{last-number}
-use Rattle.requester.specs.State.{Request, RecoveryStep, fetch, acknowledge, alert, MainState, mainFresh, stepRequest, isSome, outstanding, outstandingOf, requestFrame}
+use Rattle.requester.specs.State.{Request, RecoveryStep, fetch, acknowledge, alert, MainState, mainFresh, stepRequest, isSome, outstanding}
+use Rattle.requester.specs.State.{outstandingOf, requestFrame}
 use Rattle.requester.specs.Requester
 use Rattle.requester.specs.Requester.{staysOut}
 use Rattle.requester_claims.specs.Histories as Main
-use Rattle.requester_claims.specs.Histories.{MainMeans, mainMeans, putMeans, mainDoneMeans, mainMeant, mainMeantMade, mainEnough, MainCall, MainMade}
+use Rattle.requester_claims.specs.Histories.{MainMeans, mainMeans, putMeans, mainDoneMeans, mainMeant, mainMeantMade, mainEnough, MainCall}
+use Rattle.requester_claims.specs.Histories.{MainMade}
 use Rattle.requester_claims.specs.Numbers.{Frame, framesPutOut}
 use Rattle.requester_claims.proofs.Numbers.{framesOf, frames-put, some-bytes}
 use Rattle.both_claims.specs.Ends.{MainTyped, asMessage}
@@ -69,12 +72,15 @@ moved-ranged Requester.same s r = r
 moved-ranged Requester.again s r = record { newest = r .newest; kept = r .kept }
 moved-ranged (Requester.anew t) s r =
     cond-by (λ (m : Requester.Moved). Ranged (m .state)) (leb last-number (s .newest)) _ _
-    (λ _. record { newest = r .newest; kept = tt }) (λ e. record { newest = omega (arith, leb-false last-number (s .newest) e); kept = r .kept })
+    (λ _. record { newest = r .newest; kept = tt })
+    (λ e. record { newest = omega (arith, leb-false last-number (s .newest) e); kept = r .kept })
 moved-ranged Requester.idle s r = record { newest = r .newest; kept = tt }
 
-came-ranged : {ms : List Rattle.line.specs.Message.Message} (s : MainState) (x : Requester.Result) → Ranged s → Came s ms x → Ranged (x .state)
+came-ranged : {ms : List Rattle.line.specs.Message.Message} (s : MainState) (x : Requester.Result) → Ranged s → Came s ms x
+    → Ranged (x .state)
 came-ranged s x r (quiet bs e) = rw e (record { newest = r .newest; kept = r .kept })
-came-ranged s x r (hearing bs h e f) = rw e (moved-ranged _ (Requester.mainWithReceived s bs) (record { newest = r .newest; kept = r .kept }))
+came-ranged s x r (hearing bs h e f) =
+    rw e (moved-ranged _ (Requester.mainWithReceived s bs) (record { newest = r .newest; kept = r .kept }))
 
 -- ---- calls
 
@@ -92,13 +98,17 @@ module _ (s : MainState) (r : Ranged s) where
   -- a frame of this request, and the state that is left
   put-ranged : (n : ℕ) (q : Request) (room : List ℕ) (t : MainState) → t .newest ≡ n → n ≤ last-number → RangedRequest q → Ranged t
       → MeansRanged (mainMeans (Main.put (length (requestFrame n q))) (Rattle.octets.specs.Bytes.overlay 0 (requestFrame n q) room) t)
-  put-ranged n q room t e h k rt =
-      (rt, rw (e, frames-put n (requestFrame n q) room (some-bytes n q)) (record { request = q; bytes = refl; in-range = ranged-message n q h k }, tt))
+  put-ranged n q room t e h k rt = (
+    rt,
+    rw (e, frames-put n (requestFrame n q) room (some-bytes n q))
+        (record { request = q; bytes = refl; in-range = ranged-message n q h k }, tt),
+  )
 
   keep-ranged : (q : Request) → RangedRequest q → KeptRanged (Requester.keep q)
   keep-ranged q k = cond-by KeptRanged (staysOut (q .command)) _ _ (λ _. k) (λ _. tt)
 
-  request-ranged : (command : ℕ) (d room : List ℕ) → command < 256 → Each Byte d → PutRanged room (Requester.request (length room) (record { command = command; payload = d }) s)
+  request-ranged : (command : ℕ) (d room : List ℕ) → command < 256 → Each Byte d
+      → PutRanged room (Requester.request (length room) (record { command = command; payload = d }) s)
   unfolding Requester.request
   request-ranged command d room c h =
       let q : Request = record { command = command; payload = d } in
@@ -111,7 +121,8 @@ module _ (s : MainState) (r : Ranged s) where
       let l : n ≤ last-number = omega (arith, leb-false last-number (s .newest) g) in
       put-ranged n q room _ refl l k (record { newest = l; kept = keep-ranged q k })))))
 
-  interrupt-ranged : (t : Option RecoveryStep) → MeansRanged (mainDoneMeans (Requester.interruptedIn t s .refusal) (Requester.interruptedIn t s .state))
+  interrupt-ranged : (t : Option RecoveryStep)
+      → MeansRanged (mainDoneMeans (Requester.interruptedIn t s .refusal) (Requester.interruptedIn t s .state))
   unfolding framesPutOut
   interrupt-ranged (some t) = (r, tt)
   interrupt-ranged none =

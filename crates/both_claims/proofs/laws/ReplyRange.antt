@@ -67,7 +67,8 @@ module _ (image : List ℕ) (s : State) (m : Message) where
       by none = tt
       by (some x) = effect-range x
 
-carried-sendable : (p : Parts) → Sound p → (image : List ℕ) → Each Byte image → (m : Message) → Requestable m → SendableReply (carryOut image (view p) m .reply)
+carried-sendable : (p : Parts) → Sound p → (image : List ℕ) → Each Byte image → (m : Message) → Requestable m
+    → SendableReply (carryOut image (view p) m .reply)
 unfolding carryOut
 carried-sendable p s image i m q = by (commandOfNumber (m .command))
   where
@@ -87,15 +88,16 @@ pub reply-of : (image : List ℕ) (s : State) (m r : Message) → replyToRequest
 unfolding replyOf replyFrame
 reply-of image s m r e = by (carryOut image s m .reply) refl (carried-range image s m) e
   where
-    by : (o : Option Requests.ReplyContent) → carryOut image s m .reply ≡ o → AnswerRange s m o → replyMessage (replyOf (m .sequence) o) ≡ some r → ReplyOf image s m r
+    by : (o : Option Requests.ReplyContent) → carryOut image s m .reply ≡ o → AnswerRange s m o
+        → replyMessage (replyOf (m .sequence) o) ≡ some r → ReplyOf image s m r
     by none f t g = absurd (none-some g)
     by (some z) f t g =
         let y : record { version = z .version; sequence = topSet (m .sequence); command = z .command; payload = z .payload } ≡ r = cc in
         rw (← y) (record { version = t .2; sequence = refl; command = t .0; no-failure = t .1; framed = rw f })
 
 -- its data can be sent
-pub reply-sendable : (p : Parts) → Sound p → (image : List ℕ) → Each Byte image → (m : Message) → Requestable m → (r : Message) → replyToRequest image (view p) m ≡ some r
-    → Sendable (r .payload)
+pub reply-sendable : (p : Parts) → Sound p → (image : List ℕ) → Each Byte image → (m : Message) → Requestable m → (r : Message)
+    → replyToRequest image (view p) m ≡ some r → Sendable (r .payload)
 unfolding replyOf
 reply-sendable p s image i m q r e = by (carryOut image (view p) m .reply) (carried-sendable p s image i m q) e
   where

@@ -1,4 +1,5 @@
--- The retained alert reply, where one from before the main processor's end was started has been dropped: it was made since, by a request that took an alert.
+-- The retained alert reply, where one from before the main processor's end was started has been dropped:
+-- it was made since, by a request that took an alert.
 -- Assumes nothing.
 use mathlib.Core.Path.{_≡_, refl, sym, ap, _∙_}
 use mathlib.Core.Bool.{Bool, true, false, _||_, false≢true}
@@ -14,7 +15,8 @@ use Rattle.line.specs.Message.{Message}
 use Rattle.supervisor.specs.State.{Alert, Retained, State}
 use Rattle.responder.specs.Commands.{commandNumber, withNumber, commandOfNumber}
 use Rattle.responder.specs.Requests
-use Rattle.responder.specs.Requests.{Verdict, failure, good, ReplyContent, Carried, verdict, carryOut, effect, afterVerdict, sent, oldest, alertData}
+use Rattle.responder.specs.Requests.{Verdict, failure, good, ReplyContent, Carried, verdict, carryOut, effect, afterVerdict, sent, oldest}
+use Rattle.responder.specs.Requests.{alertData}
 use Rattle.supervisor_claims.specs.FrameHistory.{frameCarried, framesCarried}
 use Rattle.supervisor_claims.specs.LastSet.{Origin}
 use Rattle.supervisor_claims.proofs.claims.RetainedClaim.{retained-stays, reboot-forgets, power-off-forgets}
@@ -26,12 +28,14 @@ use Rattle.both_claims.proofs.laws.Lists.{none-some, any-left, any-righ
 -- ---- an alert request
 
 -- a reply is retained under its number, and is sent again as first written
-asked-again : (v : ℕ) (s : State) (n : ℕ) (t : Retained) → t .sequence ≡ n → Requests.alertAsked v s n (some t) ≡ Requests.replyWith s (t .version) 0x07 (alertData (t .alert))
+asked-again : (v : ℕ) (s : State) (n : ℕ) (t : Retained) → t .sequence ≡ n
+    → Requests.alertAsked v s n (some t) ≡ Requests.replyWith s (t .version) 0x07 (alertData (t .alert))
 unfolding Requests.alertAsked
 asked-again v s n t e = rw (eq-eqb (t .sequence) n e)
 
 -- none is, and the oldest alert that waits is taken
-asked-anew : (v : ℕ) (s : State) (n : ℕ) (o : Option Retained) → retainedUnder n o ≡ false → Requests.alertAsked v s n o ≡ Requests.alertTaken v s n
+asked-anew : (v : ℕ) (s : State) (n : ℕ) (o : Option Retained) → retainedUnder n o ≡ false
+    → Requests.alertAsked v s n o ≡ Requests.alertTaken v s n
 unfolding Requests.alertAsked
 asked-anew v s n none e = refl
 asked-anew v s n (some t) e = rw e
@@ -120,18 +124,29 @@ module _ (h : Handled) (before : List Handled) (kept : h .cleared ≡ true → R
             λ t f.
             let g : (m .sequence ≡ t .sequence) × (t .alert ≡ oldest (h .state .waiting)) × (m .version ≡ t .version) = (cc, cc, cc) in
             any-right (Takes t) before (h ∷ [])
-            (inl (record { request = m; passed = v; alert = a; number = g .0; version = g .2; none-retained = rw (← g .0) e; oldest-waiting = g .1 }))
+            (inl (record {
+              request = m;
+              passed = v;
+              alert = a;
+              number = g .0;
+              version = g .2;
+              none-retained = rw (← g .0) e;
+              oldest-waiting = g .1;
+            }))
 
     good-kept : (h .cleared || dropsBy (good m)) ≡ true → Kept (carryOut (h .image) (h .state) m .state .retained)
     good-kept c = by (eqb (m .command) 0x01) (eqb (m .command) 0x02) (eqb (m .command) 0x0a) refl refl refl
       where
-        by : (x y z : Bool) → eqb (m .command) 0x01 ≡ x → eqb (m .command) 0x02 ≡ y → eqb (m .command) 0x0a ≡ z → Kept (carryOut (h .image) (h .state) m .state .retained)
+        by : (x y z : Bool) → eqb (m .command) 0x01 ≡ x → eqb (m .command) 0x02 ≡ y → eqb (m .command) 0x0a ≡ z
+            → Kept (carryOut (h .image) (h .state) m .state .retained)
         by true y z e f g = none-kept _ (reboot-forgets (h .image) (h .state) m (eqb-true _ _ e) .retained)
         by false true z e f g = none-kept _ (power-off-forgets (h .image) (h .state) m (eqb-true _ _ f) .retained)
         by false false true e f g = alert-kept (eqb-true _ _ g) (not-either (h .cleared) _ c (rw (e, f)))
-        by false false false e f g = stays-kept _ (retained-stays (h .image) (h .state) m e f g .0) (not-either (h .cleared) _ c (rw (e, f)))
+        by false false false e f g =
+            stays-kept _ (retained-stays (h .image) (h .state) m e f g .0) (not-either (h .cleared) _ c (rw (e, f)))
 
-  judged-kept : (v : Verdict) → verdict (h .form) ≡ v → (h .cleared || dropsBy v) ≡ true → Kept (afterVerdict (h .image) (h .state) v .retained)
+  judged-kept : (v : Verdict) → verdict (h .form) ≡ v → (h .cleared || dropsBy v) ≡ true
+      → Kept (afterVerdict (h .image) (h .state) v .retained)
   unfolding afterVerdict sent
   judged-kept (failure reason version sequence) e c = stays-kept _ refl (not-either (h .cleared) false c refl)
   judged-kept (good m) e c = good-kept m e c
@@ -146,8 +161,8 @@ module _ (h : Handled) (before : List Handled) (kept : h .cleared ≡ true → R
 
 -- frames, one after the other
 module _ (asked : List Frame) (image : List ℕ) where
-  pub frames-kept : (fs : List (List ℕ)) (cleared : Bool) (x : State) (o : ℕ → Origin) (earlier : List (List ℕ)) (before : List Handled) → (cleared ≡ true → RetainedBy before (x .retained))
-      → let hs = handledBy asked image cleared x o earlier fs in
+  pub frames-kept : (fs : List (List ℕ)) (cleared : Bool) (x : State) (o : ℕ → Origin) (earlier : List (List ℕ)) (before : List Handled)
+      → (cleared ≡ true → RetainedBy before (x .retained)) → let hs = handledBy asked image cleared x o earlier fs in
       (clearedBy cleared fs ≡ true → RetainedBy (before ++ hs) (framesCarried image x fs .retained))
       × Each (λ (h : Handled). h .cleared ≡ true → RetainedBy (before ++ hs) (h .state .retained)) hs
   unfolding handledBy clearedBy framesCarried
@@ -155,6 +170,8 @@ module _ (asked : List Frame) (image : List ℕ) where
   frames-kept (f ∷ fs) cleared x o earlier before kept =
       let h : Handled = record { form = f; image = image; state = x; earlier = earlier; origin = o; asked = asked; cleared = cleared } in
       let hs = handledBy asked image (cleared || drops f) (frameCarried image x f) (originBy o f) (earlier ++ (f ∷ [])) fs in
-      let i = frames-kept fs (cleared || drops f) (frameCarried image x f) (originBy o f) (earlier ++ (f ∷ [])) (before ++ (h ∷ [])) (framed-kept h before kept) in
+      let i =
+      frames-kept fs (cleared || drops f) (frameCarried image x f) (originBy o f) (earlier ++ (f ∷ [])) (before ++ (h ∷ []))
+      (framed-kept h before kept) in
       let j = rw (append-snoc before h hs) at i in
       (j .0, (λ c. retained-later before (h ∷ hs) (x .retained) (kept c), j .1))

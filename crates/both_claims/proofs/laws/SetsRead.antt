@@ -1,4 +1,5 @@
--- The sets that were put out: while none of the caller's requests is outstanding, none of them is newer than all that the supervisor has read.
+-- The sets that were put out: while none of the caller's requests is outstanding, none of them
+-- is newer than all that the supervisor has read.
 -- Assumes nothing.
 use mathlib.Core.Path.{_≡_, refl, sym, ap, _∙_}
 use mathlib.Core.Bool.{Bool, true, false, _||_, false≢true}
@@ -16,7 +17,8 @@ use Rattle.line.specs.Judge as Line
 use Rattle.line.specs.Judge.{judge}
 use Rattle.line_claims.specs.Calls.{gathered, goodMessages}
 use Rattle.requester.specs.Limits.{last-number}
-use Rattle.requester.specs.State.{Request, RecoveryStep, fetch, acknowledge, alert, stepRequest, isSome, outstanding, outstandingOf, requestFrame, MainState}
+use Rattle.requester.specs.State.{Request, RecoveryStep, fetch, acknowledge, alert, stepRequest, isSome, outstanding, outstandingOf}
+use Rattle.requester.specs.State.{requestFrame, MainState}
 use Rattle.requester.specs.Requester.{staysOut, keep}
 use Rattle.requester_claims.specs.View.{mainView}
 use Rattle.requester_claims.proofs.History as MainHistory
@@ -29,8 +31,10 @@ use Rattle.supervisor_claims.specs.Histories as Supervisor
 use Rattle.supervisor_claims.specs.FrameHistory as Received
 use Rattle.supervisor_claims.specs.LastSet.{Origin}
 use Rattle.both_claims.specs.Ends
-use Rattle.both_claims.specs.Ends.{Any, Handled, Log, CarriedOut, Fresh, MainTyped, EndCallTyped, Wire, endsAfter, messageHanded, restarts, requestOf, putsRequest, asMessage}
-use Rattle.both_claims.specs.Ends.{imageLent, originBy, handledBy, drops, brought, mainLogged, supervisorLogged, Begun, together, endsAfterAll, Always, WireAfter, GoesOn, NoRequest}
+use Rattle.both_claims.specs.Ends.{Any, Handled, Log, CarriedOut, Fresh, MainTyped, EndCallTyped, Wire, endsAfter, messageHanded}
+use Rattle.both_claims.specs.Ends.{restarts, requestOf, putsRequest, asMessage}
+use Rattle.both_claims.specs.Ends.{imageLent, originBy, handledBy, drops, brought, mainLogged, supervisorLogged, Begun, together}
+use Rattle.both_claims.specs.Ends.{endsAfterAll, Always, WireAfter, GoesOn, NoRequest}
 use Rattle.both_claims.proofs.FreshAnswer.{answer-fresh}
 use Rattle.both_claims.proofs.laws.Lists.{none-some, any-so, any-then, any-left, any-right, each-then, each-any, each-in}
 use Rattle.both_claims.proofs.laws.Table.{frame-same, command-same, passes}
@@ -126,7 +130,8 @@ pub record SinceMoment (e : Ends.Ends) (s : MainState) (l : Log) : Type 0 where
   pub above : mainView (e .main) .newest < s .newest
 
 -- none is kept, and there are numbers left
-all-not-newer : (s : MainState) (l : Log) → SetsKnown s l → outstanding s ≡ none → s .newest < last-number → Each (NotNewer (l .heard)) (l .asked)
+all-not-newer : (s : MainState) (l : Log) → SetsKnown s l → outstanding s ≡ none → s .newest < last-number
+    → Each (NotNewer (l .heard)) (l .asked)
 all-not-newer s l h o n = by (h .settled)
   where
     by : Settled s (l .asked) (l .heard) → Each (NotNewer (l .heard)) (l .asked)
@@ -141,8 +146,10 @@ module _ (s : MainState) (l : Log) (kept : Kept s l) (known : SetsKnown s l) whe
   newest-read : (r : Message) → Fresh s l r → Any (λ (y : Message). y .sequence ≡ s .newest) (l .heard)
   newest-read r f =
       any-so _ (λ h z. z) (l .handled)
-      (each-any (HeardOf (l .heard)) (CarriedOut (s .newest) (f .request) r) (λ (h : Handled). Any (λ (y : Message). y .sequence ≡ s .newest) (l .heard))
-      (λ h k c. any-then _ _ (λ (y : Message) e. ap (λ (m : Message). m .sequence) e) (l .heard) (k _ (passes (h .form) _ (c .passed) .judged)))
+      (each-any (HeardOf (l .heard)) (CarriedOut (s .newest) (f .request) r)
+      (λ (h : Handled). Any (λ (y : Message). y .sequence ≡ s .newest) (l .heard))
+      (λ h k c.
+      any-then _ _ (λ (y : Message) e. ap (λ (m : Message). m .sequence) e) (l .heard) (k _ (passes (h .form) _ (c .passed) .judged)))
       (l .handled) (known .heard) (f .made))
 
   answered-all : (r : Message) → Fresh s l r → Each (NotNewer (l .heard)) (l .asked)
@@ -188,7 +195,8 @@ module _ (s : MainState) (l : Log) (kept : Kept s l) (known : SetsKnown s l) whe
             inr (inr (each-append _ (l .asked) (framesOf x) (all-not-newer s l known (p .none-out) (p .not-last))
             (rw (p .frame) (other-frame (x .state .newest) q (called-low c typed q (p .called)) (set-stays q e) (l .heard)))))
 
-    call-settled : (c : MainCall) → MainTyped c → ((r : Message) → messageHanded (x .answer) (x .out) ≡ some r → Fresh s l r) → RequestBy s c x → Left
+    call-settled : (c : MainCall) → MainTyped c → ((r : Message) → messageHanded (x .answer) (x .out) ≡ some r → Fresh s l r)
+        → RequestBy s c x → Left
     call-settled c typed fresh (inl (e, p)) = puts-settled c typed p
     call-settled c typed fresh (inr (e, p)) = no-new-settled fresh p
 
@@ -219,36 +227,43 @@ module _ (e : Ends.Ends) (both : Both e) (m : MainMade) where
   request-by : GoesOnMeant → RequestBy before (m .call) does
   request-by n = made-by before (λ piece. came-after before _ (reads-of before (e .log) (both .kept) piece .came)) m n
 
-  main-fresh : MainTyped (m .call) → Wire (endsAfter e (Ends.main m) .log) → (r : Message) → messageHanded (does .answer) (does .out) ≡ some r → Fresh before (e .log) r
+  main-fresh : MainTyped (m .call) → Wire (endsAfter e (Ends.main m) .log) → (r : Message)
+      → messageHanded (does .answer) (does .out) ≡ some r → Fresh before (e .log) r
   main-fresh typed w r o = answer-fresh e both m typed w r (main-answer e both (λ a d. messageHanded a d ≡ some r) m o)
 
   main-known : MainTyped (m .call) → SetsKnownIn e → Wire (endsAfter e (Ends.main m) .log) → SetsKnown (does .state) logged
   unfolding mainLogged
   main-known typed h w =
-      cond-by (SetsKnown (does .state)) (restarts (m .call) (does .answer)) _ _ (λ _. record { settled = inr (inr tt); heard = tt }) (λ n. record {
+      cond-by (SetsKnown (does .state)) (restarts (m .call) (does .answer)) _ _ (λ _. record { settled = inr (inr tt); heard = tt })
+      (λ n. record {
         settled = call-settled before (e .log) (both .kept) h does (m .call) typed (main-fresh typed w) (request-by n);
         heard = h .heard;
       })
 
   -- it puts no new request out
   module _ (e₀ : Ends.Ends) (h : SinceMomentIn e₀ e) where
-    ended-since : GoesOnMeant → does .state .kept ≡ none → does .state .newest ≡ before .newest → framesOf does ≡ [] → SinceMoment e₀ (does .state) logged
+    ended-since : GoesOnMeant → does .state .kept ≡ none → does .state .newest ≡ before .newest → framesOf does ≡ []
+        → SinceMoment e₀ (does .state) logged
     unfolding mainLogged
-    ended-since n k l f = rw n (record { asked = rw (f, append-nil) (h .asked); kept = rw k none-no-set; above = omega (arith, l, h .above) })
+    ended-since n k l f =
+        rw n (record { asked = rw (f, append-nil) (h .asked); kept = rw k none-no-set; above = omega (arith, l, h .above) })
 
     no-new-since : GoesOnMeant → NoNew before does → SinceMoment e₀ (does .state) logged
     unfolding mainLogged
     no-new-since n (keeps k l f) =
         rw n
         (record {
-          asked = each-append _ (e .log .asked) (framesOf does) (h .asked) (sent-frames before (both .kept .ranged) (h .kept) (e₀ .log .heard) (framesOf does) f);
+          asked =
+              each-append _ (e .log .asked) (framesOf does) (h .asked)
+              (sent-frames before (both .kept .ranged) (h .kept) (e₀ .log .heard) (framesOf does) f);
           kept = rw k (h .kept);
           above = omega (arith, l, h .above);
         })
     no-new-since n (answers r o k l f) = ended-since n k l f
     no-new-since n (ends g k l f) = ended-since n k l f
 
-    main-since : GoesOnMeant → putsRequest (m .call) (does .answer) ≡ false → RequestBy before (m .call) does → SinceMomentIn e₀ (endsAfter e (Ends.main m))
+    main-since : GoesOnMeant → putsRequest (m .call) (does .answer) ≡ false → RequestBy before (m .call) does
+        → SinceMomentIn e₀ (endsAfter e (Ends.main m))
     main-since n f (inl (g, p)) = absurd (false≢true (sym f ∙ g))
     main-since n f (inr (g, p)) = leaves (SinceMoment e₀) (no-new-since n p)
 
@@ -260,12 +275,14 @@ module _ (e : Ends.Ends) (both : Both e) (m : MainMade) where
         rw n
         (record {
           asked = each-append _ (e .log .asked) (framesOf does) (all-not-newer before (e .log) known (p .none-out) (p .not-last))
-              (rw (p .frame) (other-frame (does .state .newest) (p .request) (called-low (m .call) typed (p .request) (p .called)) h (e .log .heard)));
+              (rw (p .frame)
+              (other-frame (does .state .newest) (p .request) (called-low (m .call) typed (p .request) (p .called)) h (e .log .heard)));
           kept = rw (p .kept) (keep-no-set (p .request) h);
           above = omega (arith, p .next);
         })
 
-    pub put-since : (n : ℕ) → mainMade (e .main) m .answer ≡ Main.put n → (q : Request) → requestOf (m .call) ≡ some q → NoSet q → SinceMomentIn e (endsAfter e (Ends.main m))
+    pub put-since : (n : ℕ) → mainMade (e .main) m .answer ≡ Main.put n → (q : Request) → requestOf (m .call) ≡ some q → NoSet q
+        → SinceMomentIn e (endsAfter e (Ends.main m))
     put-since n a q f h = by (request-by (rw z))
       where
         z : does .answer ≡ Main.put n
@@ -277,15 +294,20 @@ module _ (e : Ends.Ends) (both : Both e) (m : MainMade) where
 
 -- ---- a call of the supervisor
 
-frames-heard : (asked : List Frame) (image : List ℕ) (fs : List (List ℕ)) (cleared : Bool) (x : State) (o : ℕ → Origin) (earlier : List (List ℕ)) (heard : List Message)
-    → Each (λ (m : Message). Any (λ (y : Message). y ≡ m) heard) (goodMessages fs) → Each (HeardOf heard) (handledBy asked image cleared x o earlier fs)
+frames-heard : (asked : List Frame) (image : List ℕ) (fs : List (List ℕ)) (cleared : Bool) (x : State) (o : ℕ → Origin)
+    (earlier : List (List ℕ)) (heard : List Message)
+    → Each (λ (m : Message). Any (λ (y : Message). y ≡ m) heard) (goodMessages fs)
+    → Each (HeardOf heard) (handledBy asked image cleared x o earlier fs)
 unfolding handledBy gathered
 frames-heard asked image [] cleared x o earlier heard h = tt
 frames-heard asked image (f ∷ fs) cleared x o earlier heard h =
-    let g = good-first _ f (goodMessages fs) h in
-    (g .0, frames-heard asked image fs (cleared || drops f) (Received.frameCarried image x f) (originBy o f) (earlier ++ (f ∷ [])) heard (g .1))
+    let g = good-first _ f (goodMessages fs) h in (
+      g .0,
+      frames-heard asked image fs (cleared || drops f) (Received.frameCarried image x f) (originBy o f) (earlier ++ (f ∷ [])) heard (g .1),
+    )
 
-supervisor-known : (s : MainState) (l : Log) → SetsKnown s l → (x : State) (m : Supervisor.Made) (waiting : List ℕ) → SetsKnown s (supervisorLogged l x m waiting)
+supervisor-known : (s : MainState) (l : Log) → SetsKnown s l → (x : State) (m : Supervisor.Made) (waiting : List ℕ)
+    → SetsKnown s (supervisorLogged l x m waiting)
 unfolding supervisorLogged brought
 supervisor-known s l h x m waiting = record {
   settled = more (h .settled);
@@ -308,7 +330,8 @@ supervisor-known s l h x m waiting = record {
 
 -- ---- calls
 
-call-known : (e : Ends.Ends) → Both e → SetsKnownIn e → (t : Ends.EndCall) → EndCallTyped t → Wire (endsAfter e t .log) → SetsKnownIn (endsAfter e t)
+call-known : (e : Ends.Ends) → Both e → SetsKnownIn e → (t : Ends.EndCall) → EndCallTyped t → Wire (endsAfter e t .log)
+    → SetsKnownIn (endsAfter e t)
 unfolding endsAfter
 call-known e both h (Ends.main m) typed w = leaves e both m SetsKnown (main-known e both m typed h w)
 call-known e both h (Ends.supervisor m) typed w = supervisor-known (mainView (e .main)) (e .log) h _ m _
@@ -318,11 +341,14 @@ unfolding endsAfter mainLogged
 begun-known b (together s) = record { settled = inr (inr tt); heard = tt }
 begun-known b (Ends.later s ts t l a) = rw a (record { settled = inr (inr tt); heard = tt })
 
-pub sets-known : (b : Ends.Ends) → Begun b → (ts : List Ends.EndCall) → Each EndCallTyped ts → Always WireAfter b ts → SetsKnownIn (endsAfterAll b ts)
+pub sets-known : (b : Ends.Ends) → Begun b → (ts : List Ends.EndCall) → Each EndCallTyped ts → Always WireAfter b ts
+    → SetsKnownIn (endsAfterAll b ts)
 sets-known b begins ts t w =
-    after-calls SetsKnownIn (λ x y. Unit {0}) (λ x both k y typed v. (tt, call-known x both k y typed v)) b (begun-both b begins) (begun-known b begins) ts t w .1
+    after-calls SetsKnownIn (λ x y. Unit {0}) (λ x both k y typed v. (tt, call-known x both k y typed v)) b (begun-both b begins)
+    (begun-known b begins) ts t w .1
 
-pub call-since : (e₀ e : Ends.Ends) → Both e → SinceMomentIn e₀ e → (t : Ends.EndCall) → GoesOn e t → NoRequest e t → SinceMomentIn e₀ (endsAfter e t)
+pub call-since : (e₀ e : Ends.Ends) → Both e → SinceMomentIn e₀ e → (t : Ends.EndCall) → GoesOn e t → NoRequest e t
+    → SinceMomentIn e₀ (endsAfter e t)
 unfolding endsAfter supervisorLogged
 call-since e₀ e both h (Ends.main m) g n =
     let k = MainHistory.one-call (e .main) m (both .main) .answer in

@@ -23,7 +23,8 @@ use Rattle.supervisor_claims.specs.Histories as Supervisor
 use Rattle.supervisor_claims.specs.FrameHistory as Received
 use Rattle.supervisor_claims.specs.FrameHistory.{frameCarried}
 use Rattle.supervisor_claims.specs.LastSet.{Origin}
-use Rattle.both_claims.specs.Ends.{Wire, imageLent, originBy, handledBy, newestReply, stillPending, takenBy, drops, brought, supervisorLogged}
+use Rattle.both_claims.specs.Ends.{Wire, imageLent, originBy, handledBy, newestReply, stillPending, takenBy, drops, brought}
+use Rattle.both_claims.specs.Ends.{supervisorLogged}
 use Rattle.both_claims.specs.Ends.{Any, Handled, Log, replyMade}
 use Rattle.both_claims.proofs.laws.Lists.{Front, none-some, any-left, any-right, each-right, each-then}
 use Rattle.both_claims.proofs.laws.GoodFrames.{frames-nonzero, good-range}
@@ -52,10 +53,12 @@ made-bytes m t = cond-by (Each Byte) (Supervisor.enough (m .call) (m .lent)) _ _
 
 pub joined-bytes : (w : List ℕ) (m : Supervisor.Made) → Each Byte w → Supervisor.Typed (m .call) → Each Byte (Received.receivedSince w m)
 unfolding Received.receivedSince
-joined-bytes w m h t = cond-by (Each Byte) (Received.startsAnew m) _ _ (λ _. tt) (λ _. each-append Byte w (Received.bytesReceivedBy m) h (made-bytes m t))
+joined-bytes w m h t =
+    cond-by (Each Byte) (Received.startsAnew m) _ _ (λ _. tt) (λ _. each-append Byte w (Received.bytesReceivedBy m) h (made-bytes m t))
 
 -- the first of frames, and the others
-pub good-first : (P : Message → Type 0) (f : List ℕ) (ms : List Message) → Each P (goodOf (judge f) ++ ms) → ((m : Message) → judge f ≡ good m → P m) × Each P ms
+pub good-first : (P : Message → Type 0) (f : List ℕ) (ms : List Message) → Each P (goodOf (judge f) ++ ms)
+    → ((m : Message) → judge f ≡ good m → P m) × Each P ms
 good-first P f ms h = by (judge f) h
   where
     by : (v : LineVerdict) → Each P (goodOf v ++ ms) → ((m : Message) → v ≡ good m → P m) × Each P ms
@@ -63,22 +66,28 @@ good-first P f ms h = by (judge f) h
     by (good k) h = (λ m e. let z : k ≡ m = cc in rw (← z) (h .0), h .1)
 
 module _ (s : MainState) (asked : List Frame) (put-out : Each (PutOut s) asked) (image : List ℕ) (each : Each Byte image) where
-  handled-known : (fs : List (List ℕ)) (cleared : Bool) (x : State) (o : ℕ → Origin) (earlier : List (List ℕ)) → Held x → Each (Each NonZero) fs
-      → Each (λ (m : Message). Any (λ (y : Frame). y .bytes ≡ frame m) asked) (goodMessages fs) → Each (Known s) (handledBy asked image cleared x o earlier fs)
+  handled-known : (fs : List (List ℕ)) (cleared : Bool) (x : State) (o : ℕ → Origin) (earlier : List (List ℕ)) → Held x
+      → Each (Each NonZero) fs
+      → Each (λ (m : Message). Any (λ (y : Frame). y .bytes ≡ frame m) asked) (goodMessages fs)
+      → Each (Known s) (handledBy asked image cleared x o earlier fs)
   unfolding handledBy gathered
   handled-known [] cleared x o earlier held n h = tt
   handled-known (f ∷ fs) cleared x o earlier held n h =
       let g = good-first _ f (goodMessages fs) h in (
         record { nonzero = n .0; asked = put-out; put-out = g .0; reply = reply-in-range image each x f (n .0) held },
-        handled-known fs (cleared || drops f) (frameCarried image x f) (originBy o f) (earlier ++ (f ∷ [])) (held-frame image each x f (n .0) held) (n .1) (g .1),
+        handled-known fs (cleared || drops f) (frameCarried image x f) (originBy o f) (earlier ++ (f ∷ []))
+            (held-frame image each x f (n .0) held) (n .1) (g .1),
       )
 
-handled-front : (asked : List Frame) (image : List ℕ) (fs : List (List ℕ)) (cleared : Bool) (x : State) (o : ℕ → Origin) (earlier : List (List ℕ))
+handled-front : (asked : List Frame) (image : List ℕ) (fs : List (List ℕ)) (cleared : Bool) (x : State) (o : ℕ → Origin)
+    (earlier : List (List ℕ))
     → Each (λ (h : Handled). Front (h .asked) asked) (handledBy asked image cleared x o earlier fs)
 unfolding handledBy
 handled-front asked image [] cleared x o earlier = tt
-handled-front asked image (f ∷ fs) cleared x o earlier =
-    (record { more = []; whole = append-nil asked }, handled-front asked image fs (cleared || drops f) (frameCarried image x f) (originBy o f) (earlier ++ (f ∷ [])))
+handled-front asked image (f ∷ fs) cleared x o earlier = (
+  record { more = []; whole = append-nil asked },
+  handled-front asked image fs (cleared || drops f) (frameCarried image x f) (originBy o f) (earlier ++ (f ∷ [])),
+)
 
 -- the newest reply was made to one of the frames
 newest-made : (hs before : List Handled) (o : Option Message) → ((r : Message) → o ≡ some r → MadeTo before r)
@@ -97,7 +106,8 @@ module _ (s : MainState) (l : Log) (kept : Kept s l) (x : State) (held : Held x)
   newest = cond (Received.startsAnew m) none (newestReply (l .pending) hs)
 
   reply-made : (r : Message) → newest ≡ some r → MadeTo (l .handled ++ hs) r
-  reply-made r = cond-by (λ (o : Option Message). o ≡ some r → MadeTo (l .handled ++ hs) r) (Received.startsAnew m) none (newestReply (l .pending) hs)
+  reply-made r =
+      cond-by (λ (o : Option Message). o ≡ some r → MadeTo (l .handled ++ hs) r) (Received.startsAnew m) none (newestReply (l .pending) hs)
       (λ _ e. absurd (none-some e)) (λ _ e. newest-made hs (l .handled) (l .pending) (kept .pending) r e)
 
   pending-made : (bs : List ℕ) (o : Option Message) → ((r : Message) → o ≡ some r → MadeTo (l .handled ++ hs) r)

@@ -82,8 +82,8 @@ passes form m e = by (judge form) refl e
     by (Line.good k) j f = let s = tested-same k m f in record { judged = rw (j, s .0); low = rw (s .0) at (s .1) }
 
 -- and the other way: a message of version 1 in range, without the top bit, with a listed command and data of a right length
-pub table-passes : (m : Message) → InRange m → m .version ≡ 1 → m .sequence < 2 ^ 63 → known (m .command) ≡ true → lengthAllowed (m .command) (length (m .payload)) ≡ true
-    → verdict (form m) ≡ good m
+pub table-passes : (m : Message) → InRange m → m .version ≡ 1 → m .sequence < 2 ^ 63 → known (m .command) ≡ true
+    → lengthAllowed (m .command) (length (m .payload)) ≡ true → verdict (form m) ≡ good m
 unfolding verdict tested
 table-passes m r v low k l = rw (judge-of-message m r, v, lt-leb (2 ^ 63) (m .sequence) low, k, l)
 
@@ -94,7 +94,8 @@ pub record Replied (image : List ℕ) (s : State) (v : Verdict) (r : Message) : 
   pub reply : replyToRequest image s request ≡ some r
   pub sequence : r .sequence ≡ topSet (request .sequence)
 
-pub replied : (image : List ℕ) (s : State) (v : Verdict) (r : Message) → replyMessage (replyBy image s v) ≡ some r → (r .command ≡ 0x02 → ⊥) → Replied image s v r
+pub replied : (image : List ℕ) (s : State) (v : Verdict) (r : Message) → replyMessage (replyBy image s v) ≡ some r → (r .command ≡ 0x02 → ⊥)
+    → Replied image s v r
 unfolding replyBy failedOf
 replied image s (failure reason version sequence) r e h = absurd (h (cc))
 replied image s (good m) r e h = record { request = m; passed = refl; reply = e; sequence = reply-of image s m r e .sequence }

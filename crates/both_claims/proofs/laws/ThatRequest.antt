@@ -54,14 +54,17 @@ module _ (s : MainState) (ranged : Ranged s) (q : Request) (waiting : outstandin
         let p = passes (h .form) m v in
         let i = good-form (h .form) m (k .nonzero) (p .judged) .1 in
         carried-as r h k m v (p .judged) e
-        (each-any (PutOut s) (λ (x : Frame). x .bytes ≡ frame m) (ThatFrame m) (λ x w f. let g = same-request m i n x w f in (g .0, f, g .1)) (h .asked) (k .asked) (k .put-out m (p .judged)))
+        (each-any (PutOut s) (λ (x : Frame). x .bytes ≡ frame m) (ThatFrame m)
+        (λ x w f. let g = same-request m i n x w f in (g .0, f, g .1)) (h .asked) (k .asked) (k .put-out m (p .judged)))
 
     -- a reply whose frame is heard as the answer
-    pub carried-out : Matching (s .newest) (r .version) (r .sequence) (r .command) → InRange r → (y : Message) → frame y ≡ frame r → replyMade h ≡ some y
-        → CarriedOut (s .newest) q r h
+    pub carried-out : Matching (s .newest) (r .version) (r .sequence) (r .command) → InRange r → (y : Message) → frame y ≡ frame r
+        → replyMade h ≡ some y → CarriedOut (s .newest) q r h
     unfolding replyMade
     carried-out match i y f e =
-        let a = replied (h .image) (h .state) (verdict (h .form)) y e (λ c. match .no-failure (sym (command-same y r f (omega (arith, c)) (i .typed .command)) ∙ c)) in
+        let a =
+        replied (h .image) (h .state) (verdict (h .form)) y e
+        (λ c. match .no-failure (sym (command-same y r f (omega (arith, c)) (i .typed .command)) ∙ c)) in
         let m = a .request in
         let z : y ≡ r = frame-same (k .reply m (a .passed) y (a .reply)) i f in
         let n = sym (a .sequence) ∙ ap (λ (x : Message). x .sequence) z ∙ match .reply in

@@ -11,7 +11,8 @@ use Rattle.counters.proofs.receive_tallied.Tie as tie
 
 abbrev Inv-loop : tie.InvT-loop
 Inv-loop image piece reader₀ outbox₀ factory settings₀ registers₀ tally₀ at₀ reader outbox settings registers tally at =
-    Counted image piece (parts reader₀ outbox₀ factory settings₀ registers₀) (parts reader outbox factory settings registers) tally₀ tally at
+    Counted image piece (parts reader₀ outbox₀ factory settings₀ registers₀) (parts reader outbox factory settings registers) tally₀ tally
+    at
 
 abbrev μ-loop : tie.MeasureT-loop
 μ-loop image piece reader₀ outbox₀ factory settings₀ registers₀ tally₀ at₀ reader outbox settings registers tally at = length piece - at
@@ -67,6 +68,7 @@ pub receive-tallied-spec : {M : Type 1} → statement M
 receive-tallied-spec =
     tie.close
     (tie.spec
-    Inv-loop μ-loop (λ c κs. search needs) (λ c. search needs) (λ c. search needs) (λ c. search needs) (λ c. search needs) returns loop-holds
+    Inv-loop μ-loop (λ c κs. search needs) (λ c. search needs) (λ c. search needs) (λ c. search needs) (λ c. search needs) returns
+    loop-holds
     (λ c. search needs) (λ c. search needs) (λ c. search needs) (λ c κs. search needs) (λ c κs. search needs) add-at loop-less loop-again
     (λ c. search needs) (λ c. search needs) (λ c. search needs) (λ c. search needs) returns-2)

@@ -10,7 +10,8 @@ returns-3 : tie.Need-returns-3
 returns-3 c =
     let at-write-u162 = c .before .before in
     let at-write-u16 = at-write-u162 .before .before .before .before in
-    rw (at-write-u162 .write-u162 .ensures, at-write-u16 .write-u16 .ensures) (halves-put 2 _ _ _ _ _ (search needs) (omega arith) (omega arith))
+    rw (at-write-u162 .write-u162 .ensures, at-write-u16 .write-u16 .ensures)
+    (halves-put 2 _ _ _ _ _ (search needs) (omega arith) (omega arith))
 
 pub write-u32-spec : {M : Type 1} → statement M
 write-u32-spec =

@@ -10,7 +10,8 @@ returns-3 : tie.Need-returns-3
 returns-3 c =
     let at-write-u322 = c .before .before in
     let at-write-u32 = at-write-u322 .before .before .before .before in
-    rw (at-write-u322 .write-u322 .ensures, at-write-u32 .write-u32 .ensures) (halves-put 4 _ _ _ _ _ (search needs) (omega arith) (omega arith))
+    rw (at-write-u322 .write-u322 .ensures, at-write-u32 .write-u32 .ensures)
+    (halves-put 4 _ _ _ _ _ (search needs) (omega arith) (omega arith))
 
 pub write-u64-spec : {M : Type 1} → statement M
 write-u64-spec =

@@ -1,4 +1,5 @@
--- `plain::decode` meets its contract. The loop's invariant: the bytes decoded so far stand at the start of out, and the form decodes to them and what is left.
+-- `plain::decode` meets its contract.
+-- The loop's invariant: the bytes decoded so far stand at the start of out, and the form decodes to them and what is left.
 -- Assumes nothing.
 use mathlib.Core.Path.{_≡_, refl, sym, _∙_}
 use Prim.Native.Nat.{_-_, _≤_}
@@ -33,8 +34,8 @@ loop-again c =
     let start = start-from-in-loop in-loop in (
       search needs,
       simp length-set (iteration .inv .1),
-      middle-byte (now (start .args .form)) (now (start .args .out)) (iteration .out) (iteration .left) (iteration .zero) (iteration .n) (iteration .i) (iteration .inv .2)
-          (in-loop .loop-test .taken) _ refl (c .if1 .taken) (omega arith),
+      middle-byte (now (start .args .form)) (now (start .args .out)) (iteration .out) (iteration .left) (iteration .zero) (iteration .n)
+          (iteration .i) (iteration .inv .2) (in-loop .loop-test .taken) _ refl (c .if1 .taken) (omega arith),
     )
 
 returns : tie.Need-returns Inv-loop μ-loop
@@ -42,8 +43,8 @@ returns c =
     let in-loop = c .before .before .before in
     let iteration = in-loop .before .loop in
     let start = start-from-in-loop in-loop in
-    stop-zero (now (start .args .form)) (now (start .args .out)) (iteration .out) (iteration .left) (iteration .zero) (iteration .n) (iteration .i) (iteration .inv .2)
-    (in-loop .loop-test .taken) _ refl (c .before .if1 .left) (c .if2 .taken)
+    stop-zero (now (start .args .form)) (now (start .args .out)) (iteration .out) (iteration .left) (iteration .zero) (iteration .n)
+    (iteration .i) (iteration .inv .2) (in-loop .loop-test .taken) _ refl (c .before .if1 .left) (c .if2 .taken)
 
 returns-2 : tie.Need-returns-2 Inv-loop μ-loop
 returns-2 c =
@@ -51,7 +52,8 @@ returns-2 c =
     let test = in-loop-of else1 in
     let iteration = test .before .loop in
     let start = start-from-in-loop test in
-    stop-last (now (start .args .form)) (now (start .args .out)) (iteration .out) (iteration .left) (iteration .zero) (iteration .n) (iteration .i) (iteration .inv .2)
+    stop-last (now (start .args .form)) (now (start .args .out)) (iteration .out) (iteration .left) (iteration .zero) (iteration .n)
+    (iteration .i) (iteration .inv .2)
     (test .loop-test .taken) _ refl (else1 .if1 .left) (sym (c .if3 .taken) ∙ c .before .last-one-after-full .ensures)
 
 loop-again-2 : tie.Need-loop-again-2 Inv-loop μ-loop
@@ -66,29 +68,33 @@ loop-again-2 c =
       search needs,
       omega arith,
       rw (c .wide .ensures .0)
-          (middle-code (now (start .args .form)) (now (start .args .out)) (iteration .out) (iteration .left) (iteration .zero) (iteration .n) (iteration .i) (iteration .inv .2)
+          (middle-code (now (start .args .form)) (now (start .args .out)) (iteration .out) (iteration .left) (iteration .zero)
+          (iteration .n) (iteration .i) (iteration .inv .2)
           (test .loop-test .taken) _ refl (else1 .if1 .left) (call .before .if2 .left)
-          (sym (else3 .if3 .left) ∙ call .last-one-after-full .ensures) (omega arith) (put .put-zero .ensures .0) (put .put-zero .ensures .1)),
+          (sym (else3 .if3 .left) ∙ call .last-one-after-full .ensures) (omega arith) (put .put-zero .ensures .0)
+          (put .put-zero .ensures .1)),
     )
 
 returns-3 : tie.Need-returns-3 Inv-loop μ-loop
 returns-3 c =
     let iteration = c .before .before .loop in
     let start = start-from-after-loop (c .before) in
-    stop-past (now (start .args .form)) (now (start .args .out)) (iteration .out) (iteration .left) (iteration .zero) (iteration .n) (iteration .i) (iteration .inv .2)
-    (c .before .loop-test .left) (c .if4 .taken)
+    stop-past (now (start .args .form)) (now (start .args .out)) (iteration .out) (iteration .left) (iteration .zero) (iteration .n)
+    (iteration .i) (iteration .inv .2) (c .before .loop-test .left) (c .if4 .taken)
 
 returns-4 : tie.Need-returns-4 Inv-loop μ-loop
 returns-4 c =
     let iteration = c .before .before .loop in
     let start = start-from-after-loop (c .before) in
-    stop-end (now (start .args .form)) (now (start .args .out)) (iteration .out) (iteration .left) (iteration .zero) (iteration .n) (iteration .i) (iteration .inv .2)
-    (c .before .loop-test .left) (c .if4 .left)
+    stop-end (now (start .args .form)) (now (start .args .out)) (iteration .out) (iteration .left) (iteration .zero) (iteration .n)
+    (iteration .i) (iteration .inv .2) (c .before .loop-test .left) (c .if4 .left)
 
 pub decode-spec : {M : Type 1} → statement M
 decode-spec =
     tie.close
     (tie.spec
-    Inv-loop μ-loop (λ c. (search needs, refl, middle-start _ _)) (λ c. search needs) (λ c. search needs) (λ c. search needs) (λ c. search needs) (λ c. search needs) (λ c. search needs)
-    loop-again (λ c. search needs) returns (λ c κs. search needs) (λ c. search needs) returns-2 (λ c κs. search needs) (λ c κs. search needs)
+    Inv-loop μ-loop (λ c. (search needs, refl, middle-start _ _)) (λ c. search needs) (λ c. search needs) (λ c. search needs)
+    (λ c. search needs) (λ c. search needs) (λ c. search needs)
+    loop-again (λ c. search needs) returns (λ c κs. search needs) (λ c. search needs) returns-2 (λ c κs. search needs)
+    (λ c κs. search needs)
     (λ c. search needs) (λ c. search needs) loop-again-2 (λ c. search needs) returns-3 (λ c. search needs) returns-4)

@@ -31,8 +31,8 @@ tested-requires c κs =
     let decoded = at-decode form in
     let test = else1 decoded in
     let a = start test .args in
-    decoded-fits (now (a .frame)) (now (a .message)) (test .if1 .left) (decoded .decode .ensures .0) (decoded .decode .ensures .1) (form .d .given .1)
-    (omega arith) (omega arith)
+    decoded-fits (now (a .frame)) (now (a .message)) (test .if1 .left) (decoded .decode .ensures .0) (decoded .decode .ensures .1)
+    (form .d .given .1) (omega arith) (omega arith)
 
 returns-2 : tie.Need-returns-2
 unfolding plainVerdict
@@ -40,7 +40,8 @@ returns-2 c =
     let decoded = c .before .before in
     let test = else1 decoded in
     let a = start test .args in
-    bad-judged (now (a .frame)) (now (a .message)) (test .if1 .left) (decoded .decode .ensures .0) (decoded .decode .ensures .1) (c .enum-told .given .1)
+    bad-judged (now (a .frame)) (now (a .message)) (test .if1 .left) (decoded .decode .ensures .0) (decoded .decode .ensures .1)
+    (c .enum-told .given .1)
 
 returns-3 : tie.Need-returns-3
 unfolding plainVerdict
@@ -49,8 +50,8 @@ returns-3 c =
     let decoded = at-decode form in
     let test = else1 decoded in
     let a = start test .args in
-    tested-judged (now (a .frame)) (now (a .message)) (test .if1 .left) (decoded .decode .ensures .0) (decoded .decode .ensures .1) (form .d .given .1)
-    (c .tested .ensures)
+    tested-judged (now (a .frame)) (now (a .message)) (test .if1 .left) (decoded .decode .ensures .0) (decoded .decode .ensures .1)
+    (form .d .given .1) (c .tested .ensures)
 
 pub judged-spec : {M : Type 1} → statement M
 judged-spec =

@@ -30,5 +30,6 @@ pub next-spec : {M : Type 1} → statement M
 next-spec =
     tie.close
     (tie.spec
-    Inv-loop μ-loop (λ c. reached-start _ _) (λ c. search needs) (λ c. search needs) returns (λ c. search needs) (λ c. search needs) loop-again
+    Inv-loop μ-loop (λ c. reached-start _ _) (λ c. search needs) (λ c. search needs) returns (λ c. search needs) (λ c. search needs)
+    loop-again
     (λ c. search needs) returns-2)

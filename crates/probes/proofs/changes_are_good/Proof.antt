@@ -20,12 +20,16 @@ abbrev μ-loop : tie.MeasureT-loop
 returns-2 : tie.Need-returns-2 Inv-loop μ-loop
 returns-2 c =
     let now = c .before .before .before .before in
-    sym (now .before .loop .inv .1 ∙ bad-here _ _ _ _ (now .loop-test .taken) (omega arith) (sym (c .before .is-good .ensures) ∙ not-true _ (c .if2 .taken)))
+    sym (now .before .loop .inv .1
+    ∙ bad-here _ _ _ _ (now .loop-test .taken) (omega arith) (sym (c .before .is-good .ensures) ∙ not-true _ (c .if2 .taken)))
 
 loop-again : tie.Need-loop-again Inv-loop μ-loop
 loop-again c =
-    let now = c .before .before .before .before in
-    (now .before .loop .inv .0, now .before .loop .inv .1 ∙ good-here _ _ _ _ (now .loop-test .taken) (omega arith) (sym (c .before .is-good .ensures) ∙ not-false _ (c .if2 .left)))
+    let now = c .before .before .before .before in (
+      now .before .loop .inv .0,
+      now .before .loop .inv .1
+          ∙ good-here _ _ _ _ (now .loop-test .taken) (omega arith) (sym (c .before .is-good .ensures) ∙ not-false _ (c .if2 .left)),
+    )
 
 returns-3 : tie.Need-returns-3 Inv-loop μ-loop
 returns-3 c =
@@ -37,4 +41,5 @@ changes-are-good-spec =
     tie.close
     (tie.spec
     Inv-loop μ-loop (λ c. sym (other-lengths _ _ _ (c .if1 .taken))) (λ c. (c .if1 .left, equal-lengths _ _ _ (c .if1 .left)))
-    (λ c. search needs) (λ c. search needs) (λ c. omega arith) (λ c κs. search needs) returns-2 (λ c. omega arith) (λ c. omega arith) loop-again returns-3)
+    (λ c. search needs) (λ c. search needs) (λ c. omega arith) (λ c κs. search needs) returns-2 (λ c. omega arith) (λ c. omega arith)
+    loop-again returns-3)

@@ -1,5 +1,6 @@
--- `probes::set_result` meets its contract, by a walk of its code: where the list has the record, the borrow of the list is opened, the record
--- is taken out of its row, its second field is written, and the borrow is closed at the list with the new record. Else nothing is opened.
+-- `probes::set_result` meets its contract, by a walk of its code: where the list has the record, the borrow of the list is opened, the
+-- record is taken out of its row, its second field is written, and the borrow is closed at the
+-- list with the new record. Else nothing is opened.
 -- Assumes nothing.
 use mathlib.Core.Path.{_≡_, refl, sym, ap, subst}
 use mathlib.Core.List.{List, [], _∷_}
@@ -20,9 +21,11 @@ use ghost.Atoms.{Atoms}
 use contract.Monad.{Fun}
 use contract.Running.{givenOf, tables, tablesOf}
 use sound.WpLaws.{WpFn-mono}
-use types.Kit.{Given, ‵, _⊛_, ⋆, atRet, _$_, _∵_, !, qed, by, move, keep, drop, split, join, rewrite, fsplit, fjoin, suffices, frame, done, feqI}
+use types.Kit.{Given, ‵, _⊛_, ⋆, atRet, _$_, _∵_, !, qed, by, move, keep, drop, split, join, rewrite, fsplit, fjoin, suffices, frame, done}
+use types.Kit.{feqI}
 use types.Part.{whole, sub, look-in, store-in}
-use types.Run.{look, init, forget, stop, hop, fld, from, load, lit, unit-lit, of-opd, bin, assigns, assigns-last, first, skips, branches, exec, returns, enter, alloc1, alloc0, params1, pass1, pass0, free1, free0}
+use types.Run.{look, init, forget, stop, hop, fld, from, load, lit, unit-lit, of-opd, bin, assigns, assigns-last, first, skips, branches}
+use types.Run.{exec, returns, enter, alloc1, alloc0, params1, pass1, pass0, free1, free0}
 use denote.Exit.{yes}
 use denote.RattleType.{owns}
 use denote.Shadow.{pureI}
@@ -53,7 +56,8 @@ use Rattle.probes.proofs.set_result.Code as code
 use Rattle.probes.proofs.set_result.Code.Mir as pieces
 
 abbrev stayed : Stays (f.ended .signature .params) (f.ended .kept)
-stayed = (stay-slice (0 ∷ []) tt (plain (λ _. P.the-row)), (stay-dropped (plain (λ _. usize)) yes, (stay-dropped (plain (λ _. u8)) yes, tt)))
+stayed =
+    (stay-slice (0 ∷ []) tt (plain (λ _. P.the-row)), (stay-dropped (plain (λ _. usize)) yes, (stay-dropped (plain (λ _. u8)) yes, tt)))
 
 abbrev τ : ℕ → Ty
 τ = tyAt (code.function .locals)
@@ -91,15 +95,23 @@ module _ {M : Type 1} (𝓤 : URA M) (H : Heap 𝓤) (A : Atoms 𝓤) (W : Given
   y′ = withResult y v
 
   made : v < 2 ^ 8 → Is P.the-row y (LL.vals P.the-type P′.the-laws y) → Is P.the-row y′ (LL.vals P.the-type P′.the-laws y′)
-  made fits was = LL.owes P.the-type P′.the-laws y′ (LL.owed P.the-type P′.the-laws y (LL.vals P.the-type P′.the-laws y) was .0, ((refl, fits), tt))
+  made fits was =
+      LL.owes P.the-type P′.the-laws y′ (LL.owed P.the-type P′.the-laws y (LL.vals P.the-type P′.the-laws y) was .0, ((refl, fits), tt))
 
   exits : (zs : List Probe) → length zs ≡ length ys → zs ≡ resultSet ys i v → Room P.the-row (length ys)
-      → ent 𝓤 (⋆ 𝓤 H A (‵ (fobs γ (codedHoleys P.the-row .code (heres P.the-row zs))) ∷ ‵ (fbor κ (Held P.the-row (length zs) b o γ)) ∷ ‵ (flft κ q) ∷ [])) (Post vunit)
+      → ent 𝓤 (⋆ 𝓤 H A
+      (‵ (fobs γ (codedHoleys P.the-row .code (heres P.the-row zs))) ∷ ‵ (fbor κ (Held P.the-row (length zs) b o γ)) ∷ ‵ (flft κ q) ∷ []))
+      (Post vunit)
   exits zs e report room =
-      qed W (‵ (fobs γ (codedHoleys P.the-row .code (heres P.the-row zs))) ∷ ‵ (fbor κ (Held P.the-row (length zs) b o γ)) ∷ ‵ (flft κ q) ∷ []) ∵
-      suffices ! _ (ends-at 𝓤 H A f.ended stayed (f.clauses 𝓤 H A mem run) W bound vunit tt (zs, (tt, (tt, tt))) (e, (tt, (tt, tt)))) $ says ! report $
+      qed W
+      (‵ (fobs γ (codedHoleys P.the-row .code (heres P.the-row zs))) ∷ ‵ (fbor κ (Held P.the-row (length zs) b o γ)) ∷ ‵ (flft κ q) ∷ []) ∵
+      suffices ! _ (ends-at 𝓤 H A f.ended stayed (f.clauses 𝓤 H A mem run) W bound vunit tt (zs, (tt, (tt, tt))) (e, (tt, (tt, tt)))) $
+      says ! report $
       nothing ! $ move ! (3 ∷ 0 ∷ []) $ join ! $
-      frame ! $ fjoin ! $ pureI ! (at-slice P.the-row (x zs) (s ∷ [])) (tt, (tt, tt)) (ap (λ (m : ℕ). sliceVal (b, o) m ∷ []) (sym e), subst (Room P.the-row) (sym e) room) $ fjoin ! $
+      frame ! $ fjoin ! $
+      pureI ! (at-slice P.the-row (x zs) (s ∷ [])) (tt, (tt, tt))
+      (ap (λ (m : ℕ). sliceVal (b, o) m ∷ []) (sym e), subst (Room P.the-row) (sym e) room) $
+      fjoin ! $
       nothing ! $ nothing ! $ fjoin ! $ nothing ! $ fjoin ! $ move ! (1 ∷ 0 ∷ []) $ fjoin ! $ frame ! $
       feqI ! (List Val) (vunit ∷ []) (vunit ∷ []) refl $ done !
 
@@ -109,51 +121,75 @@ module _ {M : Type 1} (𝓤 : URA M) (H : Heap 𝓤) (A : Atoms 𝓤) (W : Given
 
     walk : ent 𝓤 (onEntry 𝓤 H A f.signature (κ, tt) (q, tt) a at) (WpFn 𝓤 H C Λ code.function in-all Post)
     walk =
-        qed W ((‵ (flft κ q) ⊛ ‵ ftrue) ∷ ‵ (owns (MutSlice (named 0) κ P.the-row ∷ usize ∷ u8 ∷ []) a at) ∷ []) ∵ enter ! C Λ code.function in-all _ $
-        alloc1 ! (λ l₀. alloc1 ! (λ l₁. alloc1 ! (λ l₂. alloc1 ! (λ l₃. alloc1 ! (λ l₄. alloc1 ! (λ l₅. alloc1 ! (λ l₆. alloc1 ! (λ l₇. alloc0 ! $ params1 ! $
-        pass1 ! (init ! 12 refl (tt, (tt, (record { fits = room .0 }, tt)))) $ pass1 ! (init ! 10 refl (tt, record { fits = gi })) $ pass1 ! (init ! 8 refl (tt, record { fits = gv })) $ pass0 ! $
+        qed W ((‵ (flft κ q) ⊛ ‵ ftrue) ∷ ‵ (owns (MutSlice (named 0) κ P.the-row ∷ usize ∷ u8 ∷ []) a at) ∷ []) ∵
+        enter ! C Λ code.function in-all _ $
+        alloc1 ! (λ l₀.
+        alloc1 !
+        (λ l₁. alloc1 ! (λ l₂. alloc1 ! (λ l₃. alloc1 ! (λ l₄. alloc1 ! (λ l₅. alloc1 ! (λ l₆. alloc1 ! (λ l₇. alloc0 ! $ params1 ! $
+        pass1 ! (init ! 12 refl (tt, (tt, (record { fits = room .0 }, tt)))) $ pass1 ! (init ! 10 refl (tt, record { fits = gi })) $
+        pass1 ! (init ! 8 refl (tt, record { fits = gv })) $ pass0 ! $
         -- [the locals, the last first; the token; what is owned]: _4 is the length, _5 the test
-        assigns ! (of-opd ! (load ! (from ! (fld ! refl (stop !))) (look-in ! 12 (sub ! 1 refl (whole !))))) (from ! (stop !)) (init ! 6 refl (tt, record { fits = room .0 })) $
-        assigns ! (bin ! (load ! (from ! (stop !)) (look ! 10 refl)) (load ! (from ! (stop !)) (look ! 6 refl)) tt) (from ! (stop !)) (init ! 4 refl (tt, tt)) $
+        assigns ! (of-opd ! (load ! (from ! (fld ! refl (stop !))) (look-in ! 12 (sub ! 1 refl (whole !))))) (from ! (stop !))
+        (init ! 6 refl (tt, record { fits = room .0 })) $
+        assigns ! (bin ! (load ! (from ! (stop !)) (look ! 10 refl)) (load ! (from ! (stop !)) (look ! 6 refl)) tt) (from ! (stop !))
+        (init ! 4 refl (tt, tt)) $
         first ! $ branches ! (load ! (from ! (stop !)) (look ! 4 refl))
         (λ t.
         let within : i < length ys = ltb→lt i (length ys) t in
         -- _7 is the record's offset
-        assigns ! (bin ! (load ! (from ! (stop !)) (look ! 10 refl)) (lit ! tt) (scaled-fits i (length ys) 2 within (room .1))) (from ! (stop !)) (init ! 2 refl (tt, scaled-fits i (length ys) 2 within (room .1))) $
-        assigns ! (bin ! (load ! (from ! (fld ! refl (stop !))) (look-in ! 12 (sub ! 0 refl (whole !)))) (load ! (from ! (stop !)) (look ! 2 refl)) tt) (from ! (stop !)) (init ! 0 refl (tt, tt)) $
+        assigns ! (bin ! (load ! (from ! (stop !)) (look ! 10 refl)) (lit ! tt) (scaled-fits i (length ys) 2 within (room .1)))
+        (from ! (stop !)) (init ! 2 refl (tt, scaled-fits i (length ys) 2 within (room .1))) $
+        assigns ! (bin ! (load ! (from ! (fld ! refl (stop !))) (look-in ! 12 (sub ! 0 refl (whole !))))
+        (load ! (from ! (stop !)) (look ! 2 refl)) tt)
+        (from ! (stop !)) (init ! 0 refl (tt, tt)) $
         rewrite ! 0 (λ (p : ℕ). ‵ (fat fullShare tyPtr l₇ 0 (vptr b p))) (sym (place-is 2 o i)) refl $
         move ! (17 ∷ []) $ fsplit ! $ fsplit ! $ move ! (1 ∷ []) $ fsplit ! $ move ! (20 ∷ []) $ split ! $ move ! (2 ∷ 3 ∷ 0 ∷ []) $
         opens-slice ! tt P.the-row ys b o $
-        elem-out ! P.the-row (Is P.the-row) (shows 𝓤 H A P.the-row) (LL.vals P.the-type P′.the-laws) (LL.tells P.the-type P′.the-laws) fullShare ys i no-probe b o within (λ was.
+        elem-out ! P.the-row (Is P.the-row) (shows 𝓤 H A P.the-row) (LL.vals P.the-type P′.the-laws) (LL.tells P.the-type P′.the-laws)
+        fullShare ys i no-probe b o within (λ was.
         -- [the record; what it owns; the others; the open borrow; obs; auth; true; the facts of the list, i and v; the locals]
-        assigns-last ! (of-opd ! (load ! (from ! (stop !)) (look ! 17 refl))) (from ! (hop ! (look ! 9 refl) (fld ! refl (stop !)))) (store-in ! 0 (sub ! 1 refl (whole !)) (tt, record { fits = gv })) $
+        assigns-last ! (of-opd ! (load ! (from ! (stop !)) (look ! 17 refl))) (from ! (hop ! (look ! 9 refl) (fld ! refl (stop !))))
+        (store-in ! 0 (sub ! 1 refl (whole !)) (tt, record { fits = gv })) $
         exec ! C Λ (En l₀ l₁ l₂ l₃ l₄ l₅ l₆ l₇) pieces.t-4 (atRet (En l₀ l₁ l₂ l₃ l₄ l₅ l₆ l₇) Post) $
         move ! (1 ∷ []) $ drop ! $ owned ! P.the-row (Is P.the-row) (LL.makes P.the-type P′.the-plain 𝓤 H A) y′ _ (made gv was) $
         move ! (1 ∷ 0 ∷ []) $ elem-put ! P.the-row fullShare ys i y′ (LL.vals P.the-type P′.the-laws y′) b o within $
         closes-slice ! tt P.the-row ys (set ys i y′) (length-set ys i y′) b o $
         assigns ! (of-opd ! (unit-lit !)) (from ! (stop !)) (init ! 20 refl (tt, tt)) $
-        returns ! (look ! 20 refl) $ forget ! 6 refl $ forget ! 8 refl $ forget ! 10 refl $ forget ! 12 refl $ forget ! 14 refl $ forget ! 16 refl $ forget ! 18 refl $ forget ! 20 refl $
-        move ! (20 ∷ 21 ∷ []) $ free1 ! $ move ! (18 ∷ 19 ∷ []) $ free1 ! $ move ! (16 ∷ 17 ∷ []) $ free1 ! $ move ! (14 ∷ 15 ∷ []) $ free1 ! $ move ! (12 ∷ 13 ∷ []) $ free1 ! $ move ! (10 ∷ 11 ∷ []) $ free1 ! $ move ! (8 ∷ 9 ∷ []) $ free1 ! $ move ! (6 ∷ 7 ∷ []) $ free1 ! $ free0 ! $
+        returns ! (look ! 20 refl) $ forget ! 6 refl $ forget ! 8 refl $ forget ! 10 refl $ forget ! 12 refl $ forget ! 14 refl $
+        forget ! 16 refl $ forget ! 18 refl $ forget ! 20 refl $
+        move ! (20 ∷ 21 ∷ []) $ free1 ! $ move ! (18 ∷ 19 ∷ []) $ free1 ! $ move ! (16 ∷ 17 ∷ []) $ free1 ! $ move ! (14 ∷ 15 ∷ []) $
+        free1 ! $ move ! (12 ∷ 13 ∷ []) $ free1 ! $ move ! (10 ∷ 11 ∷ []) $ free1 ! $ move ! (8 ∷ 9 ∷ []) $ free1 ! $ move ! (6 ∷ 7 ∷ []) $
+        free1 ! $ free0 ! $
         keep ! (0 ∷ 1 ∷ 2 ∷ []) $ by ! (exits (set ys i y′) (length-set ys i y′) refl room)))
         (λ t. skips ! $ exec ! C Λ (En l₀ l₁ l₂ l₃ l₄ l₅ l₆ l₇) pieces.t-4 (atRet (En l₀ l₁ l₂ l₃ l₄ l₅ l₆ l₇) Post) $
         assigns ! (of-opd ! (unit-lit !)) (from ! (stop !)) (init ! 14 refl (tt, tt)) $
-        returns ! (look ! 14 refl) $ forget ! 4 refl $ forget ! 6 refl $ forget ! 8 refl $ forget ! 10 refl $ forget ! 12 refl $ forget ! 14 refl $
-        move ! (14 ∷ 15 ∷ []) $ free1 ! $ move ! (12 ∷ 13 ∷ []) $ free1 ! $ move ! (10 ∷ 11 ∷ []) $ free1 ! $ move ! (8 ∷ 9 ∷ []) $ free1 ! $ move ! (6 ∷ 7 ∷ []) $ free1 ! $ move ! (4 ∷ 5 ∷ []) $ free1 ! $ move ! (2 ∷ 3 ∷ []) $ free1 ! $ free1 ! $ free0 ! $
+        returns ! (look ! 14 refl) $ forget ! 4 refl $ forget ! 6 refl $ forget ! 8 refl $ forget ! 10 refl $ forget ! 12 refl $
+        forget ! 14 refl $
+        move ! (14 ∷ 15 ∷ []) $ free1 ! $ move ! (12 ∷ 13 ∷ []) $ free1 ! $ move ! (10 ∷ 11 ∷ []) $ free1 ! $ move ! (8 ∷ 9 ∷ []) $
+        free1 ! $ move ! (6 ∷ 7 ∷ []) $ free1 ! $ move ! (4 ∷ 5 ∷ []) $ free1 ! $ move ! (2 ∷ 3 ∷ []) $ free1 ! $ free1 ! $ free0 ! $
         move ! (1 ∷ []) $ fsplit ! $ fsplit ! $ move ! (1 ∷ []) $ fsplit ! $ move ! (4 ∷ []) $ split ! $
         keep ! (2 ∷ 3 ∷ 0 ∷ []) $ by ! (exits ys refl (sym (set-out ys i y′ (nltb→le i (length ys) t))) room))))))))))
 
-module _ {M : Type 1} (𝓤 : URA M) (H : Heap 𝓤) (A : Atoms 𝓤) (W : Given 𝓤 H A) (mem : Memory → SProp 𝓤) (run : Routine → Fun 𝓤) (𝓣 : Tables 𝓤 H) where
+module _ {M : Type 1} (𝓤 : URA M) (H : Heap 𝓤) (A : Atoms 𝓤) (W : Given 𝓤 H A) (mem : Memory → SProp 𝓤) (run : Routine → Fun 𝓤)
+    (𝓣 : Tables 𝓤 H) where
   walks : Walks 𝓤 H A f.ended stayed (WpFn 𝓤 H (𝓣 .C) (𝓣 .Λ) code.function) (f.clauses 𝓤 H A mem run)
   walks =
-      walked 𝓤 H A f.ended stayed (f.clauses 𝓤 H A mem run) (WpFn 𝓤 H (𝓣 .C) (𝓣 .Λ) code.function) (λ κs. (slice-vals, (uint-vals w64, (uint-vals w8, tt))))
+      walked 𝓤 H A f.ended stayed (f.clauses 𝓤 H A mem run) (WpFn 𝓤 H (𝓣 .C) (𝓣 .Λ) code.function)
+      (λ κs. (slice-vals, (uint-vals w64, (uint-vals w8, tt))))
       (λ κs. (mut-slice-tells (named 0) (κs .0) P.the-row, (uint-tells w64, (uint-tells w8, tt))))
       (λ κs qs bounds a g are. via 𝓤 _ (fst∗ 𝓤 _ (emp 𝓤))
-      (walk 𝓤 H A W mem run (κs .0) (qs .0) (a .0 .ptr .0) (a .0 .ptr .1) (a .0 .name) (a .0 .now) (a .1 .0) (a .1 .1 .0) (𝓣 .C) (𝓣 .Λ) (are .0 .0 .1) (are .1 .0 .1) (are .1 .1 .0 .1)))
+      (walk 𝓤 H A W mem run (κs .0) (qs .0) (a .0 .ptr .0) (a .0 .ptr .1) (a .0 .name) (a .0 .now) (a .1 .0) (a .1 .1 .0) (𝓣 .C) (𝓣 .Λ)
+      (are .0 .0 .1) (are .1 .0 .1) (are .1 .1 .0 .1)))
 
   meets : Meets 𝓤 H A f.signature (WpFn 𝓤 H (𝓣 .C) (𝓣 .Λ) code.function) (f.spec 𝓤 H A mem run)
   meets =
-      walk-meets 𝓤 H A f.ended stayed W
-      (goes-slice 𝓤 H A W 1 0 tt (plain (λ _. P.the-row)), (goes-dropped 𝓤 H A W 1 (plain (λ _. usize)) yes (λ κs x f. refl), (goes-dropped 𝓤 H A W 1 (plain (λ _. u8)) yes (λ κs x f. refl), tt)))
+      walk-meets 𝓤 H A f.ended stayed W (
+        goes-slice 𝓤 H A W 1 0 tt (plain (λ _. P.the-row)),
+        (
+          goes-dropped 𝓤 H A W 1 (plain (λ _. usize)) yes (λ κs x f. refl),
+          (goes-dropped 𝓤 H A W 1 (plain (λ _. u8)) yes (λ κs x f. refl), tt),
+        ),
+      )
       (f.clauses 𝓤 H A mem run) (WpFn 𝓤 H (𝓣 .C) (𝓣 .Λ) code.function) (WpFn-mono 𝓤 H (W .laws) 𝓣 code.function) walks
 
 pub set-result-spec : {M : Type 1} → stated.statement M

@@ -8,7 +8,9 @@ use Rattle.replay.proofs.feed.Statement.{statement}
 use Rattle.replay.proofs.feed.Tie as tie
 
 abbrev Inv-loop : tie.InvT-loop
-Inv-loop bytes out₀ reader₀ outbox₀ factory settings₀ registers₀ kept₀ i₀ out reader outbox settings registers kept i = (length out ≡ length out₀) × (length reader ≡ length reader₀) × (length outbox ≡ length outbox₀) × (length settings ≡ length settings₀) × (length registers ≡ length registers₀)
+Inv-loop bytes out₀ reader₀ outbox₀ factory settings₀ registers₀ kept₀ i₀ out reader outbox settings registers kept i =
+    (length out ≡ length out₀) × (length reader ≡ length reader₀) × (length outbox ≡ length outbox₀) × (length settings ≡ length settings₀)
+    × (length registers ≡ length registers₀)
 
 abbrev μ-loop : tie.MeasureT-loop
 μ-loop bytes out₀ reader₀ outbox₀ factory settings₀ registers₀ kept₀ i₀ out reader outbox settings registers kept i = length bytes - i

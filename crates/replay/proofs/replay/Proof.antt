@@ -7,7 +7,9 @@ use Rattle.replay.proofs.replay.Statement.{statement}
 use Rattle.replay.proofs.replay.Tie as tie
 
 abbrev Inv-loop : tie.InvT-loop
-Inv-loop out₀ reader₀ outbox₀ factory settings₀ registers₀ left₀ out reader outbox settings registers left = (length out ≡ length out₀) × (length reader ≡ length reader₀) × (length outbox ≡ length outbox₀) × (length settings ≡ length settings₀) × (length registers ≡ length registers₀)
+Inv-loop out₀ reader₀ outbox₀ factory settings₀ registers₀ left₀ out reader outbox settings registers left =
+    (length out ≡ length out₀) × (length reader ≡ length reader₀) × (length outbox ≡ length outbox₀) × (length settings ≡ length settings₀)
+    × (length registers ≡ length registers₀)
 
 abbrev μ-loop : tie.MeasureT-loop
 μ-loop out₀ reader₀ outbox₀ factory settings₀ registers₀ left₀ out reader outbox settings registers left = left

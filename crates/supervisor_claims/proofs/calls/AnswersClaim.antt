@@ -1,4 +1,5 @@
--- The data of replies to requests that change nothing else, on valid parts that hold bytes: they are those that document 01 has, and can be sent.
+-- The data of replies to requests that change nothing else, on valid parts that hold bytes:
+-- they are those that document 01 has, and can be sent.
 -- Assumes nothing.
 use mathlib.Core.Path.{_≡_, refl, sym, _∙_}
 use mathlib.Core.Bool.{Bool, true, false, cond, _&&_, and-eq-true-iff}
@@ -131,7 +132,8 @@ module _ (f : List ℕ) (valid : validFactory f ≡ true) (b : Each Byte f) wher
       cond-by (λ bs. bs ≡ Requests.inventoried (Requests.itemOf (tabulated (itemAt f) n) index)) (ltb index n) _ _
       (λ e.
       let l = ltb-true index n e in
-      rw (listed-item (itemAt f) n index l, item-run index (item-held f index valid l), run-chosen (at + Layout.item-data-offset)) (simp append-assoc))
+      rw (listed-item (itemAt f) n index l, item-run index (item-held f index valid l), run-chosen (at + Layout.item-data-offset))
+      (simp append-assoc))
       (λ e. rw (listed-none (itemAt f) n index (ltb-false index n e)))
 
   pub item-sendable : (index : ℕ) → Sendable (itemBytes f index)
@@ -153,14 +155,16 @@ pub status-meant : (r : List ℕ) → validRegisters r ≡ true → Each Byte r
     → run Layout.status-offset 16 r ≡ bytes 8 (Layout.statusOf r) ++ bytes 8 (Layout.optionsOf r)
 status-meant r valid b =
     let v = registers-valid r valid in
-    rw (number-run 8 Layout.status-offset r (omega arith) b, number-run 8 Layout.options-offset r (omega arith) b) (run-add Layout.status-offset 8 8 r)
+    rw (number-run 8 Layout.status-offset r (omega arith) b, number-run 8 Layout.options-offset r (omega arith) b)
+    (run-add Layout.status-offset 8 8 r)
 
 -- ---- a key's value
 
 fitted-small : (most edition : ℕ) (v : Option (List ℕ)) → Local.fitted most edition v .result ≤ 3
 unfolding Local.fitted
 fitted-small most edition none = omega arith
-fitted-small most edition (some v) = cond-by (λ (x : Local.Found). x .result ≤ 3) (ltb most (length v)) _ _ (λ e. omega arith) (λ e. omega arith)
+fitted-small most edition (some v) =
+    cond-by (λ (x : Local.Found). x .result ≤ 3) (ltb most (length v)) _ _ (λ e. omega arith) (λ e. omega arith)
 
 found-small : (s : State) (key most : ℕ) → Local.lookup s key most .result ≤ 4
 unfolding Local.lookup
@@ -233,5 +237,6 @@ module _ (p : Calls.Parts) (v : Valid p) (fb : Each Byte (p .factory)) (sb : Eac
   value-sendable version d =
       let short = value-data-short version (p .factory) (p .settings) d (v .factory) (v .settings) in (
         omega arith,
-        each-append Byte (valueHead version _ _) _ (head-each version _ _) (value-each (p .factory) (p .settings) fb sb (numberAt 2 d 1) (numberAt 1 d 0)),
+        each-append Byte (valueHead version _ _) _ (head-each version _ _)
+            (value-each (p .factory) (p .settings) fb sb (numberAt 2 d 1) (numberAt 1 d 0)),
       )

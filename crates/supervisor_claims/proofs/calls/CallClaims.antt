@@ -36,7 +36,8 @@ use Rattle.supervisor_claims.specs.ByPart.{Part}
 use Rattle.supervisor_claims.specs.View.{settingsOf, factoryOf, view}
 use Rattle.supervisor_claims.specs.Sound.{withSettingsPart, withRegisters, Bytes, Sound, Lengths, Leaves}
 use Rattle.supervisor_claims.specs.Histories
-use Rattle.supervisor_claims.specs.Histories.{Call, Typed, didBy, did, refusal, Means, means, doneMeans, recordMeans, meant, upTo, endedInPiece}
+use Rattle.supervisor_claims.specs.Histories.{Call, Typed, didBy, did, refusal, Means, means, doneMeans, recordMeans, meant, upTo}
+use Rattle.supervisor_claims.specs.Histories.{endedInPiece}
 use Rattle.supervisor_claims.specs.Demand1.{Meets}
 use Rattle.supervisor_claims.specs.Demand2.{Starts}
 use Rattle.supervisor_claims.proofs.Meant.{Does, Reads, RecordedAs}
@@ -46,7 +47,8 @@ use Rattle.supervisor_claims.proofs.laws.PostLaws.{allowed, posted-kept
 use Rattle.supervisor_claims.proofs.laws.SavingLaws.{image-meant, good-meant}
 use Rattle.supervisor_claims.proofs.calls.StartClaim.{start-fresh, start-meant}
 use Rattle.supervisor_claims.proofs.calls.TakeClaim.{take-meant}
-use Rattle.supervisor_claims.proofs.calls.RegistersClaim.{post-meant, options-meant, signal-meant, flags-meant, boot-failure-meant, panic-meant}
+use Rattle.supervisor_claims.proofs.calls.RegistersClaim.{post-meant, options-meant, signal-meant, flags-meant, boot-failure-meant}
+use Rattle.supervisor_claims.proofs.calls.RegistersClaim.{panic-meant}
 use Rattle.supervisor_claims.proofs.calls.LookupClaim.{lookup-meant, edition-meant}
 use Rattle.supervisor_claims.proofs.calls.ReceiveClaim.{fed-leaves}
 use Rattle.supervisor_claims.proofs.calls.StepClaim.{step-used, step-fed, step-ends, valid-step-stepped}
@@ -63,7 +65,8 @@ zeros-each zero = tt
 zeros-each (suc n) = (omega arith, zeros-each n)
 
 -- bytes and zeros, put at the start of a list
-cleared-keeps : (m n : ℕ) (xs s : List ℕ) → length xs ≡ m → m + n ≤ length s → Each Byte xs → Each Byte s → Keeps s (overlay 0 (xs ++ replicate n 0) s)
+cleared-keeps : (m n : ℕ) (xs s : List ℕ) → length xs ≡ m → m + n ≤ length s → Each Byte xs → Each Byte s
+    → Keeps s (overlay 0 (xs ++ replicate n 0) s)
 cleared-keeps m n xs s e h b c = (overlay-each Byte 0 _ s (each-append Byte xs _ b (zeros-each n)) c, length-clear m n xs s e h)
 
 module _ (d : List ℕ) (typed : Typed (Histories.start d)) (p : Parts) (b : Bytes p) where
@@ -73,7 +76,8 @@ module _ (d : List ℕ) (typed : Typed (Histories.start d)) (p : Parts) (b : Byt
       let front = length-append d (bytes 4 0) in
       let whole = length-append (d ++ bytes 4 0) pong in
       let text : Each Byte pong = (omega arith, (omega arith, (omega arith, (omega arith, tt)))) in (
-        overlay-each Byte 0 _ (p .factory) (each-append Byte (d ++ bytes 4 0) pong (each-append Byte d (bytes 4 0) (typed .1) (bytes-each 4 0)) text) (b .factory),
+        overlay-each Byte 0 _ (p .factory)
+            (each-append Byte (d ++ bytes 4 0) pong (each-append Byte d (bytes 4 0) (typed .1) (bytes-each 4 0)) text) (b .factory),
         length-overlay 0 (d ++ bytes 4 0 ++ pong) (p .factory) (omega arith),
       )
 
@@ -83,9 +87,23 @@ module _ (d : List ℕ) (typed : Typed (Histories.start d)) (p : Parts) (b : Byt
       let o = cleared-keeps 0 Layout.outbox-length [] (p .outbox) refl (r .outbox) tt (b .outbox) in
       let f = stored-keeps (r .factory) in
       let s = cleared-keeps 0 Layout.settings-length [] (p .settings) refl (r .settings) tt (b .settings) in
-      let g = cleared-keeps 8 (Layout.registers-length - 8) (bytes 8 1) (p .registers) (length-bytes 8 1) (r .registers) (bytes-each 8 1) (b .registers) in (
-        record { reader = overlay-each Byte 0 _ (p .reader) (bytes-each 2 0) (b .reader); outbox = o .0; factory = f .0; settings = s .0; registers = g .0 },
-        record { reader = length-overlay 0 (bytes 2 0) (p .reader) (omega (arith, length-bytes 2 0)); outbox = o .1; factory = f .1; settings = s .1; registers = g .1 },
+      let g =
+      cleared-keeps 8 (Layout.registers-length - 8) (bytes 8 1) (p .registers) (length-bytes 8 1) (r .registers) (bytes-each 8 1)
+      (b .registers) in (
+        record {
+          reader = overlay-each Byte 0 _ (p .reader) (bytes-each 2 0) (b .reader);
+          outbox = o .0;
+          factory = f .0;
+          settings = s .0;
+          registers = g .0;
+        },
+        record {
+          reader = length-overlay 0 (bytes 2 0) (p .reader) (omega (arith, length-bytes 2 0));
+          outbox = o .1;
+          factory = f .1;
+          settings = s .1;
+          registers = g .1;
+        },
       )
 
   start-keeps : Bytes (Calls.startPromise d p .parts) × Lengths p (Calls.startPromise d p .parts)
@@ -108,7 +126,8 @@ module _ (d : List ℕ) (typed : Typed (Histories.start d)) (p : Parts) (b : Byt
 
 module _ (p : Parts) (s : Sound p) where
   -- a call that leaves the parts as they are
-  same : {answer answer' : Histories.Answer} {bs bs' : List ℕ} → answer ≡ answer' → bs ≡ bs' → Meets p (didBy answer bs p) (means answer' bs' (view p))
+  same : {answer answer' : Histories.Answer} {bs bs' : List ℕ} → answer ≡ answer' → bs ≡ bs'
+      → Meets p (didBy answer bs p) (means answer' bs' (view p))
   same e f = record { answer = e; out = f; leaves = (refl, s, lengths-same) }
 
   start-meets : (d : List ℕ) → Typed (Histories.start d) → Meets p (did p (Histories.start d)) (meant (view p) (Histories.start d))
@@ -133,16 +152,20 @@ module _ (p : Parts) (s : Sound p) where
       let on = overlay Layout.outbox-from-offset (bytes 2 n) o in
       let long : length on ≡ length o = stored-long 2 Layout.outbox-from-offset n o (omega arith) in
       let flag : last < 256 = cond-by Byte (eqb (getD (x ∷ bs) (length (x ∷ bs) - 1) 0) 0) 0 1 (λ e. omega arith) (λ e. omega arith) in (
-        overlay-each Byte Layout.outbox-terminator-owed-offset (last ∷ []) on (flag, tt) (overlay-each Byte Layout.outbox-from-offset _ o (bytes-each 2 n) b),
+        overlay-each Byte Layout.outbox-terminator-owed-offset (last ∷ []) on (flag, tt)
+            (overlay-each Byte Layout.outbox-from-offset _ o (bytes-each 2 n) b),
         length-overlay Layout.outbox-terminator-owed-offset (last ∷ []) on (omega arith) ∙ long,
       )
 
   take-keeps : (room : List ℕ) → Keeps (p .outbox) (Calls.takePromise (p .outbox) room .outbox)
   unfolding Calls.takePromise
   take-keeps room =
-      rw (s .valid .outbox) (taken-keeps (Calls.takeableBytes (p .outbox) room) (p .outbox) (outbox-valid (p .outbox) (s .valid .outbox) .long) (s .bytes .outbox))
+      rw (s .valid .outbox)
+      (taken-keeps (Calls.takeableBytes (p .outbox) room) (p .outbox) (outbox-valid (p .outbox) (s .valid .outbox) .long)
+      (s .bytes .outbox))
 
-  take-meets : (room : List ℕ) → Meets p (did p (Histories.local (Histories.take room))) (meant (view p) (Histories.local (Histories.take room)))
+  take-meets : (room : List ℕ)
+      → Meets p (did p (Histories.local (Histories.take room))) (meant (view p) (Histories.local (Histories.take room)))
   unfolding did meant
   take-meets room =
       let t = take-meant p (s .valid) room in
@@ -171,17 +194,20 @@ module _ (p : Parts) (s : Sound p) where
   alert-each action text b =
       overlay-each Byte _ _ _ (bytes-each 8 _)
       (overlay-each Byte _ _ _ (bytes-each 1 _)
-      (overlay-each Byte _ _ _ (each-append Byte (bytes 2 (length text)) _ (bytes-each 2 _) (each-append Byte (bytes 1 action) text (bytes-each 1 action) b))
+      (overlay-each Byte _ _ _
+      (each-append Byte (bytes 2 (length text)) _ (bytes-each 2 _) (each-append Byte (bytes 1 action) text (bytes-each 1 action) b))
       (s .bytes .registers)))
 
-  post-keeps : (action : ℕ) (text : List ℕ) → Typed (Histories.local (Histories.post action text)) → KeepsRegisters (Calls.postPromise (p .registers) action text)
+  post-keeps : (action : ℕ) (text : List ℕ) → Typed (Histories.local (Histories.post action text))
+      → KeepsRegisters (Calls.postPromise (p .registers) action text)
   unfolding Calls.postPromise
   post-keeps action text typed =
       rw (s .valid .registers)
       (cond-by KeepsRegisters (eqb action 0) _ _ (λ e. unchanged) (λ e.
       cond-by KeepsRegisters (ltb Limits.longest-alert (length text)) _ _ (λ f. unchanged) (λ f.
       cond-by KeepsRegisters (ltb (Layout.alertCount (p .registers)) Limits.most-alerts) _ _
-      (λ g. (alert-each action text (typed .1), posted-kept (allowed (p .registers) action text (s .valid .registers) (typed .0) e f g) .long))
+      (λ g.
+      (alert-each action text (typed .1), posted-kept (allowed (p .registers) action text (s .valid .registers) (typed .0) e f g) .long))
       (λ g. unchanged))))
 
   options-keeps : (options : ℕ) → KeepsRegisters (Calls.optionsPromise (p .registers) options)
@@ -198,7 +224,8 @@ module _ (p : Parts) (s : Sound p) where
 
   -- ---- saving and restoring
 
-  save-meets : (room : List ℕ) → Meets p (did p (Histories.local (Histories.save room))) (meant (view p) (Histories.local (Histories.save room)))
+  save-meets : (room : List ℕ)
+      → Meets p (did p (Histories.local (Histories.save room))) (meant (view p) (Histories.local (Histories.save room)))
   unfolding did meant SavingCalls.savePromise view
   save-meets room =
       rw (s .valid .settings, image-meant (p .settings))
@@ -207,7 +234,8 @@ module _ (p : Parts) (s : Sound p) where
       P : SavingCalls.SaveOutcome → Means → Type 0
       P t m = Meets p (didBy (Histories.saveAnswer (t .report)) (t .room) p) m
 
-  restored-by : (image : List ℕ) (r : Saving.ImageRead) → Saving.readImage image ≡ r → SavingCalls.restorePromise (p .settings) image ≡ SavingCalls.restoreOutcomeBy (p .settings) r
+  restored-by : (image : List ℕ) (r : Saving.ImageRead) → Saving.readImage image ≡ r
+      → SavingCalls.restorePromise (p .settings) image ≡ SavingCalls.restoreOutcomeBy (p .settings) r
   unfolding SavingCalls.restorePromise
   restored-by image r e = rw (s .valid .settings, e)
 
@@ -216,24 +244,31 @@ module _ (p : Parts) (s : Sound p) where
   unfolding did meant Saving.restore SavingCalls.restoreOutcomeBy view
   restore-meets image b =
       by (Saving.readImage image) refl
-      (sound-with p Part.settings _ s (restored-valid (p .settings) image (s .valid .settings)) (restored-bytes (p .settings) image (s .bytes .settings) b) (restored-long (p .settings) image))
+      (sound-with p Part.settings _ s (restored-valid (p .settings) image (s .valid .settings))
+      (restored-bytes (p .settings) image (s .bytes .settings) b) (restored-long (p .settings) image))
     where
       after : Saving.ImageRead → Parts
       after r = withSettingsPart p (SavingCalls.restoreOutcomeBy (p .settings) r .settings)
 
       meets : (r : Saving.ImageRead) → Saving.readImage image ≡ r → Sound (after r) × Lengths p (after r)
-          → Meets p (didBy (Histories.restoreAnswer (SavingCalls.restoreOutcomeBy (p .settings) r .report)) [] (after r)) (Histories.restoreMeans (view p) (Saving.restoreRead (view p) r))
+          → Meets p (didBy (Histories.restoreAnswer (SavingCalls.restoreOutcomeBy (p .settings) r .report)) [] (after r))
+          (Histories.restoreMeans (view p) (Saving.restoreRead (view p) r))
       meets (Saving.fault n at) e w = same refl refl
       meets (Saving.good es) e w =
           record {
             answer = refl;
             out = refl;
-            leaves = (ap (withSettings (view p)) (good-meant (p .settings) (settings-valid (p .settings) (s .valid .settings)) image b es e), w .0, w .1);
+            leaves = (
+              ap (withSettings (view p)) (good-meant (p .settings) (settings-valid (p .settings) (s .valid .settings)) image b es e),
+              w .0,
+              w .1,
+            );
           }
 
       by : (r : Saving.ImageRead) → Saving.readImage image ≡ r → let t = SavingCalls.restorePromise (p .settings) image .settings in
           Sound (withSettingsPart p t) × Lengths p (withSettingsPart p t)
-          → Meets p (let t = SavingCalls.restorePromise (p .settings) image in didBy (Histories.restoreAnswer (t .report)) [] (withSettingsPart p (t .settings)))
+          → Meets p (let t = SavingCalls.restorePromise (p .settings) image in
+          didBy (Histories.restoreAnswer (t .report)) [] (withSettingsPart p (t .settings)))
           (Histories.restoreMeans (view p) (Saving.restoreRead (view p) r))
       by r e w = rw (restored-by image r e) (meets r e (rw (restored-by image r e) at w))
 
@@ -247,7 +282,8 @@ module _ (p : Parts) (s : Sound p) where
   reads-meets (some r) bs none e = absurd e
   reads-meets (some r) bs (some x) e = same (rw (← (e .0), ← (e .1), ← (e .2))) (e .3)
 
-  record-meets : (k : Kind) → Meets p (did p (Histories.local (Histories.readRecord k))) (meant (view p) (Histories.local (Histories.readRecord k)))
+  record-meets : (k : Kind)
+      → Meets p (did p (Histories.local (Histories.readRecord k))) (meant (view p) (Histories.local (Histories.readRecord k)))
   unfolding did meant
   record-meets k = go (Histories.recordKept (view p) k) (kinds k)
     where
@@ -256,7 +292,9 @@ module _ (p : Parts) (s : Sound p) where
       kinds kind.Panic = panic-meant p (s .valid)
 
       go : (x : Option Recorded) → RecordedAs p k x
-          → Meets p (didBy (Histories.registerAnswer Histories.recorded (Calls.recordPromise (p .registers) k)) (Calls.recordBytesPromise (p .registers) k) p) (recordMeans (view p) x)
+          → Meets p (didBy (Histories.registerAnswer Histories.recorded (Calls.recordPromise (p .registers) k))
+          (Calls.recordBytesPromise (p .registers) k) p)
+          (recordMeans (view p) x)
       go x e = rw (e .1) (reads-meets (e .0) _ x (e .2))
 
 -- ---- the calls that receive
@@ -301,17 +339,19 @@ module _ (p : Parts) (s : Sound p) where
   call-meets (Histories.step image piece) typed = step-meets image piece typed
   call-meets (Histories.local (Histories.take room)) typed = take-meets p s room
   call-meets (Histories.local (Histories.post action text)) typed =
-      registers-meets p s (Calls.postPromise (p .registers) action text) (Local.post (view p) action text) (post-meant p (s .valid) action text (typed .0))
-      (post-keeps p s action text typed)
+      registers-meets p s (Calls.postPromise (p .registers) action text) (Local.post (view p) action text)
+      (post-meant p (s .valid) action text (typed .0)) (post-keeps p s action text typed)
   call-meets (Histories.local (Histories.setOptions options)) typed =
-      registers-meets p s (Calls.optionsPromise (p .registers) options) (Local.setOptions (view p) options) (options-meant p (s .valid) options typed)
-      (options-keeps p s options)
+      registers-meets p s (Calls.optionsPromise (p .registers) options) (Local.setOptions (view p) options)
+      (options-meant p (s .valid) options typed) (options-keeps p s options)
   call-meets (Histories.local (Histories.lookup key most)) typed =
       let l = lookup-meant p (s .valid) (s .bytes .factory) key most in
       same p s (ap Histories.lookupAnswer (l .0)) (l .1)
   call-meets (Histories.local (Histories.edition key)) typed = same p s (ap Histories.editionAnswer (edition-meant p (s .valid) key)) refl
-  call-meets (Histories.local Histories.signal) typed = same p s (ap (Histories.registerAnswer Histories.asserted) (signal-meant p (s .valid))) refl
-  call-meets (Histories.local Histories.flags) typed = same p s (ap (Histories.registerAnswer Histories.flagsAsked) (flags-meant p (s .valid))) refl
+  call-meets (Histories.local Histories.signal) typed =
+      same p s (ap (Histories.registerAnswer Histories.asserted) (signal-meant p (s .valid))) refl
+  call-meets (Histories.local Histories.flags) typed =
+      same p s (ap (Histories.registerAnswer Histories.flagsAsked) (flags-meant p (s .valid))) refl
   call-meets (Histories.local (Histories.save room)) typed = save-meets p s room
   call-meets (Histories.local (Histories.restore image)) typed = restore-meets p s image typed
   call-meets (Histories.local (Histories.readRecord k)) typed = record-meets p s k

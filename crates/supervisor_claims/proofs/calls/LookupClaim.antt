@@ -38,7 +38,8 @@ unfolding Local.fitted
 part-answers most edition n bs v e l = rw (e, ← (sym (ap length e) ∙ l)) (go (ltb most (length v)))
   where
     go : (t : Bool)
-        → Answers (cond t (Calls.LookupReport.result 3 0) (Calls.LookupReport.result 0 (length v))) (cond t [] v) (cond t (Local.without 3) (record { result = 0; edition = edition; value = v }))
+        → Answers (cond t (Calls.LookupReport.result 3 0) (Calls.LookupReport.result 0 (length v))) (cond t [] v)
+        (cond t (Local.without 3) (record { result = 0; edition = edition; value = v }))
     go true = (refl, refl)
     go false = (refl, refl)
 
@@ -65,7 +66,8 @@ Looked report bs most q x = Answers (report q) (bs q) (Local.fitted most (x .edi
 module _ (p : Calls.Parts) (v : Valid p) where
   setting-answers : (most at longest : ℕ) {shortest : ℕ} → at + Layout.setting-value-offset + longest ≤ Layout.settings-length
       → SettingValid (p .settings) at shortest longest
-      → Looked (Calls.resultAt most) (Calls.valueIn (p .factory) (p .settings) most) most (Calls.settingAt (p .settings) at) (settingOf (p .settings) at)
+      → Looked (Calls.resultAt most) (Calls.valueIn (p .factory) (p .settings) most) most (Calls.settingAt (p .settings) at)
+      (settingOf (p .settings) at)
   unfolding Calls.resultAt Calls.valueIn Calls.settingAt settingOf Local.fitted
   setting-answers most at longest h k =
       let s = p .settings in
@@ -73,11 +75,13 @@ module _ (p : Calls.Parts) (v : Valid p) where
       let n = Layout.settingLength s at in
       let size = length-run (at + Layout.setting-value-offset) n s (omega arith) in
       let edition = Layout.settingEdition s at in
-      cond-both (λ q o. Looked (Calls.resultAt most) (Calls.valueIn (p .factory) s most) most q (record { edition = edition; value = o })) (eqb (Layout.settingHeld s at) 1)
+      cond-both (λ q o. Looked (Calls.resultAt most) (Calls.valueIn (p .factory) s most) most q (record { edition = edition; value = o }))
+      (eqb (Layout.settingHeld s at) 1)
       (λ e. part-answers most edition n (run (at + Layout.setting-value-offset) n s) _ refl size) (λ e. (refl, refl))
 
   -- of a key from 0 to 5
-  key-answers : Each Byte (p .factory) → (key most : ℕ) → key ≤ Limits.highest-key → eqb key Limits.passphrase-key ≡ false → let q = Calls.locationOf (p .factory) (p .settings) key in
+  key-answers : Each Byte (p .factory) → (key most : ℕ) → key ≤ Limits.highest-key → eqb key Limits.passphrase-key ≡ false
+      → let q = Calls.locationOf (p .factory) (p .settings) key in
       Looked (Calls.resultAt most) (Calls.valueIn (p .factory) (p .settings) most) most q (Local.entryOf (view p) key)
   unfolding Calls.locationOf Calls.resultAt Calls.valueIn Local.entryOf view factoryOf
   key-answers b key most h o =
@@ -88,26 +92,32 @@ module _ (p : Calls.Parts) (v : Valid p) where
       let image = length-run Layout.image-id-offset (Layout.imageIdLength f) f (omega arith) in
       cond-both P (eqb key 0) (λ e. part-answers most 0 4 _ _ (u .text) (length-run Layout.pong-offset 4 f (omega arith))) (λ i.
       cond-both P (eqb key 1) (λ e. part-answers most 0 _ (run Layout.image-id-offset (Layout.imageIdLength f) f) _ refl image) (λ j.
-      cond-both P (eqb key 2) (λ e. part-answers most 0 8 _ _ (inventory-run f u b) (length-run Layout.item-count-offset 8 f (omega arith))) (λ k.
+      cond-both P (eqb key 2) (λ e. part-answers most 0 8 _ _ (inventory-run f u b) (length-run Layout.item-count-offset 8 f (omega arith)))
+      (λ k.
       let s = settings-key key i j k h in
       rw (o, setting-is (p .settings) key s)
-      (setting-answers most (Layout.setting-offset key) (Limits.longest-setting key) (omega (arith, offset-within key s)) (w .each key s)))))
+      (setting-answers most (Layout.setting-offset key) (Limits.longest-setting key) (omega (arith, offset-within key s))
+      (w .each key s)))))
 
   -- the passphrase is not handed out
-  location-answers : Each Byte (p .factory) → (key most : ℕ) → key ≤ Limits.highest-key → let q = Calls.locationOf (p .factory) (p .settings) key in
+  location-answers : Each Byte (p .factory) → (key most : ℕ) → key ≤ Limits.highest-key
+      → let q = Calls.locationOf (p .factory) (p .settings) key in
       let x = Local.entryOf (view p) key in
       Answers (Calls.resultAt most q) (Calls.valueIn (p .factory) (p .settings) most q)
       (cond (eqb key Limits.passphrase-key) (Local.without 4) (Local.fitted most (x .edition) (x .value)))
   unfolding Calls.locationOf Calls.resultAt Calls.valueIn
   location-answers b key most h =
-      cond-by (Answers _ _) (eqb key Limits.passphrase-key) _ _ (λ e. rw (eqb-true key Limits.passphrase-key e) (refl, refl)) (λ e. key-answers b key most h e)
+      cond-by (Answers _ _) (eqb key Limits.passphrase-key) _ _ (λ e. rw (eqb-true key Limits.passphrase-key e) (refl, refl))
+      (λ e. key-answers b key most h e)
 
   -- the factory store holds bytes
   pub lookup-meant : Each Byte (p .factory) → (key most : ℕ) → let f = Local.lookup (view p) key most in
       (Calls.lookupResultPromise (p .factory) (p .settings) key most ≡ Calls.LookupReport.result (f .result) (length (f .value)))
       × (Calls.lookupPromise (p .factory) (p .settings) key most ≡ f .value)
   unfolding Calls.lookupResultPromise Calls.lookupPromise Local.lookup
-  lookup-meant b key most = rw (v .factory, v .settings) (choose (ltb Limits.highest-key key) _ (λ e. location-answers b key most (ltb-false Limits.highest-key key e)))
+  lookup-meant b key most =
+      rw (v .factory, v .settings)
+      (choose (ltb Limits.highest-key key) _ (λ e. location-answers b key most (ltb-false Limits.highest-key key e)))
 
   -- ---- the edition of a key
 
@@ -123,7 +133,8 @@ module _ (p : Calls.Parts) (v : Valid p) where
   setting-edition key =
       let s = p .settings in
       let at = Layout.setting-offset key in
-      cond-both (λ q o. Editions (Calls.editionReportAt s key) q (record { edition = Layout.settingEdition s at; value = o })) (eqb (Layout.settingHeld s at) 1) (λ e. refl) (λ e. refl)
+      cond-both (λ q o. Editions (Calls.editionReportAt s key) q (record { edition = Layout.settingEdition s at; value = o }))
+      (eqb (Layout.settingHeld s at) 1) (λ e. refl) (λ e. refl)
 
   key-edition : (key : ℕ) → key ≤ Limits.highest-key → eqb key Limits.passphrase-key ≡ false
       → Editions (Calls.editionReportAt (p .settings) key) (Calls.locationOf (p .factory) (p .settings) key) (Local.entryOf (view p) key)
@@ -150,16 +161,23 @@ edition-meant p v key =
     (λ e. refl) (λ e. location-edition p v key (ltb-false Limits.highest-key key e)))
 
 -- a lookup that succeeds hands out that edition
-fitted-edition : (most : ℕ) (x : Setting) → let f = Local.fitted most (x .edition) (x .value) in f .result ≡ 0 → Local.editionOf x .edition ≡ f .edition
+fitted-edition : (most : ℕ) (x : Setting)
+    → let f = Local.fitted most (x .edition) (x .value) in f .result ≡ 0 → Local.editionOf x .edition ≡ f .edition
 unfolding Local.fitted
 fitted-edition most x = by (x .value)
   where
-    by : (o : Option (List ℕ)) → let f = Local.fitted most (x .edition) o in f .result ≡ 0 → Local.editionOf (record { edition = x .edition; value = o }) .edition ≡ f .edition
+    by : (o : Option (List ℕ))
+        → let f = Local.fitted most (x .edition) o in f .result ≡ 0 → Local.editionOf (record {
+          edition = x .edition;
+          value = o;
+        }) .edition ≡ f .edition
     by none e = absurd (omega arith)
     by (some v) e =
-        cond-by (λ (f : Local.Found). f .result ≡ 0 → x .edition ≡ f .edition) (ltb most (length v)) _ _ (λ h i. absurd (omega arith)) (λ h i. refl) e
+        cond-by (λ (f : Local.Found). f .result ≡ 0 → x .edition ≡ f .edition) (ltb most (length v)) _ _ (λ h i. absurd (omega arith))
+        (λ h i. refl) e
 
-pub lookup-edition : (s : State) (key most : ℕ) → Local.lookup s key most .result ≡ 0 → Local.edition s key .edition ≡ Local.lookup s key most .edition
+pub lookup-edition : (s : State) (key most : ℕ) → Local.lookup s key most .result ≡ 0
+    → Local.edition s key .edition ≡ Local.lookup s key most .edition
 unfolding Local.lookup Local.edition
 lookup-edition s key most =
     let P : Local.Found → Local.Edition → Type 0 = λ f e. f .result ≡ 0 → e .edition ≡ f .edition in

@@ -32,19 +32,23 @@ use Rattle.supervisor_claims.specs.Sound.{withReader, withOutbox, Sound,
 use Rattle.supervisor_claims.proofs.Sound.{lengths-same, lengths-then, sound-with}
 use Rattle.supervisor_claims.proofs.calls.SendingClaim.{reply-sendable, sent-pending, sent-bytes}
 use Rattle.supervisor_claims.proofs.calls.CommandClaims.{withStores, SendableReply, Changed, command-does}
-use Rattle.supervisor_claims.proofs.calls.ReceivedClaim.{Requestable, ReaderKept, pushed-received, pushed-kept, finished-received, finished-kept, finished-verdict, finished-typed}
+use Rattle.supervisor_claims.proofs.calls.ReceivedClaim.{Requestable, ReaderKept, pushed-received, pushed-kept, finished-received}
+use Rattle.supervisor_claims.proofs.calls.ReceivedClaim.{finished-kept, finished-verdict, finished-typed}
 
 -- ---- Sending
 
 -- a reply's bytes, or none, become the pending ones
-sent-leaves : (p : Parts) → Sound p → (r : Option Requests.Reply) → length (Requests.replyFrame r) ≤ longest-form + 1 → Each Byte (Requests.replyFrame r)
+sent-leaves : (p : Parts) → Sound p → (r : Option Requests.Reply) → length (Requests.replyFrame r) ≤ longest-form + 1
+    → Each Byte (Requests.replyFrame r)
     → Leaves p (withOutbox p (Receive.sentBox (Requests.replyFrame r) (p .outbox))) (Requests.sent (view p) r)
 unfolding view Requests.sent
 sent-leaves p s r short each =
     let o = p .outbox in
     let v = s .valid .outbox in
     let bs = Requests.replyFrame r in
-    let k = sound-with p Part.outbox (Receive.sentBox bs o) s (box-valid o bs v short) (sent-bytes o bs v short (s .bytes .outbox) each) (sent-long o bs v short) in
+    let k =
+    sound-with p Part.outbox (Receive.sentBox bs o) s (box-valid o bs v short) (sent-bytes o bs v short (s .bytes .outbox) each)
+    (sent-long o bs v short) in
     (rw (sent-pending o bs v short, sent-owed o bs v short), k .0, k .1)
 
 -- the frame of a reply with data that a message may have
@@ -75,7 +79,8 @@ module _ (p : Parts) (s : Sound p) (sequence : ℕ) where
       let bs = frame-sendable sequence (c .reply) (ch .payload) in
       let a = sound-with p Part.settings (i .settings) s (w .settings) (ch .settings .bytes (s .bytes .settings)) (ch .settings .long) in
       let q = withPart p Part.settings (i .settings) in
-      let b = sound-with q Part.registers (i .registers) (a .0) (w .registers) (ch .registers .bytes (s .bytes .registers)) (ch .registers .long) in
+      let b =
+      sound-with q Part.registers (i .registers) (a .0) (w .registers) (ch .registers .bytes (s .bytes .registers)) (ch .registers .long) in
       let l = sent-leaves (withStores p i) (b .0) (Requests.replyOf sequence (c .reply)) (bs .0) (bs .1) in
       rw (ch .outbox, ← ch .state) (l .0, l .1, lengths-then (lengths-then (a .1) (b .1)) (l .2))
 
@@ -85,14 +90,16 @@ module _ (image : List ℕ) (each : Each Byte image) (p : Parts) (s : Sound p) (
 
   carried-inner : Receive.validInner (Carried image p m) ≡ true
   carried-inner =
-      carried-valid image (p .factory) (Receive.innerOf p) (m .version) (m .sequence) (m .payload) (served-small (m .version) (q .version)) (s .valid .factory) parts-valid (q .fits) (number-small 1 0 (m .payload) (q .payload)) (m .command)
+      carried-valid image (p .factory) (Receive.innerOf p) (m .version) (m .sequence) (m .payload) (served-small (m .version) (q .version))
+      (s .valid .factory) parts-valid (q .fits) (number-small 1 0 (m .payload) (q .payload)) (m .command)
 
   -- its command is listed
   request-leaves : Leaves p (withInner p (Carried image p m)) (sentBy (m .sequence) (Requests.carryOut image (view p) m))
   unfolding Receive.carriedInner Requests.carryOut Requests.known
   request-leaves = by (commandOfNumber (m .command)) (q .command) carried-inner
     where
-      by : (o : Option Command) → isListed o ≡ true → let i = Receive.commandLeavesWhere o image (p .factory) (Receive.innerOf p) (m .version) (m .sequence) (m .payload) in
+      by : (o : Option Command) → isListed o ≡ true
+          → let i = Receive.commandLeavesWhere o image (p .factory) (Receive.innerOf p) (m .version) (m .sequence) (m .payload) in
           Receive.validInner i ≡ true → Leaves p (withInner p i) (sentBy (m .sequence) (Requests.carryOutBy o image (view p) m))
       by none e v = let z : _≡_ {A = ℕ} 1 0 = ap (λ t. cond t 0 1) e in absurd (omega arith)
       by (some x) e v = change-leaves p s (m .sequence) _ _ (command-does p s image each m q x) v
@@ -123,7 +130,8 @@ found-good : (m : Message) → Small (good m)
 found-good m = record { low = omega arith }
 
 -- a test that fails with a reason, ahead of other tests
-fails : (t : Bool) (reason version : ℕ) (sequence : Option ℕ) (v : Verdict) → reason < 256 → Small v → Small (cond t (failure reason version sequence) v)
+fails : (t : Bool) (reason version : ℕ) (sequence : Option ℕ) (v : Verdict) → reason < 256 → Small v
+    → Small (cond t (failure reason version sequence) v)
 fails true reason version sequence v h k = record { low = h }
 fails false reason version sequence v h k = k
 
@@ -177,9 +185,11 @@ module _ (image : List ℕ) (each : Each Byte image) (p : Parts) (s : Sound p) w
 
   -- a frame that is not empty
   frame-leaves : (v : Verdict) → Judgeable v
-      → Leaves p (Receive.partsWith p ended (Receive.innerBy image (p .factory) (Receive.innerOf p) v)) (Requests.afterVerdict image (withReceived (view p) (some [])) v)
+      → Leaves p (Receive.partsWith p ended (Receive.innerBy image (p .factory) (Receive.innerOf p) v))
+      (Requests.afterVerdict image (withReceived (view p) (some [])) v)
   frame-leaves v j =
-      let a = rw (finished-received (p .reader) (s .valid .reader)) at (reader-leaves p s ended (finished-kept (p .reader) (s .valid .reader))) in
+      let a =
+      rw (finished-received (p .reader) (s .valid .reader)) at (reader-leaves p s ended (finished-kept (p .reader) (s .valid .reader))) in
       let b = judged-leaves image each _ (a .1) v j in
       (b .0 ∙ ap (λ x. Requests.afterVerdict image x v) (a .0), b .1, lengths-then (a .2) (b .2))
 
@@ -189,21 +199,27 @@ module _ (image : List ℕ) (each : Each Byte image) (p : Parts) (s : Sound p) w
 
   -- by the bytes since the last 00
   closed-leaves : (r : Option (List ℕ)) → receivedOf (p .reader) ≡ r
-      → Leaves p (Receive.partsWith p ended (Receive.innerAfter image (p .factory) (Receive.innerOf p) (verdictSince r))) (Requests.closed image (view p) r)
+      → Leaves p (Receive.partsWith p ended (Receive.innerAfter image (p .factory) (Receive.innerOf p) (verdictSince r)))
+      (Requests.closed image (view p) r)
   unfolding Receive.innerAfter Requests.closed
   closed-leaves none e = frame-leaves (failure 1 first-version none) (omega arith)
   closed-leaves (some []) e =
-      let a = rw (finished-received (p .reader) (s .valid .reader)) at (reader-leaves p s ended (finished-kept (p .reader) (s .valid .reader))) in
+      let a =
+      rw (finished-received (p .reader) (s .valid .reader)) at (reader-leaves p s ended (finished-kept (p .reader) (s .valid .reader))) in
       (a .0 ∙ progress-same (view p) (some []) (received-view ∙ e), a .1, a .2)
   closed-leaves (some (b ∷ bs)) e = frame-leaves _ (judgeable _ (rw e) (verdict-small (b ∷ bs)))
 
-  zero-leaves : Leaves p (Receive.afterAnswer image p ended (LineReader.finish (p .reader) .answer)) (Requests.closed image (view p) (view p .received))
+  zero-leaves : Leaves p (Receive.afterAnswer image p ended (LineReader.finish (p .reader) .answer))
+      (Requests.closed image (view p) (view p .received))
   unfolding Receive.afterAnswer
-  zero-leaves = rw (finished-verdict (p .reader) (s .valid .reader) ∙ ap verdictSince (sym received-view)) (closed-leaves (view p .received) (sym received-view))
+  zero-leaves =
+      rw (finished-verdict (p .reader) (s .valid .reader) ∙ ap verdictSince (sym received-view))
+      (closed-leaves (view p .received) (sym received-view))
 
   -- a byte that is not 00
   pushed-leaves : (b : ℕ) → b < 256
-      → Leaves p (Receive.partsWith p (LineReader.pushed (p .reader) b) (Receive.innerOf p)) (withReceived (view p) (Requests.moreReceived (view p .received) b))
+      → Leaves p (Receive.partsWith p (LineReader.pushed (p .reader) b) (Receive.innerOf p))
+      (withReceived (view p) (Requests.moreReceived (view p .received) b))
   pushed-leaves b small =
       let a = reader-leaves p s (LineReader.pushed (p .reader) b) (pushed-kept (p .reader) b (s .valid .reader) small) in
       let more = pushed-received (p .reader) b (s .valid .reader) ∙ ap (λ r. Requests.moreReceived r b) (sym received-view) in

@@ -28,7 +28,8 @@ use Rattle.line.proofs.Held.{data-unpacked, finish-leaves}
 use Rattle.line_claims.proofs.CobsClaims.{uncobs-each}
 use Rattle.line_claims.proofs.MessageLaws.{fields-range}
 use Rattle.line_claims.proofs.JudgeClaim.{judge-good}
-use Rattle.responder.specs.Requests.{Verdict, failure, good, versionServed, known, lengthAllowed, tested, testedWhere, verdict, moreReceived, verdictSince}
+use Rattle.responder.specs.Requests.{Verdict, failure, good, versionServed, known, lengthAllowed, tested, testedWhere, verdict}
+use Rattle.responder.specs.Requests.{moreReceived, verdictSince}
 use Rattle.responder.specs.Receive.{verdictOf}
 
 -- ---- the bytes since the last 00
@@ -42,7 +43,8 @@ module _ (s : List ℕ) where
   unfolding receivedOf
   received-some h = rw (le-ltb longest-form (LineReader.receivedCount s) h)
 
-  length-kept : LineReader.reader-length ≤ length s → LineReader.receivedCount s ≤ longest-form → length (LineReader.receivedBytes s) ≡ LineReader.receivedCount s
+  length-kept : LineReader.reader-length ≤ length s → LineReader.receivedCount s ≤ longest-form
+      → length (LineReader.receivedBytes s) ≡ LineReader.receivedCount s
   unfolding LineReader.receivedBytes
   length-kept h l = length-run LineReader.frame-offset (LineReader.receivedCount s) s (omega arith)
 
@@ -65,7 +67,9 @@ run-put at n b s h =
 
 module _ (s : List ℕ) (b : ℕ) (r : Ready s) where
   received-room : LineReader.receivedCount s < longest-form
-      → receivedOf (LineReader.withCount (LineReader.receivedCount s + 1) (overlay (LineReader.frame-offset + LineReader.receivedCount s) (b ∷ []) s)) ≡ moreReceived (receivedOf s) b
+      → receivedOf
+      (LineReader.withCount (LineReader.receivedCount s + 1) (overlay (LineReader.frame-offset + LineReader.receivedCount s) (b ∷ []) s))
+      ≡ moreReceived (receivedOf s) b
   unfolding LineReader.receivedBytes
   received-room h =
       let n = LineReader.receivedCount s in
@@ -73,10 +77,15 @@ module _ (s : List ℕ) (b : ℕ) (r : Ready s) where
       let l : length o ≡ length s = length-overlay (LineReader.frame-offset + n) (b ∷ []) s (omega arith) in
       let c = count-counted (n + 1) o (omega arith) (omega arith) in
       let k = length-kept s (r .0) (omega arith) in
-      rw (received-some (LineReader.withCount (n + 1) o) (omega arith), received-some s (omega arith), more-room (LineReader.receivedBytes s) b (omega arith))
+      rw (
+        received-some (LineReader.withCount (n + 1) o) (omega arith),
+        received-some s (omega arith),
+        more-room (LineReader.receivedBytes s) b (omega arith),
+      )
       (rw (c, run-counted (n + 1) o (omega arith) (n + 1), run-put LineReader.frame-offset n b s (omega arith)))
 
-  received-over : longest-form ≤ LineReader.receivedCount s → receivedOf (LineReader.withCount LineReader.overlong s) ≡ moreReceived (receivedOf s) b
+  received-over : longest-form ≤ LineReader.receivedCount s
+      → receivedOf (LineReader.withCount LineReader.overlong s) ≡ moreReceived (receivedOf s) b
   unfolding moreReceived
   received-over h =
       let c = count-counted LineReader.overlong s (omega arith) (omega arith) in
@@ -91,7 +100,8 @@ module _ (s : List ℕ) (b : ℕ) (r : Ready s) where
           rw (received-some s l) (sym (more-over (LineReader.receivedBytes s) b (omega arith)))
 
 -- a byte that is not 00
-pub pushed-received : (s : List ℕ) (b : ℕ) → LineReader.validReader s ≡ true → receivedOf (LineReader.pushed s b) ≡ moreReceived (receivedOf s) b
+pub pushed-received : (s : List ℕ) (b : ℕ) → LineReader.validReader s ≡ true
+    → receivedOf (LineReader.pushed s b) ≡ moreReceived (receivedOf s) b
 unfolding LineReader.pushed
 pushed-received s b v =
     let r = valid-ready s v in
@@ -160,7 +170,8 @@ finished-verdict s v =
 never : {A : Type 0} {reason version : ℕ} {sequence : Option ℕ} {m : Message} → failure reason version sequence ≡ good m → A
 never p = let z : _≡_ {A = ℕ} 0 1 = cc in absurd (omega arith)
 
--- what the table asks of a request: its version is served, its sequence's top bit is not set, its command is known, and its data are bytes, as many as the command takes
+-- what the table asks of a request:
+-- its version is served, its sequence's top bit is not set, its command is known, and its data are bytes, as many as the command takes
 pub record Requestable (m : Message) : Type 0 where
   pub version : versionServed (m .version) ≡ true
   pub sequence : m .sequence < 2 ^ 63
@@ -237,12 +248,15 @@ unfolding LineReader.pushed
 pushed-each s b l h =
     let n = LineReader.receivedCount s in
     cond-by (Each Byte) (ltb n longest-form) _ _
-    (λ e. counted-each (n + 1) _ (overlay-each Byte (LineReader.frame-offset + n) (b ∷ []) s (l, tt) h)) (λ e. counted-each LineReader.overlong s h)
+    (λ e. counted-each (n + 1) _ (overlay-each Byte (LineReader.frame-offset + n) (b ∷ []) s (l, tt) h))
+    (λ e. counted-each LineReader.overlong s h)
 
-unpacked-each : (o : Option (List ℕ)) (s : List ℕ) → ((xs : List ℕ) → o ≡ some xs → Each Byte xs) → Each Byte s → Each Byte (LineReader.unpacked o s)
+unpacked-each : (o : Option (List ℕ)) (s : List ℕ) → ((xs : List ℕ) → o ≡ some xs → Each Byte xs) → Each Byte s
+    → Each Byte (LineReader.unpacked o s)
 unfolding LineReader.unpacked
 unpacked-each none s f h = h
-unpacked-each (some xs) s f h = cond-by (Each Byte) (wrongLength xs) _ _ (λ e. h) (λ e. overlay-each Byte LineReader.frame-offset xs s (f xs refl) h)
+unpacked-each (some xs) s f h =
+    cond-by (Each Byte) (wrongLength xs) _ _ (λ e. h) (λ e. overlay-each Byte LineReader.frame-offset xs s (f xs refl) h)
 
 kept-each : (s : List ℕ) → Each Byte s → Each Byte (LineReader.receivedBytes s)
 unfolding LineReader.receivedBytes
@@ -254,7 +268,8 @@ finished-each s h =
     let z = counted-each 0 s h in
     cond-by Bytes (eqb (LineReader.receivedCount s) 0) _ _ (λ e. z) (λ e.
     cond-by Bytes (ltb longest-form (LineReader.receivedCount s)) _ _ (λ f. z) (λ f.
-    unpacked-each (uncobs (LineReader.receivedBytes s)) (LineReader.withCount 0 s) (λ xs. uncobs-each (LineReader.receivedBytes s) xs (kept-each s h)) z))
+    unpacked-each (uncobs (LineReader.receivedBytes s)) (LineReader.withCount 0 s)
+    (λ xs. uncobs-each (LineReader.receivedBytes s) xs (kept-each s h)) z))
   where
     Bytes : LineReader.FrameOutcome → Type 0
     Bytes x = Each Byte (x .state)

@@ -27,7 +27,8 @@ use Rattle.supervisor_claims.specs.Sound.{Valid}
 use Rattle.supervisor_claims.proofs.Meant.{valid-with, Does, Reads, RecordedAs}
 use Rattle.supervisor_claims.proofs.laws.ViewLaws.{length-listed}
 use Rattle.supervisor_claims.proofs.laws.RegisterLaws.{alerts-same, kept-view}
-use Rattle.supervisor_claims.proofs.laws.PostLaws.{Posting, allowed, posted-kept, posted-status, posted-options, posted-count, posted-alerts, posted-valid}
+use Rattle.supervisor_claims.proofs.laws.PostLaws.{Posting, allowed, posted-kept, posted-status, posted-options, posted-count}
+use Rattle.supervisor_claims.proofs.laws.PostLaws.{posted-alerts, posted-valid}
 
 module _ (p : Calls.Parts) (v : Valid p) where
   -- ---- post an alert
@@ -37,7 +38,8 @@ module _ (p : Calls.Parts) (v : Valid p) where
   waiting-count = length-listed _ _
 
   posted : {action : ℕ} {text : List ℕ} → Posting (p .registers) action text
-      → Does p (Calls.registersOutcome none (Calls.withAlert (p .registers) action text)) (Local.left (Local.withPosted (view p) action text))
+      → Does p (Calls.registersOutcome none (Calls.withAlert (p .registers) action text))
+      (Local.left (Local.withPosted (view p) action text))
   unfolding view Local.withPosted
   posted c = (
     refl,
@@ -45,7 +47,8 @@ module _ (p : Calls.Parts) (v : Valid p) where
     valid-with p Part.registers _ v (posted-valid c),
   )
 
-  pub post-meant : (action : ℕ) (text : List ℕ) → action < 256 → Does p (Calls.postPromise (p .registers) action text) (Local.post (view p) action text)
+  pub post-meant : (action : ℕ) (text : List ℕ) → action < 256
+      → Does p (Calls.postPromise (p .registers) action text) (Local.post (view p) action text)
   unfolding Calls.postPromise Local.post
   post-meant action text h =
       rw (v .registers)
@@ -58,7 +61,8 @@ module _ (p : Calls.Parts) (v : Valid p) where
 
   -- ---- set options
 
-  set : (options : ℕ) → options < 2 ^ 64 → Local.optionsAllowed options ≡ true → let s = overlay Layout.options-offset (bytes 8 options) (p .registers) in
+  set : (options : ℕ) → options < 2 ^ 64 → Local.optionsAllowed options ≡ true
+      → let s = overlay Layout.options-offset (bytes 8 options) (p .registers) in
       Does p (Calls.registersOutcome none s) (Local.left (withOptions (view p) options))
   unfolding view
   set options small allowed-then =
@@ -67,7 +71,8 @@ module _ (p : Calls.Parts) (v : Valid p) where
       let s = overlay Layout.options-offset (bytes 8 options) r in
       let room : Layout.options-offset + 8 ≤ length r = omega arith in
       let before : Same 0 Layout.options-offset r s = stored-before 8 Layout.options-offset options r room (omega arith) in
-      let after : Same Layout.reboot-offset Layout.registers-length r s = stored-after 8 Layout.options-offset options r room (omega arith) in
+      let after : Same Layout.reboot-offset Layout.registers-length r s =
+      stored-after 8 Layout.options-offset options r room (omega arith) in
       let kept : Kept r s = record {
         long = stored-long 8 Layout.options-offset options r room;
         flags-and-records = same-within after (omega arith);
@@ -79,7 +84,8 @@ module _ (p : Calls.Parts) (v : Valid p) where
       let n = Layout.alertCount r in (
         refl,
         kept-view p kept w ∙ rw (status, new, count, alerts-same after n (omega arith) (w .rest .alerts)),
-        valid-with p Part.registers _ v (kept-valid kept w (omega arith) (rw new allowed-then) (rw count (alerts-valid after n (omega arith) (w .rest .alerts)))),
+        valid-with p Part.registers _ v
+            (kept-valid kept w (omega arith) (rw new allowed-then) (rw count (alerts-valid after n (omega arith) (w .rest .alerts)))),
       )
 
   pub options-meant : (options : ℕ) → options < 2 ^ 64

@@ -60,7 +60,11 @@ module _ (o bs : List ℕ) (valid : validOutbox o ≡ true) (short : length bs �
   sent-pending =
       let owes = eqb (Layout.outboxTerminatorOwed o) 1 in
       let low = first-low o bs valid short in
-      rw (sent-from o bs valid short, sent-to o bs valid short, sent-rest o bs valid short .runs (Layout.outbox-bytes-offset + begun owes) (suc (length bs) - begun owes) (omega arith))
+      rw (
+        sent-from o bs valid short,
+        sent-to o bs valid short,
+        sent-rest o bs valid short .runs (Layout.outbox-bytes-offset + begun owes) (suc (length bs) - begun owes) (omega arith),
+      )
       (begins owes)
     where
       room : Layout.outbox-bytes-offset ≤ length o

@@ -30,7 +30,8 @@ use Rattle.supervisor.proofs.ValidLaws.{all-none, start-good, valid-outbox, val
 use Rattle.supervisor_claims.specs.View.{tabulated, factoryOf, settingOf, settingsOf, recordedOf, retainedOf, pendingOf, view}
 use Rattle.supervisor_claims.specs.Sound.{Valid}
 use Rattle.supervisor_claims.specs.Demand2.{Starts, StartMeant}
-use Rattle.supervisor_claims.proofs.laws.ViewLaws.{listed-same, listed-replicate, factory-same, Clear, length-clear, clear, overlay-middle}
+use Rattle.supervisor_claims.proofs.laws.ViewLaws.{listed-same, listed-replicate, factory-same, Clear, length-clear, clear}
+use Rattle.supervisor_claims.proofs.laws.ViewLaws.{overlay-middle}
 use Rattle.supervisor_claims.proofs.laws.GoodStart.{good-bad}
 
 -- ---- parts that are clear
@@ -50,7 +51,8 @@ module _ (s : List ℕ) (z : Clear 0 Layout.settings-length s) where
       listed-same _ (λ i. unset) Limits.setting-count (λ i l.
       let at = Layout.setting-offset (Limits.first-setting + i) in
       let h = offset-within (Limits.first-setting + i) (record { lower = omega arith; upper = omega arith }) in
-      setting-unset s at (z 1 at (omega arith) (omega (arith, h))) (z 4 (at + Layout.setting-edition-offset) (omega arith) (omega (arith, h))))
+      setting-unset s at (z 1 at (omega arith) (omega (arith, h)))
+      (z 4 (at + Layout.setting-edition-offset) (omega arith) (omega (arith, h))))
       ∙ listed-replicate unset Limits.setting-count
 
   settings-clear : Layout.settings-length ≤ length s → SettingsValid s
@@ -102,7 +104,12 @@ module _ (o : List ℕ) (z : Clear 0 Layout.outbox-length o) where
   outbox-clear h =
       let from = z 2 Layout.outbox-from-offset (omega arith) (omega arith) in
       let to = z 2 Layout.outbox-to-offset (omega arith) (omega arith) in
-      record { long = h; order = omega arith; most = omega arith; terminator-owed = omega (arith, z 1 Layout.outbox-terminator-owed-offset (omega arith) (omega arith)) }
+      record {
+        long = h;
+        order = omega arith;
+        most = omega arith;
+        terminator-owed = omega (arith, z 1 Layout.outbox-terminator-owed-offset (omega arith) (omega arith));
+      }
 
   pending-none : pendingOf o ≡ []
   unfolding pendingOf
@@ -114,7 +121,8 @@ module _ (s : List ℕ) (h : Reader.reader-length ≤ length s) where
   received-none = rw (count-counted 0 s (omega arith) (omega arith))
 
   reader-valid : Reader.validReader (Reader.withCount 0 s) ≡ true
-  reader-valid = ready-valid _ (omega (arith, length-counted 0 s (omega arith)), omega (arith, count-counted 0 s (omega arith) (omega arith)))
+  reader-valid =
+      ready-valid _ (omega (arith, length-counted 0 s (omega arith)), omega (arith, count-counted 0 s (omega arith) (omega arith)))
 
 -- ---- the state that parts hold
 
@@ -160,7 +168,9 @@ stored d f = overlay 0 (d ++ bytes 4 0 ++ pong) f
 module _ (d : List ℕ) (size : length d ≡ Layout.start-length) (good : goodStart d ≡ true) (f : List ℕ) where
   stored-data : take Layout.start-length (stored d f) ≡ take Layout.start-length d
   unfolding stored
-  stored-data = rw (append-assoc, take-all Layout.start-length d (omega arith)) (overlay-middle 0 Layout.start-length [] d (bytes 4 0 ++ pong) f refl size)
+  stored-data =
+      rw (append-assoc, take-all Layout.start-length d (omega arith))
+      (overlay-middle 0 Layout.start-length [] d (bytes 4 0 ++ pong) f refl size)
 
   stored-factory : factoryOf (stored d f) ≡ factoryOf d
   stored-factory = factory-same (stored d f) d stored-data (start-good d good)
@@ -175,7 +185,8 @@ module _ (d : List ℕ) (size : length d ≡ Layout.start-length) (good : goodSt
       record {
         long = omega arith;
         start = start-good (stored d f) (good-bad (stored d f) (omega arith) ∙ rw (stored-factory, ← good-bad d (omega arith)) good);
-        version = ap number (overlay-middle Layout.inventory-version-offset 4 d (bytes 4 0) pong f size four) ∙ number-bytes 4 0 (omega arith);
+        version =
+            ap number (overlay-middle Layout.inventory-version-offset 4 d (bytes 4 0) pong f size four) ∙ number-bytes 4 0 (omega arith);
         text = rw append-nil at (overlay-middle Layout.pong-offset 4 (d ++ bytes 4 0) pong [] f (omega arith) refl);
       }
 
@@ -218,7 +229,8 @@ module _ (d : List ℕ) (size : length d ≡ Layout.start-length) (p : Calls.Par
 
   -- all other are accepted, and leave valid parts that hold the fresh state
   pub start-fresh : Local.badStart (factoryOf d) ≡ false
-      → (Calls.startPromise d p .refusal ≡ none) × (view (Calls.startPromise d p .parts) ≡ fresh (factoryOf d)) × Valid (Calls.startPromise d p .parts)
+      → (Calls.startPromise d p .refusal ≡ none) × (view (Calls.startPromise d p .parts) ≡ fresh (factoryOf d))
+      × Valid (Calls.startPromise d p .parts)
   unfolding Calls.startPromise
   start-fresh e =
       let good : goodStart d ≡ true = good-bad d (omega arith) ∙ ap not e in

@@ -66,12 +66,14 @@ finish-ends : (s : List ℕ) → Ends (LineReader.finish s .answer)
 unfolding LineReader.finish LineReader.finishForm
 finish-ends s =
     cond-by P (eqb (LineReader.receivedCount s) 0) _ _ (λ e. tt) (λ e.
-    cond-by P (ltb LineLimits.longest-form (LineReader.receivedCount s)) _ _ (λ f. tt) (λ f. verdict-ends (judge (LineReader.receivedBytes s))))
+    cond-by P (ltb LineLimits.longest-form (LineReader.receivedCount s)) _ _ (λ f. tt)
+    (λ f. verdict-ends (judge (LineReader.receivedBytes s))))
   where
     P : LineReader.FrameOutcome → Type 0
     P x = Ends (x .answer)
 
-ended-verdict : (reader : List ℕ) (a : LineReader.ReadReport) → Ends a → Receive.endedByReader reader a ≡ endedMeant (Receive.verdictOf reader a)
+ended-verdict : (reader : List ℕ) (a : LineReader.ReadReport) → Ends a
+    → Receive.endedByReader reader a ≡ endedMeant (Receive.verdictOf reader a)
 unfolding Receive.endedByReader Receive.verdictOf
 ended-verdict reader (LineReader.refused n) h = absurd h
 ended-verdict reader LineReader.more h = absurd h

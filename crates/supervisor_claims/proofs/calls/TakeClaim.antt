@@ -37,25 +37,30 @@ module _ (o : List ℕ) (n x : ℕ) (h : Layout.outbox-bytes-offset ≤ length o
 
   length-noted : length (noted o n x) ≡ length o
   unfolding noted
-  length-noted = length-overlay Layout.outbox-terminator-owed-offset (x ∷ []) (moved-on o n) (omega (arith, length-moved-on)) ∙ length-moved-on
+  length-noted =
+      length-overlay Layout.outbox-terminator-owed-offset (x ∷ []) (moved-on o n) (omega (arith, length-moved-on)) ∙ length-moved-on
 
   noted-from : n < 65536 → Layout.outboxFrom (noted o n x) ≡ n
   unfolding noted moved-on
   noted-from l =
       let inside = overlay-inside Layout.outbox-from-offset (bytes 2 n) o (omega arith) in
-      ap number (overlay-before Layout.outbox-terminator-owed-offset Layout.outbox-from-offset 2 (x ∷ []) (moved-on o n) (omega (arith, length-moved-on)) (omega arith))
+      ap number (overlay-before Layout.outbox-terminator-owed-offset Layout.outbox-from-offset 2 (x ∷ []) (moved-on o n)
+      (omega (arith, length-moved-on)) (omega arith))
       ∙ ap number (rw (length-bytes 2 n) at inside)
       ∙ number-bytes 2 n l
 
   noted-to : Layout.outboxTo (noted o n x) ≡ Layout.outboxTo o
   unfolding noted moved-on
   noted-to =
-      ap number (overlay-before Layout.outbox-terminator-owed-offset Layout.outbox-to-offset 2 (x ∷ []) (moved-on o n) (omega (arith, length-moved-on)) (omega arith))
-      ∙ ap number (overlay-after Layout.outbox-from-offset Layout.outbox-to-offset 2 (bytes 2 n) o (omega arith) (omega (arith, length-bytes 2 n)))
+      ap number (overlay-before Layout.outbox-terminator-owed-offset Layout.outbox-to-offset 2 (x ∷ []) (moved-on o n)
+      (omega (arith, length-moved-on)) (omega arith))
+      ∙ ap number
+      (overlay-after Layout.outbox-from-offset Layout.outbox-to-offset 2 (bytes 2 n) o (omega arith) (omega (arith, length-bytes 2 n)))
 
   noted-owed : Layout.outboxTerminatorOwed (noted o n x) ≡ x
   unfolding noted number
-  noted-owed = ap number (overlay-inside Layout.outbox-terminator-owed-offset (x ∷ []) (moved-on o n) (omega (arith, length-moved-on))) ∙ add-zero x
+  noted-owed =
+      ap number (overlay-inside Layout.outbox-terminator-owed-offset (x ∷ []) (moved-on o n) (omega (arith, length-moved-on))) ∙ add-zero x
 
   noted-rest : (at k : ℕ) → Layout.outbox-bytes-offset ≤ at → run at k (noted o n x) ≡ run at k o
   unfolding noted moved-on

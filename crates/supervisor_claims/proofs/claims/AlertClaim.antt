@@ -1,4 +1,5 @@
--- Alerts over any calls: after a reboot or power-off request the next alert request takes a fresh alert, whatever was retained before (document 02, item 1).
+-- Alerts over any calls: after a reboot or power-off request the next alert request takes a fresh alert,
+-- whatever was retained before (document 02, item 1).
 -- Assumes nothing.
 use mathlib.Core.Path.{_≡_, refl, sym, ap, subst, _∙_}
 use mathlib.Core.Bool.{Bool, true, false, cond}
@@ -24,16 +25,21 @@ use Rattle.supervisor.specs.declared.registers.Kind.{Kind}
 use Rattle.saving.specs.Saving
 use Rattle.responder.specs.Commands.{commandNumber, withNumber, commandOfNumber}
 use Rattle.responder.specs.Requests
-use Rattle.responder.specs.Requests.{Verdict, failure, good, Carried, verdict, effect, carryOut, afterVerdict, sent, receiveStream, owed, replyOf, replyFrame, oldest}
+use Rattle.responder.specs.Requests.{Verdict, failure, good, Carried, verdict, effect, carryOut, afterVerdict, sent, receiveStream, owed}
+use Rattle.responder.specs.Requests.{replyOf, replyFrame, oldest}
 use Rattle.supervisor_claims.specs.View.{factoryOf, view}
 use Rattle.supervisor_claims.specs.Sound.{Bytes}
 use Rattle.supervisor_claims.specs.Histories
 use Rattle.supervisor_claims.specs.Histories.{LocalCall, Typed, done, doneMeans, recordMeans, restoreMeans, meant}
-use Rattle.supervisor_claims.specs.Histories.{Lent, Made, enough, meantMade, made, leftMeant, AllTyped, reached, startWith, receiveWith}
-use Rattle.supervisor_claims.specs.FrameHistory.{pieceRead, isAcceptedStart, bytesReceivedBy, startsAnew, receivedSince, receivedSinceAll, framesClosedBy, frameCarried, framesCarried, carriedOut}
+use Rattle.supervisor_claims.specs.Histories.{Lent, Made, enough, meantMade, made, leftMeant, AllTyped, reached, startWith}
+use Rattle.supervisor_claims.specs.Histories.{receiveWith}
+use Rattle.supervisor_claims.specs.FrameHistory.{pieceRead, isAcceptedStart, bytesReceivedBy, startsAnew, receivedSince}
+use Rattle.supervisor_claims.specs.FrameHistory.{receivedSinceAll, framesClosedBy, frameCarried, framesCarried, carriedOut}
 use Rattle.supervisor_claims.specs.LastSet.{requestAhead, requestsIn, requestsOf}
-use Rattle.supervisor_claims.specs.Alerts.{retains, retainsAfter, retainsAll, Drops, NoAlert, alertRequest, alertReply, CallKeeps, NoStarts}
-use Rattle.supervisor_claims.specs.Item1.{LocalKeeps, FailedKeeps, RequestRetains, RetainedExactly, FreshAlertAnswered, FreshAfterReboot}
+use Rattle.supervisor_claims.specs.Alerts.{retains, retainsAfter, retainsAll, Drops, NoAlert, alertRequest, alertReply, CallKeeps}
+use Rattle.supervisor_claims.specs.Alerts.{NoStarts}
+use Rattle.supervisor_claims.specs.Item1.{LocalKeeps, FailedKeeps, RequestRetains, RetainedExactly, FreshAlertAnswered}
+use Rattle.supervisor_claims.specs.Item1.{FreshAfterReboot}
 use Rattle.supervisor_claims.proofs.laws.CallsKeep.{calls-keep}
 use Rattle.supervisor_claims.proofs.claims.History.{history, one-call}
 use Rattle.supervisor_claims.proofs.claims.FramesClaim.{stream-carried, stream-closes, by-frames}
@@ -84,10 +90,12 @@ failed-keeps image s (b ∷ bs) reason version sequence e = rw e (refl, refl)
 
 -- ---- requests and frames
 
-alert-asked : (version : ℕ) (s : State) (n : ℕ) (r : Option Retained) → s .retained ≡ r → retains (Requests.alertAsked version s n r .state .retained) ≡ true
+alert-asked : (version : ℕ) (s : State) (n : ℕ) (r : Option Retained) → s .retained ≡ r
+    → retains (Requests.alertAsked version s n r .state .retained) ≡ true
 unfolding Requests.alertAsked Requests.alertTaken
 alert-asked version s n none e = refl
-alert-asked version s n (some r) e = cond-by (λ (x : Carried). retains (x .state .retained) ≡ true) (eqb (r .sequence) n) _ _ (λ f. rw e) (λ f. refl)
+alert-asked version s n (some r) e =
+    cond-by (λ (x : Carried). retains (x .state .retained) ≡ true) (eqb (r .sequence) n) _ _ (λ f. rw e) (λ f. refl)
 
 alert-retains : (image : List ℕ) (s : State) (m : Message) → m .command ≡ 0x0a → retains (carryOut image s m .state .retained) ≡ true
 unfolding carryOut commandOfNumber withNumber commandNumber effect
@@ -157,7 +165,8 @@ fresh-retained : (f : Factory) → RetainedBy [] (fresh f)
 unfolding fresh split nonEmpty requestsOf requestsIn retainsAll
 fresh-retained f = refl
 
-frames-retained : (w : List ℕ) (s : State) → RetainedBy w s → (image bs : List ℕ) → RetainedBy (w ++ bs) (framesCarried image s (framesClosedBy w bs))
+frames-retained : (w : List ℕ) (s : State) → RetainedBy w s → (image bs : List ℕ)
+    → RetainedBy (w ++ bs) (framesCarried image s (framesClosedBy w bs))
 unfolding framesClosedBy
 frames-retained w s x image bs =
     frames-retain image (closedBehind w bs) s
@@ -169,7 +178,8 @@ bytes-retained w s x image bs = frames-retained w s x image bs
 
 calls-retained : (f : Factory) (ms : List Made) → RetainedBy (receivedSinceAll [] ms) (leftMeant (fresh f) ms)
 calls-retained f ms =
-    rw (by-frames f ms .1) at (calls-keep RetainedBy fresh-retained bytes-retained (λ w s x c. rw (local-keeps s c .0) x) ms [] (fresh f) (fresh-retained f))
+    rw (by-frames f ms .1)
+    at (calls-keep RetainedBy fresh-retained bytes-retained (λ w s x c. rw (local-keeps s c .0) x) ms [] (fresh f) (fresh-retained f))
 
 -- ---- a fresh alert
 
@@ -205,8 +215,10 @@ module _ (p : Parts) (b : Bytes p) (l : Lent) (d : List ℕ) (typed : Typed (His
       let kept : a .retained ≡ none =
       none-retained (a .retained) (frames-retained w s (calls-retained f ms) image bs ∙ rw split-so (behind-none os rs r drops no-alert)) in
       let waits : view (made q (receiveWith image j bs) .parts) .waiting ≡ a .waiting =
-      ap (λ (z : State). z .waiting) (x .leaves .0) ∙ rw (hist .1) (ap (λ (z : State). z .waiting) (sym (stream-carried w s since image bs))) in
-      let answered : receiveStream image s (bs ++ (0 ∷ [])) .pending ≡ owed (s .terminator-owed) ++ alertReply version n (oldest (a .waiting)) =
+      ap (λ (z : State). z .waiting) (x .leaves .0)
+      ∙ rw (hist .1) (ap (λ (z : State). z .waiting) (sym (stream-carried w s since image bs))) in
+      let answered : receiveStream image s (bs ++ (0 ∷ [])) .pending
+      ≡ owed (s .terminator-owed) ++ alertReply version n (oldest (a .waiting)) =
       ap (λ (z : State). z .pending) (stream-closes w s since image bs)
       ∙ framed-pending image a (split (w ++ bs) .rest) (alertRequest version n) v
       ∙ rw (taken-reply image a version n kept, frames-owed image (framesClosedBy w bs) s) in

@@ -1,4 +1,5 @@
--- The cut law over any cuts: a stream received in any two lists of pieces, with one image and one loan, leaves the same bytes in every part.
+-- The cut law over any cuts: a stream received in any two lists of pieces, with one image and
+-- one loan, leaves the same bytes in every part.
 -- Assumes nothing.
 use mathlib.Core.Path.{_≡_, refl, sym, ap, _∙_}
 use mathlib.Core.Bool.{Bool, true, false}
@@ -10,7 +11,8 @@ use Rattle.supervisor.specs.Calls.{Parts}
 use Rattle.responder.specs.Receive
 use Rattle.supervisor_claims.specs.Sound.{Bytes, Lengths}
 use Rattle.supervisor_claims.specs.Histories
-use Rattle.supervisor_claims.specs.Histories.{Answer, refused, done, Did, did, Lent, lentOf, Made, made, Output, outputs, left, receiveWith}
+use Rattle.supervisor_claims.specs.Histories.{Answer, refused, done, Did, did, Lent, lentOf, Made, made, Output, outputs, left}
+use Rattle.supervisor_claims.specs.Histories.{receiveWith}
 use Rattle.supervisor_claims.specs.Demand2.{AllAnswer, receiveCalls, AllDone, AllRefused, CutAny}
 use Rattle.supervisor_claims.proofs.Sound.{lengths-same}
 use Rattle.supervisor_claims.proofs.laws.Locality.{lent-bytes, back-lent, back-leaves, lent-again, back-again}
@@ -53,7 +55,11 @@ module _ (image : List ℕ) (i : Each Byte image) (l : Lent) where
     cut-made u v h =
         let q = did (lentOf l p) (Histories.receive image u) .parts in
         let n = received-keeps u h .0 in
-        rw (lent-again l p q n, cut image (lentOf l p) u v (lent-bytes l p b) i h, back-again l p q n (did q (Histories.receive image v) .parts))
+        rw (
+          lent-again l p q n,
+          cut image (lentOf l p) u v (lent-bytes l p b) i h,
+          back-again l p q n (did q (Histories.receive image v) .parts),
+        )
 
     -- a piece of no bytes changes nothing
     none-received : made p (receiving []) .parts ≡ p
@@ -65,11 +71,13 @@ module _ (image : List ℕ) (i : Each Byte image) (l : Lent) where
         by false e = rw (e, back-lent l p)
 
     -- whatever its bytes are, it is done where the parts that are lent are as 12 requires
-    output-so : (piece : List ℕ) → outputOf (made p (receiving piece)) ≡ record { answer = doneWhere (Receive.validParts (lentOf l p)); out = [] }
+    output-so : (piece : List ℕ)
+        → outputOf (made p (receiving piece)) ≡ record { answer = doneWhere (Receive.validParts (lentOf l p)); out = [] }
     unfolding made did Receive.receivePromise
     output-so piece = by (Receive.validParts (lentOf l p)) refl
       where
-        by : (t : Bool) → Receive.validParts (lentOf l p) ≡ t → outputOf (made p (receiving piece)) ≡ record { answer = doneWhere t; out = [] }
+        by : (t : Bool) → Receive.validParts (lentOf l p) ≡ t
+            → outputOf (made p (receiving piece)) ≡ record { answer = doneWhere t; out = [] }
         by true e = rw e
         by false e = rw e
 
@@ -104,7 +112,8 @@ cut-any image i l p b ps qs h k e = (x .0 ∙ sym (y .0), by (Receive.validParts
     y : (left p (receiveCalls image l qs) ≡ whole .parts) × AllAnswer (whole .answer) (outputs p (receiveCalls image l qs))
     y = pieces-whole image i l p b qs k
 
-    by : (t : Bool) → whole .answer ≡ doneWhere t → (AllDone image l p ps × AllDone image l p qs) ⊎ (AllRefused image l p ps × AllRefused image l p qs)
+    by : (t : Bool) → whole .answer ≡ doneWhere t
+        → (AllDone image l p ps × AllDone image l p qs) ⊎ (AllRefused image l p ps × AllRefused image l p qs)
     by true a = inl (rw a at (x .1), rw a at (y .1))
     by false a =
         let z = refused-made p (receiveWith image l (flatten qs)) 12 a .0 in

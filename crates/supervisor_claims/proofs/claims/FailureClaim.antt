@@ -18,7 +18,8 @@ use Rattle.supervisor_claims.specs.Sound.{Bytes}
 use Rattle.supervisor_claims.specs.Histories
 use Rattle.supervisor_claims.specs.Histories.{Typed, done, Lent, Made, enough, meant, meantMade, made, AllTyped}
 use Rattle.supervisor_claims.specs.Histories.{reached, startWith, receiveWith}
-use Rattle.supervisor_claims.specs.FrameHistory.{framesClosedBy, receivedSinceAll, frameCarried, framesCarried, progressOf, carriedOut}
+use Rattle.supervisor_claims.specs.FrameHistory.{framesClosedBy, receivedSinceAll, frameCarried, framesCarried, progressOf}
+use Rattle.supervisor_claims.specs.FrameHistory.{carriedOut}
 use Rattle.supervisor_claims.specs.FrameHistory.{DoneLeaving, answeredWith}
 use Rattle.supervisor_claims.specs.Demand2.{NoZeros, FailureAnswered, OverlongAnswered, EmptyFrameIgnored, AheadOfZero}
 use Rattle.supervisor_claims.proofs.laws.Progress.{Since}
@@ -85,7 +86,8 @@ module _ (p : Parts) (b : Bytes p) (l : Lent) (d : List ℕ) (typed : Typed (His
   overlong-answered (x ∷ f) o = failure-answered x f 1 _ none (verdict-over (x ∷ f) o)
 
   pub empty-frame-ignored : EmptyFrameIgnored ms q
-  empty-frame-ignored j image bs c e g = closed-leaves j image bs c e (λ s. s) (stream-empty (receivedSinceAll [] ms) (view q) since image bs g)
+  empty-frame-ignored j image bs c e g =
+      closed-leaves j image bs c e (λ s. s) (stream-empty (receivedSinceAll [] ms) (view q) since image bs g)
 
   pub ahead-of-zero : AheadOfZero ms q
   ahead-of-zero j image bs c e n =

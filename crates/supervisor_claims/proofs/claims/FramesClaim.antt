@@ -1,4 +1,5 @@
--- What the paper has of calls, byte by byte, is what the frames of the received bytes make of them; each frame is carried out or answered once, in order.
+-- What the paper has of calls, byte by byte, is what the frames of the received bytes make of them;
+-- each frame is carried out or answered once, in order.
 -- Assumes nothing.
 use mathlib.Core.Path.{_≡_, refl, ap, sym, _∙_}
 use mathlib.Core.Bool.{Bool, true, false, cond}
@@ -20,8 +21,10 @@ use Rattle.supervisor.specs.State.{Factory, State, fresh, withReceived}
 use Rattle.responder.specs.Requests.{receiveByte, receiveStream, verdictSince}
 use Rattle.supervisor_claims.specs.View.{factoryOf}
 use Rattle.supervisor_claims.specs.Histories
-use Rattle.supervisor_claims.specs.Histories.{Call, upTo, endedMeant, endedInPiece, meant, Made, enough, meantMade, outputsMeant, leftMeant}
-use Rattle.supervisor_claims.specs.FrameHistory.{pieceRead, bytesReceivedBy, startsAnew, receivedSince, receivedSinceAll, framesClosedBy, endedByFrames, frameCarried, framesCarried, progressOf}
+use Rattle.supervisor_claims.specs.Histories.{Call, upTo, endedMeant, endedInPiece, meant, Made, enough, meantMade, outputsMeant}
+use Rattle.supervisor_claims.specs.Histories.{leftMeant}
+use Rattle.supervisor_claims.specs.FrameHistory.{pieceRead, bytesReceivedBy, startsAnew, receivedSince, receivedSinceAll}
+use Rattle.supervisor_claims.specs.FrameHistory.{framesClosedBy, endedByFrames, frameCarried, framesCarried, progressOf}
 use Rattle.supervisor_claims.specs.FrameHistory.{carriedOut, carriedCall, carriedMade, outputsByFrames, leftByFrames, carriedFrames}
 use Rattle.supervisor_claims.specs.Demand2.{HistoryFrames, EachOnce, ReceivedSince, FramesInOrderAfter}
 use Rattle.supervisor_claims.proofs.laws.Progress.{Since, called}
@@ -43,14 +46,16 @@ unfolding endedByFrames
 closed-ends [] fs = rw (tail-within [] (omega arith))
 closed-ends (b ∷ bs) fs = by (ltb longest-form (length (b ∷ bs))) refl
   where
-    by : (over : Bool) → ltb longest-form (length (b ∷ bs)) ≡ over → endedMeant (verdictSince (progressOf (b ∷ bs))) ≡ endedByFrames ((b ∷ bs) ∷ fs)
+    by : (over : Bool) → ltb longest-form (length (b ∷ bs)) ≡ over
+        → endedMeant (verdictSince (progressOf (b ∷ bs))) ≡ endedByFrames ((b ∷ bs) ∷ fs)
     by true e =
         let h = ltb-true longest-form (length (b ∷ bs)) e in
         rw (tail-over (b ∷ bs) h, verdict-over (b ∷ bs) h)
     by false e = rw (tail-within (b ∷ bs) (ltb-false _ _ e))
 
 -- the frame that began with the bytes p
-ends-frame : (p piece : List ℕ) → Each (λ b. 1 ≤ b) p → endedInPiece (progressOf p) piece ≡ endedByFrames (split (p ++ ListN.take (upTo piece) piece) .closed)
+ends-frame : (p piece : List ℕ) → Each (λ b. 1 ≤ b) p
+    → endedInPiece (progressOf p) piece ≡ endedByFrames (split (p ++ ListN.take (upTo piece) piece) .closed)
 unfolding endedInPiece upTo endedByFrames split
 ends-frame p [] h = rw (append-nil, split-none p h)
 ends-frame p (zero ∷ bs) h = rw (split-at p [] h) (closed-ends p [])
@@ -69,7 +74,8 @@ module _ (w : List ℕ) (s : State) (h : Since (split w .rest) s) where
 
   -- the 00 behind bytes: their frames, and then the one that it closes
   pub stream-closes : (image bs : List ℕ)
-      → receiveStream image s (bs ++ (0 ∷ [])) ≡ withReceived (frameCarried image (framesCarried image s (framesClosedBy w bs)) (split (w ++ bs) .rest)) (some [])
+      → receiveStream image s (bs ++ (0 ∷ []))
+      ≡ withReceived (frameCarried image (framesCarried image s (framesClosedBy w bs)) (split (w ++ bs) .rest)) (some [])
   unfolding carriedOut receiveStream receiveByte
   stream-closes image bs =
       stream-append image s bs (0 ∷ [])
@@ -120,7 +126,8 @@ pub received-since : ReceivedSince
 received-since f ms = let h = by-frames f ms .2 in (h .received, h .nonzero)
 
 pub in-order-after : FramesInOrderAfter
-in-order-after f ms image bs = let h = received-since f ms in in-order-behind image (leftMeant (fresh f) ms) (split (receivedSinceAll [] ms) .rest) bs (h .1) (h .0)
+in-order-after f ms image bs =
+    let h = received-since f ms in in-order-behind image (leftMeant (fresh f) ms) (split (receivedSinceAll [] ms) .rest) bs (h .1) (h .0)
 
 -- ---- each frame once
 
@@ -132,7 +139,8 @@ frames-join w m = by (startsAnew m)
     bs : List ℕ
     bs = bytesReceivedBy m
 
-    by : (t : Bool) → cond t [] (nonEmpty (split w .closed) ++ nonEmpty (closedBehind w bs)) ≡ nonEmpty (split (cond t [] (w ++ bs)) .closed)
+    by : (t : Bool)
+        → cond t [] (nonEmpty (split w .closed) ++ nonEmpty (closedBehind w bs)) ≡ nonEmpty (split (cond t [] (w ++ bs)) .closed)
     by true = refl
     by false = rw (closed-join w bs, nonEmpty-append (split w .closed) (closedBehind w bs))
 

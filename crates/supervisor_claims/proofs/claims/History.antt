@@ -19,7 +19,8 @@ use Rattle.supervisor_claims.specs.View.{factoryOf, view}
 use Rattle.supervisor_claims.specs.Sound.{Bytes, Sound, Leaves}
 use Rattle.supervisor_claims.specs.Histories
 use Rattle.supervisor_claims.specs.Histories.{Call, Typed, refused, done, Did, did, doneMeans, meant, upTo}
-use Rattle.supervisor_claims.specs.Histories.{Lent, lentOf, takesPart, enough, Made, made, meantMade, outputs, left, outputsMeant, leftMeant, AllTyped}
+use Rattle.supervisor_claims.specs.Histories.{Lent, lentOf, takesPart, enough, Made, made, meantMade, outputs, left, outputsMeant}
+use Rattle.supervisor_claims.specs.Histories.{leftMeant, AllTyped}
 use Rattle.supervisor_claims.specs.Histories.{startWith}
 use Rattle.supervisor_claims.specs.Demand1.{partsFitCall, Meets, OneCall, RefusedMade, FaultMade, Never12, No12}
 use Rattle.supervisor_claims.specs.Demand2.{Follows, stepCalls, History, Cut, StepReceives, StepThenReceive, StepsReceive}
@@ -51,7 +52,8 @@ fault-made p m n at e =
 
 meant-12 : (s : State) (c : Call) → Not12 (meant s c .answer)
 unfolding meant Local.start
-meant-12 s (Histories.start d) = cond-by (λ x. Not12 (doneMeans s x .answer)) (Local.badStart (factoryOf d)) _ _ (λ e f. omega (arith, f)) (λ e. tt)
+meant-12 s (Histories.start d) =
+    cond-by (λ x. Not12 (doneMeans s x .answer)) (Local.badStart (factoryOf d)) _ _ (λ e f. omega (arith, f)) (λ e. tt)
 meant-12 s (Histories.receive image piece) = tt
 meant-12 s (Histories.step image piece) = tt
 meant-12 s (Histories.local c) = local-stays s c .1
@@ -94,7 +96,8 @@ unfolding outputs left outputsMeant leftMeant
 follows q s [] h = (refl, refl, s, lengths-same)
 follows q s (m ∷ ms) h =
     let k = one-call q m s (h .0) in
-    let i : Follows (made q m .parts) (made q m .parts) (meantMade (view q) m .state) ms = rw (k .leaves .0) at (follows (made q m .parts) (k .leaves .1) ms (h .1)) in
+    let i : Follows (made q m .parts) (made q m .parts) (meantMade (view q) m .state) ms =
+    rw (k .leaves .0) at (follows (made q m .parts) (k .leaves .1) ms (h .1)) in
     (rw (k .answer, k .out, i .0), i .1, i .2, lengths-then (k .leaves .2) (i .3))
 
 -- ---- the first start, on any bytes
@@ -105,7 +108,8 @@ undone n e = subst (λ a. WhereRefused a (λ _. ⊥)) (sym e) tt
 
 module _ (p : Parts) (b : Bytes p) (l : Lent) (d : List ℕ) (typed : Typed (Histories.start d)) where
   -- a start that is accepted had room and start data that are not refused
-  accepted : (x y : Bool) → Calls.longEnough (lentOf l p) ≡ x → Local.badStart (factoryOf d) ≡ y → did (lentOf l p) (Histories.start d) .answer ≡ done
+  accepted : (x y : Bool) → Calls.longEnough (lentOf l p) ≡ x → Local.badStart (factoryOf d) ≡ y
+      → did (lentOf l p) (Histories.start d) .answer ≡ done
       → Leaves (lentOf l p) (did (lentOf l p) (Histories.start d) .parts) (fresh (factoryOf d))
   unfolding did partsFitCall Calls.longEnough
   accepted false y r e h = absurd (undone 12 (sym (ap (λ (x : Did). x .answer) (refused-12 (lentOf l p) (Histories.start d) r)) ∙ h))
@@ -175,5 +179,6 @@ steps-receive zero image p (b ∷ bs) s i h l = absurd (omega arith)
 steps-receive (suc n) image p piece s i h l =
     let k = call-meets p s (Histories.step image piece) (i, h) .leaves .1 in
     let m = upTo-one piece in
-    steps-receive n image _ (drop (upTo piece) piece) k i (each-drop Byte (upTo piece) piece h) (omega (arith, length-drop (upTo piece) piece))
+    steps-receive n image _ (drop (upTo piece) piece) k i (each-drop Byte (upTo piece) piece h)
+    (omega (arith, length-drop (upTo piece) piece))
     ∙ ap (λ (x : Did). x .parts) (step-then-receive image p piece (s .bytes) i h)

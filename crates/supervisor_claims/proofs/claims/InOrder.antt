@@ -21,13 +21,15 @@ use Rattle.supervisor.specs.State.{Retained, State, withReceived, withPending, 
 use Rattle.supervisor.specs.Local.{lookup, entryOf}
 use Rattle.responder.specs.Commands.{Command, commandOfNumber}
 use Rattle.responder.specs.Requests
-use Rattle.responder.specs.Requests.{Verdict, failure, good, Carried, verdict, effect, carryOutBy, carryOut, afterVerdict, closed, moreReceived, receiveByte, receiveStream, owed, replyFrame, sent, replyOf}
+use Rattle.responder.specs.Requests.{Verdict, failure, good, Carried, verdict, effect, carryOutBy, carryOut, afterVerdict, closed}
+use Rattle.responder.specs.Requests.{moreReceived, receiveByte, receiveStream, owed, replyFrame, sent, replyOf}
 use Rattle.supervisor_claims.specs.FrameHistory.{frameCarried, framesCarried, progressOf, afterAllFrames}
 use Rattle.supervisor_claims.specs.Replies.{afterTable, replyBy}
 use Rattle.supervisor_claims.specs.Demand2.{FramesInOrder, FramesInOrderBehind, RequestCarried, FailureOnlyPending}
 
 -- the stream in cuts
-pub stream-append : (image : List ℕ) (s : State) (bs cs : List ℕ) → receiveStream image s (bs ++ cs) ≡ receiveStream image (receiveStream image s bs) cs
+pub stream-append : (image : List ℕ) (s : State) (bs cs : List ℕ)
+    → receiveStream image s (bs ++ cs) ≡ receiveStream image (receiveStream image s bs) cs
 unfolding receiveStream
 stream-append image s [] cs = refl
 stream-append image s (b ∷ bs) cs = stream-append image (receiveByte image s b) bs cs
@@ -50,14 +52,16 @@ module _ (received : Option (List ℕ)) (pending : List ℕ) (terminator-owed : 
   abbrev other : State
   other = lined s received pending terminator-owed
 
-  alert-lined : (version sequence : ℕ) (r : Option Retained) → Alike (Requests.alertAsked version other sequence r) (Requests.alertAsked version s sequence r)
+  alert-lined : (version sequence : ℕ) (r : Option Retained)
+      → Alike (Requests.alertAsked version other sequence r) (Requests.alertAsked version s sequence r)
   unfolding Requests.alertAsked Requests.alertTaken
   alert-lined version sequence none = record { state = refl; reply = refl }
   alert-lined version sequence (some r) =
       cond-both Alike (eqb (r .sequence) sequence) (λ e. record { state = refl; reply = refl }) (λ e. record { state = refl; reply = refl })
 
   effect-lined : (image : List ℕ) (m : Message) (x : Command) → Alike (effect x image other m) (effect x image s m)
-  unfolding effect Requests.reboot Requests.powerOff Requests.bootFailure Requests.panicked Requests.startAcknowledged Requests.keySet lookup entryOf
+  unfolding effect Requests.reboot Requests.powerOff Requests.bootFailure Requests.panicked Requests.startAcknowledged Requests.keySet
+      lookup entryOf
   effect-lined image m Command.reboot = record { state = refl; reply = refl }
   effect-lined image m Command.power-off = record { state = refl; reply = refl }
   effect-lined image m Command.bsu = record { state = refl; reply = refl }
@@ -94,11 +98,13 @@ module _ (image : List ℕ) (s : State) where
       → replyBy image (lined s received pending terminator-owed) v ≡ replyBy image s v
   unfolding replyBy
   reply-lined received pending terminator-owed (failure reason version sequence) = refl
-  reply-lined received pending terminator-owed (good m) = ap (replyOf (m .sequence)) (carried-lined received pending terminator-owed s image m .reply)
+  reply-lined received pending terminator-owed (good m) =
+      ap (replyOf (m .sequence)) (carried-lined received pending terminator-owed s image m .reply)
 
   -- pending is then a 00 where one is owed, and the reply; the receive progress and the last taken byte are as before
   pub judged-is : (v : Verdict)
-      → afterVerdict image s v ≡ lined (afterTable image s v) (s .received) (owed (s .terminator-owed) ++ replyFrame (replyBy image s v)) (s .terminator-owed)
+      → afterVerdict image s v
+      ≡ lined (afterTable image s v) (s .received) (owed (s .terminator-owed) ++ replyFrame (replyBy image s v)) (s .terminator-owed)
   unfolding afterVerdict sent afterTable replyBy
   judged-is (failure reason version sequence) = refl
   judged-is (good m) =
@@ -126,7 +132,8 @@ pub failure-only-pending : FailureOnlyPending
 unfolding frameCarried afterVerdict sent
 failure-only-pending image s b bs reason version sequence e = rw e
 
-pub allFramed-append : (image : List ℕ) (s : State) (fs gs : List (List ℕ)) → framesCarried image s (fs ++ gs) ≡ framesCarried image (framesCarried image s fs) gs
+pub allFramed-append : (image : List ℕ) (s : State) (fs gs : List (List ℕ))
+    → framesCarried image s (fs ++ gs) ≡ framesCarried image (framesCarried image s fs) gs
 unfolding framesCarried
 allFramed-append image s [] gs = refl
 allFramed-append image s (f ∷ fs) gs = allFramed-append image (frameCarried image s f) fs gs
@@ -154,12 +161,15 @@ more-tail bs b = by (ltb longest-form (length bs)) (ltb (length bs) longest-form
     long : length (bs ++ (b ∷ [])) ≡ length bs + 1
     long = simp length-append
 
-    by : (over room : Bool) → ltb longest-form (length bs) ≡ over → ltb (length bs) longest-form ≡ room → moreReceived (progressOf bs) b ≡ progressOf (bs ++ (b ∷ []))
+    by : (over room : Bool) → ltb longest-form (length bs) ≡ over → ltb (length bs) longest-form ≡ room
+        → moreReceived (progressOf bs) b ≡ progressOf (bs ++ (b ∷ []))
     by true room e f =
         let h = ltb-true longest-form (length bs) e in
         rw (tail-over bs h, tail-over (bs ++ (b ∷ [])) (omega (arith, long)))
-    by false true e f = rw (tail-within bs (ltb-false _ _ e), f, tail-within (bs ++ (b ∷ [])) (omega (arith, long, ltb-true (length bs) longest-form f)))
-    by false false e f = rw (tail-within bs (ltb-false _ _ e), f, tail-over (bs ++ (b ∷ [])) (omega (arith, long, ltb-false (length bs) longest-form f)))
+    by false true e f =
+        rw (tail-within bs (ltb-false _ _ e), f, tail-within (bs ++ (b ∷ [])) (omega (arith, long, ltb-true (length bs) longest-form f)))
+    by false false e f =
+        rw (tail-within bs (ltb-false _ _ e), f, tail-over (bs ++ (b ∷ [])) (omega (arith, long, ltb-false (length bs) longest-form f)))
 
 -- more bytes than a form has
 pub verdict-over : (bs : List ℕ) → longest-form < length bs → verdict bs ≡ failure 1 first-version none
@@ -168,13 +178,15 @@ verdict-over bs h = rw (lt-ltb longest-form (length bs) h)
 
 module _ (image : List ℕ) (s : State) where
   -- the 00 behind bytes
-  pub closed-framed : (bs : List ℕ) → closed image (withReceived s (progressOf bs)) (progressOf bs) ≡ withReceived (frameCarried image s bs) (some [])
+  pub closed-framed : (bs : List ℕ)
+      → closed image (withReceived s (progressOf bs)) (progressOf bs) ≡ withReceived (frameCarried image s bs) (some [])
   unfolding closed frameCarried
   closed-framed [] = rw (tail-within [] (omega arith))
   closed-framed (b ∷ bs) = by (ltb longest-form (length (b ∷ bs))) refl
     where
       by : (over : Bool) → ltb longest-form (length (b ∷ bs)) ≡ over
-          → closed image (withReceived s (progressOf (b ∷ bs))) (progressOf (b ∷ bs)) ≡ withReceived (afterVerdict image s (verdict (b ∷ bs))) (some [])
+          → closed image (withReceived s (progressOf (b ∷ bs))) (progressOf (b ∷ bs))
+          ≡ withReceived (afterVerdict image s (verdict (b ∷ bs))) (some [])
       by true e =
           let h = ltb-true longest-form (length (b ∷ bs)) e in
           rw (tail-over (b ∷ bs) h, verdict-over (b ∷ bs) h) (judged-receiving image s (some []) (failure 1 first-version none))
@@ -185,7 +197,8 @@ module _ (image : List ℕ) (s : State) where
   unfolding receiveByte framesCarried
   byte-following bs zero =
       let a = framesCarried image s (split bs .closed) in
-      rw (split-close bs, allFramed-append image s (split bs .closed) (split bs .rest ∷ []), tail-within [] (omega arith)) (closed-framed image a (split bs .rest))
+      rw (split-close bs, allFramed-append image s (split bs .closed) (split bs .rest ∷ []), tail-within [] (omega arith))
+      (closed-framed image a (split bs .rest))
   byte-following bs (suc b) = rw (eqb·suc-zero, split-more bs b, more-tail (split bs .rest) (suc b))
 
   stream-following : (cs bs : List ℕ) → receiveStream image (afterAllFrames image s bs) cs ≡ afterAllFrames image s (bs ++ cs)

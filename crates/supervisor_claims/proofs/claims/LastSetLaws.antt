@@ -1,4 +1,5 @@
--- A settings key holds the value of its last successful set among the requests that were carried out, and as edition their number on top of the one before.
+-- A settings key holds the value of its last successful set among the requests that were carried out, and as
+-- edition their number on top of the one before.
 -- Assumes nothing.
 use mathlib.Core.Path.{_≡_, refl, sym, ap, _∙_}
 use mathlib.Core.Bool.{Bool, true, false, cond, not, _&&_, false≢true}
@@ -25,15 +26,20 @@ use Rattle.supervisor.specs.Local.{entryOf}
 use Rattle.saving.specs.Saving
 use Rattle.saving.specs.Saving.{SavedEntry}
 use Rattle.saving.proofs.ReadLaws.{entries-each}
-use Rattle.responder.specs.Requests.{Verdict, failure, good, Carried, verdict, effect, carryOutBy, carryOut, wrongValueLength, storeValue, afterVerdict, sent}
+use Rattle.responder.specs.Requests.{Verdict, failure, good, Carried, verdict, effect, carryOutBy, carryOut, wrongValueLength, storeValue}
+use Rattle.responder.specs.Requests.{afterVerdict, sent}
 use Rattle.responder.specs.Commands.{Command, commandNumber, withNumber, commandOfNumber}
 use Rattle.responder.specs.Requests
 use Rattle.responder.proofs.CommandLaws.{number-is}
 use Rattle.supervisor_claims.specs.View.{factoryOf}
 use Rattle.supervisor_claims.specs.Histories
-use Rattle.supervisor_claims.specs.Histories.{LocalCall, Call, Typed, refused, Made, means, doneMeans, meant, enough, untouched, AllTyped}
-use Rattle.supervisor_claims.specs.FrameHistory.{pieceRead, isAcceptedStart, receivedSince, framesClosedBy, frameCarried, framesCarried, carriedOut, carriedCall, carriedMade, leftByFrames}
-use Rattle.supervisor_claims.specs.LastSet.{requestAhead, requestsIn, requestsOf, valueFor, setBy, listedIf, setsOf, successful, lastOr, setAfter, recordsOf, recordsRestored, Origin, sinceStart, sinceRestore, sinceMore, sinceCall, sinceMade, sinceAll}
+use Rattle.supervisor_claims.specs.Histories.{LocalCall, Call, Typed, refused, Made, means, doneMeans, meant, enough, untouched}
+use Rattle.supervisor_claims.specs.Histories.{AllTyped}
+use Rattle.supervisor_claims.specs.FrameHistory.{pieceRead, isAcceptedStart, receivedSince, framesClosedBy, frameCarried}
+use Rattle.supervisor_claims.specs.FrameHistory.{framesCarried, carriedOut, carriedCall, carriedMade, leftByFrames}
+use Rattle.supervisor_claims.specs.LastSet.{requestAhead, requestsIn, requestsOf, valueFor, setBy, listedIf, setsOf, successful}
+use Rattle.supervisor_claims.specs.LastSet.{lastOr, setAfter, recordsOf, recordsRestored, Origin, sinceStart, sinceRestore, sinceMore}
+use Rattle.supervisor_claims.specs.LastSet.{sinceCall, sinceMade, sinceAll}
 use Rattle.supervisor_claims.specs.LastSet.{Has}
 use Rattle.supervisor_claims.specs.Demand2.{SetSuccessful, SuccessfulExactly}
 use Rattle.supervisor_claims.specs.Item11.{ReplacedOther}
@@ -123,7 +129,8 @@ record Kept (s : State) (c : Carried) : Type 0 where
 alert-kept : (version : ℕ) (s : State) (sequence : ℕ) (r : Option Retained) → Kept s (Requests.alertAsked version s sequence r)
 unfolding Requests.alertAsked Requests.alertTaken
 alert-kept version s sequence none = record { settings = refl }
-alert-kept version s sequence (some r) = cond-by (Kept s) (eqb (r .sequence) sequence) _ _ (λ e. record { settings = refl }) (λ e. record { settings = refl })
+alert-kept version s sequence (some r) =
+    cond-by (Kept s) (eqb (r .sequence) sequence) _ _ (λ e. record { settings = refl }) (λ e. record { settings = refl })
 
 module _ (image : List ℕ) (s : State) (m : Message) where
   effect-kept : (x : Command) → eqb (commandNumber x) 0x10 ≡ false → Kept s (effect x image s m)
@@ -152,7 +159,8 @@ module _ (image : List ℕ) (s : State) (m : Message) where
       by (some x) e = effect-kept x (rw (number-is (m .command) e) at n)
 
   -- a key set stores
-  set-stored : eqb (m .command) 0x10 ≡ true → carryOut image s m .state .settings ≡ storeValue (s .settings) (numberAt 1 (m .payload) 0) (drop 1 (m .payload)) .settings
+  set-stored : eqb (m .command) 0x10 ≡ true
+      → carryOut image s m .state .settings ≡ storeValue (s .settings) (numberAt 1 (m .payload) 0) (drop 1 (m .payload)) .settings
   unfolding carryOut commandOfNumber withNumber commandNumber effect Requests.keySet
   set-stored e = rw (eqb-true (m .command) 0x10 e)
 
@@ -160,7 +168,8 @@ module _ (image : List ℕ) (s : State) (m : Message) where
 
 pub entry-held : (s : State) {k : ℕ} → SettingsKey k → entryOf s k ≡ setting (s .settings) k
 unfolding entryOf
-entry-held s {k} h = rw (ne-eqb k 0 (λ e. omega (arith, h, e)), ne-eqb k 1 (λ e. omega (arith, h, e)), ne-eqb k 2 (λ e. omega (arith, h, e)))
+entry-held s {k} h =
+    rw (ne-eqb k 0 (λ e. omega (arith, h, e)), ne-eqb k 1 (λ e. omega (arith, h, e)), ne-eqb k 2 (λ e. omega (arith, h, e)))
 
 pub set-successful : SetSuccessful
 unfolding storeValue
@@ -169,7 +178,9 @@ set-successful z v k h x g =
     (by (wrongValueLength k (length v)) (eqb (x .edition) Limits.last-edition) z _)
   where
     by : (t u : Bool) (a b : Settings)
-        → eqb ((cond {A = Requests.Stored} t (record { result = 3; settings = a }) (cond u (record { result = 4; settings = a }) (record { result = 0; settings = b }))) .result) 0
+        → eqb ((cond {A = Requests.Stored} t (record { result = 3; settings = a })
+        (cond u (record { result = 4; settings = a }) (record { result = 0; settings = b }))) .result)
+        0
         ≡ (not t && not u)
     by true u a b = refl
     by false true a b = refl
@@ -230,7 +241,8 @@ sets-append k [] ns = refl
 sets-append k (m ∷ ms) ns = rw (sets-append k ms ns, append-assoc)
 
 -- values with one more behind them, or none: as many as the edition leaves room for
-take-one : (n : ℕ) (vs : List (List ℕ)) (v : List ℕ) (t : Bool) → eqb (length (take n vs)) n ≡ t → take n (vs ++ (v ∷ [])) ≡ take n vs ++ cond t [] (v ∷ [])
+take-one : (n : ℕ) (vs : List (List ℕ)) (v : List ℕ) (t : Bool) → eqb (length (take n vs)) n ≡ t
+    → take n (vs ++ (v ∷ [])) ≡ take n vs ++ cond t [] (v ∷ [])
 take-one zero vs v t e = rw (← e)
 take-one (suc n) [] v t e = rw (← e, eqb·zero-suc) (ap (λ (l : List (List ℕ)). v ∷ l) (take-nil n))
 take-one (suc n) (w ∷ vs) v t e = ap (λ (l : List (List ℕ)). w ∷ l) (take-one n vs v t (sym (eqb·suc-suc (length (take n vs)) n) ∙ e))
@@ -240,11 +252,13 @@ counted-one : (n : ℕ) (vs : List (List ℕ)) (v : List ℕ) (t : Bool)
 counted-one n vs v true = rw (append-nil, append-nil)
 counted-one n vs v false = by (eqb (length (take n vs)) n) refl
   where
-    by : (u : Bool) → eqb (length (take n vs)) n ≡ u → take n (vs ++ (v ∷ [])) ≡ take n vs ++ cond (not (eqb (length (take n vs)) n)) (v ∷ []) []
+    by : (u : Bool) → eqb (length (take n vs)) n ≡ u
+        → take n (vs ++ (v ∷ [])) ≡ take n vs ++ cond (not (eqb (length (take n vs)) n)) (v ∷ []) []
     by true e = rw e (take-one n vs v true e)
     by false e = rw e (take-one n vs v false e)
 
-counted-by : (n : ℕ) (vs : List (List ℕ)) (v : List ℕ) (t : Bool) {all : List (List ℕ)} {r : Bool} → all ≡ vs ++ listedIf (cond t none (some v))
+counted-by : (n : ℕ) (vs : List (List ℕ)) (v : List ℕ) (t : Bool) {all : List (List ℕ)} {r : Bool}
+    → all ≡ vs ++ listedIf (cond t none (some v))
     → r ≡ (not t && not (eqb (length (take n vs)) n)) → take n all ≡ take n vs ++ cond r (v ∷ []) []
 counted-by n vs v t e f = rw (e, f) (counted-one n vs v t)
 
@@ -265,13 +279,15 @@ pub successful-exactly : SuccessfulExactly
 unfolding setAfter successful
 successful-exactly k h x low ms z g m v c d =
     let n = Limits.last-edition - x .edition in
-    counted-by n (setsOf k ms) v (wrongValueLength k (length v)) (sets-append k ms (m ∷ []) ∙ ap (λ (l : List (List ℕ)). setsOf k ms ++ l) (set-listed k m v c d))
+    counted-by n (setsOf k ms) v (wrongValueLength k (length v))
+    (sets-append k ms (m ∷ []) ∙ ap (λ (l : List (List ℕ)). setsOf k ms ++ l) (set-listed k m v c d))
     (rw (last-more (x .edition) (length (take n (setsOf k ms))) low) at (set-successful z v k h (setAfter k x ms) g))
 
 -- ---- requests and frames
 
 module _ (image : List ℕ) {k : ℕ} (h : SettingsKey k) where
-  request-has : (s : State) (m : Message) (x : Setting) → Has (s .settings) k x → Has (carryOut image s m .state .settings) k (onto x (setBy k m))
+  request-has : (s : State) (m : Message) (x : Setting) → Has (s .settings) k x
+      → Has (carryOut image s m .state .settings) k (onto x (setBy k m))
   unfolding setBy
   request-has s m x g = by (eqb (m .command) 0x10) refl
     where
@@ -279,7 +295,8 @@ module _ (image : List ℕ) {k : ℕ} (h : SettingsKey k) where
       by true e = rw (e, set-stored image s m e) (data-has (s .settings) (m .payload) h x g)
       by false e = rw (e, other-kept image s m e .settings) g
 
-  pub judged-has : (s : State) (v : Verdict) (x : Setting) → Has (s .settings) k x → Has (afterVerdict image s v .settings) k (afterSets k x (requestAhead v []))
+  pub judged-has : (s : State) (v : Verdict) (x : Setting) → Has (s .settings) k x
+      → Has (afterVerdict image s v .settings) k (afterSets k x (requestAhead v []))
   unfolding afterVerdict sent afterSets
   judged-has s (failure reason version sequence) x g = g
   judged-has s (good m) x g = request-has s m x g
@@ -314,7 +331,8 @@ pub replaced-other : ReplacedOther
 unfolding Saving.replaced
 replaced-other es zero z k h l = refl
 replaced-other es (suc n) z k h l =
-    getD-set-other (Saving.replaced n es z) (Limits.first-setting + n - Limits.first-setting) (k - Limits.first-setting) (Saving.settingIn (Limits.first-setting + n) es) unset
+    getD-set-other (Saving.replaced n es z) (Limits.first-setting + n - Limits.first-setting) (k - Limits.first-setting)
+    (Saving.settingIn (Limits.first-setting + n) es) unset
     (λ e. omega (arith, h, e)) ∙ replaced-other es n z k h (omega arith)
 
 -- the settings after a restore
@@ -322,7 +340,9 @@ module _ (es : List SavedEntry) where
   pub replaced-long : (n : ℕ) (z : Settings) → length (Saving.replaced n es z) ≡ length z
   unfolding Saving.replaced
   replaced-long zero z = refl
-  replaced-long (suc n) z = length-set (Saving.replaced n es z) (Limits.first-setting + n - Limits.first-setting) (Saving.settingIn (Limits.first-setting + n) es) ∙ replaced-long n z
+  replaced-long (suc n) z =
+      length-set (Saving.replaced n es z) (Limits.first-setting + n - Limits.first-setting) (Saving.settingIn (Limits.first-setting + n) es)
+      ∙ replaced-long n z
 
   replaced-here : (n : ℕ) (z : Settings) {k : ℕ} → SettingsKey k → k < Limits.first-setting + n → length z ≡ Limits.setting-count
       → setting (Saving.replaced n es z) k ≡ Saving.settingIn k es
@@ -338,20 +358,23 @@ module _ (es : List SavedEntry) where
           → setting (withSetting (Saving.replaced n es z) (Limits.first-setting + n) x) k ≡ Saving.settingIn k es
       by true e rest =
           let f = eqb-true k (Limits.first-setting + n) e in
-          rw f (getD-set-same (Saving.replaced n es z) (Limits.first-setting + n - Limits.first-setting) x unset (omega (arith, h, f, replaced-long n z, long)))
+          rw f (getD-set-same (Saving.replaced n es z) (Limits.first-setting + n - Limits.first-setting) x unset
+          (omega (arith, h, f, replaced-long n z, long)))
       by false e rest =
           let f = eqb-false k (Limits.first-setting + n) e in
-          getD-set-other (Saving.replaced n es z) (Limits.first-setting + n - Limits.first-setting) (k - Limits.first-setting) x unset (λ g. f (omega (arith, h, g)))
+          getD-set-other (Saving.replaced n es z) (Limits.first-setting + n - Limits.first-setting) (k - Limits.first-setting) x unset
+          (λ g. f (omega (arith, h, g)))
           ∙ rest (omega (arith, l, f)) long
 
 -- a restore of key k
-restore-holds : {k : ℕ} → SettingsKey k → (x : Origin) (s : State) → Holds k x s → (o : Option (List SavedEntry)) (t : State) → t .settings ≡ settingsBy o (s .settings)
-    → Holds k (sinceRestore k x o) t
+restore-holds : {k : ℕ} → SettingsKey k → (x : Origin) (s : State) → Holds k x s → (o : Option (List SavedEntry)) (t : State)
+    → t .settings ≡ settingsBy o (s .settings) → Holds k (sinceRestore k x o) t
 unfolding afterSets
 restore-holds h x s g none t e = rw e g
 restore-holds {k} h x s g (some es) t e =
     rw e
-    (cond-by (λ (y : Origin). Has (Saving.restoredSettings es (s .settings)) k (afterSets k (y .setting) (y .requests))) (leb k Saving.highest-saved) _ _
+    (cond-by (λ (y : Origin). Has (Saving.restoredSettings es (s .settings)) k (afterSets k (y .setting) (y .requests)))
+    (leb k Saving.highest-saved) _ _
     (λ f. record { long = replaced-long es Saving.saved-count (s .settings) ∙ g .long; held = here f })
     (λ f. record {
       long = replaced-long es Saving.saved-count (s .settings) ∙ g .long;
@@ -375,7 +398,8 @@ module _ {k : ℕ} (h : SettingsKey k) where
       → Holds k (sinceMore x (requestsIn (framesClosedBy w bs))) (framesCarried image s (framesClosedBy w bs))
   unfolding framesClosedBy
   frames-hold w x s g image bs =
-      rw (after-append k (x .setting) (x .requests) (requestsIn (nonEmpty (closedBehind w bs)))) (frames-have image h (closedBehind w bs) s _ g)
+      rw (after-append k (x .setting) (x .requests) (requestsIn (nonEmpty (closedBehind w bs))))
+      (frames-have image h (closedBehind w bs) s _ g)
 
   -- the same with the receive progress behind them
   bytes-hold : (w : List ℕ) (x : Origin) (s : State) → Holds k x s → (image bs : List ℕ)
@@ -387,18 +411,22 @@ module _ {k : ℕ} (h : SettingsKey k) where
   unfolding sinceCall carriedCall isAcceptedStart meant Local.start
   call-holds w x s g (Histories.start d) = by (Local.badStart (factoryOf d))
     where
-      by : (bad : Bool) → Holds k (cond (not bad) sinceStart x) (doneMeans s (cond bad (Local.refused 11) (Local.left (fresh (factoryOf d)))) .state)
+      by : (bad : Bool)
+          → Holds k (cond (not bad) sinceStart x) (doneMeans s (cond bad (Local.refused 11) (Local.left (fresh (factoryOf d)))) .state)
       by true = g
       by false = fresh-holds (factoryOf d)
   call-holds w x s g (Histories.receive image piece) = bytes-hold w x s g image piece
   call-holds w x s g (Histories.step image piece) = bytes-hold w x s g image (pieceRead (Histories.step image piece))
-  call-holds w x s g (Histories.local c) = restore-holds h x s g (recordsRestored c) (meant s (Histories.local c) .state) (local-settings s c)
+  call-holds w x s g (Histories.local c) =
+      restore-holds h x s g (recordsRestored c) (meant s (Histories.local c) .state) (local-settings s c)
 
   pub made-holds : (w : List ℕ) (x : Origin) (s : State) → Holds k x s → (m : Made) → Holds k (sinceMade k w x m) (carriedMade w s m .state)
   unfolding sinceMade carriedMade
   made-holds w x s g m = by (enough (m .call) (m .lent))
     where
-      by : (t : Bool) → Holds k (cond t (sinceCall k w x (m .call)) x) (cond t (carriedCall w s (m .call)) (means (refused 12) (untouched (m .call)) s) .state)
+      by : (t : Bool)
+          → Holds k (cond t (sinceCall k w x (m .call)) x)
+          (cond t (carriedCall w s (m .call)) (means (refused 12) (untouched (m .call)) s) .state)
       by true = call-holds w x s g (m .call)
       by false = g
 
@@ -411,12 +439,16 @@ module _ {k : ℕ} (h : SettingsKey k) where
 
 -- of an unset one, and of those that an image restores
 module _ (k : ℕ) (P : Setting → Type 0) (at-start : P unset)
-    (at-restore : (image : List ℕ) → Each Byte image → (es : List SavedEntry) → Saving.readImage image ≡ Saving.good es → P (Saving.settingIn k es)) where
-  read-keeps : (x : Origin) → P (x .setting) → (image : List ℕ) → Each Byte image → (r : Saving.ImageRead) → Saving.readImage image ≡ r → P (sinceRestore k x (recordsOf r) .setting)
+    (at-restore : (image : List ℕ) → Each Byte image → (es : List SavedEntry) → Saving.readImage image ≡ Saving.good es
+    → P (Saving.settingIn k es)) where
+  read-keeps : (x : Origin) → P (x .setting) → (image : List ℕ) → Each Byte image → (r : Saving.ImageRead) → Saving.readImage image ≡ r
+      → P (sinceRestore k x (recordsOf r) .setting)
   read-keeps x h image b (Saving.fault n at) e = h
-  read-keeps x h image b (Saving.good es) e = cond-by (λ (y : Origin). P (y .setting)) (leb k Saving.highest-saved) _ _ (λ _. at-restore image b es e) (λ _. h)
+  read-keeps x h image b (Saving.good es) e =
+      cond-by (λ (y : Origin). P (y .setting)) (leb k Saving.highest-saved) _ _ (λ _. at-restore image b es e) (λ _. h)
 
-  local-keeps : (x : Origin) → P (x .setting) → (c : LocalCall) → Typed (Histories.local c) → P (sinceRestore k x (recordsRestored c) .setting)
+  local-keeps : (x : Origin) → P (x .setting) → (c : LocalCall) → Typed (Histories.local c)
+      → P (sinceRestore k x (recordsRestored c) .setting)
   unfolding recordsRestored
   local-keeps x h (Histories.take room) t = h
   local-keeps x h (Histories.post action text) t = h
@@ -431,7 +463,8 @@ module _ (k : ℕ) (P : Setting → Type 0) (at-start : P unset)
 
   call-keeps : (w : List ℕ) (x : Origin) → P (x .setting) → (c : Call) → Typed c → P (sinceCall k w x c .setting)
   unfolding sinceCall
-  call-keeps w x h (Histories.start d) t = cond-by (λ (y : Origin). P (y .setting)) (isAcceptedStart (Histories.start d)) _ _ (λ _. at-start) (λ _. h)
+  call-keeps w x h (Histories.start d) t =
+      cond-by (λ (y : Origin). P (y .setting)) (isAcceptedStart (Histories.start d)) _ _ (λ _. at-start) (λ _. h)
   call-keeps w x h (Histories.receive image piece) t = h
   call-keeps w x h (Histories.step image piece) t = h
   call-keeps w x h (Histories.local c) t = local-keeps x h c t
@@ -444,15 +477,18 @@ module _ (k : ℕ) (P : Setting → Type 0) (at-start : P unset)
       (cond-by (λ (y : Origin). P (y .setting)) (enough (m .call) (m .lent)) _ _ (λ _. call-keeps w x h (m .call) (t .0)) (λ _. h))
 
 -- an edition of 32 bits
-pub in-low : (k : ℕ) (es : List SavedEntry) → Each (λ (e : SavedEntry). e .edition < 256 ^ 4) es → Saving.settingIn k es .edition ≤ Limits.last-edition
+pub in-low : (k : ℕ) (es : List SavedEntry) → Each (λ (e : SavedEntry). e .edition < 256 ^ 4) es
+    → Saving.settingIn k es .edition ≤ Limits.last-edition
 unfolding Saving.settingIn
 in-low k [] h = omega arith
 in-low k (e ∷ es) h =
     cond-by (λ (x : Setting). x .edition ≤ Limits.last-edition) (eqb (e .key) k) _ _ (λ _. omega (arith, h .0)) (λ _. in-low k es (h .1))
 
-pub read-low : (image : List ℕ) → Each Byte image → (es : List SavedEntry) → Saving.readImage image ≡ Saving.good es → Each (λ (e : SavedEntry). e .edition < 256 ^ 4) es
+pub read-low : (image : List ℕ) → Each Byte image → (es : List SavedEntry) → Saving.readImage image ≡ Saving.good es
+    → Each (λ (e : SavedEntry). e .edition < 256 ^ 4) es
 read-low image b es e = rw e at (entries-each image (λ e. e .edition < 256 ^ 4) (λ before at key there p. number-small 4 (at + 3) image b))
 
 pub since-low : (k : ℕ) (ms : List Made) → AllTyped ms → sinceAll k [] sinceStart ms .setting .edition ≤ Limits.last-edition
 since-low k ms t =
-    since-keeps k (λ x. x .edition ≤ Limits.last-edition) (omega arith) (λ image b es e. in-low k es (read-low image b es e)) ms t [] sinceStart (omega arith)
+    since-keeps k (λ x. x .edition ≤ Limits.last-edition) (omega arith) (λ image b es e. in-low k es (read-low image b es e)) ms t []
+    sinceStart (omega arith)

@@ -68,7 +68,8 @@ unfolding enough
 widened-enough l p r c e = widened-all (takesPart c) l p r (true-every _ e)
 
 -- it does the same
-pub widened-same : (p : Parts) (c : Call) (l : Lent) → made p (record { lent = l; call = c }) ≡ made p (record { lent = widened (takesPart c) l p; call = c })
+pub widened-same : (p : Parts) (c : Call) (l : Lent)
+    → made p (record { lent = l; call = c }) ≡ made p (record { lent = widened (takesPart c) l p; call = c })
 unfolding made did
 widened-same p (Histories.start d) l = refl
 widened-same p (Histories.receive image piece) l = refl

@@ -55,7 +55,9 @@ module _ (p : Parts) (s : Sound p) where
       → Stays p (withReader p (LineCalls.back n (p .reader) t))
   back-stays n t h k =
       let l = widened (is Part.reader) (λ i. n) p in
-      let e = widened-all (is Part.reader) (λ i. n) p (valid-long {p = p} (s .valid)) (record { reader = h; outbox = refl; factory = refl; settings = refl; registers = refl }) in
+      let e =
+      widened-all (is Part.reader) (λ i. n) p (valid-long {p = p} (s .valid))
+      (record { reader = h; outbox = refl; factory = refl; settings = refl; registers = refl }) in
       let b = back-leaves l p (withReader (lentOf l p) t) (s .bytes) (reader-leaves (lentOf l p) (lent-sound l p e s) t k) in
       let same : givenBack l p (withReader (lentOf l p) t) ≡ withReader p (LineCalls.back n (p .reader) t) = simp back-same in
       (rw same at (b .1), rw same at (b .2))
@@ -71,7 +73,8 @@ module _ (p : Parts) (r : LineCalls.Reader) (s : Sound (withReader p (r .state))
   long n h = lent-enough LineReader.reader-length (r .state) n (omega arith) h
 
   call-stays : (c : LineCalls.LineCall) → PieceBytes c → Left (LineCalls.afterLineCall r c)
-  unfolding LineCalls.afterLineCall LineCalls.afterLineRead LineCalls.afterOutcome LineCalls.afterStart LineCalls.afterRestart LineCalls.readerOn LineReader.readPromise LineReader.readerStartPromise
+  unfolding LineCalls.afterLineCall LineCalls.afterLineRead LineCalls.afterOutcome LineCalls.afterStart LineCalls.afterRestart
+      LineCalls.readerOn LineReader.readPromise LineReader.readerStartPromise
   call-stays (LineCalls.read c) h =
       let t = LineCalls.lentState (c .lent) (r .state) in
       cond-by (λ o. Left (LineCalls.afterOutcome r c o)) (LineReader.validReader t) _ _

@@ -62,17 +62,21 @@ module _ (p : Parts) {t : Bool} where
   outbox-test room e = sym (and-true (validOutbox (p .outbox))) ∙ e
 
   -- a call that takes the settings alone
-  settings-test : (c : Call) → partsFitCall p c ≡ (validSettings (p .settings) && true) → partsFitCall p c ≡ t → validSettings (p .settings) ≡ t
+  settings-test : (c : Call) → partsFitCall p c ≡ (validSettings (p .settings) && true) → partsFitCall p c ≡ t
+      → validSettings (p .settings) ≡ t
   settings-test c f e = sym (and-true (validSettings (p .settings))) ∙ sym f ∙ e
 
   -- a call that takes both stores
-  stores-test : (c : Call) → partsFitCall p c ≡ (validFactory (p .factory) && (validSettings (p .settings) && true)) → partsFitCall p c ≡ t → (validFactory (p .factory) && validSettings (p .settings)) ≡ t
+  stores-test : (c : Call) → partsFitCall p c ≡ (validFactory (p .factory) && (validSettings (p .settings) && true)) → partsFitCall p c ≡ t
+      → (validFactory (p .factory) && validSettings (p .settings)) ≡ t
   stores-test c f e = ap (λ x. validFactory (p .factory) && x) (sym (and-true (validSettings (p .settings)))) ∙ sym f ∙ e
 
 -- where they are not: 12, and nothing changes
 pub refused-12 : (p : Parts) (c : Call) → partsFitCall p c ≡ false → did p c ≡ didBy (refused 12) (untouched c) p
-unfolding partsFitCall did Calls.startPromise Receive.receivePromise Receive.stepPromise Calls.takePromise Calls.postPromise Calls.optionsPromise
-    Calls.lookupResultPromise Calls.lookupPromise Calls.editionPromise Calls.editionReportAt Calls.signalPromise Calls.flagsPromise Calls.recordPromise Calls.recordBytesPromise SavingCalls.savePromise SavingCalls.restorePromise
+unfolding partsFitCall did Calls.startPromise Receive.receivePromise Receive.stepPromise Calls.takePromise Calls.postPromise
+    Calls.optionsPromise
+    Calls.lookupResultPromise Calls.lookupPromise Calls.editionPromise Calls.editionReportAt Calls.signalPromise Calls.flagsPromise
+    Calls.recordPromise Calls.recordBytesPromise SavingCalls.savePromise SavingCalls.restorePromise
 refused-12 p (Histories.start d) e = rw (room-test p d e)
 refused-12 p (Histories.receive image piece) e = rw (receive-test p image piece e)
 refused-12 p (Histories.step image piece) e = rw (receive-test p image piece e)
@@ -117,7 +121,8 @@ module _ (X : ℕ → Type 0) (most : ℕ) where
   setting-held : (s : List ℕ) (at : ℕ) → FoundHeld (Calls.resultAt most) (Calls.settingAt s at)
   unfolding Calls.resultAt Calls.settingAt
   setting-held s at =
-      cond-by (FoundHeld (Calls.resultAt most)) (eqb (Layout.settingHeld s at) 1) _ _ (λ e. sized-held (Layout.settingLength s at)) (λ e. tt)
+      cond-by (FoundHeld (Calls.resultAt most)) (eqb (Layout.settingHeld s at) 1) _ _ (λ e. sized-held (Layout.settingLength s at))
+      (λ e. tt)
 
   pub found-held : (f s : List ℕ) (key : ℕ) → FoundHeld (Calls.resultAt most) (Calls.locationOf f s key)
   unfolding Calls.resultAt Calls.locationOf
@@ -154,8 +159,10 @@ module _ (p : Parts) where
   registers-other c r = Other p (Histories.local c) (didBy (refusal (r .refusal)) [] (withRegisters p (r .registers)))
 
   fit-other : (c : Call) → partsFitCall p c ≡ true → Other p c (did p c)
-  unfolding partsFitCall did Calls.startPromise Receive.receivePromise Receive.stepPromise Calls.takePromise Calls.postPromise Calls.optionsPromise
-      Calls.lookupResultPromise Calls.lookupPromise Calls.editionPromise Calls.editionReportAt Calls.signalPromise Calls.flagsPromise Calls.recordPromise Calls.recordBytesPromise SavingCalls.savePromise SavingCalls.restorePromise SavingCalls.restoreOutcomeBy
+  unfolding partsFitCall did Calls.startPromise Receive.receivePromise Receive.stepPromise Calls.takePromise Calls.postPromise
+      Calls.optionsPromise
+      Calls.lookupResultPromise Calls.lookupPromise Calls.editionPromise Calls.editionReportAt Calls.signalPromise Calls.flagsPromise
+      Calls.recordPromise Calls.recordBytesPromise SavingCalls.savePromise SavingCalls.restorePromise SavingCalls.restoreOutcomeBy
   fit-other (Histories.start d) e = rw (room-test p d e) (cond-by P (goodStart d) _ _ (λ f. tt) (λ f. (λ h. omega (arith, h), refl, refl)))
     where
       P : Calls.StartOutcome → Type 0
@@ -171,7 +178,8 @@ module _ (p : Parts) where
       cond-by P (ltb (Layout.alertCount (p .registers)) Limits.most-alerts) _ _ (λ k. tt) (λ k. (λ h. omega (arith, h), refl, refl)))))
   fit-other (Histories.local (Histories.setOptions options)) e =
       rw e
-      (cond-by (registers-other (Histories.setOptions options)) (Local.optionsAllowed options) _ _ (λ f. tt) (λ f. (λ h. omega (arith, h), refl, refl)))
+      (cond-by (registers-other (Histories.setOptions options)) (Local.optionsAllowed options) _ _ (λ f. tt)
+      (λ f. (λ h. omega (arith, h), refl, refl)))
   fit-other (Histories.local (Histories.lookup key most)) e =
       rw (stores-test p (Histories.local (Histories.lookup key most)) refl e)
       (cond-both P (ltb Limits.highest-key key) (λ f. tt) (λ f. found-held _ most (p .factory) (p .settings) key))
@@ -189,7 +197,8 @@ module _ (p : Parts) where
   fit-other (Histories.local (Histories.readRecord k)) e = rw e tt
   fit-other (Histories.local (Histories.save room)) e =
       rw (settings-test p (Histories.local (Histories.save room)) refl e)
-      (cond-by P (ltb (length room) (length (SavingCalls.imageBytes (p .settings)))) _ _ (λ f. (λ h. omega (arith, h), refl, refl)) (λ f. tt))
+      (cond-by P (ltb (length room) (length (SavingCalls.imageBytes (p .settings)))) _ _ (λ f. (λ h. omega (arith, h), refl, refl))
+      (λ f. tt))
     where
       P : SavingCalls.SaveOutcome → Type 0
       P t = Other p (Histories.local (Histories.save room)) (didBy (Histories.saveAnswer (t .report)) (t .room) p)
@@ -198,7 +207,8 @@ module _ (p : Parts) where
     where
       by : (r : Saving.ImageRead) → Faults r
           → let t = SavingCalls.restoreOutcomeBy (p .settings) r in
-          Other p (Histories.local (Histories.restore image)) (didBy (Histories.restoreAnswer (t .report)) [] (withSettingsPart p (t .settings)))
+          Other p (Histories.local (Histories.restore image))
+          (didBy (Histories.restoreAnswer (t .report)) [] (withSettingsPart p (t .settings)))
       by (Saving.fault n at) h = (λ k. omega (arith, h, k), refl, refl)
       by (Saving.good es) h = tt
 
@@ -234,8 +244,10 @@ module _ (n : ℕ) where
   StartedAs t k = Numbered (refusal (t .refusal)) k
 
   fit-numbered : (p : Parts) (c : Call) → Typed c → partsFitCall p c ≡ true → Numbered (did p c .answer) (firstFailing (laterTests p c))
-  unfolding partsFitCall did firstFailing view Calls.startPromise Receive.receivePromise Receive.stepPromise Calls.takePromise Calls.postPromise Calls.optionsPromise
-      Calls.lookupResultPromise Calls.lookupPromise Calls.editionPromise Calls.editionReportAt Calls.signalPromise Calls.flagsPromise Calls.recordPromise
+  unfolding partsFitCall did firstFailing view Calls.startPromise Receive.receivePromise Receive.stepPromise Calls.takePromise
+      Calls.postPromise Calls.optionsPromise
+      Calls.lookupResultPromise Calls.lookupPromise Calls.editionPromise Calls.editionReportAt Calls.signalPromise Calls.flagsPromise
+      Calls.recordPromise
       Calls.recordBytesPromise SavingCalls.savePromise SavingCalls.restorePromise SavingCalls.restoreOutcomeBy
   fit-numbered p (Histories.start d) t e =
       rw (room-test p d e, good-bad d (omega (arith, t .0)))
@@ -287,7 +299,8 @@ pub each-number-exactly : EachNumberExactly
 unfolding firstFailing
 each-number-exactly p c n t = by (partsFitCall p c) refl
   where
-    by : (b : Bool) → partsFitCall p c ≡ b → Numbered n (did p c .answer) (cond (not (partsFitCall p c)) (some 12) (firstFailing (laterTests p c)))
+    by : (b : Bool) → partsFitCall p c ≡ b
+        → Numbered n (did p c .answer) (cond (not (partsFitCall p c)) (some 12) (firstFailing (laterTests p c)))
     by true e = rw e (fit-numbered n p c t e)
     by false e = rw (e, refused-12 p c e) (numbered-same n 12)
 

@@ -44,7 +44,8 @@ module _ (image : List ℕ) (each : Each Byte image) where
     received-meant = rw (a .receiving image) at (one-call p (byteReceived image t) s (each, (a .byte, tt)))
 
     -- and all is taken
-    take-meant : let d = made p (takenIn t) in (movedBytes (d .answer) (d .out) ≡ allTaken (view p)) × (view (d .parts) ≡ afterAll (view p)) × Sound (d .parts)
+    take-meant : let d = made p (takenIn t) in
+        (movedBytes (d .answer) (d .out) ≡ allTaken (view p)) × (view (d .parts) ≡ afterAll (view p)) × Sound (d .parts)
     unfolding meantMade meant
     take-meant =
         let room = t .room in
@@ -55,7 +56,8 @@ module _ (image : List ℕ) (each : Each Byte image) where
           c .leaves .1,
         )
 
-  session-taken : (p : Parts) → Sound p → (ts : List Cycle) → Each Ample ts → takenBytes (outputs p (byteByByte image ts)) ≡ session image (view p) (streamOf ts) .taken
+  session-taken : (p : Parts) → Sound p → (ts : List Cycle) → Each Ample ts
+      → takenBytes (outputs p (byteByByte image ts)) ≡ session image (view p) (streamOf ts) .taken
   unfolding byteByByte streamOf outputs takenBytes session cycle
   session-taken p s [] h = refl
   session-taken p s (t ∷ ts) h =

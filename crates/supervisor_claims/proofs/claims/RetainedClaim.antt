@@ -1,4 +1,5 @@
--- The retained alert reply: which requests replace or drop it, and what a reboot or power-off leaves (document 01, "Alerts"; document 02, item 1).
+-- The retained alert reply: which requests replace or drop it, and what a reboot or power-off
+-- leaves (document 01, "Alerts"; document 02, item 1).
 -- Assumes nothing.
 use mathlib.Core.Path.{_≡_, refl, sym}
 use mathlib.Core.Bool.{false, false≢true}
@@ -15,8 +16,8 @@ use Rattle.responder.specs.Requests.{effect, carryOutBy, carryOut}
 use Rattle.supervisor_claims.specs.Alerts.{Keeps}
 use Rattle.supervisor_claims.specs.Item1.{RetainedStays, RebootForgets, PowerOffForgets, FreshAlert}
 
-effect-stays : (image : List ℕ) (s : State) (m : Message) (x : Command) → eqb (commandNumber x) 0x01 ≡ false → eqb (commandNumber x) 0x02 ≡ false → eqb (commandNumber x) 0x0a ≡ false
-    → Keeps s (effect x image s m .state)
+effect-stays : (image : List ℕ) (s : State) (m : Message) (x : Command) → eqb (commandNumber x) 0x01 ≡ false
+    → eqb (commandNumber x) 0x02 ≡ false → eqb (commandNumber x) 0x0a ≡ false → Keeps s (effect x image s m .state)
 unfolding commandNumber effect Requests.bootFailure Requests.panicked Requests.startAcknowledged Requests.keySet
 effect-stays image s m Command.reboot a b c = absurd (false≢true (sym a))
 effect-stays image s m Command.power-off a b c = absurd (false≢true (sym b))

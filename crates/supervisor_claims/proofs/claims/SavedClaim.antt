@@ -1,4 +1,5 @@
--- Saving and restoring over any calls: what was saved restores, and an accepted image is the saved form of what it leaves (document 02, item 11).
+-- Saving and restoring over any calls:
+-- what was saved restores, and an accepted image is the saved form of what it leaves (document 02, item 11).
 -- Assumes nothing.
 use mathlib.Core.Path.{_≡_, refl, sym, ap, subst, _∙_}
 use mathlib.Core.Bool.{Bool, true, false, cond, _||_, false≢true}
@@ -27,7 +28,8 @@ use Rattle.responder.specs.Requests.{wrongValueLength}
 use Rattle.supervisor_claims.specs.View.{settingOf, settingsOf, view}
 use Rattle.supervisor_claims.specs.Sound.{Bytes}
 use Rattle.supervisor_claims.specs.Histories
-use Rattle.supervisor_claims.specs.Histories.{Typed, Answer, Did, means, done, Lent, Made, enough, meant, meantMade, made, AllTyped, reached, startWith}
+use Rattle.supervisor_claims.specs.Histories.{Typed, Answer, Did, means, done, Lent, Made, enough, meant, meantMade, made, AllTyped}
+use Rattle.supervisor_claims.specs.Histories.{reached, startWith}
 use Rattle.supervisor_claims.specs.Histories.{locally}
 use Rattle.supervisor_claims.specs.LastSet.{valueFor, setBy, sinceStart, origin}
 use Rattle.supervisor_claims.specs.Demand1.{Meets}
@@ -46,7 +48,11 @@ value-short : (k : ℕ) (bs v : List ℕ) → valueFor k bs ≡ some v → lengt
 unfolding valueFor
 value-short k [] v e = let z : _≡_ {A = ℕ} 0 1 = cc in absurd (omega arith)
 value-short k (key ∷ w) v e =
-    cond-by P (eqb key k) _ _ (λ _. cond-by P (wrongValueLength k (length w)) _ _ (λ _ g. absurd (unlike g)) (λ f g. rw (same g) (ltb-false _ _ (second (ltb (length w) (Limits.shortest-setting k)) _ f)))) (λ _ g. absurd (unlike g)) e
+    cond-by P (eqb key k) _ _
+    (λ _.
+    cond-by P (wrongValueLength k (length w)) _ _ (λ _ g. absurd (unlike g))
+    (λ f g. rw (same g) (ltb-false _ _ (second (ltb (length w) (Limits.shortest-setting k)) _ f))))
+    (λ _ g. absurd (unlike g)) e
   where
     P : Option (List ℕ) → Type 0
     P o = o ≡ some v → length v ≤ Limits.longest-setting k
@@ -81,11 +87,13 @@ module _ (k : ℕ) where
   after-savable (m ∷ ms) x h low =
       after-savable ms (onto x (setBy k m)) (onto-savable x h low (setBy k m) (set-short k m)) (onto-low x (setBy k m) low)
 
-  in-savable : (es : List SavedEntry) → Each Allowed es → Each (λ (e : SavedEntry). e .edition < 256 ^ 4) es → SavableKey k (Saving.settingIn k es)
+  in-savable : (es : List SavedEntry) → Each Allowed es → Each (λ (e : SavedEntry). e .edition < 256 ^ 4) es
+      → SavableKey k (Saving.settingIn k es)
   unfolding Saving.settingIn
   in-savable [] a l = refl
   in-savable (e ∷ es) a l =
-      cond-by (SavableKey k) (eqb (e .key) k) _ _ (λ f. (rw (← eqb-true (e .key) k f) (a .0 .short), l .0)) (λ _. in-savable es (a .1) (l .1))
+      cond-by (SavableKey k) (eqb (e .key) k) _ _ (λ f. (rw (← eqb-true (e .key) k f) (a .0 .short), l .0))
+      (λ _. in-savable es (a .1) (l .1))
 
 -- settings by their keys
 savable-each : (key : ℕ) (xs : Settings) → ((i : ℕ) → i < length xs → SavableKey (key + i) (getD xs i unset)) → Savable key xs
@@ -98,7 +106,8 @@ savable-each key (x ∷ xs) f = (
 
 long-enough : (q : Parts) → saved-count ≤ length (view q .settings)
 unfolding view settingsOf
-long-enough q = rw (length-listed (λ i. settingOf (q .settings) (Layout.setting-offset (Limits.first-setting + i))) Limits.setting-count) (omega arith)
+long-enough q =
+    rw (length-listed (λ i. settingOf (q .settings) (Layout.setting-offset (Limits.first-setting + i))) Limits.setting-count) (omega arith)
 
 -- ---- the claims: a start that is accepted, on any bytes, then any calls
 
@@ -110,7 +119,9 @@ module _ (p : Parts) (b : Bytes p) (l : Lent) (d : List ℕ) (typed : Typed (His
   pub key-savable : KeySavable ms (reached p l d ms)
   key-savable k h =
       let x = origin k ms in
-      let from = since-keeps k (SavableKey k) refl (λ image i es e. in-savable k es (rw e at (entries-allowed image)) (read-low image i es e)) ms t [] sinceStart refl in
+      let from =
+      since-keeps k (SavableKey k) refl (λ image i es e. in-savable k es (rw e at (entries-allowed image)) (read-low image i es e)) ms t []
+      sinceStart refl in
       rw (setting-then p b l d typed accepted ms t h) (after-savable k (x .requests) (x .setting) from (since-low k ms t))
 
   settings-long : length settingsThen ≡ Limits.setting-count
@@ -123,7 +134,8 @@ module _ (p : Parts) (b : Bytes p) (l : Lent) (d : List ℕ) (typed : Typed (His
       let n = length-take saved-count settingsThen in
       let low : i < saved-count = omega arith in
       let e : Limits.first-setting + i - Limits.first-setting ≡ i = omega arith in
-      rw (getD-take saved-count settingsThen i unset low) (rw e at (key-savable (Limits.first-setting + i) (record { lower = omega arith; upper = omega arith }))))
+      rw (getD-take saved-count settingsThen i unset low)
+      (rw e at (key-savable (Limits.first-setting + i) (record { lower = omega arith; upper = omega arith }))))
 
   -- the image that is saved then, and its records
   abbrev imageThen : List ℕ
@@ -150,13 +162,17 @@ module _ (p : Parts) (b : Bytes p) (l : Lent) (d : List ℕ) (typed : Typed (His
   unfolding meantMade meant Saving.restore
   saved-restores q sound j e =
       let meets = rw e at (one-call q (locally j (Histories.restore imageThen)) sound image-holds) in
-      let m = rw image-read at meets in
-      (m .answer, m .leaves .0 ∙ ap (withSettings (view q)) (saved-restores-into settingsThen (omega (arith, settings-long)) all-savable (view q .settings) (long-enough q)))
+      let m = rw image-read at meets in (
+        m .answer,
+        m .leaves .0 ∙ ap (withSettings (view q))
+            (saved-restores-into settingsThen (omega (arith, settings-long)) all-savable (view q .settings) (long-enough q)),
+      )
 
 pub accepted-exact : AcceptedExact
 unfolding meantMade meant Saving.restore
 accepted-exact q sound j image i h =
-    by (enough (Histories.local (Histories.restore image)) j) (readImage image) refl (one-call q (locally j (Histories.restore image)) sound i)
+    by (enough (Histories.local (Histories.restore image)) j) (readImage image) refl
+    (one-call q (locally j (Histories.restore image)) sound i)
   where
     after : Did
     after = made q (locally j (Histories.restore image))
@@ -166,7 +182,8 @@ accepted-exact q sound j image i h =
     undone a e = subst (λ x. WhereRefused x (λ _. ⊥)) (sym h ∙ e) tt
 
     by : (t : Bool) (r : Saving.ImageRead) → readImage image ≡ r
-        → Meets q after (cond t (Histories.restoreMeans (view q) (Saving.restoreRead (view q) r)) (means (Histories.refused 12) [] (view q)))
+        → Meets q after
+        (cond t (Histories.restoreMeans (view q) (Saving.restoreRead (view q) r)) (means (Histories.refused 12) [] (view q)))
         → image ≡ savedImageOf (after .parts)
     by false r e m = absurd (undone (Histories.refused 12) (m .answer))
     by true (Saving.fault n at) e m = absurd (undone (Histories.faulty n at) (m .answer))

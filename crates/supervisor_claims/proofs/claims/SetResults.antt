@@ -107,7 +107,8 @@ module _ (image : List ℕ) (s : State) (m : Message) (r : ReplyContent) where
   alerted none e = plain s _ _
   alerted (some k) e =
       cond-by Versioned (eqb (k .sequence) (m .sequence)) _ _
-      (λ f g. inr (record { kept = k; retained = e; number = eqb-true _ _ f; written = sym (ap (λ (x : Option ReplyContent). versionOr x 0) g) }))
+      (λ f g.
+      inr (record { kept = k; retained = e; number = eqb-true _ _ f; written = sym (ap (λ (x : Option ReplyContent). versionOr x 0) g) }))
       (λ f. plain s _ _)
 
   by-command : (o : Option Command) → Versioned (carryOutBy o image s m)

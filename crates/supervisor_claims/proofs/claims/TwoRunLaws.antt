@@ -1,4 +1,5 @@
--- Two states that differ only in the passphrase's setting: what a request, received bytes and a call make of them is the same but for that setting.
+-- Two states that differ only in the passphrase's setting:
+-- what a request, received bytes and a call make of them is the same but for that setting.
 -- Assumes nothing.
 use mathlib.Core.Path.{_≡_, refl, sym, ap, subst, _∙_}
 use mathlib.Core.Logic.{inl, inr}
@@ -21,7 +22,8 @@ use Rattle.line_claims.specs.Pieces.{nonEmpty, closedBehind}
 use Rattle.supervisor.specs.Layout
 use Rattle.supervisor.specs.Limits
 use Rattle.supervisor.specs.Limits.{SettingsKey}
-use Rattle.supervisor.specs.State.{Setting, unset, Settings, Recorded, Retained, State, setting, withSetting, withSettings, withReceived, fresh}
+use Rattle.supervisor.specs.State.{Setting, unset, Settings, Recorded, Retained, State, setting, withSetting, withSettings, withReceived}
+use Rattle.supervisor.specs.State.{fresh}
 use Rattle.supervisor.specs.Local
 use Rattle.supervisor.specs.declared.registers.Kind.the-variants as kind
 use Rattle.supervisor.proofs.OffsetLaws.{offset-within, Lies, setting-lies, settings-key}
@@ -29,16 +31,19 @@ use Rattle.supervisor.specs.Valid.{SettingsValid}
 use Rattle.saving.specs.Saving
 use Rattle.responder.specs.Commands.{Command, commandNumber, commandOfNumber}
 use Rattle.responder.specs.Requests
-use Rattle.responder.specs.Requests.{Verdict, failure, good, verdict, Carried, effect, carryOutBy, carryOut, wrongValueLength, Stored, storeValue, afterVerdict, sent}
+use Rattle.responder.specs.Requests.{Verdict, failure, good, verdict, Carried, effect, carryOutBy, carryOut, wrongValueLength, Stored}
+use Rattle.responder.specs.Requests.{storeValue, afterVerdict, sent}
 use Rattle.responder.proofs.CommandLaws.{number-is}
 use Rattle.supervisor_claims.specs.View.{factoryOf, settingOf, settingsOf}
 use Rattle.supervisor_claims.specs.Histories
 use Rattle.supervisor_claims.specs.Histories.{LocalCall, Call, Means, doneMeans, recordMeans, restoreMeans, meant, Made, enough}
-use Rattle.supervisor_claims.specs.FrameHistory.{pieceRead, isAcceptedStart, bytesReceivedBy, startsAnew, framesClosedBy, frameCarried, framesCarried, carriedOut, carriedCall, carriedMade}
+use Rattle.supervisor_claims.specs.FrameHistory.{pieceRead, isAcceptedStart, bytesReceivedBy, startsAnew, framesClosedBy}
+use Rattle.supervisor_claims.specs.FrameHistory.{frameCarried, framesCarried, carriedOut, carriedCall, carriedMade}
 use Rattle.supervisor_claims.specs.LastSet.{requestAhead, requestsIn, valueFor, setBy, listedIf, setsOf}
 use Rattle.supervisor_claims.proofs.laws.ViewLaws.{length-listed, listed-set}
 use Rattle.supervisor_claims.proofs.laws.SettingLaws.{setting-is, setting-same}
-use Rattle.supervisor_claims.proofs.claims.LastSetLaws.{replaced-long, replaced-other, onto, afterSets, request-append, sets-append, judged-has}
+use Rattle.supervisor_claims.proofs.claims.LastSetLaws.{replaced-long, replaced-other, onto, afterSets, request-append, sets-append}
+use Rattle.supervisor_claims.proofs.claims.LastSetLaws.{judged-has}
 
 -- ---- settings and states that differ only in the passphrase's setting
 
@@ -79,7 +84,8 @@ module _ (z y : Settings) (e : Alike z y) where
       sym (getD-set-other z i j unset unset o) ∙ ap (λ (l : Settings). getD l j unset) e ∙ getD-set-other y i j unset unset o
 
 module _ (t : State) (z : Settings) (e : Alike z (t .settings)) where
-  entry-same : (key : ℕ) → key ≤ Limits.highest-key → (key ≡ Limits.passphrase-key → ⊥) → Local.entryOf (withSettings t z) key ≡ Local.entryOf t key
+  entry-same : (key : ℕ) → key ≤ Limits.highest-key → (key ≡ Limits.passphrase-key → ⊥)
+      → Local.entryOf (withSettings t z) key ≡ Local.entryOf t key
   unfolding Local.entryOf
   entry-same key h n =
       cond-both _≡_ (eqb key 0) (λ _. refl) (λ i.
@@ -117,7 +123,10 @@ module _ (z y : Settings) (e : Alike z y) (v : List ℕ) where
   stored-passphrase low =
       let i = Limits.passphrase-key - Limits.first-setting in
       cond-both StoredAlike (wrongValueLength Limits.passphrase-key (length v)) (λ f. (refl, e)) (λ f.
-      rw (ne-eqb (setting z Limits.passphrase-key .edition) Limits.last-edition (low f .0), ne-eqb (setting y Limits.passphrase-key .edition) Limits.last-edition (low f .1))
+      rw (
+        ne-eqb (setting z Limits.passphrase-key .edition) Limits.last-edition (low f .0),
+        ne-eqb (setting y Limits.passphrase-key .edition) Limits.last-edition (low f .1),
+      )
       (refl, set-set z i _ unset ∙ e ∙ sym (set-set y i _ unset)))
 
   stored-other : (key : ℕ) → (key ≡ Limits.passphrase-key → ⊥) → StoredAlike (storeValue z key v) (storeValue y key v)
@@ -136,7 +145,8 @@ module _ (z y : Settings) (e : Alike z y) (v : List ℕ) where
       (refl, set-comm z j i u unset o ∙ ap (λ (x : Settings). set x j u) e ∙ sym (set-comm y j i u unset o)))))))
 
 -- by a key set's data
-data-alike : (z y : Settings) → Alike z y → (bs : List ℕ) → let n = length (listedIf (valueFor Limits.passphrase-key bs)) in Room n z → Room n y
+data-alike : (z y : Settings) → Alike z y → (bs : List ℕ)
+    → let n = length (listedIf (valueFor Limits.passphrase-key bs)) in Room n z → Room n y
     → StoredAlike (storeValue z (numberAt 1 bs 0) (drop 1 bs)) (storeValue y (numberAt 1 bs 0) (drop 1 bs))
 unfolding number storeValue valueFor
 data-alike z y e [] r q = (refl, e)
@@ -157,20 +167,24 @@ record SameCarried (c d : Carried) : Type 0 where
   state : Like (c .state) (d .state)
 
 module _ (image : List ℕ) (m : Message) (t : State) (z : Settings) (e : Alike z (t .settings))
-    (left : Room (length (listedIf (setBy Limits.passphrase-key m))) z) (right : Room (length (listedIf (setBy Limits.passphrase-key m))) (t .settings)) where
+    (left : Room (length (listedIf (setBy Limits.passphrase-key m))) z)
+    (right : Room (length (listedIf (setBy Limits.passphrase-key m))) (t .settings)) where
   abbrev s : State
   s = withSettings t z
 
   -- the settings are as before
-  still : {r : Option Requests.ReplyContent} {u : State} → Alike z (u .settings) → SameCarried (record { state = withSettings u z; reply = r }) (record { state = u; reply = r })
+  still : {r : Option Requests.ReplyContent} {u : State} → Alike z (u .settings)
+      → SameCarried (record { state = withSettings u z; reply = r }) (record { state = u; reply = r })
   still f = record { reply = refl; state = record { rest = refl; settings = f } }
 
-  alert-same : (r : Option Retained) → SameCarried (Requests.alertAsked (m .version) s (m .sequence) r) (Requests.alertAsked (m .version) t (m .sequence) r)
+  alert-same : (r : Option Retained)
+      → SameCarried (Requests.alertAsked (m .version) s (m .sequence) r) (Requests.alertAsked (m .version) t (m .sequence) r)
   unfolding Requests.alertAsked Requests.alertTaken
   alert-same none = still e
   alert-same (some r) = cond-both SameCarried (eqb (r .sequence) (m .sequence)) (λ f. still e) (λ f. still e)
 
-  set-same : m .command ≡ commandNumber Command.key-set → SameCarried (Requests.keySet (m .version) s (m .payload)) (Requests.keySet (m .version) t (m .payload))
+  set-same : m .command ≡ commandNumber Command.key-set
+      → SameCarried (Requests.keySet (m .version) s (m .payload)) (Requests.keySet (m .version) t (m .payload))
   unfolding commandNumber setBy Requests.keySet
   set-same n =
       let k = data-alike z (t .settings) e (m .payload) (rw n at left) (rw n at right) in
@@ -204,7 +218,8 @@ module _ (image : List ℕ) (m : Message) (t : State) (z : Settings) (e : Alike 
 -- ---- a frame
 
 -- by the first state's settings
-from-like : (P : State → State → Type 0) → ((u : State) (z : Settings) → Alike z (u .settings) → P (withSettings u z) u) → {s t : State} → Like s t → P s t
+from-like : (P : State → State → Type 0) → ((u : State) (z : Settings) → Alike z (u .settings) → P (withSettings u z) u) → {s t : State}
+    → Like s t → P s t
 from-like P f {s} {t} l = subst (λ (x : State). P x t) (sym (l .rest)) (f t (s .settings) (l .settings))
 
 sent-like : (r : Option Requests.Reply) {s t : State} → Like s t → Like (sent s r) (sent t r)
@@ -220,7 +235,8 @@ setCount ms = length (setsOf Limits.passphrase-key ms)
 
 onto-raise : (x : Setting) (o : Option (List ℕ)) → onto x o .edition ≤ x .edition + length (listedIf o)
 onto-raise x none = omega arith
-onto-raise x (some v) = cond-by (λ (y : Setting). y .edition ≤ x .edition + 1) (eqb (x .edition) Limits.last-edition) _ _ (λ e. omega arith) (λ e. omega arith)
+onto-raise x (some v) =
+    cond-by (λ (y : Setting). y .edition ≤ x .edition + 1) (eqb (x .edition) Limits.last-edition) _ _ (λ e. omega arith) (λ e. omega arith)
 
 -- they raise the edition by no more
 sets-raise : (k : ℕ) (x : Setting) (ms : List Message) → afterSets k x ms .edition ≤ x .edition + length (setsOf k ms)
@@ -230,13 +246,15 @@ sets-raise k x (m ∷ ms) =
     omega (arith, sets-raise k (onto x (setBy k m)) ms, onto-raise x (setBy k m), length-append (listedIf (setBy k m)) (setsOf k ms))
 
 module _ (image : List ℕ) where
-  judged-room : (v : Verdict) (n : ℕ) (s : State) → Room (setCount (requestAhead v []) + n) (s .settings) → Room n (afterVerdict image s v .settings)
+  judged-room : (v : Verdict) (n : ℕ) (s : State) → Room (setCount (requestAhead v []) + n) (s .settings)
+      → Room n (afterVerdict image s v .settings)
   judged-room v n s r =
       let x = setting (s .settings) Limits.passphrase-key in
       let h = judged-has image passphrase s v x (record { long = r .long; held = refl }) in
       record { long = h .long; low = rw (h .held) (omega (arith, sets-raise Limits.passphrase-key x (requestAhead v []))) }
 
-  judged-like : (v : Verdict) {s t : State} → Pair (setCount (requestAhead v [])) s t → Like (afterVerdict image s v) (afterVerdict image t v)
+  judged-like : (v : Verdict) {s t : State} → Pair (setCount (requestAhead v [])) s t
+      → Like (afterVerdict image s v) (afterVerdict image t v)
   unfolding afterVerdict setsOf
   judged-like (failure reason version sequence) p = sent-like _ (p .like)
   judged-like (good m) {s} {t} p =
@@ -245,7 +263,8 @@ module _ (image : List ℕ) where
       (carried-same image m t (s .settings) (p .like .settings) (room-less (omega arith) (p .left)) (room-less (omega arith) (p .right))) in
       rw (c .reply) (sent-like _ (c .state))
 
-  judged-pair : (v : Verdict) (n : ℕ) (s t : State) → Pair (setCount (requestAhead v []) + n) s t → Pair n (afterVerdict image s v) (afterVerdict image t v)
+  judged-pair : (v : Verdict) (n : ℕ) (s t : State) → Pair (setCount (requestAhead v []) + n) s t
+      → Pair n (afterVerdict image s v) (afterVerdict image t v)
   judged-pair v n s t p =
       record { like = judged-like v (pair-less (omega arith) p); left = judged-room v n s (p .left); right = judged-room v n t (p .right) }
 
@@ -263,7 +282,8 @@ module _ (image : List ℕ) where
       frames-pair fs n (afterVerdict image s v) (afterVerdict image t v) (judged-pair v (setCount r + n) s t (pair-less (omega arith) p))
 
   -- bytes that came behind w
-  bytes-pair : (w bs : List ℕ) (n : ℕ) (s t : State) → Pair (setCount (requestsIn (framesClosedBy w bs)) + n) s t → Pair n (carriedOut image w s bs) (carriedOut image w t bs)
+  bytes-pair : (w bs : List ℕ) (n : ℕ) (s t : State) → Pair (setCount (requestsIn (framesClosedBy w bs)) + n) s t
+      → Pair n (carriedOut image w s bs) (carriedOut image w t bs)
   unfolding carriedOut framesClosedBy
   bytes-pair w bs n s t p =
       let q = frames-pair (closedBehind w bs) n s t p in
@@ -276,21 +296,25 @@ unfolding Saving.saved
 saved-same z y e =
     let i = Limits.passphrase-key - Limits.first-setting in
     ap (Saving.imageFrom Limits.first-setting)
-    (sym (take-set-le Saving.saved-count z i unset (omega arith)) ∙ ap (take Saving.saved-count) e ∙ take-set-le Saving.saved-count y i unset (omega arith))
+    (sym (take-set-le Saving.saved-count z i unset (omega arith)) ∙ ap (take Saving.saved-count) e
+    ∙ take-set-le Saving.saved-count y i unset (omega arith))
 
 module _ (es : List Saving.SavedEntry) where
   -- what is replaced lies before it
-  replaced-set : (n : ℕ) → n ≤ Saving.saved-count → (z : Settings) → withSetting (Saving.replaced n es z) Limits.passphrase-key unset ≡ Saving.replaced n es (withSetting z Limits.passphrase-key unset)
+  replaced-set : (n : ℕ) → n ≤ Saving.saved-count → (z : Settings)
+      → withSetting (Saving.replaced n es z) Limits.passphrase-key unset ≡ Saving.replaced n es (withSetting z Limits.passphrase-key unset)
   unfolding Saving.replaced
   replaced-set zero h z = refl
   replaced-set (suc n) h z =
       let x = Saving.settingIn (Limits.first-setting + n) es in
-      set-comm (Saving.replaced n es z) (Limits.first-setting + n - Limits.first-setting) (Limits.passphrase-key - Limits.first-setting) x unset (λ e. omega (arith, e))
+      set-comm (Saving.replaced n es z) (Limits.first-setting + n - Limits.first-setting) (Limits.passphrase-key - Limits.first-setting) x
+      unset (λ e. omega (arith, e))
       ∙ ap (λ (y : Settings). withSetting y (Limits.first-setting + n) x) (replaced-set n (omega arith) z)
 
   restored-alike : (z y : Settings) → Alike z y → Alike (Saving.restoredSettings es z) (Saving.restoredSettings es y)
   restored-alike z y e =
-      replaced-set Saving.saved-count (omega arith) z ∙ ap (Saving.replaced Saving.saved-count es) e ∙ sym (replaced-set Saving.saved-count (omega arith) y)
+      replaced-set Saving.saved-count (omega arith) z ∙ ap (Saving.replaced Saving.saved-count es) e
+      ∙ sym (replaced-set Saving.saved-count (omega arith) y)
 
   restored-room : (n : ℕ) (z : Settings) → Room n z → Room n (Saving.restoredSettings es z)
   restored-room n z r = record {
@@ -311,7 +335,8 @@ module _ (n : ℕ) (t : State) (z : Settings) (e : Alike z (t .settings)) (left 
   -- the settings are as before
   unset-same : {a : Histories.Answer} {bs : List ℕ} {u : State} → Alike z (u .settings) → Room n (u .settings)
       → Same n (Histories.means a bs (withSettings u z)) (Histories.means a bs u)
-  unset-same f r = record { answer = refl; out = refl; pair = record { like = record { rest = refl; settings = f }; left = left; right = r } }
+  unset-same f r =
+      record { answer = refl; out = refl; pair = record { like = record { rest = refl; settings = f }; left = left; right = r } }
 
   abbrev DoneSame : Local.Done → Local.Done → Type 0
   DoneSame x y = Same n (doneMeans (withSettings t z) x) (doneMeans t y)
@@ -320,7 +345,8 @@ module _ (n : ℕ) (t : State) (z : Settings) (e : Alike z (t .settings)) (left 
   record-same none = unset-same e right
   record-same (some x) = unset-same e right
 
-  restore-same : (r : Saving.ImageRead) → Same n (restoreMeans (withSettings t z) (Saving.restoreRead (withSettings t z) r)) (restoreMeans t (Saving.restoreRead t r))
+  restore-same : (r : Saving.ImageRead)
+      → Same n (restoreMeans (withSettings t z) (Saving.restoreRead (withSettings t z) r)) (restoreMeans t (Saving.restoreRead t r))
   restore-same (Saving.fault k at) = unset-same e right
   restore-same (Saving.good es) = record {
     answer = refl;
@@ -339,7 +365,8 @@ module _ (n : ℕ) (t : State) (z : Settings) (e : Alike z (t .settings)) (left 
       cond-both DoneSame (eqb action 0) (λ f. unset-same e right) (λ f.
       cond-both DoneSame (ltb Limits.longest-alert (length text)) (λ g. unset-same e right) (λ g.
       cond-both DoneSame (ltb (length (t .waiting)) Limits.most-alerts) (λ h. unset-same e right) (λ h. unset-same e right)))
-  local-by (Histories.setOptions options) = cond-both DoneSame (Local.optionsAllowed options) (λ f. unset-same e right) (λ f. unset-same e right)
+  local-by (Histories.setOptions options) =
+      cond-both DoneSame (Local.optionsAllowed options) (λ f. unset-same e right) (λ f. unset-same e right)
   local-by (Histories.lookup key most) = rw (lookup-same t z e key most) (unset-same e right)
   local-by (Histories.edition key) = rw (edition-same t z e key) (unset-same e right)
   local-by Histories.signal = unset-same e right
@@ -361,7 +388,8 @@ start-same : (w : List ℕ) (s t : State) (c : Call) → isAcceptedStart c ≡ t
 unfolding isAcceptedStart carriedCall meant Local.start
 start-same w s t (Histories.start d) e = by (Local.badStart (factoryOf d)) e
   where
-    by : (bad : Bool) → not bad ≡ true → let done = cond bad (Local.refused 11) (Local.left (fresh (factoryOf d))) in doneMeans s done ≡ doneMeans t done
+    by : (bad : Bool) → not bad ≡ true
+        → let done = cond bad (Local.refused 11) (Local.left (fresh (factoryOf d))) in doneMeans s done ≡ doneMeans t done
     by true f = absurd (false≢true f)
     by false f = refl
 start-same w s t (Histories.receive image piece) e = absurd (false≢true e)
@@ -369,10 +397,11 @@ start-same w s t (Histories.step image piece) e = absurd (false≢true e)
 start-same w s t (Histories.local c) e = absurd (false≢true e)
 
 -- any other call, by the bytes that it reads behind w
-call-same : (w : List ℕ) (n : ℕ) (s t : State) (c : Call) → isAcceptedStart c ≡ false → Pair (setCount (requestsIn (framesClosedBy w (pieceRead c))) + n) s t
-    → Same n (carriedCall w s c) (carriedCall w t c)
+call-same : (w : List ℕ) (n : ℕ) (s t : State) (c : Call) → isAcceptedStart c ≡ false
+    → Pair (setCount (requestsIn (framesClosedBy w (pieceRead c))) + n) s t → Same n (carriedCall w s c) (carriedCall w t c)
 unfolding isAcceptedStart pieceRead carriedCall meant Local.start
-call-same w n s t (Histories.start d) e p = rw (not-false (Local.badStart (factoryOf d)) e) (record { answer = refl; out = refl; pair = pair-less (omega arith) p })
+call-same w n s t (Histories.start d) e p =
+    rw (not-false (Local.badStart (factoryOf d)) e) (record { answer = refl; out = refl; pair = pair-less (omega arith) p })
 call-same w n s t (Histories.receive image piece) e p = record { answer = refl; out = refl; pair = bytes-pair image w piece n s t p }
 call-same w n s t (Histories.step image piece) e p = record { answer = refl; out = refl; pair = bytes-pair image w _ n s t p }
 call-same w n s t (Histories.local c) e p = local-same c n s t (pair-less (omega arith) p)
@@ -387,7 +416,8 @@ module _ (w : List ℕ) (s t : State) (m : Made) where
       by true f = rw (f, start-same w s t (m .call) (rw f at e))
       by false f = absurd (false≢true (rw f at e))
 
-  pub made-same : (n : ℕ) → startsAnew m ≡ false → Pair (setCount (requestsIn (framesClosedBy w (bytesReceivedBy m))) + n) s t → Same n (carriedMade w s m) (carriedMade w t m)
+  pub made-same : (n : ℕ) → startsAnew m ≡ false → Pair (setCount (requestsIn (framesClosedBy w (bytesReceivedBy m))) + n) s t
+      → Same n (carriedMade w s m) (carriedMade w t m)
   unfolding startsAnew bytesReceivedBy carriedMade
   made-same n e p = by (enough (m .call) (m .lent)) refl
     where
@@ -406,16 +436,21 @@ same-last from to r s e = record {
 }
 
 -- the passphrase's record lies between two offsets
-module _ (s t : List ℕ) (v : SettingsValid s) (ahead : take (Layout.setting-offset Limits.passphrase-key) s ≡ take (Layout.setting-offset Limits.passphrase-key) t)
-    (end : ℕ) (long : end ≡ Layout.setting-offset Limits.passphrase-key + (Layout.setting-value-offset + Limits.longest-setting Limits.passphrase-key))
+module _ (s t : List ℕ) (v : SettingsValid s)
+    (ahead : take (Layout.setting-offset Limits.passphrase-key) s ≡ take (Layout.setting-offset Limits.passphrase-key) t)
+    (end : ℕ) (long : end
+    ≡ Layout.setting-offset Limits.passphrase-key + (Layout.setting-value-offset + Limits.longest-setting Limits.passphrase-key))
     (behind : drop end s ≡ drop end t) where
   -- another key's setting lies ahead of it or behind it
   other-same : (key : ℕ) → SettingsKey key → Lies key Limits.passphrase-key → (key ≡ Limits.passphrase-key → ⊥)
       → settingOf t (Layout.setting-offset key) ≡ settingOf s (Layout.setting-offset key)
-  other-same key h (inl l) n = setting-same (same-first (Layout.setting-offset Limits.passphrase-key) s t (sym ahead)) (Layout.setting-offset key) _ (v .each key h) (omega arith)
+  other-same key h (inl l) n =
+      setting-same (same-first (Layout.setting-offset Limits.passphrase-key) s t (sym ahead)) (Layout.setting-offset key) _ (v .each key h)
+      (omega arith)
   other-same key h (inr (inl e)) n = absurd (n e)
   other-same key h (inr (inr l)) n =
-      setting-same (same-last end Layout.settings-length s t (sym behind)) (Layout.setting-offset key) _ (v .each key h) (omega (arith, offset-within key h))
+      setting-same (same-last end Layout.settings-length s t (sym behind)) (Layout.setting-offset key) _ (v .each key h)
+      (omega (arith, offset-within key h))
 
   pub store-alike : Alike (settingsOf s) (settingsOf t)
   unfolding settingsOf
@@ -429,6 +464,7 @@ module _ (s t : List ℕ) (v : SettingsValid s) (ahead : take (Layout.setting-of
       let h : SettingsKey key = record { lower = omega arith; upper = omega arith } in
       rw (ne-eqb j i n) (sym (other-same key h (setting-lies key Limits.passphrase-key h passphrase) (λ e. n (omega (arith, e))))))
 
-pub store-room : (n : ℕ) (s : List ℕ) → Layout.settingEdition s (Layout.setting-offset Limits.passphrase-key) + n ≤ Limits.last-edition → Room n (settingsOf s)
+pub store-room : (n : ℕ) (s : List ℕ) → Layout.settingEdition s (Layout.setting-offset Limits.passphrase-key) + n ≤ Limits.last-edition
+    → Room n (settingsOf s)
 unfolding settingOf settingsOf
 store-room n s h = record { long = length-listed _ Limits.setting-count; low = rw (setting-is s Limits.passphrase-key passphrase) h }

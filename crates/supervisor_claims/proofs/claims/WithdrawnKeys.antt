@@ -1,4 +1,5 @@
--- What a lookup of the withdrawn-key list, or of another settings key that is read back, answers: the value of its last successful set, or what a later restore left; of the passphrase 4.
+-- What a lookup of the withdrawn-key list, or of another settings key that is read back, answers:
+-- the value of its last successful set, or what a later restore left; of the passphrase 4.
 -- Assumes nothing.
 use mathlib.Core.Path.{_≡_, refl, ap, _∙_}
 use mathlib.Core.Bool.{true, and-false}
@@ -25,10 +26,12 @@ use Rattle.responder.specs.Requests.{good, verdict, storeValue, keySet, effect,
 use Rattle.supervisor_claims.specs.View.{factoryOf, view}
 use Rattle.supervisor_claims.specs.Sound.{Bytes}
 use Rattle.supervisor_claims.specs.Histories
-use Rattle.supervisor_claims.specs.Histories.{Typed, done, Lent, Made, enough, meant, meantMade, made, leftMeant, AllTyped, reached, startWith}
+use Rattle.supervisor_claims.specs.Histories.{Typed, done, Lent, Made, enough, meant, meantMade, made, leftMeant, AllTyped, reached}
+use Rattle.supervisor_claims.specs.Histories.{startWith}
 use Rattle.supervisor_claims.specs.Histories.{receiveWith, locally}
 use Rattle.supervisor_claims.specs.FrameHistory.{framesClosedBy, receivedSinceAll, frameCarried, framesCarried, Replied}
-use Rattle.supervisor_claims.specs.LastSet.{successful, lastOr, setAfter, Origin, sinceStart, sinceMore, setSince, lookupOf, lookupReply, requestsIn}
+use Rattle.supervisor_claims.specs.LastSet.{successful, lastOr, setAfter, Origin, sinceStart, sinceMore, setSince, lookupOf}
+use Rattle.supervisor_claims.specs.LastSet.{lookupReply, requestsIn}
 use Rattle.supervisor_claims.specs.LastSet.{fittedOf, ReadBack, origin, originBehind, setOf, setReply, SetAnswered}
 use Rattle.supervisor_claims.specs.Demand2.{ValueLastSet, LastSet, WithdrawnListAnswered, LookupLastSet}
 use Rattle.supervisor_claims.specs.Item5.{editionReply, ListEditionAnswered}
@@ -38,12 +41,14 @@ use Rattle.supervisor_claims.proofs.claims.History.{history, one-call}
 use Rattle.supervisor_claims.proofs.claims.InOrder.{request-carried}
 use Rattle.supervisor_claims.proofs.claims.FramesClaim.{stream-closes, by-frames}
 use Rattle.supervisor_claims.proofs.claims.SetResults.{set-result}
-use Rattle.supervisor_claims.proofs.claims.LastSetLaws.{afterSets, entry-held, after-sets, frames-owed, Holds, fresh-holds, frames-hold, calls-hold, since-low}
+use Rattle.supervisor_claims.proofs.claims.LastSetLaws.{afterSets, entry-held, after-sets, frames-owed, Holds, fresh-holds}
+use Rattle.supervisor_claims.proofs.claims.LastSetLaws.{frames-hold, calls-hold, since-low}
 
 -- ---- a lookup carried out
 
 -- key and maxresponse in a lookup's data
-pub lookup-data : (k most : ℕ) → k < 256 → most < 65536 → let bs = bytes 1 k ++ bytes 2 most in (numberAt 1 bs 0 ≡ k) × (numberAt 2 bs 1 ≡ most)
+pub lookup-data : (k most : ℕ) → k < 256 → most < 65536
+    → let bs = bytes 1 k ++ bytes 2 most in (numberAt 1 bs 0 ≡ k) × (numberAt 2 bs 1 ≡ most)
 unfolding number bytes
 lookup-data k most h i = (number-bytes 1 k (omega arith), number-bytes 2 most (omega arith))
 
@@ -82,29 +87,38 @@ unfolding carryOut commandOfNumber withNumber commandNumber effect keySet replyO
 reply-set image s version n k v h = let e : k % 256 + 0 * 256 ≡ k = omega arith in rw e
 
 -- the 00 of a request behind the bytes w and bs
-stream-replies : (w : List ℕ) (s : State) → Since (split w .rest) s → (image bs : List ℕ) (m : Message) → verdict (split (w ++ bs) .rest) ≡ good m
-    → let a = framesCarried image s (framesClosedBy w bs) in
-    receiveStream image s (bs ++ (0 ∷ [])) .pending ≡ owed (s .terminator-owed) ++ replyFrame (replyOf (m .sequence) (carryOut image a m .reply))
+stream-replies : (w : List ℕ) (s : State) → Since (split w .rest) s → (image bs : List ℕ) (m : Message)
+    → verdict (split (w ++ bs) .rest) ≡ good m → let a = framesCarried image s (framesClosedBy w bs) in
+    receiveStream image s (bs ++ (0 ∷ [])) .pending
+    ≡ owed (s .terminator-owed) ++ replyFrame (replyOf (m .sequence) (carryOut image a m .reply))
 stream-replies w s since image bs m e =
     ap (λ (x : State). x .pending) (stream-closes w s since image bs)
     ∙ framed-pending image (framesCarried image s (framesClosedBy w bs)) (split (w ++ bs) .rest) m e
     ∙ rw (frames-owed image (framesClosedBy w bs) s)
 
 -- of a lookup, where key k has what x says
-stream-answers : {k : ℕ} (h : ReadBack k) (w : List ℕ) (x : Origin) (s : State) → Since (split w .rest) s → Holds k x s → x .setting .edition ≤ Limits.last-edition
+stream-answers : {k : ℕ} (h : ReadBack k) (w : List ℕ) (x : Origin) (s : State) → Since (split w .rest) s → Holds k x s
+    → x .setting .edition ≤ Limits.last-edition
     → (image bs : List ℕ) (version n most : ℕ) → most < 65536 → verdict (split (w ++ bs) .rest) ≡ good (lookupOf version n k most)
-    → receiveStream image s (bs ++ (0 ∷ [])) .pending ≡ owed (s .terminator-owed) ++ lookupReply version n most (setSince k (sinceMore x (requestsIn (framesClosedBy w bs))))
+    → receiveStream image s (bs ++ (0 ∷ [])) .pending
+    ≡ owed (s .terminator-owed) ++ lookupReply version n most (setSince k (sinceMore x (requestsIn (framesClosedBy w bs))))
 stream-answers h w x s since holds low image bs version n most i e =
     let a = framesCarried image s (framesClosedBy w bs) in
     stream-replies w s since image bs (lookupOf version n _ most) e
-    ∙ rw (reply-found image a version n most h i, entry-held a (h .key), frames-hold (h .key) w x s holds image bs .held, after-sets _ (x .setting) (x .requests ++ requestsIn (framesClosedBy w bs)) low)
+    ∙ rw (
+      reply-found image a version n most h i,
+      entry-held a (h .key),
+      frames-hold (h .key) w x s holds image bs .held,
+      after-sets _ (x .setting) (x .requests ++ requestsIn (framesClosedBy w bs)) low,
+    )
 
 last-behind : (o : Option (List ℕ)) (vs : List (List ℕ)) (v : List ℕ) → lastOr o (vs ++ (v ∷ [])) ≡ some v
 unfolding lastOr
 last-behind o [] v = refl
 last-behind o (w ∷ vs) v = last-behind (some w) vs v
 
-edition-reply : (n most k : ℕ) (x : Origin) (vs : List (List ℕ)) (v : List ℕ) → successful (x .setting .edition) k (x .requests) ≡ vs ++ (v ∷ []) → length v ≤ most
+edition-reply : (n most k : ℕ) (x : Origin) (vs : List (List ℕ)) (v : List ℕ)
+    → successful (x .setting .edition) k (x .requests) ≡ vs ++ (v ∷ []) → length v ≤ most
     → lookupReply second-version n most (setSince k x) ≡ editionReply n (x .setting .edition + (length vs + 1)) v
 unfolding lookupReply editionReply setAfter Local.fitted
 edition-reply n most k x vs v g h = rw (g, last-behind (x .setting .value) vs v, length-append, le-ltb most (length v) h)
@@ -122,7 +136,8 @@ module _ (p : Parts) (b : Bytes p) (l : Lent) (d : List ℕ) (typed : Typed (His
       rw (by-frames f ms .1) at (calls-hold h ms [] sinceStart (fresh f) (fresh-holds h f))
 
   -- the setting that the store has, by the sets one after the other
-  pub setting-then : {k : ℕ} → SettingsKey k → setting (view (reached p l d ms) .settings) k ≡ afterSets k (origin k ms .setting) (origin k ms .requests)
+  pub setting-then : {k : ℕ} → SettingsKey k
+      → setting (view (reached p l d ms) .settings) k ≡ afterSets k (origin k ms .setting) (origin k ms .requests)
   setting-then h = rw (history p b l d typed accepted ms t .1) (state-holds h .held)
 
   origin-low : (k : ℕ) → origin k ms .setting .edition ≤ Limits.last-edition
@@ -134,7 +149,8 @@ module _ (p : Parts) (b : Bytes p) (l : Lent) (d : List ℕ) (typed : Typed (His
       (entry-held state h ∙ state-holds h .held ∙ after-sets k (origin k ms .setting) (origin k ms .requests) (origin-low k))
 
   -- what the 00 of a request behind the bytes bs does
-  replied-made : (j : Lent) (image bs : List ℕ) → let c = receiveWith image j (bs ++ (0 ∷ [])) in Typed (c .call) → enough (c .call) j ≡ true → (reply : List ℕ)
+  replied-made : (j : Lent) (image bs : List ℕ)
+      → let c = receiveWith image j (bs ++ (0 ∷ [])) in Typed (c .call) → enough (c .call) j ≡ true → (reply : List ℕ)
       → receiveStream image state (bs ++ (0 ∷ [])) .pending ≡ owed (state .terminator-owed) ++ reply
       → let q = reached p l d ms in Replied q (made q c) reply
   unfolding meantMade meant
@@ -146,7 +162,8 @@ module _ (p : Parts) (b : Bytes p) (l : Lent) (d : List ℕ) (typed : Typed (His
   pub last-set : LastSet ms (reached p l d ms)
   last-set k h version n most i j image bs c e v =
       replied-made j image bs c e _
-      (stream-answers h (receivedSinceAll [] ms) (origin k ms) state (by-frames (factoryOf d) ms .2) (state-holds (h .key)) (origin-low k) image bs version n most i v)
+      (stream-answers h (receivedSinceAll [] ms) (origin k ms) state (by-frames (factoryOf d) ms .2) (state-holds (h .key)) (origin-low k)
+      image bs version n most i v)
 
   pub set-answered : SetAnswered ms (reached p l d ms)
   set-answered version n k v i j image bs c e u =

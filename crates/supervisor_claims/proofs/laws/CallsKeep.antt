@@ -10,7 +10,8 @@ use Rattle.supervisor.specs.Local
 use Rattle.supervisor_claims.specs.View.{factoryOf}
 use Rattle.supervisor_claims.specs.Histories
 use Rattle.supervisor_claims.specs.Histories.{LocalCall, Call, doneMeans, upTo, meant, Made, enough}
-use Rattle.supervisor_claims.specs.FrameHistory.{pieceRead, isAcceptedStart, bytesReceivedBy, startsAnew, receivedSince, receivedSinceAll}
+use Rattle.supervisor_claims.specs.FrameHistory.{pieceRead, isAcceptedStart, bytesReceivedBy, startsAnew, receivedSince}
+use Rattle.supervisor_claims.specs.FrameHistory.{receivedSinceAll}
 use Rattle.supervisor_claims.specs.FrameHistory.{carriedOut, carriedCall, carriedMade, leftByFrames}
 
 -- P of the bytes received since the last accepted start and of the state
@@ -23,7 +24,8 @@ module _ (P : List ℕ → State → Type 0)
     unfolding isAcceptedStart pieceRead carriedCall meant Local.start
     call-keeps (Histories.start d) = by (Local.badStart (factoryOf d))
       where
-        by : (bad : Bool) → P (cond (not bad) [] (w ++ [])) (doneMeans s (cond bad (Local.refused 11) (Local.left (fresh (factoryOf d)))) .state)
+        by : (bad : Bool)
+            → P (cond (not bad) [] (w ++ [])) (doneMeans s (cond bad (Local.refused 11) (Local.left (fresh (factoryOf d)))) .state)
         by true = rw append-nil x
         by false = begun (factoryOf d)
     call-keeps (Histories.receive image piece) = brought w s x image piece

@@ -63,12 +63,14 @@ module _ (d : List ℕ) (long : Layout.start-length ≤ length d) where
       let at = Layout.item-offset i in
       let size = numberAt 1 d (at + Layout.item-data-length-offset) in
       rw (not-more-run Limits.longest-item-data (at + Layout.item-data-offset) size d (omega arith))
-      (item-test (ltb Limits.longest-item-data (length (run (at + Layout.item-data-offset) size d))) (Local.resultAllowed (numberAt 1 d at)))
+      (item-test (ltb Limits.longest-item-data (length (run (at + Layout.item-data-offset) size d)))
+      (Local.resultAllowed (numberAt 1 d at)))
 
   items-bad : (n : ℕ) → n ≤ Limits.most-items → Valid.goodItems d n ≡ not (Local.anyBad (tabulated (itemAt d) n))
   unfolding Valid.all Local.anyBad tabulated
   items-bad zero h = refl
-  items-bad (suc n) h = rw (any-more, items-bad n (omega arith), item-bad n h) (not-or (Local.anyBad (tabulated (itemAt d) n)) (Local.badItem (itemAt d n)))
+  items-bad (suc n) h =
+      rw (any-more, items-bad n (omega arith), item-bad n h) (not-or (Local.anyBad (tabulated (itemAt d) n)) (Local.badItem (itemAt d n)))
 
   pub good-bad : Valid.goodStart d ≡ not (Local.badStart (factoryOf d))
   unfolding Valid.goodStart Local.badStart factoryOf
@@ -79,5 +81,6 @@ module _ (d : List ℕ) (long : Layout.start-length ≤ length d) where
         length-listed (itemAt d) n,
         not-more n Limits.most-items,
       )
-      (start-test (ltb Limits.most-items n) (Local.anyBad (tabulated (itemAt d) n)) _ (Local.bsuAllowed (numberAt 1 d Layout.bsu-offset)) (Valid.goodItems d n)
+      (start-test (ltb Limits.most-items n) (Local.anyBad (tabulated (itemAt d) n)) _ (Local.bsuAllowed (numberAt 1 d Layout.bsu-offset))
+      (Valid.goodItems d n)
       (λ e. items-bad n (ltb-false Limits.most-items n e)))

@@ -25,7 +25,8 @@ use Rattle.supervisor.specs.State.{State}
 use Rattle.supervisor.specs.Valid.{validOutbox, validFactory, validSettings, validRegisters, SettingsValid}
 use Rattle.supervisor.specs.Calls.{Parts}
 use Rattle.supervisor.proofs.ValidLaws.{OutboxValid, FactoryValid, RegistersValid}
-use Rattle.supervisor.proofs.ValidLaws.{outbox-valid, valid-outbox, factory-valid, valid-factory, settings-valid, valid-settings, registers-valid}
+use Rattle.supervisor.proofs.ValidLaws.{outbox-valid, valid-outbox, factory-valid, valid-factory, settings-valid, valid-settings}
+use Rattle.supervisor.proofs.ValidLaws.{registers-valid}
 use Rattle.supervisor.proofs.ValidLaws.{start-good, good-start}
 use Rattle.supervisor.proofs.KeptRegisters.{groups-valid, numbers-kept, flags-kept, failure-kept, panic-kept, waiting-kept, retained-kept}
 use Rattle.supervisor.proofs.OffsetLaws.{offset-within}
@@ -121,8 +122,8 @@ module _ {s t : List ℕ} (same : Same 0 Layout.settings-length s t) (v : Settin
 registers-alike : {r s : List ℕ} → Same 0 Layout.registers-length r s → RegistersValid r → Layout.registers-length ≤ length s
     → validRegisters s ≡ true
 registers-alike same v h =
-    groups-valid h (numbers-kept same v (omega arith)) (flags-kept same v (omega arith)) (failure-kept same v (omega arith)) (panic-kept same v (omega arith))
-    (waiting-kept same v (omega arith)) (retained-kept same v (omega arith))
+    groups-valid h (numbers-kept same v (omega arith)) (flags-kept same v (omega arith)) (failure-kept same v (omega arith))
+    (panic-kept same v (omega arith)) (waiting-kept same v (omega arith)) (retained-kept same v (omega arith))
 
 -- ---- all parts
 
@@ -185,11 +186,12 @@ abbrev pub widened : (Part → Bool) → Lent → Parts → Lent
 widened takes l p i = cond (takes i) (l i) (first (length (part p i)))
 
 -- where enough is lent of those
-pub widened-all : (takes : Part → Bool) (l : Lent) (p : Parts) → Long p → Every (λ i. (not (takes i) || enoughPart (published i) (l i)) ≡ true)
-    → EnoughOfAll (widened takes l p)
+pub widened-all : (takes : Part → Bool) (l : Lent) (p : Parts) → Long p
+    → Every (λ i. (not (takes i) || enoughPart (published i) (l i)) ≡ true) → EnoughOfAll (widened takes l p)
 widened-all takes l p r e = every (λ i. by i (takes i) (of e i))
   where
-    by : (i : Part) (t : Bool) → (not t || enoughPart (published i) (l i)) ≡ true → enoughPart (published i) (cond t (l i) (first (length (part p i)))) ≡ true
+    by : (i : Part) (t : Bool) → (not t || enoughPart (published i) (l i)) ≡ true
+        → enoughPart (published i) (cond t (l i) (first (length (part p i)))) ≡ true
     by i true h = h
     by i false h = whole-enough (published i) (part p i) (of r i)
 
@@ -206,7 +208,8 @@ module _ (l : Lent) (p : Parts) where
   module _ (e : EnoughOfAll l) where
     lent-alike : Alike p (lentOf l p)
     lent-alike =
-        every-by (lentBy l p) (λ i s. take (published i) s ≡ take (published i) (part p i)) (λ i. lent-first (published i) (part p i) (l i) (of e i))
+        every-by (lentBy l p) (λ i s. take (published i) s ≡ take (published i) (part p i))
+        (λ i. lent-first (published i) (part p i) (l i) (of e i))
 
     -- enough of sound parts holds the same state
     pub lent-sound : Sound p → Sound (lentOf l p)
@@ -237,7 +240,8 @@ module _ (l : Lent) (p : Parts) where
 
       back-lengths : Lengths p (givenBack l p q)
       back-lengths =
-          every-by (backBy l p q) (λ i s. length s ≡ length (part p i)) (λ i. back-length (published i) (part p i) (l i) (part q i) (as-long i))
+          every-by (backBy l p q) (λ i s. length s ≡ length (part p i))
+          (λ i. back-length (published i) (part p i) (l i) (part q i) (as-long i))
 
       -- what came back is lent in the same way
       pub lent-again : lentOf l (givenBack l p q) ≡ q

@@ -15,7 +15,8 @@ use Rattle.octets.specs.Bytes.{number, bytes, overlay, bit}
 use Rattle.octets.proofs.Conditions.{cond-by}
 use Rattle.octets.proofs.Numbers.{number-bytes}
 use Rattle.octets.proofs.Overlay.{length-overlay, overlay-part}
-use Rattle.octets.proofs.SameBytes.{Same, same-before, same-after, same-then, same-within, number-same, stored-long, stored-number, stored-before, stored-after}
+use Rattle.octets.proofs.SameBytes.{Same, same-before, same-after, same-then, same-within, number-same, stored-long, stored-number}
+use Rattle.octets.proofs.SameBytes.{stored-before, stored-after}
 use Rattle.supervisor.specs.Limits
 use Rattle.supervisor.specs.Layout
 use Rattle.supervisor.specs.Local

@@ -1,4 +1,5 @@
--- What a call leaves by document 01: the bytes since the last 00 are the receive progress; a local call leaves it, and but for a restore the settings.
+-- What a call leaves by document 01: the bytes since the last 00 are the receive progress;
+-- a local call leaves it, and but for a restore the settings.
 -- Assumes nothing.
 use mathlib.Core.Path.{_≡_, refl, ap, _∙_}
 use mathlib.Core.Bool.{Bool, true, false, cond, not}
@@ -96,7 +97,8 @@ module _ (s : State) where
   local-settings Histories.flags = refl
   local-settings (Histories.readRecord k) = record-same (Histories.recordKept s k)
   local-settings (Histories.save room) =
-      cond-by (λ (m : Means). m .state .settings ≡ s .settings) (ltb (length room) (length (Saving.saved (s .settings)))) _ _ (λ e. refl) (λ e. refl)
+      cond-by (λ (m : Means). m .state .settings ≡ s .settings) (ltb (length room) (length (Saving.saved (s .settings)))) _ _ (λ e. refl)
+      (λ e. refl)
   local-settings (Histories.restore image) = restore-same (Saving.readImage image)
 
 -- ---- the bytes since the last 00
@@ -138,7 +140,9 @@ module _ (w : List ℕ) (s : State) (h : Since (split w .rest) s) where
   unfolding isAcceptedStart pieceRead meant fresh progressOf split Local.start
   called (Histories.start d) = by (Local.badStart (factoryOf d))
     where
-      by : (bad : Bool) → Since (split (cond (not bad) [] (w ++ [])) .rest) (doneMeans s (cond bad (Local.refused 11) (Local.left (fresh (factoryOf d)))) .state)
+      by : (bad : Bool)
+          → Since (split (cond (not bad) [] (w ++ [])) .rest)
+          (doneMeans s (cond bad (Local.refused 11) (Local.left (fresh (factoryOf d)))) .state)
       by true = unread refl
       by false = record { received = refl; nonzero = tt }
   called (Histories.receive image piece) = streamed image piece

@@ -21,7 +21,8 @@ use Rattle.supervisor.proofs.ValidLaws.{RegistersValid, registers-valid}
 use Rattle.supervisor.proofs.KeptRegisters.{Kept}
 use Rattle.responder.specs.Requests
 use Rattle.responder.specs.Receive
-use Rattle.responder.proofs.KeptLaws.{flag-valid, entry, length-entry, recorded-before, recorded-after, recorded-held, recorded-code, recorded-whole, recorded-rest, clear-small}
+use Rattle.responder.proofs.KeptLaws.{flag-valid, entry, length-entry, recorded-before, recorded-after, recorded-held, recorded-code}
+use Rattle.responder.proofs.KeptLaws.{recorded-whole, recorded-rest, clear-small}
 use Rattle.supervisor_claims.specs.View.{recordedOf, retainedOf, view}
 use Rattle.supervisor_claims.specs.Sound.{withRegisters}
 use Rattle.supervisor_claims.proofs.laws.RegisterLaws.{recorded-same, retained-same, alerts-same, kept-view}
@@ -34,7 +35,13 @@ put-record : (r : List ℕ) (at code : ℕ) (rest : List ℕ) → at + Layout.re
 unfolding recordedOf Requests.recorded
 put-record r at code rest room h l =
     let n : min (length rest) Limits.most-kept ≡ length (take Limits.most-kept rest) = omega (arith, length-take Limits.most-kept rest) in
-    rw (recorded-held r at code rest room, recorded-code r at code rest room h, recorded-whole r at code rest room l, n, recorded-rest r at code rest room)
+    rw (
+      recorded-held r at code rest room,
+      recorded-code r at code rest room h,
+      recorded-whole r at code rest room l,
+      n,
+      recorded-rest r at code rest room,
+    )
 
 -- ---- the view of registers that have other flags or records
 
@@ -121,7 +128,8 @@ module _ (p : Calls.Parts) (v : validRegisters (p .registers) ≡ true) where
   module _ (at : ℕ) (h : (Layout.reboot-offset ≤ at) × (at ≤ Layout.power-off-offset)) where
     -- whichever of the two flags stands at the offset
     asked-view : view (withRegisters p (Receive.askedFor (p .registers) at))
-        ≡ forgotten (noted (view p) (flag (asked p w at h) Layout.reboot-offset) (flag (asked p w at h) Layout.power-off-offset) (view p .boot-failure) (view p .panic))
+        ≡ forgotten (noted (view p) (flag (asked p w at h) Layout.reboot-offset) (flag (asked p w at h) Layout.power-off-offset)
+        (view p .boot-failure) (view p .panic))
     unfolding Receive.askedFor
     asked-view =
         forgotten-view (withRegisters p (asked p w at h)) (registers-valid (asked p w at h) (flag-valid (p .registers) v at h))
@@ -163,7 +171,8 @@ module _ (p : Calls.Parts) (w : RegistersValid (p .registers)) where
     record-after = recorded-after (p .registers) at code rest (omega arith) (omega arith)
 
     record-view : view (withRegisters p recording)
-        ≡ noted (view p) (view p .reboot-asked) (view p .power-off-asked) (recordedOf recording Layout.boot-failure-offset) (recordedOf recording Layout.panic-offset)
+        ≡ noted (view p) (view p .reboot-asked) (view p .power-off-asked) (recordedOf recording Layout.boot-failure-offset)
+        (recordedOf recording Layout.panic-offset)
     unfolding view Receive.withRecord
     record-view =
         put-view p w at (entry code rest) (omega (arith, length-entry code rest))
@@ -203,7 +212,9 @@ module _ (p : Calls.Parts) (w : RegistersValid (p .registers)) where
 
   -- ---- the start acknowledged
 
-  pub acknowledged-view : (version : ℕ) → view (withRegisters p (overlay Layout.status-offset (bytes 8 (Requests.clearBit (Layout.statusOf (p .registers)) 0)) (p .registers)))
+  pub acknowledged-view : (version : ℕ)
+      → view
+      (withRegisters p (overlay Layout.status-offset (bytes 8 (Requests.clearBit (Layout.statusOf (p .registers)) 0)) (p .registers)))
       ≡ Requests.startAcknowledged version (view p) .state
   unfolding view Requests.startAcknowledged
   acknowledged-view version =
@@ -212,7 +223,8 @@ module _ (p : Calls.Parts) (w : RegistersValid (p .registers)) where
       let small = clear-small (Layout.statusOf r) 0 in
       let room : Layout.status-offset + 8 ≤ length r = omega arith in
       let s = overlay Layout.status-offset (bytes 8 status) r in
-      let behind : Same Layout.options-offset Layout.registers-length r s = stored-after 8 Layout.status-offset status r room (omega arith) in
+      let behind : Same Layout.options-offset Layout.registers-length r s =
+      stored-after 8 Layout.status-offset status r room (omega arith) in
       let kept : Kept r s = record {
         long = stored-long 8 Layout.status-offset status r room;
         flags-and-records = same-within behind (omega arith);

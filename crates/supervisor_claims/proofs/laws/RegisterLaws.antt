@@ -54,7 +54,8 @@ module _ {from to : ℕ} {r s : List ℕ} (same : Same from to r s) where
         alert-same Layout.retained-alert-offset (omega arith) k,
       )
 
-  pub alerts-same : (n : ℕ) → (from ≤ Layout.alerts-offset) × (Layout.alert-offset n ≤ to) → validAlerts r n ≡ true → alertsOf s n ≡ alertsOf r n
+  pub alerts-same : (n : ℕ) → (from ≤ Layout.alerts-offset) × (Layout.alert-offset n ≤ to) → validAlerts r n ≡ true
+      → alertsOf s n ≡ alertsOf r n
   alerts-same n h v =
       listed-same _ _ n (λ i k.
       let a = alert-valid r i (all-each (validAlert r) n v i k) in

@@ -1,4 +1,5 @@
--- Saving and restoring on the settings store, as the meaning has them: the numbers of faults, the image, and the settings that a good image leaves.
+-- Saving and restoring on the settings store, as the meaning has them:
+-- the numbers of faults, the image, and the settings that a good image leaves.
 -- Assumes nothing.
 use mathlib.Core.Path.{_≡_, refl, sym, ap, _∙_}
 use mathlib.Core.Logic.{inl, inr}
@@ -59,9 +60,11 @@ module _ (image : List ℕ) where
   unfolding recordStep
   record-faults at =
       complete-faults _ _ (complete-faults _ _
-      (cond-by FaultsAt (ltb (Limits.longest-setting (Saving.savedKeyAt image at)) (Saving.savedLengthAt image at)) _ _ (λ _. omega arith) (λ _.
+      (cond-by FaultsAt (ltb (Limits.longest-setting (Saving.savedKeyAt image at)) (Saving.savedLengthAt image at)) _ _ (λ _. omega arith)
+      (λ _.
       complete-faults _ _ (complete-faults _ _
-      (cond-by FaultsAt (eqb (Saving.savedChecksumAt image at) (checksum (Saving.savedBodyAt image at))) _ _ (λ _. tt) (λ _. omega arith))))))
+      (cond-by FaultsAt (eqb (Saving.savedChecksumAt image at) (checksum (Saving.savedBodyAt image at))) _ _ (λ _. tt)
+      (λ _. omega arith))))))
 
   step-faults : (before at : ℕ) → FaultsAt (imageStep image before at)
   unfolding imageStep
@@ -71,7 +74,9 @@ module _ (image : List ℕ) where
       (λ _. cond-by FaultsAt (ltb (at + 2) (length image)) _ _ (λ _. omega arith) (λ _. tt))
       (λ _.
       cond-by FaultsAt (Saving.marked Saving.record-mark image at) _ _
-      (λ _. complete-faults _ _ (cond-by FaultsAt (Saving.follows before (Saving.savedKeyAt image at)) _ _ (λ _. record-faults at) (λ _. omega arith)))
+      (λ _.
+      complete-faults _ _
+      (cond-by FaultsAt (Saving.follows before (Saving.savedKeyAt image at)) _ _ (λ _. record-faults at) (λ _. omega arith)))
       (λ _. omega arith)))
 
   ahead-faults : (e : SavedEntry) (r : ImageRead) → Faults r → Faults (Saving.aheadOfRead e r)
@@ -102,21 +107,31 @@ module _ (s : List ℕ) where
   unfolding SavingCalls.savedRecordBytes settingOf
   record-meant key =
       let at = Layout.setting-offset key in
-      cond-both (λ bs o. bs ≡ Saving.recordFor key (record { edition = Layout.settingEdition s at; value = o })) (eqb (Layout.settingHeld s at) 1) (λ _. refl) (λ _. refl)
+      cond-both (λ bs o. bs ≡ Saving.recordFor key (record { edition = Layout.settingEdition s at; value = o }))
+      (eqb (Layout.settingHeld s at) 1) (λ _. refl) (λ _. refl)
 
-  records-meant : (n key : ℕ) → SavingCalls.savedRecordsFrom s n key ≡ Saving.imageFrom key (tabulated (λ i. settingOf s (Layout.setting-offset (key + i))) n)
+  records-meant : (n key : ℕ)
+      → SavingCalls.savedRecordsFrom s n key ≡ Saving.imageFrom key (tabulated (λ i. settingOf s (Layout.setting-offset (key + i))) n)
   unfolding SavingCalls.savedRecordsFrom Saving.imageFrom tabulated
   records-meant zero key = refl
   records-meant (suc n) key =
       let next : (i : ℕ) → settingOf s (Layout.setting-offset (suc key + i)) ≡ settingOf s (Layout.setting-offset (key + suc i))
       = λ i. let e : suc key + i ≡ key + suc i = omega arith in rw e in
-      rw (listed-first (λ i. settingOf s (Layout.setting-offset (key + i))) n, record-meant key, add-zero, records-meant n (suc key), listed-same _ _ n (λ i _. next i))
+      rw (
+        listed-first (λ i. settingOf s (Layout.setting-offset (key + i))) n,
+        record-meant key,
+        add-zero,
+        records-meant n (suc key),
+        listed-same _ _ n (λ i _. next i),
+      )
 
 pub image-meant : ImageMeant
 unfolding SavingCalls.imageBytes Saving.saved settingsOf
 image-meant s =
     records-meant s Saving.saved-count Limits.first-setting
-    ∙ ap (Saving.imageFrom Limits.first-setting) (sym (take-listed Saving.saved-count (Limits.setting-count - Saving.saved-count) (λ i. settingOf s (Layout.setting-offset (Limits.first-setting + i)))))
+    ∙ ap (Saving.imageFrom Limits.first-setting)
+    (sym (take-listed Saving.saved-count (Limits.setting-count - Saving.saved-count)
+    (λ i. settingOf s (Layout.setting-offset (Limits.first-setting + i)))))
 
 -- it holds bytes
 module _ (s : List ℕ) (b : Each Byte s) where
@@ -125,7 +140,10 @@ module _ (s : List ℕ) (b : Each Byte s) where
   record-bytes key edition v h =
       let size = bytes 2 (length v) ++ v in
       let body : Each Byte (Saving.recordBody key edition v)
-      = (omega arith, (omega arith, each-number 1 key (bytes 4 edition ++ size) (each-number 4 edition size (each-number 2 (length v) v h)))) in
+      = (
+        omega arith,
+        (omega arith, each-number 1 key (bytes 4 edition ++ size) (each-number 4 edition size (each-number 2 (length v) v h))),
+      ) in
       each-append Byte (Saving.recordBody key edition v) _ body (bytes-each 2 (checksum (Saving.recordBody key edition v)))
 
   records-bytes : (n key : ℕ) → Each Byte (SavingCalls.savedRecordsFrom s n key)
@@ -134,7 +152,8 @@ module _ (s : List ℕ) (b : Each Byte s) where
   records-bytes (suc n) key =
       let at = Layout.setting-offset key in
       each-append Byte (SavingCalls.savedRecordBytes s key) _
-      (cond-by (Each Byte) (eqb (Layout.settingHeld s at) 1) _ [] (λ _. record-bytes key _ _ (each-run (at + Layout.setting-value-offset) (Layout.settingLength s at) s b)) (λ _. tt))
+      (cond-by (Each Byte) (eqb (Layout.settingHeld s at) 1) _ []
+      (λ _. record-bytes key _ _ (each-run (at + Layout.setting-value-offset) (Layout.settingLength s at) s b)) (λ _. tt))
       (records-bytes n (suc key))
 
   pub image-bytes : Each Byte (Saving.saved (settingsOf s))
@@ -147,11 +166,13 @@ module _ (s : List ℕ) (b : Each Byte s) where
 abbrev entered : SavedEntry → Setting
 entered e = record { edition = e .edition; value = some (e .value) }
 
-module _ (s xs : List ℕ) (key : ℕ) (w : SettingsValid s) (k : SettingsKey key) (most : length xs ≤ Layout.setting-value-offset + Limits.longest-setting key) where
+module _ (s xs : List ℕ) (key : ℕ) (w : SettingsValid s) (k : SettingsKey key)
+    (most : length xs ≤ Layout.setting-value-offset + Limits.longest-setting key) where
   abbrev here : ℕ
   here = Layout.setting-offset key
 
-  other-setting : (j : ℕ) → SettingsKey j → (j ≡ key → ⊥) → settingOf (overlay here xs s) (Layout.setting-offset j) ≡ settingOf s (Layout.setting-offset j)
+  other-setting : (j : ℕ) → SettingsKey j → (j ≡ key → ⊥)
+      → settingOf (overlay here xs s) (Layout.setting-offset j) ≡ settingOf s (Layout.setting-offset j)
   other-setting j i n = by (setting-lies j key i k)
     where
       room : here + length xs ≤ length s
@@ -163,7 +184,8 @@ module _ (s xs : List ℕ) (key : ℕ) (w : SettingsValid s) (k : SettingsKey ke
           setting-same same (Layout.setting-offset j) (Limits.longest-setting j) (w .each j i) (omega arith)
       by (inr (inl e)) = absurd (n e)
       by (inr (inr l)) =
-          let same : Same (here + length xs) (Layout.setting-offset j + Layout.setting-value-offset + Limits.longest-setting j) s (overlay here xs s)
+          let same : Same (here + length xs) (Layout.setting-offset j + Layout.setting-value-offset + Limits.longest-setting j) s
+          (overlay here xs s)
           = same-after here xs s (omega (arith, room)) (omega arith) in
           setting-same same (Layout.setting-offset j) (Limits.longest-setting j) (w .each j i) (omega arith)
 
@@ -212,13 +234,15 @@ module _ (s t : List ℕ) (n : ℕ) (v : SettingsValid t) (h : n < Saving.saved-
 
 -- of n saved keys
 cleared-setting : (s : List ℕ) → SettingsValid s → (n : ℕ) → n ≤ Saving.saved-count → (j : ℕ) → SettingsKey j
-    → settingOf (SavingCalls.cleared n s) (Layout.setting-offset j) ≡ cond (ltb j (Limits.first-setting + n)) unset (settingOf s (Layout.setting-offset j))
+    → settingOf (SavingCalls.cleared n s) (Layout.setting-offset j)
+    ≡ cond (ltb j (Limits.first-setting + n)) unset (settingOf s (Layout.setting-offset j))
 unfolding SavingCalls.cleared
 cleared-setting s w zero h j i = rw (le-ltb j (Limits.first-setting + 0) (omega (arith, i .lower)))
 cleared-setting s w (suc n) h j i =
     let e : Limits.first-setting + suc n ≡ suc (Limits.first-setting + n) = omega arith in
     rw e
-    (cleared-one s (SavingCalls.cleared n s) n (cleared-valid s w n (omega arith) .0) (omega arith) j i (cleared-setting s w n (omega arith) j i))
+    (cleared-one s (SavingCalls.cleared n s) n (cleared-valid s w n (omega arith) .0) (omega arith) j i
+    (cleared-setting s w n (omega arith) j i))
 
 -- ---- a record in its key's setting
 
@@ -233,20 +257,26 @@ module _ (e : SavedEntry) (a : Allowed e) (low : e .edition < 256 ^ 4) (s : List
       let room : at ≤ length s = omega (arith, offset-within (e .key) (a .its-key), w .long) in
       let short = longest-short (e .key) in
       let held = ap number (rw add-zero at (overlay-part at 0 1 xs s room (omega (arith, size)))) ∙ number-bytes 1 1 (omega arith) in
-      let edition = ap number (overlay-part at Layout.setting-edition-offset 4 xs s room (omega (arith, size))) ∙ number-bytes 4 (e .edition) low in
-      let n = ap number (overlay-part at Layout.setting-length-offset 2 xs s room (omega (arith, size))) ∙ number-bytes 2 (length v) (omega (arith, a .short)) in
+      let edition =
+      ap number (overlay-part at Layout.setting-edition-offset 4 xs s room (omega (arith, size))) ∙ number-bytes 4 (e .edition) low in
+      let n =
+      ap number (overlay-part at Layout.setting-length-offset 2 xs s room (omega (arith, size)))
+      ∙ number-bytes 2 (length v) (omega (arith, a .short)) in
       let value = overlay-part at Layout.setting-value-offset (length v) xs s room (omega (arith, size)) ∙ take-length v in
       rw (held, edition, n, value)
 
   put-setting : (j : ℕ) → SettingsKey j
-      → settingOf (SavingCalls.putEntry e s) (Layout.setting-offset j) ≡ cond (eqb (e .key) j) (entered e) (settingOf s (Layout.setting-offset j))
+      → settingOf (SavingCalls.putEntry e s) (Layout.setting-offset j)
+      ≡ cond (eqb (e .key) j) (entered e) (settingOf s (Layout.setting-offset j))
   put-setting j i = by (eqb (e .key) j) refl
     where
-      by : (t : Bool) → eqb (e .key) j ≡ t → settingOf (SavingCalls.putEntry e s) (Layout.setting-offset j) ≡ cond t (entered e) (settingOf s (Layout.setting-offset j))
+      by : (t : Bool) → eqb (e .key) j ≡ t
+          → settingOf (SavingCalls.putEntry e s) (Layout.setting-offset j) ≡ cond t (entered e) (settingOf s (Layout.setting-offset j))
       by true f = rw (← eqb-true (e .key) j f) entered-here
       by false f =
           let size = length-setting (e .edition) (e .value) in
-          other-setting s (Layout.settingBytes (e .edition) (e .value)) (e .key) w (a .its-key) (omega (arith, a .short)) j i (λ g. eqb-false (e .key) j f (sym g))
+          other-setting s (Layout.settingBytes (e .edition) (e .value)) (e .key) w (a .its-key) (omega (arith, a .short)) j i
+          (λ g. eqb-false (e .key) j f (sym g))
 
 -- an edition of 32 bits
 abbrev Low : SavedEntry → Type 0
@@ -259,7 +289,9 @@ chosen key (e ∷ es) x = cond (eqb (e .key) key) (entered e) (chosen key es x)
 
 chosen-none : (key : ℕ) (es : List SavedEntry) (x : Setting) → Rising (suc key) es → chosen key es x ≡ x
 chosen-none key [] x r = refl
-chosen-none key (e ∷ es) x r = rw (ne-eqb (e .key) key (λ f. omega (arith, r .0, f))) (chosen-none key es x (rising-from (suc (e .key)) (suc key) es (omega (arith, r .0)) (r .3)))
+chosen-none key (e ∷ es) x r =
+    rw (ne-eqb (e .key) key (λ f. omega (arith, r .0, f)))
+    (chosen-none key es x (rising-from (suc (e .key)) (suc key) es (omega (arith, r .0)) (r .3)))
   where
     rising-from : (a b : ℕ) (es : List SavedEntry) → b ≤ a → Rising a es → Rising b es
     rising-from a b [] h r = tt
@@ -268,14 +300,16 @@ chosen-none key (e ∷ es) x r = rw (ne-eqb (e .key) key (λ f. omega (arith, r 
 -- no record has a key that is not saved
 chosen-above : (key from : ℕ) (es : List SavedEntry) (x : Setting) → Saving.highest-saved < key → Rising from es → chosen key es x ≡ x
 chosen-above key from [] x h r = refl
-chosen-above key from (e ∷ es) x h r = rw (ne-eqb (e .key) key (λ f. omega (arith, r .2, f))) (chosen-above key (suc (e .key)) es x h (r .3))
+chosen-above key from (e ∷ es) x h r =
+    rw (ne-eqb (e .key) key (λ f. omega (arith, r .2, f))) (chosen-above key (suc (e .key)) es x h (r .3))
 
 chosen-in : (key : ℕ) (es : List SavedEntry) → chosen key es unset ≡ Saving.settingIn key es
 unfolding Saving.settingIn
 chosen-in key [] = refl
 chosen-in key (e ∷ es) = rw (chosen-in key es)
 
-put-all-setting : (from : ℕ) (es : List SavedEntry) → Rising from es → Each Allowed es → Each Low es → (s : List ℕ) → SettingsValid s → (j : ℕ) → SettingsKey j
+put-all-setting : (from : ℕ) (es : List SavedEntry) → Rising from es → Each Allowed es → Each Low es → (s : List ℕ) → SettingsValid s
+    → (j : ℕ) → SettingsKey j
     → settingOf (SavingCalls.putEntries es s) (Layout.setting-offset j) ≡ chosen j es (settingOf s (Layout.setting-offset j))
 unfolding SavingCalls.putEntries
 put-all-setting from [] r a l s w j i = refl
@@ -284,7 +318,8 @@ put-all-setting from (e ∷ es) r a l s w j i =
     put-all-setting (suc (e .key)) es (r .3) (a .1) (l .1) (SavingCalls.putEntry e s) v j i
     ∙ rw (put-setting e (a .0) (l .0) s w j i) (by (eqb (e .key) j) refl)
   where
-    by : (t : Bool) → eqb (e .key) j ≡ t → let x = settingOf s (Layout.setting-offset j) in chosen j es (cond t (entered e) x) ≡ cond t (entered e) (chosen j es x)
+    by : (t : Bool) → eqb (e .key) j ≡ t
+        → let x = settingOf s (Layout.setting-offset j) in chosen j es (cond t (entered e) x) ≡ cond t (entered e) (chosen j es x)
     by true g = chosen-none j es (entered e) (rw (eqb-true (e .key) j g) at (r .3))
     by false g = refl
 
@@ -301,13 +336,16 @@ replaced-listed zero es f h = listed-same _ _ Limits.setting-count (λ i l. rw (
 replaced-listed (suc n) es f h =
     let k : Limits.first-setting + n - Limits.first-setting ≡ n = omega arith in
     rw (replaced-listed n es f (omega arith), k)
-    (sym (listed-set (mixed n es f) (mixed (suc n) es f) (Saving.settingIn (Limits.first-setting + n) es) Limits.setting-count n (omega arith)
+    (sym
+    (listed-set (mixed n es f) (mixed (suc n) es f) (Saving.settingIn (Limits.first-setting + n) es) Limits.setting-count n (omega arith)
     (rw (lt-ltb n (suc n) (omega arith)))
     (λ j l m. rw (← below-next j n m))))
 
-module _ (s : List ℕ) (w : SettingsValid s) (es : List SavedEntry) (from : ℕ) (r : Rising from es) (a : Each Allowed es) (low : Each Low es) where
+module _ (s : List ℕ) (w : SettingsValid s) (es : List SavedEntry) (from : ℕ) (r : Rising from es) (a : Each Allowed es)
+    (low : Each Low es) where
   left-setting : (i : ℕ) → i < Limits.setting-count → let at = Layout.setting-offset (Limits.first-setting + i) in
-      settingOf (SavingCalls.putEntries es (SavingCalls.cleared Saving.saved-count s)) at ≡ mixed Saving.saved-count es (λ i. settingOf s (Layout.setting-offset (Limits.first-setting + i))) i
+      settingOf (SavingCalls.putEntries es (SavingCalls.cleared Saving.saved-count s)) at
+      ≡ mixed Saving.saved-count es (λ i. settingOf s (Layout.setting-offset (Limits.first-setting + i))) i
   left-setting i l =
       let j = Limits.first-setting + i in
       let k : SettingsKey j = record { lower = omega arith; upper = omega arith } in
@@ -317,14 +355,16 @@ module _ (s : List ℕ) (w : SettingsValid s) (es : List SavedEntry) (from : ℕ
       by : (t : Bool) → ltb i Saving.saved-count ≡ t → let j = Limits.first-setting + i in let x = settingOf s (Layout.setting-offset j) in
           chosen j es (cond (ltb j (Limits.first-setting + Saving.saved-count)) unset x) ≡ cond t (Saving.settingIn j es) x
       by true e =
-          rw (lt-ltb (Limits.first-setting + i) (Limits.first-setting + Saving.saved-count) (omega (arith, ltb-true i Saving.saved-count e)))
+          rw
+          (lt-ltb (Limits.first-setting + i) (Limits.first-setting + Saving.saved-count) (omega (arith, ltb-true i Saving.saved-count e)))
           (chosen-in (Limits.first-setting + i) es)
       by false e =
           let high = ltb-false i Saving.saved-count e in
           rw (le-ltb (Limits.first-setting + i) (Limits.first-setting + Saving.saved-count) (omega arith))
           (chosen-above (Limits.first-setting + i) from es _ (omega arith) r)
 
-  pub restored-meant : settingsOf (SavingCalls.putEntries es (SavingCalls.cleared Saving.saved-count s)) ≡ Saving.restoredSettings es (settingsOf s)
+  pub restored-meant : settingsOf (SavingCalls.putEntries es (SavingCalls.cleared Saving.saved-count s))
+      ≡ Saving.restoredSettings es (settingsOf s)
   unfolding settingsOf
   restored-meant =
       listed-same _ _ Limits.setting-count left-setting

@@ -22,7 +22,8 @@ use Rattle.supervisor.specs.Valid.{SettingValid, SettingsValid}
 use Rattle.responder.specs.Requests
 use Rattle.responder.specs.Receive
 use Rattle.responder.proofs.RecordLaws.{length-right}
-use Rattle.responder.proofs.KeptLaws.{length-setting, setting-before, setting-after, setting-held, setting-edition, setting-size, setting-value, value-room, value-small}
+use Rattle.responder.proofs.KeptLaws.{length-setting, setting-before, setting-after, setting-held, setting-edition, setting-size}
+use Rattle.responder.proofs.KeptLaws.{setting-value, value-room, value-small}
 use Rattle.supervisor_claims.specs.View.{settingOf, settingsOf}
 use Rattle.supervisor_claims.proofs.laws.ViewLaws.{listed-set, listed-at}
 use Rattle.supervisor_claims.proofs.laws.PartLaws.{Like, like-itself, like-put, each-number}
@@ -59,12 +60,14 @@ setting-same {s} same at longest v h =
       same .runs (at + Layout.setting-value-offset) (Layout.settingLength s at) (omega arith),
     )
 
-module _ (s v : List ℕ) (at : ℕ) (room : at + (Layout.setting-value-offset + length v) ≤ length s) {bt shortest longest : ℕ} (valid : SettingValid s bt shortest longest) where
+module _ (s v : List ℕ) (at : ℕ) (room : at + (Layout.setting-value-offset + length v) ≤ length s) {bt shortest longest : ℕ}
+    (valid : SettingValid s bt shortest longest) where
   before-value : bt + Layout.setting-value-offset + longest ≤ at → settingOf (Receive.withValue s at v) bt ≡ settingOf s bt
   before-value h = setting-same (setting-before s v at room {from = bt} h) bt longest valid (omega arith)
 
   after-value : at + (Layout.setting-value-offset + length v) ≤ bt → settingOf (Receive.withValue s at v) bt ≡ settingOf s bt
-  after-value h = setting-same (setting-after s v at room {to = bt + Layout.setting-value-offset + longest} h) bt longest valid (omega arith)
+  after-value h =
+      setting-same (setting-after s v at room {to = bt + Layout.setting-value-offset + longest} h) bt longest valid (omega arith)
 
 -- ---- what a store does and answers is what the meaning has
 
@@ -86,7 +89,8 @@ module _ (s v : List ℕ) (w : SettingsValid s) (held : Each Byte s) (each : Eac
   stored-at : (at shortest longest : ℕ) (x : Settings) → at + (Layout.setting-value-offset + longest) ≤ Layout.settings-length
       → (length v ≤ longest → Layout.settingEdition s at < Limits.last-edition → settingsOf (Receive.withValue s at v) ≡ x)
       → Stores s (Receive.storeBytesAt s at shortest longest v)
-      (cond (ltb (length v) shortest || ltb longest (length v)) (storedWith 3 (settingsOf s)) (cond (eqb (Layout.settingEdition s at) Limits.last-edition) (storedWith 4 (settingsOf s)) (storedWith 0 x)))
+      (cond (ltb (length v) shortest || ltb longest (length v)) (storedWith 3 (settingsOf s))
+      (cond (eqb (Layout.settingEdition s at) Limits.last-edition) (storedWith 4 (settingsOf s)) (storedWith 0 x)))
   unfolding Receive.storeBytesAt Receive.withValue
   stored-at at shortest longest x h e =
       cond-both (Stores s) (ltb (length v) shortest || ltb longest (length v)) (λ f. unstored 3 (omega arith)) (λ f.
@@ -118,7 +122,8 @@ module _ (s v : List ℕ) (w : SettingsValid s) (held : Each Byte s) (each : Eac
     unfolding settingsOf
     settings-put =
         let e : Limits.first-setting + (key - Limits.first-setting) ≡ key = omega (arith, h) in
-        listed-set _ _ (next (Layout.settingEdition s (Layout.setting-offset key)) v) Limits.setting-count (key - Limits.first-setting) (omega (arith, h))
+        listed-set _ _ (next (Layout.settingEdition s (Layout.setting-offset key)) v) Limits.setting-count (key - Limits.first-setting)
+        (omega (arith, h))
         (rw e (put-setting s v (Layout.setting-offset key) (value-room s v w key h short) (value-small s v w key h short) low))
         (λ j l n.
         let i : Limits.SettingsKey (Limits.first-setting + j) = record { lower = omega arith; upper = omega arith } in
@@ -129,5 +134,6 @@ module _ (s v : List ℕ) (w : SettingsValid s) (held : Each Byte s) (each : Eac
   storing-stored key =
       cond-both (Stores s) (ltb Limits.highest-key key) (λ e. unstored 1 (omega arith)) (λ e.
       cond-both (Stores s) (ltb key Limits.first-setting) (λ f. unstored 2 (omega arith)) (λ f.
-      let h : Limits.SettingsKey key = record { lower = ltb-false key Limits.first-setting f; upper = ltb-false Limits.highest-key key e } in
+      let h : Limits.SettingsKey key =
+      record { lower = ltb-false key Limits.first-setting f; upper = ltb-false Limits.highest-key key e } in
       rw (setting-is s key h) (stored-at _ _ _ _ (offset-within key h) (settings-put key h))))

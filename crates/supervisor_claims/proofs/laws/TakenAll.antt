@@ -83,7 +83,8 @@ unfolding replies afterFrames
 replies-append image s [] gs = refl
 replies-append image s (f ∷ fs) gs = rw (replies-append image (afterFrame image s f) fs gs, append-assoc)
 
-after-append : (image : List ℕ) (s : State) (fs gs : List (List ℕ)) → afterFrames image s (fs ++ gs) ≡ afterFrames image (afterFrames image s fs) gs
+after-append : (image : List ℕ) (s : State) (fs gs : List (List ℕ))
+    → afterFrames image s (fs ++ gs) ≡ afterFrames image (afterFrames image s fs) gs
 unfolding afterFrames
 after-append image s [] gs = refl
 after-append image s (f ∷ fs) gs = after-append image (afterFrame image s f) fs gs
@@ -98,7 +99,10 @@ frame-quiet : (image : List ℕ) (s : State) (f : List ℕ) → Quiet s → Quie
 unfolding afterFrame
 frame-quiet image s f q =
     let d = done-lined image s (s .received) (s .pending) (s .terminator-owed) (verdict f) in
-    record { pending = ap (λ (x : State). x .pending) d ∙ q .pending; terminator-owed = ap (λ (x : State). x .terminator-owed) d ∙ q .terminator-owed }
+    record {
+      pending = ap (λ (x : State). x .pending) d ∙ q .pending;
+      terminator-owed = ap (λ (x : State). x .terminator-owed) d ∙ q .terminator-owed;
+    }
 
 frames-quiet : (image : List ℕ) (s : State) (fs : List (List ℕ)) → Quiet s → Quiet (afterFrames image s fs)
 unfolding afterFrames
@@ -122,7 +126,8 @@ unfolding replyFrame lastNonZero
 reply-last none = refl
 reply-last (some r) = frame-last (record { version = r .version; sequence = r .sequence; command = r .command; payload = r .payload })
 
-took-is : (s : State) → tookAll s ≡ record { taken = s .pending; state = lined s (s .received) [] (lastNonZero (s .terminator-owed) (s .pending)) }
+took-is : (s : State)
+    → tookAll s ≡ record { taken = s .pending; state = lined s (s .received) [] (lastNonZero (s .terminator-owed) (s .pending)) }
 took-is s = rw (all-taken s, after-all s)
 
 quiet-taken : (s : State) (r : Option (List ℕ)) → Quiet s → tookAll (withReceived s r) ≡ record { taken = []; state = withReceived s r }
@@ -130,12 +135,15 @@ unfolding lastNonZero
 quiet-taken s r q = took-is (withReceived s r) ∙ rw (q .pending, q .terminator-owed)
 
 reply-taken : (s : State) (r : Option (List ℕ)) (terminator-owed : Bool) (reply : Option Reply) → Quiet s → terminator-owed ≡ false
-    → tookAll (lined s r (owed terminator-owed ++ replyFrame reply) terminator-owed) ≡ record { taken = replyFrame reply; state = withReceived s r }
-reply-taken s r terminator-owed reply q e = rw e (took-is (lined s r (replyFrame reply) false) ∙ rw (reply-last reply, q .pending, q .terminator-owed))
+    → tookAll (lined s r (owed terminator-owed ++ replyFrame reply) terminator-owed)
+    ≡ record { taken = replyFrame reply; state = withReceived s r }
+reply-taken s r terminator-owed reply q e =
+    rw e (took-is (lined s r (replyFrame reply) false) ∙ rw (reply-last reply, q .pending, q .terminator-owed))
 
 module _ (image : List ℕ) (s : State) (q : Quiet s) where
   judged-taken : (r : Option (List ℕ)) (f : List ℕ)
-      → tookAll (withReceived (afterVerdict image s (verdict f)) r) ≡ record { taken = replyFrame (replyToFrame image s f); state = withReceived (afterFrame image s f) r }
+      → tookAll (withReceived (afterVerdict image s (verdict f)) r)
+      ≡ record { taken = replyFrame (replyToFrame image s f); state = withReceived (afterFrame image s f) r }
   unfolding afterFrame replyToFrame
   judged-taken r f =
       ap (λ (x : State). tookAll (withReceived x r)) (judged-is image s (verdict f))
@@ -149,7 +157,9 @@ module _ (image : List ℕ) (s : State) (q : Quiet s) where
   cycle-close (b ∷ bs) = ap tookAll (closed-framed image s (b ∷ bs)) ∙ rw append-nil (judged-taken (some []) (b ∷ bs))
 
   -- any other byte
-  cycle-more : (bs : List ℕ) (b : ℕ) → cycle image (withReceived s (progressOf bs)) (suc b) ≡ record { taken = []; state = withReceived s (progressOf (bs ++ (suc b ∷ []))) }
+  cycle-more : (bs : List ℕ) (b : ℕ)
+      → cycle image (withReceived s (progressOf bs)) (suc b)
+      ≡ record { taken = []; state = withReceived s (progressOf (bs ++ (suc b ∷ []))) }
   unfolding cycle receiveByte
   cycle-more bs b = rw (eqb·suc-zero, more-tail bs (suc b)) (quiet-taken s (progressOf (bs ++ (suc b ∷ []))) q)
 
@@ -185,10 +195,12 @@ module _ (image : List ℕ) (s : State) (q : Quiet s) where
   session-replied (c ∷ cs) bs =
       let t = cycle image (repliedTo bs .state) c in
       rw (← append-assoc (repliedTo bs .taken) (t .taken) (session image (t .state) cs .taken))
-      (ap (λ (x : Session). joined x (session image (x .state) cs)) (cycle-replied bs c) ∙ session-replied cs (bs ++ (c ∷ [])) ∙ rw append-snoc)
+      (ap (λ (x : Session). joined x (session image (x .state) cs)) (cycle-replied bs c) ∙ session-replied cs (bs ++ (c ∷ []))
+      ∙ rw append-snoc)
 
 -- what is taken is the replies to the frames that are not empty, in order, and the state is as those frames leave it, with nothing pending
-module _ (image : List ℕ) (s : State) (bs : List ℕ) (idle : s .received ≡ some []) (pending : s .pending ≡ []) (terminator-owed : s .terminator-owed ≡ false) where
+module _ (image : List ℕ) (s : State) (bs : List ℕ) (idle : s .received ≡ some []) (pending : s .pending ≡ [])
+    (terminator-owed : s .terminator-owed ≡ false) where
   all-replied : session image s bs ≡ record {
     taken = replies image s (nonEmpty (split bs .closed));
     state = withReceived (afterFrames image s (nonEmpty (split bs .closed))) (progressOf (split bs .rest));

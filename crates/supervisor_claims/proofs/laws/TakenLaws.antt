@@ -71,7 +71,8 @@ firstBytes r = cond (eqb (Layout.alertCount r) 0) (replicate 3 0) (run Layout.al
 
 -- the registers before the status is stored
 abbrev counted : List ℕ → ℕ → ℕ → List ℕ
-counted r version sequence = overlay Layout.alert-count-offset (bytes 1 (Layout.alertCount r - 1)) (Receive.movedAlerts (Receive.withReply r version sequence))
+counted r version sequence =
+    overlay Layout.alert-count-offset (bytes 1 (Layout.alertCount r - 1)) (Receive.movedAlerts (Receive.withReply r version sequence))
 
 abbrev statusThen : List ℕ → ℕ
 statusThen r = cond (leb (Layout.alertCount r) 1) (Requests.clearBit (Layout.statusOf r) 1) (Layout.statusOf r)
@@ -94,7 +95,8 @@ module _ (r : List ℕ) (version sequence : ℕ) (w : RegistersValid r) where
   retained-like : Like r (Receive.withReply r version sequence)
   unfolding Receive.withReply
   retained-like =
-      like-put Layout.retained-offset (retainedBytes version sequence (firstBytes r)) r (omega (arith, first-long, length-retained version sequence (firstBytes r)))
+      like-put Layout.retained-offset (retainedBytes version sequence (firstBytes r)) r
+      (omega (arith, first-long, length-retained version sequence (firstBytes r)))
       (λ b. each-number 1 version _ (each-number 8 sequence _ (first-bytes b)))
 
   retained-long : Layout.registers-length ≤ length (Receive.withReply r version sequence)
@@ -104,8 +106,8 @@ module _ (r : List ℕ) (version sequence : ℕ) (w : RegistersValid r) where
   unfolding Receive.movedAlerts
   moved-like =
       let s = Receive.withReply r version sequence in
-      like-put Layout.alerts-offset (run (Layout.alert-offset 1) rest-length s) s (omega (arith, length-rest s retained-long, retained-long))
-      (each-run (Layout.alert-offset 1) rest-length s)
+      like-put Layout.alerts-offset (run (Layout.alert-offset 1) rest-length s) s
+      (omega (arith, length-rest s retained-long, retained-long)) (each-run (Layout.alert-offset 1) rest-length s)
 
   counted-like : Like r (counted r version sequence)
   counted-like =
@@ -114,7 +116,8 @@ module _ (r : List ℕ) (version sequence : ℕ) (w : RegistersValid r) where
 
   pub taken-like : Like r (Receive.withTaken r version sequence)
   unfolding Receive.withTaken
-  taken-like = like-then counted-like (like-stored 8 Layout.status-offset _ (counted r version sequence) (omega (arith, counted-like .long)))
+  taken-like =
+      like-then counted-like (like-stored 8 Layout.status-offset _ (counted r version sequence) (omega (arith, counted-like .long)))
 
   -- ---- what stays
 
@@ -122,7 +125,8 @@ module _ (r : List ℕ) (version sequence : ℕ) (w : RegistersValid r) where
   counted-room = omega (arith, retained-long, moved-like .long)
 
   -- the alerts and the retained reply
-  counted-after : Same Layout.alerts-offset Layout.registers-length (Receive.movedAlerts (Receive.withReply r version sequence)) (counted r version sequence)
+  counted-after : Same Layout.alerts-offset Layout.registers-length (Receive.movedAlerts (Receive.withReply r version sequence))
+      (counted r version sequence)
   counted-after = stored-after 1 Layout.alert-count-offset _ _ (omega (arith, counted-room)) (omega arith)
 
   taken-after : Same Layout.options-offset Layout.registers-length (counted r version sequence) (Receive.withTaken r version sequence)
@@ -134,9 +138,11 @@ module _ (r : List ℕ) (version sequence : ℕ) (w : RegistersValid r) where
   front =
       same-then (retained-before r version sequence (w .long) (omega arith))
       (same-then (moved-before (Receive.withReply r version sequence) retained-long (omega arith))
-      (same-then (stored-before 1 Layout.alert-count-offset _ _ (omega (arith, counted-room)) (omega arith)) (same-within taken-after (omega arith))))
+      (same-then (stored-before 1 Layout.alert-count-offset _ _ (omega (arith, counted-room)) (omega arith))
+      (same-within taken-after (omega arith))))
 
-  slots : Same Layout.alerts-offset Layout.registers-length (Receive.movedAlerts (Receive.withReply r version sequence)) (Receive.withTaken r version sequence)
+  slots : Same Layout.alerts-offset Layout.registers-length (Receive.movedAlerts (Receive.withReply r version sequence))
+      (Receive.withTaken r version sequence)
   slots = same-then counted-after (same-within taken-after (omega arith))
 
   kept : Same Layout.retained-offset Layout.registers-length (Receive.withReply r version sequence) (Receive.withTaken r version sequence)
@@ -160,17 +166,20 @@ module _ (r : List ℕ) (version sequence : ℕ) (w : RegistersValid r) where
   valid-at : (i : ℕ) → i < Layout.alertCount r → Layout.alertTextLength r (Layout.alert-offset i) ≤ Limits.longest-alert
   valid-at i h = alert-valid r i (all-each (validAlert r) _ (w .rest .alerts) i h) .size
 
-  moved-down : (i : ℕ) → i + 1 < Limits.most-alerts → Moved Layout.alert-length (Layout.alert-offset (suc i)) (Layout.alert-offset i) r (Receive.withTaken r version sequence)
+  moved-down : (i : ℕ) → i + 1 < Limits.most-alerts
+      → Moved Layout.alert-length (Layout.alert-offset (suc i)) (Layout.alert-offset i) r (Receive.withTaken r version sequence)
   moved-down i h = record {
     runs = λ j n k.
         let e : i + 1 ≡ suc i = omega arith in
-        let before : Same 0 Layout.retained-offset r (Receive.withReply r version sequence) = retained-before r version sequence (w .long) (omega arith) in
+        let before : Same 0 Layout.retained-offset r (Receive.withReply r version sequence) =
+        retained-before r version sequence (w .long) (omega arith) in
         slots .runs (Layout.alert-offset i + j) n (omega arith)
         ∙ rw e at (moved-run (Receive.withReply r version sequence) retained-long i j n (omega arith) k)
         ∙ before .runs (Layout.alert-offset (suc i) + j) n (omega arith);
   }
 
-  taken-waiting : alertsOf (Receive.withTaken r version sequence) (Layout.alertCount r - 1) ≡ Requests.others (alertsOf r (Layout.alertCount r))
+  taken-waiting : alertsOf (Receive.withTaken r version sequence) (Layout.alertCount r - 1)
+      ≡ Requests.others (alertsOf r (Layout.alertCount r))
   taken-waiting =
       listed-same _ (λ i. alertOf r (Layout.alert-offset (suc i))) _ (λ i h.
       alert-moved (moved-down i (omega arith)) (valid-at (suc i) (omega arith)))
@@ -178,20 +187,24 @@ module _ (r : List ℕ) (version sequence : ℕ) (w : RegistersValid r) where
 
   -- ---- the retained reply
 
-  retained-run : (j n : ℕ) → j + n ≤ length (firstBytes r) → run (Layout.retained-alert-offset + j) n (Receive.withTaken r version sequence) ≡ run j n (firstBytes r)
+  retained-run : (j n : ℕ) → j + n ≤ length (firstBytes r)
+      → run (Layout.retained-alert-offset + j) n (Receive.withTaken r version sequence) ≡ run j n (firstBytes r)
   unfolding Receive.withReply
   retained-run j n h =
-      kept .runs (Layout.retained-alert-offset + j) n (omega (arith, first-long)) ∙ retaining-alert r version sequence (firstBytes r) (omega arith) j n h
+      kept .runs (Layout.retained-alert-offset + j) n (omega (arith, first-long))
+      ∙ retaining-alert r version sequence (firstBytes r) (omega arith) j n h
 
   none-taken : Layout.alertCount r ≡ 0 → alertOf (Receive.withTaken r version sequence) Layout.retained-alert-offset ≡ Requests.oldest []
   unfolding alertOf number Requests.oldest
   none-taken e =
       let f = eq-eqb (Layout.alertCount r) 0 e in
-      let part : (j n : ℕ) → j + n ≤ 3 → run (Layout.retained-alert-offset + j) n (Receive.withTaken r version sequence) ≡ run j n (replicate 3 0)
+      let part : (j n : ℕ) → j + n ≤ 3
+      → run (Layout.retained-alert-offset + j) n (Receive.withTaken r version sequence) ≡ run j n (replicate 3 0)
       = λ j n h. rw f at (retained-run j n (rw f h)) in
       rw (rw add-zero at (part 0 2 (omega arith)), part 2 1 (omega arith))
 
-  first-taken : (Layout.alertCount r ≡ 0 → ⊥) → alertOf (Receive.withTaken r version sequence) Layout.retained-alert-offset ≡ alertOf r (Layout.alert-offset 0)
+  first-taken : (Layout.alertCount r ≡ 0 → ⊥)
+      → alertOf (Receive.withTaken r version sequence) Layout.retained-alert-offset ≡ alertOf r (Layout.alert-offset 0)
   first-taken e =
       let f = ne-eqb (Layout.alertCount r) 0 e in
       let size = length-run Layout.alerts-offset Layout.alert-length r (omega arith) in
@@ -201,17 +214,20 @@ module _ (r : List ℕ) (version sequence : ℕ) (w : RegistersValid r) where
       } in
       alert-moved moved (valid-at 0 (omega arith))
 
-  oldest-taken : (n : ℕ) → Layout.alertCount r ≡ n → alertOf (Receive.withTaken r version sequence) Layout.retained-alert-offset ≡ Requests.oldest (alertsOf r n)
+  oldest-taken : (n : ℕ) → Layout.alertCount r ≡ n
+      → alertOf (Receive.withTaken r version sequence) Layout.retained-alert-offset ≡ Requests.oldest (alertsOf r n)
   unfolding tabulated Requests.oldest
   oldest-taken zero e = none-taken e
   oldest-taken (suc n) e = rw (listed-first (λ i. alertOf r (Layout.alert-offset i)) n) (first-taken (λ f. omega arith))
 
   taken-version : version < 256 → Layout.retainedVersion (Receive.withTaken r version sequence) ≡ version
   unfolding Receive.withReply
-  taken-version small = number-same kept 1 Layout.retained-offset (omega arith) ∙ retaining-version r version sequence (firstBytes r) (omega arith) small
+  taken-version small =
+      number-same kept 1 Layout.retained-offset (omega arith) ∙ retaining-version r version sequence (firstBytes r) (omega arith) small
 
   taken-retained : (version ≡ 0 → ⊥) → version < 256 → sequence < 2 ^ 64
-      → retainedOf (Receive.withTaken r version sequence) ≡ some (record { version = version; sequence = sequence; alert = Requests.oldest (alertsOf r (Layout.alertCount r)) })
+      → retainedOf (Receive.withTaken r version sequence)
+      ≡ some (record { version = version; sequence = sequence; alert = Requests.oldest (alertsOf r (Layout.alertCount r)) })
   unfolding retainedOf Receive.withReply
   taken-retained positive small h =
       let zs = firstBytes r in
@@ -224,7 +240,8 @@ module _ (r : List ℕ) (version sequence : ℕ) (w : RegistersValid r) where
 
 -- ---- the reply's data
 
-retained-data : (s : List ℕ) → Layout.registers-length ≤ length s → Layout.alertTextLength s Layout.retained-alert-offset ≤ Limits.longest-alert → Each Byte s
+retained-data : (s : List ℕ) → Layout.registers-length ≤ length s
+    → Layout.alertTextLength s Layout.retained-alert-offset ≤ Limits.longest-alert → Each Byte s
     → Receive.retainedData s ≡ Requests.alertData (alertOf s Layout.retained-alert-offset)
 unfolding alertOf
 retained-data s long h b =
@@ -236,7 +253,9 @@ retained-data s long h b =
 -- registers that hold what a request leaves, and the version and the alert of its reply
 pub record Asked (p : Calls.Parts) (s : List ℕ) (c : Requests.Carried) : Type 0 where
   pub state : view (withRegisters p s) ≡ c .state
-  pub reply : c .reply ≡ some (record { version = Layout.retainedVersion s; command = 0x07; payload = Requests.alertData (alertOf s Layout.retained-alert-offset) })
+  pub reply : c .reply
+      ≡ some
+      (record { version = Layout.retainedVersion s; command = 0x07; payload = Requests.alertData (alertOf s Layout.retained-alert-offset) })
   pub like : Like (p .registers) s
 
 module _ (p : Calls.Parts) (v : Valid p) (version sequence : ℕ) (is : Requests.versionServed version ≡ true) (h : sequence < 2 ^ 64) where
@@ -250,7 +269,8 @@ module _ (p : Calls.Parts) (v : Valid p) (version sequence : ℕ) (is : Requests
       let r = p .registers in
       let w = registers-valid r (v .registers) in
       let same = front r version sequence w in
-      let status : Layout.statusOf (Receive.withTaken r version sequence) ≡ Requests.statusAfter (Layout.statusOf r) (Requests.others (alertsOf r (Layout.alertCount r)))
+      let status : Layout.statusOf (Receive.withTaken r version sequence)
+      ≡ Requests.statusAfter (Layout.statusOf r) (Requests.others (alertsOf r (Layout.alertCount r)))
       = taken-status r version sequence w ∙ rw length-listed at (status-after (Layout.statusOf r) (alertsOf r (Layout.alertCount r))) in
       record {
         state = rw (
@@ -272,19 +292,24 @@ module _ (p : Calls.Parts) (v : Valid p) (version sequence : ℕ) (is : Requests
   by-retained : (t : Bool) (n : ℕ) → let r = p .registers in
       let a = alertOf r Layout.retained-alert-offset in
       Asked p (cond (not t && eqb n sequence) r (Receive.withTaken r version sequence))
-      (Requests.alertAsked version (view p) sequence (cond t none (some (record { version = Layout.retainedVersion r; sequence = n; alert = a }))))
+      (Requests.alertAsked version (view p) sequence
+      (cond t none (some (record { version = Layout.retainedVersion r; sequence = n; alert = a }))))
   unfolding Requests.alertAsked
-  by-retained false n = cond-both (Asked p) (eqb n sequence) (λ e. record { state = refl; reply = refl; like = like-itself (p .registers) }) (λ e. taken)
+  by-retained false n =
+      cond-both (Asked p) (eqb n sequence) (λ e. record { state = refl; reply = refl; like = like-itself (p .registers) }) (λ e. taken)
   by-retained true n = taken
 
-  pub alert-asked : Asked p (Receive.alertRegisters (p .registers) version sequence) (Requests.alertAsked version (view p) sequence (view p .retained))
+  pub alert-asked : Asked p (Receive.alertRegisters (p .registers) version sequence)
+      (Requests.alertAsked version (view p) sequence (view p .retained))
   unfolding Receive.alertRegisters Receive.isRetained view retainedOf
   alert-asked = by-retained (eqb (Layout.retainedVersion (p .registers)) 0) (numberAt 8 (p .registers) Layout.retained-sequence-offset)
 
   pub alert-reply : Each Byte (p .registers) → let s = Receive.alertRegisters (p .registers) version sequence in
-      Requests.alertAsked version (view p) sequence (view p .retained) .reply ≡ some (record { version = Layout.retainedVersion s; command = 0x07; payload = Receive.retainedData s })
+      Requests.alertAsked version (view p) sequence (view p .retained) .reply
+      ≡ some (record { version = Layout.retainedVersion s; command = 0x07; payload = Receive.retainedData s })
   alert-reply b =
       let r = p .registers in
       let s = settled r version sequence (v .registers) refl in
       let w = registers-valid r (v .registers) in
-      rw (retained-data (Receive.alertRegisters r version sequence) (omega arith) (s .text) (alert-asked .like .bytes b)) (alert-asked .reply)
+      rw (retained-data (Receive.alertRegisters r version sequence) (omega arith) (s .text) (alert-asked .like .bytes b))
+      (alert-asked .reply)

@@ -42,10 +42,16 @@ module _ {A : Type 0} where
   listed-at f d (suc n) (suc i) h = rw (listed-first f n) (listed-at (λ j. f (suc j)) d n i (omega arith))
 
   -- one value is another
-  pub listed-set : (f g : ℕ → A) (x : A) (n i : ℕ) → i < n → g i ≡ x → ((j : ℕ) → j < n → (j ≡ i → ⊥) → g j ≡ f j) → tabulated g n ≡ set (tabulated f n) i x
+  pub listed-set : (f g : ℕ → A) (x : A) (n i : ℕ) → i < n → g i ≡ x → ((j : ℕ) → j < n → (j ≡ i → ⊥) → g j ≡ f j)
+      → tabulated g n ≡ set (tabulated f n) i x
   listed-set f g x zero i h e k = absurd (omega arith)
   listed-set f g x (suc n) zero h e k =
-      rw (listed-first f n, listed-first g n, e, listed-same (λ j. g (suc j)) (λ j. f (suc j)) n (λ j l. k (suc j) (omega arith) (λ m. omega (arith, m))))
+      rw (
+        listed-first f n,
+        listed-first g n,
+        e,
+        listed-same (λ j. g (suc j)) (λ j. f (suc j)) n (λ j l. k (suc j) (omega arith) (λ m. omega (arith, m))),
+      )
   listed-set f g x (suc n) (suc i) h e k =
       rw (
         listed-first f n,
@@ -88,8 +94,8 @@ module _ (s t : List ℕ) (same : take Layout.start-length s ≡ take Layout.sta
   value-same : (k at : ℕ) → at + k ≤ Layout.start-length → numberAt k s at ≡ numberAt k t at
   value-same k at h = number-same (same-first Layout.start-length t s same) k at (omega arith)
 
-  item-same : (i : ℕ) → i < Limits.most-items → numberAt 1 t (Layout.item-offset i + Layout.item-data-length-offset) ≤ Limits.longest-item-data
-      → itemAt s i ≡ itemAt t i
+  item-same : (i : ℕ) → i < Limits.most-items
+      → numberAt 1 t (Layout.item-offset i + Layout.item-data-length-offset) ≤ Limits.longest-item-data → itemAt s i ≡ itemAt t i
   unfolding itemAt
   item-same i l h =
       let at = Layout.item-offset i in

@@ -10,7 +10,8 @@ use denote.Ref.{now}
 use Rattle.line.specs.declared.cobs.Measured.the-variants.{Length}
 use Rattle.line.specs.Cobs.{uncobs}
 use Rattle.line.specs.Decoding.{one-if, measured}
-use Rattle.line.proofs.Decoding.{one-if-not, Counted, decodedOf, counted-start, counted-zero, counted-short, counted-last, counted-group, counted-ones, counted-end}
+use Rattle.line.proofs.Decoding.{one-if-not, Counted, decodedOf, counted-start, counted-zero, counted-short, counted-last}
+use Rattle.line.proofs.Decoding.{counted-group, counted-ones, counted-end}
 use Rattle.line.proofs.cobs.decoded_length.Statement.{statement}
 use Rattle.line.proofs.cobs.decoded_length.Tie as tie
 
@@ -46,7 +47,8 @@ loop-again c =
     let ones = c .before .alike .ensures (c .if1 .taken) in (
       omega (arith, ones .0),
       omega arith,
-      iteration .inv .2 ∙ counted-ones (now (start .args .s)) (start .args .n) (iteration .i) (iteration .full) (iteration .zero) (iteration .inv .1) 32
+      iteration .inv .2
+          ∙ counted-ones (now (start .args .s)) (start .args .n) (iteration .i) (iteration .full) (iteration .zero) (iteration .inv .1) 32
           (omega arith) (ones .0) (ones .1),
     )
 
@@ -59,7 +61,8 @@ loop-again-2 c =
     let ones = c .before .alike2 .ensures (c .if2 .taken) in (
       omega (arith, ones .0),
       omega arith,
-      iteration .inv .2 ∙ counted-ones (now (start .args .s)) (start .args .n) (iteration .i) (iteration .full) (iteration .zero) (iteration .inv .1) 1
+      iteration .inv .2
+          ∙ counted-ones (now (start .args .s)) (start .args .n) (iteration .i) (iteration .full) (iteration .zero) (iteration .inv .1) 1
           (omega arith) (ones .0) (ones .1),
     )
 
@@ -110,7 +113,8 @@ loop-again-3 c =
       search needs,
       omega arith,
       rw (c .held .ensures .0) (iteration .inv .2
-          ∙ counted-group (now (start .args .s)) (start .args .n) (iteration .i) (iteration .full) (iteration .zero) (iteration .inv .1) (at-wide .wide .result)
+          ∙ counted-group (now (start .args .s)) (start .args .n) (iteration .i) (iteration .full) (iteration .zero) (iteration .inv .1)
+          (at-wide .wide .result)
           (in-loop .loop-test .taken) (start .pre) (at-wide .wide .ensures .0) (else3 .if3 .left) (at-call .before .if4 .left)
           (sym (c .before .if5 .left) ∙ at-call .last-one-after-full .ensures)),
     )
@@ -121,7 +125,8 @@ returns-4 c =
     let at-loop = c .before .before in
     let iteration = at-loop .loop in
     let start = start-from-loop at-loop in
-    let e : start .args .n - iteration .full - c .held2 .result ≡ decodedOf (iteration .i) (iteration .full) (iteration .zero) = omega arith in
+    let e : start .args .n - iteration .full - c .held2 .result ≡ decodedOf (iteration .i) (iteration .full) (iteration .zero) =
+    omega arith in
     ap Length e
     ∙ counted-end (now (start .args .s)) (start .args .n) (iteration .i) (iteration .zero) _ (c .before .loop-test .left) (start .pre)
     ∙ sym (iteration .inv .2)

@@ -7,7 +7,8 @@ use denote.Ref.{now}
 use native.Mathlib.Omega.{arith}
 use lib.ListN.{take}
 use Rattle.line.specs.Cobs.{cobs}
-use Rattle.line.proofs.Groups.{Met, Put, put-none, put-all, NextGroup, next-group, group-last, group-zero, group-full, next-group-put, Zeros, zeros-next, zeros-put}
+use Rattle.line.proofs.Groups.{Met, Put, put-none, put-all, NextGroup, next-group, group-last, group-zero, group-full}
+use Rattle.line.proofs.Groups.{next-group-put, Zeros, zeros-next, zeros-put}
 use Rattle.line.proofs.cobs.encode.Statement.{statement}
 use Rattle.line.proofs.cobs.encode.Tie as tie
 

@@ -26,7 +26,8 @@ returns-3 : tie.Need-returns-3
 returns-3 c =
     let at-get-count = c .before .before .before .before .before .before .before .before .before .before in
     let a = start at-get-count .args in
-    cc (append-some (now (a .state)) (now (a .piece)) (a .n) (omega arith, omega arith) (omega arith) (omega arith) (omega arith) (omega arith))
+    cc (append-some (now (a .state)) (now (a .piece)) (a .n) (omega arith, omega arith) (omega arith) (omega arith) (omega arith)
+    (omega arith))
 
 returns-4 : tie.Need-returns-4
 returns-4 c =

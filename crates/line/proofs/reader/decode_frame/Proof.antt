@@ -12,7 +12,8 @@ use Rattle.line.proofs.reader.decode_frame.Tie as tie
 returns : tie.Need-returns
 returns c =
     let a = c .before .before .before .before .before .args in
-    cc (rest-mid (now (a .state)) frame-offset, rest-overlay (now (a .state)) frame-offset (plain (run frame-offset (a .n) (now (a .state)))))
+    cc
+    (rest-mid (now (a .state)) frame-offset, rest-overlay (now (a .state)) frame-offset (plain (run frame-offset (a .n) (now (a .state)))))
 
 pub decode-frame-spec : {M : Type 1} → statement M
 decode-frame-spec =

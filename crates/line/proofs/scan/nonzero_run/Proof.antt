@@ -61,8 +61,10 @@ loop-again c =
     let at-min = min-of at-loop in
     let a = start at-min .args in
     let n = length-drop (a .from) (now (a .s)) in
-    let b = getD-drop (a .from) (now (a .s)) (l .k) 0 in
-    (search needs, l .inv .1 ∙ reached-more (at-min .min .result) (l .k) (drop (a .from) (now (a .s))) (omega arith) (omega arith) (omega arith))
+    let b = getD-drop (a .from) (now (a .s)) (l .k) 0 in (
+      search needs,
+      l .inv .1 ∙ reached-more (at-min .min .result) (l .k) (drop (a .from) (now (a .s))) (omega arith) (omega arith) (omega arith),
+    )
 
 returns-3 : tie.Need-returns-3 Inv-loop μ-loop
 returns-3 c =

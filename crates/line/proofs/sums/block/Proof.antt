@@ -37,7 +37,8 @@ add-requires-2 : tie.Need-add-requires-2 Inv-loop μ-loop
 add-requires-2 c κs =
     let l = loop-of (add-of c) .loop in
     let bytes = at-row (add-of c) .row in
-    second-addable (l .i) _ (bytes .result) (l .firsts) (l .seconds) (omega arith) (bytes .ensures .1) (bytes .ensures .2) (l .inv .1) _ (add-of c .add .ensures)
+    second-addable (l .i) _ (bytes .result) (l .firsts) (l .seconds) (omega arith) (bytes .ensures .1) (bytes .ensures .2) (l .inv .1) _
+    (add-of c .add .ensures)
 
 loop-again : tie.Need-loop-again Inv-loop μ-loop
 loop-again c =
@@ -59,8 +60,8 @@ returns c =
     let e : l .i ≡ column-rows = omega arith in (
       omega arith,
       omega arith,
-      summed-block (now (a .body)) (l .firsts) (l .seconds) (a .at) (a .sums .first) (a .sums .second) _ _ _ (start .pre .0) (omega arith) (omega arith)
-          (rw e at (l .inv .1)) (one .0 .0) (one .0 .1) (two .0 .0),
+      summed-block (now (a .body)) (l .firsts) (l .seconds) (a .at) (a .sums .first) (a .sums .second) _ _ _ (start .pre .0) (omega arith)
+          (omega arith) (rw e at (l .inv .1)) (one .0 .0) (one .0 .1) (two .0 .0),
     )
 
 pub block-spec : {M : Type 1} → statement M
@@ -71,5 +72,6 @@ block-spec =
     (λ c κs. let at-loop = c .before .before in at-loop .loop .inv .1 .first-length)
     (λ c κs. let at-loop = c .before .before .before .before in at-loop .loop .inv .1 .second-length) (λ c. search needs)
     (λ c. search needs) (λ c. search needs)
-    (λ c. search needs) (λ c. search needs) (λ c. search needs) (λ c. search needs) (λ c. search needs) (λ c. search needs) (λ c. search needs)
+    (λ c. search needs) (λ c. search needs) (λ c. search needs) (λ c. search needs) (λ c. search needs) (λ c. search needs)
+    (λ c. search needs)
     (λ c. search needs) returns)

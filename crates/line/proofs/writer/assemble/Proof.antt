@@ -46,7 +46,8 @@ returns c =
     let k : a .command < 256 = omega (arith, start .fits .command) in
     let n = start .pre .1 in (
       omega arith,
-      assembled _ _ _ _ _ _ k (start .pre .0) (omega arith) (magic .write-u32 .ensures) (version .write-u322 .ensures) (sequence .write-u64 .ensures)
+      assembled _ _ _ _ _ _ k (start .pre .0) (omega arith) (magic .write-u32 .ensures) (version .write-u322 .ensures)
+          (sequence .write-u64 .ensures)
           (head .copy .ensures) (rest .copy2 .ensures) (sum .checksum-of-first .ensures) (at-write-u16 c .write-u16 .ensures),
     )
 

@@ -32,7 +32,8 @@ longEnough c = ltb-true _ _ (sym (c .before .has-room .ensures) ∙ not-false _ 
 pub send-spec : {M : Type 1} → statement M
 send-spec =
     tie.close
-    (tie.spec (λ c κs. search needs) (λ c. let a = start (c .before) .args in send-refused (cobs (take (a .n) (now (a .m)))) _ refl (short c))
+    (tie.spec (λ c κs. search needs)
+    (λ c. let a = start (c .before) .args in send-refused (cobs (take (a .n) (now (a .m)))) _ refl (short c))
     (λ c κs. let r = longEnough (c .before) in search needs)
     (λ c. omega (arith, longEnough (else1 c), at-encode c .encode .ensures .1))
     (λ c. omega (arith, longEnough (else1 c), at-encode c .encode .ensures .1))

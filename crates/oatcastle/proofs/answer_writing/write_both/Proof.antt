@@ -9,7 +9,8 @@ returns-3 : tie.Need-returns-3
 returns-3 c =
     let copied = c .before .before .before .before .before .before in
     let tests = copied .before .before in
-    writingBoth-given _ _ (search needs) _ _ _ (tests .before .if1 .left) (tests .if2 .left) (copied .copy .ensures) (c .before .before .write-answer .ensures)
+    writingBoth-given _ _ (search needs) _ _ _ (tests .before .if1 .left) (tests .if2 .left) (copied .copy .ensures)
+    (c .before .before .write-answer .ensures)
 
 pub write-both-spec : {M : Type 1} → statement M
 write-both-spec =

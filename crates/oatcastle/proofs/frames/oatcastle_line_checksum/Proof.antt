@@ -13,4 +13,5 @@ returns c =
     rw (← at-checksum .checksum .ensures) (at-write-answer .write-answer .ensures)
 
 pub oatcastle-line-checksum-spec : {M : Type 1} → statement M
-oatcastle-line-checksum-spec = tie.close (tie.spec (λ c κs. search needs) (λ c. search needs) (λ c κs. search needs) (λ c. search needs) returns)
+oatcastle-line-checksum-spec =
+    tie.close (tie.spec (λ c κs. search needs) (λ c. search needs) (λ c κs. search needs) (λ c. search needs) returns)

@@ -21,7 +21,8 @@ returns-3 c =
     let read = called .before .before .before .before in
     let first = read .before .before .before in
     let tested = first .before in
-    read-given _ _ _ (passed _ _ (tested .is-valid .ensures) (first .if1 .left)) _ (search needs) (read .read .ensures) (called .answer-reading .ensures)
+    read-given _ _ _ (passed _ _ (tested .is-valid .ensures) (first .if1 .left)) _ (search needs) (read .read .ensures)
+    (called .answer-reading .ensures)
 
 pub oatcastle-line-read-spec : {M : Type 1} → statement M
 oatcastle-line-read-spec =

@@ -20,7 +20,12 @@ returns-2 c =
     let called = c .before .before in
     let arm = called .before .before .before .before .before in
     let asked = arm .before .before in
-    rw (← asked .flags .ensures, arm .read .given .1, ← byte-flag (arm .read .given .0 .0 .reboot), ← byte-flag (arm .read .given .0 .0 .«power_off»)) (called .write-answer .ensures)
+    rw (
+      ← asked .flags .ensures,
+      arm .read .given .1,
+      ← byte-flag (arm .read .given .0 .0 .reboot),
+      ← byte-flag (arm .read .given .0 .0 .«power_off»),
+    ) (called .write-answer .ensures)
 
 pub oatcastle-flags-spec : {M : Type 1} → statement M
 oatcastle-flags-spec =

@@ -17,7 +17,8 @@ returns-2 c =
     let at-write-answer = c .before .before in
     let handed = at-write-answer .before .before in
     let flags = handed .before .before in
-    rw (handed .enum-told2 .given .1, ← flags .flag-number2 .ensures, ← flags .before .flag-number .ensures) (at-write-answer .write-answer .ensures)
+    rw (handed .enum-told2 .given .1, ← flags .flag-number2 .ensures, ← flags .before .flag-number .ensures)
+    (at-write-answer .write-answer .ensures)
 
 returns-3 : tie.Need-returns-3
 unfolding handedReport receiptGiven
@@ -25,7 +26,8 @@ returns-3 c =
     let at-write-answer2 = c .before .before in
     let handed = at-write-answer2 .before .before .before .before in
     let flags = handed .before .before in
-    rw (handed .handed .given .1, ← flags .flag-number2 .ensures, ← flags .before .flag-number .ensures) (at-write-answer2 .write-answer2 .ensures)
+    rw (handed .handed .given .1, ← flags .flag-number2 .ensures, ← flags .before .flag-number .ensures)
+    (at-write-answer2 .write-answer2 .ensures)
 
 returns-4 : tie.Need-returns-4
 unfolding handedReport receiptGiven
@@ -33,7 +35,8 @@ returns-4 c =
     let at-write-answer3 = c .before .before in
     let handed = at-write-answer3 .before .before .before .before in
     let flags = handed .before .before in
-    rw (handed .handed2 .given .1, ← flags .flag-number2 .ensures, ← flags .before .flag-number .ensures) (at-write-answer3 .write-answer3 .ensures)
+    rw (handed .handed2 .given .1, ← flags .flag-number2 .ensures, ← flags .before .flag-number .ensures)
+    (at-write-answer3 .write-answer3 .ensures)
 
 returns-5 : tie.Need-returns-5
 unfolding handedReport receiptGiven
@@ -41,7 +44,8 @@ returns-5 c =
     let at-write-answer4 = c .before .before in
     let handed = at-write-answer4 .before .before .before .before in
     let flags = handed .before .before in
-    rw (handed .handed3 .given .1, ← flags .flag-number2 .ensures, ← flags .before .flag-number .ensures) (at-write-answer4 .write-answer4 .ensures)
+    rw (handed .handed3 .given .1, ← flags .flag-number2 .ensures, ← flags .before .flag-number .ensures)
+    (at-write-answer4 .write-answer4 .ensures)
 
 pub answer-received-spec : {M : Type 1} → statement M
 answer-received-spec =

@@ -48,7 +48,8 @@ returns-5 c =
     let answer = restored .before .before in
     let at-settings-are-valid = answer .before .before in
     let valid = passed _ _ (at-settings-are-valid .settings-are-valid .ensures) (answer .before .if1 .left) in
-    rw (overlay-one 0 _ _ (answer .if2 .left)) (restore-answered _ _ _ valid (c .before .restored .given .1) (answer .if2 .left) (restored .restore .ensures))
+    rw (overlay-one 0 _ _ (answer .if2 .left))
+    (restore-answered _ _ _ valid (c .before .restored .given .1) (answer .if2 .left) (restored .restore .ensures))
 
 pub oatcastle-restore-spec : {M : Type 1} → statement M
 oatcastle-restore-spec =

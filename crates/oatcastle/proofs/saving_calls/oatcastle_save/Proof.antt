@@ -20,7 +20,8 @@ returns-3 c =
     let called = c .before .before in
     let saved = called .before .before .before .before in
     let first = saved .before .before .before in
-    save-given _ _ _ (passed _ _ (first .before .settings-are-valid .ensures) (first .if1 .left)) _ (search needs) (saved .save .ensures) (called .answer-saved .ensures)
+    save-given _ _ _ (passed _ _ (first .before .settings-are-valid .ensures) (first .if1 .left)) _ (search needs) (saved .save .ensures)
+    (called .answer-saved .ensures)
 
 pub oatcastle-save-spec : {M : Type 1} → statement M
 oatcastle-save-spec =

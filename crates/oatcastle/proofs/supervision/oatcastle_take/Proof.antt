@@ -21,7 +21,8 @@ returns-3 c =
     let taken = called .before .before .before .before .before .before in
     let first = taken .before .before .before .before in
     let tested = first .before in
-    take-given _ _ _ (passed _ _ (tested .outbox-is-valid .ensures) (first .if1 .left)) _ (search needs) (taken .take .ensures) (called .answer-taken .ensures)
+    take-given _ _ _ (passed _ _ (tested .outbox-is-valid .ensures) (first .if1 .left)) _ (search needs) (taken .take .ensures)
+    (called .answer-taken .ensures)
 
 pub oatcastle-take-spec : {M : Type 1} → statement M
 oatcastle-take-spec =

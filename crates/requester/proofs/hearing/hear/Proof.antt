@@ -30,7 +30,9 @@ returns-3 c =
     let if1 = if2 .before .before in
     let start = if1 .before .before in
     let e = ap (λ (n : ReplyNumber). n .0) (reply-to .reply-to .ensures) in
-    λ d. sym (hear-failure _ (headMessage (start .args .head) d) (if1 .if1 .left) (if2 .if2 .left) (rw e at (sym (fails-decode .fails-decode .ensures) ∙ c .if3 .taken)))
+    λ d.
+    sym (hear-failure _ (headMessage (start .args .head) d) (if1 .if1 .left) (if2 .if2 .left)
+    (rw e at (sym (fails-decode .fails-decode .ensures) ∙ c .if3 .taken)))
 
 returns-4 : tie.Need-returns-4
 unfolding heardReport
@@ -42,7 +44,9 @@ returns-4 c =
     let if1 = if2 .before .before in
     let start = if1 .before .before in
     let e = ap (λ (n : ReplyNumber). n .0) (reply-to .reply-to .ensures) in
-    λ d. sym (hear-other _ (headMessage (start .args .head) d) (if1 .if1 .left) (if2 .if2 .left) (rw e at (sym (fails-decode .fails-decode .ensures) ∙ if3 .if3 .left)) (λ z. c .if4 .taken (z ∙ sym e)))
+    λ d.
+    sym (hear-other _ (headMessage (start .args .head) d) (if1 .if1 .left) (if2 .if2 .left)
+    (rw e at (sym (fails-decode .fails-decode .ensures) ∙ if3 .if3 .left)) (λ z. c .if4 .taken (z ∙ sym e)))
 
 returns-5 : tie.Need-returns-5
 unfolding heardReport
@@ -54,7 +58,9 @@ returns-5 c =
     let if1 = if2 .before .before in
     let start = if1 .before .before in
     let e = ap (λ (n : ReplyNumber). n .0) (reply-to .reply-to .ensures) in
-    λ d. sym (hear-answer _ (headMessage (start .args .head) d) (if1 .if1 .left) (if2 .if2 .left) (rw e at (sym (fails-decode .fails-decode .ensures) ∙ if3 .if3 .left)) (c .if4 .left ∙ e))
+    λ d.
+    sym (hear-answer _ (headMessage (start .args .head) d) (if1 .if1 .left) (if2 .if2 .left)
+    (rw e at (sym (fails-decode .fails-decode .ensures) ∙ if3 .if3 .left)) (c .if4 .left ∙ e))
 
 pub hear-spec : {M : Type 1} → statement M
 hear-spec =

@@ -16,7 +16,8 @@ unfolding nextOf
 returns c =
     let read-u8 = c .before in
     let start = start-of read-u8 in
-    answer-waited (now (start .args .reader)) (start .args .head) (start .pre .0) (start .pre .1) (now (start .args .requester)) (read-u8 .read-u8 .ensures) (c .if1 .taken)
+    answer-waited (now (start .args .reader)) (start .args .head) (start .pre .0) (start .pre .1) (now (start .args .requester))
+    (read-u8 .read-u8 .ensures) (c .if1 .taken)
 
 returns-2 : tie.Need-returns-2
 returns-2 c =
@@ -24,14 +25,16 @@ returns-2 c =
     let if2 = is-kept .before in
     let read-u8 = if2 .before .before in
     let start = start-of read-u8 in
-    answer-fetched (now (start .args .reader)) (start .args .head) (start .pre .0) (start .pre .1) (now (start .args .requester)) (read-u8 .read-u8 .ensures) (if2 .if2 .taken) (is-kept .is-kept .ensures) (c .settle-fetch .ensures)
+    answer-fetched (now (start .args .reader)) (start .args .head) (start .pre .0) (start .pre .1) (now (start .args .requester))
+    (read-u8 .read-u8 .ensures) (if2 .if2 .taken) (is-kept .is-kept .ensures) (c .settle-fetch .ensures)
 
 returns-3 : tie.Need-returns-3
 unfolding nextOf
 returns-3 c =
     let read-u8 = c .before .before .before in
     let start = start-of read-u8 in
-    answer-acknowledged (now (start .args .reader)) (start .args .head) (start .pre .0) (start .pre .1) (now (start .args .requester)) (read-u8 .read-u8 .ensures) (c .if3 .taken)
+    answer-acknowledged (now (start .args .reader)) (start .args .head) (start .pre .0) (start .pre .1) (now (start .args .requester))
+    (read-u8 .read-u8 .ensures) (c .if3 .taken)
 
 returns-4 : tie.Need-returns-4
 unfolding nextOf
@@ -40,7 +43,8 @@ returns-4 c =
     let if1 = if2 .before in
     let read-u8 = if1 .before in
     let start = start-of read-u8 in
-    answer-alerted (now (start .args .reader)) (start .args .head) (start .pre .0) (start .pre .1) (now (start .args .requester)) (read-u8 .read-u8 .ensures) (if1 .if1 .left) (if2 .if2 .left) (c .if3 .left)
+    answer-alerted (now (start .args .reader)) (start .args .head) (start .pre .0) (start .pre .1) (now (start .args .requester))
+    (read-u8 .read-u8 .ensures) (if1 .if1 .left) (if2 .if2 .left) (c .if3 .left)
 
 pub settle-answer-spec : {M : Type 1} → statement M
 settle-answer-spec =

@@ -65,8 +65,10 @@ returns-4 c =
     let if1 = read-u64 .before in
     let is-outstanding = if1 .before in
     let start = start-from-is-outstanding is-outstanding in
-    let h = rw (enum-told3 .enum-told3 .given .1) at (hear .hear .ensures (dataPromise (now (start .args .reader)) (start .args .head .length))) in
-    rw (settles-out _ _ (passed _ _ (is-outstanding .is-outstanding .ensures) (if1 .if1 .left)), ← read-u64 .read-u64 .ensures, ← h) (c .settle-answer .ensures)
+    let h =
+    rw (enum-told3 .enum-told3 .given .1) at (hear .hear .ensures (dataPromise (now (start .args .reader)) (start .args .head .length))) in
+    rw (settles-out _ _ (passed _ _ (is-outstanding .is-outstanding .ensures) (if1 .if1 .left)), ← read-u64 .read-u64 .ensures, ← h)
+    (c .settle-answer .ensures)
 
 pub settle-message-spec : {M : Type 1} → statement M
 settle-message-spec =

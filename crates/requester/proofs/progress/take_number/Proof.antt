@@ -23,7 +23,8 @@ returns-2 c =
     let read-u8 = if1 .before in
     let read-u64 = at-read-u64 read-u8 in
     let start = read-u64 .before .before .before in
-    number-taken _ (read-u64 .read-u64 .ensures) _ (start .pre .1) (if1 .if1 .left) (read-u8 .read-u8 .ensures) (set-progress2 .set-progress2 .ensures)
+    number-taken _ (read-u64 .read-u64 .ensures) _ (start .pre .1) (if1 .if1 .left) (read-u8 .read-u8 .ensures)
+    (set-progress2 .set-progress2 .ensures)
 
 pub take-number-spec : {M : Type 1} → statement M
 take-number-spec =

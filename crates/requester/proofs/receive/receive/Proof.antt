@@ -22,8 +22,10 @@ listen-requires c κs =
     let tail = tail2 .before .before in
     let if1 = tail .before .before in
     let requester-is-valid = if1 .before in
-    let t = tail-holds _ (rw (tail2 .tail2 .given .1) at (tail .tail .ensures)) in
-    (valid-parts _ (record { reader = t .0; requester = passed _ _ (requester-is-valid .requester-is-valid .ensures) (if1 .if1 .left) }), (t .1, omega arith))
+    let t = tail-holds _ (rw (tail2 .tail2 .given .1) at (tail .tail .ensures)) in (
+      valid-parts _ (record { reader = t .0; requester = passed _ _ (requester-is-valid .requester-is-valid .ensures) (if1 .if1 .left) }),
+      (t .1, omega arith),
+    )
 
 skip-requires : tie.Need-skip-requires
 unfolding tailReport
@@ -32,8 +34,10 @@ skip-requires c κs =
     let tail = enum-told2 .before .before in
     let if1 = tail .before .before in
     let requester-is-valid = if1 .before in
-    let t = tail-holds _ (rw (enum-told2 .enum-told2 .given .1) at (tail .tail .ensures)) in
-    (valid-parts _ (record { reader = t .0; requester = passed _ _ (requester-is-valid .requester-is-valid .ensures) (if1 .if1 .left) }), t .1)
+    let t = tail-holds _ (rw (enum-told2 .enum-told2 .given .1) at (tail .tail .ensures)) in (
+      valid-parts _ (record { reader = t .0; requester = passed _ _ (requester-is-valid .requester-is-valid .ensures) (if1 .if1 .left) }),
+      t .1,
+    )
 
 returns-2 : tie.Need-returns-2
 unfolding handedReport tailReport
@@ -50,7 +54,9 @@ returns-3 c =
     let if1 = tail .before .before in
     let requester-is-valid = if1 .before in
     let t = tail-holds _ (rw (tail2 .tail2 .given .1) at (tail .tail .ensures)) in
-    receive-received _ _ (valid-parts _ (record { reader = t .0; requester = passed _ _ (requester-is-valid .requester-is-valid .ensures) (if1 .if1 .left) })) (listen .listen .ensures)
+    receive-received _ _
+    (valid-parts _ (record { reader = t .0; requester = passed _ _ (requester-is-valid .requester-is-valid .ensures) (if1 .if1 .left) }))
+    (listen .listen .ensures)
 
 returns-4 : tie.Need-returns-4
 unfolding tailReport
@@ -61,7 +67,9 @@ returns-4 c =
     let if1 = tail .before .before in
     let requester-is-valid = if1 .before in
     let t = tail-holds _ (rw (enum-told2 .enum-told2 .given .1) at (tail .tail .ensures)) in
-    receive-received _ _ (valid-parts _ (record { reader = t .0; requester = passed _ _ (requester-is-valid .requester-is-valid .ensures) (if1 .if1 .left) })) (skip .skip .ensures)
+    receive-received _ _
+    (valid-parts _ (record { reader = t .0; requester = passed _ _ (requester-is-valid .requester-is-valid .ensures) (if1 .if1 .left) }))
+    (skip .skip .ensures)
 
 pub receive-spec : {M : Type 1} → statement M
 receive-spec =

@@ -29,7 +29,11 @@ returns-2 c =
     let byte-at = c .before in
     let if1 = else1 byte-at in
     let requester-is-valid = if1 .before in
-    rw (passed _ _ (requester-is-valid .requester-is-valid .ensures) (if1 .if1 .left), ← byte-at .byte-at .ensures .0, ne-eqb _ _ (c .if2 .taken))
+    rw (
+      passed _ _ (requester-is-valid .requester-is-valid .ensures) (if1 .if1 .left),
+      ← byte-at .byte-at .ensures .0,
+      ne-eqb _ _ (c .if2 .taken),
+    )
 
 returns-3 : tie.Need-returns-3
 unfolding interruptPromise interruptReport

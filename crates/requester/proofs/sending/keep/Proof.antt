@@ -40,7 +40,8 @@ returns-2 c =
     let stays-out = if1 .before in
     let start = stays-out .before .before .before in
     rw (passed _ _ (stays-out .stays-out .ensures) (if1 .if1 .left), ← set-progress2 .set-progress2 .ensures)
-    (request-kept _ (omega (arith, requester2 .requester2 .given, start .pre .0)) _ _ (start .pre .1) (write-u16 .write-u16 .ensures) (copy .copy .ensures))
+    (request-kept _ (omega (arith, requester2 .requester2 .given, start .pre .0)) _ _ (start .pre .1) (write-u16 .write-u16 .ensures)
+    (copy .copy .ensures))
 
 pub keep-spec : {M : Type 1} → statement M
 keep-spec =

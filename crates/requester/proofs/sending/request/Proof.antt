@@ -7,7 +7,8 @@ use Rattle.line.specs.Writer.{writeReport}
 use Rattle.requester.specs.Calls.{requestReport}
 use Rattle.requester.proofs.Cases.{refused, passed}
 use Rattle.requester.proofs.ValidLaws.{requester-valid}
-use Rattle.requester.proofs.SendingLaws.{request-refused, request-long, request-out, request-spent, request-done, request-short, request-never}
+use Rattle.requester.proofs.SendingLaws.{request-refused, request-long, request-out, request-spent, request-done, request-short}
+use Rattle.requester.proofs.SendingLaws.{request-never}
 use Rattle.requester.proofs.sending.request.Statement.{statement}
 use Rattle.requester.proofs.sending.request.Tie as tie
 
@@ -38,7 +39,8 @@ returns-3 c =
     let if2 = else2 is-outstanding in
     let if1 = if2 .before in
     let requester-is-valid = if1 .before in
-    request-out _ _ _ _ (passed _ _ (requester-is-valid .requester-is-valid .ensures) (if1 .if1 .left)) (if2 .if2 .left) (sym (is-outstanding .is-outstanding .ensures) ∙ c .if3 .taken)
+    request-out _ _ _ _ (passed _ _ (requester-is-valid .requester-is-valid .ensures) (if1 .if1 .left)) (if2 .if2 .left)
+    (sym (is-outstanding .is-outstanding .ensures) ∙ c .if3 .taken)
 
 returns-4 : tie.Need-returns-4
 unfolding requestReport
@@ -49,7 +51,8 @@ returns-4 c =
     let if2 = else2 is-outstanding in
     let if1 = if2 .before in
     let requester-is-valid = if1 .before in
-    request-spent _ _ _ _ (passed _ _ (requester-is-valid .requester-is-valid .ensures) (if1 .if1 .left)) (if2 .if2 .left) (sym (is-outstanding .is-outstanding .ensures) ∙ if3 .if3 .left) (read-u64 .read-u64 .ensures) (c .if4 .taken)
+    request-spent _ _ _ _ (passed _ _ (requester-is-valid .requester-is-valid .ensures) (if1 .if1 .left)) (if2 .if2 .left)
+    (sym (is-outstanding .is-outstanding .ensures) ∙ if3 .if3 .left) (read-u64 .read-u64 .ensures) (c .if4 .taken)
 
 keep-requires : tie.Need-keep-requires
 keep-requires c κs =
@@ -71,7 +74,8 @@ returns-5 c =
     let if2 = else2 is-outstanding in
     let if1 = if2 .before in
     let requester-is-valid = if1 .before in
-    request-done _ _ _ _ (passed _ _ (requester-is-valid .requester-is-valid .ensures) (if1 .if1 .left)) (if2 .if2 .left) (sym (is-outstanding .is-outstanding .ensures) ∙ if3 .if3 .left) (read-u64 .read-u64 .ensures) (if4 .if4 .left)
+    request-done _ _ _ _ (passed _ _ (requester-is-valid .requester-is-valid .ensures) (if1 .if1 .left)) (if2 .if2 .left)
+    (sym (is-outstanding .is-outstanding .ensures) ∙ if3 .if3 .left) (read-u64 .read-u64 .ensures) (if4 .if4 .left)
     (write .write .ensures) _ (ap writeReport (written .written .given .1)) (keep .keep .ensures)
 
 returns-6 : tie.Need-returns-6
@@ -85,7 +89,8 @@ returns-6 c =
     let if2 = else2 is-outstanding in
     let if1 = if2 .before in
     let requester-is-valid = if1 .before in
-    request-short _ _ _ _ (passed _ _ (requester-is-valid .requester-is-valid .ensures) (if1 .if1 .left)) (if2 .if2 .left) (sym (is-outstanding .is-outstanding .ensures) ∙ if3 .if3 .left) (read-u64 .read-u64 .ensures) (if4 .if4 .left)
+    request-short _ _ _ _ (passed _ _ (requester-is-valid .requester-is-valid .ensures) (if1 .if1 .left)) (if2 .if2 .left)
+    (sym (is-outstanding .is-outstanding .ensures) ∙ if3 .if3 .left) (read-u64 .read-u64 .ensures) (if4 .if4 .left)
     (write .write .ensures) (ap writeReport (c .enum-told .given .1))
 
 returns-7 : tie.Need-returns-7
@@ -100,7 +105,9 @@ returns-7 c =
     let if1 = if2 .before in
     let requester-is-valid = if1 .before in
     let start = requester-is-valid .before .before .before .before .before in
-    absurd (request-never (now (start .args .requester)) (start .args .command) (now (start .args .«data»)) (now (start .args .out)) (passed _ _ (requester-is-valid .requester-is-valid .ensures) (if1 .if1 .left)) (if2 .if2 .left) (sym (is-outstanding .is-outstanding .ensures) ∙ if3 .if3 .left) (read-u64 .read-u64 .ensures) (if4 .if4 .left)
+    absurd (request-never (now (start .args .requester)) (start .args .command) (now (start .args .«data»)) (now (start .args .out))
+    (passed _ _ (requester-is-valid .requester-is-valid .ensures) (if1 .if1 .left)) (if2 .if2 .left)
+    (sym (is-outstanding .is-outstanding .ensures) ∙ if3 .if3 .left) (read-u64 .read-u64 .ensures) (if4 .if4 .left)
     (write .write .ensures) (ap writeReport (c .enum-told2 .given .1)))
 
 pub request-spec : {M : Type 1} → statement M

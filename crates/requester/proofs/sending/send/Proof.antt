@@ -28,7 +28,8 @@ returns-2 c =
     let is-unsent = c .before in
     let if1 = else1 is-unsent in
     let requester-is-valid = if1 .before in
-    send-nothing _ _ (passed _ _ (requester-is-valid .requester-is-valid .ensures) (if1 .if1 .left)) (refused _ _ (is-unsent .is-unsent .ensures) (c .if2 .taken))
+    send-nothing _ _ (passed _ _ (requester-is-valid .requester-is-valid .ensures) (if1 .if1 .left))
+    (refused _ _ (is-unsent .is-unsent .ensures) (c .if2 .taken))
 
 write-outstanding-requires : tie.Need-write-outstanding-requires
 write-outstanding-requires c κs =
@@ -51,7 +52,9 @@ returns-3 c =
     let is-unsent = if2 .before in
     let if1 = else1 is-unsent in
     let requester-is-valid = if1 .before in
-    send-done _ _ (passed _ _ (requester-is-valid .requester-is-valid .ensures) (if1 .if1 .left)) (passed _ _ (is-unsent .is-unsent .ensures) (if2 .if2 .left)) (write-outstanding .write-outstanding .ensures) _ (ap writeReport (written .written .given .1))
+    send-done _ _ (passed _ _ (requester-is-valid .requester-is-valid .ensures) (if1 .if1 .left))
+    (passed _ _ (is-unsent .is-unsent .ensures) (if2 .if2 .left)) (write-outstanding .write-outstanding .ensures) _
+    (ap writeReport (written .written .given .1))
 
 returns-4 : tie.Need-returns-4
 unfolding sendReport writeReport
@@ -61,7 +64,9 @@ returns-4 c =
     let is-unsent = if2 .before in
     let if1 = else1 is-unsent in
     let requester-is-valid = if1 .before in
-    send-short _ _ (passed _ _ (requester-is-valid .requester-is-valid .ensures) (if1 .if1 .left)) (passed _ _ (is-unsent .is-unsent .ensures) (if2 .if2 .left)) (write-outstanding .write-outstanding .ensures) (ap writeReport (c .enum-told .given .1))
+    send-short _ _ (passed _ _ (requester-is-valid .requester-is-valid .ensures) (if1 .if1 .left))
+    (passed _ _ (is-unsent .is-unsent .ensures) (if2 .if2 .left)) (write-outstanding .write-outstanding .ensures)
+    (ap writeReport (c .enum-told .given .1))
 
 returns-5 : tie.Need-returns-5
 unfolding writeReport
@@ -71,7 +76,9 @@ returns-5 c =
     let is-unsent = if2 .before in
     let if1 = else1 is-unsent in
     let requester-is-valid = if1 .before in
-    absurd (send-never _ _ (passed _ _ (requester-is-valid .requester-is-valid .ensures) (if1 .if1 .left)) (passed _ _ (is-unsent .is-unsent .ensures) (if2 .if2 .left)) (write-outstanding .write-outstanding .ensures) (ap writeReport (c .enum-told2 .given .1)))
+    absurd (send-never _ _ (passed _ _ (requester-is-valid .requester-is-valid .ensures) (if1 .if1 .left))
+    (passed _ _ (is-unsent .is-unsent .ensures) (if2 .if2 .left)) (write-outstanding .write-outstanding .ensures)
+    (ap writeReport (c .enum-told2 .given .1)))
 
 pub send-spec : {M : Type 1} → statement M
 send-spec =

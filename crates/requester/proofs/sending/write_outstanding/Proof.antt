@@ -26,7 +26,8 @@ returns c =
     let read-u8 = word-at .before in
     let read-u64 = read-u8 .before in
     let start = start-of read-u64 in
-    kept-written _ _ (requester-valid _ (start .pre)) (read-u64 .read-u64 .ensures) (read-u8 .read-u8 .ensures) (if1 .if1 .taken) (word-at .word-at .ensures .0) (read-u82 .read-u82 .ensures) (write .write .ensures)
+    kept-written _ _ (requester-valid _ (start .pre)) (read-u64 .read-u64 .ensures) (read-u8 .read-u8 .ensures) (if1 .if1 .taken)
+    (word-at .word-at .ensures .0) (read-u82 .read-u82 .ensures) (write .write .ensures)
 
 returns-2 : tie.Need-returns-2
 returns-2 c =
@@ -36,7 +37,8 @@ returns-2 c =
     let read-u8 = if1 .before .before in
     let read-u64 = read-u8 .before in
     let start = start-of read-u64 in
-    step-written _ _ (requester-valid _ (start .pre)) (read-u64 .read-u64 .ensures) (read-u8 .read-u8 .ensures) (if1 .if1 .left) (step-command .step-command .ensures) (write2 .write2 .ensures)
+    step-written _ _ (requester-valid _ (start .pre)) (read-u64 .read-u64 .ensures) (read-u8 .read-u8 .ensures) (if1 .if1 .left)
+    (step-command .step-command .ensures) (write2 .write2 .ensures)
 
 pub write-outstanding-spec : {M : Type 1} → statement M
 write-outstanding-spec =

@@ -8,7 +8,8 @@ use Rattle.requester_cases.proofs.run.receive_by.Statement.{statement}
 use Rattle.requester_cases.proofs.run.receive_by.Tie as tie
 
 abbrev Inv-loop : tie.InvT-loop
-Inv-loop piece most reader₀ requester₀ at₀ reader requester at = (at ≤ length piece) × (length reader ≡ length reader₀) × (length requester ≡ length requester₀)
+Inv-loop piece most reader₀ requester₀ at₀ reader requester at =
+    (at ≤ length piece) × (length reader ≡ length reader₀) × (length requester ≡ length requester₀)
 
 abbrev μ-loop : tie.MeasureT-loop
 μ-loop piece most reader₀ requester₀ at₀ reader requester at = length piece - at

@@ -31,8 +31,8 @@ returns c =
     let at-send-part = c .before .before in
     let text = at-word-at (at-send-part .before) in
     let head = text .before .before in
-    alert-sent _ _ _ _ (at-update-alerts head .update-alerts .ensures) (text .word-at .ensures .0) (head .before .read-u8 .ensures) (head .head-to .ensures)
-    (at-send-part .send-part .ensures)
+    alert-sent _ _ _ _ (at-update-alerts head .update-alerts .ensures) (text .word-at .ensures .0) (head .before .read-u8 .ensures)
+    (head .head-to .ensures) (at-send-part .send-part .ensures)
 
 pub alert-spec : {M : Type 1} → statement M
 alert-spec =

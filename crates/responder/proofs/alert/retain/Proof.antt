@@ -37,7 +37,8 @@ returns c =
     let none = at-write-u16 .before .before in
     let sequence = registers-of c .before in
     let p = start-of sequence .pre in
-    none-retained _ _ _ (p .1 .0) (p .0) (sym (p .1 .1) ∙ none .if1 .taken) (sequence .write-u64 .ensures) (at-write-u16 .write-u16 .ensures)
+    none-retained _ _ _ (p .1 .0) (p .0) (sym (p .1 .1) ∙ none .if1 .taken) (sequence .write-u64 .ensures)
+    (at-write-u16 .write-u16 .ensures)
 
 same-length-2 : tie.Need-same-length-2
 same-length-2 c =
@@ -52,12 +53,13 @@ returns-2 c =
     let some = oldest .before .before .before in
     let sequence = at-write-u64 (some .before) in
     let p = start-of sequence .pre in
-    oldest-retained _ _ _ (p .1 .0) (p .0) _ refl (λ e. some .if1 .left (p .1 .1 ∙ e)) (sequence .write-u64 .ensures) (oldest .copy .ensures)
-    (at-copy2 .copy2 .ensures)
+    oldest-retained _ _ _ (p .1 .0) (p .0) _ refl (λ e. some .if1 .left (p .1 .1 ∙ e)) (sequence .write-u64 .ensures)
+    (oldest .copy .ensures) (at-copy2 .copy2 .ensures)
 
 pub retain-spec : {M : Type 1} → statement M
 retain-spec =
     tie.close
     (tie.spec
-    (λ c. search needs) (λ c. search needs) (λ c κs. search needs) (λ c κs. search needs) (λ c. search needs) slice-write-registers-2 same-length
+    (λ c. search needs) (λ c. search needs) (λ c κs. search needs) (λ c κs. search needs) (λ c. search needs) slice-write-registers-2
+    same-length
     returns (λ c. search needs) (λ c κs. search needs) (λ c. search needs) (λ c κs. search needs) same-length-2 returns-2)

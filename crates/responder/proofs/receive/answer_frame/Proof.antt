@@ -10,7 +10,8 @@ use Rattle.octets.specs.Bytes.{bytes}
 use Rattle.line.specs.Numbers.{first-version}
 use Rattle.line.specs.Reader.{ReadReport, readReport}
 use Rattle.line.specs.Reader as LineReader
-use Rattle.responder.specs.Receive.{Ended, sentBox, Head, failureHead, replyBytes, inner, innerAfter, verdictOf, endedByReader, stepReport}
+use Rattle.responder.specs.Receive.{Ended, sentBox, Head, failureHead, replyBytes, inner, innerAfter, verdictOf, endedByReader}
+use Rattle.responder.specs.Receive.{stepReport}
 use Rattle.responder.proofs.StepLaws.{Settled, data-short, settled-failure, settled-message}
 use Rattle.responder.proofs.receive.answer_frame.Statement.{statement}
 use Rattle.responder.proofs.receive.answer_frame.Tie as tie
@@ -25,11 +26,13 @@ start c = c .before .before .before .before .before .before
 by-fail : (c : tie.Start) (reason : ℕ) (sequence : Option ℕ) {t : ReadReport} {h : Head} {g : Ended} {o : List ℕ}
     → t ≡ LineReader.failed reason sequence → h ≡ failureHead first-version sequence
     → (g ≡ Ended.failed reason) × (o ≡ sentBox (replyBytes h 0x02 (bytes 1 reason)) (now (c .args .outbox)))
-    → Settled (now (c .args .image)) (now (c .args .factory)) (inner (now (c .args .outbox)) (now (c .args .settings)) (now (c .args .registers))) (now (c .args .reader)) t g
+    → Settled (now (c .args .image)) (now (c .args .factory))
+    (inner (now (c .args .outbox)) (now (c .args .settings)) (now (c .args .registers))) (now (c .args .reader)) t g
     (inner o (now (c .args .settings)) (now (c .args .registers)))
 by-fail c reason sequence =
     let a = c .args in
-    settled-failure (now (a .image)) (now (a .factory)) (now (a .outbox)) (now (a .settings)) (now (a .registers)) (now (a .reader)) reason sequence (c .pre .1 .1)
+    settled-failure (now (a .image)) (now (a .factory)) (now (a .outbox)) (now (a .settings)) (now (a .registers)) (now (a .reader)) reason
+    sequence (c .pre .1 .1)
 
 returns : tie.Need-returns
 unfolding stepReport endedByReader innerAfter verdictOf readReport
@@ -64,7 +67,8 @@ returns-4 c =
     let at-answer = given .before .before in
     let at-match = at-answer .before .before in
     let a = start at-match .args in
-    settled-message (now (a .image)) (now (a .factory)) (inner (now (a .outbox)) (now (a .settings)) (now (a .registers))) (now (a .reader)) _ _ _ _
+    settled-message (now (a .image)) (now (a .factory)) (inner (now (a .outbox)) (now (a .settings)) (now (a .registers))) (now (a .reader))
+    _ _ _ _
     (ap readReport (at-answer .answer .given .1)) (given .message-data .ensures) (called .request .ensures)
 
 returns-5 : tie.Need-returns-5
@@ -73,7 +77,8 @@ returns-5 c =
     let called = c .before .before in
     let at-enum-told4 = called .before .before .before in
     let at-match = at-enum-told4 .before .before in
-    by-fail (start at-match) 1 none (ap readReport (at-enum-told4 .enum-told4 .given .1)) (called .before .unnumbered .ensures) (called .fail .ensures)
+    by-fail (start at-match) 1 none (ap readReport (at-enum-told4 .enum-told4 .given .1)) (called .before .unnumbered .ensures)
+    (called .fail .ensures)
 
 returns-6 : tie.Need-returns-6
 unfolding readReport
@@ -81,7 +86,8 @@ returns-6 c =
     let called = c .before .before in
     let at-enum-told5 = called .before .before .before in
     let at-match = at-enum-told5 .before .before in
-    by-fail (start at-match) 3 none (ap readReport (at-enum-told5 .enum-told5 .given .1)) (called .before .unnumbered2 .ensures) (called .fail2 .ensures)
+    by-fail (start at-match) 3 none (ap readReport (at-enum-told5 .enum-told5 .given .1)) (called .before .unnumbered2 .ensures)
+    (called .fail2 .ensures)
 
 returns-7 : tie.Need-returns-7
 unfolding readReport
@@ -89,7 +95,8 @@ returns-7 c =
     let called = c .before .before in
     let at-answer2 = called .before .before .before .before in
     let at-match = at-answer2 .before .before in
-    by-fail (start at-match) 2 (some _) (ap readReport (at-answer2 .answer2 .given .1)) (called .before .head-to .ensures) (called .fail3 .ensures)
+    by-fail (start at-match) 2 (some _) (ap readReport (at-answer2 .answer2 .given .1)) (called .before .head-to .ensures)
+    (called .fail3 .ensures)
 
 returns-8 : tie.Need-returns-8
 unfolding readReport
@@ -97,7 +104,8 @@ returns-8 c =
     let called = c .before .before in
     let at-answer3 = called .before .before .before .before in
     let at-match = at-answer3 .before .before in
-    by-fail (start at-match) 4 (some _) (ap readReport (at-answer3 .answer3 .given .1)) (called .before .head-to2 .ensures) (called .fail4 .ensures)
+    by-fail (start at-match) 4 (some _) (ap readReport (at-answer3 .answer3 .given .1)) (called .before .head-to2 .ensures)
+    (called .fail4 .ensures)
 
 pub answer-frame-spec : {M : Type 1} → statement M
 answer-frame-spec =
@@ -106,5 +114,6 @@ answer-frame-spec =
     (λ c. search needs) (λ c. search needs) (λ c. search needs) (λ c. search needs) (λ c κs. search needs) request-requires
     (λ c. search needs) (λ c κs. search needs) (λ c κs. search needs) (λ c. search needs) (λ c κs. search needs)
     (λ c κs. search needs) (λ c. search needs) (λ c κs. search needs) (λ c κs. search needs) (λ c. search needs)
-    (λ c κs. search needs) (λ c κs. search needs) returns returns-2 returns-3 (λ c. search needs) (λ c. search needs) (λ c. search needs) returns-4 (λ c. search needs) returns-5
+    (λ c κs. search needs) (λ c κs. search needs) returns returns-2 returns-3 (λ c. search needs) (λ c. search needs) (λ c. search needs)
+    returns-4 (λ c. search needs) returns-5
     (λ c. search needs) returns-6 (λ c. search needs) returns-7 (λ c. search needs) returns-8)

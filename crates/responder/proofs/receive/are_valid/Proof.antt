@@ -25,7 +25,11 @@ returns-3 c =
     let at-factory-is-valid = else2 .before in
     let else1 = at-factory-is-valid .before in
     let at-is-valid = else1 .before in
-    rw (passed _ _ (at-is-valid .is-valid .ensures) (else1 .if1 .left), passed _ _ (at-factory-is-valid .factory-is-valid .ensures) (else2 .if2 .left), refused _ _ (c .before .outbox-is-valid .ensures) (c .if3 .taken))
+    rw (
+      passed _ _ (at-is-valid .is-valid .ensures) (else1 .if1 .left),
+      passed _ _ (at-factory-is-valid .factory-is-valid .ensures) (else2 .if2 .left),
+      refused _ _ (c .before .outbox-is-valid .ensures) (c .if3 .taken),
+    )
 
 returns-4 : tie.Need-returns-4
 unfolding validParts validInner
@@ -36,7 +40,12 @@ returns-4 c =
     let at-factory-is-valid = else2 .before in
     let else1 = at-factory-is-valid .before in
     let at-is-valid = else1 .before in
-    rw (passed _ _ (at-is-valid .is-valid .ensures) (else1 .if1 .left), passed _ _ (at-factory-is-valid .factory-is-valid .ensures) (else2 .if2 .left), passed _ _ (at-outbox-is-valid .outbox-is-valid .ensures) (else3 .if3 .left), refused _ _ (c .before .settings-are-valid .ensures) (c .if4 .taken))
+    rw (
+      passed _ _ (at-is-valid .is-valid .ensures) (else1 .if1 .left),
+      passed _ _ (at-factory-is-valid .factory-is-valid .ensures) (else2 .if2 .left),
+      passed _ _ (at-outbox-is-valid .outbox-is-valid .ensures) (else3 .if3 .left),
+      refused _ _ (c .before .settings-are-valid .ensures) (c .if4 .taken),
+    )
 
 returns-5 : tie.Need-returns-5
 unfolding validParts validInner
@@ -48,7 +57,12 @@ returns-5 c =
     let at-factory-is-valid = else2 .before in
     let else1 = at-factory-is-valid .before in
     let at-is-valid = else1 .before in
-    rw (passed _ _ (at-is-valid .is-valid .ensures) (else1 .if1 .left), passed _ _ (at-factory-is-valid .factory-is-valid .ensures) (else2 .if2 .left), passed _ _ (at-outbox-is-valid .outbox-is-valid .ensures) (else3 .if3 .left), passed _ _ (at-settings-are-valid .settings-are-valid .ensures) (c .before .if4 .left)) (c .registers-are-valid .ensures)
+    rw (
+      passed _ _ (at-is-valid .is-valid .ensures) (else1 .if1 .left),
+      passed _ _ (at-factory-is-valid .factory-is-valid .ensures) (else2 .if2 .left),
+      passed _ _ (at-outbox-is-valid .outbox-is-valid .ensures) (else3 .if3 .left),
+      passed _ _ (at-settings-are-valid .settings-are-valid .ensures) (c .before .if4 .left),
+    ) (c .registers-are-valid .ensures)
 
 pub are-valid-spec : {M : Type 1} → statement M
 are-valid-spec =

@@ -58,7 +58,8 @@ loop-again : tie.Need-loop-again Inv-loop μ-loop
 loop-again c =
     let called = at-valid-step c in
     let in-loop = in-loop-of called in
-    went (in-loop .before .loop .inv) (in-loop .loop-test .taken) (called .valid-step .ensures .0) (called .valid-step .ensures .1) (search needs) (search needs) (search needs) (search needs)
+    went (in-loop .before .loop .inv) (in-loop .loop-test .taken) (called .valid-step .ensures .0) (called .valid-step .ensures .1)
+    (search needs) (search needs) (search needs) (search needs)
 
 returns-2 : tie.Need-returns-2 Inv-loop μ-loop
 returns-2 c = over (c .before .loop .inv) (c .loop-test .left)
@@ -67,6 +68,7 @@ pub receive-spec : {M : Type 1} → statement M
 receive-spec =
     tie.close
     (tie.spec
-    Inv-loop μ-loop (λ c κs. search needs) (λ c. search needs) (λ c. search needs) (λ c. search needs) (λ c. search needs) returns loop-holds
+    Inv-loop μ-loop (λ c κs. search needs) (λ c. search needs) (λ c. search needs) (λ c. search needs) (λ c. search needs) returns
+    loop-holds
     (λ c. search needs) (λ c. search needs) (λ c. search needs) valid-step-requires add-at loop-less loop-again
     (λ c. search needs) (λ c. search needs) (λ c. search needs) (λ c. search needs) returns-2)

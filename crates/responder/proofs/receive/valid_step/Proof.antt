@@ -30,7 +30,8 @@ returns c =
     let settled = c .before .before .before .before .before .before in
     let at-read = settled .before .before .before .before .before .before .before in
     let start = start-of at-read in
-    valid-step-by (now (start .args .image)) (now (start .args .piece)) (lent start) (start .pre) (at-read .read .ensures) (settled .answer-frame .ensures)
+    valid-step-by (now (start .args .image)) (now (start .args .piece)) (lent start) (start .pre) (at-read .read .ensures)
+    (settled .answer-frame .ensures)
 
 pub valid-step-spec : {M : Type 1} → statement M
 valid-step-spec =

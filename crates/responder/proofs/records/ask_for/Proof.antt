@@ -24,8 +24,11 @@ returns c =
     let start = at-send-none .before .before .before .before in
     let r = now (start .args .registers) in
     let flag = start .args .flag in
-    let l = length-set r flag 1 in
-    (at-send-none .send-none .ensures, overlay-one retained-offset 0 (set r flag 1) (omega (arith, l, start .pre)) ∙ rw (overlay-one flag 1 r (omega (arith, start .pre))))
+    let l = length-set r flag 1 in (
+      at-send-none .send-none .ensures,
+      overlay-one retained-offset 0 (set r flag 1) (omega (arith, l, start .pre)) ∙ rw (overlay-one flag 1 r (omega (arith, start .pre))),
+    )
 
 pub ask-for-spec : {M : Type 1} → statement M
-ask-for-spec = tie.close (tie.spec (λ c. search needs) slice-write-registers-2 (λ c κs. search needs) (λ c. search needs) (λ c. search needs) returns)
+ask-for-spec =
+    tie.close (tie.spec (λ c. search needs) slice-write-registers-2 (λ c κs. search needs) (λ c. search needs) (λ c. search needs) returns)

@@ -11,4 +11,6 @@ returns c =
     (at-acknowledge .acknowledge .ensures, rw (← set .before .read-u16 .ensures) (set .set-record .ensures))
 
 pub panic-spec : {M : Type 1} → statement M
-panic-spec = tie.close (tie.spec (λ c κs. search needs) (λ c κs. search needs) (λ c κs. search needs) (λ c. search needs) (λ c. search needs) returns)
+panic-spec =
+    tie.close
+    (tie.spec (λ c κs. search needs) (λ c κs. search needs) (λ c κs. search needs) (λ c. search needs) (λ c. search needs) returns)

@@ -46,18 +46,22 @@ registers-long h = registers-valid _ (valid h .registers) .long
 
 -- what the number's command leaves
 abbrev Leaves : tie.After-head-to → Option Command → Inner → Type 0
-Leaves h o j = j ≡ commandLeavesWhere o (now (start h .args .image)) (now (start h .args .factory)) (lent h) (start h .args .version) (start h .args .number .0) (now (start h .args .«data»))
+Leaves h o j =
+    j ≡ commandLeavesWhere o (now (start h .args .image)) (now (start h .args .factory)) (lent h) (start h .args .version)
+    (start h .args .number .0) (now (start h .args .«data»))
 
 abbrev Carried : tie.After-head-to → Inner → Type 0
 Carried h j =
-    (j ≡ carriedInner (now (start h .args .image)) (now (start h .args .factory)) (lent h) (start h .args .version) (start h .args .number .0) (start h .args .command) (now (start h .args .«data»)))
+    (j ≡ carriedInner (now (start h .args .image)) (now (start h .args .factory)) (lent h) (start h .args .version)
+    (start h .args .number .0) (start h .args .command) (now (start h .args .«data»)))
     × (validInner j ≡ true)
 
 both : (h : tie.After-head-to) (o : Option Command) {j : Inner} → commandOfNumber (start h .args .command) ≡ o → Leaves h o j → Carried h j
 both h o =
     let a = start h .args in
     let p = start h .pre in
-    carried-both (now (a .image)) (now (a .factory)) (lent h) (a .version) (a .number .0) (a .command) (now (a .«data»)) (p .1 .1 .1 .1 .1) (p .1 .0) (p .1 .1 .0) (p .1 .1 .1 .0) (h .before .byte-at .ensures) o
+    carried-both (now (a .image)) (now (a .factory)) (lent h) (a .version) (a .number .0) (a .command) (now (a .«data»)) (p .1 .1 .1 .1 .1)
+    (p .1 .0) (p .1 .1 .0) (p .1 .1 .1 .0) (h .before .byte-at .ensures) o
 
 does : (h : tie.After-head-to) (x : Command) {j : Inner} → start h .args .command ≡ commandNumber x → Leaves h (some x) j → Carried h j
 does h x e = both h (some x) (rw e (of-number x))
@@ -128,7 +132,8 @@ returns-6 c =
     let at-boot-failure = c .before .before .before .before in
     let arm = at-keys6 (at-boot-failure .before) in
     let h = arm .before in
-    does h Command.boot-failure (arm .match .keys6) (rw (← h .before .byte-at .ensures .0) (unanswered-by (lent h) _ (at-boot-failure .boot-failure .ensures)))
+    does h Command.boot-failure (arm .match .keys6)
+    (rw (← h .before .byte-at .ensures .0) (unanswered-by (lent h) _ (at-boot-failure .boot-failure .ensures)))
 
 returns-7 : tie.Need-returns-7
 unfolding commandNumber commandLeaves
@@ -152,7 +157,8 @@ returns-9 c =
     let at-start-acknowledged = c .before .before .before .before in
     let arm = at-start-acknowledged .before .before .before in
     let h = arm .before in
-    does h Command.start-acknowledged (arm .match .keys9) (acknowledged-by (lent h) _ _ _ (h .head-to .ensures) (at-start-acknowledged .start-acknowledged .ensures))
+    does h Command.start-acknowledged (arm .match .keys9)
+    (acknowledged-by (lent h) _ _ _ (h .head-to .ensures) (at-start-acknowledged .start-acknowledged .ensures))
 
 returns-10 : tie.Need-returns-10
 unfolding commandNumber commandLeaves
@@ -169,7 +175,8 @@ returns-11 c =
     let at-send-block = c .before .before in
     let arm = at-send-block .before .before in
     let h = arm .before in
-    does h Command.image-block (arm .match .keys11) (answered-by (lent h) _ _ _ _ (h .head-to .ensures) (at-send-block .send-block .ensures))
+    does h Command.image-block (arm .match .keys11)
+    (answered-by (lent h) _ _ _ _ (h .head-to .ensures) (at-send-block .send-block .ensures))
 
 returns-12 : tie.Need-returns-12
 unfolding commandNumber commandLeaves
@@ -186,7 +193,8 @@ returns-13 c =
     let at-read-u32 = at-send-item .before in
     let arm = at-read-u32 .before .before in
     let h = arm .before in
-    does h Command.inventory (arm .match .keys13) (rw (← at-read-u32 .read-u32 .ensures) (answered-by (lent h) _ _ _ _ (h .head-to .ensures) (at-send-item .send-item .ensures)))
+    does h Command.inventory (arm .match .keys13)
+    (rw (← at-read-u32 .read-u32 .ensures) (answered-by (lent h) _ _ _ _ (h .head-to .ensures) (at-send-item .send-item .ensures)))
 
 returns-14 : tie.Need-returns-14
 unfolding commandNumber commandLeaves

@@ -12,7 +12,8 @@ use Rattle.responder.specs.Requests.{Verdict, failure}
 use Rattle.supervisor.proofs.Cases.{refused}
 use Rattle.supervisor.proofs.ValidLaws.{passed}
 use Rattle.responder.specs.Receive.{Ended, sentBox, Head, failureHead, replyBytes, inner, stepReport}
-use Rattle.responder.proofs.StepLaws.{Judged, other-version, top-bit-set, command-unknown, length-wrong, passed-all, judged-failure, judged-good}
+use Rattle.responder.proofs.StepLaws.{Judged, other-version, top-bit-set, command-unknown, length-wrong, passed-all, judged-failure}
+use Rattle.responder.proofs.StepLaws.{judged-good}
 use Rattle.responder.proofs.requests.request.Statement.{statement}
 use Rattle.responder.proofs.requests.request.Tie as tie
 
@@ -32,11 +33,13 @@ else1 c = c .before .before .before
 by-fail : (c : tie.Start) (reason version : ℕ) (sequence : Option ℕ) {v : Verdict} {h : Head} {g : Ended} {o : List ℕ}
     → v ≡ failure reason version sequence → h ≡ failureHead version sequence
     → (g ≡ Ended.failed reason) × (o ≡ sentBox (replyBytes h 0x02 (bytes 1 reason)) (now (c .args .outbox)))
-    → Judged (now (c .args .image)) (now (c .args .factory)) (inner (now (c .args .outbox)) (now (c .args .settings)) (now (c .args .registers))) v g
+    → Judged (now (c .args .image)) (now (c .args .factory))
+    (inner (now (c .args .outbox)) (now (c .args .settings)) (now (c .args .registers))) v g
     (inner o (now (c .args .settings)) (now (c .args .registers)))
 by-fail c reason version sequence =
     let a = c .args in
-    judged-failure (now (a .image)) (now (a .factory)) (now (a .outbox)) (now (a .settings)) (now (a .registers)) reason version sequence (c .pre .1 .1 .0)
+    judged-failure (now (a .image)) (now (a .factory)) (now (a .outbox)) (now (a .settings)) (now (a .registers)) reason version sequence
+    (c .pre .1 .1 .0)
 
 abbrev start : tie.After-head-to → tie.Start
 start c = c .before .before .before .before .before .before .before
@@ -46,7 +49,8 @@ returns c =
     let at-fail = c .before .before in
     let then1 = at-fail .before .before in
     let numbered = then1 .before .before in
-    by-fail (start numbered) 5 first-version (some _) (other-version _ _ _ _ (refused _ _ (then1 .before .is-served .ensures) (then1 .if1 .taken)))
+    by-fail (start numbered) 5 first-version (some _)
+    (other-version _ _ _ _ (refused _ _ (then1 .before .is-served .ensures) (then1 .if1 .taken)))
     (numbered .head-to .ensures) (at-fail .fail .ensures)
 
 returns-2 : tie.Need-returns-2
@@ -56,7 +60,8 @@ returns-2 c =
     let reply = then2 .before .before in
     let first = reply .before in
     by-fail (start (at-head-to first)) 6 _ (some _)
-    (top-bit-set _ _ _ _ (passed _ _ (first .before .is-served .ensures) (first .if1 .left)) (then2 .if2 .taken)) (reply .head-to2 .ensures) (at-fail2 .fail2 .ensures)
+    (top-bit-set _ _ _ _ (passed _ _ (first .before .is-served .ensures) (first .if1 .left)) (then2 .if2 .taken)) (reply .head-to2 .ensures)
+    (at-fail2 .fail2 .ensures)
 
 returns-3 : tie.Need-returns-3
 returns-3 c =
@@ -66,7 +71,8 @@ returns-3 c =
     let second = then3 .before .before in
     let first = else1 second in
     by-fail (start (at-head-to first)) 3 first-version none
-    (command-unknown _ _ _ _ (passed _ _ (first .before .is-served .ensures) (first .if1 .left)) (second .if2 .left) (refused _ _ (then3 .before .is-known .ensures) (then3 .if3 .taken)))
+    (command-unknown _ _ _ _ (passed _ _ (first .before .is-served .ensures) (first .if1 .left)) (second .if2 .left)
+    (refused _ _ (then3 .before .is-known .ensures) (then3 .if3 .taken)))
     (at-unnumbered .unnumbered .ensures) (at-fail3 .fail3 .ensures)
 
 returns-4 : tie.Need-returns-4
@@ -79,7 +85,8 @@ returns-4 c =
     let first = reply .before in
     by-fail (start (at-head-to first)) 7 _ (some _)
     (length-wrong _ _ _ _ (passed _ _ (first .before .is-served .ensures) (first .if1 .left)) (second .if2 .left)
-    (passed _ _ (third .before .is-known .ensures) (third .if3 .left)) (refused _ _ (then4 .before .length-is-allowed .ensures) (then4 .if4 .taken)))
+    (passed _ _ (third .before .is-known .ensures) (third .if3 .left))
+    (refused _ _ (then4 .before .length-is-allowed .ensures) (then4 .if4 .taken)))
     (reply .head-to2 .ensures) (at-fail4 .fail4 .ensures)
 
 carry-requires : tie.Need-carry-requires
@@ -94,7 +101,10 @@ carry-requires c κs =
           p .1 .1 .0,
           (
             p .1 .1 .1,
-            (passed _ _ (else4 .before .length-is-allowed .ensures) (else4 .if4 .left), passed _ _ (first .before .is-served .ensures) (first .if1 .left)),
+            (
+              passed _ _ (else4 .before .length-is-allowed .ensures) (else4 .if4 .left),
+              passed _ _ (first .before .is-served .ensures) (first .if1 .left),
+            ),
           ),
         ),
       ),
@@ -109,9 +119,11 @@ returns-5 c =
     let second = else2 third in
     let first = else1 second in
     let a = start (at-head-to first) .args in
-    judged-good (now (a .image)) (now (a .factory)) (inner (now (a .outbox)) (now (a .settings)) (now (a .registers))) (a .version) (a .number .0) (a .command) (now (a .«data»))
+    judged-good (now (a .image)) (now (a .factory)) (inner (now (a .outbox)) (now (a .settings)) (now (a .registers))) (a .version)
+    (a .number .0) (a .command) (now (a .«data»))
     (passed-all _ _ _ _ (passed _ _ (first .before .is-served .ensures) (first .if1 .left)) (second .if2 .left)
-    (passed _ _ (third .before .is-known .ensures) (third .if3 .left)) (passed _ _ (else4 .before .length-is-allowed .ensures) (else4 .if4 .left)))
+    (passed _ _ (third .before .is-known .ensures) (third .if3 .left))
+    (passed _ _ (else4 .before .length-is-allowed .ensures) (else4 .if4 .left)))
     (called .carry .ensures)
 
 pub request-spec : {M : Type 1} → statement M

@@ -19,7 +19,8 @@ at-write-u16 c = c .before .before .before .before .before .before
 same-length : tie.Need-same-length
 same-length c =
     let from = at-write-u16 c in
-    ap length (at-write-u162 c .write-u162 .ensures) ∙ length-put _ _ _ ∙ ap length (from .write-u16 .ensures) ∙ length-put _ _ _ ∙ simp length-set
+    ap length (at-write-u162 c .write-u162 .ensures) ∙ length-put _ _ _ ∙ ap length (from .write-u16 .ensures) ∙ length-put _ _ _
+    ∙ simp length-set
 
 returns : tie.Need-returns
 returns c =

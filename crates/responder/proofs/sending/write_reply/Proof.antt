@@ -17,7 +17,8 @@ returns c =
     let write = c .before .before .before .before .before in
     let start = start-of write in
     let a = start .args in
-    reply-written (a .reply) (a .command) (now (a .head)) (now (a .rest)) (now (a .outbox)) (start .pre .0) (start .pre .1) _ (write .write .ensures) (c .before .written .given .1)
+    reply-written (a .reply) (a .command) (now (a .head)) (now (a .rest)) (now (a .outbox)) (start .pre .0) (start .pre .1) _
+    (write .write .ensures) (c .before .written .given .1)
 
 returns-2 : tie.Need-returns-2
 unfolding writeReport
@@ -25,7 +26,8 @@ returns-2 c =
     let write = c .before .before .before .before in
     let start = start-of write in
     let a = start .args in
-    absurd (reply-refused (a .reply) (a .command) (now (a .head)) (now (a .rest)) (now (a .outbox)) (start .pre .0) (start .pre .1) _ (write .write .ensures) (c .enum-told .given .1) 8 refl)
+    absurd (reply-refused (a .reply) (a .command) (now (a .head)) (now (a .rest)) (now (a .outbox)) (start .pre .0) (start .pre .1) _
+    (write .write .ensures) (c .enum-told .given .1) 8 refl)
 
 returns-3 : tie.Need-returns-3
 unfolding writeReport
@@ -33,7 +35,8 @@ returns-3 c =
     let write = c .before .before .before .before in
     let start = start-of write in
     let a = start .args in
-    absurd (reply-refused (a .reply) (a .command) (now (a .head)) (now (a .rest)) (now (a .outbox)) (start .pre .0) (start .pre .1) _ (write .write .ensures) (c .enum-told2 .given .1) 9 refl)
+    absurd (reply-refused (a .reply) (a .command) (now (a .head)) (now (a .rest)) (now (a .outbox)) (start .pre .0) (start .pre .1) _
+    (write .write .ensures) (c .enum-told2 .given .1) 9 refl)
 
 pub write-reply-spec : {M : Type 1} → statement M
 write-reply-spec =

@@ -32,7 +32,8 @@ returns-3 c =
     )
 
 -- the setting of a settings key lies in the store
-within : (key : ℕ) → first-setting ≤ key → key ≤ highest-key → setting-offset key + (setting-value-offset + longest-setting key) ≤ settings-length
+within : (key : ℕ) → first-setting ≤ key → key ≤ highest-key
+    → setting-offset key + (setting-value-offset + longest-setting key) ≤ settings-length
 within key h k = offset-within key (record { lower = h; upper = k })
 
 store-at-requires : tie.Need-store-at-requires

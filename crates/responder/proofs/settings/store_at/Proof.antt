@@ -26,7 +26,8 @@ returns-3 : tie.Need-returns-3
 returns-3 c =
     let short = else2 (c .before) in
     let enough = short .before in
-    edition-last _ (start-of enough .args .«data» .now) _ _ _ (enough .if1 .left) (short .if2 .left) (c .before .read-u32 .ensures) (c .if3 .taken)
+    edition-last _ (start-of enough .args .«data» .now) _ _ _ (enough .if1 .left) (short .if2 .left) (c .before .read-u32 .ensures)
+    (c .if3 .taken)
 
 same-length-2 : tie.Need-same-length-2
 same-length-2 c =

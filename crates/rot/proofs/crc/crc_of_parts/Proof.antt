@@ -12,7 +12,12 @@ unfolding crc
 returns c =
     let first = c .before .before .before in
     let a = first .before .before .before .before .before .args in
-    rw (c .complement .ensures, c .before .after-bytes2 .ensures, first .after-bytes .ensures, after-append 0 (now (a .first)) (now (a .second)))
+    rw (
+      c .complement .ensures,
+      c .before .after-bytes2 .ensures,
+      first .after-bytes .ensures,
+      after-append 0 (now (a .first)) (now (a .second)),
+    )
 
 pub crc-of-parts-spec : {M : Type 1} → statement M
 crc-of-parts-spec = tie.close (tie.spec (λ c κs. search needs) (λ c κs. search needs) (λ c κs. search needs) (λ c κs. search needs) returns)

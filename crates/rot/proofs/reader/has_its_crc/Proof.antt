@@ -11,7 +11,8 @@ returns c =
     let parts = c .before .before in
     let at-part = parts .before in
     let entry = at-part .before .before in
-    crc-tested (now (entry .args .input)) (entry .pre) (at-part .part .ensures) (parts .part2 .ensures) (c .before .read-u32 .ensures) (c .crc-of-parts .ensures)
+    crc-tested (now (entry .args .input)) (entry .pre) (at-part .part .ensures) (parts .part2 .ensures) (c .before .read-u32 .ensures)
+    (c .crc-of-parts .ensures)
 
 pub has-its-crc-spec : {M : Type 1} → statement M
 has-its-crc-spec = tie.close (tie.spec (λ c κs. search needs) (λ c κs. search needs) (λ c κs. search needs) (λ c κs. search needs) returns)

@@ -35,7 +35,8 @@ returns-5 : tie.Need-returns-5
 returns-5 c =
     let ours = c .before .before in
     let first = ours .before .before in
-    c .judge-length .ensures ∙ header-read _ (first .before .if1 .left) (first .read-u8 .ensures) (ours .before .if2 .left) (ours .if3 .left) (c .before .if4 .left)
+    c .judge-length .ensures
+    ∙ header-read _ (first .before .if1 .left) (first .read-u8 .ensures) (ours .before .if2 .left) (ours .if3 .left) (c .before .if4 .left)
 
 pub judge-spec : {M : Type 1} → statement M
 judge-spec = tie.close (tie.spec returns (λ c κs. search needs) returns-2 returns-3 returns-4 (λ c κs. search needs) returns-5)

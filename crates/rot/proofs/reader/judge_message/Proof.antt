@@ -21,13 +21,15 @@ returns-2 : tie.Need-returns-2
 unfolding refusalNumber judgedAs
 returns-2 c =
     let asked = c .before .before in
-    bad-type _ (asked .before .has-its-crc .ensures) (at-read-u8 asked .read-u8 .ensures) (asked .is-listed .ensures) (c .before .if1 .left) (c .if2 .taken)
+    bad-type _ (asked .before .has-its-crc .ensures) (at-read-u8 asked .read-u8 .ensures) (asked .is-listed .ensures) (c .before .if1 .left)
+    (c .if2 .taken)
 
 returns-3 : tie.Need-returns-3
 unfolding judgedAs
 returns-3 c =
     let asked = c .before .before in
-    accepted _ (asked .before .has-its-crc .ensures) (at-read-u8 asked .read-u8 .ensures) (asked .is-listed .ensures) (c .before .if1 .left) (c .if2 .left)
+    accepted _ (asked .before .has-its-crc .ensures) (at-read-u8 asked .read-u8 .ensures) (asked .is-listed .ensures) (c .before .if1 .left)
+    (c .if2 .left)
 
 pub judge-message-spec : {M : Type 1} → statement M
 judge-message-spec = tie.close (tie.spec (λ c κs. search needs) (λ c κs. search needs) (λ c κs. search needs) returns returns-2 returns-3)

@@ -29,11 +29,14 @@ returns-4 c =
     let else1 = c .before .before in
     let arm = else1 .before .before in
     let at-judge = arm .before .before in
-    rw (c .part .ensures, c .before .word-at .ensures .0) (payload-handed _ (at-judge .judge .ensures) (arm .verdict .given .1) (else1 .if1 .left))
+    rw (c .part .ensures, c .before .word-at .ensures .0)
+    (payload-handed _ (at-judge .judge .ensures) (arm .verdict .given .1) (else1 .if1 .left))
 
 pub payload-spec : {M : Type 1} → statement M
 payload-spec =
     tie.close
     (tie.spec
-    (λ c κs. search needs) (λ c. search needs) (λ c. search needs) (λ c. search needs) (λ c. search needs) (λ c. search needs) (λ c. search needs) (λ c. search needs) (λ c. search needs) (λ c. search needs) (λ c. search needs) (λ c. search needs) (λ c. search needs) returns (λ c κs. search needs) (λ c κs. search needs) returns-2 returns-3
+    (λ c κs. search needs) (λ c. search needs) (λ c. search needs) (λ c. search needs) (λ c. search needs) (λ c. search needs)
+    (λ c. search needs) (λ c. search needs) (λ c. search needs) (λ c. search needs) (λ c. search needs) (λ c. search needs)
+    (λ c. search needs) returns (λ c κs. search needs) (λ c κs. search needs) returns-2 returns-3
     returns-4)

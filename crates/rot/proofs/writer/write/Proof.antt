@@ -31,7 +31,8 @@ returns-4 c =
     let put = c .before .before in
     let room = put .before .before in
     let asked = room .before .before in
-    write-done _ _ (asked .before .if1 .left) (sym (asked .is-listed .ensures) ∙ not-false _ (room .before .if2 .left)) (room .if3 .left) (put .put .ensures)
+    write-done _ _ (asked .before .if1 .left) (sym (asked .is-listed .ensures) ∙ not-false _ (room .before .if2 .left)) (room .if3 .left)
+    (put .put .ensures)
 
 pub write-spec : {M : Type 1} → statement M
 write-spec =

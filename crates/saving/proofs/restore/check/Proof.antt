@@ -46,7 +46,8 @@ returns-2 : tie.Need-returns-2 Inv-loop μ-loop
 unfolding imageStepOf foundOf
 returns-2 c =
     let passed = c .before .before .before in
-    sym (ap faultIn (read-at _ _ _ (sym (passed .pass .ensures) ∙ ap imageStepOf (c .before .next2 .given .1)))) ∙ passed .before .loop .inv .1
+    sym (ap faultIn (read-at _ _ _ (sym (passed .pass .ensures) ∙ ap imageStepOf (c .before .next2 .given .1))))
+    ∙ passed .before .loop .inv .1
 
 pub check-spec : {M : Type 1} → statement M
 check-spec =

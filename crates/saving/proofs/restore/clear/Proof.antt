@@ -31,8 +31,11 @@ set-head-requires c κs = omega (arith, c .before .setting-offset .ensures .0, h
 loop-again : tie.Need-loop-again Inv-loop μ-loop
 loop-again c =
     let at-set-head = c .before .before in
-    let offset = at-set-head .before .before in
-    (search needs, search needs, cleared-more _ _ (at-loop offset .loop .inv .2) (offset .setting-offset .ensures .0) (at-set-head .set-head .ensures))
+    let offset = at-set-head .before .before in (
+      search needs,
+      search needs,
+      cleared-more _ _ (at-loop offset .loop .inv .2) (offset .setting-offset .ensures .0) (at-set-head .set-head .ensures),
+    )
 
 returns : tie.Need-returns Inv-loop μ-loop
 returns c = let e : c .before .loop .i ≡ saved-count = omega arith in rw e at (c .before .loop .inv .2)

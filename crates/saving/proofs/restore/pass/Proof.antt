@@ -45,7 +45,8 @@ unfolding imageStepOf
 returns-5 c =
     let at-same2 = c .before .before in
     let more = else2 at-same2 in
-    key-cut _ _ _ (omega arith) (more .before .same .ensures) (more .if2 .left) (at-same2 .same2 .ensures) (c .before .if4 .left) (omega arith)
+    key-cut _ _ _ (omega arith) (more .before .same .ensures) (more .if2 .left) (at-same2 .same2 .ensures) (c .before .if4 .left)
+    (omega arith)
 
 returns-6 : tie.Need-returns-6
 unfolding imageStepOf
@@ -53,8 +54,8 @@ returns-6 c =
     let at-read-u8 = c .before .before in
     let mark = else4 at-read-u8 in
     let more = else2-from-else4 mark in
-    key-wrong _ _ _ (omega arith) (more .before .same .ensures) (more .if2 .left) (mark .before .same2 .ensures) (mark .if4 .left) (omega arith)
-    (at-read-u8 .read-u8 .ensures) (c .before .key-follows .ensures) (c .if6 .taken)
+    key-wrong _ _ _ (omega arith) (more .before .same .ensures) (more .if2 .left) (mark .before .same2 .ensures) (mark .if4 .left)
+    (omega arith) (at-read-u8 .read-u8 .ensures) (c .before .key-follows .ensures) (c .if6 .taken)
 
 returns-7 : tie.Need-returns-7
 unfolding imageStepOf
@@ -64,8 +65,8 @@ returns-7 c =
     let mark = else4 key in
     let more = else2-from-else4 mark in
     c .pass-record .ensures
-    ∙ key-good _ _ _ (omega arith) (more .before .same .ensures) (more .if2 .left) (mark .before .same2 .ensures) (mark .if4 .left) (omega arith)
-    (key .read-u8 .ensures) (at-key-follows .key-follows .ensures) (c .before .if6 .left)
+    ∙ key-good _ _ _ (omega arith) (more .before .same .ensures) (more .if2 .left) (mark .before .same2 .ensures) (mark .if4 .left)
+    (omega arith) (key .read-u8 .ensures) (at-key-follows .key-follows .ensures) (c .before .if6 .left)
 
 pub pass-spec : {M : Type 1} → statement M
 pass-spec =

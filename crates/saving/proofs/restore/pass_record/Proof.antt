@@ -22,29 +22,33 @@ returns-2 : tie.Need-returns-2
 unfolding imageStepOf
 returns-2 c =
     let size = c .before .before in
-    value-long _ _ _ _ _ (size .word-at .ensures .0) (size .before .read-u8 .ensures) (c .before .longest-setting .ensures .0) (omega arith) (c .if2 .taken)
+    value-long _ _ _ _ _ (size .word-at .ensures .0) (size .before .read-u8 .ensures) (c .before .longest-setting .ensures .0) (omega arith)
+    (c .if2 .taken)
 
 returns-3 : tie.Need-returns-3
 unfolding imageStepOf
 returns-3 c =
     let most = c .before .before in
-    value-cut _ _ _ _ _ (most .before .word-at .ensures .0) (at-read-u8 most .read-u8 .ensures) (most .longest-setting .ensures .0) (omega arith)
-    (c .before .if2 .left) (omega arith)
+    value-cut _ _ _ _ _ (most .before .word-at .ensures .0) (at-read-u8 most .read-u8 .ensures) (most .longest-setting .ensures .0)
+    (omega arith) (c .before .if2 .left) (omega arith)
 
 returns-4 : tie.Need-returns-4
 unfolding imageStepOf
 returns-4 c =
     let at-checksum-of = c .before .before in
     let most = else2 at-checksum-of .before in
-    sum-wrong _ _ _ _ _ (most .before .word-at .ensures .0) (at-read-u8 most .read-u8 .ensures) (most .longest-setting .ensures .0) (omega arith)
-    (else2 at-checksum-of .if2 .left) _ _ (omega arith) (at-checksum-of .checksum-of .ensures) (c .before .read-u16 .ensures) (c .if4 .taken)
+    sum-wrong _ _ _ _ _ (most .before .word-at .ensures .0) (at-read-u8 most .read-u8 .ensures) (most .longest-setting .ensures .0)
+    (omega arith)
+    (else2 at-checksum-of .if2 .left) _ _ (omega arith) (at-checksum-of .checksum-of .ensures) (c .before .read-u16 .ensures)
+    (c .if4 .taken)
 
 returns-5 : tie.Need-returns-5
 unfolding imageStepOf
 returns-5 c =
     let at-checksum-of = c .before .before in
     let most = else2 at-checksum-of .before in
-    record-good _ _ _ _ _ (most .before .word-at .ensures .0) (at-read-u8 most .read-u8 .ensures) (most .longest-setting .ensures .0) (omega arith)
+    record-good _ _ _ _ _ (most .before .word-at .ensures .0) (at-read-u8 most .read-u8 .ensures) (most .longest-setting .ensures .0)
+    (omega arith)
     (else2 at-checksum-of .if2 .left) _ _ (omega arith) (at-checksum-of .checksum-of .ensures) (c .before .read-u16 .ensures) (c .if4 .left)
 
 pub pass-record-spec : {M : Type 1} → statement M

@@ -31,7 +31,8 @@ returns c =
     let key = edition .before .before in
     let start = start-of key in (
       search needs,
-      entry-put _ _ (start .pre .1) _ (key .before .word-at .ensures .0) (key .read-u8 .ensures) (edition .before .setting-offset .ensures .0)
+      entry-put _ _ (start .pre .1) _ (key .before .word-at .ensures .0) (key .read-u8 .ensures)
+          (edition .before .setting-offset .ensures .0)
           (edition .read-u32 .ensures) (start .pre .0) (head .set-head .ensures) (at-copy .copy .ensures),
     )
 

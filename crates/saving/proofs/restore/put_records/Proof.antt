@@ -14,7 +14,8 @@ use Rattle.saving.proofs.restore.put_records.Statement.{statement}
 use Rattle.saving.proofs.restore.put_records.Tie as tie
 
 abbrev Inv-loop : tie.InvT-loop
-Inv-loop settings₀ image at₀ t4 settings at = (length settings ≡ length settings₀) × (Left image settings at (putEntries (entriesIn (readImage image)) settings₀))
+Inv-loop settings₀ image at₀ t4 settings at =
+    (length settings ≡ length settings₀) × (Left image settings at (putEntries (entriesIn (readImage image)) settings₀))
 
 abbrev μ-loop : tie.MeasureT-loop
 μ-loop settings₀ image at₀ t4 settings at = length image - at
@@ -55,7 +56,8 @@ loop-again c =
     let more = then1 c in
     let same = more .before in (
       search needs,
-      on-left _ _ _ _ (at-loop same .loop .inv .1) (refused _ _ (same .same .ensures) (more .if1 .taken)) (put .ensures .1) (put .ensures .0),
+      on-left _ _ _ _ (at-loop same .loop .inv .1) (refused _ _ (same .same .ensures) (more .if1 .taken)) (put .ensures .1)
+          (put .ensures .0),
     )
 
 returns : tie.Need-returns Inv-loop μ-loop

@@ -36,7 +36,8 @@ returns-2 c =
     let checked = good .before .before in
     let valid = checked .before in
     rw (passed _ _ (valid .before .settings-are-valid .ensures) (valid .if1 .left))
-    (restored-good _ _ (sym (checked .check .ensures) ∙ ap foundOf (good .enum-told .given .1)) (cleared .clear .ensures) (at-put-records .put-records .ensures))
+    (restored-good _ _ (sym (checked .check .ensures) ∙ ap foundOf (good .enum-told .given .1)) (cleared .clear .ensures)
+    (at-put-records .put-records .ensures))
 
 returns-3 : tie.Need-returns-3
 unfolding restoreReport restorePromise foundOf

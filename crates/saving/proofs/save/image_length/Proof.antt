@@ -15,7 +15,8 @@ use Rattle.saving.proofs.save.image_length.Statement.{statement}
 use Rattle.saving.proofs.save.image_length.Tie as tie
 
 abbrev Inv-loop : tie.InvT-loop
-Inv-loop settings n₀ i₀ n i = (i ≤ saved-count) × (n ≤ i * 65546) × (n + length (savedRecordsFrom settings (saved-count - i) (first-setting + i)) ≡ length (imageBytes settings))
+Inv-loop settings n₀ i₀ n i = (i ≤ saved-count) × (n ≤ i * 65546)
+    × (n + length (savedRecordsFrom settings (saved-count - i) (first-setting + i)) ≡ length (imageBytes settings))
 
 abbrev μ-loop : tie.MeasureT-loop
 μ-loop settings n₀ i₀ n i = saved-count - i

@@ -20,7 +20,11 @@ returns-2 : tie.Need-returns-2
 unfolding saveReport savePromise
 returns-2 c =
     let valid = c .before .before in
-    rw (passed _ _ (valid .before .settings-are-valid .ensures) (valid .if1 .left), ← c .before .image-length .ensures, lt-ltb _ _ (c .if2 .taken))
+    rw (
+      passed _ _ (valid .before .settings-are-valid .ensures) (valid .if1 .left),
+      ← c .before .image-length .ensures,
+      lt-ltb _ _ (c .if2 .taken),
+    )
 
 write-image-requires : tie.Need-write-image-requires
 write-image-requires c κs =

@@ -17,7 +17,8 @@ use Rattle.saving.proofs.save.write_image.Tie as tie
 
 abbrev Inv-loop : tie.InvT-loop
 Inv-loop settings out₀ at₀ i₀ t5 out at i =
-    (i ≤ saved-count) × (length out ≡ length out₀) × (at + length (savedRecordsFrom settings (saved-count - i) (first-setting + i)) ≤ length out)
+    (i ≤ saved-count) × (length out ≡ length out₀)
+    × (at + length (savedRecordsFrom settings (saved-count - i) (first-setting + i)) ≤ length out)
     × (overlay at (savedRecordsFrom settings (saved-count - i) (first-setting + i)) out ≡ overlay 0 (imageBytes settings) out₀)
 
 abbrev μ-loop : tie.MeasureT-loop

@@ -34,12 +34,15 @@ returns-2 c =
     let held = size .before .before in
     let start = held .before .before .before .before in
     let offset = held .before .setting-offset .ensures .0 in
-    let h = held-record _ _ _ offset (held .read-u8 .ensures) (size .word-at .ensures .0) (size .before .if1 .left) (start .pre .0) (start .pre .1 .0) in
+    let h =
+    held-record _ _ _ offset (held .read-u8 .ensures) (size .word-at .ensures .0) (size .before .if1 .left) (start .pre .0)
+    (start .pre .1 .0) in
     let room = h .size in (
       rw (h .size),
       rw (h .its-bytes)
           (at-write-u16 .write-u16 .ensures
-          ∙ record-put _ _ _ _ _ _ _ (omega (arith, start .fits .key)) (h .within) (omega arith) (omega arith) (body .write-body .ensures) (sum .checksum-of .ensures)),
+          ∙ record-put _ _ _ _ _ _ _ (omega (arith, start .fits .key)) (h .within) (omega arith) (omega arith) (body .write-body .ensures)
+          (sum .checksum-of .ensures)),
     )
 
 pub write-record-spec : {M : Type 1} → statement M

@@ -41,8 +41,8 @@ returns c =
     let size = at-write-u16 text in
     let start = start-of size in
     let p = start .pre in
-    alert-put _ _ (p .0) (p .1 .0) (p .1 .1 .0) (p .1 .1 .1 .1) (omega (arith, start .fits .action)) (size .write-u16 .ensures) (text .copy .ensures)
-    (cc) (at-write-u64 c .write-u64 .ensures)
+    alert-put _ _ (p .0) (p .1 .0) (p .1 .1 .0) (p .1 .1 .1 .1) (omega (arith, start .fits .action)) (size .write-u16 .ensures)
+    (text .copy .ensures) (cc) (at-write-u64 c .write-u64 .ensures)
 
 pub add-alert-spec : {M : Type 1} → statement M
 add-alert-spec =

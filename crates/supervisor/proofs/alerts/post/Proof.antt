@@ -41,15 +41,15 @@ returns-4 c =
     let few = at-add-alert .before .before in
     let short = else3 (few .before) in
     let else1 = else1-of short in
-    post-done _ _ _ (passed _ _ (else1 .before .registers-are-valid .ensures) (else1 .if1 .left)) (short .before .if2 .left) (short .if3 .left)
-    (few .before .byte-at .ensures .0) (few .if4 .taken) (at-add-alert .add-alert .ensures)
+    post-done _ _ _ (passed _ _ (else1 .before .registers-are-valid .ensures) (else1 .if1 .left)) (short .before .if2 .left)
+    (short .if3 .left) (few .before .byte-at .ensures .0) (few .if4 .taken) (at-add-alert .add-alert .ensures)
 
 returns-5 : tie.Need-returns-5
 returns-5 c =
     let short = else3 (c .before) in
     let else1 = else1-of short in
-    post-full _ _ _ (passed _ _ (else1 .before .registers-are-valid .ensures) (else1 .if1 .left)) (short .before .if2 .left) (short .if3 .left)
-    (c .before .byte-at .ensures .0) (c .if4 .left)
+    post-full _ _ _ (passed _ _ (else1 .before .registers-are-valid .ensures) (else1 .if1 .left)) (short .before .if2 .left)
+    (short .if3 .left) (c .before .byte-at .ensures .0) (c .if4 .left)
 
 pub post-spec : {M : Type 1} → statement M
 post-spec =

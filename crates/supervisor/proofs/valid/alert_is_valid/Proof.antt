@@ -13,4 +13,5 @@ alert-is-valid-spec =
     (λ c. search needs) (λ c. search needs) (λ c κs. search needs)
     (λ c. untrue _ (λ e. failed _ _ (c .before .text-is-valid .ensures) (c .if1 .taken) (valid-text _ _ (alert-valid _ _ e .size))))
     (λ c. search needs) (λ c κs. search needs)
-    (λ c. le-alike 1 (c .byte-at .result) _ (λ h. valid-alert _ _ (search (needs, text-valid, passed))) (λ e. omega (arith, alert-valid _ _ e))))
+    (λ c.
+    le-alike 1 (c .byte-at .result) _ (λ h. valid-alert _ _ (search (needs, text-valid, passed))) (λ e. omega (arith, alert-valid _ _ e))))

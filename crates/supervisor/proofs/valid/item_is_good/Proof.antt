@@ -17,7 +17,8 @@ item-is-good-spec =
     (λ c.
     le-alike (c .byte-at2 .result) _ _
     (λ h. good-item _ _ (record {
-      result = ⊎-elim (λ w. inr (inr (omega arith))) (⊎-elim (λ w. inr (inl (omega arith))) (λ w. inl (omega arith))) (c .before .if1 .came);
+      result =
+          ⊎-elim (λ w. inr (inr (omega arith))) (⊎-elim (λ w. inr (inl (omega arith))) (λ w. inl (omega arith))) (c .before .if1 .came);
       size = search needs;
     }))
     (λ e. omega (arith, item-good _ _ e))))

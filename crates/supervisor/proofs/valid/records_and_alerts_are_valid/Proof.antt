@@ -3,7 +3,8 @@
 use mathlib.Core.Path.{sym, _∙_}
 use native.Mathlib.Omega.{arith}
 use borrow.Author.Needs.{needs}
-use Rattle.supervisor.proofs.ValidLaws.{untrue, alike, passed, failed, record-valid, valid-record, text-valid, valid-text, records-and-alerts-valid, valid-records-and-alerts}
+use Rattle.supervisor.proofs.ValidLaws.{untrue, alike, passed, failed, record-valid, valid-record, text-valid, valid-text}
+use Rattle.supervisor.proofs.ValidLaws.{records-and-alerts-valid, valid-records-and-alerts}
 use Rattle.supervisor.proofs.valid.records_and_alerts_are_valid.Statement.{statement}
 use Rattle.supervisor.proofs.valid.records_and_alerts_are_valid.Tie as tie
 

@@ -3,14 +3,16 @@
 use mathlib.Core.Path.{sym, _∙_}
 use native.Mathlib.Omega.{arith}
 use borrow.Author.Needs.{needs}
-use Rattle.supervisor.proofs.ValidLaws.{untrue, passed, failed, alike, records-and-alerts-valid, valid-records-and-alerts, registers-valid, valid-registers}
+use Rattle.supervisor.proofs.ValidLaws.{untrue, passed, failed, alike, records-and-alerts-valid, valid-records-and-alerts}
+use Rattle.supervisor.proofs.ValidLaws.{registers-valid, valid-registers}
 use Rattle.supervisor.proofs.valid.registers_are_valid.Statement.{statement}
 use Rattle.supervisor.proofs.valid.registers_are_valid.Tie as tie
 
 options-fail : tie.Need-returns-3
 options-fail c =
     untrue _ (λ e.
-    failed _ _ (c .before .options-are-allowed .ensures) (c .if3 .taken) (rw (c .before .before .read-u642 .ensures) (registers-valid _ e .options)))
+    failed _ _ (c .before .options-are-allowed .ensures) (c .if3 .taken)
+    (rw (c .before .before .read-u642 .ensures) (registers-valid _ e .options)))
 
 pub registers-are-valid-spec : {M : Type 1} → statement M
 registers-are-valid-spec =

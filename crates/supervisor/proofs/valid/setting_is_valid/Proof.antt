@@ -20,5 +20,7 @@ setting-is-valid-spec =
     (λ c.
     let held = c .before .before .before .before .before .byte-at in
     alike _ _
-    (λ t. valid-setting _ _ _ _ (record { held = search needs; size = search needs; short = inr (search needs, omega (arith, eqb-true (held .result) 0 t)) }))
+    (λ t.
+    valid-setting _ _ _ _
+    (record { held = search needs; size = search needs; short = inr (search needs, omega (arith, eqb-true (held .result) 0 t)) }))
     (λ e. eq-eqb (held .result) 0 (omega (arith, none-held _ _ _ _ e (search needs))))))

@@ -10,4 +10,5 @@ pub text-is-valid-spec : {M : Type 1} → statement M
 text-is-valid-spec =
     tie.close
     (tie.spec
-    (λ c κs. search needs) (λ c. le-alike (c .word-at .result) _ _ (λ h. valid-text _ _ (omega arith)) (λ e. omega (arith, text-valid _ _ e))))
+    (λ c κs. search needs)
+    (λ c. le-alike (c .word-at .result) _ _ (λ h. valid-text _ _ (omega arith)) (λ e. omega (arith, text-valid _ _ e))))

@@ -33,7 +33,8 @@ loop-again c =
     let at-loop = shortest .before .before .before in (
       search needs,
       all-more _ _ (at-loop .loop .inv .1)
-          (rw (← shortest .before .setting-offset .ensures .0, ← shortest .shortest-setting .ensures, ← longest .longest-setting .ensures .0)
+          (rw
+          (← shortest .before .setting-offset .ensures .0, ← shortest .shortest-setting .ensures, ← longest .longest-setting .ensures .0)
           (passed _ _ (c .before .setting-is-valid .ensures) (c .if1 .left))),
     )
 

@@ -5,4 +5,5 @@ use Rattle.text_lines.proofs.fields.decimal.Statement.{statement}
 use Rattle.text_lines.proofs.fields.decimal.Tie as tie
 
 pub decimal-spec : {M : Type 1} → statement M
-decimal-spec = tie.close (tie.spec (λ c κs. search needs) (λ c κs. search needs) (λ c. rw (← c .before .field .ensures) (c .number .ensures)))
+decimal-spec =
+    tie.close (tie.spec (λ c κs. search needs) (λ c κs. search needs) (λ c. rw (← c .before .field .ensures) (c .number .ensures)))

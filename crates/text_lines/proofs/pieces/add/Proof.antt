@@ -30,7 +30,8 @@ loop-again c =
     let a = c .before .before .before .before .before .before .before .before .before .before .args in (
       search needs,
       search needs,
-      rw (c .added-at .ensures, c .before .part .ensures, l .inv .2) (add-more (now (a .line)) (now (a .room)) (a .n) (l .j) (search needs)),
+      rw (c .added-at .ensures, c .before .part .ensures, l .inv .2)
+          (add-more (now (a .line)) (now (a .room)) (a .n) (l .j) (search needs)),
     )
 
 returns-3 : tie.Need-returns-3 Inv-loop μ-loop
@@ -45,6 +46,7 @@ pub add-spec : {M : Type 1} → statement M
 add-spec =
     tie.close
     (tie.spec
-    Inv-loop μ-loop (λ c κs. search needs) (λ c. add-not _ _ _ (omega arith)) (λ c. search needs) (λ c. add-not _ _ _ (omega arith)) loop-holds
+    Inv-loop μ-loop (λ c κs. search needs) (λ c. add-not _ _ _ (omega arith)) (λ c. search needs) (λ c. add-not _ _ _ (omega arith))
+    loop-holds
     (λ c κs. search needs) (λ c κs. search needs) (λ c. search needs) (λ c. search needs) (λ c. search needs) (λ c. search needs)
     loop-again (λ c. search needs) (λ c. search needs) returns-3)
