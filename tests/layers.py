@@ -2,11 +2,12 @@
 """Checks that the crates above the line layer, `line_claims` too, name of it only what its public contracts rest on: its public types; the modules of
 its specs that the `ensures` of a public function cites, and those that these import; the files of laws in its proofs that import nothing of `line` but
 such modules and files; and its records of statements with their proofs (specs/Item.., proofs/Proved). Anything else of `line` that a file names is printed with its place, and the check fails.
-Checks too that in no crate the modules of the code, or those of specs/, stand in a cycle by what each names of the others.
+Checks too that in no crate the modules of the code, or those of specs/, stand in a cycle by what each names of the others; that no crate with code
+depends on a crate of claims; and that the code of `plain`, the second reader, names nothing of the line layer's code.
 Assumes the layout of crates.txt, and uses, paths and contracts as `rt fmt` lays them out.
 
 usage: tests/layers.py            prints what is wrong, or how much was looked at
-       tests/layers.py planted    plants cycles, which must be seen"""
+       tests/layers.py planted    plants cycles, and code of the line layer in `plain`, which must be seen"""
 import pathlib
 import re
 import sys
@@ -136,6 +137,25 @@ def crate_modules():
             yield crate.name, 'specs', texts_of(crate / 'specs'), specs_names
 
 
+# ---- The second reader, and claims below code
+
+def calls_of_line(texts):
+    """The modules of some code that name code of the line layer."""
+    return sorted(name for name, text in texts.items() if re.search(r'\bline::|^\s*use line\b', text, re.M))
+
+
+def on_claims(listed):
+    """The crates with code that depend on a crate of claims, by the text of crates.txt."""
+    for name, others in re.findall(r'^(\w+):(.*)$', listed, re.M):
+        claims = [other for other in others.split() if other.endswith('_claims')]
+        if claims and not re.search(r'(^|_)claims$', name):
+            yield f'crates.txt: {name} depends on {", ".join(claims)}'
+
+
+def code_faults(texts, listed):
+    return [f'crates/plain/src/{name}.rt names code of the line layer' for name in calls_of_line(texts)] + list(on_claims(listed))
+
+
 def planted():
     """Cycles in memory: between two modules of code, over a third, with the root, and in specs/."""
     folders = {(crate, part): (texts, read) for crate, part, texts, read in crate_modules()}
@@ -146,7 +166,12 @@ def planted():
         texts, read = folders[crate, part]
         if cycles(read(texts)) or not cycles(read({**texts, name: line + '\n' + texts[name]})):
             missed.append(f'layers: not seen: {line} in {name} of {crate}')
-    print('\n'.join(missed + [f'layers: {len(plants) - len(missed)} of {len(plants)} planted cycles seen']))
+    plain, listed = folders['plain', 'src'][0], (ROOT / 'crates.txt').read_text()
+    others = [({**plain, 'lib': plain['lib'] + '\nuse line::reader;'}, listed), ({**plain, 'lib': plain['lib'] + '\nfn f() { line::reader::tail(s); }'}, listed),
+              (plain, listed.replace('\nplain: line', '\nplain: line_claims line'))]
+    missed += [f'layers: not seen: mistake {n} in plain' for n, (texts, crates) in enumerate(others, 1) if not code_faults(texts, crates)]
+    count = len(plants) + len(others)
+    print('\n'.join(missed + [f'layers: {count - len(missed)} of {count} planted cycles and mistakes in plain seen']))
     sys.exit(1 if missed else 0)
 
 
@@ -174,8 +199,10 @@ def main():
     for crate, part, texts, read in crate_modules():
         modules += len(texts)
         circular += [f'crates/{crate}/{part}: {", ".join(sorted(cycle))} stand in a cycle' for cycle in cycles(read(texts))]
-    print('\n'.join(wrong + circular + [f'layers: {count} names of line\'s modules in the crates above it, {len(wrong)} of them internal; {modules} modules, {len(circular)} cycles']))
-    sys.exit(1 if wrong or circular or not count or not modules else 0)
+    others = code_faults(texts_of(ROOT / 'crates' / 'plain' / 'src'), (ROOT / 'crates.txt').read_text())
+    print('\n'.join(wrong + circular + others + [f'layers: {count} names of line\'s modules in the crates above it, {len(wrong)} of them internal; {modules} modules, {len(circular)} cycles; '
+                                                   f'{len(others)} names of the line layer in plain, or of claims below code']))
+    sys.exit(1 if wrong or circular or others or not count or not modules else 0)
 
 
 main()

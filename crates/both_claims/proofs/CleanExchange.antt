@@ -13,10 +13,9 @@ use Rattle.octets.specs.Bytes.{Each, Byte, bytes}
 use Rattle.octets.proofs.Numbers.{length-bytes, bytes-each}
 use Rattle.line.specs.Limits.{longest-data}
 use Rattle.line.specs.Message.{Message, InRange, message}
-use Rattle.line.specs.Frame.{frame}
+use Rattle.line.specs.Frame.{frame, form, split, nonEmpty}
 use Rattle.line_claims.proofs.CobsClaims.{no-zero}
 use Rattle.line_claims.proofs.MessageLaws.{message-each}
-use Rattle.line_claims.specs.Pieces.{form, split, nonEmpty}
 use Rattle.line_claims.specs.Loans.{first, enoughPart}
 use Rattle.octets.proofs.Each.{each-append}
 use Rattle.line_claims.specs.Calls.{gathered}

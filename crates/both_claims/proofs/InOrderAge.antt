@@ -13,10 +13,9 @@ use lib.ListN.{take}
 use borrow.Author.Tests.{ltb-true, ltb-false}
 use Rattle.octets.specs.Bytes.{Each}
 use Rattle.line.specs.Message.{Message, InRange}
-use Rattle.line.specs.Frame.{frame}
+use Rattle.line.specs.Frame.{frame, split, nonEmpty, closedBehind}
 use Rattle.line.specs.Judge.{judge}
-use Rattle.line_claims.specs.Pieces.{split, nonEmpty, closedBehind}
-use Rattle.line_claims.proofs.Pieces.{nonEmpty-append, closed-join}
+use Rattle.line.proofs.Pieces.{nonEmpty-append, closed-join}
 use Rattle.line_claims.specs.Calls.{gathered, goodOf, goodMessages}
 use Rattle.line_claims.proofs.ReaderClaim.{gathered-append}
 use Rattle.requester.specs.State.{requestFrame, MainState}

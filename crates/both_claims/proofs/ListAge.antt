@@ -12,8 +12,8 @@ use Rattle.octets.specs.Bytes.{Each}
 use Rattle.octets.proofs.Conditions.{cond-by}
 use Rattle.octets.proofs.Each.{each-append}
 use Rattle.line.specs.Message.{Message}
-use Rattle.line_claims.specs.Pieces.{split, nonEmpty, closedBehind}
-use Rattle.line_claims.proofs.Pieces.{nonEmpty-append, closed-join}
+use Rattle.line.specs.Frame.{split, nonEmpty, closedBehind}
+use Rattle.line.proofs.Pieces.{nonEmpty-append, closed-join}
 use Rattle.requester.specs.State.{isSome, MainState}
 use Rattle.requester.specs.Requester.{replySequence}
 use Rattle.requester_claims.specs.View.{mainView}

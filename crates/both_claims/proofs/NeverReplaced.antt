@@ -13,7 +13,7 @@ use Rattle.octets.proofs.Conditions.{cond-by}
 use Rattle.line.specs.Message.{Message}
 use Rattle.line.specs.Judge as Line
 use Rattle.line.specs.Judge.{judge}
-use Rattle.line_claims.specs.Pieces.{split, nonEmpty}
+use Rattle.line.specs.Frame.{split, nonEmpty}
 use Rattle.line_claims.specs.Calls.{gathered, goodOf, goodMessages}
 use Rattle.requester_claims.specs.View.{mainView}
 use Rattle.supervisor.specs.Limits.{SettingsKey, last-edition}

@@ -13,8 +13,7 @@ use lib.ListN.{length}
 use Rattle.octets.specs.Bytes.{Each}
 use Rattle.octets.proofs.Conditions.{cond-by}
 use Rattle.line.specs.Message.{Message}
-use Rattle.line.specs.Frame.{frame}
-use Rattle.line_claims.specs.Pieces.{split, nonEmpty, closedBehind}
+use Rattle.line.specs.Frame.{frame, split, nonEmpty, closedBehind}
 use Rattle.requester_claims.specs.Histories.{MainAnswer, MainCall}
 use Rattle.requester_claims.specs.Numbers.{Frame}
 use Rattle.supervisor.specs.Limits

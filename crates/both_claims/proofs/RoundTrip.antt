@@ -23,10 +23,9 @@ use Rattle.requester.specs.Requester.{staysOut, replySequence}
 use Rattle.requester_claims.specs.Histories.{MainLent, MainMade, MainMeans, mainEnough, mainLeft, mainMade, mainMeant, mainMeantMade}
 use Rattle.requester_claims.specs.Histories as Main
 use Rattle.line.specs.Cobs.{cobs}
-use Rattle.line.specs.Frame.{frame}
+use Rattle.line.specs.Frame.{frame, form}
 use Rattle.line_claims.proofs.CobsClaims.{above-zero, no-zero, form-fits}
 use Rattle.line_claims.proofs.MessageLaws.{message-each}
-use Rattle.line_claims.specs.Pieces.{form}
 use Rattle.supervisor.specs.State.{State, withReceived}
 use Rattle.supervisor.specs.Calls.{Parts}
 use Rattle.responder.specs.Commands.{commandOfNumber, withNumber, commandNumber}

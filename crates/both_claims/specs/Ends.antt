@@ -13,8 +13,7 @@ use Rattle.octets.specs.Bytes.{Each, Byte, bytes}
 use Rattle.line.specs.Numbers.{status-length, first-version, command-reboot, command-power-off, command-alert, command-key-lookup}
 use Rattle.line.specs.Numbers.{reply-status, reply-key-lookup}
 use Rattle.line.specs.Message.{Message}
-use Rattle.line.specs.Frame.{frame}
-use Rattle.line_claims.specs.Pieces.{split, nonEmpty}
+use Rattle.line.specs.Frame.{frame, split, nonEmpty}
 use Rattle.line_claims.specs.Calls.{goodMessages}
 use Rattle.requester.specs.State as RequesterState
 use Rattle.requester.specs.State.{isSome, Request, outstanding, requestFrame, MainState}

@@ -10,8 +10,7 @@ use Rattle.octets.specs.Bytes.{Each, Byte, bytes}
 use Rattle.line.specs.Limits.{longest-data}
 use Rattle.line.specs.Numbers.{command-key-set}
 use Rattle.line.specs.Message.{Message}
-use Rattle.line.specs.Frame.{frame}
-use Rattle.line_claims.specs.Pieces.{form}
+use Rattle.line.specs.Frame.{frame, form}
 use Rattle.requester.specs.Layout
 use Rattle.requester.specs.State.{Request}
 use Rattle.requester_claims.specs.Histories.{MainDid, MainLent, MainMade, mainEnough, mainMade}

@@ -9,7 +9,7 @@ use Prim.Native.Nat.{ℕ}
 use lib.ListN.{length}
 use Rattle.octets.specs.Bytes.{Each, Byte}
 use Rattle.line.specs.Message.{Message}
-use Rattle.line_claims.specs.Pieces.{form}
+use Rattle.line.specs.Frame.{form}
 use Rattle.requester.specs.State.{Request, mainState}
 use Rattle.requester.specs.Layout
 use Rattle.requester.specs.Calls.{MainParts}

@@ -13,8 +13,8 @@ use Rattle.octets.specs.Bytes.{Each}
 use Rattle.octets.proofs.Each.{each-append}
 use Rattle.line.specs.Reader as LineReader
 use Rattle.line.proofs.State.{valid-ready, ready-valid, ready-pushed}
-use Rattle.line_claims.specs.Pieces.{split, closedBehind}
-use Rattle.line_claims.proofs.Pieces.{split-at, split-none, closed-rest}
+use Rattle.line.specs.Frame.{split, closedBehind}
+use Rattle.line.proofs.Pieces.{split-at, split-none, closed-rest}
 use Rattle.supervisor.specs.State.{State}
 use Rattle.supervisor.specs.Calls.{Parts}
 use Rattle.responder.specs.Requests.{verdictSince}

@@ -7,8 +7,8 @@ use Prim.Native.Nat.{ℕ}
 use native.Mathlib.Omega.{arith}
 use lib.ListN.{length, drop-of-length-le}
 use lib.Seq.{drop-append-seam}
-use Rattle.line_claims.specs.Pieces.{split, closedBehind}
-use Rattle.line_claims.proofs.Pieces.{closed-join}
+use Rattle.line.specs.Frame.{split, closedBehind}
+use Rattle.line.proofs.Pieces.{closed-join}
 use Rattle.supervisor_claims.specs.Histories
 use Rattle.supervisor_claims.specs.Histories.{Call, Made, enough}
 use Rattle.supervisor_claims.specs.FrameHistory.{pieceRead, isAcceptedStart, bytesReceivedBy, startsAnew, receivedSince}

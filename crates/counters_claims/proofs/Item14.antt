@@ -4,7 +4,7 @@ use mathlib.Core.Path.{_≡_, refl, sym, ap, _∙_}
 use mathlib.Core.List.{List, [], _∷_}
 use mathlib.Core.Option.{Option, none, some}
 use Prim.Native.Nat.{ℕ}
-use Rattle.line_claims.specs.Pieces.{split, closedBehind}
+use Rattle.line.specs.Frame.{split, closedBehind}
 use Rattle.supervisor.specs.State.{State}
 use Rattle.supervisor.specs.Calls.{Parts}
 use Rattle.counters.specs.declared.Counters.{Counters}

@@ -6,7 +6,7 @@ use mathlib.Core.List.{List, [], _∷_, _++_}
 use mathlib.Core.Option.{Option, none, some}
 use Prim.Native.Nat.{ℕ}
 use native.Mathlib.Omega.{arith}
-use Rattle.line_claims.specs.Pieces.{split}
+use Rattle.line.specs.Frame.{split}
 use Rattle.supervisor.specs.Calls.{Parts}
 use Rattle.counters.specs.declared.Counters.{Counters}
 use Rattle.counters.specs.Count.{endedByFrame, clearedCounters, bumpedForAll}

@@ -5,7 +5,7 @@ use mathlib.Core.List.{List, [], _∷_, _++_}
 use mathlib.Core.Option.{Option, none, some}
 use Prim.Native.Nat.{ℕ}
 use lib.ListN.{length, drop}
-use Rattle.line_claims.specs.Pieces.{split}
+use Rattle.line.specs.Frame.{split}
 use Rattle.supervisor.specs.Calls.{Parts}
 use Rattle.responder.specs.Receive.{Ended, receivePromise, stepPromise}
 use Rattle.counters.specs.declared.Counters.{Counters}

@@ -5,6 +5,7 @@ pub mod Columns
 pub mod Message
 pub mod FrameLength
 pub mod Runs
+pub mod Pieces
 pub mod Alike
 pub mod Groups
 pub mod Decoding

@@ -18,7 +18,7 @@ use Rattle.octets.proofs.Each.{each-append}
 use Rattle.line.specs.Limits.{longest-group}
 use Rattle.line.specs.Cobs.{full-code, places-left, coded, groups, cobs, impliedZero, lastOneAfterFull, groupBytes, uncobs}
 use Rattle.line.proofs.FrameLength
-use Rattle.line_claims.specs.Pieces.{NonZero}
+use Rattle.line.specs.Frame.{NonZero}
 use Rattle.line_claims.specs.Demand3.{LineRoundTrip, NoZero, FormFits, FrameFits}
 
 -- ---- no last 01 is written after a full group

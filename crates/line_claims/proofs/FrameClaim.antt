@@ -8,11 +8,10 @@ use native.Mathlib.Omega.{arith}
 use lib.ListN.{length}
 use Rattle.octets.specs.Bytes.{Byte, Each}
 use Rattle.line.specs.Message.{Message}
-use Rattle.line.specs.Frame.{frame, WireBytes, over, idle, sent}
+use Rattle.line.specs.Frame.{frame, WireBytes, over, idle, sent, nonEmpty, withZeros, NonZero}
 use Rattle.line.specs.Judge.{LineVerdict, failure, good, judge}
 use Rattle.line.specs.Reader.{verdictReport, reader-length}
-use Rattle.line_claims.specs.Pieces.{nonEmpty, withZeros, NonZero}
-use Rattle.line_claims.proofs.Pieces.{split-each, split-whole}
+use Rattle.line.proofs.Pieces.{split-each, split-whole}
 use Rattle.line_claims.proofs.SpellingClaim.{good-form, good-frame}
 use Rattle.line_claims.specs.Calls.{LineCall, afterLineCalls, freshReader, frameReport, gathered, goodOf, reasonOf, goodMessages}
 use Rattle.line_claims.specs.Calls.{failureReasons}

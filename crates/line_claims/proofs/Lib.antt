@@ -2,7 +2,6 @@
 -- Assumes nothing.
 pub mod Samples
 pub mod MessageLaws
-pub mod Pieces
 pub mod CobsClaims
 pub mod JudgeClaim
 pub mod SpellingClaim

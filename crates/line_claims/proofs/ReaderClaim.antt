@@ -22,8 +22,8 @@ use Rattle.line.proofs.State.{Ready, ready-valid, length-counted, count-counted
 use Rattle.line.proofs.Lent.{count-append}
 use Rattle.line.proofs.Held.{finish-empty, held-form, held-over, held-count, data-unpacked, finish-leaves}
 use Rattle.line_claims.proofs.JudgeClaim.{judge-of-message}
-use Rattle.line_claims.specs.Pieces.{split, nonEmpty, form}
-use Rattle.line_claims.proofs.Pieces.{split-close, split-more, nonEmpty-append}
+use Rattle.line.specs.Frame.{split, nonEmpty, form}
+use Rattle.line.proofs.Pieces.{split-close, split-more, nonEmpty-append}
 use Rattle.line_claims.proofs.WireClaim.{wire-forms, wire-range}
 use Rattle.line_claims.proofs.LoanLaws.{lent-enough, front}
 use Rattle.line_claims.specs.Calls.{LineCall, read, start, lentState, back, messagesHanded, reasonsReported, answersTo00, Reader}

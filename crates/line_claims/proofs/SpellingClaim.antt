@@ -16,10 +16,9 @@ use Rattle.line.specs.Limits.{longest-group}
 use Rattle.line.specs.Message.{Message, InRange, message}
 use Rattle.line.specs.Cobs.{full-code, places-left, Group, coded, unlessEnd, groups, cobs, impliedZero, lastOneAfterFull, groupBytes}
 use Rattle.line.specs.Cobs.{uncobs}
-use Rattle.line.specs.Frame.{frame}
+use Rattle.line.specs.Frame.{frame, NonZero}
 use Rattle.line.specs.Judge.{good, judgeForm, judge}
 use Rattle.line.proofs.Lent.{fit-length}
-use Rattle.line_claims.specs.Pieces.{NonZero}
 use Rattle.line_claims.proofs.CobsClaims.{uncobs-each}
 use Rattle.line_claims.proofs.MessageLaws.{fields-range, message-written}
 use Rattle.line_claims.proofs.JudgeClaim.{judge-good}

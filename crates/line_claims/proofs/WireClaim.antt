@@ -6,9 +6,8 @@ use Prim.Native.Nat.{ℕ}
 use Rattle.octets.specs.Bytes.{Each}
 use Rattle.line.specs.Message.{Message, InRange, message}
 use Rattle.line.specs.Cobs.{cobs}
-use Rattle.line.specs.Frame.{frame, WireBytes, over, idle, sent}
-use Rattle.line_claims.specs.Pieces.{split, nonEmpty, form}
-use Rattle.line_claims.proofs.Pieces.{split-at}
+use Rattle.line.specs.Frame.{frame, WireBytes, over, idle, sent, split, nonEmpty, form}
+use Rattle.line.proofs.Pieces.{split-at}
 use Rattle.line_claims.proofs.CobsClaims.{above-zero}
 use Rattle.line_claims.proofs.JudgeClaim.{judge-of-message}
 use Rattle.line_claims.specs.Demand3.{OneMeaning}

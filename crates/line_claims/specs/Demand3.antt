@@ -13,11 +13,10 @@ use Rattle.line.specs.Limits.{longest-data, longest-form}
 use Rattle.line.specs.Checksum.{checksum}
 use Rattle.line.specs.Message.{Message, MessageTyped, InRange, message}
 use Rattle.line.specs.Cobs.{cobs, uncobs}
-use Rattle.line.specs.Frame.{frame, WireBytes}
+use Rattle.line.specs.Frame.{frame, WireBytes, NonZero, split, nonEmpty}
 use Rattle.line.specs.Judge.{failure, sequenceOf, checksumOf, wrongLength, wrongChecksum, judgeForm}
 use Rattle.line.specs.Reader.{validReader, readPromise, tailPromise}
 use Rattle.line.specs.Writer.{WriteReport, writePromise}
-use Rattle.line_claims.specs.Pieces.{NonZero, split, nonEmpty}
 use Rattle.line_claims.specs.Calls.{LineRead, Reader, readerOn, afterLineReads, OfFreshReader, frameReport, goodMessages}
 use Rattle.line_claims.specs.Calls.{failureReasons, tailMeant}
 use Rattle.line_claims.specs.Changes.{Near, AllSameOr00Ff}

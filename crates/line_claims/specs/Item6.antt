@@ -8,9 +8,8 @@ use lib.ListN.{length}
 use Rattle.octets.specs.Bytes.{Byte, Each}
 use Rattle.line.specs.Message.{Message}
 use Rattle.line.specs.Cobs.{cobs, uncobs}
-use Rattle.line.specs.Frame.{frame, WireBytes}
+use Rattle.line.specs.Frame.{frame, WireBytes, NonZero, split, nonEmpty, withZeros}
 use Rattle.line.specs.Judge.{failure, good, judge}
-use Rattle.line_claims.specs.Pieces.{NonZero, split, nonEmpty, withZeros}
 use Rattle.line_claims.specs.Calls.{Reader, OfFreshReader, goodFrames, reportedBytes}
 
 -- a form that stands ahead of a 00: bytes 1 to 255, not none

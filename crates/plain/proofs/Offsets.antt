@@ -8,7 +8,7 @@ use native.Mathlib.Numerals.{add-one}
 use native.Mathlib.Omega.{arith}
 use lib.ListN.{length, drop, getD, drop-of-length-le}
 use lib.Seq.{drop-cons}
-use Rattle.line_claims.specs.Pieces.{aheadOfPieces, split}
+use Rattle.line.specs.Frame.{aheadOfPieces, split}
 use Rattle.plain.specs.Answers.{firstOf, firstPiece, pieceAt}
 use Rattle.plain.specs.declared.Piece.{Piece}
 use Rattle.plain.specs.declared.Piece.the-variants.{Frame, Tail}

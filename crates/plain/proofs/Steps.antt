@@ -7,8 +7,8 @@ use native.Mathlib.Omega.{arith}
 use lib.ListN.{length, take, drop, length-append, length-drop}
 use lib.Seq.{take-at, drop-at, drop-drop}
 use Rattle.octets.specs.Bytes.{Each, run}
-use Rattle.line_claims.specs.Pieces.{split, withZeros}
-use Rattle.line_claims.proofs.Pieces.{split-at, split-each, split-whole}
+use Rattle.line.specs.Frame.{split, withZeros}
+use Rattle.line.proofs.Pieces.{split-at, split-each, split-whole}
 use Rattle.plain.specs.Listing.{ListedFrame, Listing, listedFrame, listedFrames, listingFrom}
 use Rattle.plain.specs.Answers.{firstOf, pieceAt}
 use Rattle.plain.specs.declared.Piece.the-variants.{Frame, Tail}

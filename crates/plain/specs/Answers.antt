@@ -10,7 +10,7 @@ use Rattle.octets.specs.Bytes.{run, overlay}
 use Rattle.line.specs.Limits.{header-length, longest-form}
 use Rattle.line.specs.Cobs.{full-code, impliedZero, lastOneAfterFull}
 use Rattle.line.specs.Judge.{LineVerdict, failure, good}
-use Rattle.line_claims.specs.Pieces.{Pieces, split}
+use Rattle.line.specs.Frame.{Pieces, split}
 use Rattle.plain.specs.declared.Piece.{Piece}
 use Rattle.plain.specs.declared.Piece.the-variants.{Frame, Tail}
 use Rattle.plain.specs.declared.Answer.{Answer}

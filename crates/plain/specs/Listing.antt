@@ -4,7 +4,7 @@ use mathlib.Core.List.{List, [], _∷_, _++_}
 use Prim.Native.Nat.{ℕ, _+_}
 use lib.ListN.{length}
 use Rattle.line.specs.Judge.{LineVerdict, judge}
-use Rattle.line_claims.specs.Pieces.{Pieces, split}
+use Rattle.line.specs.Frame.{Pieces, split}
 
 -- a frame that is not empty: the offset of its first byte in the whole stream, and the line layer's verdict
 pub record ListedFrame : Type 0 where

@@ -6,7 +6,7 @@ use Prim.Native.Nat.{ℕ, _+_}
 use lib.ListN.{length}
 use Rattle.line.specs.Judge.{LineVerdict, failure, good, judge}
 use Rattle.line.specs.Reader.{verdictReport}
-use Rattle.line_claims.specs.Pieces.{split, nonEmpty}
+use Rattle.line.specs.Frame.{split, nonEmpty}
 use Rattle.line_claims.specs.Calls.{frameReport, gathered, goodOf, reasonOf, tailMeant}
 use Rattle.line_claims.proofs.ReaderClaim.{any-stream, any-messages, any-failures, any-tail}
 use Rattle.plain.specs.Listing.{listedFrame, listedFrames, listing}

@@ -5,7 +5,7 @@ use Rattle.octets.specs.Bytes.{number, equal}
 use Rattle.line.specs.Checksum.{sums, checksum}
 use Rattle.line.specs.Cobs.{groupBytes, uncobs}
 use Rattle.line.specs.Judge.{fields, judgeForm, judge}
-use Rattle.line_claims.specs.Pieces.{split}
+use Rattle.line.specs.Frame.{split}
 use Rattle.line_claims.specs.Samples.{status-request}
 use Rattle.plain.specs.Listing.{listedFrame, listedFrames, listing}
 use Rattle.plain_claims.specs.Samples.{plainSamples}

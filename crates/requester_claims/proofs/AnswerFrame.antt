@@ -14,7 +14,7 @@ use Rattle.octets.proofs.Each.{each-append, each-take}
 use Rattle.line.specs.Limits.{longest-data, longest-form}
 use Rattle.line.specs.Message.{Message}
 use Rattle.line.specs.Judge.{judge}
-use Rattle.line_claims.specs.Pieces.{NonZero}
+use Rattle.line.specs.Frame.{NonZero}
 use Rattle.line_claims.proofs.SpellingClaim.{good-frame}
 use Rattle.requester.specs.Limits.{last-number}
 use Rattle.requester.specs.State.{Request, RecoveryStep, MainState, mainFresh, isSome, outstanding, requestFrame}

@@ -5,7 +5,7 @@ use mathlib.Core.Bool.{Bool, true, false}
 use mathlib.Core.List.{List, [], _∷_}
 use Prim.Native.Nat.{ℕ, _+_, _≤_}
 use native.Mathlib.Omega.{arith}
-use Rattle.line_claims.specs.Pieces.{split}
+use Rattle.line.specs.Frame.{split}
 use Rattle.supervisor.specs.Limits
 use Rattle.supervisor.specs.State.{State, unset, withSetting, withSettings}
 use Rattle.supervisor.specs.Calls.{Parts}

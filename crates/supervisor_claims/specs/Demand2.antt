@@ -12,7 +12,7 @@ use Rattle.octets.specs.Bytes.{Each, Byte}
 use Rattle.line.specs.Limits.{longest-form}
 use Rattle.line.specs.Numbers.{first-version, command-key-set}
 use Rattle.line.specs.Message.{Message}
-use Rattle.line_claims.specs.Pieces.{split, nonEmpty}
+use Rattle.line.specs.Frame.{split, nonEmpty}
 use Rattle.supervisor.specs.Limits.{last-edition, SettingsKey}
 use Rattle.supervisor.specs.Layout
 use Rattle.supervisor.specs.State.{Factory, Setting, Settings, State, fresh, withPending, withReceived}

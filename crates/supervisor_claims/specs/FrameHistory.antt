@@ -11,7 +11,7 @@ use lib.ListN as ListN
 use lib.ListN.{length}
 use Rattle.line.specs.Limits.{longest-form}
 use Rattle.line.specs.Message.{Message}
-use Rattle.line_claims.specs.Pieces.{split, nonEmpty, closedBehind}
+use Rattle.line.specs.Frame.{split, nonEmpty, closedBehind}
 use Rattle.supervisor.specs.State.{State, withReceived, withPending}
 use Rattle.supervisor.specs.Local
 use Rattle.supervisor.specs.Calls.{Parts}

@@ -9,7 +9,7 @@ use lib.Dec.{eqb}
 use Rattle.octets.specs.Bytes.{Each}
 use Rattle.line.specs.Numbers.{command-reboot, command-power-off, command-alert, reply-alert}
 use Rattle.line.specs.Message.{Message}
-use Rattle.line_claims.specs.Pieces.{split}
+use Rattle.line.specs.Frame.{split}
 use Rattle.supervisor.specs.State.{State}
 use Rattle.supervisor.specs.Calls.{Parts}
 use Rattle.responder.specs.Requests.{failure, good, verdict, carryOut, alertData, oldest, others}

@@ -11,8 +11,7 @@ use lib.ListN.{length, take}
 use Rattle.octets.specs.Bytes.{bytes}
 use Rattle.line.specs.Numbers.{command-key-set, command-key-lookup, reply-key-lookup}
 use Rattle.line.specs.Message.{Message}
-use Rattle.line.specs.Frame.{frame}
-use Rattle.line_claims.specs.Pieces.{split, nonEmpty}
+use Rattle.line.specs.Frame.{frame, split, nonEmpty}
 use Rattle.line_claims.specs.TableTests.{test, firstFailing}
 use Rattle.supervisor.specs.Number.{topSet}
 use Rattle.supervisor.specs.Limits

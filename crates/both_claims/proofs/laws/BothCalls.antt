@@ -8,7 +8,7 @@ use Prim.Native.Nat.{ℕ}
 use Rattle.octets.specs.Bytes.{Each, Byte}
 use Rattle.octets.proofs.Conditions.{cond-by}
 use Rattle.line.specs.Message.{Message}
-use Rattle.line_claims.specs.Pieces.{split}
+use Rattle.line.specs.Frame.{split}
 use Rattle.requester.specs.State.{MainState, mainFresh}
 use Rattle.requester.specs.Requester.{answer}
 use Rattle.requester.specs.Calls.{MainPartsValid}

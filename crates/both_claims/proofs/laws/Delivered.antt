@@ -11,8 +11,8 @@ use lib.ListN as ListN
 use lib.ListN.{length, take-append-drop}
 use Rattle.octets.specs.Bytes.{Each, overlay}
 use Rattle.octets.proofs.Overlay.{overlay-inside}
-use Rattle.line_claims.specs.Pieces.{split}
-use Rattle.line_claims.proofs.Pieces.{split-at}
+use Rattle.line.specs.Frame.{split}
+use Rattle.line.proofs.Pieces.{split-at}
 use Rattle.supervisor.specs.State.{State, withReceived}
 use Rattle.supervisor.specs.Local
 use Rattle.responder.specs.Requests.{receiveByte, receiveStream}

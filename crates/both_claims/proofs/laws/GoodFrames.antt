@@ -8,8 +8,8 @@ use Rattle.octets.specs.Bytes.{Each, Byte}
 use Rattle.octets.proofs.Each.{each-append}
 use Rattle.line.specs.Message.{InRange}
 use Rattle.line.specs.Judge.{LineVerdict, failure, good, judge}
-use Rattle.line_claims.specs.Pieces.{split, nonEmpty, NonZero}
-use Rattle.line_claims.proofs.Pieces.{split-each, closed-rest}
+use Rattle.line.specs.Frame.{split, nonEmpty, NonZero}
+use Rattle.line.proofs.Pieces.{split-each, closed-rest}
 use Rattle.line_claims.specs.Calls.{gathered, goodOf, goodMessages}
 use Rattle.line_claims.proofs.SpellingClaim.{good-form}
 use Rattle.supervisor_claims.specs.FrameHistory as Received

@@ -21,8 +21,8 @@ use Rattle.line.specs.Numbers.{first-version, second-version}
 use Rattle.line.specs.Message.{Message, InRange}
 use Rattle.line.specs.Reader as LineReader
 use Rattle.line.proofs.State.{valid-ready, count-counted}
-use Rattle.line_claims.specs.Pieces.{NonZero, split}
-use Rattle.line_claims.proofs.Pieces.{split-at}
+use Rattle.line.specs.Frame.{NonZero, split}
+use Rattle.line.proofs.Pieces.{split-at}
 use Rattle.supervisor.specs.State.{Retained, State, withReceived}
 use Rattle.supervisor.specs.Calls.{Parts}
 use Rattle.responder.specs.Requests.{versionServed, good, verdict, receiveStream, replyOf}

@@ -6,10 +6,9 @@ use mathlib.Core.Option.{some}
 use Prim.Native.Nat.{ℕ}
 use Rattle.octets.specs.Bytes.{Each, Byte}
 use Rattle.line.specs.Message.{Message, InRange}
-use Rattle.line.specs.Frame.{frame}
+use Rattle.line.specs.Frame.{frame, split, NonZero}
 use Rattle.line.specs.Judge as Line
 use Rattle.line.specs.Judge.{judge}
-use Rattle.line_claims.specs.Pieces.{split, NonZero}
 use Rattle.requester.specs.State.{MainState}
 use Rattle.requester_claims.specs.Numbers.{Frame, OnePerNumber}
 use Rattle.requester_claims.proofs.Numbers.{Agrees}

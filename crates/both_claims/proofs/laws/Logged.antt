@@ -8,9 +8,8 @@ use Prim.Native.Nat.{ℕ, zero, suc, _≤_}
 use native.Mathlib.Omega.{arith}
 use lib.ListN.{length, take}
 use Rattle.line.specs.Message.{Message, InRange}
-use Rattle.line.specs.Frame.{frame}
-use Rattle.line_claims.specs.Pieces.{split, nonEmpty, form}
-use Rattle.line_claims.proofs.Pieces.{split-join, nonEmpty-append, closed-rest}
+use Rattle.line.specs.Frame.{frame, split, nonEmpty, form}
+use Rattle.line.proofs.Pieces.{split-join, nonEmpty-append, closed-rest}
 use Rattle.line_claims.specs.Calls.{gathered, goodMessages}
 use Rattle.line_claims.proofs.ReaderClaim.{gathered-append}
 use Rattle.line_claims.proofs.JudgeClaim.{judge-of-message}

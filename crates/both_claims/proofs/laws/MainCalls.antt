@@ -15,10 +15,9 @@ use Rattle.octets.proofs.Conditions.{cond-by}
 use Rattle.octets.proofs.Each.{each-append, each-take}
 use Rattle.line.specs.Numbers.{status-length}
 use Rattle.line.specs.Message.{Message, InRange}
-use Rattle.line.specs.Frame.{frame}
+use Rattle.line.specs.Frame.{frame, split, nonEmpty}
 use Rattle.line.specs.Judge.{good}
-use Rattle.line_claims.specs.Pieces.{split, nonEmpty}
-use Rattle.line_claims.proofs.Pieces.{split-join, closed-rest, closed-join, nonEmpty-append}
+use Rattle.line.proofs.Pieces.{split-join, closed-rest, closed-join, nonEmpty-append}
 use Rattle.line_claims.specs.Calls.{goodOf, goodMessages}
 use Rattle.line_claims.proofs.ReaderClaim.{gathered-append}
 use Rattle.requester.specs.State.{Request, RecoveryStep, fetch, acknowledge, alert, outstanding, outstandingOf, isSome, MainState}

@@ -16,8 +16,8 @@ use Rattle.octets.proofs.Each.{each-append}
 use Rattle.line.specs.Limits.{longest-form}
 use Rattle.line.specs.Message.{Message}
 use Rattle.line.specs.Judge.{good, judge}
-use Rattle.line_claims.specs.Pieces.{split, nonEmpty}
-use Rattle.line_claims.proofs.Pieces.{split-at, split-none}
+use Rattle.line.specs.Frame.{split, nonEmpty}
+use Rattle.line.proofs.Pieces.{split-at, split-none}
 use Rattle.line_claims.specs.Calls.{gathered, goodOf, goodMessages}
 use Rattle.requester.specs.State.{MainState, isSome}
 use Rattle.requester.specs.Requester

@@ -13,9 +13,8 @@ use borrow.Author.Tests.{ltb-true, ltb-false}
 use Rattle.octets.specs.Bytes.{Each, Byte}
 use Rattle.line.specs.Limits.{longest-form}
 use Rattle.line.specs.Message.{Message, InRange}
-use Rattle.line.specs.Frame.{frame}
+use Rattle.line.specs.Frame.{frame, form, split}
 use Rattle.line_claims.specs.Calls.{gathered}
-use Rattle.line_claims.specs.Pieces.{form, split}
 use Rattle.requester.specs.Layout
 use Rattle.requester.specs.State.{Request, requestFrame, MainState, mainState}
 use Rattle.requester.specs.Calls as MainCalls

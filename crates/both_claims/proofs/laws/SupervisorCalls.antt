@@ -11,10 +11,9 @@ use Rattle.octets.specs.Bytes.{Each, Byte}
 use Rattle.octets.proofs.Conditions.{cond-by}
 use Rattle.octets.proofs.Each.{each-append, each-take}
 use Rattle.line.specs.Message.{Message, InRange}
-use Rattle.line.specs.Frame.{frame}
+use Rattle.line.specs.Frame.{frame, NonZero}
 use Rattle.line.specs.Judge.{LineVerdict, failure, good, judge}
 use Rattle.line_claims.specs.Calls.{gathered, goodOf, goodMessages}
-use Rattle.line_claims.specs.Pieces.{NonZero}
 use Rattle.line_claims.proofs.JudgeClaim.{never}
 use Rattle.requester.specs.State.{MainState}
 use Rattle.requester_claims.specs.Numbers.{Frame}

@@ -7,7 +7,7 @@ use mathlib.Core.Option.{Option}
 use Prim.Native.Nat.{ℕ}
 use native.Mathlib.Omega.{arith}
 use lib.ListN.{length, drop-of-length-le}
-use Rattle.line_claims.specs.Pieces.{split, nonEmpty, closedBehind}
+use Rattle.line.specs.Frame.{split, nonEmpty, closedBehind}
 use Rattle.supervisor.specs.State.{Factory, State, fresh, withReceived}
 use Rattle.supervisor.specs.Local
 use Rattle.supervisor_claims.specs.View.{factoryOf}

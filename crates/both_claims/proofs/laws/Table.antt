@@ -13,12 +13,11 @@ use Rattle.octets.proofs.Conditions.{cond-by}
 use Rattle.octets.specs.Bytes.{number, bytes}
 use Rattle.line.specs.Message.{Message, InRange, body, message}
 use Rattle.line.specs.Cobs.{cobs}
-use Rattle.line.specs.Frame.{frame, WireBytes, over, sent}
+use Rattle.line.specs.Frame.{frame, WireBytes, over, sent, form}
 use Rattle.line.specs.Judge as Line
 use Rattle.line.specs.Judge.{judge, commandOf}
 use Rattle.line_claims.proofs.CobsClaims.{round-trip}
 use Rattle.line_claims.proofs.JudgeClaim.{judge-of-message}
-use Rattle.line_claims.specs.Pieces.{form}
 use Rattle.line_claims.proofs.WireClaim.{one-meaning}
 use Rattle.supervisor.specs.Number.{topSet}
 use Rattle.supervisor.specs.State.{State}

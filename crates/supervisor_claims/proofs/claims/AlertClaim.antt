@@ -15,8 +15,8 @@ use Rattle.octets.specs.Bytes.{Each, Byte}
 use Rattle.octets.proofs.Conditions.{cond-by}
 use Rattle.octets.proofs.Each.{each-append}
 use Rattle.line.specs.Message.{Message}
-use Rattle.line_claims.specs.Pieces.{split, nonEmpty, closedBehind}
-use Rattle.line_claims.proofs.Pieces.{split-close, nonEmpty-append}
+use Rattle.line.specs.Frame.{split, nonEmpty, closedBehind}
+use Rattle.line.proofs.Pieces.{split-close, nonEmpty-append}
 use Rattle.supervisor.specs.Limits
 use Rattle.supervisor.specs.State.{Factory, Recorded, Retained, State, fresh}
 use Rattle.supervisor.specs.Local

@@ -8,8 +8,8 @@ use Prim.Native.Nat.{ℕ, _≤_}
 use native.Mathlib.Omega.{arith}
 use Rattle.octets.specs.Bytes.{Byte}
 use Rattle.octets.proofs.Each.{each-append}
-use Rattle.line_claims.specs.Pieces.{split}
-use Rattle.line_claims.proofs.Pieces.{split-none}
+use Rattle.line.specs.Frame.{split}
+use Rattle.line.proofs.Pieces.{split-none}
 use Rattle.supervisor.specs.State.{State, withReceived}
 use Rattle.supervisor.specs.Calls.{Parts}
 use Rattle.responder.specs.Requests.{failure, verdict, receiveStream, failedOf}

@@ -15,8 +15,8 @@ use borrow.Author.Tests.{ltb-true, ltb-false}
 use Rattle.octets.specs.Bytes.{Each}
 use Rattle.octets.proofs.Each.{each-append}
 use Rattle.line.specs.Limits.{longest-form}
-use Rattle.line_claims.specs.Pieces.{split, nonEmpty, closedBehind}
-use Rattle.line_claims.proofs.Pieces.{split-at, split-none, nonEmpty-append, split-join, closed-rest, closed-join}
+use Rattle.line.specs.Frame.{split, nonEmpty, closedBehind}
+use Rattle.line.proofs.Pieces.{split-at, split-none, nonEmpty-append, split-join, closed-rest, closed-join}
 use Rattle.supervisor.specs.State.{Factory, State, fresh, withReceived}
 use Rattle.responder.specs.Requests.{receiveByte, receiveStream, verdictSince}
 use Rattle.supervisor_claims.specs.View.{factoryOf}

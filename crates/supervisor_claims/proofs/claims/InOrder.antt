@@ -15,8 +15,8 @@ use Rattle.line.specs.Limits.{longest-form}
 use Rattle.line.specs.Numbers.{first-version}
 use Rattle.line.specs.Message.{Message}
 use Rattle.line.specs.Judge.{judgeForm, judge}
-use Rattle.line_claims.specs.Pieces.{split, nonEmpty}
-use Rattle.line_claims.proofs.Pieces.{split-none, split-close, split-more}
+use Rattle.line.specs.Frame.{split, nonEmpty}
+use Rattle.line.proofs.Pieces.{split-none, split-close, split-more}
 use Rattle.supervisor.specs.State.{Retained, State, withReceived, withPending, withTerminatorOwed}
 use Rattle.supervisor.specs.Local.{lookup, entryOf}
 use Rattle.responder.specs.Commands.{Command, commandOfNumber}

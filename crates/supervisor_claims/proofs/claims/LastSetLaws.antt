@@ -16,8 +16,8 @@ use Rattle.octets.specs.Bytes.{Byte, Each, number, numberAt}
 use Rattle.octets.proofs.Numbers.{number-small}
 use Rattle.octets.proofs.Conditions.{cond-by, cond-both}
 use Rattle.line.specs.Message.{Message}
-use Rattle.line_claims.specs.Pieces.{split, nonEmpty, closedBehind}
-use Rattle.line_claims.proofs.Pieces.{nonEmpty-append, closed-join}
+use Rattle.line.specs.Frame.{split, nonEmpty, closedBehind}
+use Rattle.line.proofs.Pieces.{nonEmpty-append, closed-join}
 use Rattle.supervisor.specs.Limits
 use Rattle.supervisor.specs.Limits.{SettingsKey}
 use Rattle.supervisor.specs.State.{Factory, Setting, unset, Settings, Retained, State, setting, withSetting, fresh}

@@ -18,7 +18,7 @@ use Rattle.octets.proofs.Conditions.{cond-by, cond-both}
 use Rattle.octets.proofs.SameBytes
 use Rattle.octets.proofs.SameBytes.{same-first}
 use Rattle.line.specs.Message.{Message}
-use Rattle.line_claims.specs.Pieces.{nonEmpty, closedBehind}
+use Rattle.line.specs.Frame.{nonEmpty, closedBehind}
 use Rattle.supervisor.specs.Layout
 use Rattle.supervisor.specs.Limits
 use Rattle.supervisor.specs.Limits.{SettingsKey}

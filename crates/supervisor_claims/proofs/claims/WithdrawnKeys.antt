@@ -15,7 +15,7 @@ use Rattle.line.specs.Numbers.{second-version}
 use Rattle.line.specs.Message.{Message}
 use Rattle.line.specs.Judge
 use Rattle.line.specs.Cobs
-use Rattle.line_claims.specs.Pieces.{split}
+use Rattle.line.specs.Frame.{split}
 use Rattle.supervisor.specs.Limits
 use Rattle.supervisor.specs.Limits.{SettingsKey}
 use Rattle.supervisor.specs.State.{setting, State, fresh}

@@ -12,8 +12,8 @@ use lib.ListN.{length}
 use lib.ListN as ListN
 use Rattle.octets.specs.Bytes.{Each}
 use Rattle.octets.proofs.Conditions.{cond-by}
-use Rattle.line_claims.specs.Pieces.{split, aheadOfPieces}
-use Rattle.line_claims.proofs.Pieces.{split-join}
+use Rattle.line.specs.Frame.{split, aheadOfPieces}
+use Rattle.line.proofs.Pieces.{split-join}
 use Rattle.supervisor.specs.Limits
 use Rattle.supervisor.specs.State.{Settings, Recorded, State, fresh}
 use Rattle.supervisor.specs.Local

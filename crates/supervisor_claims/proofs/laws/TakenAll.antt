@@ -11,9 +11,8 @@ use lib.ListN.{length, take, drop, length-append, drop-of-length-le}
 use lib.Seq.{take-all, append-snoc, getD-at}
 use Rattle.line.specs.Message.{Message, message}
 use Rattle.line.specs.Cobs.{cobs}
-use Rattle.line.specs.Frame.{frame}
-use Rattle.line_claims.specs.Pieces.{split, nonEmpty}
-use Rattle.line_claims.proofs.Pieces.{split-close, split-more, nonEmpty-append}
+use Rattle.line.specs.Frame.{frame, split, nonEmpty}
+use Rattle.line.proofs.Pieces.{split-close, split-more, nonEmpty-append}
 use Rattle.supervisor.specs.State.{State, withReceived}
 use Rattle.supervisor.specs.Local.{lastNonZero, taken, afterTake}
 use Rattle.responder.specs.Requests.{Reply, verdict, afterVerdict, closed, receiveByte, owed, replyFrame}

@@ -6,7 +6,7 @@ use Prim.Native.Nat.{ℕ, zero, suc, _≤_}
 use native.Mathlib.Omega.{arith}
 use lib.Seq.{drop-append-seam}
 use Rattle.octets.specs.Bytes.{Each}
-use Rattle.line_claims.specs.Pieces.{aheadOfPieces, split, nonEmpty, closedBehind, withZeros}
+use Rattle.line.specs.Frame.{aheadOfPieces, split, nonEmpty, closedBehind, withZeros}
 
 -- up to the first zero
 pub split-at : (p w : List ℕ) → Each (λ b. 1 ≤ b) p → split (p ++ 0 ∷ w) ≡ record { closed = p ∷ split w .closed; rest = split w .rest }
