@@ -32,7 +32,7 @@ use Rattle.line_claims.proofs.ReaderClaim.{hands-out, stays-valid}
 use Rattle.line_claims.specs.Demand1.{NotRefused, LineRefusedExactly, RefusedNothing, TooLittle12, TooLittleNothing, LineNever12}
 use Rattle.line_claims.specs.Demand1.{TailRefusedExactly, DataRefusedExactly, DataNotHanded, StartRefusedExactly, StartUntouched}
 use Rattle.line_claims.specs.Demand3.{Stops, AcceptedStops, SentHanded, RoomEnough}
-use Rattle.line_claims.specs.TableTests.{firstFailing}
+use Rattle.octets.specs.TableTests.{firstFailing}
 
 -- ---- What a call reads
 

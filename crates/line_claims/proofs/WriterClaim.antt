@@ -6,20 +6,19 @@ use mathlib.Core.List.{List, _++_}
 use mathlib.Core.Logic.{_↔_}
 use mathlib.Core.Option.{Option, none, some}
 use Prim.Native.Nat.{ℕ, _≤_}
-use native.Mathlib.Nat.{zero-add}
 use native.Mathlib.Omega.{arith}
 use lib.Dec.{ltb}
 use lib.ListN.{length, take, drop}
 use borrow.Author.Tests.{ltb-false}
 use Rattle.octets.specs.Bytes.{overlay}
-use Rattle.octets.proofs.Overlay.{overlay-inside}
+use Rattle.octets.proofs.Overlay.{overlay-inside, overlay-start}
 use Rattle.line.specs.Limits.{longest-data}
 use Rattle.line.specs.Message.{Message}
 use Rattle.line.specs.Frame.{frame, WireBytes}
 use Rattle.line.specs.Writer.{WriteReport, WriteOutcome, writeInto, writePromise}
 use Rattle.octets.proofs.Conditions.{cond-by, cond-both}
 use Rattle.line_claims.proofs.WireClaim.{one-meaning}
-use Rattle.line_claims.specs.TableTests.{firstFailing}
+use Rattle.octets.specs.TableTests.{firstFailing}
 use Rattle.line_claims.specs.Demand1.{WriterRefusedExactly, WriterUntouched, WriterWrites}
 use Rattle.line_claims.specs.Demand3.{Sent, over, idle, wrote, WrittenFrame, OneMeaningSent}
 
@@ -62,10 +61,6 @@ writer-untouched m room n =
 
 -- ---- What it puts out
 
-at-start : (bs room : List ℕ) → overlay 0 bs room ≡ bs ++ drop (length bs) room
-unfolding overlay
-at-start bs room = rw zero-add
-
 module _ (m : Message) (room : List ℕ) where
   abbrev Writes : WriteOutcome → Option ℕ → Type 0
   Writes o k = k ≡ none → o ≡ record { answer = WriteReport.wrote (length (frame m)); out = frame m ++ drop (length (frame m)) room }
@@ -74,7 +69,7 @@ module _ (m : Message) (room : List ℕ) where
   unfolding writeInto
   sends =
       cond-both Writes (ltb (length room) (length (frame m))) (λ _ e. absurd (let z : _≡_ {A = ℕ} 0 1 = cc in omega arith))
-      (λ _ _. rw (at-start (frame m) room))
+      (λ _ _. rw (overlay-start (frame m) room))
 
 pub writer-writes : WriterWrites
 unfolding writePromise firstFailing

@@ -16,7 +16,7 @@ use Rattle.line.specs.Reader.{refused, reader-length, validReader, readPromise,
 use Rattle.line.specs.Reader.{dataPromise}
 use Rattle.line.specs.Writer as LineWriter
 use Rattle.line_claims.specs.Loans.{Loan, within, lentPart, enoughPart}
-use Rattle.line_claims.specs.TableTests.{TableTest, test, firstFailing}
+use Rattle.octets.specs.TableTests.{TableTest, test, firstFailing}
 use Rattle.line_claims.specs.Calls.{LineCall, loanOf, lentState, Reader, afterLineCall, OfFreshReader}
 
 -- no call says 12 of this part of a state

@@ -4,7 +4,6 @@ pub mod Samples
 pub mod Loans
 pub mod Calls
 pub mod Changes
-pub mod TableTests
 pub mod Demand1
 pub mod Demand3
 pub mod Item6

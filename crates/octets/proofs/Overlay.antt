@@ -60,6 +60,11 @@ overlay-from : (at : ℕ) (xs s : List ℕ) → at ≤ length s → drop at (ove
 unfolding overlay
 overlay-from at xs s h = rw append-assoc (drop-at (take at s) _ at (length-take-le at s h))
 
+-- bytes at the start
+pub overlay-start : (xs s : List ℕ) → overlay 0 xs s ≡ xs ++ drop (length xs) s
+unfolding overlay
+overlay-start xs s = rw zero-add
+
 pub overlay-take : (at n : ℕ) (xs s : List ℕ) → n ≤ at → at ≤ length s → take n (overlay at xs s) ≡ take n s
 unfolding overlay
 overlay-take at n xs s l h =

@@ -10,9 +10,9 @@ use native.Mathlib.Omega.{arith}
 use lib.Dec.{leb, ltb, eqb}
 use lib.ListN.{length}
 use borrow.Author.Tests.{le-ltb}
-use Rattle.octets.proofs.Conditions.{cond-by, cond-both}
+use Rattle.octets.proofs.Conditions.{cond-by, cond-both, cond-not, zero-one}
 use Rattle.line.specs.Limits.{longest-data}
-use Rattle.line_claims.specs.TableTests.{firstFailing}
+use Rattle.octets.specs.TableTests.{firstFailing}
 use Rattle.requester.specs.Limits.{last-number}
 use Rattle.requester.specs.State.{Request, RecoveryStep, fetch, acknowledge, alert, isSome, requestFrame}
 use Rattle.requester.specs.Layout
@@ -26,14 +26,6 @@ use Rattle.requester_claims.specs.Histories.{MainAnswer, refused, done, 
 use Rattle.requester_claims.specs.Item2.{frameOut, mainTests, MainRefusedExactly, MainStartAccepted}
 use Rattle.requester_claims.proofs.CallClaims.{report-received, outstanding-is, outstanding-some}
 
--- a choice by a test, and one by its opposite
-cond-not : {A B : Type 0} (P : A → B → Type 0) (t : Bool) {x y : A} {v w : B} → P x w → P y v → P (cond t x y) (cond (not t) v w)
-cond-not P true f g = f
-cond-not P false f g = g
-
-clash : _≡_ {A = ℕ} 0 1 → ⊥
-clash z = omega arith
-
 module _ (n : ℕ) where
   abbrev Numbered : MainAnswer → Option ℕ → Type 0
   Numbered a k = (a ≡ refused n) ↔ (k ≡ some n)
@@ -42,13 +34,13 @@ module _ (n : ℕ) where
   same k = (λ e. cc, λ e. cc)
 
   none-done : Numbered done none
-  none-done = (λ e. absurd (clash cc), λ e. absurd (clash cc))
+  none-done = (λ e. absurd (zero-one cc), λ e. absurd (zero-one cc))
 
   none-put : (k : ℕ) → Numbered (Histories.put k) none
-  none-put k = (λ e. absurd (clash cc), λ e. absurd (clash cc))
+  none-put k = (λ e. absurd (zero-one cc), λ e. absurd (zero-one cc))
 
   none-received : (used : ℕ) (t : Calls.HandedReport) (e u : Bool) → Numbered (Histories.received used t e u) none
-  none-received used t e u = (λ f. absurd (clash cc), λ f. absurd (clash cc))
+  none-received used t e u = (λ f. absurd (zero-one cc), λ f. absurd (zero-one cc))
 
   abbrev PutBy : Calls.PutOutcome → Option ℕ → Type 0
   PutBy t k = Numbered (Histories.putAnswer (t .report)) k
@@ -130,6 +122,6 @@ pub main-start-accepted : MainStartAccepted
 unfolding mainDid Calls.mainStartPromise
 main-start-accepted p = (
   cond-by (λ (t : Calls.MainStartOutcome). mainRefusal (t .refusal) ≡ done → MainLongEnough p) (Calls.mainLongEnough p) _ _
-      (λ e _. is-long-enough p e) (λ _ e. absurd (clash cc)),
+      (λ e _. is-long-enough p e) (λ _ e. absurd (zero-one cc)),
   λ l. rw (long-enough-is p l),
 )

@@ -10,7 +10,7 @@ use lib.Dec.{leb, ltb}
 use lib.ListN.{length}
 use Rattle.octets.specs.Bytes.{Each}
 use Rattle.line.specs.Limits.{longest-data}
-use Rattle.line_claims.specs.TableTests.{TableTest, test, firstFailing}
+use Rattle.octets.specs.TableTests.{TableTest, test, firstFailing}
 use Rattle.requester.specs.Limits.{last-number}
 use Rattle.requester.specs.State.{Request, MainState, mainFresh, isSome, outstanding, requestFrame}
 use Rattle.requester.specs.Valid.{validRequester}

@@ -1,19 +1,19 @@
 -- When the reader and the writer are refused, and what they leave then; protocol 0; the CRC of a byte by the table.
 -- Assumes nothing.
 use mathlib.Core.Path.{_≡_, refl}
-use mathlib.Core.Bool.{Bool, true, false, cond, not, _&&_}
+use mathlib.Core.Bool.{Bool, true, false, cond, _&&_}
 use mathlib.Core.List.{List, [], _∷_, _++_}
 use mathlib.Core.Logic.{_↔_}
 use mathlib.Core.Option.{Option, none, some}
 use Prim.Native.Nat.{ℕ, _/_, _^_}
-use native.Mathlib.Nat.{zero-add}
 use native.Mathlib.Omega.{arith}
 use lib.Bits.{bitXor, xor-lt}
 use lib.Dec.{eqb, ltb, eqb·suc-zero}
 use lib.ListN.{length, drop}
+use Rattle.octets.proofs.Overlay.{overlay-start}
 use Rattle.octets.specs.Bytes.{number, overlay}
-use Rattle.octets.proofs.Conditions.{cond-by, cond-both}
-use Rattle.line_claims.specs.TableTests.{TableTest, test, firstFailing}
+use Rattle.octets.proofs.Conditions.{cond-by, cond-both, zero-one, cond-not}
+use Rattle.octets.specs.TableTests.{TableTest, test, firstFailing}
 use Rattle.rot.specs.Limits.{longest-payload}
 use Rattle.rot.specs.Message.{echo-request, echo-response, listedType, RotMessage, rotMessage, echoed}
 use Rattle.rot.specs.Answers.{refused, nothing, handed, wrote, RotOutcome, rotOutcome, rotWriteInto}
@@ -26,9 +26,6 @@ use Rattle.rot.proofs.Register.{by-table}
 use Rattle.rot_claims.specs.Item7.{linkTests, LinkRefusedExactly, LinkUntouched, NothingSent, LinkWriterRefusedExactly}
 use Rattle.rot_claims.specs.Item7.{LinkWriterUntouched, LinkWriterWrites, ByTable}
 
-clash : _≡_ {A = ℕ} 0 1 → ⊥
-clash z = omega arith
-
 module _ (n : ℕ) where
   abbrev Numbered : RotOutcome → Option ℕ → Type 0
   Numbered o k = (o .answer ≡ refused n) ↔ (k ≡ some n)
@@ -37,13 +34,13 @@ module _ (n : ℕ) where
   same k out = (λ e. cc, λ e. cc)
 
   sent : (k : ℕ) (out : List ℕ) → Numbered (rotOutcome (wrote k) out) none
-  sent k out = (λ e. absurd (clash cc), λ e. absurd (clash cc))
+  sent k out = (λ e. absurd (zero-one cc), λ e. absurd (zero-one cc))
 
   handed-none : (t k : ℕ) (out : List ℕ) → Numbered (rotOutcome (handed t k) out) none
-  handed-none t k out = (λ e. absurd (clash cc), λ e. absurd (clash cc))
+  handed-none t k out = (λ e. absurd (zero-one cc), λ e. absurd (zero-one cc))
 
   nothing-none : (out : List ℕ) → Numbered (rotOutcome nothing out) none
-  nothing-none out = (λ e. absurd (clash cc), λ e. absurd (clash cc))
+  nothing-none out = (λ e. absurd (zero-one cc), λ e. absurd (zero-one cc))
 
   -- bytes that go out or do not fit
   sending-numbered : (bs out : List ℕ) → Numbered (rotWriteInto bs out) (cond (ltb (length out) (length bs)) (some 8) none)
@@ -110,7 +107,7 @@ module _ (out : List ℕ) (n : ℕ) where
 
   sending-held : (bs : List ℕ) → Held (rotWriteInto bs out)
   unfolding rotWriteInto
-  sending-held bs = cond-by Held (ltb (length out) (length bs)) _ _ (λ _ _. refl) (λ _ e. absurd (clash cc))
+  sending-held bs = cond-by Held (ltb (length out) (length bs)) _ _ (λ _ _. refl) (λ _ e. absurd (zero-one cc))
 
   answering-held : (j : Reading.RotVerdict) → Held (answerTo j out)
   unfolding answerTo serveMessage
@@ -129,15 +126,11 @@ nothing-sent rest out = (rw eqb·suc-zero, rw eqb·suc-zero)
 
 -- ---- the writer
 
-listed-not : {A B : Type 0} (P : A → B → Type 0) (t : Bool) {x y : A} {v w : B} → P x w → P y v → P (cond t x y) (cond (not t) v w)
-listed-not P true f g = f
-listed-not P false f g = g
-
 pub link-writer-refused-exactly : LinkWriterRefusedExactly
 unfolding rotWritePromise firstFailing
 link-writer-refused-exactly m out n =
     cond-both (Numbered n) (ltb longest-payload (length (m .payload))) (λ _. same n 23 out)
-    (λ _. listed-not (Numbered n) (listedType (m .type)) (sending-numbered n (rotMessage m) out) (same n 26 out))
+    (λ _. cond-not (Numbered n) (listedType (m .type)) (sending-numbered n (rotMessage m) out) (same n 26 out))
 
 pub link-writer-untouched : LinkWriterUntouched
 unfolding rotWritePromise
@@ -145,23 +138,21 @@ link-writer-untouched m out n =
     cond-by (Held out n) (ltb longest-payload (length (m .payload))) _ _ (λ _ _. refl)
     (λ _. cond-by (Held out n) (listedType (m .type)) _ _ (λ _. sending-held out n (rotMessage m)) (λ _ _. refl))
 
-at-start : (bs room : List ℕ) → overlay 0 bs room ≡ bs ++ drop (length bs) room
-unfolding overlay
-at-start bs room = rw zero-add
-
 module _ (m : RotMessage) (out : List ℕ) where
   abbrev Writes : RotOutcome → Option ℕ → Type 0
   Writes o k = k ≡ none → o ≡ rotOutcome (wrote (length (rotMessage m))) (rotMessage m ++ drop (length (rotMessage m)) out)
 
   sends : Writes (rotWriteInto (rotMessage m) out) (cond (ltb (length out) (length (rotMessage m))) (some 8) none)
   unfolding rotWriteInto
-  sends = cond-both Writes (ltb (length out) (length (rotMessage m))) (λ _ e. absurd (clash cc)) (λ _ _. rw (at-start (rotMessage m) out))
+  sends =
+      cond-both Writes (ltb (length out) (length (rotMessage m))) (λ _ e. absurd (zero-one cc))
+      (λ _ _. rw (overlay-start (rotMessage m) out))
 
 pub link-writer-writes : LinkWriterWrites
 unfolding rotWritePromise firstFailing
 link-writer-writes m out =
-    cond-both (Writes m out) (ltb longest-payload (length (m .payload))) (λ _ e. absurd (clash cc))
-    (λ _. listed-not (Writes m out) (listedType (m .type)) (sends m out) (λ e. absurd (clash cc)))
+    cond-both (Writes m out) (ltb longest-payload (length (m .payload))) (λ _ e. absurd (zero-one cc))
+    (λ _. cond-not (Writes m out) (listedType (m .type)) (sends m out) (λ e. absurd (zero-one cc)))
 
 -- ---- the table
 

@@ -9,7 +9,7 @@ use Prim.Native.Nat.{ℕ, _*_, _/_, _%_, _^_, _≤_, _<_}
 use lib.Bits.{bitXor}
 use lib.Dec.{eqb, ltb}
 use lib.ListN.{length, take, drop, getD}
-use Rattle.line_claims.specs.TableTests.{TableTest, test, firstFailing}
+use Rattle.octets.specs.TableTests.{TableTest, test, firstFailing}
 use Rattle.octets.specs.Bytes.{Byte, Each}
 use Rattle.rot.specs.Limits.{longest-payload}
 use Rattle.rot.specs.Message.{echo-request, echo-response, listedType, RotMessage, rotMessage, echoed}

@@ -11,7 +11,7 @@ use lib.Dec.{leb, ltb, eqb}
 use lib.ListN.{length}
 use Rattle.octets.specs.Bytes.{Each, Byte}
 use Rattle.line.specs.Reader as LineReader
-use Rattle.line_claims.specs.TableTests.{TableTest, test, firstFailing}
+use Rattle.octets.specs.TableTests.{TableTest, test, firstFailing}
 use Rattle.line_claims.specs.Calls as LineCalls
 use Rattle.supervisor.specs.Layout
 use Rattle.supervisor.specs.Local

@@ -18,7 +18,7 @@ use Rattle.supervisor.specs.Valid.{SettingsValid, validSettings}
 use Rattle.saving.specs.Saving
 use Rattle.saving.specs.Saving.{SavedEntry, saved-count, saved}
 use Rattle.saving.specs.Calls as SavingCalls
-use Rattle.line_claims.specs.TableTests.{test, firstFailing}
+use Rattle.octets.specs.TableTests.{test, firstFailing}
 use Rattle.saving_claims.specs.Item11.{SavableBy}
 use Rattle.supervisor_claims.specs.View.{settingsOf, view}
 use Rattle.supervisor_claims.specs.Sound.{Sound}

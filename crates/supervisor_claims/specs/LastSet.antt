@@ -12,7 +12,7 @@ use Rattle.octets.specs.Bytes.{bytes}
 use Rattle.line.specs.Numbers.{command-key-set, command-key-lookup, reply-key-lookup}
 use Rattle.line.specs.Message.{Message}
 use Rattle.line.specs.Frame.{frame, split, nonEmpty}
-use Rattle.line_claims.specs.TableTests.{test, firstFailing}
+use Rattle.octets.specs.TableTests.{test, firstFailing}
 use Rattle.supervisor.specs.Number.{topSet}
 use Rattle.supervisor.specs.Limits
 use Rattle.supervisor.specs.Limits.{last-edition, SettingsKey}

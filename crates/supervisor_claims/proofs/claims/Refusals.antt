@@ -10,9 +10,9 @@ use native.Mathlib.Omega.{arith}
 use lib.Dec.{leb, ltb, eqb}
 use lib.ListN.{length}
 use borrow.Author.Tests.{le-leb, lt-leb, ltb-true, ltb-false}
-use Rattle.octets.proofs.Conditions.{cond-by, cond-both}
+use Rattle.octets.proofs.Conditions.{cond-by, cond-both, cond-not, not-cond, zero-one}
 use Rattle.line.specs.Reader as LineReader
-use Rattle.line_claims.specs.TableTests.{firstFailing}
+use Rattle.octets.specs.TableTests.{firstFailing}
 use Rattle.supervisor.specs.Limits
 use Rattle.supervisor.specs.Layout
 use Rattle.supervisor.specs.Local
@@ -214,18 +214,6 @@ module _ (p : Parts) where
 
 -- ---- each number exactly where its test is the first to fail
 
--- a choice by a test, and one by its opposite
-cond-not : {A B : Type 0} (P : A → B → Type 0) (t : Bool) {x y : A} {v w : B} → P x w → P y v → P (cond t x y) (cond (not t) v w)
-cond-not P true f g = f
-cond-not P false f g = g
-
-not-cond : {A B : Type 0} (P : A → B → Type 0) (t : Bool) {x y : A} {v w : B} → P y v → P x w → P (cond (not t) x y) (cond t v w)
-not-cond P true f g = f
-not-cond P false f g = g
-
-clash : _≡_ {A = ℕ} 0 1 → ⊥
-clash z = omega arith
-
 module _ (n : ℕ) where
   abbrev Numbered : Answer → Option ℕ → Type 0
   Numbered a k = (a ≡ refused n) ↔ (k ≡ some n)
@@ -235,7 +223,7 @@ module _ (n : ℕ) where
 
   -- an answer that is no refusal
   unnumbered : (a : Answer) → WhereRefused a (λ _. ⊥) → Numbered a none
-  unnumbered a h = (λ e. absurd (rw e at h), λ e. absurd (clash cc))
+  unnumbered a h = (λ e. absurd (rw e at h), λ e. absurd (zero-one cc))
 
   abbrev RegisteredAs : Calls.RegistersOutcome → Option ℕ → Type 0
   RegisteredAs r k = Numbered (refusal (r .refusal)) k
@@ -292,7 +280,7 @@ module _ (n : ℕ) where
       rw (settings-test p (Histories.local (Histories.restore image)) refl e) (by (Saving.readImage image))
     where
       by : (r : Saving.ImageRead) → Numbered (Histories.restoreAnswer (SavingCalls.restoreOutcomeBy (p .settings) r .report)) none
-      by (Saving.fault k at) = (λ f. absurd (clash cc), λ f. absurd (clash cc))
+      by (Saving.fault k at) = (λ f. absurd (zero-one cc), λ f. absurd (zero-one cc))
       by (Saving.good es) = unnumbered Histories.done tt
 
 pub each-number-exactly : EachNumberExactly

@@ -6,17 +6,14 @@ use mathlib.Core.List.{List}
 use mathlib.Core.Logic.{_↔_}
 use mathlib.Core.Option.{Option, none, some}
 use Prim.Native.Nat.{ℕ}
-use native.Mathlib.Omega.{arith}
 use lib.Dec.{ltb}
 use lib.ListN.{length}
-use Rattle.line_claims.specs.TableTests.{firstFailing}
+use Rattle.octets.proofs.Conditions.{zero-one}
+use Rattle.octets.specs.TableTests.{firstFailing}
 use Rattle.supervisor.specs.Valid.{validSettings}
 use Rattle.saving.specs.Saving
 use Rattle.saving.specs.Calls as SavingCalls
 use Rattle.supervisor_claims.specs.Item11.{SaveRefusedExactly, RestoreRefusedExactly, RestoreFault}
-
-clash : _≡_ {A = ℕ} 0 1 → ⊥
-clash z = omega arith
 
 pub save-refused-exactly : SaveRefusedExactly
 unfolding SavingCalls.savePromise firstFailing
@@ -35,7 +32,7 @@ save-refused-exactly s room n = by (validSettings s) (ltb (length room) (length 
         → Numbered (cond v (cond t (unsaved 8) (saved (length (SavingCalls.imageBytes s)) out)) (unsaved 12))
         (cond (not v) (some 12) (cond t (some 8) none))
     by true true out = (λ e. cc, λ e. cc)
-    by true false out = (λ e. absurd (clash cc), λ e. absurd (clash cc))
+    by true false out = (λ e. absurd (zero-one cc), λ e. absurd (zero-one cc))
     by false t out = (λ e. cc, λ e. cc)
 
 pub restore-refused-exactly : RestoreRefusedExactly
@@ -48,8 +45,8 @@ restore-refused-exactly s image n = by (validSettings s) (Saving.readImage image
     by : (v : Bool) (r : Saving.ImageRead)
         → Numbered (cond v (SavingCalls.restoreOutcomeBy s r) (record { report = SavingCalls.RestoreReport.refused 12; settings = s }))
         (cond (not v) (some 12) none)
-    by true (Saving.fault k at) = (λ e. absurd (clash cc), λ e. absurd (clash cc))
-    by true (Saving.good es) = (λ e. absurd (clash cc), λ e. absurd (clash cc))
+    by true (Saving.fault k at) = (λ e. absurd (zero-one cc), λ e. absurd (zero-one cc))
+    by true (Saving.good es) = (λ e. absurd (zero-one cc), λ e. absurd (zero-one cc))
     by false r = (λ e. cc, λ e. cc)
 
 pub restore-fault : RestoreFault

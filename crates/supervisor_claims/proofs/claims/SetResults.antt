@@ -10,11 +10,11 @@ use native.Mathlib.Omega.{arith}
 use lib.Dec.{leb, ltb, eqb}
 use lib.ListN.{length}
 use borrow.Author.Tests.{ltb-false, lt-ltb, le-ltb, eqb-true, eqb-false}
-use Rattle.octets.proofs.Conditions.{cond-by, cond-both}
+use Rattle.octets.proofs.Conditions.{cond-by, cond-both, zero-one}
 use Rattle.line.specs.Message.{Message}
 use Rattle.line.specs.Judge as Line
 use Rattle.line.specs.Judge.{judge}
-use Rattle.line_claims.specs.TableTests.{firstFailing}
+use Rattle.octets.specs.TableTests.{firstFailing}
 use Rattle.supervisor.specs.Limits
 use Rattle.supervisor.specs.Limits.{SettingsKey}
 use Rattle.supervisor.specs.State.{Setting, setting, Settings, Retained, State}
@@ -89,15 +89,12 @@ abbrev versionOr : Option ReplyContent → ℕ → ℕ
 versionOr none n = n
 versionOr (some r) n = r .version
 
-clash : _≡_ {A = ℕ} 0 1 → ⊥
-clash z = omega arith
-
 module _ (image : List ℕ) (s : State) (m : Message) (r : ReplyContent) where
   abbrev Versioned : Requests.Carried → Type 0
   Versioned c = c .reply ≡ some r → (r .version ≡ m .version) ⊎ SentAgain s m (r .version)
 
   silent : (t : State) → Versioned (Requests.unanswered t)
-  silent t e = absurd (clash cc)
+  silent t e = absurd (zero-one cc)
 
   plain : (t : State) (c : ℕ) (bs : List ℕ) → Versioned (Requests.replyWith t (m .version) c bs)
   plain t c bs e = inl (sym (ap (λ (x : Option ReplyContent). versionOr x 0) e))
@@ -157,13 +154,13 @@ tested-version m =
     cond-by P (leb (2 ^ 63) (m .sequence)) _ _ (λ _ _. (λ h. absurd (omega arith), λ k e h. cc)) (λ _.
     cond-by P (not (known (m .command))) _ _ (λ _ _. (λ _. refl, λ k e h. absurd (omega arith))) (λ _.
     cond-by P (not (lengthAllowed (m .command) (length (m .payload)))) _ _ (λ _ _. (λ h. absurd (omega arith), λ k e h. cc))
-    (λ _ e. absurd (clash e)))))
+    (λ _ e. absurd (zero-one e)))))
   where
     P : Verdict → Type 0
     P = Failing (Line.good m)
 
 where-version : (j : Line.LineVerdict) → Failing j (Requests.testedWhere j)
-where-version (Line.failure reason sequence) e = (λ _. refl, λ m f h. absurd (clash cc))
+where-version (Line.failure reason sequence) e = (λ _. refl, λ m f h. absurd (zero-one cc))
 where-version (Line.good m) e = tested-version m e
 
 pub failure-version : FailureVersion
