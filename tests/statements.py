@@ -2,7 +2,7 @@
 """Holds what is claimed to its form:
 - specs/ of a crate has definitions and statements alone: no law, no proof text, no import of proofs/;
 - a file of statements (Demand.., Item.., BothEnds) has records of statements, and proofs/ exactly one element of each, with a proof for each field;
-- every name that docs/CLAIMS.md gives exists;
+- every name that docs/CLAIMS.md gives exists, and every name with a capital inside (`takePromise`) that another document gives;
 - each row of `did` and `mainDid` (supervisor_claims and requester_claims, specs/Histories) cites the definition, with the arguments, of the `ensures` of the call that it stands for.
 Assumes the sources as `rt fmt` lays them out (docs/sources.py).
 
@@ -18,6 +18,8 @@ import reading  # noqa: E402
 import sources  # noqa: E402
 
 CLAIMS = ROOT / 'docs' / 'CLAIMS.md'
+# the other documents that give names; CHANGES has those of its time
+DOCUMENTS = ('README.md', *(f'docs/{name}.md' for name in ('PROMISES', 'DECISIONS', 'DEVELOPING', 'STATE', 'CHECKSUM', 'FIRMWARE')))
 STATEMENTS = re.compile(r'^(Demand\d+|Item\d+|BothEnds|Claims)$')
 # words of a proof, which no definition has
 PROOF = re.compile(r'(?<![\w.-])(rw|simp|omega|cc|refl|absurd|search|unfolding)(?![\w-])')
@@ -99,9 +101,10 @@ def record_faults(found):
 # ---- Names of CLAIMS.md
 
 def known_names(found):
-    """Names that a document may give: of antt, of functions and types in Rattle, of C functions, crates, modules and edits."""
-    names = {name for item in found.items() for name in [item.name, *item.inner]}
-    names |= {name for item in found.items() if item.kind == 'record' for name in re.findall(r'^ +(?:pub )?([^\s:]+) :', item.told, re.M)}
+    """Names that a document may give: of specs/, of public laws, of functions and types in Rattle, of C functions, crates, modules and edits."""
+    items = [item for item in found.items() if item.public or item.module.split('.')[1] == 'specs']
+    names = {name for item in items for name in [item.name, *item.inner]}
+    names |= {name for item in items if item.kind == 'record' for name in re.findall(r'^ +(?:pub )?([^\s:]+) :', item.told, re.M)}
     for module, file in found.files.items():
         names |= set(module.split('.'))
         if file.path.suffix == '.rt':
@@ -118,6 +121,16 @@ def unknown_names(found, text):
             words = [word for word in re.split(r'::|[\s./]', name.removesuffix('.antt')) if word]
             if not all(word in known for word in words) and not (ROOT / name.split(' ')[0]).exists():
                 yield f'docs/CLAIMS.md:{number}: nothing is named {name}'
+
+
+def unknown_words(found, documents):
+    """Of other documents, the names with a capital inside, as definitions have them."""
+    known = known_names(found)
+    for path, text in documents.items():
+        for number, line in enumerate(text.split('\n'), 1):
+            for name in re.findall(r'`([a-z]+[A-Z]\w*)`', line):
+                if name not in known:
+                    yield f'{path}:{number}: nothing is named {name}'
 
 
 # ---- Rows of `did`
@@ -158,8 +171,9 @@ def row_faults(found, count):
                 yield f'{did.place}: the row {call} of {did.name} is not what {" and ".join(functions)} promise'
 
 
-def faults(found, text, count):
-    return [*laws_in_specs(found), *record_faults(found), *unknown_names(found, text), *row_faults(found, count)]
+def faults(found, text, count, documents=None):
+    others = documents or {path: (ROOT / path).read_text() for path in DOCUMENTS}
+    return [*laws_in_specs(found), *record_faults(found), *unknown_names(found, text), *unknown_words(found, others), *row_faults(found, count)]
 
 
 # ---- Planted mistakes
@@ -189,6 +203,9 @@ def planted():
         'arguments of a row exchanged': (changed(found, histories, 'Calls.lookupResultPromise (p .factory) (p .settings)', 'Calls.lookupResultPromise (p .settings) (p .factory)'), text),
     }
     missed = [name for name, (sources_then, text_then) in mistakes.items() if not faults(sources_then, text_then, [0])]
+    misspelt = {'docs/PROMISES.md': (ROOT / 'docs/PROMISES.md').read_text().replace('`takePromise`', '`takesPromise`', 1)}
+    mistakes['a name misspelt in another document'] = None
+    missed += [] if faults(found, text, [0], misspelt) else ['a name misspelt in another document']
     for name in missed:
         print(f'statements: not seen: {name}')
     print(f'statements: {len(mistakes) - len(missed)} of {len(mistakes)} planted mistakes seen')

@@ -12,7 +12,8 @@ use lib.ListN.{getD}
 use borrow.Author.Tests.{ltb-true, lt-ltb, le-ltb, eqb-false, ne-eqb}
 use Rattle.octets.specs.Bytes.{Byte, Each}
 use Rattle.octets.proofs.Conditions.{cond-by}
-use Rattle.addresses.specs.Addresses.{addressNumber, highest-address, address, passes, row, row-numbers, addressRows, planRefusal}
+use Rattle.addresses.specs.Addresses.{addressNumber, highest-address, address, passes, row, row-numbers, addressesPromise}
+use Rattle.addresses.specs.Addresses.{planPromise}
 use Rattle.addresses.specs.Item9.{LastPasses, PassesExactly, PlanRefusedExactly, PassingZero, CountZero}
 use Rattle.addresses.specs.Item9.{RowsCounted, RowsPastZero, StrideZero}
 use Rattle.addresses.proofs.Number.{bytes-address, number-below}
@@ -32,11 +33,11 @@ passes-exactly base count stride = (
     clash e = let z : _≡_ {A = ℕ} 0 1 = cc in omega arith
 
 pub passing-zero : PassingZero
-unfolding addressRows
+unfolding addressesPromise
 passing-zero base count stride p = rw (passes-exactly base count stride .1 p)
 
 pub plan-refused-exactly : PlanRefusedExactly
-unfolding planRefusal
+unfolding planPromise
 plan-refused-exactly base count stride n = by (passes base count stride) refl
   where
     by : (b : Bool) → passes base count stride ≡ b → (cond b (some 16) none ≡ some n) ↔ ((n ≡ 16) × LastPasses base count stride)
@@ -47,7 +48,7 @@ plan-refused-exactly base count stride n = by (passes base count stride) refl
     )
 
 pub count-zero : CountZero
-unfolding addressRows planRefusal passes row
+unfolding addressesPromise planPromise passes row
 count-zero base stride = (refl, refl)
 
 row-of : (f : ℕ → List ℕ) (i : ℕ) → i < 8 → getD (map f row-numbers) i [] ≡ f i
@@ -62,11 +63,11 @@ row-of f (suc (suc (suc (suc (suc (suc (suc zero))))))) h = refl
 row-of f (suc (suc (suc (suc (suc (suc (suc (suc i)))))))) h = absurd (omega arith)
 
 pub rows-counted : RowsCounted
-unfolding addressRows row address
+unfolding addressesPromise row address
 rows-counted base count stride i e h l = rw e (row-of (row base count stride) i h ∙ rw (lt-ltb i count l))
 
 pub rows-past-zero : RowsPastZero
-unfolding addressRows row
+unfolding addressesPromise row
 rows-past-zero base count stride i e h l = rw e (row-of (row base count stride) i h ∙ rw (le-ltb i count l))
 
 byte-at : (s : List ℕ) → Each Byte s → (i : ℕ) → getD s i 0 < 256

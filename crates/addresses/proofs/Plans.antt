@@ -10,7 +10,7 @@ use borrow.Author.Tests.{ltb-true, ltb-false, lt-ltb, le-ltb, eq-eqb, ne-eqb}
 use lib.Dec.{ltb}
 use lib.ListN.{length, getD, replicate, set}
 use Rattle.addresses.specs.Addresses.{addressNumber, addressBytes, highest-address, address, passes, zero-row, row, row-numbers}
-use Rattle.addresses.specs.Addresses.{addressRows}
+use Rattle.addresses.specs.Addresses.{addressesPromise}
 use Rattle.addresses.proofs.Carry.{next-sum}
 use Rattle.addresses.proofs.Number.{bytes-address, address-bytes}
 use Rattle.addresses.specs.Item9.{RowNumber, RowNext}
@@ -24,8 +24,8 @@ module _ (base : List ℕ) (count stride : ℕ) where
   unfolding passes address
   last-passes e = rw (ne-eqb count 0 e)
 
-  pub rows-passing : passes base count stride ≡ true → replicate 8 zero-row ≡ addressRows base count stride
-  unfolding addressRows
+  pub rows-passing : passes base count stride ≡ true → replicate 8 zero-row ≡ addressesPromise base count stride
+  unfolding addressesPromise
   rows-passing e = rw e
 
 -- ---- addresses
@@ -104,8 +104,9 @@ module _ (base : List ℕ) (stride : ℕ) where
       from-same (row base (min count 8) stride) (row base count stride) 8 0
       (λ j b. same-row (min count 8) count j (λ l. omega arith) (λ l. omega arith))
 
-  pub rows-fitting : (count : ℕ) → passes base count stride ≡ false → first-rows base stride (min count 8) ≡ addressRows base count stride
-  unfolding addressRows
+  pub rows-fitting : (count : ℕ) → passes base count stride ≡ false
+      → first-rows base stride (min count 8) ≡ addressesPromise base count stride
+  unfolding addressesPromise
   rows-fitting count e = rw e (rows-min count)
 
   pub row-number : RowNumber base stride

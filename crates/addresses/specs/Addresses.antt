@@ -46,13 +46,13 @@ abbrev pub row-numbers : List ℕ
 row-numbers = 0 ∷ 1 ∷ 2 ∷ 3 ∷ 4 ∷ 5 ∷ 6 ∷ 7 ∷ []
 
 -- the eight rows; all zero where the plan passes
-unfoldable pub addressRows : List ℕ → ℕ → ℕ → List (List ℕ)
-addressRows base count stride = cond (passes base count stride) (replicate 8 zero-row) (map (row base count stride) row-numbers)
+unfoldable pub addressesPromise : List ℕ → ℕ → ℕ → List (List ℕ)
+addressesPromise base count stride = cond (passes base count stride) (replicate 8 zero-row) (map (row base count stride) row-numbers)
 
 -- ---- The second call's answer: 16 exactly where the plan passes
 
-unfoldable pub planRefusal : List ℕ → ℕ → ℕ → Option ℕ
-planRefusal base count stride = cond (passes base count stride) (some 16) none
+unfoldable pub planPromise : List ℕ → ℕ → ℕ → Option ℕ
+planPromise base count stride = cond (passes base count stride) (some 16) none
 
 -- the number of each case
 unfoldable pub planReport : Planned → Option ℕ

@@ -1,5 +1,5 @@
 -- Document 02's item 9: when a plan passes, and its eight rows; each counted row is base plus i times stride, as the 48-bit carry gives it.
--- Assumes nothing: these are statements.
+-- Assumes nothing: these are definitions and statements.
 use mathlib.Core.Path.{_≡_}
 use mathlib.Core.Bool.{true, false}
 use mathlib.Core.List.{List, [], _∷_}
@@ -9,7 +9,7 @@ use Prim.Native.Nat.{ℕ, _+_, _*_, _-_, _≤_, _<_}
 use lib.ListN.{length, getD, replicate}
 use Rattle.octets.specs.Bytes.{Byte, Each, bytes}
 use Rattle.addresses.specs.Addresses.{addressNumber, addressBytes, address, passes, zero-row, row}
-use Rattle.addresses.specs.Addresses.{addressRows, planRefusal, withCarry, nextRow}
+use Rattle.addresses.specs.Addresses.{addressesPromise, planPromise, withCarry, nextRow}
 
 abbrev pub RowNumber : List ℕ → ℕ → Type 0
 RowNumber base stride = (count i : ℕ) → passes base count stride ≡ false → i < count
@@ -33,21 +33,21 @@ PassesExactly = (base : List ℕ) (count stride : ℕ) → (passes base count st
 
 abbrev pub PlanRefusedExactly : Type 0
 PlanRefusedExactly = (base : List ℕ) (count stride n : ℕ)
-    → (planRefusal base count stride ≡ some n) ↔ ((n ≡ 16) × LastPasses base count stride)
+    → (planPromise base count stride ≡ some n) ↔ ((n ≡ 16) × LastPasses base count stride)
 
 abbrev pub eight-zero-rows : List (List ℕ)
 eight-zero-rows = replicate 8 (0 ∷ 0 ∷ 0 ∷ 0 ∷ 0 ∷ 0 ∷ [])
 
 abbrev pub PassingZero : Type 0
-PassingZero = (base : List ℕ) (count stride : ℕ) → LastPasses base count stride → addressRows base count stride ≡ eight-zero-rows
+PassingZero = (base : List ℕ) (count stride : ℕ) → LastPasses base count stride → addressesPromise base count stride ≡ eight-zero-rows
 
 abbrev pub CountZero : Type 0
-CountZero = (base : List ℕ) (stride : ℕ) → (addressRows base 0 stride ≡ eight-zero-rows) × (planRefusal base 0 stride ≡ none)
+CountZero = (base : List ℕ) (stride : ℕ) → (addressesPromise base 0 stride ≡ eight-zero-rows) × (planPromise base 0 stride ≡ none)
 
 -- row i of the eight, in a plan that does not pass
 abbrev pub OfEight : (List ℕ → ℕ → ℕ → ℕ → List ℕ → Type 0) → Type 0
 OfEight P = (base : List ℕ) (count stride i : ℕ) → passes base count stride ≡ false → i < 8
-    → P base count stride i (getD (addressRows base count stride) i [])
+    → P base count stride i (getD (addressesPromise base count stride) i [])
 
 abbrev pub RowsCounted : Type 0
 RowsCounted = OfEight (λ base count stride i r. i < count → r ≡ addressBytes (addressNumber base + i * stride))
@@ -57,7 +57,7 @@ RowsPastZero = OfEight (λ base count stride i r. count ≤ i → r ≡ zero-row
 
 abbrev pub StrideZero : Type 0
 StrideZero = (base : List ℕ) → length base ≡ 6 → Each Byte base → (count i : ℕ) → i < 8 → i < count
-    → (passes base count 0 ≡ false) × (getD (addressRows base count 0) i [] ≡ base)
+    → (passes base count 0 ≡ false) × (getD (addressesPromise base count 0) i [] ≡ base)
 
 pub record AddressesItem9 : Type 0 where
   -- a plan passes exactly where its last counted address is above ff:ff:ff:ff:ff:ff

@@ -2,7 +2,8 @@
 // Assumes nothing: no function has a `requires`, and nothing is lent.
 ghost use mathlib.Core.Path.{_≡_};
 ghost use Prim.Native.Nat.{_≤_, _<_, min};
-ghost use Rattle.addresses.specs.Addresses.{addressNumber, highest-address, passes, addressRows, planRefusal, planReport, nextRow};
+ghost use Rattle.addresses.specs.Addresses.{addressNumber, highest-address, passes, addressesPromise, planPromise, planReport};
+ghost use Rattle.addresses.specs.Addresses.{nextRow};
 
 // How many bytes an address has.
 pub const ADDRESS_LENGTH: usize = 6;
@@ -25,7 +26,7 @@ pub enum Planned {
 // The first eight addresses, each a row of six bytes, the most significant first; rows past the count are zero, and
 // all are where the plan passes.
 pub fn addresses(base: [u8; 6], count: u16, stride: u8) -> [[u8; 6]; 8]
-    ensures { λ r. ⌜ r ≡ addressRows base count stride ⌝ }
+    ensures { λ r. ⌜ r ≡ addressesPromise base count stride ⌝ }
 {
     let zero = [0u8; 6];
     let mut rows = [zero; 8];
@@ -46,7 +47,7 @@ pub fn addresses(base: [u8; 6], count: u16, stride: u8) -> [[u8; 6]; 8]
 
 // Whether the plan passes, which is refusal 16.
 pub fn plan(base: [u8; 6], count: u16, stride: u8) -> Planned
-    ensures { λ r. ⌜ planReport r ≡ planRefusal base count stride ⌝ }
+    ensures { λ r. ⌜ planReport r ≡ planPromise base count stride ⌝ }
 {
     if !last_passes(base, count, stride) {
         return Planned::Fits;

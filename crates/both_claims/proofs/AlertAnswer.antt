@@ -29,7 +29,8 @@ use Rattle.supervisor_claims.proofs.claims.AlertClaim.{local-keeps}
 use Rattle.supervisor_claims.proofs.claims.FramesClaim.{made-carried, by-frames}
 use Rattle.supervisor_claims.proofs.claims.History as SupervisorHistory
 use Rattle.both_claims.specs.Ends
-use Rattle.both_claims.specs.Ends.{Any, Handled, Log, CarriedOut, Fresh, AlertTaken, AlertFresh, CallOf, retainedUnder, replyMessage}
+use Rattle.both_claims.specs.Ends.{Any, Handled, Log, CarriedOut, Fresh, AlertTaken, AlertNotRetained, CallOf, retainedUnder}
+use Rattle.both_claims.specs.Ends.{replyMessage}
 use Rattle.both_claims.specs.Ends.{asMessage}
 use Rattle.both_claims.specs.Ends.{MainGoesOn, AlertAgainst, endsAfterAll, handledBy, originBy, Wire}
 use Rattle.both_claims.specs.Ends.{EndCallTyped, endsAfter, BothStarts, endsBegun, Begun, mainLogged, supervisorLogged, brought}
@@ -177,10 +178,10 @@ call-retains e s r (Ends.supervisor m) typed =
     rw k (supervisor-retains (view (e .supervisor)) (e .log) r m _)
 
 call-alert : (e : Ends.Ends) → Both e → RetainsIn e → (t : Ends.EndCall) → EndCallTyped t → Wire (endsAfter e t .log)
-    → CallOf AlertFresh e t × RetainsIn (endsAfter e t)
+    → CallOf AlertNotRetained e t × RetainsIn (endsAfter e t)
 call-alert e both r t typed w = (by t, call-retains e (both .supervisor) r t typed)
   where
-    by : (t : Ends.EndCall) → CallOf AlertFresh e t
+    by : (t : Ends.EndCall) → CallOf AlertNotRetained e t
     by (Ends.main m) =
         λ x o q waiting alert. alert-taken (mainView (e .main)) (e .log) (both .kept) (view (e .supervisor)) r x q waiting alert
     by (Ends.supervisor m) = tt
@@ -197,7 +198,7 @@ begun-retains : (e : Ends.Ends) → Begun e → RetainsIn e
 begun-retains = begun-else RetainsIn together-retains call-retains
 
 pub alert-answer : AlertAnswer
-alert-answer e b ts t w = each-call RetainsIn (CallOf AlertFresh) call-alert e (begun-both e b) (begun-retains e b) ts t w
+alert-answer e b ts t w = each-call RetainsIn (CallOf AlertNotRetained) call-alert e (begun-both e b) (begun-retains e b) ts t w
 
 -- ---- against an earlier moment
 
@@ -241,7 +242,7 @@ module _ (e₀ : Ends.Ends) where
   call-clears e (Ends.supervisor m) g c = supervisor-clears _ (e .log) m _ c
 
   -- a request that had not been put out then was carried out since
-  since : (s : MainState) (l : Log) → Cleared l → (r : Message) → Fresh s l r → AlertFresh s l r → AlertAgainst e₀ s l r
+  since : (s : MainState) (l : Log) → Cleared l → (r : Message) → Fresh s l r → AlertNotRetained s l r → AlertAgainst e₀ s l r
   since s l c r f a q waiting alert new =
       let e : f .request ≡ q = (let w = f .waiting in cc) in
       a q waiting alert (each-any Placed (CarriedOut (s .newest) q r) _ later (l .handled) (c .each) (rw e at (f .made)))
@@ -259,14 +260,14 @@ module _ (e₀ : Ends.Ends) where
       let a = call-alert e both (k .0) t typed w in
       (by t typed w (a .0), (a .1, call-clears e t g (k .1)))
     where
-      by : (t : Ends.EndCall) → EndCallTyped t → Wire (endsAfter e t .log) → CallOf AlertFresh e t → CallOf (AlertAgainst e₀) e t
+      by : (t : Ends.EndCall) → EndCallTyped t → Wire (endsAfter e t .log) → CallOf AlertNotRetained e t → CallOf (AlertAgainst e₀) e t
       by (Ends.main m) typed w a = λ r o. since (mainView (e .main)) (e .log) (k .1) r (answer-fresh e both m typed w r o) (a r o)
       by (Ends.supervisor m) typed w a = tt
 
 pub alert-since : AlertSince
 alert-since b begins ts us t u w c g v =
     let e = endsAfterAll b ts in
-    let k = after-calls RetainsIn (CallOf AlertFresh) call-alert b (begun-both b begins) (begun-retains b begins) ts t w in
+    let k = after-calls RetainsIn (CallOf AlertNotRetained) call-alert b (begun-both b begins) (begun-retains b begins) ts t w in
     let before : Cleared e (e .log) =
     record { now = c; each = each-then _ _ (λ (h : Handled) f. inr f) (e .log .handled) (k .0 .kept .before) } in
     each-given (Keeps e) MainGoesOn (CallOf (AlertAgainst e)) (call-since e) e (k .0) (k .1, before) us u v g

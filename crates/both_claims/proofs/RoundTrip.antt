@@ -262,12 +262,12 @@ form-some xs = omega arith
 
 -- a 00 that was owed, or nothing
 owed-read : (b : Bool) (s : MainState) → s .received ≡ some []
-    → Requester.receive s (owed b) ≡ Requester.receiveResult (length (owed b)) (Requester.dropped s)
+    → Requester.receive s (owed b) ≡ Requester.mainReceived (length (owed b)) (Requester.dropped s)
 unfolding Requester.receive Requester.mainByte
 owed-read false s e = refl
 owed-read true s e =
-    ap (λ (x : Option (List ℕ)). Requester.receiveResult 1 (Requester.mainClosed x (Requester.mainWithReceived s (some [])))) e
-    ∙ ap (λ (x : Option (List ℕ)). Requester.receiveResult 1 (Requester.dropped (Requester.mainWithReceived s x))) (sym e)
+    ap (λ (x : Option (List ℕ)). Requester.mainReceived 1 (Requester.mainClosed x (Requester.mainWithReceived s (some [])))) e
+    ∙ ap (λ (x : Option (List ℕ)). Requester.mainReceived 1 (Requester.dropped (Requester.mainWithReceived s x))) (sym e)
 
 module _ (p : MainParts) (v : MainPartsValid p) (q : Request) (kept : mainView p .kept ≡ some q) (calm : mainView p .recovery ≡ none)
     (between : mainView p .received ≡ some []) (r : Message) (range : InRange r) (version : r .version ≡ 1)
@@ -276,8 +276,8 @@ module _ (p : MainParts) (v : MainPartsValid p) (q : Request) (kept : mainView p
   s = mainView p
 
   -- the frame, whole
-  pub reply-heard : Requester.receive s (frame r) ≡ Requester.receiveResult (length (frame r))
-      (Requester.result (Requester.answered r) (Requester.moved false (mainState (s .newest) none none false (some []))))
+  pub reply-heard : Requester.receive s (frame r) ≡ Requester.mainReceived (length (frame r))
+      (Requester.mainResult (Requester.answered r) (Requester.mainMoved false (mainState (s .newest) none none false (some []))))
   unfolding frame
   reply-heard =
       let h = heard-answer (s .newest) r version sequence command in

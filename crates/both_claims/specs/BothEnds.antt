@@ -22,7 +22,8 @@ use Rattle.supervisor_claims.specs.Histories as Supervisor
 use Rattle.supervisor_claims.specs.LastSet.{ReadBack}
 use Rattle.both_claims.specs.Ends.{Ends, EndCall, main, EndCallTyped, Log, endsAfter, endsAfterAll, BothStarts, endsBegun, Begun}
 use Rattle.both_claims.specs.Ends.{Always, Wire, WireAfter}
-use Rattle.both_claims.specs.Ends.{InOrder, InOrderAfter, CallFresh, CallOf, AlertFresh, MainGoesOn, AlertAgainst, lookupRequest}
+use Rattle.both_claims.specs.Ends.{InOrder, InOrderAfter, CallFresh, CallOf, AlertNotRetained, MainGoesOn, AlertAgainst}
+use Rattle.both_claims.specs.Ends.{lookupRequest}
 use Rattle.both_claims.specs.Ends.{FreshValue}
 use Rattle.both_claims.specs.Ends.{CallStays, GoesOn, ValueAgainst, ValueSince, ValueNotOlder, ValueNewer, NoRequest, HadValue}
 use Rattle.both_claims.specs.Pending.{CallPends, CallSends}
@@ -76,7 +77,7 @@ abbrev pub FreshAnswer : Type 0
 FreshAnswer = OverWire CallFresh
 
 abbrev pub AlertAnswer : Type 0
-AlertAnswer = OverWire (CallOf AlertFresh)
+AlertAnswer = OverWire (CallOf AlertNotRetained)
 
 abbrev pub AlertSince : Type 0
 AlertSince =
@@ -89,7 +90,8 @@ pub record Answers : Type 0 where
   -- what is handed out was made by the supervisor in carrying out exactly the request outstanding, after it was put out under its number
   pub fresh-answer : FreshAnswer
   -- An alert's answer is the oldest alert that waited as that very request was carried out, or action 0 and no data.
-  -- This holds where no alert reply can be retained from before the main processor's end was started (document 02, item 1; `AlertFresh`).
+  -- This holds where no alert reply can be retained from before the main processor's end was
+  -- started (document 02, item 1; `AlertNotRetained`).
   pub alert-answer : AlertAnswer
   -- The same of an alert request that had not been put out at a moment by which none could be (`cleared`).
   -- It holds until the main processor's end is started again.

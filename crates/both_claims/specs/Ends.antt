@@ -393,8 +393,8 @@ pub record AlertTaken (n : ℕ) (q : Request) (r : Message) (h : Handled) : Type
 -- an answer to an alert request holds an alert that was taken in carrying out that request, after it was put out, if no alert reply from
 -- before the main processor's end was started was still retained: if the supervisor was started together with it or since, or carried out a
 -- reboot or power-off since, and then this request
-abbrev pub AlertFresh : MainState → Log → Message → Type 0
-AlertFresh s l r =
+abbrev pub AlertNotRetained : MainState → Log → Message → Type 0
+AlertNotRetained s l r =
     (q : Request) → outstanding s ≡ some q → q .command ≡ command-alert
     → Any (λ (h : Handled). CarriedOut (s .newest) q r h × (h .cleared ≡ true)) (l .handled) → Any (AlertTaken (s .newest) q r) (l .handled)
 
@@ -555,8 +555,7 @@ NoRequest e (main m) = putsRequest (m .call) (mainMade (e .main) m .answer) ≡ 
 NoRequest e (supervisor m) = Unit {0}
 
 -- the answer to this lookup is the value that key k had at an earlier moment:
--- result 2 where it had none, 3 where the value is longer than maxresponse, else
--- 0 and the value
+-- result 2 where it had none, 3 where the value is longer than maxresponse, else 0 and the value
 abbrev pub HadValue : Ends → ℕ → ℕ → MainState → Log → Message → Type 0
 HadValue e k most s l r =
     outstanding s ≡ some (lookupRequest k most)

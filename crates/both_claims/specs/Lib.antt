@@ -1,6 +1,5 @@
--- What is claimed of both ends of the wire, in the order in which to read it. Definitions: calls of both ends and what an answer comes
--- from, the pending reply, a request and its reply, exchanges. Statements: `BothEnds`; proofs/ has one
--- element of each record of it. Assumes nothing.
+-- What is claimed of both ends of the wire, in the order in which to read it: definitions, then `BothEnds`.
+-- proofs/Proved has one element of each record of it. Assumes nothing.
 pub mod Ends
 pub mod Pending
 pub mod RoundTrip

@@ -1,7 +1,5 @@
--- Where a customer starts. Each demand of document 01 and each request of document 02 is a record, whose
--- fields are what the crates of claims state of it.
--- The statements speak of definitions. The contract of each public call says that its result and the bytes lent equal one of these.
--- `docs/reading.py NAME` lists what a statement rests on. Assumes nothing.
+-- Where a customer starts: each demand of document 01 and each request of document 02 as a record of what the crates of claims state of it.
+-- The statements speak of definitions, which the contracts of the public calls cite (`docs/reading.py NAME` lists them). Assumes nothing.
 use Rattle.line.specs.Item3.{LineItem3}
 use Rattle.probes.specs.Item4.{ProbesItem4, UpdateDone, UpdateRefused}
 use Rattle.addresses.specs.Item9.{AddressesItem9, PlanRefusedExactly}

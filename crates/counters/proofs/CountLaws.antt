@@ -28,7 +28,7 @@ use Rattle.responder.proofs.StepLaws.{parts-valid, valid-parts, read-valid, dat
 use Rattle.responder.proofs.StepLaws.{went}
 use Rattle.counters.specs.declared.Counters.{Counters}
 use Rattle.counters.specs.Count.{bumpedFor, bumpedForAll}
-use Rattle.counters.specs.Counting.{endings, counting}
+use Rattle.counters.specs.Counting.{endings, countPromise}
 
 -- ---- valid parts of bytes stay valid
 
@@ -40,7 +40,7 @@ bytes-each (b ∷ bs) h = (h 0, bytes-each bs (λ i. h (suc i)))
 -- the data that a reader of bytes hands out begin with a byte
 data-byte : (reader : List ℕ) (n : ℕ) → Each Byte reader → Each Byte (LineReader.dataPromise reader n)
 unfolding LineReader.dataPromise LineReader.partOf
-data-byte reader n h = by (LineReader.dataRefusal reader n)
+data-byte reader n h = by (LineReader.dataGivenPromise reader n)
   where
     by : (x : Option ℕ) → Each Byte (LineReader.partOf x (run LineReader.data-offset n reader))
     by none = each-run LineReader.data-offset n reader h
@@ -56,7 +56,7 @@ module _ (image f : List ℕ) (i : Receive.Inner) (factory : validFactory f ≡ 
       answering-valid i (Receive.failureHead version sequence) 0x02 (bytes 1 reason) valid (rw (length-bytes 1 reason) (omega arith))
 
   message-stays : (version sequence command : ℕ) (d : List ℕ) → length d ≤ longest-data → Each Byte d
-      → Stays (tested (Receive.messageBy version sequence command d))
+      → Stays (tested (Receive.messageWith version sequence command d))
   unfolding tested Receive.innerBy
   message-stays version sequence command d short h =
       by (versionServed version) (leb (2 ^ 63) sequence) (not (known command)) (not (lengthAllowed command (length d))) refl
@@ -64,7 +64,7 @@ module _ (image f : List ℕ) (i : Receive.Inner) (factory : validFactory f ≡ 
       by : (a b c e : Bool) → versionServed version ≡ a
           → Stays (cond (not a) (failure 5 first-version (some sequence)) (cond b (failure 6 version (some sequence))
           (cond c (failure 3 first-version none)
-          (cond e (failure 7 version (some sequence)) (good (Receive.messageBy version sequence command d))))))
+          (cond e (failure 7 version (some sequence)) (good (Receive.messageWith version sequence command d))))))
       by false b c e k = failure-stays 5 first-version (some sequence)
       by true true c e k = failure-stays 6 version (some sequence)
       by true false true e k = failure-stays 3 first-version none
@@ -143,18 +143,18 @@ valid-step-counts (suc b ∷ bs) s c =
 -- the parts and the counters at an offset of the piece: what is left of it is received and counted on
 pub record Counted (image piece : List ℕ) (p₀ p : Parts) (c t : Counters) (at : ℕ) : Type 0 where
   pub held : Held image piece p₀ p at
-  pub same : counting c p₀ piece ≡ bumpedForAll t (endings (p .reader) (drop at piece))
+  pub same : countPromise c p₀ piece ≡ bumpedForAll t (endings (p .reader) (drop at piece))
 
 abbrev Done : List ℕ → List ℕ → Parts → Counters → Received → Counters → Parts → Type 0
-Done image piece p c a t q = (Receive.receiveOutcome a q ≡ Receive.receivePromise image p piece) × (t ≡ counting c p piece)
+Done image piece p c a t q = (Receive.receiveOutcome a q ≡ Receive.receivePromise image p piece) × (t ≡ countPromise c p piece)
 
 pub refused-so : (image piece : List ℕ) (p : Parts) (c : Counters) {q : Parts} {b : Bool} → Tested p q b → b ≡ true
     → Done image piece p c received.Refused c q
-unfolding Receive.receivePromise Receive.receiveReport counting
+unfolding Receive.receivePromise Receive.receiveReport countPromise
 refused-so image piece p c h e = let v : Receive.validParts p ≡ false = not-true _ (sym (h .1) ∙ e) in rw (v, h .0) (refl, refl)
 
 pub counted-none : (image piece : List ℕ) {p q : Parts} (c : Counters) {b : Bool} → Tested p q b → b ≡ false → Counted image piece q q c c 0
-unfolding counting
+unfolding countPromise
 counted-none image piece {p} {q} c h e =
     let v : Receive.validParts q ≡ true = rw (h .0) (not-false _ (sym (h .1) ∙ e)) in
     record { held = begun image piece q v; same = rw v }
@@ -163,7 +163,7 @@ pub counted-all : {image piece : List ℕ} {p₀ q p : Parts} {c t : Counters} {
     → length piece ≤ at → Done image piece p₀ c received.Done t p
 unfolding endings bumpedForAll
 counted-all {piece = piece} {c = c} {t = t} e h l =
-    let k : t ≡ counting c _ piece = sym (h .same ∙ rw (drop-of-length-le piece l)) in
+    let k : t ≡ countPromise c _ piece = sym (h .same ∙ rw (drop-of-length-le piece l)) in
     (rw e at (over (h .held) l), rw e at k)
 
 -- a step at an offset of the piece

@@ -19,5 +19,5 @@ endings reader (b ∷ bs) =
     (endings (LineReader.pushed reader b) bs)
 
 -- the block after a receive: a call that is refused as 12 leaves it
-unfoldable pub counting : Counters → Parts → List ℕ → Counters
-counting c p piece = cond (validParts p) (bumpedForAll c (endings (p .reader) piece)) c
+unfoldable pub countPromise : Counters → Parts → List ℕ → Counters
+countPromise c p piece = cond (validParts p) (bumpedForAll c (endings (p .reader) piece)) c

@@ -9,7 +9,7 @@ ghost use Rattle.supervisor.specs.Calls.{parts};
 ghost use Rattle.responder.specs.Receive.{stepReport, validParts, stepOutcome, stepPromise, receiveOutcome, receivePromise};
 ghost use Rattle.responder.specs.declared.outcome.Outcome.the-variants as report;
 ghost use Rattle.counters.specs.Count.{oneMore, clearedCounters, bumpedFor};
-ghost use Rattle.counters.specs.Counting.{counting};
+ghost use Rattle.counters.specs.Counting.{countPromise};
 
 // The largest number of a counter.
 const MOST_COUNTED: u32 = 4294967295;
@@ -170,7 +170,7 @@ pub fn receive_tallied(
         (parts (now (reader .entry)) (now (outbox .entry)) (now (factory .entry)) (now (settings .entry)) (now (registers .entry)))
         (now (piece .entry)))
         × (r .counters
-        ≡ counting counters
+        ≡ countPromise counters
         (parts (now (reader .entry)) (now (outbox .entry)) (now (factory .entry)) (now (settings .entry)) (now (registers .entry)))
         (now (piece .entry))) ⌝ }
 {
@@ -252,7 +252,7 @@ pub fn receive_counted(
         (parts (now (reader .entry)) (now (outbox .entry)) (now (factory .entry)) (now (settings .entry)) (now (registers .entry)))
         (now (piece .entry)))
         × (now (block .exit)
-        ≡ counting (now (block .entry))
+        ≡ countPromise (now (block .entry))
         (parts (now (reader .entry)) (now (outbox .entry)) (now (factory .entry)) (now (settings .entry)) (now (registers .entry)))
         (now (piece .entry))) ⌝ }
 {

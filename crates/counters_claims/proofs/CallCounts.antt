@@ -21,7 +21,7 @@ use Rattle.responder.specs.Requests.{verdictSince}
 use Rattle.responder.specs.Receive as Receive
 use Rattle.counters.specs.declared.Counters.{Counters}
 use Rattle.counters.specs.Count.{endedByFrame, bumpedFor, bumpedForAll}
-use Rattle.counters.specs.Counting.{endings, counting}
+use Rattle.counters.specs.Counting.{endings, countPromise}
 use Rattle.supervisor_claims.specs.View.{view}
 use Rattle.supervisor_claims.specs.Histories
 use Rattle.supervisor_claims.specs.Histories.{Call, Answer, refused, Did, did, upTo, endedMeant, endedInPiece, Lent, lentOf, enough, Made}
@@ -144,7 +144,7 @@ module _ (w : List ℕ) (p : Parts) (s : Sound p) (h : Since (split w .rest) (vi
 
   receive-counts : (image piece : List ℕ) (l : Lent) (t : Bool) → enough (Histories.receive image piece) l ≡ t
       → Counts l (Histories.receive image piece)
-  unfolding didCounted pieceRead counting
+  unfolding didCounted pieceRead countPromise
   receive-counts image piece l true e =
       let k = widened-enough l p (valid-long {p = p} (s .valid)) (Histories.receive image piece) e in
       rw (e, lent-enough l p s k .0) (read-counts l piece k)

@@ -10,7 +10,7 @@ use Rattle.supervisor.specs.Calls.{Parts}
 use Rattle.responder.specs.Receive.{Ended, receivePromise, stepPromise}
 use Rattle.counters.specs.declared.Counters.{Counters}
 use Rattle.counters.specs.Count.{endedByFrame, clearedCounters, bumpedFor}
-use Rattle.counters.specs.Counting.{counting}
+use Rattle.counters.specs.Counting.{countPromise}
 use Rattle.supervisor_claims.specs.Histories
 use Rattle.supervisor_claims.specs.Histories.{Call, Did, didBy, refusal, stepAnswer, did, lentOf, givenBack, Made, made, Output}
 use Rattle.supervisor_claims.specs.FrameHistory.{bytesReceivedBy, startsAnew}
@@ -26,7 +26,7 @@ pub record DidCounted : Type 0 where
 unfoldable pub didCounted : Counters → Parts → Call → DidCounted
 didCounted c p (Histories.start d) = record { did = did p (Histories.start d); block = c }
 didCounted c p (Histories.receive image piece) =
-    let r = receivePromise image p piece in record { did = didBy (refusal (r .refusal)) [] (r .parts); block = counting c p piece }
+    let r = receivePromise image p piece in record { did = didBy (refusal (r .refusal)) [] (r .parts); block = countPromise c p piece }
 didCounted c p (Histories.step image piece) =
     let r = stepPromise image p piece in
     record { did = didBy (stepAnswer (r .used) (r .ended)) [] (r .parts); block = bumpedFor c (r .ended) }

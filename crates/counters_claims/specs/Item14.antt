@@ -10,9 +10,8 @@ use Rattle.supervisor_claims.specs.TwoRuns.{Run, leftByRun, receivedInRun, Same
 use Rattle.supervisor_claims.specs.TwoRuns.{setsToCome}
 use Rattle.counters_claims.specs.CountHistory.{Lending, outputsLending, blocksLending, unlent}
 
--- behind both runs any calls, each lent any block or none, the same in both, with the edition below
--- its end in both by more than the sets to come:
--- they give the same, and leave each block the same
+-- behind both runs any calls, each lent any block or none, the same in both, with the edition below its end in both
+-- by more than the sets to come: they give the same, and leave each block the same
 abbrev pub CountedAlike : Run → Run → Type 0
 CountedAlike r s = (xs : List Lending) → AllTyped (unlent xs) → let n = setsToCome (receivedInRun r) (unlent xs) in
     passphraseEdition (leftByRun r) + n < last-edition → passphraseEdition (leftByRun s) + n < last-edition

@@ -18,7 +18,7 @@ use Rattle.line.specs.Limits.{header-length, checksum-length, shortest-m
 use Rattle.line.specs.Judge.{wrongLength, payloadOf}
 use Rattle.line.specs.Cobs.{uncobs}
 use Rattle.line.specs.Reader.{frame-offset, reader-length, overlong, receivedCount, withCount, receivedBytes, pushedAll}
-use Rattle.line.specs.Reader.{empty, failed, FrameOutcome, frameOutcome, unpacked, finishForm, finish, dataRefusal, partOf}
+use Rattle.line.specs.Reader.{empty, failed, FrameOutcome, frameOutcome, unpacked, finishForm, finish, dataGivenPromise, partOf}
 use Rattle.line.specs.Reader.{dataPromise}
 use Rattle.line.proofs.State.{Ready, ready-valid, length-counted, count-counted, run-counted, pushes-fit, pushes-some}
 use Rattle.line.proofs.Lent.{fit-length}
@@ -104,7 +104,7 @@ module _ (s : List ℕ) (h : reader-length ≤ length s) where
   -- the data of a message, in its bytes
   pub data-unpacked : (xs : List ℕ) → receivedCount s ≤ overlong → wrongLength xs ≡ false
       → dataPromise (overlay frame-offset xs s) (length (payloadOf xs)) ≡ payloadOf xs
-  unfolding dataPromise dataRefusal partOf unpacked
+  unfolding dataPromise dataGivenPromise partOf unpacked
   data-unpacked xs k e =
       let n = length xs - shortest-message in
       let l = fit-length xs e in

@@ -17,7 +17,8 @@ use Rattle.line.specs.Limits.{shortest-message, longest-message, longest
 use Rattle.line.specs.Judge.{wrongLength}
 use Rattle.line.specs.Cobs.{uncobs}
 use Rattle.line.specs.Reader.{frame-offset, reader-length, overlong, receivedCount, withCount, receivedBytes, validReader, pushed}
-use Rattle.line.specs.Reader.{FrameOutcome, frameOutcome, unpacked, finishForm, finish, data-offset, dataRefusal, partOf, dataPromise}
+use Rattle.line.specs.Reader.{FrameOutcome, frameOutcome, unpacked, finishForm, finish, data-offset, dataGivenPromise, partOf}
+use Rattle.line.specs.Reader.{dataPromise}
 use Rattle.line.proofs.State.{length-counted}
 
 -- bytes with a message's length
@@ -55,7 +56,7 @@ module _ (t u : List ℕ) (h : reader-length ≤ length t) where
       rw (count-append, le-leb reader-length (length t) h, le-leb reader-length (length (t ++ u)) (simp length-append (omega arith)))
 
   pub dataOf-append : (n : ℕ) → dataPromise (t ++ u) n ≡ dataPromise t n
-  unfolding dataPromise dataRefusal partOf
+  unfolding dataPromise dataGivenPromise partOf
   dataOf-append n =
       rw valid-append
       (cond-by Same (validReader t) _ _

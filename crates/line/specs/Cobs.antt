@@ -27,8 +27,8 @@ abbrev pub coded : Group → List ℕ
 coded g = suc (g .count) ∷ g .after
 
 -- a byte ahead of a group's others
-abbrev pub joinedGroups : ℕ → Group → Group
-joinedGroups b g = record { count = suc (g .count); after = b ∷ g .after }
+abbrev pub aheadInGroup : ℕ → Group → Group
+aheadInGroup b g = record { count = suc (g .count); after = b ∷ g .after }
 
 -- nothing where the message ends
 abbrev pub unlessEnd : List ℕ → List ℕ → List ℕ
@@ -40,8 +40,8 @@ unlessEnd (x ∷ xs) ys = ys
 unfoldable pub groups : ℕ → List ℕ → Group
 groups room [] = record { count = 0; after = [] }
 groups room (zero ∷ xs) = record { count = 0; after = coded (groups places-left xs) }
-groups zero (suc b ∷ xs) = joinedGroups (suc b) (record { count = 0; after = unlessEnd xs (coded (groups places-left xs)) })
-groups (suc room) (suc b ∷ xs) = joinedGroups (suc b) (groups room xs)
+groups zero (suc b ∷ xs) = aheadInGroup (suc b) (record { count = 0; after = unlessEnd xs (coded (groups places-left xs)) })
+groups (suc room) (suc b ∷ xs) = aheadInGroup (suc b) (groups room xs)
 
 -- the COBS form of a message
 unfoldable pub cobs : List ℕ → List ℕ

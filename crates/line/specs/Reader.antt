@@ -172,8 +172,8 @@ tailPromise s =
 abbrev pub data-offset : ℕ
 data-offset = frame-offset + header-length
 
-unfoldable pub dataRefusal : List ℕ → ℕ → Option ℕ
-dataRefusal s n = cond (validReader s) (cond (ltb longest-data n) (some 9) none) (some 12)
+unfoldable pub dataGivenPromise : List ℕ → ℕ → Option ℕ
+dataGivenPromise s n = cond (validReader s) (cond (ltb longest-data n) (some 9) none) (some 12)
 
 unfoldable pub dataReport : Handed → Option ℕ
 dataReport handed-answer.Given = none
@@ -186,4 +186,4 @@ partOf none part = part
 partOf (some number) part = []
 
 unfoldable pub dataPromise : List ℕ → ℕ → List ℕ
-dataPromise s n = partOf (dataRefusal s n) (run data-offset n s)
+dataPromise s n = partOf (dataGivenPromise s n) (run data-offset n s)

@@ -16,7 +16,7 @@ ghost use Rattle.line.specs.Decoding.{measured, plain};
 ghost use Rattle.line.specs.Judge.{judgeForm};
 ghost use Rattle.line.specs.Reader.{frame-offset, reader-length, overlong, receivedCount, withCount, validReader, readReport};
 ghost use Rattle.line.specs.Reader.{verdictReport, pushedAll, frameOutcome, finishForm, finish, readOutcome, readPromise};
-ghost use Rattle.line.specs.Reader.{readerStartOutcome, readerStartPromise, tailReport, tailPromise, dataReport, dataRefusal};
+ghost use Rattle.line.specs.Reader.{readerStartOutcome, readerStartPromise, tailReport, tailPromise, dataReport, dataGivenPromise};
 ghost use Rattle.line.specs.Reader.{dataPromise};
 
 const FRAME_OFFSET: usize = 2;
@@ -126,7 +126,7 @@ pub fn message_data<'a>(state: &'a [u8], count: usize) -> &'a [u8]
 
 // Whether `message_data` hands out what was asked.
 pub fn message_data_given(state: &[u8], count: usize) -> Handed
-    ensures { λ r. ⌜ dataReport r ≡ dataRefusal (now (state .entry)) count ⌝ }
+    ensures { λ r. ⌜ dataReport r ≡ dataGivenPromise (now (state .entry)) count ⌝ }
 {
     if !is_valid(state) {
         return Handed::Refused;

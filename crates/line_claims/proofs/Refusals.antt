@@ -18,7 +18,7 @@ use Rattle.line.specs.Reader.{ReadReport, refused, more, empty, message, failed
 use Rattle.line.specs.Reader.{pushed, FrameOutcome, finishForm, finish}
 use Rattle.line.specs.Reader.{ReadOutcome, oneByteLater, readPiece, readPromise, ReaderStartOutcome, readerStartPromise, TailReport}
 use Rattle.line.specs.Reader.{unfinished, longer, tailPromise}
-use Rattle.line.specs.Reader.{dataRefusal, partOf, dataPromise}
+use Rattle.line.specs.Reader.{dataGivenPromise, partOf, dataPromise}
 use Rattle.line.specs.Writer
 use Rattle.line.proofs.State.{valid-ready}
 use Rattle.line.proofs.Lent.{valid-append}
@@ -120,7 +120,7 @@ tail-refused-exactly s n = by (validReader s)
     by false = (λ e. cc, λ e. cc)
 
 pub data-refused-exactly : DataRefusedExactly
-unfolding dataRefusal firstFailing
+unfolding dataGivenPromise firstFailing
 data-refused-exactly s k = by (validReader s)
   where
     Nine : Option ℕ
@@ -152,7 +152,7 @@ twelve none = false
 twelve (some n) = eqb n 12
 
 valid-answers : (part : List ℕ) → validReader part ≡ true → NotRefused part
-unfolding tailPromise dataRefusal readerStartPromise
+unfolding tailPromise dataGivenPromise readerStartPromise
 valid-answers part v = record {
   reads = λ piece a. not-both (refused-exactly part piece .0 a) v;
   tails =
@@ -166,7 +166,7 @@ valid-answers part v = record {
 }
 
 pub too-little-12 : TooLittle12
-unfolding validReader tailPromise dataRefusal readerStartPromise
+unfolding validReader tailPromise dataGivenPromise readerStartPromise
 too-little-12 s l e =
     let short = lt-leb reader-length (length (lentState l s)) (lent-short reader-length s l (omega arith) e) in
     record { reads = λ piece. refused-nothing (lentState l s) piece (rw short); tails = rw short; hands = λ n. rw short; starts = rw short }

@@ -12,25 +12,26 @@ use Rattle.octets.specs.Bytes.{run}
 use Rattle.line.specs.Limits.{longest-data}
 use Rattle.line.specs.Message.{Message}
 use Rattle.line.specs.Frame.{frame}
-use Rattle.line.specs.Reader.{refused, reader-length, validReader, readPromise, readerStartPromise, TailReport, tailPromise, dataRefusal}
+use Rattle.line.specs.Reader.{refused, reader-length, validReader, readPromise, readerStartPromise, TailReport, tailPromise}
+use Rattle.line.specs.Reader.{dataGivenPromise}
 use Rattle.line.specs.Reader.{dataPromise}
 use Rattle.line.specs.Writer as LineWriter
 use Rattle.line_claims.specs.Loans.{Loan, within, lentPart, enoughPart}
-use Rattle.octets.specs.TableTests.{TableTest, test, firstFailing}
+use Rattle.octets.specs.TableTests.{TableTest, tableTest, firstFailing}
 use Rattle.line_claims.specs.Calls.{LineCall, loanOf, lentState, Reader, afterLineCall, OfFreshReader}
 
 -- no call says 12 of this part of a state
 pub record NotRefused (part : List ℕ) : Type 0 where
   pub reads : (piece : List ℕ) → readPromise part piece .answer ≡ refused 12 → ⊥
   pub tails : tailPromise part ≡ TailReport.refused 12 → ⊥
-  pub hands : (n : ℕ) → dataRefusal part n ≡ some 12 → ⊥
+  pub hands : (n : ℕ) → dataGivenPromise part n ≡ some 12 → ⊥
   pub starts : readerStartPromise part .refusal ≡ none
 
 -- every call says 12 of this part of a state, reads nothing, and leaves it
 pub record AllReadsRefused (part : List ℕ) : Type 0 where
   pub reads : (piece : List ℕ) → readPromise part piece ≡ record { used = 0; answer = refused 12; state = part }
   pub tails : tailPromise part ≡ TailReport.refused 12
-  pub hands : (n : ℕ) → dataRefusal part n ≡ some 12
+  pub hands : (n : ℕ) → dataGivenPromise part n ≡ some 12
   pub starts : readerStartPromise part ≡ record { refusal = some 12; state = part }
 
 -- ---- The table's number exactly where it is due
@@ -40,20 +41,21 @@ LineRefusedExactly = (s piece : List ℕ) → (readPromise s piece .answer ≡ r
 
 -- 12 of a call that is lent a state
 abbrev pub stateTest : List ℕ → TableTest
-stateTest s = test 12 (not (validReader s))
+stateTest s = tableTest 12 (not (validReader s))
 
 abbrev pub TailRefusedExactly : Type 0
 TailRefusedExactly = (s : List ℕ) (n : ℕ) → (tailPromise s ≡ TailReport.refused n) ↔ (firstFailing (stateTest s ∷ []) ≡ some n)
 
 abbrev pub DataRefusedExactly : Type 0
-DataRefusedExactly = (s : List ℕ) (k : ℕ) → dataRefusal s k ≡ firstFailing (stateTest s ∷ test 9 (ltb longest-data k) ∷ [])
+DataRefusedExactly = (s : List ℕ) (k : ℕ) → dataGivenPromise s k ≡ firstFailing (stateTest s ∷ tableTest 9 (ltb longest-data k) ∷ [])
 
 abbrev pub StartRefusedExactly : Type 0
-StartRefusedExactly = (room : List ℕ) → readerStartPromise room .refusal ≡ firstFailing (test 12 (ltb (length room) reader-length) ∷ [])
+StartRefusedExactly = (room : List ℕ)
+    → readerStartPromise room .refusal ≡ firstFailing (tableTest 12 (ltb (length room) reader-length) ∷ [])
 
 -- the writer's tests: 9, then 8
 abbrev pub writerTests : Message → List ℕ → List TableTest
-writerTests m room = test 9 (ltb longest-data (length (m .payload))) ∷ test 8 (ltb (length room) (length (frame m))) ∷ []
+writerTests m room = tableTest 9 (ltb longest-data (length (m .payload))) ∷ tableTest 8 (ltb (length room) (length (frame m))) ∷ []
 
 abbrev pub WriterRefusedExactly : Type 0
 WriterRefusedExactly = (m : Message) (room : List ℕ) (n : ℕ)
@@ -103,7 +105,7 @@ abbrev pub StartUntouched : Type 0
 StartUntouched = (room : List ℕ) (n : ℕ) → readerStartPromise room .refusal ≡ some n → readerStartPromise room .state ≡ room
 
 abbrev pub DataNotHanded : Type 0
-DataNotHanded = (s : List ℕ) (k n : ℕ) → dataRefusal s k ≡ some n → dataPromise s k ≡ []
+DataNotHanded = (s : List ℕ) (k n : ℕ) → dataGivenPromise s k ≡ some n → dataPromise s k ≡ []
 
 abbrev pub WriterUntouched : Type 0
 WriterUntouched = (m : Message) (room : List ℕ) (n : ℕ)

@@ -31,7 +31,7 @@ given-step used reader LineReader.more p = refl
 given-step used reader LineReader.empty p = refl
 given-step used reader (LineReader.failed reason sequence) p = refl
 given-step used reader (LineReader.message version sequence command n) p =
-    given-verdict used (tested (Receive.messageBy version sequence command (LineReader.dataPromise reader n)))
+    given-verdict used (tested (Receive.messageWith version sequence command (LineReader.dataPromise reader n)))
 
 module _ (image : List ℕ) (p : Parts) (piece answer : List ℕ) where
   given-valid : (used : ℕ) → Writes 3 (stepGiven used (validStep image p piece .ended))

@@ -2,15 +2,15 @@
 -- Assumes nothing: these are definitions.
 use mathlib.Core.List.{List, flatten}
 use Prim.Native.Nat.{ℕ}
-use Rattle.addresses.specs.Addresses.{addressRows, planRefusal}
+use Rattle.addresses.specs.Addresses.{addressesPromise, planPromise}
 use Rattle.oatcastle.specs.Answers.{CallOutcome, callNumber, given, writingAnswer}
 
 -- ---- The eight rows, one after the other, to a room
 
 unfoldable pub addressesCall : List ℕ → ℕ → ℕ → List ℕ → CallOutcome (List ℕ)
-addressesCall base count stride room = writingAnswer (given (flatten (addressRows base count stride))) room
+addressesCall base count stride room = writingAnswer (given (flatten (addressesPromise base count stride))) room
 
 -- ---- Whether the plan passes
 
 unfoldable pub planCall : List ℕ → ℕ → ℕ → ℕ
-planCall base count stride = callNumber (planRefusal base count stride)
+planCall base count stride = callNumber (planPromise base count stride)

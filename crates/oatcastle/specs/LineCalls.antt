@@ -43,7 +43,7 @@ lineDataGiven none bs = given bs
 lineDataGiven (some n) bs = refused n
 
 unfoldable pub lineDataCall : List ℕ → ℕ → List ℕ → CallOutcome (List ℕ)
-lineDataCall s n room = writingAnswer (lineDataGiven (LineReader.dataRefusal s n) (LineReader.dataPromise s n)) room
+lineDataCall s n room = writingAnswer (lineDataGiven (LineReader.dataGivenPromise s n) (LineReader.dataPromise s n)) room
 
 -- ---- An unfinished frame: 1 if longer than any form, and how many bytes of it have come
 

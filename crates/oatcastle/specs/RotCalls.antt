@@ -5,7 +5,7 @@ use Prim.Native.Nat.{ℕ}
 use Rattle.rot.specs.Crc.{crc}
 use Rattle.rot.specs.Message.{RotMessage}
 use Rattle.rot.specs.Answers as RotAnswers
-use Rattle.rot.specs.Reading.{rotReadPromise, payloadPart}
+use Rattle.rot.specs.Reading.{rotReadPromise, payloadPromise}
 use Rattle.rot.specs.Writing.{rotWritePromise}
 use Rattle.oatcastle.specs.Answers.{CallOutcome, CallReport, refused, given, writingAnswer, writingAfter}
 
@@ -36,7 +36,7 @@ rotReadCall input out answer = rotReadCallOutcome (rotReadPromise input out) out
 -- ---- The payload of the message that is handed out, to a room; nothing where none is
 
 unfoldable pub rotPayloadCall : List ℕ → List ℕ → CallOutcome (List ℕ)
-rotPayloadCall input room = writingAnswer (given (payloadPart input)) room
+rotPayloadCall input room = writingAnswer (given (payloadPromise input)) room
 
 -- ---- Write: the message's length
 

@@ -7,7 +7,7 @@ ghost use mathlib.Core.Path.{_≡_};
 ghost use Rattle.supervisor.specs.Calls.{parts};
 ghost use Rattle.responder.specs.Receive.{receiveReport};
 ghost use Rattle.counters.specs.Count.{clearedCounters};
-ghost use Rattle.counters.specs.Counting.{counting};
+ghost use Rattle.counters.specs.Counting.{countPromise};
 ghost use Rattle.oatcastle.specs.Answers.{callOutcome, callNumber};
 ghost use Rattle.oatcastle.specs.ReceiveCalls.{receiveCall};
 
@@ -44,7 +44,7 @@ pub extern "C" fn oatcastle_receive_counted(
         (parts (now (reader .entry)) (now (outbox .entry)) (now (factory .entry)) (now (settings .entry)) (now (registers .entry)))
         (now (piece .entry)))
         × (now (counters .exit)
-        ≡ counting (now (counters .entry))
+        ≡ countPromise (now (counters .entry))
         (parts (now (reader .entry)) (now (outbox .entry)) (now (factory .entry)) (now (settings .entry)) (now (registers .entry)))
         (now (piece .entry))) ⌝ }
 {
@@ -79,7 +79,7 @@ fn receive_numbered(
         (parts (now (reader .entry)) (now (outbox .entry)) (now (factory .entry)) (now (settings .entry)) (now (registers .entry)))
         (now (piece .entry)))
         × (r .counters
-        ≡ counting counters
+        ≡ countPromise counters
         (parts (now (reader .entry)) (now (outbox .entry)) (now (factory .entry)) (now (settings .entry)) (now (registers .entry)))
         (now (piece .entry))) ⌝ }
 {

@@ -12,7 +12,7 @@ use rot::writer::Written;
 ghost use mathlib.Core.Path.{_≡_};
 ghost use Rattle.rot.specs.Reading as RotReading;
 ghost use Rattle.rot.specs.Writing as RotWriting;
-ghost use Rattle.rot.specs.Writing.{rotMessageOf};
+ghost use Rattle.rot.specs.Writing.{rotMessageWith};
 ghost use Rattle.oatcastle.specs.Answers.{callOutcome, writingAnswer};
 ghost use Rattle.oatcastle.specs.RotCalls.{rotShortNumber, rotReadGiven, rotReadCall, rotPayloadCall, rotWriteGiven, rotWriteCall};
 ghost use Rattle.oatcastle.specs.RotCalls.{rotCrcCall};
@@ -54,7 +54,7 @@ pub extern "C" fn oatcastle_rot_write(
     answer: &mut [u64],
 ) -> u32
     ensures { λ r. ⌜ callOutcome r (now (out .exit), now (answer .exit))
-        ≡ rotWriteCall (rotMessageOf kind (now (payload .entry))) (now (out .entry)) (now (answer .entry)) ⌝ }
+        ≡ rotWriteCall (rotMessageWith kind (now (payload .entry))) (now (out .entry)) (now (answer .entry)) ⌝ }
 {
     if answer.len() < 1 {
         let mut none = [0u8; NO_ROOM];

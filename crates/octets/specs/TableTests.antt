@@ -10,8 +10,8 @@ pub record TableTest : Type 0 where
   pub number : ℕ
   pub failing : Bool
 
-abbrev pub test : ℕ → Bool → TableTest
-test n failing = record { number = n; failing = failing }
+abbrev pub tableTest : ℕ → Bool → TableTest
+tableTest n failing = record { number = n; failing = failing }
 
 -- the number of the first that fails; none where the call is carried out
 unfoldable pub firstFailing : List TableTest → Option ℕ

@@ -93,7 +93,7 @@ take-min n piece = by (leb n (length piece)) refl
 
 -- the data that a valid state hands out, of a length that fits
 pub data-length : (s : List ℕ) (n : ℕ) → LineReader.validReader s ≡ true → n ≤ longest-data → length (LineReader.dataPromise s n) ≡ n
-unfolding LineReader.dataPromise LineReader.dataRefusal LineReader.partOf
+unfolding LineReader.dataPromise LineReader.dataGivenPromise LineReader.partOf
 data-length s n v h =
     let r = valid-ready s v in
     rw (v, le-ltb longest-data n h) (length-run LineReader.data-offset n s (omega arith))

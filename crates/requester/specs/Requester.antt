@@ -164,57 +164,57 @@ settle (some t) original h = hearIn (some t) original h
 -- ---- The state that comes next
 
 -- whether a recovery, and any original, ended with 14; the state
-pub record Moved : Type 0 where
+pub record MainMoved : Type 0 where
   pub ended : Bool
   pub state : MainState
 
-abbrev pub moved : Bool → MainState → Moved
-moved e s = record { ended = e; state = s }
+abbrev pub mainMoved : Bool → MainState → MainMoved
+mainMoved e s = record { ended = e; state = s }
 
 abbrev pub idleState : MainState → MainState
 idleState s = mainState (s .newest) none none false (s .received)
 
-unfoldable pub movedTo : Next → MainState → Moved
-movedTo same s = moved false s
-movedTo again s = moved false (mainState (s .newest) (s .kept) (s .recovery) true (s .received))
-movedTo (anew t) s =
-    cond (leb last-number (s .newest)) (moved true (idleState s))
-    (moved false (mainState (suc (s .newest)) (s .kept) t true (s .received)))
-movedTo idle s = moved false (idleState s)
+unfoldable pub mainMovedTo : Next → MainState → MainMoved
+mainMovedTo same s = mainMoved false s
+mainMovedTo again s = mainMoved false (mainState (s .newest) (s .kept) (s .recovery) true (s .received))
+mainMovedTo (anew t) s =
+    cond (leb last-number (s .newest)) (mainMoved true (idleState s))
+    (mainMoved false (mainState (suc (s .newest)) (s .kept) t true (s .received)))
+mainMovedTo idle s = mainMoved false (idleState s)
 
 -- ---- One received byte
 
 -- what is handed out, whether 14 ended a recovery, and the state
-pub record Result : Type 0 where
+pub record MainResult : Type 0 where
   pub handed : Handed
   pub ended : Bool
   pub state : MainState
 
-abbrev pub result : Handed → Moved → Result
-result h m = record { handed = h; ended = m .ended; state = m .state }
+abbrev pub mainResult : Handed → MainMoved → MainResult
+mainResult h m = record { handed = h; ended = m .ended; state = m .state }
 
-abbrev pub dropped : MainState → Result
-dropped s = result nothing (moved false s)
+abbrev pub dropped : MainState → MainResult
+dropped s = mainResult nothing (mainMoved false s)
 
-abbrev pub afterHeard : Heard → MainState → Result
-afterHeard h s = let o = settle (s .recovery) (isSome (s .kept)) h in result (o .handed) (movedTo (o .next) s)
+abbrev pub afterHeard : Heard → MainState → MainResult
+afterHeard h s = let o = settle (s .recovery) (isSome (s .kept)) h in mainResult (o .handed) (mainMovedTo (o .next) s)
 
 abbrev pub mainWithReceived : MainState → Option (List ℕ) → MainState
 mainWithReceived s bs = mainState (s .newest) (s .kept) (s .recovery) (s .unsent) bs
 
 -- the 00 behind these bytes: an empty frame is ignored, and so is what is left of one of more than 4,140 bytes
-abbrev pub mainClosed : Option (List ℕ) → MainState → Result
+abbrev pub mainClosed : Option (List ℕ) → MainState → MainResult
 mainClosed none s = dropped s
 mainClosed (some []) s = dropped s
 mainClosed (some (b ∷ bs)) s = afterHeard (hear (s .newest) (judge (b ∷ bs))) s
 
 -- one byte more; the 4,141st without a 00 is a ground
-abbrev pub mainMore : Option (List ℕ) → ℕ → MainState → Result
+abbrev pub mainMore : Option (List ℕ) → ℕ → MainState → MainResult
 mainMore none b s = dropped s
 mainMore (some bs) b s =
     cond (ltb (length bs) longest-form) (dropped (mainWithReceived s (some (bs ++ b ∷ [])))) (afterHeard ground (mainWithReceived s none))
 
-unfoldable pub mainByte : MainState → ℕ → Result
+unfoldable pub mainByte : MainState → ℕ → MainResult
 mainByte s b = cond (eqb b 0) (mainClosed (s .received) (mainWithReceived s (some []))) (mainMore (s .received) b s)
 
 -- ---- A piece of the received stream
@@ -228,19 +228,19 @@ abbrev pub stops : MainState → ℕ → Bool
 stops s b = eqb b 0 || fills (s .received)
 
 -- how many bytes are read, and what comes of them
-pub record ReceiveResult : Type 0 where
+pub record MainReceived : Type 0 where
   pub used : ℕ
-  pub result : Result
+  pub result : MainResult
 
-abbrev pub receiveResult : ℕ → Result → ReceiveResult
-receiveResult n r = record { used = n; result = r }
+abbrev pub mainReceived : ℕ → MainResult → MainReceived
+mainReceived n r = record { used = n; result = r }
 
 -- up to and with the first 00 or a frame's 4,141st byte, or to the end
-unfoldable pub receive : MainState → List ℕ → ReceiveResult
-receive s [] = receiveResult 0 (dropped s)
+unfoldable pub receive : MainState → List ℕ → MainReceived
+receive s [] = mainReceived 0 (dropped s)
 receive s (b ∷ bs) =
-    cond (stops s b) (receiveResult 1 (mainByte s b))
-    (let r = receive (mainByte s b .state) bs in receiveResult (suc (r .used)) (r .result))
+    cond (stops s b) (mainReceived 1 (mainByte s b))
+    (let r = receive (mainByte s b .state) bs in mainReceived (suc (r .used)) (r .result))
 
 -- whether the frame of the one outstanding is to go out
 abbrev pub toGoOut : MainState → Bool

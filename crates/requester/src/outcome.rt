@@ -9,7 +9,7 @@ pub struct Status {
     pub set_bits: u32,
 }
 
-// What a call of `receive` hands out; `receiveReport` in specs/Calls.antt gives the papers' numbers. The data of an answer lie in the
+// What a call of `receive` hands out; `handedReport` in specs/Calls.antt gives the papers' numbers. The data of an answer lie in the
 // reader's part: `line::reader::message_data` with its length.
 pub enum Handed {
     Refused,

@@ -97,13 +97,13 @@ module _ (s : MainState) where
   more-hands : (bs : Option (List ℕ)) (b : ℕ) → Hands (Closes (s .received) b) (Requester.mainMore bs b s .handed)
   more-hands none b = tt
   more-hands (some bs) b =
-      cond-by (λ (x : Requester.Result). Hands (Closes (s .received) b) (x .handed)) (ltb (length bs) longest-form) _ _ (λ _. tt)
+      cond-by (λ (x : Requester.MainResult). Hands (Closes (s .received) b) (x .handed)) (ltb (length bs) longest-form) _ _ (λ _. tt)
       (λ _. settled-hands (Closes (s .received) b) (s .recovery) (isSome (s .kept)) ground tt)
 
   byte-hands : (b : ℕ) → Hands (Closes (s .received) b) (Requester.mainByte s b .handed)
   unfolding Requester.mainByte
   byte-hands b =
-      cond-by (λ (x : Requester.Result). Hands (Closes (s .received) b) (x .handed)) (eqb b 0) _ _
+      cond-by (λ (x : Requester.MainResult). Hands (Closes (s .received) b) (x .handed)) (eqb b 0) _ _
       (λ e. closes-hands b (eqb-true b 0 e) (s .received)) (λ _. more-hands (s .received) b)
 
 -- ---- a piece
@@ -142,14 +142,14 @@ unfolding Requester.receive
 receive-hands [] s = tt
 receive-hands (b ∷ bs) s = by (Requester.stops s b) refl (λ x. receive-hands bs (Requester.mainWithReceived s x))
   where
-    P : Requester.ReceiveResult → Type 0
+    P : Requester.MainReceived → Type 0
     P x = Hands (Comes (b ∷ bs) (s .received) (x .used)) (x .result .handed)
 
     by : (t : Bool) → Requester.stops s b ≡ t
         → ((x : Option (List ℕ))
         → let r = Requester.receive (Requester.mainWithReceived s x) bs in Hands (Comes bs x (r .used)) (r .result .handed))
-        → let r = Requester.receive (Requester.mainByte s b .state) bs in P (cond t (Requester.receiveResult 1 (Requester.mainByte s b))
-        (Requester.receiveResult (suc (r .used)) (r .result)))
+        → let r = Requester.receive (Requester.mainByte s b .state) bs in P (cond t (Requester.mainReceived 1 (Requester.mainByte s b))
+        (Requester.mainReceived (suc (r .used)) (r .result)))
     by true e i = hands-then (Closes (s .received) b) _ (at-once b bs (s .received)) (Requester.mainByte s b .handed) (byte-hands s b)
     by false e i =
         let x = grown (s .received) b in

@@ -28,10 +28,10 @@ use Rattle.requester_claims.specs.Histories.{MainCall, MainAnswer, refus
 use Rattle.requester_claims.specs.Histories.{mainMade, mainMeantMade, mainEnough, mainLeft, mainLeftMeant}
 use Rattle.requester_claims.proofs.MeaningLaws.{positive}
 use Rattle.requester_claims.proofs.History.{history}
-use Rattle.requester_claims.specs.Histories.{mainStarted, OfStarted}
+use Rattle.requester_claims.specs.Histories.{mainStarted, OfMainStart}
 use Rattle.requester_claims.specs.Answers.{OfReport, OfAnswer}
 use Rattle.requester_claims.proofs.AnswerBytes.{answer-bytes}
-use Rattle.requester_claims.specs.Item6.{Comes, Framed, PieceTyped, AllPiecesTyped, AnswerFrame}
+use Rattle.requester_claims.specs.Item6.{Comes, InFrame, PieceTyped, AllPiecesTyped, AnswerFrame}
 
 -- ---- the bytes since the last 00 are not 00
 
@@ -39,12 +39,12 @@ abbrev Since : Option (List ℕ) → Type 0
 Since none = Unit {0}
 Since (some xs) = Each NonZero xs
 
-pub moved-received : (x : Requester.Next) (s : MainState) → Requester.movedTo x s .state .received ≡ s .received
-unfolding Requester.movedTo
+pub moved-received : (x : Requester.Next) (s : MainState) → Requester.mainMovedTo x s .state .received ≡ s .received
+unfolding Requester.mainMovedTo
 moved-received Requester.same s = refl
 moved-received Requester.again s = refl
 moved-received (Requester.anew t) s =
-    cond-by (λ (m : Requester.Moved). m .state .received ≡ s .received) (leb last-number (s .newest)) _ _ (λ _. refl) (λ _. refl)
+    cond-by (λ (m : Requester.MainMoved). m .state .received ≡ s .received) (leb last-number (s .newest)) _ _ (λ _. refl) (λ _. refl)
 moved-received Requester.idle s = refl
 
 hears-since : (h : Heard) (s : MainState) → Since (s .received) → Since (Requester.afterHeard h s .state .received)
@@ -60,13 +60,13 @@ more-since : (bs : Option (List ℕ)) (b : ℕ) (s : MainState) → NonZero b �
     → Since (Requester.mainMore bs b s .state .received)
 more-since none b s z w h = h
 more-since (some bs) b s z w h =
-    cond-by (λ (x : Requester.Result). Since (x .state .received)) (ltb (length bs) longest-form) _ _
+    cond-by (λ (x : Requester.MainResult). Since (x .state .received)) (ltb (length bs) longest-form) _ _
     (λ _. each-append NonZero bs (b ∷ []) w (z, tt)) (λ _. hears-since ground (Requester.mainWithReceived s none) tt)
 
 byte-since : (s : MainState) (b : ℕ) → Byte b → Since (s .received) → Since (Requester.mainByte s b .state .received)
 unfolding Requester.mainByte
 byte-since s b h w =
-    cond-by (λ (x : Requester.Result). Since (x .state .received)) (eqb b 0) _ _
+    cond-by (λ (x : Requester.MainResult). Since (x .state .received)) (eqb b 0) _ _
     (λ _. closes-since (s .received) s) (λ e. more-since (s .received) b s (positive b (eqb-false b 0 e), omega arith) w w)
 
 receive-since : (piece : List ℕ) (s : MainState) → Each Byte piece → Since (s .received)
@@ -75,7 +75,7 @@ unfolding Requester.receive
 receive-since [] s h w = w
 receive-since (b ∷ bs) s h w =
     let v = byte-since s b (h .0) w in
-    cond-by (λ (x : Requester.ReceiveResult). Since (x .result .state .received)) (Requester.stops s b) _ _ (λ _. v)
+    cond-by (λ (x : Requester.MainReceived). Since (x .result .state .received)) (Requester.stops s b) _ _ (λ _. v)
     (λ _. receive-since bs (Requester.mainByte s b .state) (h .1) v)
 
 -- the calls that receive nothing keep them
@@ -140,7 +140,7 @@ both [] h k = tt
 both (b ∷ bs) h k = ((k .0, omega (arith, h .0)), both bs (h .1) (k .1))
 
 module _ (piece : List ℕ) (h : Each Byte piece) (bs : Option (List ℕ)) (w : Since bs) where
-  comes-framed : (used : ℕ) (m : Message) → Comes piece bs used m → Framed piece bs used m
+  comes-framed : (used : ℕ) (m : Message) → Comes piece bs used m → InFrame piece bs used m
   comes-framed used m c =
       let x = c .ended in
       let f : Each NonZero (x .since) = rw (x .begun) at w in
@@ -165,7 +165,7 @@ module _ (P Q : ℕ → Message → Type 0) (f : (used : ℕ) (m : Message) → 
   answer-then (put n) d c = tt
   answer-then (received used t e u) d c = report-then used t d c
 
-pub answer-frame : OfStarted AnswerFrame
+pub answer-frame : OfMainStart AnswerFrame
 answer-frame p l h ms t k piece b =
     let i = history p l h ms in
     let q = mainLeft (mainStarted p l) ms in

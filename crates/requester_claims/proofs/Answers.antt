@@ -26,7 +26,7 @@ use Rattle.requester_claims.specs.Histories.{MainCall, received, MainMea
 use Rattle.requester_claims.specs.Histories.{mainMeantMade, mainLeft, mainEnough}
 use Rattle.requester_claims.proofs.MeaningLaws.{grown, quiet-byte}
 use Rattle.requester_claims.proofs.History.{one-call, started}
-use Rattle.requester_claims.specs.Histories.{mainStarted, OfStarted, OfValid}
+use Rattle.requester_claims.specs.Histories.{mainStarted, OfMainStart, OfValid}
 use Rattle.requester_claims.specs.Item2.{AnswerMatches, AnswersCounted, OneAnswerEach}
 use Rattle.requester_claims.specs.Answers.{OfReport, OfAnswer, MessageMatching, answersReported, answersIn, requestsByCall}
 use Rattle.requester_claims.specs.Answers.{answersCounted, requestsCounted, keptNumber}
@@ -72,7 +72,7 @@ module _ (n : ℕ) where
   settled-matches (some alert) k (answer m) w = w
 
 module _ (s : MainState) where
-  abbrev ResultMatches : Requester.Result → Type 0
+  abbrev ResultMatches : Requester.MainResult → Type 0
   ResultMatches x = HandedMatches (s .newest) (x .handed)
 
   nothing-matches : HandedMatches (s .newest) Requester.nothing
@@ -100,13 +100,13 @@ unfolding Requester.receive
 receive-matches [] s = nothing-matches s
 receive-matches (b ∷ bs) s = by (Requester.stops s b) refl (λ x. receive-matches bs (Requester.mainWithReceived s x))
   where
-    P : Requester.ReceiveResult → Type 0
+    P : Requester.MainReceived → Type 0
     P x = HandedMatches (s .newest) (x .result .handed)
 
     by : (t : Bool) → Requester.stops s b ≡ t
         → ((x : Option (List ℕ)) → HandedMatches (s .newest) (Requester.receive (Requester.mainWithReceived s x) bs .result .handed))
-        → let r = Requester.receive (Requester.mainByte s b .state) bs in P (cond t (Requester.receiveResult 1 (Requester.mainByte s b))
-        (Requester.receiveResult (suc (r .used)) (r .result)))
+        → let r = Requester.receive (Requester.mainByte s b .state) bs in P (cond t (Requester.mainReceived 1 (Requester.mainByte s b))
+        (Requester.mainReceived (suc (r .used)) (r .result)))
     by true e i = byte-matches s b
     by false e i = rw (quiet-byte s b e) (i (grown (s .received) b))
 
@@ -176,21 +176,21 @@ kept-one : (k : Option Request) → isSome k ≡ true → keptNumber k ≡ 1
 kept-one none e = absurd (false≢true e)
 kept-one (some q) e = refl
 
-moved-kept : (x : Requester.Next) (s : MainState) → keptNumber (Requester.movedTo x s .state .kept) ≤ keptNumber (s .kept)
-unfolding Requester.movedTo
+moved-kept : (x : Requester.Next) (s : MainState) → keptNumber (Requester.mainMovedTo x s .state .kept) ≤ keptNumber (s .kept)
+unfolding Requester.mainMovedTo
 moved-kept Requester.same s = omega arith
 moved-kept Requester.again s = omega arith
 moved-kept (Requester.anew t) s =
-    cond-by (λ (m : Requester.Moved). keptNumber (m .state .kept) ≤ keptNumber (s .kept)) (leb last-number (s .newest)) _ _
+    cond-by (λ (m : Requester.MainMoved). keptNumber (m .state .kept) ≤ keptNumber (s .kept)) (leb last-number (s .newest)) _ _
     (λ _. omega arith) (λ _. omega arith)
 moved-kept Requester.idle s = omega arith
 
-idle-kept : (s : MainState) → keptNumber (Requester.movedTo Requester.idle s .state .kept) ≡ 0
-unfolding Requester.movedTo
+idle-kept : (s : MainState) → keptNumber (Requester.mainMovedTo Requester.idle s .state .kept) ≡ 0
+unfolding Requester.mainMovedTo
 idle-kept s = refl
 
 -- what came of a byte: answers out and kept behind it, against kept ahead of it
-abbrev Balanced : MainState → Requester.Result → Type 0
+abbrev Balanced : MainState → Requester.MainResult → Type 0
 Balanced s x = answersOut (x .handed) + keptNumber (x .state .kept) ≤ keptNumber (s .kept)
 
 module _ (s : MainState) where
@@ -198,7 +198,7 @@ module _ (s : MainState) where
   hears-balanced h = by (settle (s .recovery) (isSome (s .kept)) h) (settled-counted (s .recovery) (isSome (s .kept)) h)
     where
       by : (o : Requester.HeardOutcome) → Counted (isSome (s .kept)) o
-          → answersOut (o .handed) + keptNumber (Requester.movedTo (o .next) s .state .kept) ≤ keptNumber (s .kept)
+          → answersOut (o .handed) + keptNumber (Requester.mainMovedTo (o .next) s .state .kept) ≤ keptNumber (s .kept)
       by o (no-answer e) = omega (arith, moved-kept (o .next) s)
       by o (one-answer e k n) = rw (n, idle-kept s, e) (omega (arith, kept-one (s .kept) k))
 
@@ -231,7 +231,7 @@ receive-balanced (b ∷ bs) s = by (Requester.stops s b) refl (λ x. receive-bal
     by : (t : Bool) → Requester.stops s b ≡ t
         → ((x : Option (List ℕ)) → Balanced s (Requester.receive (Requester.mainWithReceived s x) bs .result))
         → let r = Requester.receive (Requester.mainByte s b .state) bs in Balanced s (cond t
-        (Requester.receiveResult 1 (Requester.mainByte s b)) (Requester.receiveResult (suc (r .used)) (r .result)) .result)
+        (Requester.mainReceived 1 (Requester.mainByte s b)) (Requester.mainReceived (suc (r .used)) (r .result)) .result)
     by true e i = byte-balanced s b
     by false e i = rw (quiet-byte s b e) (i (grown (s .received) b))
 
@@ -310,7 +310,7 @@ fresh-none : mainFresh .kept ≡ none
 unfolding mainFresh
 fresh-none = refl
 
-pub one-answer-each : OfStarted OneAnswerEach
+pub one-answer-each : OfMainStart OneAnswerEach
 one-answer-each p l h ms =
     let k = started p l h in
     let q = mainStarted p l in
@@ -318,5 +318,5 @@ one-answer-each p l h ms =
     let i = rw e at (answers-counted q (k .valid) ms) in
     omega arith
 
-pub answer-matches-started : OfStarted AnswerMatches
+pub answer-matches-started : OfMainStart AnswerMatches
 answer-matches-started p l h = answer-matches _ (started p l h .valid)

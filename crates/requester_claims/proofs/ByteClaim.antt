@@ -41,7 +41,7 @@ pub lengths-then : {p q r : MainParts} → MainLengths p q → MainLengths q r �
 lengths-then l m = record { reader = m .reader ∙ l .reader; requester = m .requester ∙ l .requester }
 
 -- what came of a byte is what document 02 has of it; the parts stay valid, and the data of what is handed out lie in the reader's
-pub record Follows (p : MainParts) (f : Fed) (x : Requester.Result) : Type 0 where
+pub record Follows (p : MainParts) (f : Fed) (x : Requester.MainResult) : Type 0 where
   pub handed : f .handed ≡ x .handed
   pub ended : f .ended ≡ x .ended
   pub state : mainView (f .parts) ≡ x .state
@@ -254,7 +254,7 @@ walk-follows (b ∷ bs) p v =
     let f = feed-follows p v b in
     let i = rw (f .state) at (walk-follows bs (feed p b .parts) (f .valid)) in
     rw (stops-alike p v b)
-    (cond-both (λ (w : Walked) (x : Requester.ReceiveResult). (w .used ≡ x .used) × Follows p (w .fed) (x .result))
+    (cond-both (λ (w : Walked) (x : Requester.MainReceived). (w .used ≡ x .used) × Follows p (w .fed) (x .result))
     (Requester.stops (mainView p) b)
     (λ e. (refl, f))
     (λ e. (

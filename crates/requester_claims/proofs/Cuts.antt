@@ -21,7 +21,7 @@ use Rattle.requester_claims.proofs.ByteClaim.{feed-follows, feed-quiet,
 use Rattle.requester_claims.proofs.CallClaims.{report-received}
 use Rattle.requester_claims.proofs.LentCalls.{whole, too-little}
 use Rattle.requester_claims.proofs.History.{one-call, valid-long-enough, started}
-use Rattle.requester_claims.specs.Histories.{OfStarted, OfValid}
+use Rattle.requester_claims.specs.Histories.{OfMainStart, OfValid}
 use Rattle.requester_claims.specs.Item2.{MainCut, CutBetween}
 use Rattle.requester_claims.specs.Cuts.{handedEvents, MainRead, Listener, listening, answeredBy, afterMainRead, afterMainReads}
 use Rattle.requester_claims.specs.Cuts.{stretchOutputs, leftByStretches}
@@ -176,5 +176,5 @@ cut-between p v (s ∷ ss) (t ∷ ts) h =
     let i = cut-between (mainMade (x .parts) (s .behind) .parts) w ss ts (h .2) in
     rw (← c, ← h .1) (rw (i .0), i .1)
 
-pub cut-between-started : OfStarted CutBetween
+pub cut-between-started : OfMainStart CutBetween
 cut-between-started p l h = cut-between _ (started p l h .valid)

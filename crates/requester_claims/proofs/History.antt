@@ -30,7 +30,7 @@ use Rattle.requester_claims.specs.Histories.{mainMeans, putMeans, mainDo
 use Rattle.requester_claims.specs.Histories.{MainMade, mainUntouched, mainMade, mainMeantMade}
 use Rattle.requester_claims.specs.Histories.{mainOutputs, mainLeft, mainOutputsMeant, mainLeftMeant, mainStartCall, Accepted}
 use Rattle.requester_claims.specs.Histories.{OfReached, OfValid}
-use Rattle.requester_claims.specs.Item2.{Follow, MainCallsMeant, MainNo12, MainRefusedHolds, MainRefusedMade}
+use Rattle.requester_claims.specs.Item2.{MainFollow, MainCallsMeant, MainNo12, MainRefusedHolds, MainRefusedMade}
 use Rattle.requester_claims.proofs.ByteClaim.{lengths-same, lengths-then}
 use Rattle.requester_claims.specs.Demand1.{MainMeets, CallAsMeant}
 use Rattle.requester_claims.proofs.CallClaims.{report-received, start-meets, call-meets}
@@ -156,12 +156,12 @@ earns-no-12 p v m e h = never-12 (mainView p) m e (sym (one-call p m v .answer) 
 
 -- ---- a list of calls, on valid parts
 
-pub follow : (q : MainParts) → MainPartsValid q → (ms : List MainMade) → Follow q q (mainView q) ms
+pub follow : (q : MainParts) → MainPartsValid q → (ms : List MainMade) → MainFollow q q (mainView q) ms
 unfolding mainOutputs mainLeft mainOutputsMeant mainLeftMeant
 follow q v [] = (refl, refl, v, lengths-same)
 follow q v (m ∷ ms) =
     let k = one-call q m v in
-    let i : Follow (mainMade q m .parts) (mainMade q m .parts) (mainMeantMade (mainView q) m .state) ms =
+    let i : MainFollow (mainMade q m .parts) (mainMade q m .parts) (mainMeantMade (mainView q) m .state) ms =
     rw (k .state) at (follow (mainMade q m .parts) (k .valid) ms) in
     (rw (k .answer, k .out, i .0), i .1, i .2, lengths-then (k .lengths) (i .3))
 

@@ -22,7 +22,7 @@ use Rattle.requester.proofs.ReaderLaws.{read-leaves}
 use Rattle.requester_claims.specs.Histories
 use Rattle.requester_claims.specs.Histories.{MainCall, MainLent, mainDid, mainLentOf, enoughReader, enoughRequester, mainEnough}
 use Rattle.requester_claims.specs.Histories.{mainMade, handedDataIn, receiptDid}
-use Rattle.requester_claims.specs.Item2.{TooLittle, WholeRequest}
+use Rattle.requester_claims.specs.Item2.{TooLittle, MainWholeParts}
 use Rattle.requester_claims.proofs.Locality
 
 -- ---- enough of each part that a call takes
@@ -118,7 +118,7 @@ module _ (l : MainLent) (p : MainParts) (room : MainLongEnough p) where
             data-behind (x .report) (x .parts .reader) (h .rest) (omega (arith, receiving-long q piece, reader-long)),
           )
 
-pub whole : WholeRequest
+pub whole : MainWholeParts
 unfolding mainEnough
 whole l p room Histories.start e = let b = and-eq-true-iff _ _ .0 e in start-whole l p room (b .1) (b .0)
 whole l p room (Histories.request command d out) e = request-whole l p room e command d out

@@ -37,7 +37,7 @@ kept-some r = by (Layout.isKept r)
     by false = refl
 
 -- the part after a move holds the state after it
-pub record Moves (r : List ℕ) (bs : Option (List ℕ)) (m : Calls.PartMoved) (x : Requester.Moved) : Type 0 where
+pub record Moves (r : List ℕ) (bs : Option (List ℕ)) (m : Calls.PartMoved) (x : Requester.MainMoved) : Type 0 where
   pub ended : m .ended ≡ x .ended
   pub state : held (m .requester) bs ≡ x .state
   pub valid : RequesterValid (m .requester)
@@ -51,7 +51,7 @@ number-step (some acknowledge) = omega arith
 number-step (some alert) = omega arith
 
 module _ (r : List ℕ) (v : RequesterValid r) (bs : Option (List ℕ)) where
-  idled : (e : Bool) → Moves r bs (Calls.partMoved e (Calls.idlePart r)) (Requester.moved e (Requester.idleState (held r bs)))
+  idled : (e : Bool) → Moves r bs (Calls.partMoved e (Calls.idlePart r)) (Requester.mainMoved e (Requester.idleState (held r bs)))
   unfolding Layout.stepAt
   idled e = record {
     ended = refl;
@@ -60,8 +60,8 @@ module _ (r : List ℕ) (v : RequesterValid r) (bs : Option (List ℕ)) where
     long = progressed-long (Layout.newestNumber r) 0 0 0 r v;
   }
 
-  pub moves : (x : Next) → Moves r bs (Calls.partMovedTo x r) (Requester.movedTo x (held r bs))
-  unfolding Calls.partMovedTo Requester.movedTo keptRequestOf
+  pub moves : (x : Next) → Moves r bs (Calls.partMovedTo x r) (Requester.mainMovedTo x (held r bs))
+  unfolding Calls.partMovedTo Requester.mainMovedTo keptRequestOf
   moves same = record { ended = refl; state = refl; valid = v; long = refl }
   moves again = record { ended = refl; state = flagged-held 1 r v bs; valid = flagged-valid 1 r v (omega arith); long = flagged-long 1 r v }
   moves (anew t) =

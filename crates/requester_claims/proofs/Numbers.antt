@@ -48,12 +48,12 @@ pub data Goes (s t : MainState) (fs : List Frame) : Type 0 where
 nothing-goes : (s : MainState) → Goes s s []
 nothing-goes s = stays refl (inl refl) (inl refl)
 
-moved-goes : (x : Requester.Next) (s : MainState) → Goes s (Requester.movedTo x s .state) []
-unfolding Requester.movedTo
+moved-goes : (x : Requester.Next) (s : MainState) → Goes s (Requester.mainMovedTo x s .state) []
+unfolding Requester.mainMovedTo
 moved-goes Requester.same s = nothing-goes s
 moved-goes Requester.again s = stays refl (inl refl) (inl refl)
 moved-goes (Requester.anew t) s =
-    cond-by (λ (m : Requester.Moved). Goes s (m .state) []) (leb last-number (s .newest)) _ _ (λ _. stays refl (inr refl) (inl refl))
+    cond-by (λ (m : Requester.MainMoved). Goes s (m .state) []) (leb last-number (s .newest)) _ _ (λ _. stays refl (inr refl) (inl refl))
     (λ _. takes refl (inl refl))
 moved-goes Requester.idle s = stays refl (inr refl) (inl refl)
 
@@ -75,13 +75,13 @@ module _ (s : MainState) where
   more-goes : (bs : Option (List ℕ)) (b : ℕ) → Goes s (Requester.mainMore bs b s .state) []
   more-goes none b = nothing-goes s
   more-goes (some bs) b =
-      cond-by (λ (x : Requester.Result). Goes s (x .state) []) (ltb (length bs) longest-form) _ _
+      cond-by (λ (x : Requester.MainResult). Goes s (x .state) []) (ltb (length bs) longest-form) _ _
       (λ _. stays refl (inl refl) (inl refl)) (λ _. hears-goes none ground)
 
   byte-goes : (b : ℕ) → Goes s (Requester.mainByte s b .state) []
   unfolding Requester.mainByte
   byte-goes b =
-      cond-by (λ (x : Requester.Result). Goes s (x .state) []) (eqb b 0) _ _ (λ _. closes-goes (s .received))
+      cond-by (λ (x : Requester.MainResult). Goes s (x .state) []) (eqb b 0) _ _ (λ _. closes-goes (s .received))
       (λ _. more-goes (s .received) b)
 
 receive-goes : (piece : List ℕ) (s : MainState) → Goes s (Requester.receive s piece .result .state) []
@@ -90,14 +90,14 @@ receive-goes [] s = nothing-goes s
 receive-goes (b ∷ bs) s =
     by (Requester.stops s b) refl (λ x. receive-goes bs (Requester.mainWithReceived s x))
   where
-    P : Requester.ReceiveResult → Type 0
+    P : Requester.MainReceived → Type 0
     P x = Goes s (x .result .state) []
 
     by : (t : Bool) → Requester.stops s b ≡ t
         → ((x : Option (List ℕ))
         → Goes (Requester.mainWithReceived s x) (Requester.receive (Requester.mainWithReceived s x) bs .result .state) [])
-        → let r = Requester.receive (Requester.mainByte s b .state) bs in P (cond t (Requester.receiveResult 1 (Requester.mainByte s b))
-        (Requester.receiveResult (suc (r .used)) (r .result)))
+        → let r = Requester.receive (Requester.mainByte s b .state) bs in P (cond t (Requester.mainReceived 1 (Requester.mainByte s b))
+        (Requester.mainReceived (suc (r .used)) (r .result)))
     by true e i = byte-goes s b
     by false e i = rw (quiet-byte s b e) (progress-goes (grown (s .received) b) (i (grown (s .received) b)))
 

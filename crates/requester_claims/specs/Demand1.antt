@@ -4,7 +4,7 @@ use mathlib.Core.Path.{_≡_}
 use Rattle.requester.specs.Calls.{MainParts, MainPartsValid}
 use Rattle.requester_claims.specs.View.{mainView}
 use Rattle.requester_claims.specs.Histories.{MainDid, MainMeans, MainMade, mainMade, mainMeantMade, MainLengths, OfReached, OfValid}
-use Rattle.requester_claims.specs.Item2.{MainRefusedExactly, MainStartAccepted, MainCallsMeant, MainNo12, TooLittle, WholeRequest}
+use Rattle.requester_claims.specs.Item2.{MainRefusedExactly, MainStartAccepted, MainCallsMeant, MainNo12, TooLittle, MainWholeParts}
 use Rattle.requester_claims.specs.Item2.{MainRefusedHolds, MainRefusedMade}
 
 -- ---- The table's number exactly where it is due
@@ -35,7 +35,7 @@ pub record MainNumberDue : Type 0 where
   -- too little lent of a part that the call takes is 12, on any parts
   pub too-little : TooLittle
   -- enough lent of each such part does what the whole parts do
-  pub whole : WholeRequest
+  pub whole : MainWholeParts
 
 -- ---- Everything lent as it was
 

@@ -114,7 +114,7 @@ handedData (Requester.answered m) = m .payload
 handedData (Requester.status s o n) = []
 handedData (Requester.alerted m) = m .payload
 
-abbrev pub receiveMeans : Requester.ReceiveResult → MainMeans
+abbrev pub receiveMeans : Requester.MainReceived → MainMeans
 receiveMeans r =
     let x = r .result in
     mainMeans (received (r .used) (handedReportOf (x .handed)) (x .ended) (Requester.toGoOut (x .state))) (handedData (x .handed))
@@ -225,12 +225,12 @@ abbrev pub mainStarted : MainParts → MainLent → MainParts
 mainStarted p l = mainMade p (mainStartCall l) .parts
 
 -- what holds of the parts that an accepted start leaves, on any bytes
-abbrev pub OfStarted : (MainParts → Type 0) → Type 0
-OfStarted P = (p : MainParts) (l : MainLent) → Accepted p l → P (mainStarted p l)
+abbrev pub OfMainStart : (MainParts → Type 0) → Type 0
+OfMainStart P = (p : MainParts) (l : MainLent) → Accepted p l → P (mainStarted p l)
 
 -- and of the parts that any calls behind it leave
 abbrev pub OfReached : (MainParts → Type 0) → Type 0
-OfReached P = OfStarted (λ q. (ms : List MainMade) → P (mainLeft q ms))
+OfReached P = OfMainStart (λ q. (ms : List MainMade) → P (mainLeft q ms))
 
 -- what holds of any parts that are as 12 requires
 abbrev pub OfValid : (MainParts → Type 0) → Type 0

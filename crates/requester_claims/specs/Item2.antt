@@ -10,7 +10,7 @@ use lib.Dec.{leb, ltb}
 use lib.ListN.{length}
 use Rattle.octets.specs.Bytes.{Each}
 use Rattle.line.specs.Limits.{longest-data}
-use Rattle.octets.specs.TableTests.{TableTest, test, firstFailing}
+use Rattle.octets.specs.TableTests.{TableTest, tableTest, firstFailing}
 use Rattle.requester.specs.Limits.{last-number}
 use Rattle.requester.specs.State.{Request, MainState, mainFresh, isSome, outstanding, requestFrame}
 use Rattle.requester.specs.Valid.{validRequester}
@@ -21,25 +21,25 @@ use Rattle.requester_claims.specs.Histories
 use Rattle.requester_claims.specs.Histories.{MainCall, refused, done, mainDidBy, mainDid, MainLent, mainEnough, MainMade}
 use Rattle.requester_claims.specs.Histories.{mainUntouched, mainMade}
 use Rattle.requester_claims.specs.Histories.{mainOutputs, mainLeft, mainOutputsMeant, mainLeftMeant}
-use Rattle.requester_claims.specs.Histories.{MainLengths, Accepted, mainStarted, OfStarted, OfReached, OfValid}
+use Rattle.requester_claims.specs.Histories.{MainLengths, Accepted, mainStarted, OfMainStart, OfReached, OfValid}
 use Rattle.requester_claims.specs.Cuts.{MainRead, listening, afterMainReads, Stretch, stretchOutputs, leftByStretches, SameBytes}
 use Rattle.requester_claims.specs.Numbers.{frames, Between, OnePerNumber, OneAbove, RequestFrame}
 use Rattle.requester_claims.specs.Answers.{AllMatch, answersCounted, requestsCounted, keptNumber}
 
 -- calls on q do what document 02 has of the same calls on the state s, and leave valid parts, as long as p's
-abbrev pub Follow : MainParts → MainParts → MainState → List MainMade → Type 0
-Follow p q s ms = (mainOutputs q ms ≡ mainOutputsMeant s ms) × (mainView (mainLeft q ms) ≡ mainLeftMeant s ms)
+abbrev pub MainFollow : MainParts → MainParts → MainState → List MainMade → Type 0
+MainFollow p q s ms = (mainOutputs q ms ≡ mainOutputsMeant s ms) × (mainView (mainLeft q ms) ≡ mainLeftMeant s ms)
     × MainPartsValid (mainLeft q ms) × MainLengths p (mainLeft q ms)
 
 abbrev pub MainCallsMeant : Type 0
-MainCallsMeant = (p : MainParts) (l : MainLent) → Accepted p l → (ms : List MainMade) → Follow p (mainStarted p l) mainFresh ms
+MainCallsMeant = (p : MainParts) (l : MainLent) → Accepted p l → (ms : List MainMade) → MainFollow p (mainStarted p l) mainFresh ms
 
 abbrev pub MainNo12 : MainParts → Type 0
 MainNo12 p = (m : MainMade) → mainEnough (m .call) (m .lent) ≡ true → mainMade p m .answer ≡ refused 12 → ⊥
 
 -- 12 of a call that takes the main processor's part alone
 abbrev pub partTest : MainParts → TableTest
-partTest p = test 12 (not (validRequester (p .requester)))
+partTest p = tableTest 12 (not (validRequester (p .requester)))
 
 -- the bytes that a send is to put out
 abbrev pub frameOut : ℕ → Option Request → List ℕ
@@ -51,17 +51,18 @@ toPutOut s = cond (s .unsent) (frameOut (s .newest) (outstanding s)) []
 
 -- the tests of a call on any parts whatever, in document 02's order: 12, 9, 17, 14, 8; a start tests the lengths alone
 unfoldable pub mainTests : MainParts → MainCall → List TableTest
-mainTests p Histories.start = test 12 (not (Calls.mainLongEnough p)) ∷ []
+mainTests p Histories.start = tableTest 12 (not (Calls.mainLongEnough p)) ∷ []
 mainTests p (Histories.request command d room) =
     partTest p
-    ∷ test 9 (ltb longest-data (length d))
-    ∷ test 17 (isSome (outstanding (mainView p)))
-    ∷ test 14 (leb last-number (mainView p .newest))
-    ∷ test 8 (ltb (length room) (length (requestFrame (suc (mainView p .newest)) (record { command = command; payload = d }))))
+    ∷ tableTest 9 (ltb longest-data (length d))
+    ∷ tableTest 17 (isSome (outstanding (mainView p)))
+    ∷ tableTest 14 (leb last-number (mainView p .newest))
+    ∷ tableTest 8 (ltb (length room) (length (requestFrame (suc (mainView p .newest)) (record { command = command; payload = d }))))
     ∷ []
-mainTests p Histories.interrupt = partTest p ∷ test 14 (not (isSome (mainView p .recovery)) && leb last-number (mainView p .newest)) ∷ []
-mainTests p (Histories.send room) = partTest p ∷ test 8 (ltb (length room) (length (toPutOut (mainView p)))) ∷ []
-mainTests p (Histories.receive piece) = test 12 (not (Calls.mainValidParts p)) ∷ []
+mainTests p Histories.interrupt =
+    partTest p ∷ tableTest 14 (not (isSome (mainView p .recovery)) && leb last-number (mainView p .newest)) ∷ []
+mainTests p (Histories.send room) = partTest p ∷ tableTest 8 (ltb (length room) (length (toPutOut (mainView p)))) ∷ []
+mainTests p (Histories.receive piece) = tableTest 12 (not (Calls.mainValidParts p)) ∷ []
 
 abbrev pub MainRefusedExactly : Type 0
 MainRefusedExactly = (p : MainParts) (c : MainCall) (n : ℕ) → (mainDid p c .answer ≡ refused n) ↔ (firstFailing (mainTests p c) ≡ some n)
@@ -81,8 +82,8 @@ abbrev pub TooLittle : Type 0
 TooLittle = (l : MainLent) (p : MainParts) (c : MainCall) → mainEnough c l ≡ false
     → mainMade p (record { lent = l; call = c }) ≡ mainDidBy (refused 12) (mainUntouched c) p
 
-abbrev pub WholeRequest : Type 0
-WholeRequest = (l : MainLent) (p : MainParts) → MainLongEnough p → (c : MainCall) → mainEnough c l ≡ true
+abbrev pub MainWholeParts : Type 0
+MainWholeParts = (l : MainLent) (p : MainParts) → MainLongEnough p → (c : MainCall) → mainEnough c l ≡ true
     → mainMade p (record { lent = l; call = c }) ≡ mainDid p c
 
 abbrev pub MainCut : MainParts → Type 0
@@ -126,14 +127,14 @@ pub record MainItem2 : Type 0 where
   -- too little lent of a part that the call takes is 12, on any parts
   pub too-little : TooLittle
   -- enough lent of each such part does what the whole parts do
-  pub whole : WholeRequest
+  pub whole : MainWholeParts
   -- Replies are read in pieces: receives that read the same bytes hand out the same, in order, whatever each is lent.
   -- They leave the same bytes in both parts.
   pub cut : OfValid MainCut
   -- so do they between the same other calls, which answer and write the same
   pub cut-between : OfValid CutBetween
   -- and from a start on
-  pub cut-between-started : OfStarted CutBetween
+  pub cut-between-started : OfMainStart CutBetween
   -- Resend the same bytes: between two accepted starts, frames under one number are the same bytes.
   -- Each is a request's frame under its number, numbers never fall, and each call takes none or the one above the last.
   pub one-number : OfValid OneNumber
@@ -143,9 +144,9 @@ pub record MainItem2 : Type 0 where
   -- Its sequence is the reply sequence of the newest number.
   pub answer-matches : OfValid AnswerMatches
   -- so from a start on
-  pub answer-matches-started : OfStarted AnswerMatches
+  pub answer-matches-started : OfMainStart AnswerMatches
   -- One is outstanding, and answered once:
   -- answers handed out and requests still kept are at most requests that stay outstanding and those kept at first.
   pub answers-counted : OfValid AnswersCounted
   -- from a start on, no more answers than requests that stay outstanding
-  pub one-answer-each : OfStarted OneAnswerEach
+  pub one-answer-each : OfMainStart OneAnswerEach

@@ -12,7 +12,7 @@ use Rattle.line.specs.Judge.{good, judge}
 use Rattle.requester.specs.Calls.{MainParts}
 use Rattle.requester_claims.specs.View.{mainView}
 use Rattle.requester_claims.specs.Histories
-use Rattle.requester_claims.specs.Histories.{MainCall, MainLent, MainMade, mainMade, mainLeft, OfStarted, OfValid}
+use Rattle.requester_claims.specs.Histories.{MainCall, MainLent, MainMade, mainMade, mainLeft, OfMainStart, OfValid}
 use Rattle.requester_claims.specs.Answers.{OfAnswer}
 
 -- the last byte that a call read of a piece is a 00; bs is what had come of its frame before the piece
@@ -31,7 +31,7 @@ pub record Comes (piece : List ℕ) (bs : Option (List ℕ)) (used : ℕ) (m : M
   pub judged : judge (ended .since ++ take (ended .ahead) piece) ≡ good m
 
 -- these bytes and the 00 are exactly the message's frame
-pub record Framed (piece : List ℕ) (bs : Option (List ℕ)) (used : ℕ) (m : Message) : Type 0 where
+pub record InFrame (piece : List ℕ) (bs : Option (List ℕ)) (used : ℕ) (m : Message) : Type 0 where
   pub ended : ReadTo00 piece bs used
   pub framed : (ended .since ++ take (ended .ahead) piece) ++ 0 ∷ [] ≡ frame m
 
@@ -57,11 +57,11 @@ AnswerBytes p = (l : MainLent) (piece : List ℕ) → MainReceives Comes p l pie
 
 abbrev pub AnswerFrame : MainParts → Type 0
 AnswerFrame p = (ms : List MainMade) → AllPiecesTyped ms → (l : MainLent) (piece : List ℕ) → Each Byte piece
-    → MainReceives Framed (mainLeft p ms) l piece
+    → MainReceives InFrame (mainLeft p ms) l piece
 
 pub record MainItem6 : Type 0 where
   -- Where a receive on valid parts hands out an answer or an alert's answer, the last byte that it read is a 00.
   -- The message is what the line layer's tests find in the bytes since the 00 before.
   pub answer-bytes : OfValid AnswerBytes
   -- from a start on, behind any calls whose pieces are bytes, these bytes and the 00 are exactly the frame of the message handed out
-  pub answer-frame : OfStarted AnswerFrame
+  pub answer-frame : OfMainStart AnswerFrame

@@ -1,6 +1,5 @@
--- What is claimed of the main processor's end, in the order in which to read it. Definitions: the state in the lent parts, lists of calls,
--- receives, frames put out, answers. Statements: `Item2`, `Demand1`, `Item6`; proofs/ has one
--- element of each record of theirs. Assumes nothing.
+-- What is claimed of the main processor's end, in the order in which to read it: definitions, then `Item2`, `Demand1` and `Item6`.
+-- proofs/Proved has one element of each record of theirs. Assumes nothing.
 pub mod View
 pub mod Histories
 pub mod Cuts

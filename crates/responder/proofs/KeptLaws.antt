@@ -528,7 +528,7 @@ alert-data-short r version sequence v =
 -- a reply with data that a message may have, and with one byte
 pub reply-short : (reply : Receive.Head) (command : ℕ) (payload : List ℕ) → length payload ≤ longest-data
     → length (Receive.replyBytes reply command payload) ≤ longest-form + 1
-reply-short reply command payload h = frame-fits (Receive.messageBy (reply .version) (reply .number .0) command payload) h
+reply-short reply command payload h = frame-fits (Receive.messageWith (reply .version) (reply .number .0) command payload) h
 
 pub byte-reply-short : (reply : Receive.Head) (command n : ℕ) → length (Receive.replyBytes reply command (bytes 1 n)) ≤ longest-form + 1
 byte-reply-short reply command n = reply-short reply command (bytes 1 n) (rw length-bytes (omega arith))

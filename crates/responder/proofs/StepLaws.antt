@@ -78,7 +78,7 @@ accepted s piece v = rw v
 
 -- the data that a reader hands out fit a message
 pub data-short : (s : List ℕ) (n : ℕ) → length (LineReader.dataPromise s n) ≤ longest-data
-unfolding LineReader.dataPromise LineReader.dataRefusal LineReader.partOf
+unfolding LineReader.dataPromise LineReader.dataGivenPromise LineReader.partOf
 data-short s n =
     cond-by Short (LineReader.validReader s) (cond (ltb longest-data n) (some 9) none) (some 12)
     (λ v. cond-by Short (ltb longest-data n) (some 9) none
@@ -94,7 +94,7 @@ data-short s n =
 -- what the table makes of a message, test by test
 module _ (version sequence command : ℕ) (d : List ℕ) where
   abbrev Tested : Verdict → Type 0
-  Tested v = tested (Receive.messageBy version sequence command d) ≡ v
+  Tested v = tested (Receive.messageWith version sequence command d) ≡ v
 
   pub other-version : versionServed version ≡ false → Tested (failure 5 first-version (some sequence))
   unfolding tested
@@ -115,7 +115,7 @@ module _ (version sequence command : ℕ) (d : List ℕ) where
         unfolding tested
         length-wrong h = rw (a, lt-leb (2 ^ 63) sequence b, c, h)
 
-        pub passed-all : lengthAllowed command (length d) ≡ true → Tested (good (Receive.messageBy version sequence command d))
+        pub passed-all : lengthAllowed command (length d) ≡ true → Tested (good (Receive.messageWith version sequence command d))
         unfolding tested
         passed-all h = rw (a, lt-leb (2 ^ 63) sequence b, c, h)
 
@@ -146,7 +146,7 @@ judged-failure image f o s r reason version sequence valid e n w =
 
 -- by a call of `carry`
 pub judged-good : (image f : List ℕ) (i : Receive.Inner) (version sequence command : ℕ) (d : List ℕ) {v : Verdict} {j : Receive.Inner}
-    → v ≡ good (Receive.messageBy version sequence command d)
+    → v ≡ good (Receive.messageWith version sequence command d)
     → (j ≡ Receive.carriedInner image f i version sequence command d) × (Receive.validInner j ≡ true)
     → Judged image f i v Receive.Ended.request j
 unfolding Receive.innerBy
@@ -212,7 +212,7 @@ settled-failure image f o s r reader reason sequence v e n w = rw e (judged-fail
 pub settled-message : (image f : List ℕ) (i : Receive.Inner) (reader : List ℕ) (version sequence command n : ℕ)
     {a : LineReader.ReadReport} {g : Receive.Ended} {j : Receive.Inner} {d : List ℕ} → a ≡ LineReader.message version sequence command n
     → d ≡ LineReader.dataPromise reader n
-    → Judged image f i (tested (Receive.messageBy version sequence command d)) g j → Settled image f i reader a g j
+    → Judged image f i (tested (Receive.messageWith version sequence command d)) g j → Settled image f i reader a g j
 unfolding Receive.endedByReader Receive.innerAfter Receive.verdictOf
 settled-message image f i reader version sequence command n e h w = rw e (rw h at w)
 

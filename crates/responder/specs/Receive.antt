@@ -236,8 +236,8 @@ unfoldable pub innerBy : List ℕ → List ℕ → Inner → Verdict → Inner
 innerBy image f i (failure reason version sequence) = replyAlone i (failureHead version sequence) reply-decode-failure (bytes 1 reason)
 innerBy image f i (good m) = carriedInner image f i (m .version) (m .sequence) (m .command) (m .payload)
 
-abbrev pub messageBy : ℕ → ℕ → ℕ → List ℕ → Message
-messageBy version sequence command d = record { version = version; sequence = sequence; command = command; payload = d }
+abbrev pub messageWith : ℕ → ℕ → ℕ → List ℕ → Message
+messageWith version sequence command d = record { version = version; sequence = sequence; command = command; payload = d }
 
 -- the table's verdict by the line reader's answer and the state that it left; none where no frame ended that is not empty
 unfoldable pub verdictOf : List ℕ → LineReader.ReadReport → Option Verdict
@@ -246,7 +246,7 @@ verdictOf reader LineReader.more = none
 verdictOf reader LineReader.empty = none
 verdictOf reader (LineReader.failed reason sequence) = some (failure reason first-version sequence)
 verdictOf reader (LineReader.message version sequence command n) =
-    some (Requests.tested (messageBy version sequence command (LineReader.dataPromise reader n)))
+    some (Requests.tested (messageWith version sequence command (LineReader.dataPromise reader n)))
 
 unfoldable pub innerAfter : List ℕ → List ℕ → Inner → Option Verdict → Inner
 innerAfter image f i none = i
@@ -310,7 +310,7 @@ endedByReader reader LineReader.more = Ended.more
 endedByReader reader LineReader.empty = Ended.empty
 endedByReader reader (LineReader.failed reason sequence) = Ended.failed reason
 endedByReader reader (LineReader.message version sequence command n) =
-    endedByVerdict (Requests.tested (messageBy version sequence command (LineReader.dataPromise reader n)))
+    endedByVerdict (Requests.tested (messageWith version sequence command (LineReader.dataPromise reader n)))
 
 -- a call of `step` reads its piece to the end, or up to and with its first 00
 pub record StepOutcome : Type 0 where

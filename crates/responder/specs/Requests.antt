@@ -76,8 +76,8 @@ failureSequence none = all-ones
 failureSequence (some sequence) = topSet sequence
 
 -- the reply to a failure
-unfoldable pub failedOf : ℕ → ℕ → Option ℕ → Reply
-failedOf reason version sequence =
+unfoldable pub failureReply : ℕ → ℕ → Option ℕ → Reply
+failureReply reason version sequence =
     record { version = version; sequence = failureSequence sequence; command = reply-decode-failure; payload = reason ∷ [] }
 
 -- ---- What a valid request does: the state, and the reply's version, command and data, or none
@@ -246,7 +246,7 @@ replyOf sequence (some r) = some (record { version = r .version; sequence = topS
 -- a frame by the table's verdict on it: a valid request is carried out;
 -- a failure changes nothing but the receive progress and the pending reply
 unfoldable pub afterVerdict : List ℕ → State → Verdict → State
-afterVerdict image s (failure reason version sequence) = sent s (some (failedOf reason version sequence))
+afterVerdict image s (failure reason version sequence) = sent s (some (failureReply reason version sequence))
 afterVerdict image s (good m) = let c = carryOut image s m in sent (c .state) (replyOf (m .sequence) (c .reply))
 
 -- the verdict on the bytes since the last 00; none on an empty frame, which is ignored

@@ -24,7 +24,7 @@ ghost use Rattle.line.specs.Limits.{longest-data};
 ghost use Rattle.supervisor.specs.Layout.{outbox-length};
 ghost use Rattle.supervisor.specs.Valid.{validFactory};
 ghost use Rattle.responder.specs.Requests.{versionServed, tested, known, lengthAllowed};
-ghost use Rattle.responder.specs.Receive.{inner, validInner, carriedInner, innerBy, messageBy, endedByVerdict, stepReport};
+ghost use Rattle.responder.specs.Receive.{inner, validInner, carriedInner, innerBy, messageWith, endedByVerdict, stepReport};
 
 // The data of three requests: hash[32], offset u64; key u8, maxresponse u16; index u32.
 const IMAGE_BLOCK_LENGTH: usize = 40;
@@ -49,10 +49,10 @@ pub(crate) fn request(
     requires { ⌜ validFactory (now factory) ≡ true ⌝ }
     requires { ⌜ validInner (inner (now outbox) (now settings) (now registers)) ≡ true ⌝ }
     requires { ⌜ length (now «data») ≤ longest-data ⌝ }
-    ensures { λ r. ⌜ stepReport r ≡ endedByVerdict (tested (messageBy version (number .0) command (now («data» .entry)))) ⌝ }
+    ensures { λ r. ⌜ stepReport r ≡ endedByVerdict (tested (messageWith version (number .0) command (now («data» .entry)))) ⌝ }
     ensures { λ _. ⌜ inner (now (outbox .exit)) (now (settings .exit)) (now (registers .exit))
         ≡ innerBy (now (image .entry)) (now (factory .entry)) (inner (now (outbox .entry)) (now (settings .entry)) (now (registers .entry)))
-        (tested (messageBy version (number .0) command (now («data» .entry)))) ⌝ }
+        (tested (messageWith version (number .0) command (now («data» .entry)))) ⌝ }
     ensures { λ _. ⌜ validInner (inner (now (outbox .exit)) (now (settings .exit)) (now (registers .exit))) ≡ true ⌝ }
 {
     let first = head::head_to(numbers::FIRST_VERSION, number);

@@ -11,7 +11,7 @@ use Rattle.octets.specs.Bytes.{run}
 use Rattle.rot.specs.Limits.{crc-field-offset, rot-header-length, longest-payload}
 use Rattle.rot.specs.Crc.{crc}
 use Rattle.rot.specs.Message.{null-protocol, version-1, listedType}
-use Rattle.rot.specs.Writing.{rotMessageOf}
+use Rattle.rot.specs.Writing.{rotMessageWith}
 use Rattle.rot.specs.Reading.{protocolOf, typeOf, payloadLength, crcField, rotPayload, checked, failure, unsent, good, judgeMessage}
 use Rattle.rot.specs.Reading.{judgeLength, rotJudge}
 
@@ -90,6 +90,6 @@ module _ (input : List ℕ) where
       unfolding judgeMessage
       bad-type h = rw (sym e ∙ not-false sum right, ← f, sym g ∙ not-true type h)
 
-      pub accepted : not type ≡ false → good (rotMessageOf t (rotPayload input)) ≡ judgeMessage input
+      pub accepted : not type ≡ false → good (rotMessageWith t (rotPayload input)) ≡ judgeMessage input
       unfolding judgeMessage
       accepted h = rw (sym e ∙ not-false sum right, ← f, sym g ∙ not-false type h)

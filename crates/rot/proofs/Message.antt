@@ -12,7 +12,7 @@ use Rattle.octets.proofs.Numbers.{length-bytes}
 use Rattle.octets.proofs.Overlay.{length-overlay, overlay-next, put-fits, pair-put, copied-fits}
 use Rattle.rot.specs.Limits.{crc-field-offset, rot-header-length}
 use Rattle.rot.specs.Message.{version-1, RotMessage, headerStart, crcOf, rotMessage}
-use Rattle.rot.specs.Writing.{rotMessageOf}
+use Rattle.rot.specs.Writing.{rotMessageWith}
 
 pub length-start : (m : RotMessage) → length (headerStart m) ≡ crc-field-offset
 unfolding headerStart
@@ -38,9 +38,9 @@ module _ (xs ys s : List ℕ) (at : ℕ) {t : List ℕ} (e : length xs ≡ at) (
 
 -- the stores one after the other: protocol and type, payload length, CRC, payload
 pub assembled : (type crc : ℕ) (payload s : List ℕ) {s₁ s₂ s₃ : List ℕ} → rot-header-length + length payload ≤ length s
-    → crc ≡ crcOf (rotMessageOf type payload) → s₁ ≡ put 2 (bytes 2 (length payload)) (set (set s 0 version-1) 1 type)
+    → crc ≡ crcOf (rotMessageWith type payload) → s₁ ≡ put 2 (bytes 2 (length payload)) (set (set s 0 version-1) 1 type)
     → s₂ ≡ put crc-field-offset (bytes 4 crc) s₁ → s₃ ≡ copied payload 0 (length payload) s₂ rot-header-length
-    → s₃ ≡ overlay 0 (rotMessage (rotMessageOf type payload)) s
+    → s₃ ≡ overlay 0 (rotMessage (rotMessageWith type payload)) s
 unfolding headerStart rotMessage
 assembled type crc payload s room c e₁ e₂ e₃ =
     let l₂ = length-bytes 2 (length payload) in

@@ -12,18 +12,18 @@ use Rattle.rot.specs.Limits.{rot-header-length, longest-payload}
 use Rattle.rot.specs.Crc.{crc}
 use Rattle.rot.specs.Message.{version-1, echo-request, echo-response, listedType, RotMessage}
 use Rattle.rot.specs.Answers.{handed, rotOutcome}
-use Rattle.rot.specs.Writing.{rotMessageOf, rotWritePromise}
+use Rattle.rot.specs.Writing.{rotMessageWith, rotWritePromise}
 use Rattle.rot.specs.Reading.{protocolOf, typeOf, payloadLength, crcField, rotPayload, checked, RotVerdict, failure, unsent, good}
 use Rattle.rot.specs.Reading.{noInput, nothingSent, wrongProtocol, shortHeader, longPayload, cutShort, wrongCrc, wrongType}
 use Rattle.rot.specs.Reading.{judgeMessage, judgeLength, rotJudge, judgedAs, serveMessage, answerTo, rotReadPromise, handedPart}
-use Rattle.rot.specs.Reading.{payloadPart}
+use Rattle.rot.specs.Reading.{payloadPromise}
 use Rattle.rot.specs.declared.reader.Verdict.{Verdict}
 use Rattle.rot.specs.declared.reader.Verdict.the-variants as verdict
 use Rattle.rot.proofs.Writing.{write-sends}
 
 -- what is known of a message that was read: its fields, and that it passed the tests
 pub record Sound (input : List ℕ) (m : RotMessage) : Type 0 where
-  pub fields : m ≡ rotMessageOf (typeOf input) (rotPayload input)
+  pub fields : m ≡ rotMessageWith (typeOf input) (rotPayload input)
   pub protocol : protocolOf input ≡ version-1
   pub short : payloadLength input ≤ longest-payload
   pub whole : rot-header-length + payloadLength input ≤ length input
@@ -65,26 +65,26 @@ sound-length input s = length-run rot-header-length (payloadLength input) input 
 -- ---- a message by the code's verdict
 
 module _ (input : List ℕ) {kind : ℕ} {v : Verdict} (j : judgedAs input v ≡ rotJudge input) (e : v ≡ verdict.Good kind) where
-  found : rotJudge input ≡ good (rotMessageOf kind (rotPayload input))
+  found : rotJudge input ≡ good (rotMessageWith kind (rotPayload input))
   unfolding judgedAs
   found = sym j ∙ rw e
 
-  pub payload-echo : kind ≡ echo-request → [] ≡ payloadPart input
-  unfolding handedPart payloadPart
+  pub payload-echo : kind ≡ echo-request → [] ≡ payloadPromise input
+  unfolding handedPart payloadPromise
   payload-echo k = rw (found, eq-eqb kind echo-request k)
 
-  pub payload-handed : (kind ≡ echo-request → ⊥) → rotPayload input ≡ payloadPart input
-  unfolding handedPart payloadPart
+  pub payload-handed : (kind ≡ echo-request → ⊥) → rotPayload input ≡ payloadPromise input
+  unfolding handedPart payloadPromise
   payload-handed k = rw (found, ne-eqb kind echo-request k)
 
   -- the writer's answer to an echo request is the reader's
   pub read-echo : (out : List ℕ) → kind ≡ echo-request
-      → rotWritePromise (rotMessageOf echo-response (rotPayload input)) out ≡ rotReadPromise input out
+      → rotWritePromise (rotMessageWith echo-response (rotPayload input)) out ≡ rotReadPromise input out
   unfolding serveMessage answerTo rotReadPromise
   read-echo out k =
       let s = judged-sound input _ found in
       let l : length (rotPayload input) ≤ longest-payload = rw (sound-length input s) (s .short) in
-      rw (found, eq-eqb kind echo-request k) (sym (write-sends (rotMessageOf echo-response (rotPayload input)) out l refl))
+      rw (found, eq-eqb kind echo-request k) (sym (write-sends (rotMessageWith echo-response (rotPayload input)) out l refl))
 
   pub read-handed : (out : List ℕ) → (kind ≡ echo-request → ⊥)
       → rotOutcome (handed kind (payloadLength input)) out ≡ rotReadPromise input out

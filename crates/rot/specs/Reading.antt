@@ -129,5 +129,5 @@ handedPart (failure n) = []
 handedPart unsent = []
 handedPart (good m) = cond (eqb (m .type) echo-request) [] (m .payload)
 
-unfoldable pub payloadPart : List ℕ → List ℕ
-payloadPart input = handedPart (rotJudge input)
+unfoldable pub payloadPromise : List ℕ → List ℕ
+payloadPromise input = handedPart (rotJudge input)

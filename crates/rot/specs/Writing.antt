@@ -15,8 +15,8 @@ unfoldable pub rotWriteReport : Written → RotReport
 rotWriteReport (answer.Done n) = wrote n
 rotWriteReport (answer.Refused why) = refused (refusalNumber why)
 
-abbrev pub rotMessageOf : ℕ → List ℕ → RotMessage
-rotMessageOf type payload = record { type = type; payload = payload }
+abbrev pub rotMessageWith : ℕ → List ℕ → RotMessage
+rotMessageWith type payload = record { type = type; payload = payload }
 
 -- 23: length over 512; 26: type not 01 to 09; then 8
 unfoldable pub rotWritePromise : RotMessage → List ℕ → RotOutcome

@@ -11,9 +11,9 @@ ghost use lib.Dec.{eqb};
 ghost use Rattle.rot.specs.Message.{echo-response};
 ghost use Rattle.rot.specs.Crc.{crc};
 ghost use Rattle.rot.specs.Answers.{rotOutcome};
-ghost use Rattle.rot.specs.Writing.{rotMessageOf, rotWritePromise};
+ghost use Rattle.rot.specs.Writing.{rotMessageWith, rotWritePromise};
 ghost use Rattle.rot.specs.Reading.{payloadLength, crcField, checked, judgeMessage, judgeLength, rotJudge, judgedAs, rotReadReport};
-ghost use Rattle.rot.specs.Reading.{rotReadPromise, payloadPart};
+ghost use Rattle.rot.specs.Reading.{rotReadPromise, payloadPromise};
 
 // A message that is handed out: its type, and how long its payload is, which lies in the input.
 pub struct Head {
@@ -56,7 +56,7 @@ pub fn read(input: &[u8], out: &mut [u8]) -> Answer
 
 // The payload of the message that `read` hands out; an empty part where it hands out none.
 pub fn payload<'a>(input: &'a [u8]) -> &'a [u8]
-    ensures { λ r. ⌜ now r ≡ payloadPart (now (input .entry)) ⌝ }
+    ensures { λ r. ⌜ now r ≡ payloadPromise (now (input .entry)) ⌝ }
 {
     let verdict = judge(input);
     match verdict {
@@ -75,7 +75,7 @@ pub fn payload<'a>(input: &'a [u8]) -> &'a [u8]
 // The answer to an echo request with this payload.
 fn echo(payload: &[u8], out: &mut [u8]) -> Answer
     ensures { λ r. ⌜ rotOutcome (rotReadReport r) (now (out .exit))
-        ≡ rotWritePromise (rotMessageOf echo-response (now (payload .entry))) (now (out .entry)) ⌝ }
+        ≡ rotWritePromise (rotMessageWith echo-response (now (payload .entry))) (now (out .entry)) ⌝ }
 {
     let written = writer::write(limits::ECHO_RESPONSE, payload, out);
     match written {

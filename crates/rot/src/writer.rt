@@ -10,7 +10,7 @@ ghost use Rattle.octets.specs.Bytes.{overlay};
 ghost use Rattle.rot.specs.Limits.{rot-header-length, longest-payload};
 ghost use Rattle.rot.specs.Message.{listedType, crcOf, rotMessage};
 ghost use Rattle.rot.specs.Answers.{rotOutcome};
-ghost use Rattle.rot.specs.Writing.{rotWriteReport, rotMessageOf, rotWritePromise};
+ghost use Rattle.rot.specs.Writing.{rotWriteReport, rotMessageWith, rotWritePromise};
 
 // What a call of `write` answers: how many bytes it wrote, or why it wrote none.
 pub enum Written {
@@ -21,7 +21,7 @@ pub enum Written {
 // Writes a message of version 1.
 pub fn write(kind: u8, payload: &[u8], out: &mut [u8]) -> Written
     ensures { λ r. ⌜ rotOutcome (rotWriteReport r) (now (out .exit))
-        ≡ rotWritePromise (rotMessageOf kind (now (payload .entry))) (now (out .entry)) ⌝ }
+        ≡ rotWritePromise (rotMessageWith kind (now (payload .entry))) (now (out .entry)) ⌝ }
 {
     if limits::LONGEST_PAYLOAD < payload.len() {
         return Written::Refused(Refusal::TooLong);
@@ -50,7 +50,7 @@ pub(crate) fn is_listed(kind: u8) -> bool
 fn put(kind: u8, payload: &[u8], out: &mut [u8])
     requires { ⌜ length (now payload) ≤ longest-payload ⌝ }
     requires { ⌜ rot-header-length + length (now payload) ≤ length (now out) ⌝ }
-    ensures { λ _. ⌜ now (out .exit) ≡ overlay 0 (rotMessage (rotMessageOf kind (now (payload .entry)))) (now (out .entry)) ⌝ }
+    ensures { λ _. ⌜ now (out .exit) ≡ overlay 0 (rotMessage (rotMessageWith kind (now (payload .entry)))) (now (out .entry)) ⌝ }
 {
     let crc = crc_for(kind, payload);
     out[0] = limits::VERSION_1;
@@ -63,7 +63,7 @@ fn put(kind: u8, payload: &[u8], out: &mut [u8])
 // The CRC that a message carries.
 fn crc_for(kind: u8, payload: &[u8]) -> u32
     requires { ⌜ length (now payload) ≤ longest-payload ⌝ }
-    ensures { λ r. ⌜ r ≡ crcOf (rotMessageOf kind (now (payload .entry))) ⌝ }
+    ensures { λ r. ⌜ r ≡ crcOf (rotMessageWith kind (now (payload .entry))) ⌝ }
 {
     let n = payload.len();
     let start = [limits::VERSION_1, kind, (n % 256) as u8, (n / 256) as u8];

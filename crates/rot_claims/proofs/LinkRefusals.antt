@@ -13,15 +13,15 @@ use lib.ListN.{length, drop}
 use Rattle.octets.proofs.Overlay.{overlay-start}
 use Rattle.octets.specs.Bytes.{number, overlay}
 use Rattle.octets.proofs.Conditions.{cond-by, cond-both, zero-one, cond-not}
-use Rattle.octets.specs.TableTests.{TableTest, test, firstFailing}
+use Rattle.octets.specs.TableTests.{TableTest, tableTest, firstFailing}
 use Rattle.rot.specs.Limits.{longest-payload}
 use Rattle.rot.specs.Message.{echo-request, echo-response, listedType, RotMessage, rotMessage, echoed}
 use Rattle.rot.specs.Answers.{refused, nothing, handed, wrote, RotOutcome, rotOutcome, rotWriteInto}
 use Rattle.rot.specs.Reading
 use Rattle.rot.specs.Reading.{typeOf, rotPayload, noInput, nothingSent, wrongProtocol, shortHeader, longPayload}
 use Rattle.rot.specs.Reading.{cutShort, wrongCrc, wrongType}
-use Rattle.rot.specs.Reading.{judgeMessage, judgeLength, rotJudge, serveMessage, answerTo, rotReadPromise, handedPart, payloadPart}
-use Rattle.rot.specs.Writing.{rotMessageOf, rotWritePromise}
+use Rattle.rot.specs.Reading.{judgeMessage, judgeLength, rotJudge, serveMessage, answerTo, rotReadPromise, handedPart, payloadPromise}
+use Rattle.rot.specs.Writing.{rotMessageWith, rotWritePromise}
 use Rattle.rot.proofs.Register.{by-table}
 use Rattle.rot_claims.specs.Item7.{linkTests, LinkRefusedExactly, LinkUntouched, NothingSent, LinkWriterRefusedExactly}
 use Rattle.rot_claims.specs.Item7.{LinkWriterUntouched, LinkWriterWrites, ByTable}
@@ -49,16 +49,16 @@ module _ (n : ℕ) where
 
   -- a message that was read
   abbrev echoFails : ℕ → List ℕ → List ℕ → Bool
-  echoFails t p out = eqb t echo-request && ltb (length out) (length (rotMessage (rotMessageOf echo-response p)))
+  echoFails t p out = eqb t echo-request && ltb (length out) (length (rotMessage (rotMessageWith echo-response p)))
 
-  served-numbered : (t : ℕ) (p out : List ℕ) → Numbered (serveMessage (rotMessageOf t p) out) (cond (echoFails t p out) (some 8) none)
+  served-numbered : (t : ℕ) (p out : List ℕ) → Numbered (serveMessage (rotMessageWith t p) out) (cond (echoFails t p out) (some 8) none)
   unfolding serveMessage
   served-numbered t p out = by (eqb t echo-request)
     where
       by : (b : Bool)
-          → Numbered (cond b (rotWriteInto (rotMessage (rotMessageOf echo-response p)) out) (rotOutcome (handed t (length p)) out))
-          (cond (b && ltb (length out) (length (rotMessage (rotMessageOf echo-response p)))) (some 8) none)
-      by true = sending-numbered (rotMessage (rotMessageOf echo-response p)) out
+          → Numbered (cond b (rotWriteInto (rotMessage (rotMessageWith echo-response p)) out) (rotOutcome (handed t (length p)) out))
+          (cond (b && ltb (length out) (length (rotMessage (rotMessageWith echo-response p)))) (some 8) none)
+      by true = sending-numbered (rotMessage (rotMessageWith echo-response p)) out
       by false = handed-none t (length p) out
 
   read-numbered : (input out : List ℕ) → Numbered (answerTo (rotJudge input) out) (firstFailing (linkTests input out))
@@ -70,13 +70,13 @@ module _ (n : ℕ) where
 
       later : List TableTest
       later =
-          test 21 (wrongProtocol input)
-          ∷ test 22 (shortHeader input)
-          ∷ test 23 (longPayload input)
-          ∷ test 24 (cutShort input)
-          ∷ test 25 (wrongCrc input)
-          ∷ test 26 (wrongType input)
-          ∷ test 8 (echoFails (typeOf input) (rotPayload input) out)
+          tableTest 21 (wrongProtocol input)
+          ∷ tableTest 22 (shortHeader input)
+          ∷ tableTest 23 (longPayload input)
+          ∷ tableTest 24 (cutShort input)
+          ∷ tableTest 25 (wrongCrc input)
+          ∷ tableTest 26 (wrongType input)
+          ∷ tableTest 8 (echoFails (typeOf input) (rotPayload input) out)
           ∷ []
 
       judged : Reading.RotVerdict
@@ -121,7 +121,7 @@ unfolding rotReadPromise
 link-untouched input out n = answering-held out n (rotJudge input)
 
 pub nothing-sent : NothingSent
-unfolding rotReadPromise answerTo rotJudge payloadPart handedPart number
+unfolding rotReadPromise answerTo rotJudge payloadPromise handedPart number
 nothing-sent rest out = (rw eqb·suc-zero, rw eqb·suc-zero)
 
 -- ---- the writer

@@ -20,8 +20,8 @@ use Rattle.rot.specs.Message.{version-1, echo-request, listedType, RotMessage, 
 use Rattle.rot.specs.Answers.{RotReport, refused, wrote, RotOutcome, rotWriteInto}
 use Rattle.rot.specs.Reading
 use Rattle.rot.specs.Reading.{protocolOf, typeOf, payloadLength, crcField, rotPayload, checked, failure, unsent, good, judgeMessage}
-use Rattle.rot.specs.Reading.{judgeLength, rotJudge, serveMessage, answerTo, rotReadPromise, handedPart, payloadPart}
-use Rattle.rot.specs.Writing.{rotMessageOf, rotWritePromise}
+use Rattle.rot.specs.Reading.{judgeLength, rotJudge, serveMessage, answerTo, rotReadPromise, handedPart, payloadPromise}
+use Rattle.rot.specs.Writing.{rotMessageWith, rotWritePromise}
 use Rattle.rot.proofs.Register.{crc-lt}
 use Rattle.rot.proofs.Message.{length-start, length-message}
 use Rattle.rot.proofs.Reading.{Sound, judged-sound, sound-length}
@@ -37,7 +37,7 @@ between xs ys zs at n e f = rw (drop-at xs (ys ++ zs) at e) (take-at ys zs n f)
 -- the tests, all passed
 passes : (input : List ℕ) → protocolOf input ≡ version-1 → rot-header-length ≤ length input → payloadLength input ≤ longest-payload
     → rot-header-length + payloadLength input ≤ length input → crcField input ≡ crc (checked input) → listedType (typeOf input) ≡ true
-    → rotJudge input ≡ good (rotMessageOf (typeOf input) (rotPayload input))
+    → rotJudge input ≡ good (rotMessageWith (typeOf input) (rotPayload input))
 unfolding judgeMessage judgeLength rotJudge
 passes input p h n l c t =
     rw (
@@ -105,7 +105,7 @@ judged m behind s =
 -- ---- how a message is read: an echo request is answered, any other is handed out
 
 pub read-as : (m : RotMessage) (input : List ℕ) → rotJudge input ≡ good m → ReadAs m input
-unfolding serveMessage answerTo rotReadPromise handedPart payloadPart
+unfolding serveMessage answerTo rotReadPromise handedPart payloadPromise
 read-as m input e = record {
   handed-out = λ k out. (rw (e, ne-eqb (m .type) echo-request k), rw (e, ne-eqb (m .type) echo-request k));
   echo = λ k out. (rw (e, eq-eqb (m .type) echo-request k), rw (e, eq-eqb (m .type) echo-request k));
@@ -187,7 +187,7 @@ echo-reads input out n e =
 
 pub echo-back : EchoBack
 echo-back payload room out n k w behind e after =
-    let m = rotMessageOf echo-request payload in
+    let m = rotMessageWith echo-request payload in
     let input = take n (rotWritePromise m room .out) ++ behind in
     let p = wrote-message m room n w in
     let j : rotJudge input ≡ good m = rw (p .bytes) (judged m behind (p .sendable)) in
@@ -199,7 +199,7 @@ echo-back payload room out n k w behind e after =
 
 module _ (input : List ℕ) (each : Each Byte input) {m : RotMessage} (s : Sound input m) where
   found : RotMessage
-  found = rotMessageOf (typeOf input) (rotPayload input)
+  found = rotMessageWith (typeOf input) (rotPayload input)
 
   -- the header ahead of its CRC
   start-read : take crc-field-offset input ≡ headerStart found

@@ -9,7 +9,7 @@ use Prim.Native.Nat.{ℕ, _*_, _/_, _%_, _^_, _≤_, _<_}
 use lib.Bits.{bitXor}
 use lib.Dec.{eqb, ltb}
 use lib.ListN.{length, take, drop, getD}
-use Rattle.octets.specs.TableTests.{TableTest, test, firstFailing}
+use Rattle.octets.specs.TableTests.{TableTest, tableTest, firstFailing}
 use Rattle.octets.specs.Bytes.{Byte, Each}
 use Rattle.rot.specs.Limits.{longest-payload}
 use Rattle.rot.specs.Message.{echo-request, echo-response, listedType, RotMessage, rotMessage, echoed}
@@ -18,8 +18,8 @@ use Rattle.rot.specs.Table.{Entries}
 use Rattle.rot.specs.Answers.{refused, nothing, handed, wrote, RotOutcome, rotOutcome, rotWriteInto}
 use Rattle.rot.specs.Reading.{typeOf, rotPayload, noInput, nothingSent, wrongProtocol, shortHeader, longPayload}
 use Rattle.rot.specs.Reading.{cutShort, wrongCrc, wrongType}
-use Rattle.rot.specs.Reading.{good, rotJudge, rotReadPromise, payloadPart}
-use Rattle.rot.specs.Writing.{rotMessageOf, rotWritePromise}
+use Rattle.rot.specs.Reading.{good, rotJudge, rotReadPromise, payloadPromise}
+use Rattle.rot.specs.Writing.{rotMessageWith, rotWritePromise}
 use Rattle.rot_claims.specs.Samples.{rotSampleMeant, rotSamples}
 
 -- a message that the writer does not refuse
@@ -30,9 +30,9 @@ pub record Sendable (m : RotMessage) : Type 0 where
 -- how the reader takes a message: an echo request is answered, any other is handed out
 pub record ReadAs (m : RotMessage) (input : List ℕ) : Type 0 where
   pub handed-out : (m .type ≡ echo-request → ⊥) → (out : List ℕ)
-      → (rotReadPromise input out ≡ rotOutcome (handed (m .type) (length (m .payload))) out) × (payloadPart input ≡ m .payload)
+      → (rotReadPromise input out ≡ rotOutcome (handed (m .type) (length (m .payload))) out) × (payloadPromise input ≡ m .payload)
   pub echo : m .type ≡ echo-request → (out : List ℕ)
-      → (rotReadPromise input out ≡ rotWriteInto (rotMessage (echoed m)) out) × (payloadPart input ≡ [])
+      → (rotReadPromise input out ≡ rotWriteInto (rotMessage (echoed m)) out) × (payloadPromise input ≡ [])
 
 -- a call of the reader that wrote has answered an echo request
 pub record Echoed (input : List ℕ) (n : ℕ) (o : RotOutcome) : Type 0 where
@@ -44,15 +44,16 @@ pub record Echoed (input : List ℕ) (n : ℕ) (o : RotOutcome) : Type 0 where
 -- the reader's tests in document 02's order; protocol 0, whatever follows, is no refusal; 8 is for the echo's answer
 unfoldable pub linkTests : List ℕ → List ℕ → List TableTest
 linkTests input out =
-    test 20 (noInput input)
+    tableTest 20 (noInput input)
     ∷ cond (nothingSent input) []
-    (test 21 (wrongProtocol input)
-    ∷ test 22 (shortHeader input)
-    ∷ test 23 (longPayload input)
-    ∷ test 24 (cutShort input)
-    ∷ test 25 (wrongCrc input)
-    ∷ test 26 (wrongType input)
-    ∷ test 8 (eqb (typeOf input) echo-request && ltb (length out) (length (rotMessage (rotMessageOf echo-response (rotPayload input)))))
+    (tableTest 21 (wrongProtocol input)
+    ∷ tableTest 22 (shortHeader input)
+    ∷ tableTest 23 (longPayload input)
+    ∷ tableTest 24 (cutShort input)
+    ∷ tableTest 25 (wrongCrc input)
+    ∷ tableTest 26 (wrongType input)
+    ∷ tableTest 8
+    (eqb (typeOf input) echo-request && ltb (length out) (length (rotMessage (rotMessageWith echo-response (rotPayload input)))))
     ∷ [])
 
 abbrev pub LinkRefusedExactly : Type 0
@@ -63,14 +64,14 @@ abbrev pub LinkUntouched : Type 0
 LinkUntouched = (input out : List ℕ) (n : ℕ) → rotReadPromise input out .answer ≡ refused n → rotReadPromise input out .out ≡ out
 
 abbrev pub NothingSent : Type 0
-NothingSent = (rest out : List ℕ) → (rotReadPromise (0 ∷ rest) out ≡ rotOutcome nothing out) × (payloadPart (0 ∷ rest) ≡ [])
+NothingSent = (rest out : List ℕ) → (rotReadPromise (0 ∷ rest) out ≡ rotOutcome nothing out) × (payloadPromise (0 ∷ rest) ≡ [])
 
 -- the writer's tests: 23, 26, then 8
 abbrev pub linkWriterTests : RotMessage → List ℕ → List TableTest
 linkWriterTests m out =
-    test 23 (ltb longest-payload (length (m .payload)))
-    ∷ test 26 (not (listedType (m .type)))
-    ∷ test 8 (ltb (length out) (length (rotMessage m)))
+    tableTest 23 (ltb longest-payload (length (m .payload)))
+    ∷ tableTest 26 (not (listedType (m .type)))
+    ∷ tableTest 8 (ltb (length out) (length (rotMessage m)))
     ∷ []
 
 abbrev pub LinkWriterRefusedExactly : Type 0
@@ -103,9 +104,9 @@ EchoReads = (input out : List ℕ) (n : ℕ) → rotReadPromise input out .answe
 
 abbrev pub EchoBack : Type 0
 EchoBack = (payload room out : List ℕ) (n k : ℕ)
-    → let w = rotWritePromise (rotMessageOf echo-request payload) room in w .answer ≡ wrote n → (behind : List ℕ)
+    → let w = rotWritePromise (rotMessageWith echo-request payload) room in w .answer ≡ wrote n → (behind : List ℕ)
     → let r = rotReadPromise (take n (w .out) ++ behind) out in r .answer ≡ wrote k → (after : List ℕ)
-    → ReadAs (rotMessageOf echo-response payload) (take k (r .out) ++ after)
+    → ReadAs (rotMessageWith echo-response payload) (take k (r .out) ++ after)
 
 abbrev pub OneMessage : Type 0
 OneMessage = (m k : RotMessage) (room hall : List ℕ) (i j : ℕ) → rotWritePromise m room .answer ≡ wrote i
@@ -138,7 +139,7 @@ pub record RotItem7 : Type 0 where
   pub link-writer-untouched : LinkWriterUntouched
   -- any other call puts exactly the message at the room's start; every byte behind it stays
   pub link-writer-writes : LinkWriterWrites
-  -- the CRC is worked from a table of 256 entries: one look is the eight bits of a byte, the top bit first
+  -- with a table of 256 entries as `Entries` has it, one entry stands for the eight bits of a byte, the top bit first
   pub crc-by-table : ByTable
   -- what was written in any room, with any bytes behind it, is read as that message
   pub reads-back : ReadsBack

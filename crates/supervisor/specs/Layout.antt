@@ -7,7 +7,7 @@ use Rattle.octets.specs.Bytes.{bytes, numberAt}
 use Rattle.supervisor.specs.Limits.{most-items, longest-item-data, longest-image-id, first-setting, longest-settings, most-alerts}
 use Rattle.supervisor.specs.Limits.{longest-alert, most-kept, most-pending}
 
--- ---- The outbox: the pending bytes run from `outbox-from` up to `outbox-to` among the bytes at `outbox-bytes`.
+-- ---- The outbox: the pending bytes run from `outboxFrom` up to `outboxTo` among the bytes at `outbox-bytes-offset`.
 
 abbrev pub outbox-from-offset : ℕ
 outbox-from-offset = 0

@@ -1,4 +1,4 @@
--- The supervisor's limits, each in one place (document 01, "Requests and what they do", as document 02 has moved them).
+-- The supervisor's limits, results and codes, each in one place (document 01, "Requests and what they do", as document 02 has moved them).
 -- Assumes nothing: these are definitions.
 use mathlib.Core.List.{List, [], _∷_}
 use Prim.Native.Nat.{ℕ, _+_, _-_, _≤_}

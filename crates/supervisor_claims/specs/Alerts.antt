@@ -53,8 +53,8 @@ abbrev pub NoAlert : Message → Type 0
 NoAlert m = eqb (m .command) command-alert ≡ false
 
 -- an alert request of a version under number n, and the frame of a reply to it, under n with the top bit set
-abbrev pub alertRequest : ℕ → ℕ → Message
-alertRequest version n = record { version = version; sequence = n; command = command-alert; payload = [] }
+abbrev pub alertMessage : ℕ → ℕ → Message
+alertMessage version n = record { version = version; sequence = n; command = command-alert; payload = [] }
 
 unfoldable pub alertReply : ℕ → ℕ → Alert → List ℕ
 alertReply version n a = frame (record { version = version; sequence = topSet n; command = reply-alert; payload = alertData a })

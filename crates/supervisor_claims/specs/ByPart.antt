@@ -16,7 +16,7 @@ pub data Part : Type 0 where
   settings : Part
   registers : Part
 
--- whether two names are the same
+-- a part by its number
 abbrev pub partNumber : Part → ℕ
 partNumber Part.reader = 0
 partNumber Part.outbox = 1

@@ -11,7 +11,7 @@ use lib.Dec.{leb, ltb, eqb}
 use lib.ListN.{length}
 use Rattle.octets.specs.Bytes.{Each, Byte}
 use Rattle.line.specs.Reader as LineReader
-use Rattle.octets.specs.TableTests.{TableTest, test, firstFailing}
+use Rattle.octets.specs.TableTests.{TableTest, tableTest, firstFailing}
 use Rattle.line_claims.specs.Calls as LineCalls
 use Rattle.supervisor.specs.Layout
 use Rattle.supervisor.specs.Local
@@ -48,24 +48,24 @@ partsFitCall p c = ofTaken c (λ i. partAsked c i (part p i))
 
 -- the tests of a call behind 12, in document 01's order: 13, 9, 11, 10, 8
 abbrev pub laterTests : Parts → Call → List TableTest
-laterTests p (Histories.start d) = test 11 (Local.badStart (factoryOf d)) ∷ []
+laterTests p (Histories.start d) = tableTest 11 (Local.badStart (factoryOf d)) ∷ []
 laterTests p (Histories.receive image piece) = []
 laterTests p (Histories.step image piece) = []
 laterTests p (Histories.local (Histories.take room)) = []
 laterTests p (Histories.local (Histories.post action text)) =
-    test 13 (eqb action 0) ∷ test 9 (ltb 256 (length text)) ∷ test 10 (leb 8 (length (view p .waiting))) ∷ []
-laterTests p (Histories.local (Histories.setOptions options)) = test 13 (not (Local.optionsAllowed options)) ∷ []
+    tableTest 13 (eqb action 0) ∷ tableTest 9 (ltb 256 (length text)) ∷ tableTest 10 (leb 8 (length (view p .waiting))) ∷ []
+laterTests p (Histories.local (Histories.setOptions options)) = tableTest 13 (not (Local.optionsAllowed options)) ∷ []
 laterTests p (Histories.local (Histories.lookup key most)) = []
 laterTests p (Histories.local (Histories.edition key)) = []
 laterTests p (Histories.local Histories.signal) = []
 laterTests p (Histories.local Histories.flags) = []
 laterTests p (Histories.local (Histories.readRecord k)) = []
-laterTests p (Histories.local (Histories.save room)) = test 8 (ltb (length room) (length (SavingCalls.imageBytes (p .settings)))) ∷ []
+laterTests p (Histories.local (Histories.save room)) = tableTest 8 (ltb (length room) (length (SavingCalls.imageBytes (p .settings)))) ∷ []
 laterTests p (Histories.local (Histories.restore image)) = []
 
 abbrev pub EachNumberExactly : Type 0
 EachNumberExactly = (p : Parts) (c : Call) (n : ℕ) → Typed c
-    → (did p c .answer ≡ refused n) ↔ (firstFailing (test 12 (not (partsFitCall p c)) ∷ laterTests p c) ≡ some n)
+    → (did p c .answer ≡ refused n) ↔ (firstFailing (tableTest 12 (not (partsFitCall p c)) ∷ laterTests p c) ≡ some n)
 
 abbrev pub RefusedExactly : Type 0
 RefusedExactly = (p : Parts) (c : Call) → (did p c .answer ≡ refused 12) ↔ (partsFitCall p c ≡ false)

@@ -20,7 +20,7 @@ use Rattle.supervisor.specs.Local
 use Rattle.supervisor.specs.Calls
 use Rattle.supervisor.specs.Calls.{Parts}
 use Rattle.responder.specs.Requests.{failure, good, verdict, wrongValueLength, storeValue, carryOut, receiveStream}
-use Rattle.responder.specs.Requests.{owed, replyFrame, replyOf, failedOf}
+use Rattle.responder.specs.Requests.{owed, replyFrame, replyOf, failureReply}
 use Rattle.supervisor_claims.specs.View.{factoryOf, view}
 use Rattle.supervisor_claims.specs.Sound.{Valid, Bytes, Sound, Lengths}
 use Rattle.supervisor_claims.specs.Histories
@@ -28,9 +28,9 @@ use Rattle.supervisor_claims.specs.Histories.{Typed, Answer, refused, do
 use Rattle.supervisor_claims.specs.Histories.{Output, outputs, left, outputsMeant, leftMeant, AllTyped}
 use Rattle.supervisor_claims.specs.Histories.{receiveWith, locally, FromStart, AfterCalls}
 use Rattle.supervisor_claims.specs.FrameHistory.{receivedSinceAll, frameCarried, progressOf, afterAllFrames, outputsByFrames}
-use Rattle.supervisor_claims.specs.FrameHistory.{leftByFrames, carriedFrames, Replied, OnRequest}
+use Rattle.supervisor_claims.specs.FrameHistory.{leftByFrames, carriedFrames, RepliedWith, OnRequest}
 use Rattle.supervisor_claims.specs.FrameHistory.{OnFrame, DoneLeaving, answeredWith}
-use Rattle.supervisor_claims.specs.LastSet.{successful, setAfter, origin, originBehind, setSince, Has, fittedOf, lookupOf}
+use Rattle.supervisor_claims.specs.LastSet.{successful, setAfter, origin, originBehind, setSince, Has, fittedOf, lookupMessage}
 use Rattle.supervisor_claims.specs.LastSet.{lookupReply, ReadBack}
 use Rattle.supervisor_claims.specs.Replies.{Cycle, Ample, byteByByte, streamOf, takenBytes, replies}
 
@@ -101,8 +101,8 @@ ValueLastSet ms q = (k : ℕ) → SettingsKey k → Local.entryOf (view q) k ≡
 -- a lookup of key k over the wire is answered with what the key has by the requests before it
 abbrev pub LookupAnswered : List Made → Parts → ℕ → Type 0
 LookupAnswered ms q k = (version n most : ℕ) → most < 65536
-    → OnRequest ms (lookupOf version n k most)
-    (λ bs c. Replied q (made q c) (lookupReply version n most (setSince k (originBehind k ms bs))))
+    → OnRequest ms (lookupMessage version n k most)
+    (λ bs c. RepliedWith q (made q c) (lookupReply version n most (setSince k (originBehind k ms bs))))
 
 abbrev pub LastSet : List Made → Parts → Type 0
 LastSet ms q = (k : ℕ) → ReadBack k → LookupAnswered ms q k
@@ -171,15 +171,16 @@ pub record RequestsCarriedOut : Type 0 where
 abbrev pub FailureOnlyPending : Type 0
 FailureOnlyPending = (image : List ℕ) (s : State) (b : ℕ) (bs : List ℕ) (reason version : ℕ) (sequence : Option ℕ)
     → verdict (b ∷ bs) ≡ failure reason version sequence
-    → frameCarried image s (b ∷ bs) ≡ withPending s (owed (s .terminator-owed) ++ replyFrame (some (failedOf reason version sequence)))
+    → frameCarried image s (b ∷ bs) ≡ withPending s (owed (s .terminator-owed) ++ replyFrame (some (failureReply reason version sequence)))
 
 abbrev pub FailureAnswered : List Made → Parts → Type 0
 FailureAnswered ms q = (b : ℕ) (bs : List ℕ) (reason version : ℕ) (sequence : Option ℕ) → verdict (b ∷ bs) ≡ failure reason version sequence
-    → OnFrame ms (b ∷ bs) (λ ahead c. DoneLeaving (made q c) (answeredWith (view (made q ahead .parts)) (failedOf reason version sequence)))
+    → OnFrame ms (b ∷ bs)
+    (λ ahead c. DoneLeaving (made q c) (answeredWith (view (made q ahead .parts)) (failureReply reason version sequence)))
 
 abbrev pub OverlongAnswered : List Made → Parts → Type 0
 OverlongAnswered ms q = (f : List ℕ) → longest-form < length f
-    → OnFrame ms f (λ ahead c. DoneLeaving (made q c) (answeredWith (view (made q ahead .parts)) (failedOf 1 first-version none)))
+    → OnFrame ms f (λ ahead c. DoneLeaving (made q c) (answeredWith (view (made q ahead .parts)) (failureReply 1 first-version none)))
 
 abbrev pub EmptyFrameIgnored : List Made → Parts → Type 0
 EmptyFrameIgnored ms q = OnFrame ms [] (λ ahead c. DoneLeaving (made q c) (view (made q ahead .parts)))
@@ -191,7 +192,8 @@ AheadOfZero ms q = (j : Lent) (image bs : List ℕ)
 
 pub record NumberedFailures : Type 0 where
   -- Behind any calls from an accepted start, a 00 closes a frame that is not empty and that the table finds a failure. The call is done.
-  -- It leaves the state before that 00 but for the receive progress and the pending bytes: the frame of exactly that failure's reply.
+  -- It leaves the state before that 00 but for the receive progress and the pending bytes: the frame of exactly that failure's reply,
+  -- behind a 00 where one is owed.
   pub failure-answered : AfterCalls FailureAnswered
   -- so of a frame of more than 4,140 bytes: reason 1, version 1, all ones, at its 00
   pub overlong-answered : AfterCalls OverlongAnswered

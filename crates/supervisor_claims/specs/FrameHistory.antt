@@ -141,8 +141,8 @@ answeredWith s r = withPending (withReceived s (some [])) (owed (s .terminator-o
 -- ---- A request and its reply
 
 -- a call on q is done, and this reply is pending then, behind a 00 where one is owed
-abbrev pub Replied : Parts → Did → List ℕ → Type 0
-Replied q r reply = (r .answer ≡ done) × (view (r .parts) .pending ≡ owed (view q .terminator-owed) ++ reply)
+abbrev pub RepliedWith : Parts → Did → List ℕ → Type 0
+RepliedWith q r reply = (r .answer ≡ done) × (view (r .parts) .pending ≡ owed (view q .terminator-owed) ++ reply)
 
 -- What holds where the request m comes behind calls: the bytes bs and a 00 are received, and the frame that this 00 closes is m. A receive
 -- whose piece ends with that 00 stands for any. Cutting the stream elsewhere changes nothing (`cut-any`); a step is

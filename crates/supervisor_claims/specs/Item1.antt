@@ -17,9 +17,9 @@ use Rattle.supervisor_claims.specs.View.{view}
 use Rattle.supervisor_claims.specs.Histories
 use Rattle.supervisor_claims.specs.Histories.{LocalCall, Typed, meant, Lent, enough, Made, made, left, AllTyped, receiveWith}
 use Rattle.supervisor_claims.specs.Histories.{FromStart, AfterCalls}
-use Rattle.supervisor_claims.specs.FrameHistory.{receivedSinceAll, framesClosedBy, frameCarried, Replied}
+use Rattle.supervisor_claims.specs.FrameHistory.{receivedSinceAll, framesClosedBy, frameCarried, RepliedWith}
 use Rattle.supervisor_claims.specs.LastSet.{requestsIn, requestsOf}
-use Rattle.supervisor_claims.specs.Alerts.{retains, retainsAfter, retainsAll, Drops, NoAlert, alertRequest, alertReply, NoStarts}
+use Rattle.supervisor_claims.specs.Alerts.{retains, retainsAfter, retainsAll, Drops, NoAlert, alertMessage, alertReply, NoStarts}
 use Rattle.supervisor_claims.specs.Alerts.{Keeps, CallKeeps, Forgets}
 
 -- ---- One request, one call
@@ -58,13 +58,13 @@ RetainedExactly ms q = retains (view q .retained) ≡ retainsAll false (requests
 -- the bytes bs and a 00 are received, and the reply pending then has the oldest of the alerts that wait when bs have been received
 abbrev pub TakesFresh : Parts → ℕ → ℕ → Lent → List ℕ → List ℕ → Type 0
 TakesFresh q version n j image bs =
-    Replied q (made q (receiveWith image j (bs ++ (0 ∷ []))))
+    RepliedWith q (made q (receiveWith image j (bs ++ (0 ∷ []))))
     (alertReply version n (oldest (view (made q (receiveWith image j bs) .parts) .waiting)))
 
 abbrev pub FreshAlertAnswered : List Made → Parts → Type 0
 FreshAlertAnswered ms q = (version n : ℕ) (j : Lent) (image bs : List ℕ) → Typed (Histories.receive image bs)
     → enough (Histories.receive image bs) j ≡ true
-    → let w = receivedSinceAll [] ms ++ bs in verdict (split w .rest) ≡ good (alertRequest version n)
+    → let w = receivedSinceAll [] ms ++ bs in verdict (split w .rest) ≡ good (alertMessage version n)
     → (os rs : List Message) (r : Message) → requestsOf w ≡ os ++ (r ∷ rs) → Drops r → Each NoAlert rs → TakesFresh q version n j image bs
 
 abbrev pub FreshAfterReboot : Type 0
@@ -76,7 +76,7 @@ FreshAfterReboot = FromStart (λ p d q. (ms : List Made) → AllTyped ms
     → (version n : ℕ) (j : Lent) (image bs : List ℕ) → Typed (Histories.receive image bs) → enough (Histories.receive image bs) j ≡ true
     → let w = receivedSinceAll [] ms ++ (cs ++ (0 ∷ [])) in
     let later = receivedSinceAll [] ns ++ bs in
-    Each NoAlert (requestsIn (framesClosedBy w later)) → verdict (split (w ++ later) .rest) ≡ good (alertRequest version n)
+    Each NoAlert (requestsIn (framesClosedBy w later)) → verdict (split (w ++ later) .rest) ≡ good (alertMessage version n)
     → TakesFresh (left q (ms ++ (first ∷ ns))) version n j image bs)
 
 pub record SupervisorItem1 : Type 0 where
@@ -94,12 +94,12 @@ pub record SupervisorItem1 : Type 0 where
   pub failed-keeps : FailedKeeps
   -- whether a reply is retained after a valid request: none after a reboot or power-off, one after an alert request, else as before
   pub request-retains : RequestRetains
-  -- over any calls: a reply is retained exactly where an alert request, received since the last
-  -- accepted start, has no reboot or power-off behind it
+  -- over any calls: a reply is retained exactly where an alert request, received since the last accepted start,
+  -- has no reboot or power-off behind it
   pub retained-exactly : AfterCalls RetainedExactly
   -- Over any calls an alert request comes, under any number. Of the requests received before it since the last accepted start, r is a
-  -- reboot or power-off, and no alert request follows r. Then a fresh alert is taken. Cutting the
-  -- stream elsewhere changes nothing (`cut-any`).
+  -- reboot or power-off, and no alert request follows r. Then a fresh alert is taken.
+  -- Cutting the stream elsewhere changes nothing (`cut-any`).
   pub fresh-alert-answered : AfterCalls FreshAlertAnswered
   -- The calls written out: any calls ms; a receive whose last 00 closes a reboot or power-off request r;
   -- any calls ns, among which no start is accepted;

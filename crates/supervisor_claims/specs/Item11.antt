@@ -18,7 +18,7 @@ use Rattle.supervisor.specs.Valid.{SettingsValid, validSettings}
 use Rattle.saving.specs.Saving
 use Rattle.saving.specs.Saving.{SavedEntry, saved-count, saved}
 use Rattle.saving.specs.Calls as SavingCalls
-use Rattle.octets.specs.TableTests.{test, firstFailing}
+use Rattle.octets.specs.TableTests.{tableTest, firstFailing}
 use Rattle.saving_claims.specs.Item11.{SavableBy}
 use Rattle.supervisor_claims.specs.View.{settingsOf, view}
 use Rattle.supervisor_claims.specs.Sound.{Sound}
@@ -48,8 +48,8 @@ savedImageOf q = saved (view q .settings)
 abbrev pub SaveWrites : List Made → Parts → Type 0
 SaveWrites ms q = (j : Lent) (room : List ℕ) → Each Byte room → enough (Histories.local (Histories.save room)) j ≡ true
     → length (savedImageOf q) ≤ length room
-    → let r = made q (locally j (Histories.save room)) in (r .answer
-    ≡ written (length (savedImageOf q))) × (r .out ≡ overlay 0 (savedImageOf q) room)
+    → let r = made q (locally j (Histories.save room)) in
+    (r .answer ≡ written (length (savedImageOf q))) × (r .out ≡ overlay 0 (savedImageOf q) room)
 
 abbrev pub SavedRestores : List Made → Parts → Type 0
 SavedRestores ms p = (q : Parts) → Sound q → (j : Lent) → enough (Histories.local (Histories.restore (savedImageOf p))) j ≡ true
@@ -67,11 +67,12 @@ ReplacedOther = (es : List SavedEntry) (n : ℕ) (z : Settings) (k : ℕ) → Se
 
 abbrev pub SaveRefusedExactly : Type 0
 SaveRefusedExactly = (s room : List ℕ) (n : ℕ) → (SavingCalls.savePromise s room .report ≡ SavingCalls.refused n)
-    ↔ (firstFailing (test 12 (not (validSettings s)) ∷ test 8 (ltb (length room) (length (SavingCalls.imageBytes s))) ∷ []) ≡ some n)
+    ↔ (firstFailing (tableTest 12 (not (validSettings s)) ∷ tableTest 8 (ltb (length room) (length (SavingCalls.imageBytes s))) ∷ [])
+    ≡ some n)
 
 abbrev pub RestoreRefusedExactly : Type 0
 RestoreRefusedExactly = (s image : List ℕ) (n : ℕ) → (SavingCalls.restorePromise s image .report ≡ SavingCalls.RestoreReport.refused n)
-    ↔ (firstFailing (test 12 (not (validSettings s)) ∷ []) ≡ some n)
+    ↔ (firstFailing (tableTest 12 (not (validSettings s)) ∷ []) ≡ some n)
 
 abbrev pub RestoreFault : Type 0
 RestoreFault = (s image : List ℕ) (n at : ℕ) → validSettings s ≡ true → Saving.readImage image ≡ Saving.fault n at

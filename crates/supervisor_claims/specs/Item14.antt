@@ -13,8 +13,8 @@ use Rattle.supervisor_claims.specs.View.{view}
 use Rattle.supervisor_claims.specs.Histories
 use Rattle.supervisor_claims.specs.Histories.{found, foundEdition, Lent, enough, Made, made}
 use Rattle.supervisor_claims.specs.Histories.{outputs, left, AllTyped, locally, AfterCalls}
-use Rattle.supervisor_claims.specs.FrameHistory.{Replied, OnRequest}
-use Rattle.supervisor_claims.specs.LastSet.{lookupOf, SetAnswered}
+use Rattle.supervisor_claims.specs.FrameHistory.{RepliedWith, OnRequest}
+use Rattle.supervisor_claims.specs.LastSet.{lookupMessage, SetAnswered}
 use Rattle.supervisor_claims.specs.TwoRuns.{Run, leftByRun, receivedInRun, SameButPassphrase, withoutPassphrase, passphraseEdition}
 use Rattle.supervisor_claims.specs.TwoRuns.{setsToCome}
 use Rattle.saving_claims.specs.Item11.{SavedOmits, OtherKey31}
@@ -28,7 +28,7 @@ passphraseReply version n = frame (record { version = version; sequence = topSet
 
 abbrev pub PassphraseUnread : List Made → Parts → Type 0
 PassphraseUnread ms q = (version n most : ℕ) → most < 65536
-    → OnRequest ms (lookupOf version n Limits.passphrase-key most) (λ bs c. Replied q (made q c) (passphraseReply version n))
+    → OnRequest ms (lookupMessage version n Limits.passphrase-key most) (λ bs c. RepliedWith q (made q c) (passphraseReply version n))
 
 abbrev pub PassphraseUnreadLocally : List Made → Parts → Type 0
 PassphraseUnreadLocally ms q = (most : ℕ) → most < 65536 → (j : Lent)
@@ -51,7 +51,7 @@ TwoStates = (r s : Run) → withoutPassphrase (view (leftByRun r)) ≡ withoutPa
     × (withoutPassphrase (view (left (leftByRun r) ms)) ≡ withoutPassphrase (view (left (leftByRun s) ms)))
 
 pub record SupervisorItem14 : Type 0 where
-  -- key 6 takes 8 to 63 bytes; a set of another length answers 3, and invalid keys start at 7
+  -- a set of key 6 takes 8 to 63 bytes; another length answers 3, and invalid keys of a set start at 7
   pub set-answered : AfterCalls SetAnswered
   pub value-lengths : ValueLengths
   -- and stores nothing
@@ -69,7 +69,7 @@ pub record SupervisorItem14 : Type 0 where
   pub two-runs : TwoRuns
   -- the saved image omits key 6: it is that of keys 3, 4 and 5 alone
   pub saved-omits : SavedOmits
-  -- restore refuses its record as 31
+  -- restore refuses its record as 31, where it stands first
   pub other-key-31 : OtherKey31
   -- restore leaves key 6, as it leaves every setting that is not saved
   pub replaced-other : ReplacedOther

@@ -22,8 +22,8 @@ use Rattle.responder.specs.Requests.{failure, verdict, ReplyContent, storeValue
 use Rattle.supervisor_claims.specs.View.{view}
 use Rattle.supervisor_claims.specs.Sound.{Valid}
 use Rattle.supervisor_claims.specs.Histories.{Made, made, AfterCalls}
-use Rattle.supervisor_claims.specs.FrameHistory.{Replied, OnRequest}
-use Rattle.supervisor_claims.specs.LastSet.{successful, originBehind, lookupOf, SetAnswered}
+use Rattle.supervisor_claims.specs.FrameHistory.{RepliedWith, OnRequest}
+use Rattle.supervisor_claims.specs.LastSet.{successful, originBehind, lookupMessage, SetAnswered}
 use Rattle.supervisor_claims.specs.Demand2.{ValueLastSet, SuccessfulExactly}
 
 -- the reply in version 2 that hands out an edition and a value
@@ -33,9 +33,9 @@ editionReply n edition v =
 
 abbrev pub ListEditionAnswered : List Made → Parts → Type 0
 ListEditionAnswered ms q = (n most : ℕ) → most < 65536
-    → OnRequest ms (lookupOf second-version n 5 most) (λ bs c. let x = originBehind 5 ms bs in
+    → OnRequest ms (lookupMessage second-version n 5 most) (λ bs c. let x = originBehind 5 ms bs in
     (vs : List (List ℕ)) (v : List ℕ) → successful (x .setting .edition) 5 (x .requests) ≡ vs ++ (v ∷ []) → length v ≤ most
-    → Replied q (made q c) (editionReply n (x .setting .edition + (length vs + 1)) v))
+    → RepliedWith q (made q c) (editionReply n (x .setting .edition + (length vs + 1)) v))
 
 abbrev pub EditionMeant : Type 0
 EditionMeant = (p : Parts) → Valid p → (key : ℕ) → let e = Local.edition (view p) key in
@@ -76,7 +76,7 @@ pub record SupervisorItem5 : Type 0 where
   pub stores-nothing : StoresNothing
   -- factory keys have edition 0
   pub factory-edition : FactoryEdition
-  -- replies carry the request's version; a retained alert reply goes out as first written, version included
+  -- a reply carries the request's version, or that of the reply retained under the request's number
   pub reply-version : ReplyVersion
   -- a decode failure of reason 1 to 5 has version 1, any other the request's
   pub failure-version : FailureVersion

@@ -1,6 +1,5 @@
--- The successful sets of a settings key among the requests of received bytes: how many, and the last;
--- and a lookup of that key with its reply.
--- Assumes nothing: these are definitions.
+-- The successful sets of a settings key among the requests of received bytes, how many and the last; a set and a lookup over the wire with
+-- their replies. Assumes nothing: these are definitions, and the statement that items 4, 5 and 14 share.
 use mathlib.Core.Path.{_≡_}
 use mathlib.Core.Bool.{cond, _||_}
 use mathlib.Core.List.{List, [], _∷_, _++_}
@@ -12,7 +11,7 @@ use Rattle.octets.specs.Bytes.{bytes}
 use Rattle.line.specs.Numbers.{command-key-set, command-key-lookup, reply-key-lookup}
 use Rattle.line.specs.Message.{Message}
 use Rattle.line.specs.Frame.{frame, split, nonEmpty}
-use Rattle.octets.specs.TableTests.{test, firstFailing}
+use Rattle.octets.specs.TableTests.{tableTest, firstFailing}
 use Rattle.supervisor.specs.Number.{topSet}
 use Rattle.supervisor.specs.Limits
 use Rattle.supervisor.specs.Limits.{last-edition, SettingsKey}
@@ -24,7 +23,8 @@ use Rattle.saving.specs.Saving.{SavedEntry}
 use Rattle.responder.specs.Requests.{Verdict, failure, good, verdict, wrongValueLength, editionBytes}
 use Rattle.supervisor_claims.specs.Histories
 use Rattle.supervisor_claims.specs.Histories.{LocalCall, Call, Made, enough, made}
-use Rattle.supervisor_claims.specs.FrameHistory.{pieceRead, isAcceptedStart, receivedSince, receivedSinceAll, framesClosedBy, Replied}
+use Rattle.supervisor_claims.specs.FrameHistory.{pieceRead, isAcceptedStart, receivedSince, receivedSinceAll, framesClosedBy}
+use Rattle.supervisor_claims.specs.FrameHistory.{RepliedWith}
 use Rattle.supervisor_claims.specs.FrameHistory.{OnRequest}
 
 -- ---- Requests
@@ -153,8 +153,9 @@ abbrev pub fittedOf : ℕ → Setting → Local.Found
 fittedOf most x = Local.fitted most (x .edition) (x .value)
 
 -- a lookup of key k with maxresponse `most`, under number n
-abbrev pub lookupOf : ℕ → ℕ → ℕ → ℕ → Message
-lookupOf version n k most = record { version = version; sequence = n; command = command-key-lookup; payload = bytes 1 k ++ bytes 2 most }
+abbrev pub lookupMessage : ℕ → ℕ → ℕ → ℕ → Message
+lookupMessage version n k most =
+    record { version = version; sequence = n; command = command-key-lookup; payload = bytes 1 k ++ bytes 2 most }
 
 -- the frame of its reply, under n with the top bit set: result 2 where there is no value, 3 where the value is longer than maxresponse,
 -- else 0 and the value, in version 2 behind its edition
@@ -176,8 +177,8 @@ pub record ReadBack (k : ℕ) : Type 0 where
 -- ---- Sets over the wire
 
 -- a set of key k under number n
-abbrev pub setOf : ℕ → ℕ → ℕ → List ℕ → Message
-setOf version n k v = record { version = version; sequence = n; command = 0x10; payload = bytes 1 k ++ v }
+abbrev pub setMessage : ℕ → ℕ → ℕ → List ℕ → Message
+setMessage version n k v = record { version = version; sequence = n; command = 0x10; payload = bytes 1 k ++ v }
 
 abbrev pub resultOr : Option ℕ → ℕ
 resultOr none = 0
@@ -187,8 +188,8 @@ resultOr (some n) = n
 abbrev pub setResult : ℕ → ℕ → ℕ → ℕ
 setResult k n edition =
     resultOr (firstFailing (
-    test 1 (ltb 6 k) ∷ test 2 (ltb k 3) ∷ test 3 (ltb n (Limits.shortest-setting k) || ltb (Limits.longest-setting k) n)
-    ∷ test 4 (eqb edition 4294967295) ∷ []
+    tableTest 1 (ltb 6 k) ∷ tableTest 2 (ltb k 3) ∷ tableTest 3 (ltb n (Limits.shortest-setting k) || ltb (Limits.longest-setting k) n)
+    ∷ tableTest 4 (eqb edition 4294967295) ∷ []
     ))
 
 -- the frame of its reply, under n with the top bit set
@@ -197,5 +198,5 @@ setReply version n result = frame (record { version = version; sequence = topSet
 
 -- a set over the wire, behind any calls: all requests before its 00 count for the key's edition
 abbrev pub SetAnswered : List Made → Parts → Type 0
-SetAnswered ms q = (version n k : ℕ) (v : List ℕ) → k < 256 → OnRequest ms (setOf version n k v) (λ bs c.
-    Replied q (made q c) (setReply version n (setResult k (length v) (setSince k (originBehind k ms bs) .edition))))
+SetAnswered ms q = (version n k : ℕ) (v : List ℕ) → k < 256 → OnRequest ms (setMessage version n k v) (λ bs c.
+    RepliedWith q (made q c) (setReply version n (setResult k (length v) (setSince k (originBehind k ms bs) .edition))))

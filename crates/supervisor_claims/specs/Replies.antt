@@ -11,7 +11,7 @@ use lib.ListN.{length}
 use Rattle.octets.specs.Bytes.{Each, Byte}
 use Rattle.supervisor.specs.Limits.{most-pending}
 use Rattle.supervisor.specs.State.{State}
-use Rattle.responder.specs.Requests.{Verdict, failure, good, Reply, verdict, carryOut, replyFrame, replyOf, failedOf}
+use Rattle.responder.specs.Requests.{Verdict, failure, good, Reply, verdict, carryOut, replyFrame, replyOf, failureReply}
 use Rattle.supervisor_claims.specs.Histories
 use Rattle.supervisor_claims.specs.Histories.{Answer, refused, done, stepped, moved, found, foundEdition, written, faulty, asserted}
 use Rattle.supervisor_claims.specs.Histories.{asked, recorded}
@@ -25,7 +25,7 @@ afterTable image s (failure reason version sequence) = s
 afterTable image s (good m) = carryOut image s m .state
 
 unfoldable pub replyBy : List ℕ → State → Verdict → Option Reply
-replyBy image s (failure reason version sequence) = some (failedOf reason version sequence)
+replyBy image s (failure reason version sequence) = some (failureReply reason version sequence)
 replyBy image s (good m) = replyOf (m .sequence) (carryOut image s m .reply)
 
 -- the reply that a frame that is not empty earns, and the state after it, where the reply is taken

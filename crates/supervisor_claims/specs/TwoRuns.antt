@@ -57,11 +57,10 @@ withoutPassphrase s = withSettings s (withSetting (s .settings) Limits.passphras
 abbrev pub passphraseEdition : Parts → ℕ
 passphraseEdition p = Layout.settingEdition (p .settings) record-begin
 
--- The sets to come: among the valid requests in the frames whose 00 these calls bring behind the received
--- bytes w, the sets of the passphrase with a value of
--- 8 to 63 bytes. No other request can raise its edition.
+-- The sets to come: among the valid requests in the frames whose 00 these calls bring behind the received bytes w,
+-- the sets of the passphrase with a value of 8 to 63 bytes. No other request can raise its edition.
 -- An accepted start puts it back to 0, in both runs, so that no set behind one counts.
--- The first run's received bytes serve for both: the two readers' parts are equal.
+-- The first run's received bytes serve for both: both have received the same of the frame that is not ended.
 unfoldable pub setsToCome : List ℕ → List Made → ℕ
 setsToCome w [] = 0
 setsToCome w (m ∷ ms) =

@@ -16,7 +16,7 @@ use Rattle.line.specs.Message.{Message}
 use Rattle.line.specs.Judge.{good, judge}
 use Rattle.requester.specs.State.{Request, MainState, mainState}
 use Rattle.requester.specs.Requester
-use Rattle.requester.specs.Requester.{receiveResult, hear, answer, afterHeard, mainWithReceived, replySequence}
+use Rattle.requester.specs.Requester.{mainReceived, hear, answer, afterHeard, mainWithReceived, replySequence}
 use Rattle.requester.specs.Calls.{handedReportOf, MainPartsValid}
 use Rattle.requester_claims.specs.View.{mainView}
 use Rattle.requester_claims.specs.Histories as Main
@@ -40,16 +40,16 @@ more-byte : (p : List ℕ) (s : MainState) (b : ℕ) → s .received ≡ some p 
     → Requester.mainByte s (suc b) .state ≡ mainWithReceived s (some (p ++ (suc b ∷ [])))
 unfolding grown
 more-byte p s b e h =
-    ap (λ (x : Requester.Result). x .state) (quiet-byte s (suc b) (no-stop p s b e h))
+    ap (λ (x : Requester.MainResult). x .state) (quiet-byte s (suc b) (no-stop p s b e h))
     ∙ ap (λ (x : Option (List ℕ)). mainWithReceived s (grown x (suc b))) e
 
 -- behind the bytes p, which have come
 pub frame-heard : (f p : List ℕ) (s : MainState) → Each (λ b. 1 ≤ b) f → s .received ≡ some p → 1 ≤ length (p ++ f)
     → length (p ++ f) ≤ longest-form
     → Requester.receive s (f ++ (0 ∷ []))
-    ≡ receiveResult (length (f ++ (0 ∷ []))) (afterHeard (hear (s .newest) (judge (p ++ f))) (mainWithReceived s (some [])))
+    ≡ mainReceived (length (f ++ (0 ∷ []))) (afterHeard (hear (s .newest) (judge (p ++ f))) (mainWithReceived s (some [])))
 unfolding Requester.receive
-frame-heard [] p s z e l h = rw append-nil (ap (receiveResult 1) (closes-byte p s e (rw append-nil at l)))
+frame-heard [] p s z e l h = rw append-nil (ap (mainReceived 1) (closes-byte p s e (rw append-nil at l)))
 frame-heard (zero ∷ f) p s z e l h = absurd (omega (arith, z .0))
 frame-heard (suc b ∷ f) p s z e l h =
     let n : suc (length p) ≤ longest-form = omega (arith, length-append p (suc b ∷ f)) in
@@ -74,8 +74,8 @@ heard-answer n r v q c =
 -- the request kept is answered, and nothing is outstanding
 pub answers-kept : (s : MainState) (q : Request) (r : Message) (x : Option (List ℕ)) → s .recovery ≡ none → s .kept ≡ some q
     → afterHeard (answer r) (mainWithReceived s x)
-    ≡ Requester.result (Requester.answered r) (Requester.moved false (mainState (s .newest) none none false x))
-unfolding Requester.settle Requester.movedTo
+    ≡ Requester.mainResult (Requester.answered r) (Requester.mainMoved false (mainState (s .newest) none none false x))
+unfolding Requester.settle Requester.mainMovedTo
 answers-kept s q r x t k = rw (t, k)
 
 -- ---- receives

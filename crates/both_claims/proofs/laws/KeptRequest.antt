@@ -18,7 +18,7 @@ use Rattle.line.specs.Message.{Message}
 use Rattle.requester.specs.Limits.{last-number}
 use Rattle.requester.specs.State.{Request, RecoveryStep, fetch, acknowledge, alert, MainState, isSome, outstanding, requestFrame}
 use Rattle.requester.specs.Requester
-use Rattle.requester.specs.Requester.{Handed, Heard, ground, other, answer, settle, Result, mainWithReceived}
+use Rattle.requester.specs.Requester.{Handed, Heard, ground, other, answer, settle, MainResult, mainWithReceived}
 use Rattle.requester.specs.Calls.{handedReportOf}
 use Rattle.requester_claims.specs.Histories as Main
 use Rattle.requester_claims.specs.Histories.{MainMeans, mainMeans, putMeans, mainDoneMeans, mainMeant, mainMeantMade, mainEnough, MainCall}
@@ -38,25 +38,25 @@ pub data KeptAfter (s : MainState) (h : Handed) (t : MainState) : Type 0 where
 
 module _ (s : MainState) (h : Handed) where
   abbrev Next : Requester.Next → Type 0
-  Next x = KeptAfter s h (Requester.movedTo x s .state)
+  Next x = KeptAfter s h (Requester.mainMovedTo x s .state)
 
   anew-after : (t : Option RecoveryStep) → Next (Requester.anew t)
-  unfolding Requester.movedTo
+  unfolding Requester.mainMovedTo
   anew-after t =
-      cond-by (λ (m : Requester.Moved). KeptAfter s h (m .state)) (leb last-number (s .newest)) _ _
+      cond-by (λ (m : Requester.MainMoved). KeptAfter s h (m .state)) (leb last-number (s .newest)) _ _
       (λ e. ended (leb-true last-number (s .newest) e) refl refl) (λ _. same refl (omega arith))
 
   same-after : Next Requester.same
-  unfolding Requester.movedTo
+  unfolding Requester.mainMovedTo
   same-after = same refl (omega arith)
 
   again-after : Next Requester.again
-  unfolding Requester.movedTo
+  unfolding Requester.mainMovedTo
   again-after = same refl (omega arith)
 
   -- the original goes out, or there is none
   last-after : (k : Option Request) → s .kept ≡ k → Next (cond (isSome k) (Requester.anew none) Requester.idle)
-  unfolding Requester.movedTo
+  unfolding Requester.mainMovedTo
   last-after none e = same (sym e) (omega arith)
   last-after (some q) e = anew-after none
 
@@ -68,7 +68,7 @@ module _ (s : MainState) (h : Handed) where
 
 module _ (s : MainState) where
   abbrev Outcome : Requester.HeardOutcome → Type 0
-  Outcome o = KeptAfter s (o .handed) (Requester.movedTo (o .next) s .state)
+  Outcome o = KeptAfter s (o .handed) (Requester.mainMovedTo (o .next) s .state)
 
   fetched-after : (k : Option Request) → s .kept ≡ k → (m : Message) → Outcome (Requester.fetched (isSome k) m)
   unfolding Requester.fetched
@@ -77,7 +77,7 @@ module _ (s : MainState) where
       (λ _. served-after s _ k e (Requester.messageStatus m)) (λ _. again-after s _)
 
   settled-after : (t : Option RecoveryStep) (k : Option Request) → s .kept ≡ k → (h : Heard) → Outcome (settle t (isSome k) h)
-  unfolding settle Requester.movedTo
+  unfolding settle Requester.mainMovedTo
   settled-after none none e h = same refl (omega arith)
   settled-after none (some q) e ground = same refl (omega arith)
   settled-after none (some q) e other = same refl (omega arith)
@@ -95,7 +95,7 @@ progress-after s bs (same e n) = same e n
 progress-after s bs (answered r e k n) = answered r e k n
 progress-after s bs (ended l k n) = ended l k n
 
-pub came-after : {ms : List Message} (s : MainState) (x : Result) → Came s ms x → KeptAfter s (x .handed) (x .state)
+pub came-after : {ms : List Message} (s : MainState) (x : MainResult) → Came s ms x → KeptAfter s (x .handed) (x .state)
 came-after s x (quiet bs e) = rw e (same refl (omega arith))
 came-after s x (hearing bs h e f) = rw e (progress-after s bs (settled-after (mainWithReceived s bs) (s .recovery) (s .kept) refl h))
 
@@ -126,8 +126,8 @@ not-some : {A : Type 0} (o : Option A) → isSome o ≡ false → o ≡ none
 not-some none e = refl
 not-some (some x) e = absurd (false≢true (sym e))
 
-after-receive : (s : MainState) (used : ℕ) (x : Result) → KeptAfter s (x .handed) (x .state)
-    → NoNew s (Main.receiveMeans (Requester.receiveResult used x))
+after-receive : (s : MainState) (used : ℕ) (x : MainResult) → KeptAfter s (x .handed) (x .state)
+    → NoNew s (Main.receiveMeans (Requester.mainReceived used x))
 unfolding framesPutOut handedReportOf Main.handedData
 after-receive s used x (same e n) = keeps e n (inl refl)
 after-receive s used x (answered r e k n) = answers r (rw e refl) k n refl

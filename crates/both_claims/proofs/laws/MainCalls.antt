@@ -124,7 +124,7 @@ module _ (s : MainState) (l : Log) (kept : Kept s l) where
   silent none true other f = tt
   silent (some t) k other f = tt
 
-  came-fresh : (ms : List Message) (x : Requester.Result) → Came s ms x → Each InRange ms → Each Sent ms
+  came-fresh : (ms : List Message) (x : Requester.MainResult) → Came s ms x → Each InRange ms → Each Sent ms
       → FreshReport s l (handedReportOf (x .handed)) (Main.handedData (x .handed))
   unfolding handedReportOf
   came-fresh ms x (quiet bs e) g i = rw e tt

@@ -21,7 +21,7 @@ use Rattle.line.proofs.Pieces.{split-at, split-none}
 use Rattle.line_claims.specs.Calls.{gathered, goodOf, goodMessages}
 use Rattle.requester.specs.State.{MainState, isSome}
 use Rattle.requester.specs.Requester
-use Rattle.requester.specs.Requester.{Heard, ground, other, answer, hear, settle, Result, dropped, afterHeard, mainWithReceived}
+use Rattle.requester.specs.Requester.{Heard, ground, other, answer, hear, settle, MainResult, dropped, afterHeard, mainWithReceived}
 use Rattle.requester_claims.proofs.MeaningLaws.{grown, quiet-byte, quiet-positive}
 use Rattle.requester_claims.proofs.AnswerBytes.{HeardGood, heard-good}
 use Rattle.requester_claims.proofs.AnswerFrame.{moved-received}
@@ -35,12 +35,12 @@ HeardFrom n ms other = Unit {0}
 HeardFrom n ms (answer m) = (hear n (good m) ≡ answer m) × (ms ≡ m ∷ [])
 
 -- nothing but the receive progress changes, or a frame is heard
-pub data Came (s : MainState) (ms : List Message) (r : Result) : Type 0 where
+pub data Came (s : MainState) (ms : List Message) (r : MainResult) : Type 0 where
   quiet : (x : Option (List ℕ)) → r ≡ dropped (mainWithReceived s x) → Came s ms r
   hearing : (x : Option (List ℕ)) (h : Heard) → r ≡ afterHeard h (mainWithReceived s x) → HeardFrom (s .newest) ms h → Came s ms r
 
 -- the bytes bs were read behind the bytes p of a frame
-pub record Reads (s : MainState) (p bs : List ℕ) (r : Result) : Type 0 where
+pub record Reads (s : MainState) (p bs : List ℕ) (r : MainResult) : Type 0 where
   pub progress : r .state .received ≡ progressOf (split (p ++ bs) .rest)
   pub came : Came s (goodMessages (nonEmpty (split (p ++ bs) .closed))) r
 
@@ -143,11 +143,11 @@ quiet-fills s b k = by (eqb b 0) (Requester.fills (s .received)) k
     by true c k = absurd (false≢true (sym k))
     by false c k = k
 
-later : (s : MainState) (x : Option (List ℕ)) (ms : List Message) (r : Result) → Came (mainWithReceived s x) ms r → Came s ms r
+later : (s : MainState) (x : Option (List ℕ)) (ms : List Message) (r : MainResult) → Came (mainWithReceived s x) ms r → Came s ms r
 later s x ms r (quiet y e) = quiet y e
 later s x ms r (hearing y h e f) = hearing y h e f
 
-reads-later : (s : MainState) (x : Option (List ℕ)) (p : List ℕ) (b : ℕ) (bs : List ℕ) (r : Result)
+reads-later : (s : MainState) (x : Option (List ℕ)) (p : List ℕ) (b : ℕ) (bs : List ℕ) (r : MainResult)
     → Reads (mainWithReceived s x) (p ++ (b ∷ [])) bs r → Reads s p (b ∷ bs) r
 reads-later s x p b bs r h =
     let k = append-snoc p b bs in
@@ -169,9 +169,9 @@ piece-reads (b ∷ bs) s p z e =
         → (Each (λ b. 1 ≤ b) (p ++ (b ∷ [])) → grown (s .received) b ≡ progressOf (p ++ (b ∷ []))
         → let r = Requester.receive (mainWithReceived s
         (grown (s .received) b)) bs in Reads (mainWithReceived s (grown (s .received) b)) (p ++ (b ∷ [])) (take (r .used) bs) (r .result))
-        → let r = cond t (Requester.receiveResult 1 (Requester.mainByte s b)) (let x =
+        → let r = cond t (Requester.mainReceived 1 (Requester.mainByte s b)) (let x =
         Requester.receive (Requester.mainByte s b .state) bs in
-        Requester.receiveResult (suc (x .used)) (x .result)) in
+        Requester.mainReceived (suc (x .used)) (x .result)) in
         Reads s p (take (r .used) (b ∷ bs)) (r .result)
     by true k i = at-stop b k
       where

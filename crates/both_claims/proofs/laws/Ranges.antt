@@ -66,17 +66,17 @@ fresh-ranged = record { newest = omega arith; kept = tt }
 
 -- ---- what is heard
 
-moved-ranged : (x : Requester.Next) (s : MainState) → Ranged s → Ranged (Requester.movedTo x s .state)
-unfolding Requester.movedTo
+moved-ranged : (x : Requester.Next) (s : MainState) → Ranged s → Ranged (Requester.mainMovedTo x s .state)
+unfolding Requester.mainMovedTo
 moved-ranged Requester.same s r = r
 moved-ranged Requester.again s r = record { newest = r .newest; kept = r .kept }
 moved-ranged (Requester.anew t) s r =
-    cond-by (λ (m : Requester.Moved). Ranged (m .state)) (leb last-number (s .newest)) _ _
+    cond-by (λ (m : Requester.MainMoved). Ranged (m .state)) (leb last-number (s .newest)) _ _
     (λ _. record { newest = r .newest; kept = tt })
     (λ e. record { newest = omega (arith, leb-false last-number (s .newest) e); kept = r .kept })
 moved-ranged Requester.idle s r = record { newest = r .newest; kept = tt }
 
-came-ranged : {ms : List Rattle.line.specs.Message.Message} (s : MainState) (x : Requester.Result) → Ranged s → Came s ms x
+came-ranged : {ms : List Rattle.line.specs.Message.Message} (s : MainState) (x : Requester.MainResult) → Ranged s → Came s ms x
     → Ranged (x .state)
 came-ranged s x r (quiet bs e) = rw e (record { newest = r .newest; kept = r .kept })
 came-ranged s x r (hearing bs h e f) =
@@ -154,5 +154,5 @@ module _ (s : MainState) (r : Ranged s) where
   made-ranged m h i = cond-by MeansRanged (mainEnough (m .call) (m .lent)) _ _ (λ _. meant-ranged (m .call) h i) (λ _. refused-ranged 12 _)
 
 -- a receive where the bytes p of a frame have come
-pub reads-ranged : {p bs : List ℕ} (s : MainState) (x : Requester.Result) → Ranged s → Reads s p bs x → Ranged (x .state)
+pub reads-ranged : {p bs : List ℕ} (s : MainState) (x : Requester.MainResult) → Ranged s → Reads s p bs x → Ranged (x .state)
 reads-ranged s x r h = came-ranged s x r (h .came)

@@ -21,7 +21,8 @@ use Rattle.line_claims.proofs.JudgeClaim.{judge-of-message}
 use Rattle.line_claims.proofs.WireClaim.{one-meaning}
 use Rattle.supervisor.specs.Number.{topSet}
 use Rattle.supervisor.specs.State.{State}
-use Rattle.responder.specs.Requests.{Verdict, failure, good, versionServed, known, lengthAllowed, tested, testedWhere, verdict, failedOf}
+use Rattle.responder.specs.Requests.{Verdict, failure, good, versionServed, known, lengthAllowed, tested, testedWhere, verdict}
+use Rattle.responder.specs.Requests.{failureReply}
 use Rattle.supervisor_claims.specs.Replies.{replyBy}
 use Rattle.both_claims.specs.Ends.{replyToRequest, replyMessage}
 use Rattle.both_claims.proofs.laws.ReplyRange.{reply-of}
@@ -95,7 +96,7 @@ pub record Replied (image : List ℕ) (s : State) (v : Verdict) (r : Message) : 
 
 pub replied : (image : List ℕ) (s : State) (v : Verdict) (r : Message) → replyMessage (replyBy image s v) ≡ some r → (r .command ≡ 0x02 → ⊥)
     → Replied image s v r
-unfolding replyBy failedOf
+unfolding replyBy failureReply
 replied image s (failure reason version sequence) r e h = absurd (h (cc))
 replied image s (good m) r e h = record { request = m; passed = refl; reply = e; sequence = reply-of image s m r e .sequence }
 

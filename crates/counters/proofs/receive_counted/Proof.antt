@@ -49,7 +49,7 @@ use denote.Triple.Clauses.{ensured, lasts}
 use denote.Exit.{yes}
 use Rattle.supervisor.specs.Calls.{Parts, parts}
 use Rattle.responder.specs.Receive.{receiveOutcome, receivePromise}
-use Rattle.counters.specs.Counting.{counting}
+use Rattle.counters.specs.Counting.{countPromise}
 use Rattle.counters.specs.declared.Counters.{Counters}
 use Rattle.counters.specs.declared.Tallied.{Tallied}
 use Rattle.counters.proofs.Counters as T
@@ -208,7 +208,7 @@ module _ {M : Type 1} (𝓤 : URA M) (H : Heap 𝓤) (A : Atoms 𝓤) (W : Given
   abbrev Ensured : Tallied → List ℕ → List ℕ → List ℕ → List ℕ → Type 0
   Ensured r reader′ outbox′ settings′ registers′ = (receiveOutcome (r .answer) (parts reader′ outbox′ (factory .now) settings′ registers′)
       ≡ receivePromise (image .now) at-entry (piece .now))
-      × ((r .counters) ≡ counting h at-entry (piece .now))
+      × ((r .counters) ≡ countPromise h at-entry (piece .now))
 
   -- what is had where the walk ends
   abbrev Left : Tallied → List ℕ → List ℕ → List ℕ → List ℕ → List (Item 𝓤)

@@ -112,10 +112,10 @@ Judgeable (good m) = Requestable m
 
 judged-leaves : (image : List ℕ) → Each Byte image → (p : Parts) → Sound p → (v : Verdict) → Judgeable v
     → Leaves p (withInner p (Receive.innerBy image (p .factory) (Receive.innerOf p) v)) (Requests.afterVerdict image (view p) v)
-unfolding Receive.innerBy Receive.replyAlone Requests.afterVerdict Requests.failedOf Requests.replyFrame
+unfolding Receive.innerBy Receive.replyAlone Requests.afterVerdict Requests.failureReply Requests.replyFrame
 judged-leaves image each p s (failure reason version sequence) small =
     let bs = reply-sendable (Receive.failureHead version sequence) 0x02 (reason ∷ []) (omega arith, (small, tt)) in
-    rw (one-byte reason small) (sent-leaves p s (some (Requests.failedOf reason version sequence)) (bs .0) (bs .1))
+    rw (one-byte reason small) (sent-leaves p s (some (Requests.failureReply reason version sequence)) (bs .0) (bs .1))
 judged-leaves image each p s (good m) q = request-leaves image each p s m q
 
 -- the reasons of the table

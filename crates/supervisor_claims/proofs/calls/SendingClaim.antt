@@ -24,7 +24,7 @@ use Rattle.supervisor.specs.Layout
 use Rattle.supervisor.specs.Valid.{validOutbox}
 use Rattle.supervisor.proofs.ValidLaws.{outbox-valid}
 use Rattle.responder.specs.Requests.{owed}
-use Rattle.responder.specs.Receive.{sentBox, Head, replyBytes, messageBy}
+use Rattle.responder.specs.Receive.{sentBox, Head, replyBytes, messageWith}
 use Rattle.responder.proofs.KeptLaws.{begun, first-low, offsets, filled, sent-from, sent-to, sent-rest, run-short, reply-short}
 use Rattle.supervisor_claims.specs.View.{pendingOf}
 
@@ -49,7 +49,7 @@ frame-bytes m h =
 pub reply-sendable : (reply : Head) (command : ℕ) (payload : List ℕ) → Sendable payload
     → let bs = replyBytes reply command payload in (length bs ≤ longest-form + 1) × Each Byte bs
 reply-sendable reply command payload h =
-    let m = messageBy (reply .version) (reply .number .0) command payload in
+    let m = messageWith (reply .version) (reply .number .0) command payload in
     (reply-short reply command payload (h .0), frame-bytes m (h .1))
 
 -- ---- the outbox

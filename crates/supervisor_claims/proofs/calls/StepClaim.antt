@@ -125,7 +125,7 @@ report-stepped used reader (LineReader.refused n) h = absurd h
 report-stepped used reader LineReader.more h = refl
 report-stepped used reader LineReader.empty h = refl
 report-stepped used reader (LineReader.message version sequence command n) h =
-    verdict-stepped used (Requests.tested (Receive.messageBy version sequence command (LineReader.dataPromise reader n)))
+    verdict-stepped used (Requests.tested (Receive.messageWith version sequence command (LineReader.dataPromise reader n)))
 report-stepped used reader (LineReader.failed reason sequence) h = refl
 
 -- on parts of any kind

@@ -36,7 +36,7 @@ use Rattle.supervisor_claims.specs.Histories.{receiveWith}
 use Rattle.supervisor_claims.specs.FrameHistory.{pieceRead, isAcceptedStart, bytesReceivedBy, startsAnew, receivedSince}
 use Rattle.supervisor_claims.specs.FrameHistory.{receivedSinceAll, framesClosedBy, frameCarried, framesCarried, carriedOut}
 use Rattle.supervisor_claims.specs.LastSet.{requestAhead, requestsIn, requestsOf}
-use Rattle.supervisor_claims.specs.Alerts.{retains, retainsAfter, retainsAll, Drops, NoAlert, alertRequest, alertReply, CallKeeps}
+use Rattle.supervisor_claims.specs.Alerts.{retains, retainsAfter, retainsAll, Drops, NoAlert, alertMessage, alertReply, CallKeeps}
 use Rattle.supervisor_claims.specs.Alerts.{NoStarts}
 use Rattle.supervisor_claims.specs.Item1.{LocalKeeps, FailedKeeps, RequestRetains, RetainedExactly, FreshAlertAnswered}
 use Rattle.supervisor_claims.specs.Item1.{FreshAfterReboot}
@@ -189,7 +189,7 @@ none-retained (some r) e = absurd (subst (λ b. cond b (Unit {0}) ⊥) e tt)
 
 -- where none is retained, an alert request takes the oldest alert that waits
 taken-reply : (image : List ℕ) (s : State) (version n : ℕ) → s .retained ≡ none
-    → replyFrame (replyOf n (carryOut image s (alertRequest version n) .reply)) ≡ alertReply version n (oldest (s .waiting))
+    → replyFrame (replyOf n (carryOut image s (alertMessage version n) .reply)) ≡ alertReply version n (oldest (s .waiting))
 unfolding carryOut commandOfNumber withNumber commandNumber effect Requests.alertAsked Requests.alertTaken replyOf replyFrame alertReply
 taken-reply image s version n e = rw e
 
@@ -220,7 +220,7 @@ module _ (p : Parts) (b : Bytes p) (l : Lent) (d : List ℕ) (typed : Typed (His
       let answered : receiveStream image s (bs ++ (0 ∷ [])) .pending
       ≡ owed (s .terminator-owed) ++ alertReply version n (oldest (a .waiting)) =
       ap (λ (z : State). z .pending) (stream-closes w s since image bs)
-      ∙ framed-pending image a (split (w ++ bs) .rest) (alertRequest version n) v
+      ∙ framed-pending image a (split (w ++ bs) .rest) (alertMessage version n) v
       ∙ rw (taken-reply image a version n kept, frames-owed image (framesClosedBy w bs) s) in
       (y .answer, ap (λ (z : State). z .pending) (y .leaves .0) ∙ rw (hist .1, waits) answered)
 

@@ -12,7 +12,7 @@ use Rattle.line.specs.Frame.{split}
 use Rattle.line.proofs.Pieces.{split-none}
 use Rattle.supervisor.specs.State.{State, withReceived}
 use Rattle.supervisor.specs.Calls.{Parts}
-use Rattle.responder.specs.Requests.{failure, verdict, receiveStream, failedOf}
+use Rattle.responder.specs.Requests.{failure, verdict, receiveStream, failureReply}
 use Rattle.supervisor_claims.specs.View.{factoryOf, view}
 use Rattle.supervisor_claims.specs.Sound.{Bytes}
 use Rattle.supervisor_claims.specs.Histories
@@ -32,7 +32,7 @@ use Rattle.supervisor_claims.proofs.claims.FramesClaim.{stream-carried,
 module _ (w : List ℕ) (s : State) (h : Since (split w .rest) s) (image bs : List ℕ) where
   stream-fails : (b : ℕ) (f : List ℕ) (reason version : ℕ) (sequence : Option ℕ) → split (w ++ bs) .rest ≡ b ∷ f
       → verdict (b ∷ f) ≡ failure reason version sequence
-      → receiveStream image s (bs ++ (0 ∷ [])) ≡ answeredWith (receiveStream image s bs) (failedOf reason version sequence)
+      → receiveStream image s (bs ++ (0 ∷ [])) ≡ answeredWith (receiveStream image s bs) (failureReply reason version sequence)
   unfolding carriedOut
   stream-fails b f reason version sequence e v =
       rw (stream-closes w s h image bs, e, ← stream-carried w s h image bs)
@@ -78,7 +78,7 @@ module _ (p : Parts) (b : Bytes p) (l : Lent) (d : List ℕ) (typed : Typed (His
 
   pub failure-answered : FailureAnswered ms q
   failure-answered b f reason version sequence v j image bs c e g =
-      closed-leaves j image bs c e (λ s. answeredWith s (failedOf reason version sequence))
+      closed-leaves j image bs c e (λ s. answeredWith s (failureReply reason version sequence))
       (stream-fails (receivedSinceAll [] ms) (view q) since image bs b f reason version sequence g v)
 
   pub overlong-answered : OverlongAnswered ms q

@@ -29,10 +29,10 @@ use Rattle.supervisor_claims.specs.Histories
 use Rattle.supervisor_claims.specs.Histories.{Typed, done, Lent, Made, enough, meant, meantMade, made, leftMeant, AllTyped, reached}
 use Rattle.supervisor_claims.specs.Histories.{startWith}
 use Rattle.supervisor_claims.specs.Histories.{receiveWith, locally}
-use Rattle.supervisor_claims.specs.FrameHistory.{framesClosedBy, receivedSinceAll, frameCarried, framesCarried, Replied}
-use Rattle.supervisor_claims.specs.LastSet.{successful, lastOr, setAfter, Origin, sinceStart, sinceMore, setSince, lookupOf}
+use Rattle.supervisor_claims.specs.FrameHistory.{framesClosedBy, receivedSinceAll, frameCarried, framesCarried, RepliedWith}
+use Rattle.supervisor_claims.specs.LastSet.{successful, lastOr, setAfter, Origin, sinceStart, sinceMore, setSince, lookupMessage}
 use Rattle.supervisor_claims.specs.LastSet.{lookupReply, requestsIn}
-use Rattle.supervisor_claims.specs.LastSet.{fittedOf, ReadBack, origin, originBehind, setOf, setReply, SetAnswered}
+use Rattle.supervisor_claims.specs.LastSet.{fittedOf, ReadBack, origin, originBehind, setMessage, setReply, SetAnswered}
 use Rattle.supervisor_claims.specs.Demand2.{ValueLastSet, LastSet, WithdrawnListAnswered, LookupLastSet}
 use Rattle.supervisor_claims.specs.Item5.{editionReply, ListEditionAnswered}
 use Rattle.supervisor_claims.specs.Item14.{passphraseReply, PassphraseUnread, PassphraseUnreadLocally}
@@ -58,7 +58,7 @@ found-value s most {k} h = rw (le-ltb Limits.highest-key k (h .key .upper), ne-e
 
 -- the reply's frame
 reply-found : (image : List ℕ) (s : State) (version n most : ℕ) {k : ℕ} → ReadBack k → most < 65536
-    → replyFrame (replyOf n (carryOut image s (lookupOf version n k most) .reply)) ≡ lookupReply version n most (Local.entryOf s k)
+    → replyFrame (replyOf n (carryOut image s (lookupMessage version n k most) .reply)) ≡ lookupReply version n most (Local.entryOf s k)
 unfolding carryOut commandOfNumber withNumber commandNumber effect replyOf replyFrame lookupReply
 reply-found image s version n most {k} h i =
     let m = h .key .upper in
@@ -76,13 +76,14 @@ framed-pending image s [] m e = absurd (empty-none m e)
 framed-pending image s (b ∷ bs) m e = ap (λ (x : State). x .pending) (request-carried image s b bs m e)
 
 reply-refused : (image : List ℕ) (s : State) (version n most : ℕ) → most < 65536
-    → replyFrame (replyOf n (carryOut image s (lookupOf version n Limits.passphrase-key most) .reply)) ≡ passphraseReply version n
+    → replyFrame (replyOf n (carryOut image s (lookupMessage version n Limits.passphrase-key most) .reply)) ≡ passphraseReply version n
 unfolding carryOut commandOfNumber withNumber commandNumber effect replyOf replyFrame Local.lookup
 reply-refused image s version n most i = rw (lookup-data Limits.passphrase-key most (omega arith) i .0, and-false)
 
 -- of a set
 reply-set : (image : List ℕ) (s : State) (version n k : ℕ) (v : List ℕ) → k < 256
-    → replyFrame (replyOf n (carryOut image s (setOf version n k v) .reply)) ≡ setReply version n (storeValue (s .settings) k v .result)
+    → replyFrame (replyOf n (carryOut image s (setMessage version n k v) .reply))
+    ≡ setReply version n (storeValue (s .settings) k v .result)
 unfolding carryOut commandOfNumber withNumber commandNumber effect keySet replyOf replyFrame number bytes
 reply-set image s version n k v h = let e : k % 256 + 0 * 256 ≡ k = omega arith in rw e
 
@@ -99,12 +100,12 @@ stream-replies w s since image bs m e =
 -- of a lookup, where key k has what x says
 stream-answers : {k : ℕ} (h : ReadBack k) (w : List ℕ) (x : Origin) (s : State) → Since (split w .rest) s → Holds k x s
     → x .setting .edition ≤ Limits.last-edition
-    → (image bs : List ℕ) (version n most : ℕ) → most < 65536 → verdict (split (w ++ bs) .rest) ≡ good (lookupOf version n k most)
+    → (image bs : List ℕ) (version n most : ℕ) → most < 65536 → verdict (split (w ++ bs) .rest) ≡ good (lookupMessage version n k most)
     → receiveStream image s (bs ++ (0 ∷ [])) .pending
     ≡ owed (s .terminator-owed) ++ lookupReply version n most (setSince k (sinceMore x (requestsIn (framesClosedBy w bs))))
 stream-answers h w x s since holds low image bs version n most i e =
     let a = framesCarried image s (framesClosedBy w bs) in
-    stream-replies w s since image bs (lookupOf version n _ most) e
+    stream-replies w s since image bs (lookupMessage version n _ most) e
     ∙ rw (
       reply-found image a version n most h i,
       entry-held a (h .key),
@@ -152,7 +153,7 @@ module _ (p : Parts) (b : Bytes p) (l : Lent) (d : List ℕ) (typed : Typed (His
   replied-made : (j : Lent) (image bs : List ℕ)
       → let c = receiveWith image j (bs ++ (0 ∷ [])) in Typed (c .call) → enough (c .call) j ≡ true → (reply : List ℕ)
       → receiveStream image state (bs ++ (0 ∷ [])) .pending ≡ owed (state .terminator-owed) ++ reply
-      → let q = reached p l d ms in Replied q (made q c) reply
+      → let q = reached p l d ms in RepliedWith q (made q c) reply
   unfolding meantMade meant
   replied-made j image bs c e reply x =
       let hist = history p b l d typed accepted ms t in
@@ -173,14 +174,14 @@ module _ (p : Parts) (b : Bytes p) (l : Lent) (d : List ℕ) (typed : Typed (His
       let g : SettingsKey k → setting (a .settings) k ≡ setSince k x = λ h.
       frames-hold h w (origin k ms) state (state-holds h) image bs .held ∙ after-sets k (x .setting) (x .requests) (origin-low k) in
       replied-made j image bs c e _
-      (stream-replies w state (by-frames (factoryOf d) ms .2) image bs (setOf version n k v) u
+      (stream-replies w state (by-frames (factoryOf d) ms .2) image bs (setMessage version n k v) u
       ∙ rw (reply-set image a version n k v i, set-result (a .settings) k v (setSince k x) g))
 
   pub passphrase-unread : PassphraseUnread ms (reached p l d ms)
   passphrase-unread version n most i j image bs c e v =
       let w = receivedSinceAll [] ms in
       replied-made j image bs c e _
-      (stream-replies w state (by-frames (factoryOf d) ms .2) image bs (lookupOf version n Limits.passphrase-key most) v
+      (stream-replies w state (by-frames (factoryOf d) ms .2) image bs (lookupMessage version n Limits.passphrase-key most) v
       ∙ rw (reply-refused image (framesCarried image state (framesClosedBy w bs)) version n most i))
 
   pub passphrase-unread-locally : PassphraseUnreadLocally ms (reached p l d ms)

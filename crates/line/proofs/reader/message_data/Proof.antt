@@ -5,19 +5,19 @@ use native.Mathlib.Nat.{add-sub-cancel-left}
 use native.Mathlib.Omega.{arith}
 use borrow.Author.Needs.{needs}
 use borrow.Author.Tests.{not-true, not-false, lt-ltb, le-ltb}
-use Rattle.line.specs.Reader.{dataRefusal, partOf, dataPromise}
+use Rattle.line.specs.Reader.{dataGivenPromise, partOf, dataPromise}
 use Rattle.line.proofs.State.{valid-ready}
 use Rattle.line.proofs.reader.message_data.Statement.{statement}
 use Rattle.line.proofs.reader.message_data.Tie as tie
 
 returns : tie.Need-returns
-unfolding dataPromise dataRefusal partOf
+unfolding dataPromise dataGivenPromise partOf
 returns c =
     let at-is-valid = c .before .before in
     rw (sym (at-is-valid .is-valid .ensures) ∙ not-true _ (c .before .if1 .taken))
 
 returns-2 : tie.Need-returns-2
-unfolding dataPromise dataRefusal partOf
+unfolding dataPromise dataGivenPromise partOf
 returns-2 c =
     let else1 = c .before .before in
     let at-is-valid = else1 .before in
@@ -32,7 +32,7 @@ part-result-end c =
     omega (arith, valid-ready _ (sym (at-is-valid .is-valid .ensures) ∙ not-false _ (c .before .if1 .left)))
 
 returns-3 : tie.Need-returns-3
-unfolding dataPromise dataRefusal partOf
+unfolding dataPromise dataGivenPromise partOf
 returns-3 c =
     let else1 = c .before .before in
     let at-is-valid = else1 .before in

@@ -3,22 +3,22 @@
 use mathlib.Core.Path.{sym, _∙_}
 use borrow.Author.Needs.{needs}
 use borrow.Author.Tests.{not-true, not-false, lt-ltb, le-ltb}
-use Rattle.line.specs.Reader.{dataReport, dataRefusal}
+use Rattle.line.specs.Reader.{dataReport, dataGivenPromise}
 use Rattle.line.proofs.reader.message_data_given.Statement.{statement}
 use Rattle.line.proofs.reader.message_data_given.Tie as tie
 
 returns : tie.Need-returns
-unfolding dataReport dataRefusal
+unfolding dataReport dataGivenPromise
 returns c = rw (sym (c .before .is-valid .ensures) ∙ not-true _ (c .if1 .taken))
 
 returns-2 : tie.Need-returns-2
-unfolding dataReport dataRefusal
+unfolding dataReport dataGivenPromise
 returns-2 c =
     let at-is-valid = c .before .before in
     rw (sym (at-is-valid .is-valid .ensures) ∙ not-false _ (c .before .if1 .left), lt-ltb _ _ (c .if2 .taken))
 
 returns-3 : tie.Need-returns-3
-unfolding dataReport dataRefusal
+unfolding dataReport dataGivenPromise
 returns-3 c =
     let at-is-valid = c .before .before in
     rw (sym (at-is-valid .is-valid .ensures) ∙ not-false _ (c .before .if1 .left), le-ltb _ _ (c .if2 .left))

@@ -49,7 +49,7 @@ use denote.Triple.Walked.{Walks, ends-at, walked, walk-meets}
 use denote.Triple.Clauses.{ensured, lasts}
 use denote.Exit.{yes}
 use Rattle.supervisor.specs.Calls.{Parts, parts}
-use Rattle.counters.specs.Counting.{counting}
+use Rattle.counters.specs.Counting.{countPromise}
 use Rattle.oatcastle.specs.Answers.{callOutcome}
 use Rattle.oatcastle.specs.ReceiveCalls.{receiveCall}
 use Rattle.counters.specs.declared.Counters.{Counters}
@@ -206,7 +206,7 @@ module _ {M : Type 1} (𝓤 : URA M) (H : Heap 𝓤) (A : Atoms 𝓤) (W : Given
   abbrev Ensured : Numbered → List ℕ → List ℕ → List ℕ → List ℕ → Type 0
   Ensured r reader′ outbox′ settings′ registers′ = (callOutcome (r .answer) (parts reader′ outbox′ (factory .now) settings′ registers′)
       ≡ receiveCall (image .now) at-entry (piece .now))
-      × ((r .counters) ≡ counting h at-entry (piece .now))
+      × ((r .counters) ≡ countPromise h at-entry (piece .now))
 
   -- what is had where the walk ends
   abbrev Left : Numbered → List ℕ → List ℕ → List ℕ → List ℕ → List (Item 𝓤)

@@ -1,7 +1,7 @@
 -- `rot::reader::payload` meets its contract.
 -- Assumes nothing.
 use borrow.Author.Needs.{needs}
-use Rattle.rot.specs.Reading.{judgedAs, handedPart, payloadPart}
+use Rattle.rot.specs.Reading.{judgedAs, handedPart, payloadPromise}
 use Rattle.rot.proofs.Reading.{payload-echo, payload-handed}
 use Rattle.rot.proofs.reader.payload.Statement.{statement}
 use Rattle.rot.proofs.reader.payload.Tie as tie
@@ -13,13 +13,13 @@ returns c =
     payload-echo _ (at-judge .judge .ensures) (arm .verdict .given .1) (c .before .if1 .taken)
 
 returns-2 : tie.Need-returns-2
-unfolding judgedAs handedPart payloadPart
+unfolding judgedAs handedPart payloadPromise
 returns-2 c =
     let at-judge = c .before .before .before in
     rw (← at-judge .judge .ensures, c .before .enum-told .given .1)
 
 returns-3 : tie.Need-returns-3
-unfolding judgedAs handedPart payloadPart
+unfolding judgedAs handedPart payloadPromise
 returns-3 c =
     let at-judge = c .before .before .before in
     rw (← at-judge .judge .ensures, c .before .enum-told2 .given .1)
