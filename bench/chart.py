@@ -7,11 +7,11 @@ from xml.sax.saxutils import escape
 
 DOCS = pathlib.Path(__file__).resolve().parent.parent / "docs"
 LEFT, RIGHT, TOP, BAR, GAP, SPAN = 250, 170, 56, 14, 12, 420
-# of each bar: what it shows, the columns of its ratio and of its two times, its colour
+# of each bar: what it shows, the columns of its ratio and of its two times, its colour; the yardstick's time of a measurement before is not kept
 BARS = (
     ("ordinary", "ratio to ordinary", "library ns", "ordinary ns", "#a9bfd6"),
     ("strong", "ratio to strong", "library ns", "strong ns", "#2f5f92"),
-    ("strong, before", "before to strong", "before ns", "strong ns", "#d9d2c5"),
+    ("strong, before", "before to strong", "before ns", None, "#d9d2c5"),
 )
 
 
@@ -58,7 +58,7 @@ def chart(rows):
             ratio = float(row[column])
             x = place(ratio)
             out.append(f'<rect x="{LEFT}" y="{y}" width="{x - LEFT:.1f}" height="{BAR}" fill="{colour}"/>')
-            label = f'{ratio:.2f} ({row[ours]} / {row[other]} ns)'
+            label = f'{ratio:.2f} ({row[ours]} / {row[other]} ns)' if other else f'{ratio:.2f} ({row[ours]} ns)'
             out.append(f'<text x="{x + 6:.1f}" y="{y + 11}">{label}</text>')
             y += BAR
     out.append(f'<line x1="{place(1):.1f}" y1="{TOP - 6}" x2="{place(1):.1f}" y2="{bottom}" stroke="#222"/>')
