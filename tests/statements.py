@@ -3,7 +3,8 @@
 - specs/ of a crate has definitions and statements alone: no law, no proof text, no import of proofs/;
 - a file of statements (Demand.., Item.., BothEnds) has records of statements, and proofs/ exactly one element of each, with a proof for each field;
 - every name that docs/CLAIMS.md gives exists, and every name with a capital inside (`takePromise`) that another document gives;
-- each row of `did` and `mainDid` (supervisor_claims and requester_claims, specs/Histories) cites the definition, with the arguments, of the `ensures` of the call that it stands for.
+- each row of `did`, of `localRow` and of `mainDid` (supervisor_claims, specs/Histories and specs/LocalCalls; requester_claims, specs/Histories) cites the definition, with the
+  arguments, of the `ensures` of the call that it stands for; a row of `localRow` cites all that this definition settles, and may change the part that it leaves, else nothing.
 Assumes the sources as `rt fmt` lays them out (docs/sources.py).
 
 usage: tests/statements.py            prints what is wrong, or how much was compared
@@ -23,8 +24,8 @@ DOCUMENTS = ('README.md', *(f'docs/{name}.md' for name in ('PROMISES', 'DECISION
 STATEMENTS = re.compile(r'^(Demand\d+|Item\d+|BothEnds|Claims)$')
 # words of a proof, which no definition has
 PROOF = re.compile(r'(?<![\w.-])(rw|simp|omega|cc|refl|absurd|search|unfolding)(?![\w-])')
-# the definitions that have a row for each call
-DID = {'supervisor_claims': 'did', 'requester_claims': 'mainDid'}
+# the definitions that have a row for each call: module and name
+DID = {'supervisor_claims': [('Histories', 'did'), ('LocalCalls', 'localRow')], 'requester_claims': [('Histories', 'mainDid')]}
 # each call of these: the public functions that it stands for, and the names that their parameters have in the row
 ROWS = {
     'supervisor_claims': {
@@ -133,7 +134,7 @@ def unknown_words(found, documents):
                     yield f'{path}:{number}: nothing is named {name}'
 
 
-# ---- Rows of `did`
+# ---- Rows of calls
 
 def plain(words):
     """A call's text with the lent bytes by their names: (now (room .entry)) and (p .room) as room, the parts of one end as p."""
@@ -155,20 +156,47 @@ def row_calls(found, file, row):
         yield found.resolved(file, match.group(1)), plain(match.group(2).split(' in ')[0])
 
 
+def row_of(found, crate, call):
+    """The file and the definition that have a call's row, and the row's text; None where there is none."""
+    for module, name in DID[crate]:
+        file = found.files[f'{crate}.specs.{module}']
+        match = re.search(rf'^{name} (?:p )?\(?{call}\b[^=]*= ?(.*(?:\n  .*)*)$', file.own[name].told, re.M)
+        if match:
+            return file, file.own[name], match.group(1)
+    return None
+
+
+def field_of(row, name):
+    """A field of a row that is a record, else the whole row."""
+    match = re.search(rf'^  {name} = (.*(?:\n {{4}}.*)*);$', row, re.M)
+    return ' '.join((match.group(1) if match else row).split())
+
+
+def settled(found, definition):
+    """The names of what a definition settles: the fields of the record that it gives; none where it gives no record."""
+    record = found.resolved(found.files[definition.module], definition.told.split('\n')[0].rsplit('→', 1)[-1].strip())
+    return [field.name for field in reading.fields_of(record)] if getattr(record, 'kind', '') == 'record' else []
+
+
 def row_faults(found, count):
     for crate, rows in ROWS.items():
-        file = found.files[f'{crate}.specs.Histories']
-        did = file.own[DID[crate]]
         for call, (functions, names) in rows.items():
-            match = re.search(rf'^{did.name} p \(?(?:local \(?)?{call}\b[^=]*= ?(.*(?:\n {{4}}.*)*)$', did.told, re.M)
-            if not match:
-                yield f'{did.place}: {did.name} has no row {call}'
+            place = row_of(found, crate, call)
+            if not place:
+                yield f'crates/{crate}/specs: no definition has a row {call}'
                 continue
-            row = list(row_calls(found, file, ' '.join(match.group(1).split())))
-            wanted = [promised(found, path, names) for path in functions]
+            file, did, row = place
+            promise, wanted = field_of(row, 'promise'), [promised(found, path, names) for path in functions]
             count[0] += len(wanted)
-            if row != wanted:
+            if list(row_calls(found, file, promise)) != wanted:
                 yield f'{did.place}: the row {call} of {did.name} is not what {" and ".join(functions)} promise'
+            if did.name != 'localRow':
+                continue
+            given = [name for definition, _ in wanted for name in settled(found, definition)]
+            yield from (f'{did.place}: the row {call} of {did.name} leaves {name} out' for name in given if not re.search(rf'\((?!p )\w+ \.{name}\)', promise))
+            changes = [name for name in given if name in ('outbox', 'settings', 'registers')] or ['nothing']
+            if re.match(r'Change\.(\w+)', field_of(row, 'change')).group(1) not in changes:
+                yield f'{did.place}: the row {call} of {did.name} may change another part than its promise leaves'
 
 
 def faults(found, text, count, documents=None):
@@ -191,7 +219,7 @@ def planted():
     found, text = sources.Sources(), CLAIMS.read_text()
     if faults(found, text, [0]):
         sys.exit('statements: there are faults that nobody planted')
-    histories = 'supervisor_claims.specs.Histories'
+    table = 'supervisor_claims.specs.LocalCalls'
     mistakes = {
         'a field with no proof': (changed(found, 'line_claims.specs.Demand3', '  pub cut : LineCut\n', '  pub cut : LineCut\n  pub cut-twice : LineCut\n'), text),
         'a record with no element': (changed(found, 'line_claims.proofs.Proved', 'pub item-12 : LineItem12', 'pub item-12 : LineItem6'), text),
@@ -199,8 +227,11 @@ def planted():
         'proof text in specs': (changed(found, 'line_claims.specs.Loans', 'fewer published n = min', 'fewer published n = rw min'), text),
         'specs that name proofs': (changed(found, 'line_claims.specs.Loans', 'use lib.Dec.{leb}', 'use lib.Dec.{leb}\nuse Rattle.octets.proofs.Each.{each-take}'), text),
         'a name misspelt': (found, text.replace('`hands-out`', '`hand-out`', 1)),
-        'rows of did exchanged': (changed(found, histories, 'Calls.postPromise (p .registers) action text', 'Calls.optionsPromise (p .registers) action'), text),
-        'arguments of a row exchanged': (changed(found, histories, 'Calls.lookupResultPromise (p .factory) (p .settings)', 'Calls.lookupResultPromise (p .settings) (p .factory)'), text),
+        'rows exchanged': (changed(found, table, 'Calls.postPromise (p .registers) action text', 'Calls.optionsPromise (p .registers) action'), text),
+        'arguments of a row exchanged': (changed(found, table, 'Calls.lookupResultPromise (p .factory) (p .settings)', 'Calls.lookupResultPromise (p .settings) (p .factory)'), text),
+        'a row of did exchanged': (changed(found, 'supervisor_claims.specs.Histories', 'Receive.receivePromise image p piece', 'Receive.stepPromise image p piece'), text),
+        'a row that leaves out what is settled': (changed(found, table, '(t .room) (t .outbox)', '(t .room) []'), text),
+        'a row with another change': (changed(found, table, 'change = Change.settings image', 'change = Change.nothing'), text),
     }
     missed = [name for name, (sources_then, text_then) in mistakes.items() if not faults(sources_then, text_then, [0])]
     misspelt = {'docs/PROMISES.md': (ROOT / 'docs/PROMISES.md').read_text().replace('`takePromise`', '`takesPromise`', 1)}
@@ -220,7 +251,7 @@ def main():
     found, count = sources.Sources(), [0]
     wrong = faults(found, CLAIMS.read_text(), count)
     held = records(found)
-    print('\n'.join(wrong + [f'statements: {len(held)} records of {sum(len(list(reading.fields_of(record))) for record in held)} statements, {count[0]} promises held to rows of did, '
+    print('\n'.join(wrong + [f'statements: {len(held)} records of {sum(len(list(reading.fields_of(record))) for record in held)} statements, {count[0]} promises held to rows, '
                              f'{len(wrong)} faults']))
     sys.exit(1 if wrong or not held else 0)
 

@@ -8,7 +8,6 @@ use mathlib.Core.Logic.{_⊎_, inl, inr}
 use mathlib.Core.Option.{Option, none, some}
 use Prim.Native.Nat.{ℕ, _≤_}
 use native.Mathlib.Omega.{arith}
-use lib.Dec.{ltb, eqb}
 use lib.ListN.{length}
 use Rattle.octets.specs.Bytes.{Each}
 use Rattle.octets.proofs.Conditions.{cond-by}
@@ -16,17 +15,17 @@ use Rattle.line.specs.Message.{Message}
 use Rattle.line.specs.Frame.{frame, split, nonEmpty, closedBehind}
 use Rattle.requester_claims.specs.Histories.{MainAnswer, MainCall}
 use Rattle.requester_claims.specs.Numbers.{Frame}
-use Rattle.supervisor.specs.Limits
-use Rattle.supervisor.specs.State.{Recorded, State}
-use Rattle.supervisor.specs.Local
-use Rattle.saving.specs.Saving
+use Rattle.supervisor.specs.State.{State}
 use Rattle.responder.specs.Requests.{Reply, verdict, owed, replyFrame}
 use Rattle.supervisor_claims.specs.View.{view, factoryOf}
+use Rattle.supervisor_claims.specs.LocalCalls.{Change, localRow}
 use Rattle.supervisor_claims.specs.Histories as Supervisor
 use Rattle.supervisor_claims.specs.FrameHistory as Received
 use Rattle.supervisor_claims.specs.FrameHistory.{frameCarried, framesCarried}
 use Rattle.supervisor_claims.specs.LastSet.{Origin}
 use Rattle.supervisor_claims.specs.Replies.{replyBy, takenBytes}
+use Rattle.supervisor_claims.proofs.calls.RowLaws.{stateBy, OfChange}
+use Rattle.supervisor_claims.proofs.calls.LocalLaws.{row-laws}
 use Rattle.supervisor_claims.proofs.claims.InOrder.{judged-is}
 use Rattle.supervisor_claims.proofs.laws.Progress.{Since}
 use Rattle.supervisor_claims.proofs.claims.FramesClaim.{made-carried, by-frames}
@@ -78,41 +77,21 @@ module _ (asked : List Frame) (image : List ℕ) where
 
 -- ---- a call takes some of the pending bytes, or is no local call, or leaves them
 
-module _ (s : State) where
-  abbrev Same : Supervisor.Means → Type 0
-  Same m = m .state .pending ≡ s .pending
+takes-or : (s : State) (c : Supervisor.Call) → Takes c ⊎ LocallyKept (λ (y : State). y .pending) s c
+takes-or s (Supervisor.start d) = inr tt
+takes-or s (Supervisor.receive image piece) = inr tt
+takes-or s (Supervisor.step image piece) = inr tt
+takes-or s (Supervisor.local c) = by (localRow c .change) (row-laws c .of-change) (row-laws c .keeps-rest s)
+  where
+    m : Supervisor.Means
+    m = Supervisor.meant s (Supervisor.local c)
 
-  record-leaves : (x : Option Recorded) → Same (Supervisor.recordMeans s x)
-  record-leaves none = refl
-  record-leaves (some x) = refl
-
-  restore-leaves : (r : Saving.ImageRead) → Same (Supervisor.restoreMeans s (Saving.restoreRead s r))
-  restore-leaves (Saving.fault n at) = refl
-  restore-leaves (Saving.good es) = refl
-
-  takes-or : (c : Supervisor.Call) → Takes c ⊎ LocallyKept (λ (y : State). y .pending) s c
-  unfolding Supervisor.meant Local.post Local.withPosted Local.setOptions Saving.restore
-  takes-or (Supervisor.start d) = inr tt
-  takes-or (Supervisor.receive image piece) = inr tt
-  takes-or (Supervisor.step image piece) = inr tt
-  takes-or (Supervisor.local (Supervisor.take room)) = inl (room, refl)
-  takes-or (Supervisor.local (Supervisor.post action text)) =
-      inr (cond-by P (eqb action 0) _ _ (λ _. refl) (λ _.
-      cond-by P (ltb Limits.longest-alert (length text)) _ _ (λ _. refl) (λ _.
-      cond-by P (ltb (length (s .waiting)) Limits.most-alerts) _ _ (λ _. refl) (λ _. refl))))
-    where
-      P : Local.Done → Type 0
-      P x = Same (Supervisor.doneMeans s x)
-  takes-or (Supervisor.local (Supervisor.setOptions options)) =
-      inr (cond-by (λ (x : Local.Done). Same (Supervisor.doneMeans s x)) (Local.optionsAllowed options) _ _ (λ _. refl) (λ _. refl))
-  takes-or (Supervisor.local (Supervisor.lookup key most)) = inr refl
-  takes-or (Supervisor.local (Supervisor.edition key)) = inr refl
-  takes-or (Supervisor.local Supervisor.signal) = inr refl
-  takes-or (Supervisor.local Supervisor.flags) = inr refl
-  takes-or (Supervisor.local (Supervisor.readRecord k)) = inr (record-leaves (Supervisor.recordKept s k))
-  takes-or (Supervisor.local (Supervisor.save room)) =
-      inr (cond-by Same (ltb (length room) (length (Saving.saved (s .settings)))) _ _ (λ _. refl) (λ _. refl))
-  takes-or (Supervisor.local (Supervisor.restore image)) = inr (restore-leaves (Saving.readImage image))
+    by : (x : Change) → OfChange c x → m .state ≡ stateBy x (m .answer) s (m .state)
+        → Takes (Supervisor.local c) ⊎ (m .state .pending ≡ s .pending)
+    by Change.nothing o e = inr (ap (λ (y : State). y .pending) e)
+    by Change.outbox o e = inl (o .1 .0, ap Supervisor.local (o .1 .1))
+    by (Change.registers added) o e = inr (ap (λ (y : State). y .pending) e)
+    by (Change.settings image) o e = inr (ap (λ (y : State). y .pending) e)
 
 -- a take receives nothing
 takes-nothing : (m : Supervisor.Made) → Takes (m .call) → Received.bytesReceivedBy m ≡ []

@@ -35,7 +35,7 @@ use Rattle.supervisor_claims.proofs.calls.StepClaim.{step-ends, valid-step-step
 use Rattle.supervisor_claims.proofs.calls.ReceivedClaim.{pushed-received, finished-received, finished-kept}
 use Rattle.supervisor_claims.proofs.claims.InOrder.{tail-within, more-tail}
 use Rattle.supervisor_claims.proofs.claims.FramesClaim.{closed-ends}
-use Rattle.supervisor_claims.proofs.claims.Refusals.{WhereRefused}
+use Rattle.supervisor_claims.proofs.calls.RowLaws.{WhereRefused}
 use Rattle.supervisor_claims.proofs.claims.LentCalls.{valid-parts, made-12, widened-enough}
 use Rattle.counters_claims.specs.CountHistory.{didCounted, madeCounted, endedAll}
 use Rattle.counters_claims.proofs.FrameLaws.{closed-none}

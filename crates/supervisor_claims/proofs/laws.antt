@@ -7,6 +7,7 @@ pub mod PostLaws
 pub mod PartLaws
 pub mod SettingLaws
 pub mod SavingLaws
+pub mod AlikeLaws
 pub mod RecordLaws
 pub mod TakenLaws
 pub mod Locality

@@ -15,8 +15,8 @@ use Rattle.line.specs.Frame.{frame}
 use Rattle.supervisor.specs.Number.{topSet}
 use Rattle.supervisor.specs.State.{Alert, Retained, State}
 use Rattle.responder.specs.Requests.{alertData}
-use Rattle.supervisor_claims.specs.Histories
-use Rattle.supervisor_claims.specs.Histories.{LocalCall, Answer, done, Means, Made}
+use Rattle.supervisor_claims.specs.LocalCalls.{AnswerKind, kindOf, Change, localRow}
+use Rattle.supervisor_claims.specs.Histories.{LocalCall, Answer, Means, Made}
 use Rattle.supervisor_claims.specs.FrameHistory.{startsAnew}
 
 -- the retained reply and the alerts that wait are as they were
@@ -59,32 +59,23 @@ alertMessage version n = record { version = version; sequence = n; command = com
 unfoldable pub alertReply : ℕ → ℕ → Alert → List ℕ
 alertReply version n a = frame (record { version = version; sequence = topSet n; command = reply-alert; payload = alertData a })
 
--- the alert that a post adds where it is done
-abbrev pub whereDone : Answer → Alert → List Alert
-whereDone (Histories.refused n) a = []
-whereDone done a = a ∷ []
-whereDone (Histories.stepped used ended) a = []
-whereDone (Histories.moved n) a = []
-whereDone (Histories.found n k) a = []
-whereDone (Histories.foundEdition n k) a = []
-whereDone (Histories.asserted t) a = []
-whereDone (Histories.asked t u) a = []
-whereDone (Histories.recorded r) a = []
-whereDone (Histories.written n) a = []
-whereDone (Histories.faulty n at) a = []
+-- the alerts that are added where a call is done
+abbrev pub whereDone : AnswerKind → List Alert → List Alert
+whereDone (AnswerKind.number n) added = []
+whereDone (AnswerKind.fault n) added = []
+whereDone AnswerKind.carried-out added = added
+whereDone (AnswerKind.taken n) added = []
+whereDone AnswerKind.other added = []
+
+abbrev pub addedBy : Change → Answer → List Alert
+addedBy Change.nothing x = []
+addedBy Change.outbox x = []
+addedBy (Change.registers added) x = whereDone (kindOf x) added
+addedBy (Change.settings image) x = []
 
 -- the alerts that a local call with this answer adds
 abbrev pub alertsAdded : LocalCall → Answer → List Alert
-alertsAdded (Histories.take room) x = []
-alertsAdded (Histories.post action text) x = whereDone x (record { action = action; text = text })
-alertsAdded (Histories.setOptions options) x = []
-alertsAdded (Histories.lookup key most) x = []
-alertsAdded (Histories.edition key) x = []
-alertsAdded Histories.signal x = []
-alertsAdded Histories.flags x = []
-alertsAdded (Histories.readRecord k) x = []
-alertsAdded (Histories.save room) x = []
-alertsAdded (Histories.restore image) x = []
+alertsAdded c x = addedBy (localRow c .change) x
 
 -- a local call leaves the retained reply and the alerts that wait; a post that is done adds its alert behind them
 abbrev pub CallKeeps : State → LocalCall → Means → Type 0

@@ -7,7 +7,7 @@ use mathlib.Core.List.{List, [], _∷_}
 use mathlib.Core.Logic.{_↔_}
 use mathlib.Core.Option.{some}
 use Prim.Native.Nat.{ℕ, _+_, _≤_}
-use lib.Dec.{leb, ltb, eqb}
+use lib.Dec.{leb}
 use lib.ListN.{length}
 use Rattle.octets.specs.Bytes.{Each, Byte}
 use Rattle.line.specs.Reader as LineReader
@@ -17,9 +17,9 @@ use Rattle.supervisor.specs.Layout
 use Rattle.supervisor.specs.Local
 use Rattle.supervisor.specs.Calls.{Parts}
 use Rattle.supervisor_claims.specs.ByPart.{Part, published, part, validPart}
-use Rattle.saving.specs.Calls as SavingCalls
 use Rattle.supervisor_claims.specs.View.{factoryOf, view}
 use Rattle.supervisor_claims.specs.Sound.{Sound, Lengths, Leaves, withReader}
+use Rattle.supervisor_claims.specs.LocalCalls.{localRow}
 use Rattle.supervisor_claims.specs.Histories
 use Rattle.supervisor_claims.specs.Histories.{Call, Typed, refused, faulty, Did, didBy, did, Means, ofTaken, enough}
 use Rattle.supervisor_claims.specs.Histories.{Made, untouched, made, meantMade, AfterCalls}
@@ -51,17 +51,7 @@ abbrev pub laterTests : Parts → Call → List TableTest
 laterTests p (Histories.start d) = tableTest 11 (Local.badStart (factoryOf d)) ∷ []
 laterTests p (Histories.receive image piece) = []
 laterTests p (Histories.step image piece) = []
-laterTests p (Histories.local (Histories.take room)) = []
-laterTests p (Histories.local (Histories.post action text)) =
-    tableTest 13 (eqb action 0) ∷ tableTest 9 (ltb 256 (length text)) ∷ tableTest 10 (leb 8 (length (view p .waiting))) ∷ []
-laterTests p (Histories.local (Histories.setOptions options)) = tableTest 13 (not (Local.optionsAllowed options)) ∷ []
-laterTests p (Histories.local (Histories.lookup key most)) = []
-laterTests p (Histories.local (Histories.edition key)) = []
-laterTests p (Histories.local Histories.signal) = []
-laterTests p (Histories.local Histories.flags) = []
-laterTests p (Histories.local (Histories.readRecord k)) = []
-laterTests p (Histories.local (Histories.save room)) = tableTest 8 (ltb (length room) (length (SavingCalls.imageBytes (p .settings)))) ∷ []
-laterTests p (Histories.local (Histories.restore image)) = []
+laterTests p (Histories.local c) = localRow c .tests (view p)
 
 abbrev pub EachNumberExactly : Type 0
 EachNumberExactly = (p : Parts) (c : Call) (n : ℕ) → Typed c

@@ -5,49 +5,30 @@ use mathlib.Core.Path.{_≡_}
 use mathlib.Core.Bool.{Bool, true, cond, not, _||_}
 use mathlib.Core.List.{List, [], _∷_}
 use mathlib.Core.Option.{Option, none, some}
-use Prim.Native.Nat.{ℕ, suc, _^_, _<_}
-use lib.Dec.{ltb, eqb}
+use Prim.Native.Nat.{ℕ, suc}
+use lib.Dec.{eqb}
 use lib.ListN as ListN
 use lib.ListN.{length}
-use Rattle.octets.specs.Bytes.{Each, Byte, overlay}
+use Rattle.octets.specs.Bytes.{Each, Byte}
 use Rattle.line_claims.specs.Loans.{Loan, lentPart, backPart, enoughPart}
 use Rattle.supervisor.specs.Layout
-use Rattle.supervisor.specs.State.{Recorded, State}
+use Rattle.supervisor.specs.State.{State}
 use Rattle.supervisor.specs.Local
 use Rattle.supervisor.specs.Calls
 use Rattle.supervisor.specs.Calls.{Parts}
-use Rattle.supervisor.specs.declared.registers.Kind.{Kind}
-use Rattle.supervisor.specs.declared.registers.Kind.the-variants as kind
-use Rattle.saving.specs.Saving
-use Rattle.saving.specs.Calls as SavingCalls
 use Rattle.responder.specs.Requests
 use Rattle.responder.specs.Requests.{Verdict}
 use Rattle.responder.specs.Receive
 use Rattle.responder.specs.Receive.{Ended}
-use Rattle.supervisor_claims.specs.ByPart.{Part, is, published, part, partsBy, everyPart}
+use Rattle.supervisor_claims.specs.ByPart.{Part, published, part, partsBy, everyPart}
 use Rattle.supervisor_claims.specs.View.{factoryOf}
 use Rattle.supervisor_claims.specs.Sound.{Bytes, withOutbox, withSettingsPart, withRegisters}
+use Rattle.supervisor_claims.specs.LocalCalls.{Change, localRow}
+pub use Rattle.supervisor_claims.specs.LocalCalls.{LocalCall, take, post, setOptions, lookup, edition, signal, flags, readRecord}
+pub use Rattle.supervisor_claims.specs.LocalCalls.{save, restore, Answer, refused, done, stepped, moved, found, foundEdition}
+pub use Rattle.supervisor_claims.specs.LocalCalls.{asserted, asked, recorded, written, faulty, refusal, Means, means, doneMeans}
 
 -- ---- Calls and answers
-
--- a local call and its arguments; a lookup and a record are each read by two calls, whose answers stand together here
-pub data LocalCall : Type 0 where
-  -- the room lent
-  take : List ℕ → LocalCall
-  -- action and text
-  post : ℕ → List ℕ → LocalCall
-  setOptions : ℕ → LocalCall
-  -- key and maxresponse
-  lookup : ℕ → ℕ → LocalCall
-  -- key
-  edition : ℕ → LocalCall
-  signal : LocalCall
-  flags : LocalCall
-  readRecord : Kind → LocalCall
-  -- the room lent
-  save : List ℕ → LocalCall
-  -- an image
-  restore : List ℕ → LocalCall
 
 -- a public call and its arguments
 pub data Call : Type 0 where
@@ -63,37 +44,7 @@ abbrev pub Typed : Call → Type 0
 Typed (start d) = (length d ≡ Layout.start-length) × Each Byte d
 Typed (receive image piece) = Each Byte image × Each Byte piece
 Typed (step image piece) = Each Byte image × Each Byte piece
-Typed (local (take room)) = Each Byte room
-Typed (local (post action text)) = (action < 256) × Each Byte text
-Typed (local (setOptions options)) = options < 2 ^ 64
-Typed (local (lookup key most)) = (key < 256) × (most < 65536)
-Typed (local (edition key)) = key < 256
-Typed (local signal) = Unit {0}
-Typed (local flags) = Unit {0}
-Typed (local (readRecord k)) = Unit {0}
-Typed (local (save room)) = Each Byte room
-Typed (local (restore image)) = Each Byte image
-
-pub data Answer : Type 0 where
-  -- the table's number
-  refused : ℕ → Answer
-  done : Answer
-  -- how many bytes were read, and how the frame ended
-  stepped : ℕ → Ended → Answer
-  -- how many bytes were moved
-  moved : ℕ → Answer
-  -- the result, and how many bytes were found
-  found : ℕ → ℕ → Answer
-  -- the result, and the edition
-  foundEdition : ℕ → ℕ → Answer
-  asserted : Bool → Answer
-  -- reboot, power off
-  asked : Bool → Bool → Answer
-  recorded : Option Calls.RecordRead → Answer
-  -- how many bytes were written
-  written : ℕ → Answer
-  -- a fault of an image: its number and its offset
-  faulty : ℕ → ℕ → Answer
+Typed (local c) = localRow c .typed
 
 -- ---- By the promises
 
@@ -106,10 +57,6 @@ pub record Did : Type 0 where
 abbrev pub didBy : Answer → List ℕ → Parts → Did
 didBy a bs p = record { answer = a; out = bs; parts = p }
 
-abbrev pub refusal : Option ℕ → Answer
-refusal none = done
-refusal (some n) = refused n
-
 abbrev pub stepAnswer : ℕ → Ended → Answer
 stepAnswer used (Ended.refused n) = refused n
 stepAnswer used Ended.more = stepped used Ended.more
@@ -117,71 +64,22 @@ stepAnswer used Ended.empty = stepped used Ended.empty
 stepAnswer used Ended.request = stepped used Ended.request
 stepAnswer used (Ended.failed reason) = stepped used (Ended.failed reason)
 
-abbrev pub takeAnswer : Calls.TakeReport → Answer
-takeAnswer (Calls.TakeReport.moved n) = moved n
-takeAnswer (Calls.TakeReport.refused n) = refused n
-
-abbrev pub lookupAnswer : Calls.LookupReport → Answer
-lookupAnswer (Calls.LookupReport.result n k) = found n k
-lookupAnswer (Calls.LookupReport.refused n) = refused n
-
-abbrev pub editionAnswer : Calls.EditionReport → Answer
-editionAnswer (Calls.EditionReport.result n k) = foundEdition n k
-editionAnswer (Calls.EditionReport.refused n) = refused n
-
--- what was read
-abbrev pub registerAnswer : {A : Type 0} → (A → Answer) → Calls.RegisterReport A → Answer
-registerAnswer answer (Calls.RegisterReport.is x) = answer x
-registerAnswer answer (Calls.RegisterReport.refused n) = refused n
-
-abbrev pub saveAnswer : SavingCalls.SaveReport → Answer
-saveAnswer (SavingCalls.written n) = written n
-saveAnswer (SavingCalls.SaveReport.refused n) = refused n
-
-abbrev pub restoreAnswer : SavingCalls.RestoreReport → Answer
-restoreAnswer SavingCalls.done = done
-restoreAnswer (SavingCalls.RestoreReport.refused n) = refused n
-restoreAnswer (SavingCalls.faulty n at) = faulty n at
-
-abbrev pub flagsAsked : Bool × Bool → Answer
-flagsAsked b = asked (b .0) (b .1)
+-- the parts with other bytes in the one that a local call may change
+abbrev pub leftIn : Change → Parts → List ℕ → Parts
+leftIn Change.nothing p s = p
+leftIn Change.outbox p s = withOutbox p s
+leftIn (Change.registers added) p s = withRegisters p s
+leftIn (Change.settings image) p s = withSettingsPart p s
 
 unfoldable pub did : Parts → Call → Did
 did p (start d) = let t = Calls.startPromise d p in didBy (refusal (t .refusal)) [] (t .parts)
 did p (receive image piece) = let r = Receive.receivePromise image p piece in didBy (refusal (r .refusal)) [] (r .parts)
 did p (step image piece) = let r = Receive.stepPromise image p piece in didBy (stepAnswer (r .used) (r .ended)) [] (r .parts)
-did p (local (take room)) =
-    let t = Calls.takePromise (p .outbox) room in didBy (takeAnswer (t .report)) (t .room) (withOutbox p (t .outbox))
-did p (local (post action text)) =
-    let c = Calls.postPromise (p .registers) action text in didBy (refusal (c .refusal)) [] (withRegisters p (c .registers))
-did p (local (setOptions options)) =
-    let c = Calls.optionsPromise (p .registers) options in didBy (refusal (c .refusal)) [] (withRegisters p (c .registers))
-did p (local (lookup key most)) =
-    didBy (lookupAnswer (Calls.lookupResultPromise (p .factory) (p .settings) key most))
-    (Calls.lookupPromise (p .factory) (p .settings) key most) p
-did p (local (edition key)) = didBy (editionAnswer (Calls.editionPromise (p .factory) (p .settings) key)) [] p
-did p (local signal) = didBy (registerAnswer asserted (Calls.signalPromise (p .registers))) [] p
-did p (local flags) = didBy (registerAnswer flagsAsked (Calls.flagsPromise (p .registers))) [] p
-did p (local (save room)) = let t = SavingCalls.savePromise (p .settings) room in didBy (saveAnswer (t .report)) (t .room) p
-did p (local (restore image)) =
-    let t = SavingCalls.restorePromise (p .settings) image in didBy (restoreAnswer (t .report)) [] (withSettingsPart p (t .settings))
-did p (local (readRecord k)) =
-    didBy (registerAnswer recorded (Calls.recordPromise (p .registers) k)) (Calls.recordBytesPromise (p .registers) k) p
+did p (local c) =
+    let d = localRow c .promise p in
+    didBy (d .answer) (d .out) (leftIn (localRow c .change) p (d .left))
 
 -- ---- By document 01
-
-pub record Means : Type 0 where
-  pub answer : Answer
-  pub out : List ℕ
-  pub state : State
-
-abbrev pub means : Answer → List ℕ → State → Means
-means a bs s = record { answer = a; out = bs; state = s }
-
--- a refusal, which changes nothing, or the state that is left
-abbrev pub doneMeans : State → Local.Done → Means
-doneMeans s (Local.refused n) = means (refused n) [] s
-doneMeans s (Local.left t) = means done [] t
 
 -- how many bytes there are up to and with the first 00; all, where there is none
 unfoldable pub upTo : List ℕ → ℕ
@@ -198,40 +96,12 @@ endedInPiece received [] = Ended.more
 endedInPiece received (b ∷ bs) =
     cond (eqb b 0) (endedMeant (Requests.verdictSince received)) (endedInPiece (Requests.moreReceived received b) bs)
 
-abbrev pub recordKept : State → Kind → Option Recorded
-recordKept s kind.BootFailure = s .boot-failure
-recordKept s kind.Panic = s .panic
-
-abbrev pub recordMeans : State → Option Recorded → Means
-recordMeans s none = means (recorded none) [] s
-recordMeans s (some x) = means (recorded (some (record { code = x .code; whole = x .whole; kept = length (x .kept) }))) (x .kept) s
-
--- an image goes to a room of sufficient length, else 8
-abbrev pub saveMeans : State → List ℕ → List ℕ → Means
-saveMeans s image room =
-    cond (ltb (length room) (length image)) (means (refused 8) room s) (means (written (length image)) (overlay 0 image room) s)
-
-abbrev pub restoreMeans : State → Saving.RestoreDone → Means
-restoreMeans s (Saving.faulty n at) = means (faulty n at) [] s
-restoreMeans s (Saving.left t) = means done [] t
-
 unfoldable pub meant : State → Call → Means
 meant s (start d) = doneMeans s (Local.start (factoryOf d))
 meant s (receive image piece) = means done [] (Requests.receiveStream image s piece)
 meant s (step image piece) =
     means (stepped (upTo piece) (endedInPiece (s .received) piece)) [] (Requests.receiveStream image s (ListN.take (upTo piece) piece))
-meant s (local (take room)) =
-    let bs = Local.taken s (length room) in
-    means (moved (length bs)) (overlay 0 bs room) (Local.afterTake s (length room))
-meant s (local (post action text)) = doneMeans s (Local.post s action text)
-meant s (local (setOptions options)) = doneMeans s (Local.setOptions s options)
-meant s (local (lookup key most)) = let f = Local.lookup s key most in means (found (f .result) (length (f .value))) (f .value) s
-meant s (local (edition key)) = let e = Local.edition s key in means (foundEdition (e .result) (e .edition)) [] s
-meant s (local signal) = means (asserted (Local.asserted s)) [] s
-meant s (local flags) = means (asked (s .reboot-asked) (s .power-off-asked)) [] s
-meant s (local (readRecord k)) = recordMeans s (recordKept s k)
-meant s (local (save room)) = saveMeans s (Saving.saved (s .settings)) room
-meant s (local (restore image)) = restoreMeans s (Saving.restore s image)
+meant s (local c) = localRow c .meaning s
 
 -- ---- Calls that are lent some of the parts' bytes
 
@@ -259,16 +129,7 @@ abbrev pub takesPart : Call → Part → Bool
 takesPart (start d) i = true
 takesPart (receive image piece) i = true
 takesPart (step image piece) i = true
-takesPart (local (take room)) i = is Part.outbox i
-takesPart (local (post action text)) i = is Part.registers i
-takesPart (local (setOptions options)) i = is Part.registers i
-takesPart (local (lookup key most)) i = is Part.factory i || is Part.settings i
-takesPart (local (edition key)) i = is Part.factory i || is Part.settings i
-takesPart (local signal) i = is Part.registers i
-takesPart (local flags) i = is Part.registers i
-takesPart (local (readRecord k)) i = is Part.registers i
-takesPart (local (save room)) i = is Part.settings i
-takesPart (local (restore image)) i = is Part.settings i
+takesPart (local c) i = localRow c .takes i
 
 -- a test that each part passes which a call takes
 abbrev pub ofTaken : Call → (Part → Bool) → Bool
@@ -287,16 +148,7 @@ abbrev pub untouched : Call → List ℕ
 untouched (start d) = []
 untouched (receive image piece) = []
 untouched (step image piece) = []
-untouched (local (take room)) = room
-untouched (local (post action text)) = []
-untouched (local (setOptions options)) = []
-untouched (local (lookup key most)) = []
-untouched (local (edition key)) = []
-untouched (local signal) = []
-untouched (local flags) = []
-untouched (local (readRecord k)) = []
-untouched (local (save room)) = room
-untouched (local (restore image)) = []
+untouched (local c) = localRow c .room
 
 unfoldable pub made : Parts → Made → Did
 made p m = let d = did (lentOf (m .lent) p) (m .call) in didBy (d .answer) (d .out) (givenBack (m .lent) p (d .parts))

@@ -21,6 +21,7 @@ use Rattle.supervisor.specs.Calls.{Parts}
 use Rattle.saving.specs.Saving
 use Rattle.saving.specs.Saving.{SavedEntry}
 use Rattle.responder.specs.Requests.{Verdict, failure, good, verdict, wrongValueLength, editionBytes}
+use Rattle.supervisor_claims.specs.LocalCalls.{Change, localRow}
 use Rattle.supervisor_claims.specs.Histories
 use Rattle.supervisor_claims.specs.Histories.{LocalCall, Call, Made, enough, made}
 use Rattle.supervisor_claims.specs.FrameHistory.{pieceRead, isAcceptedStart, receivedSince, receivedSinceAll, framesClosedBy}
@@ -90,18 +91,15 @@ abbrev pub recordsOf : Saving.ImageRead → Option (List SavedEntry)
 recordsOf (Saving.fault n at) = none
 recordsOf (Saving.good es) = some es
 
--- the records of an image that a call restores
+-- the records of the image that a call restores
+abbrev pub recordsBy : Change → Option (List SavedEntry)
+recordsBy Change.nothing = none
+recordsBy Change.outbox = none
+recordsBy (Change.registers added) = none
+recordsBy (Change.settings image) = recordsOf (Saving.readImage image)
+
 unfoldable pub recordsRestored : LocalCall → Option (List SavedEntry)
-recordsRestored (Histories.take room) = none
-recordsRestored (Histories.post action text) = none
-recordsRestored (Histories.setOptions options) = none
-recordsRestored (Histories.lookup key most) = none
-recordsRestored (Histories.edition key) = none
-recordsRestored Histories.signal = none
-recordsRestored Histories.flags = none
-recordsRestored (Histories.readRecord k) = none
-recordsRestored (Histories.save room) = none
-recordsRestored (Histories.restore image) = recordsOf (Saving.readImage image)
+recordsRestored c = recordsBy (localRow c .change)
 
 -- Where a settings key's value and edition come from: what it had after the last accepted start or, of a saved key,
 -- after the last accepted restore behind it, and the valid requests since

@@ -12,9 +12,9 @@ use Rattle.octets.specs.Bytes.{Each, Byte}
 use Rattle.supervisor.specs.Limits.{most-pending}
 use Rattle.supervisor.specs.State.{State}
 use Rattle.responder.specs.Requests.{Verdict, failure, good, Reply, verdict, carryOut, replyFrame, replyOf, failureReply}
+use Rattle.supervisor_claims.specs.LocalCalls.{AnswerKind, kindOf}
 use Rattle.supervisor_claims.specs.Histories
-use Rattle.supervisor_claims.specs.Histories.{Answer, refused, done, stepped, moved, found, foundEdition, written, faulty, asserted}
-use Rattle.supervisor_claims.specs.Histories.{asked, recorded}
+use Rattle.supervisor_claims.specs.Histories.{Answer}
 use Rattle.supervisor_claims.specs.Histories.{Lent, Made, enough, Output, receiveWith, locally}
 
 -- ---- Replies
@@ -73,18 +73,15 @@ streamOf [] = []
 streamOf (t ∷ ts) = t .byte ∷ streamOf ts
 
 -- the bytes that a call moved
+abbrev pub movedBy : AnswerKind → List ℕ → List ℕ
+movedBy (AnswerKind.number n) out = []
+movedBy (AnswerKind.fault n) out = []
+movedBy AnswerKind.carried-out out = []
+movedBy (AnswerKind.taken n) out = ListN.take n out
+movedBy AnswerKind.other out = []
+
 abbrev pub movedBytes : Answer → List ℕ → List ℕ
-movedBytes (refused n) out = []
-movedBytes done out = []
-movedBytes (stepped n e) out = []
-movedBytes (moved n) out = ListN.take n out
-movedBytes (found n k) out = []
-movedBytes (foundEdition n k) out = []
-movedBytes (asserted b) out = []
-movedBytes (asked a b) out = []
-movedBytes (recorded r) out = []
-movedBytes (written n) out = []
-movedBytes (faulty n at) out = []
+movedBytes a out = movedBy (kindOf a) out
 
 -- and those of a list of calls, in order
 unfoldable pub takenBytes : List Output → List ℕ

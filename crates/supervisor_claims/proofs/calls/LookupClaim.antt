@@ -10,6 +10,7 @@ use lib.Dec.{ltb, eqb}
 use lib.ListN.{length}
 use borrow.Author.Tests.{ltb-false, eqb-true}
 use Rattle.octets.specs.Bytes.{Byte, Each, bytes, run}
+use Rattle.octets.specs.TableTests.{firstFailing}
 use Rattle.octets.proofs.Conditions.{cond-by, cond-both}
 use Rattle.octets.proofs.Overlay.{length-run, number-run, run-add}
 use Rattle.supervisor.specs.Limits
@@ -19,12 +20,18 @@ use Rattle.supervisor.specs.Local
 use Rattle.supervisor.specs.Calls
 use Rattle.supervisor.proofs.OffsetLaws.{offset-within, settings-key}
 use Rattle.supervisor.proofs.ValidLaws.{FactoryValid, factory-valid, settings-valid}
-use Rattle.supervisor.specs.Valid.{SettingValid}
+use Rattle.supervisor.specs.Valid.{validFactory, validSettings, SettingValid}
 use Rattle.supervisor_claims.specs.View.{itemAt, tabulated, settingOf, factoryOf, view}
 use Rattle.supervisor_claims.specs.Sound.{Valid}
+use Rattle.supervisor_claims.specs.LocalCalls
+use Rattle.supervisor_claims.specs.Histories
+use Rattle.supervisor_claims.specs.Histories.{didBy, did, meant}
+use Rattle.supervisor_claims.specs.Demand1.{partsFitCall}
 use Rattle.supervisor_claims.specs.Item5.{EditionMeant}
 use Rattle.supervisor_claims.proofs.laws.ViewLaws.{length-listed}
 use Rattle.supervisor_claims.proofs.laws.SettingLaws.{setting-is}
+use Rattle.supervisor_claims.proofs.laws.AlikeLaws.{lookup-same, edition-same}
+use Rattle.supervisor_claims.proofs.calls.RowLaws.{WhereRefused, RowLaws, Tested, unrefused, same-meets, both-test}
 
 -- ---- bytes of a store, and the value that they hold
 
@@ -183,3 +190,82 @@ lookup-edition s key most =
     let P : Local.Found → Local.Edition → Type 0 = λ f e. f .result ≡ 0 → e .edition ≡ f .edition in
     cond-both P (ltb Limits.highest-key key) (λ h e. refl) (λ h.
     cond-both P (eqb key Limits.passphrase-key) (λ i e. refl) (λ i. fitted-edition most (Local.entryOf s key)))
+
+-- ---- their rows
+
+-- a key's location is no refusal
+module _ (X : ℕ → Type 0) (most : ℕ) where
+  abbrev FoundHeld : {Q : Type 0} → (Q → Calls.LookupReport) → Q → Type 0
+  FoundHeld report q = WhereRefused (LocalCalls.lookupAnswer (report q)) X
+
+  sized-held : (n : ℕ) → WhereRefused (LocalCalls.lookupAnswer (Calls.sized most n)) X
+  sized-held n = cond-by (λ a. WhereRefused (LocalCalls.lookupAnswer a) X) (ltb most n) _ _ (λ e. tt) (λ e. tt)
+
+  setting-held : (s : List ℕ) (at : ℕ) → FoundHeld (Calls.resultAt most) (Calls.settingAt s at)
+  unfolding Calls.resultAt Calls.settingAt
+  setting-held s at =
+      cond-by (FoundHeld (Calls.resultAt most)) (eqb (Layout.settingHeld s at) 1) _ _ (λ e. sized-held (Layout.settingLength s at))
+      (λ e. tt)
+
+  pub found-held : (f s : List ℕ) (key : ℕ) → FoundHeld (Calls.resultAt most) (Calls.locationOf f s key)
+  unfolding Calls.resultAt Calls.locationOf
+  found-held f s key =
+      let P = FoundHeld (Calls.resultAt most) in
+      cond-by P (eqb key 0) _ _ (λ e. sized-held 4) (λ e.
+      cond-by P (eqb key 1) _ _ (λ e. sized-held (Layout.imageIdLength f)) (λ e.
+      cond-by P (eqb key 2) _ _ (λ e. sized-held 8) (λ e.
+      cond-by P (eqb key Limits.passphrase-key) _ _ (λ e. tt) (λ e.
+      setting-held s (Layout.setting-offset key)))))
+
+-- nor is its edition
+module _ (X : ℕ → Type 0) where
+  abbrev EditionHeld : {Q : Type 0} → (Q → Calls.EditionReport) → Q → Type 0
+  EditionHeld report q = WhereRefused (LocalCalls.editionAnswer (report q)) X
+
+  edition-held : (f s : List ℕ) (key : ℕ) → EditionHeld (Calls.editionReportAt s key) (Calls.locationOf f s key)
+  unfolding Calls.editionReportAt Calls.locationOf Calls.settingAt
+  edition-held f s key =
+      let P = EditionHeld (Calls.editionReportAt s key) in
+      cond-by P (eqb key 0) _ _ (λ e. tt) (λ e.
+      cond-by P (eqb key 1) _ _ (λ e. tt) (λ e.
+      cond-by P (eqb key 2) _ _ (λ e. tt) (λ e.
+      cond-by P (eqb key Limits.passphrase-key) _ _ (λ e. tt) (λ e.
+      cond-by P (eqb (Layout.settingHeld s (Layout.setting-offset key)) 1) _ _ (λ e. tt) (λ e. tt)))))
+
+abbrev LookupTested : Calls.Parts → ℕ → ℕ → Calls.LookupReport → List ℕ → Type 0
+LookupTested p key most a bs = Tested p (Histories.local (Histories.lookup key most)) (didBy (LocalCalls.lookupAnswer a) bs p) none
+
+abbrev EditionTested : Calls.Parts → ℕ → Calls.EditionReport → Type 0
+EditionTested p key a = Tested p (Histories.local (Histories.edition key)) (didBy (LocalCalls.editionAnswer a) [] p) none
+
+pub lookup-laws : (key most : ℕ) → RowLaws (Histories.lookup key most)
+unfolding did meant partsFitCall firstFailing Calls.lookupResultPromise Calls.lookupPromise
+lookup-laws key most = record {
+  by-taken = λ p. refl;
+  of-change = tt;
+  meets = λ p s t.
+      let l = lookup-meant p (s .valid) (s .bytes .factory) key most in
+      same-meets p s (ap LocalCalls.lookupAnswer (l .0)) (l .1);
+  refuses = λ p e. rw (both-test (validFactory (p .factory)) (validSettings (p .settings)) e);
+  tested = λ p e.
+      rw (both-test (validFactory (p .factory)) (validSettings (p .settings)) e)
+      (cond-both (LookupTested p key most) (ltb Limits.highest-key key) (λ _. (unrefused _ tt, tt)) (λ _.
+      (unrefused _ (found-held (λ _. ⊥) most (p .factory) (p .settings) key), found-held _ most (p .factory) (p .settings) key)));
+  keeps-rest = λ s. refl;
+  alike = λ t z e. rw (lookup-same t z e key most);
+}
+
+pub edition-laws : (key : ℕ) → RowLaws (Histories.edition key)
+unfolding did meant partsFitCall firstFailing Calls.editionPromise
+edition-laws key = record {
+  by-taken = λ p. refl;
+  of-change = tt;
+  meets = λ p s t. same-meets p s (ap LocalCalls.editionAnswer (edition-meant p (s .valid) key)) refl;
+  refuses = λ p e. rw (both-test (validFactory (p .factory)) (validSettings (p .settings)) e);
+  tested = λ p e.
+      rw (both-test (validFactory (p .factory)) (validSettings (p .settings)) e)
+      (cond-by (EditionTested p key) (ltb Limits.highest-key key) _ _ (λ _. (unrefused _ tt, tt)) (λ _.
+      (unrefused _ (edition-held (λ _. ⊥) (p .factory) (p .settings) key), edition-held _ (p .factory) (p .settings) key)));
+  keeps-rest = λ s. refl;
+  alike = λ t z e. rw (edition-same t z e key);
+}

@@ -8,16 +8,26 @@ use native.Mathlib.Nat.{add-zero}
 use native.Mathlib.Omega.{arith}
 use lib.Dec.{eqb}
 use lib.ListN.{length, take, drop, getD}
-use Rattle.octets.specs.Bytes.{number, bytes, run, overlay}
-use Rattle.octets.proofs.Numbers.{length-bytes, number-bytes}
-use Rattle.octets.proofs.Overlay.{length-run, length-overlay, overlay-inside, overlay-before, overlay-after}
+use Rattle.octets.specs.Bytes.{Each, Byte, number, bytes, run, overlay}
+use Rattle.octets.specs.TableTests.{firstFailing}
+use Rattle.octets.proofs.Conditions.{cond-by}
+use Rattle.octets.proofs.Numbers.{length-bytes, number-bytes, bytes-each}
+use Rattle.octets.proofs.Overlay.{length-run, length-overlay, overlay-each, overlay-inside, overlay-before, overlay-after}
+use Rattle.octets.proofs.SameBytes.{stored-long}
 use Rattle.supervisor.specs.Layout
+use Rattle.supervisor.specs.Valid.{validOutbox}
 use Rattle.supervisor.specs.Local
 use Rattle.supervisor.specs.Calls
 use Rattle.supervisor.proofs.ValidLaws.{OutboxValid, outbox-valid, valid-outbox}
 use Rattle.supervisor_claims.specs.ByPart.{Part}
 use Rattle.supervisor_claims.specs.View.{pendingOf, view}
-use Rattle.supervisor_claims.specs.Sound.{Valid, withOutbox}
+use Rattle.supervisor_claims.specs.Sound.{Valid, Sound, withOutbox}
+use Rattle.supervisor_claims.specs.LocalCalls
+use Rattle.supervisor_claims.specs.Histories
+use Rattle.supervisor_claims.specs.Histories.{did, meant}
+use Rattle.supervisor_claims.specs.Demand1.{Meets, partsFitCall}
+use Rattle.supervisor_claims.proofs.Sound.{sound-with}
+use Rattle.supervisor_claims.proofs.calls.RowLaws.{RowLaws, unrefused, KeepsPart, last-test}
 use Rattle.supervisor_claims.proofs.Meant.{valid-with}
 use Rattle.supervisor_claims.proofs.laws.ViewLaws.{take-min, drop-run, drop-taken}
 
@@ -143,3 +153,48 @@ module _ (p : Calls.Parts) (v : Valid p) where
         rw (left .pending, left .terminator-owed, drop-taken (length room) (pendingOf o)),
         valid-with p Part.outbox _ v (valid-outbox _ (left .valid)),
       )
+
+-- ---- its row
+
+module _ (p : Calls.Parts) (s : Sound p) where
+  taken-keeps : (bs o : List ℕ) → Layout.outbox-length ≤ length o → Each Byte o → KeepsPart o (Calls.outboxAfterTake bs o)
+  unfolding Calls.outboxAfterTake
+  taken-keeps [] o h b = (b, refl)
+  taken-keeps (x ∷ bs) o h b =
+      let n = Layout.outboxFrom o + length (x ∷ bs) in
+      let last = Calls.lastNonZeroFlag (x ∷ bs) in
+      let on = overlay Layout.outbox-from-offset (bytes 2 n) o in
+      let long : length on ≡ length o = stored-long 2 Layout.outbox-from-offset n o (omega arith) in
+      let flag : last < 256 = cond-by Byte (eqb (getD (x ∷ bs) (length (x ∷ bs) - 1) 0) 0) 0 1 (λ e. omega arith) (λ e. omega arith) in (
+        overlay-each Byte Layout.outbox-terminator-owed-offset (last ∷ []) on (flag, tt)
+            (overlay-each Byte Layout.outbox-from-offset _ o (bytes-each 2 n) b),
+        length-overlay Layout.outbox-terminator-owed-offset (last ∷ []) on (omega arith) ∙ long,
+      )
+
+  take-keeps : (room : List ℕ) → KeepsPart (p .outbox) (Calls.takePromise (p .outbox) room .outbox)
+  unfolding Calls.takePromise
+  take-keeps room =
+      rw (s .valid .outbox)
+      (taken-keeps (Calls.takeableBytes (p .outbox) room) (p .outbox) (outbox-valid (p .outbox) (s .valid .outbox) .long)
+      (s .bytes .outbox))
+
+  take-meets : (room : List ℕ)
+      → Meets p (did p (Histories.local (Histories.take room))) (meant (view p) (Histories.local (Histories.take room)))
+  unfolding did meant
+  take-meets room =
+      let t = take-meant p (s .valid) room in
+      let k = take-keeps room in
+      let w = sound-with p Part.outbox _ s (t .3 .outbox) (k .0) (k .1) in
+      record { answer = ap LocalCalls.takeAnswer (t .0); out = t .1; leaves = (t .2, w .0, w .1) }
+
+pub take-laws : (room : List ℕ) → RowLaws (Histories.take room)
+unfolding did meant partsFitCall firstFailing Calls.takePromise Local.taken Local.afterTake
+take-laws room = record {
+  by-taken = λ p. refl;
+  of-change = (refl, (room, refl));
+  meets = λ p s t. take-meets p s room;
+  refuses = λ p e. rw (last-test (validOutbox (p .outbox)) e);
+  tested = λ p e. rw (last-test (validOutbox (p .outbox)) e) (unrefused _ tt, tt);
+  keeps-rest = λ s. refl;
+  alike = λ t z e. refl;
+}

@@ -8,8 +8,7 @@ use mathlib.Core.List.{List, [], _∷_, _++_, append-assoc, append-nil}
 use mathlib.Core.Option.{Option, none, some}
 use Prim.Native.Nat.{ℕ}
 use native.Mathlib.Omega.{arith}
-use lib.Dec.{ltb, eqb}
-use lib.ListN.{length}
+use lib.Dec.{eqb}
 use borrow.Author.Tests.{eqb-true}
 use Rattle.octets.specs.Bytes.{Each, Byte}
 use Rattle.octets.proofs.Conditions.{cond-by}
@@ -17,30 +16,29 @@ use Rattle.octets.proofs.Each.{each-append}
 use Rattle.line.specs.Message.{Message}
 use Rattle.line.specs.Frame.{split, nonEmpty, closedBehind}
 use Rattle.line.proofs.Pieces.{split-close, nonEmpty-append}
-use Rattle.supervisor.specs.Limits
-use Rattle.supervisor.specs.State.{Factory, Recorded, Retained, State, fresh}
-use Rattle.supervisor.specs.Local
+use Rattle.supervisor.specs.State.{Factory, Retained, State, fresh}
 use Rattle.supervisor.specs.Calls.{Parts}
-use Rattle.supervisor.specs.declared.registers.Kind.{Kind}
-use Rattle.saving.specs.Saving
 use Rattle.responder.specs.Commands.{commandNumber, withNumber, commandOfNumber}
 use Rattle.responder.specs.Requests
 use Rattle.responder.specs.Requests.{Verdict, failure, good, Carried, verdict, effect, carryOut, afterVerdict, sent, receiveStream, owed}
 use Rattle.responder.specs.Requests.{replyOf, replyFrame, oldest}
 use Rattle.supervisor_claims.specs.View.{factoryOf, view}
 use Rattle.supervisor_claims.specs.Sound.{Bytes}
+use Rattle.supervisor_claims.specs.LocalCalls.{Change, localRow}
 use Rattle.supervisor_claims.specs.Histories
-use Rattle.supervisor_claims.specs.Histories.{LocalCall, Typed, done, doneMeans, recordMeans, restoreMeans, meant}
+use Rattle.supervisor_claims.specs.Histories.{Typed, done, Means, meant}
 use Rattle.supervisor_claims.specs.Histories.{Lent, Made, enough, meantMade, made, leftMeant, AllTyped, reached, startWith}
 use Rattle.supervisor_claims.specs.Histories.{receiveWith}
 use Rattle.supervisor_claims.specs.FrameHistory.{pieceRead, isAcceptedStart, bytesReceivedBy, startsAnew, receivedSince}
 use Rattle.supervisor_claims.specs.FrameHistory.{receivedSinceAll, framesClosedBy, frameCarried, framesCarried, carriedOut}
 use Rattle.supervisor_claims.specs.LastSet.{requestAhead, requestsIn, requestsOf}
-use Rattle.supervisor_claims.specs.Alerts.{retains, retainsAfter, retainsAll, Drops, NoAlert, alertMessage, alertReply, CallKeeps}
+use Rattle.supervisor_claims.specs.Alerts.{retains, retainsAfter, retainsAll, Drops, NoAlert, alertMessage, alertReply, addedBy}
 use Rattle.supervisor_claims.specs.Alerts.{NoStarts}
 use Rattle.supervisor_claims.specs.Item1.{LocalKeeps, FailedKeeps, RequestRetains, RetainedExactly, FreshAlertAnswered}
 use Rattle.supervisor_claims.specs.Item1.{FreshAfterReboot}
 use Rattle.supervisor_claims.proofs.laws.CallsKeep.{calls-keep}
+use Rattle.supervisor_claims.proofs.calls.RowLaws.{stateBy}
+use Rattle.supervisor_claims.proofs.calls.LocalLaws.{row-laws}
 use Rattle.supervisor_claims.proofs.claims.History.{history, one-call}
 use Rattle.supervisor_claims.proofs.claims.FramesClaim.{stream-carried, stream-closes, by-frames}
 use Rattle.supervisor_claims.proofs.claims.LastSetLaws.{requests-append, requests-behind, frames-owed}
@@ -49,39 +47,21 @@ use Rattle.supervisor_claims.proofs.claims.RetainedClaim.{retained-stay
 
 -- ---- a local call
 
-module _ (s : State) where
-  abbrev DoneKeeps : LocalCall → Local.Done → Type 0
-  DoneKeeps c x = CallKeeps s c (doneMeans s x)
-
-  same : (s .retained ≡ s .retained) × (s .waiting ≡ s .waiting ++ [])
-  same = (refl, rw append-nil)
-
-  record-keeps : (k : Kind) (x : Option Recorded) → CallKeeps s (Histories.readRecord k) (recordMeans s x)
-  record-keeps k none = same
-  record-keeps k (some x) = same
-
-  restore-keeps : (image : List ℕ) (r : Saving.ImageRead) → CallKeeps s (Histories.restore image) (restoreMeans s (Saving.restoreRead s r))
-  restore-keeps image (Saving.fault n at) = same
-  restore-keeps image (Saving.good es) = same
-
 pub local-keeps : LocalKeeps
-unfolding meant Local.afterTake Local.post Local.withPosted Local.setOptions Saving.restore
-local-keeps s (Histories.take room) = same s
-local-keeps s (Histories.post action text) =
-    let c = Histories.post action text in
-    cond-by (DoneKeeps s c) (eqb action 0) _ _ (λ e. same s) (λ e.
-    cond-by (DoneKeeps s c) (ltb Limits.longest-alert (length text)) _ _ (λ f. same s) (λ f.
-    cond-by (DoneKeeps s c) (ltb (length (s .waiting)) Limits.most-alerts) _ _ (λ g. (refl, refl)) (λ g. same s)))
-local-keeps s (Histories.setOptions options) =
-    cond-by (DoneKeeps s (Histories.setOptions options)) (Local.optionsAllowed options) _ _ (λ e. same s) (λ e. same s)
-local-keeps s (Histories.lookup key most) = same s
-local-keeps s (Histories.edition key) = same s
-local-keeps s Histories.signal = same s
-local-keeps s Histories.flags = same s
-local-keeps s (Histories.readRecord k) = record-keeps s k (Histories.recordKept s k)
-local-keeps s (Histories.save room) =
-    cond-by (CallKeeps s (Histories.save room)) (ltb (length room) (length (Saving.saved (s .settings)))) _ _ (λ e. same s) (λ e. same s)
-local-keeps s (Histories.restore image) = restore-keeps s image (Saving.readImage image)
+local-keeps s c =
+    let e = row-laws c .keeps-rest s in
+    let k = by (localRow c .change) in
+    (ap (λ (t : State). t .retained) e ∙ k .0, ap (λ (t : State). t .waiting) e ∙ k .1)
+  where
+    m : Means
+    m = meant s (Histories.local c)
+
+    by : (x : Change) → let t = stateBy x (m .answer) s (m .state) in
+        (t .retained ≡ s .retained) × (t .waiting ≡ s .waiting ++ addedBy x (m .answer))
+    by Change.nothing = (refl, rw append-nil)
+    by Change.outbox = (refl, rw append-nil)
+    by (Change.registers added) = (refl, refl)
+    by (Change.settings image) = (refl, rw append-nil)
 
 pub failed-keeps : FailedKeeps
 unfolding frameCarried afterVerdict sent

@@ -1,37 +1,40 @@
 -- Lists of calls: what each answers, writes and leaves is document 01's, whatever is lent; refusals; the cut law; step.
 -- Assumes nothing.
 use mathlib.Core.Path.{_≡_, refl, sym, ap, subst, _∙_}
-use mathlib.Core.Bool.{Bool, true, false}
+use mathlib.Core.Bool.{Bool, true, false, false≢true, not, _||_}
 use mathlib.Core.List.{List, [], _∷_, _++_}
 use Prim.Native.Nat.{ℕ, zero, suc, _+_, _-_, _≤_}
 use native.Mathlib.Omega.{arith}
 use lib.Dec.{eqb}
 use lib.ListN.{length, take, drop, take-append-drop, length-drop}
+use borrow.Author.Tests.{le-leb}
 use Rattle.octets.specs.Bytes.{Byte}
 use Rattle.octets.proofs.Conditions.{cond-by}
 use Rattle.octets.proofs.Each.{each-take, each-drop}
-use Rattle.supervisor.specs.State.{State, fresh}
+use Rattle.supervisor.specs.State.{fresh}
 use Rattle.supervisor.specs.Local
 use Rattle.supervisor.specs.Calls
 use Rattle.supervisor.specs.Calls.{Parts}
 use Rattle.responder.specs.Receive
+use Rattle.supervisor_claims.specs.ByPart.{Part, part, validPart}
 use Rattle.supervisor_claims.specs.View.{factoryOf, view}
 use Rattle.supervisor_claims.specs.Sound.{Bytes, Sound, Leaves}
 use Rattle.supervisor_claims.specs.Histories
-use Rattle.supervisor_claims.specs.Histories.{Call, Typed, refused, done, Did, did, doneMeans, meant, upTo}
+use Rattle.supervisor_claims.specs.Histories.{Call, Typed, refused, done, Did, did, meant, upTo}
 use Rattle.supervisor_claims.specs.Histories.{Lent, lentOf, takesPart, enough, Made, made, meantMade, outputs, left, outputsMeant}
 use Rattle.supervisor_claims.specs.Histories.{leftMeant, AllTyped}
 use Rattle.supervisor_claims.specs.Histories.{startWith}
-use Rattle.supervisor_claims.specs.Demand1.{partsFitCall, Meets, OneCall, RefusedMade, FaultMade, Never12, No12}
+use Rattle.supervisor_claims.specs.Demand1.{partAsked, partsFitCall, Meets, OneCall, RefusedMade, FaultMade, Never12, No12}
 use Rattle.supervisor_claims.specs.Demand2.{Follows, stepCalls, History, Cut, StepReceives, StepThenReceive, StepsReceive}
+use Rattle.supervisor_claims.proofs.ByPart.{every, of, every-true, part-long}
 use Rattle.supervisor_claims.proofs.Sound.{lengths-same, lengths-then, valid-long}
 use Rattle.supervisor_claims.proofs.laws.Locality.{widened, lent-bytes, lent-sound, lent-view, back-lent, back-leaves}
-use Rattle.supervisor_claims.proofs.laws.Progress.{local-stays}
 use Rattle.supervisor_claims.proofs.calls.StartClaim.{start-refused}
 use Rattle.supervisor_claims.proofs.calls.ReceiveClaim.{fed-leaves}
 use Rattle.supervisor_claims.proofs.calls.StepClaim.{step-fed}
 use Rattle.supervisor_claims.proofs.calls.CallClaims.{start-leaves, call-meets}
-use Rattle.supervisor_claims.proofs.claims.Refusals.{refused-12, refused-holds, fault-holds, WhereRefused, Not12}
+use Rattle.supervisor_claims.proofs.claims.Refusals.{refused-12, refused-holds, fault-holds, refused-exactly}
+use Rattle.supervisor_claims.proofs.calls.RowLaws.{WhereRefused}
 use Rattle.supervisor_claims.proofs.claims.LentCalls.{parts-valid, valid-parts, made-12, widened-enough, widened-same}
 
 -- ---- refusals change nothing
@@ -47,20 +50,6 @@ unfolding made
 fault-made p m n at e =
     let h = fault-holds (lentOf (m .lent) p) (m .call) n at e in
     (rw (h .0) (back-lent (m .lent) p), h .1)
-
--- ---- 12 only where too little is lent
-
-meant-12 : (s : State) (c : Call) → Not12 (meant s c .answer)
-unfolding meant Local.start
-meant-12 s (Histories.start d) =
-    cond-by (λ x. Not12 (doneMeans s x .answer)) (Local.badStart (factoryOf d)) _ _ (λ e f. omega (arith, f)) (λ e. tt)
-meant-12 s (Histories.receive image piece) = tt
-meant-12 s (Histories.step image piece) = tt
-meant-12 s (Histories.local c) = local-stays s c .1
-
-pub never-12 : (s : State) (m : Made) → enough (m .call) (m .lent) ≡ true → meantMade s m .answer ≡ refused 12 → ⊥
-unfolding meantMade
-never-12 s m e f = let h : meant s (m .call) .answer ≡ refused 12 = rw e at f in (rw h at (meant-12 s (m .call))) refl
 
 -- ---- one call
 
@@ -85,9 +74,29 @@ one-call p m s typed =
     (λ e. enough-meets p m s typed e)
     (λ e. rw (made-12 p m e) (record { answer = refl; out = refl; leaves = (refl, s, lengths-same) }))
 
--- sound parts never earn 12
+-- sound parts are as every call asks, so that they never earn 12
+sound-asked : (c : Call) (i : Part) (s : List ℕ) → validPart i s ≡ true → partAsked c i s ≡ true
+sound-asked (Histories.start d) i s v = le-leb _ _ (part-long i s v)
+sound-asked (Histories.receive image piece) i s v = v
+sound-asked (Histories.step image piece) i s v = v
+sound-asked (Histories.local c) i s v = v
+
+sound-fits : (q : Parts) (c : Call) → Sound q → partsFitCall q c ≡ true
+unfolding partsFitCall
+sound-fits q c s = every-true _ (every (λ i. by i (takesPart c i)))
+  where
+    by : (i : Part) (t : Bool) → (not t || partAsked c i (part q i)) ≡ true
+    by i true = sound-asked c i (part q i) (of (s .valid) i)
+    by i false = refl
+
 pub earns-no-12 : (p : Parts) → Sound p → Never12 p
-earns-no-12 p s m typed e h = never-12 (view p) m e (sym (one-call p m s typed .answer) ∙ h)
+unfolding made
+earns-no-12 p s m typed e h =
+    let n = widened (takesPart (m .call)) (m .lent) p in
+    let w = widened-enough (m .lent) p (valid-long {p = p} (s .valid)) (m .call) e in
+    let k : did (lentOf n p) (m .call) .answer ≡ refused 12 =
+    ap (λ (x : Did). x .answer) (sym (widened-same p (m .call) (m .lent))) ∙ h in
+    false≢true (sym (refused-exactly (lentOf n p) (m .call) .0 k) ∙ sound-fits (lentOf n p) (m .call) (lent-sound n p w s))
 
 -- ---- a list of calls, on sound parts
 

@@ -32,18 +32,21 @@ use Rattle.responder.specs.Commands.{Command, commandNumber, withNumber, comman
 use Rattle.responder.specs.Requests
 use Rattle.responder.proofs.CommandLaws.{number-is}
 use Rattle.supervisor_claims.specs.View.{factoryOf}
+use Rattle.supervisor_claims.specs.LocalCalls.{Change, localRow}
 use Rattle.supervisor_claims.specs.Histories
 use Rattle.supervisor_claims.specs.Histories.{LocalCall, Call, Typed, refused, Made, means, doneMeans, meant, enough, untouched}
 use Rattle.supervisor_claims.specs.Histories.{AllTyped}
 use Rattle.supervisor_claims.specs.FrameHistory.{pieceRead, isAcceptedStart, receivedSince, framesClosedBy, frameCarried}
 use Rattle.supervisor_claims.specs.FrameHistory.{framesCarried, carriedOut, carriedCall, carriedMade, leftByFrames}
 use Rattle.supervisor_claims.specs.LastSet.{requestAhead, requestsIn, requestsOf, valueFor, setBy, listedIf, setsOf, successful}
-use Rattle.supervisor_claims.specs.LastSet.{lastOr, setAfter, recordsOf, recordsRestored, Origin, sinceStart, sinceRestore, sinceMore}
-use Rattle.supervisor_claims.specs.LastSet.{sinceCall, sinceMade, sinceAll}
+use Rattle.supervisor_claims.specs.LastSet.{lastOr, setAfter, recordsOf, recordsBy, recordsRestored, Origin, sinceStart, sinceRestore}
+use Rattle.supervisor_claims.specs.LastSet.{sinceMore, sinceCall, sinceMade, sinceAll}
 use Rattle.supervisor_claims.specs.LastSet.{Has}
 use Rattle.supervisor_claims.specs.Demand2.{SetSuccessful, SuccessfulExactly}
 use Rattle.supervisor_claims.specs.Item11.{ReplacedOther}
-use Rattle.supervisor_claims.proofs.laws.Progress.{settingsBy, local-settings}
+use Rattle.supervisor_claims.proofs.calls.RowLaws.{settingsBy, OfChange}
+use Rattle.supervisor_claims.proofs.calls.LocalLaws.{row-laws}
+use Rattle.supervisor_claims.proofs.laws.Progress.{local-settings}
 use Rattle.supervisor_claims.proofs.claims.InOrder.{judged-is}
 
 -- ---- requests one after the other
@@ -450,16 +453,13 @@ module _ (k : ℕ) (P : Setting → Type 0) (at-start : P unset)
   local-keeps : (x : Origin) → P (x .setting) → (c : LocalCall) → Typed (Histories.local c)
       → P (sinceRestore k x (recordsRestored c) .setting)
   unfolding recordsRestored
-  local-keeps x h (Histories.take room) t = h
-  local-keeps x h (Histories.post action text) t = h
-  local-keeps x h (Histories.setOptions options) t = h
-  local-keeps x h (Histories.lookup key most) t = h
-  local-keeps x h (Histories.edition key) t = h
-  local-keeps x h Histories.signal t = h
-  local-keeps x h Histories.flags t = h
-  local-keeps x h (Histories.readRecord r) t = h
-  local-keeps x h (Histories.save room) t = h
-  local-keeps x h (Histories.restore image) t = read-keeps x h image t (Saving.readImage image) refl
+  local-keeps x h c t = by (localRow c .change) (row-laws c .of-change)
+    where
+      by : (y : Change) → OfChange c y → P (sinceRestore k x (recordsBy y) .setting)
+      by Change.nothing o = h
+      by Change.outbox o = h
+      by (Change.registers added) o = h
+      by (Change.settings image) o = read-keeps x h image (o .1 t) (Saving.readImage image) refl
 
   call-keeps : (w : List ℕ) (x : Origin) → P (x .setting) → (c : Call) → Typed c → P (sinceCall k w x c .setting)
   unfolding sinceCall

@@ -27,6 +27,7 @@ use Rattle.saving_claims.proofs.Item11.{saved-read, saved-restores-into, image-
 use Rattle.responder.specs.Requests.{wrongValueLength}
 use Rattle.supervisor_claims.specs.View.{settingOf, settingsOf, view}
 use Rattle.supervisor_claims.specs.Sound.{Bytes}
+use Rattle.supervisor_claims.specs.LocalCalls
 use Rattle.supervisor_claims.specs.Histories
 use Rattle.supervisor_claims.specs.Histories.{Typed, Answer, Did, means, done, Lent, Made, enough, meant, meantMade, made, AllTyped}
 use Rattle.supervisor_claims.specs.Histories.{reached, startWith}
@@ -36,7 +37,7 @@ use Rattle.supervisor_claims.specs.Demand1.{Meets}
 use Rattle.supervisor_claims.specs.Item11.{SavableKey, KeySavable, savedImageOf, SaveWrites, SavedRestores, AcceptedExact}
 use Rattle.supervisor_claims.proofs.laws.ViewLaws.{length-listed}
 use Rattle.supervisor_claims.proofs.laws.SavingLaws.{image-bytes}
-use Rattle.supervisor_claims.proofs.claims.Refusals.{WhereRefused}
+use Rattle.supervisor_claims.proofs.calls.RowLaws.{WhereRefused}
 use Rattle.supervisor_claims.proofs.claims.History.{history, one-call}
 use Rattle.supervisor_claims.proofs.claims.LastSetLaws.{onto, onto-low, afterSets, since-keeps, read-low, since-low}
 use Rattle.supervisor_claims.proofs.claims.WithdrawnKeys.{setting-then}
@@ -183,7 +184,7 @@ accepted-exact q sound j image i h =
 
     by : (t : Bool) (r : Saving.ImageRead) → readImage image ≡ r
         → Meets q after
-        (cond t (Histories.restoreMeans (view q) (Saving.restoreRead (view q) r)) (means (Histories.refused 12) [] (view q)))
+        (cond t (LocalCalls.restoreMeans (view q) (Saving.restoreRead (view q) r)) (means (Histories.refused 12) [] (view q)))
         → image ≡ savedImageOf (after .parts)
     by false r e m = absurd (undone (Histories.refused 12) (m .answer))
     by true (Saving.fault n at) e m = absurd (undone (Histories.faulty n at) (m .answer))

@@ -10,8 +10,8 @@ use Prim.Native.Nat.{ℕ, zero, suc, _+_, _-_, _≤_}
 use native.Mathlib.Nat.{add-zero}
 use native.Mathlib.Omega.{arith}
 use lib.Dec.{ltb, eqb}
-use lib.ListN.{length, take, drop, getD, set, length-append}
-use lib.Seq.{take-set-le, drop-drop, getD-set-other, set-set, set-comm}
+use lib.ListN.{length, take, drop, set, length-append}
+use lib.Seq.{drop-drop, set-set, set-comm}
 use borrow.Author.Tests.{ltb-false, eqb-true, eqb-false, ne-eqb, not-false}
 use Rattle.octets.specs.Bytes.{number, numberAt}
 use Rattle.octets.proofs.Conditions.{cond-by, cond-both}
@@ -22,11 +22,10 @@ use Rattle.line.specs.Frame.{nonEmpty, closedBehind}
 use Rattle.supervisor.specs.Layout
 use Rattle.supervisor.specs.Limits
 use Rattle.supervisor.specs.Limits.{SettingsKey}
-use Rattle.supervisor.specs.State.{Setting, unset, Settings, Recorded, Retained, State, setting, withSetting, withSettings, withReceived}
+use Rattle.supervisor.specs.State.{Setting, unset, Settings, Retained, State, setting, withSetting, withSettings, withReceived}
 use Rattle.supervisor.specs.State.{fresh}
 use Rattle.supervisor.specs.Local
-use Rattle.supervisor.specs.declared.registers.Kind.the-variants as kind
-use Rattle.supervisor.proofs.OffsetLaws.{offset-within, Lies, setting-lies, settings-key}
+use Rattle.supervisor.proofs.OffsetLaws.{offset-within, Lies, setting-lies}
 use Rattle.supervisor.specs.Valid.{SettingsValid}
 use Rattle.saving.specs.Saving
 use Rattle.responder.specs.Commands.{Command, commandNumber, commandOfNumber}
@@ -36,19 +35,20 @@ use Rattle.responder.specs.Requests.{storeValue, afterVerdict, sent}
 use Rattle.responder.proofs.CommandLaws.{number-is}
 use Rattle.supervisor_claims.specs.View.{factoryOf, settingOf, settingsOf}
 use Rattle.supervisor_claims.specs.Histories
-use Rattle.supervisor_claims.specs.Histories.{LocalCall, Call, Means, doneMeans, recordMeans, restoreMeans, meant, Made, enough}
+use Rattle.supervisor_claims.specs.Histories.{LocalCall, Call, Means, doneMeans, meant, Made, enough}
 use Rattle.supervisor_claims.specs.FrameHistory.{pieceRead, isAcceptedStart, bytesReceivedBy, startsAnew, framesClosedBy}
 use Rattle.supervisor_claims.specs.FrameHistory.{frameCarried, framesCarried, carriedOut, carriedCall, carriedMade}
-use Rattle.supervisor_claims.specs.LastSet.{requestAhead, requestsIn, valueFor, setBy, listedIf, setsOf}
+use Rattle.supervisor_claims.specs.LastSet.{requestAhead, requestsIn, valueFor, setBy, listedIf, setsOf, recordsRestored}
 use Rattle.supervisor_claims.proofs.laws.ViewLaws.{length-listed, listed-set}
 use Rattle.supervisor_claims.proofs.laws.SettingLaws.{setting-is, setting-same}
+use Rattle.supervisor_claims.proofs.laws.AlikeLaws.{Alike, other-setting, lookup-same}
+use Rattle.supervisor_claims.proofs.laws.Progress.{local-settings}
+use Rattle.supervisor_claims.proofs.calls.RowLaws.{settingsBy}
+use Rattle.supervisor_claims.proofs.calls.LocalLaws.{row-laws}
 use Rattle.supervisor_claims.proofs.claims.LastSetLaws.{replaced-long, replaced-other, onto, afterSets, request-append, sets-append}
 use Rattle.supervisor_claims.proofs.claims.LastSetLaws.{judged-has}
 
 -- ---- settings and states that differ only in the passphrase's setting
-
-abbrev pub Alike : Settings → Settings → Type 0
-Alike z y = withSetting z Limits.passphrase-key unset ≡ withSetting y Limits.passphrase-key unset
 
 pub record Like (s t : State) : Type 0 where
   pub rest : s ≡ withSettings t (s .settings)
@@ -72,39 +72,6 @@ room-less h r = record { long = r .long; low = omega arith }
 
 pair-less : {m n : ℕ} {s t : State} → m ≤ n → Pair n s t → Pair m s t
 pair-less h p = record { like = p .like; left = room-less h (p .left); right = room-less h (p .right) }
-
--- ---- keys that are looked up
-
-module _ (z y : Settings) (e : Alike z y) where
-  other-setting : (key : ℕ) → Limits.first-setting ≤ key → (key ≡ Limits.passphrase-key → ⊥) → setting z key ≡ setting y key
-  other-setting key h n =
-      let i = Limits.passphrase-key - Limits.first-setting in
-      let j = key - Limits.first-setting in
-      let o : j ≡ i → ⊥ = λ m. n (omega (arith, m)) in
-      sym (getD-set-other z i j unset unset o) ∙ ap (λ (l : Settings). getD l j unset) e ∙ getD-set-other y i j unset unset o
-
-module _ (t : State) (z : Settings) (e : Alike z (t .settings)) where
-  entry-same : (key : ℕ) → key ≤ Limits.highest-key → (key ≡ Limits.passphrase-key → ⊥)
-      → Local.entryOf (withSettings t z) key ≡ Local.entryOf t key
-  unfolding Local.entryOf
-  entry-same key h n =
-      cond-both _≡_ (eqb key 0) (λ _. refl) (λ i.
-      cond-both _≡_ (eqb key 1) (λ _. refl) (λ j.
-      cond-both _≡_ (eqb key 2) (λ _. refl) (λ k. other-setting z (t .settings) e key (settings-key key i j k h .lower) n)))
-
-  pub lookup-same : (key most : ℕ) → Local.lookup (withSettings t z) key most ≡ Local.lookup t key most
-  unfolding Local.lookup
-  lookup-same key most =
-      cond-both _≡_ (ltb Limits.highest-key key) (λ _. refl) (λ h.
-      cond-both _≡_ (eqb key Limits.passphrase-key) (λ _. refl) (λ n.
-      ap (λ (x : Setting). Local.fitted most (x .edition) (x .value)) (entry-same key (ltb-false _ _ h) (eqb-false _ _ n))))
-
-  pub edition-same : (key : ℕ) → Local.edition (withSettings t z) key ≡ Local.edition t key
-  unfolding Local.edition
-  edition-same key =
-      cond-both _≡_ (ltb Limits.highest-key key) (λ _. refl) (λ h.
-      cond-both _≡_ (eqb key Limits.passphrase-key) (λ _. refl) (λ n.
-      ap Local.editionOf (entry-same key (ltb-false _ _ h) (eqb-false _ _ n))))
 
 -- ---- keys that are set
 
@@ -291,14 +258,6 @@ module _ (image : List ℕ) where
 
 -- ---- saving and restoring: the passphrase is not among the saved settings
 
-saved-same : (z y : Settings) → Alike z y → Saving.saved z ≡ Saving.saved y
-unfolding Saving.saved
-saved-same z y e =
-    let i = Limits.passphrase-key - Limits.first-setting in
-    ap (Saving.imageFrom Limits.first-setting)
-    (sym (take-set-le Saving.saved-count z i unset (omega arith)) ∙ ap (take Saving.saved-count) e
-    ∙ take-set-le Saving.saved-count y i unset (omega arith))
-
 module _ (es : List Saving.SavedEntry) where
   -- what is replaced lies before it
   replaced-set : (n : ℕ) → n ≤ Saving.saved-count → (z : Settings)
@@ -330,53 +289,31 @@ pub record Same (n : ℕ) (a b : Means) : Type 0 where
   pub out : a .out ≡ b .out
   pub pair : Pair n (a .state) (b .state)
 
+-- settings after a restore, where there is one
+settings-alike : (o : Option (List Saving.SavedEntry)) (z y : Settings) → Alike z y → Alike (settingsBy o z) (settingsBy o y)
+settings-alike none z y e = e
+settings-alike (some es) z y e = restored-alike es z y e
+
+settings-room : (o : Option (List Saving.SavedEntry)) (n : ℕ) (z : Settings) → Room n z → Room n (settingsBy o z)
+settings-room none n z r = r
+settings-room (some es) n z r = restored-room es n z r
+
 -- a local call
 module _ (n : ℕ) (t : State) (z : Settings) (e : Alike z (t .settings)) (left : Room n z) (right : Room n (t .settings)) where
-  -- the settings are as before
-  unset-same : {a : Histories.Answer} {bs : List ℕ} {u : State} → Alike z (u .settings) → Room n (u .settings)
-      → Same n (Histories.means a bs (withSettings u z)) (Histories.means a bs u)
-  unset-same f r =
-      record { answer = refl; out = refl; pair = record { like = record { rest = refl; settings = f }; left = left; right = r } }
-
-  abbrev DoneSame : Local.Done → Local.Done → Type 0
-  DoneSame x y = Same n (doneMeans (withSettings t z) x) (doneMeans t y)
-
-  record-same : (x : Option Recorded) → Same n (recordMeans (withSettings t z) x) (recordMeans t x)
-  record-same none = unset-same e right
-  record-same (some x) = unset-same e right
-
-  restore-same : (r : Saving.ImageRead)
-      → Same n (restoreMeans (withSettings t z) (Saving.restoreRead (withSettings t z) r)) (restoreMeans t (Saving.restoreRead t r))
-  restore-same (Saving.fault k at) = unset-same e right
-  restore-same (Saving.good es) = record {
-    answer = refl;
-    out = refl;
-    pair = record {
-      like = record { rest = refl; settings = restored-alike es z (t .settings) e };
-      left = restored-room es n z left;
-      right = restored-room es n (t .settings) right;
-    };
-  }
-
   local-by : (c : LocalCall) → Same n (meant (withSettings t z) (Histories.local c)) (meant t (Histories.local c))
-  unfolding meant Local.taken Local.afterTake Local.post Local.withPosted Local.setOptions Local.asserted Saving.restore
-  local-by (Histories.take room) = unset-same e right
-  local-by (Histories.post action text) =
-      cond-both DoneSame (eqb action 0) (λ f. unset-same e right) (λ f.
-      cond-both DoneSame (ltb Limits.longest-alert (length text)) (λ g. unset-same e right) (λ g.
-      cond-both DoneSame (ltb (length (t .waiting)) Limits.most-alerts) (λ h. unset-same e right) (λ h. unset-same e right)))
-  local-by (Histories.setOptions options) =
-      cond-both DoneSame (Local.optionsAllowed options) (λ f. unset-same e right) (λ f. unset-same e right)
-  local-by (Histories.lookup key most) = rw (lookup-same t z e key most) (unset-same e right)
-  local-by (Histories.edition key) = rw (edition-same t z e key) (unset-same e right)
-  local-by Histories.signal = unset-same e right
-  local-by Histories.flags = unset-same e right
-  local-by (Histories.readRecord kind.BootFailure) = record-same (t .boot-failure)
-  local-by (Histories.readRecord kind.Panic) = record-same (t .panic)
-  local-by (Histories.save room) =
-      rw (saved-same z (t .settings) e)
-      (cond-both (Same n) (ltb (length room) (length (Saving.saved (t .settings)))) (λ f. unset-same e right) (λ f. unset-same e right))
-  local-by (Histories.restore image) = restore-same (Saving.readImage image)
+  unfolding recordsRestored
+  local-by c =
+      let o = recordsRestored c in
+      rw (row-laws c .alike t z e)
+      (record {
+        answer = refl;
+        out = refl;
+        pair = record {
+          like = record { rest = refl; settings = rw (local-settings t c) (settings-alike o z (t .settings) e) };
+          left = settings-room o n z left;
+          right = rw (local-settings t c) (settings-room o n (t .settings) right);
+        };
+      })
 
 local-same : (c : LocalCall) (n : ℕ) (s t : State) → Pair n s t → Same n (meant s (Histories.local c)) (meant t (Histories.local c))
 local-same c n s t p =

@@ -4,102 +4,52 @@
 use mathlib.Core.Path.{_≡_, refl, ap, _∙_}
 use mathlib.Core.Bool.{Bool, true, false, cond, not}
 use mathlib.Core.List.{List, [], _∷_, _++_, append-nil}
-use mathlib.Core.Option.{Option, none, some}
 use Prim.Native.Nat.{ℕ, zero, suc, _≤_}
 use native.Mathlib.Omega.{arith}
-use lib.Dec.{ltb, eqb}
-use lib.ListN.{length}
 use lib.ListN as ListN
 use Rattle.octets.specs.Bytes.{Each}
-use Rattle.octets.proofs.Conditions.{cond-by}
 use Rattle.line.specs.Frame.{split, aheadOfPieces}
 use Rattle.line.proofs.Pieces.{split-join}
-use Rattle.supervisor.specs.Limits
-use Rattle.supervisor.specs.State.{Settings, Recorded, State, fresh}
+use Rattle.supervisor.specs.State.{State, fresh}
 use Rattle.supervisor.specs.Local
-use Rattle.saving.specs.Saving
-use Rattle.saving.specs.Saving.{SavedEntry}
 use Rattle.responder.specs.Requests.{receiveStream}
 use Rattle.supervisor_claims.specs.View.{factoryOf}
+use Rattle.supervisor_claims.specs.LocalCalls.{Change, localRow}
 use Rattle.supervisor_claims.specs.Histories
-use Rattle.supervisor_claims.specs.Histories.{LocalCall, Call, Means, doneMeans, recordMeans, restoreMeans, meant, upTo}
+use Rattle.supervisor_claims.specs.Histories.{LocalCall, Call, Means, doneMeans, meant, upTo}
 use Rattle.supervisor_claims.specs.FrameHistory.{isAcceptedStart, pieceRead, progressOf}
-use Rattle.supervisor_claims.specs.LastSet.{recordsOf, recordsRestored}
-use Rattle.supervisor_claims.proofs.laws.SavingLaws.{Faults, read-faults}
-use Rattle.supervisor_claims.proofs.claims.Refusals.{Not12}
+use Rattle.supervisor_claims.specs.LastSet.{recordsBy, recordsRestored}
+use Rattle.supervisor_claims.proofs.calls.RowLaws.{settingsBy, stateBy}
+use Rattle.supervisor_claims.proofs.calls.LocalLaws.{row-laws}
 use Rattle.supervisor_claims.proofs.claims.InOrder.{in-order-behind}
 
 -- ---- a local call
 
--- the settings after a restore of these records, where there are any
-abbrev pub settingsBy : Option (List SavedEntry) → Settings → Settings
-settingsBy none z = z
-settingsBy (some es) z = Saving.restoredSettings es z
+module _ (s : State) (c : LocalCall) where
+  abbrev local-meant : Means
+  local-meant = meant s (Histories.local c)
 
-module _ (s : State) where
-  abbrev Stays : Means → Type 0
-  Stays m = (m .state .received ≡ s .received) × Not12 (m .answer)
+  -- it leaves the receive progress as it is
+  pub local-stays : local-meant .state .received ≡ s .received
+  local-stays = ap (λ (t : State). t .received) (row-laws c .keeps-rest s) ∙ by (localRow c .change)
+    where
+      by : (x : Change) → stateBy x (local-meant .answer) s (local-meant .state) .received ≡ s .received
+      by Change.nothing = refl
+      by Change.outbox = refl
+      by (Change.registers added) = refl
+      by (Change.settings image) = refl
 
-  abbrev DoneStays : Local.Done → Type 0
-  DoneStays x = Stays (doneMeans s x)
-
-  record-stays : (x : Option Recorded) → Stays (recordMeans s x)
-  record-stays none = (refl, tt)
-  record-stays (some x) = (refl, tt)
-
-  restore-stays : (r : Saving.ImageRead) → Faults r → Stays (restoreMeans s (Saving.restoreRead s r))
-  restore-stays (Saving.fault n at) h = (refl, λ e. omega (arith, h, e))
-  restore-stays (Saving.good es) h = (refl, tt)
-
-  abbrev DoneSame : Local.Done → Type 0
-  DoneSame x = doneMeans s x .state .settings ≡ s .settings
-
-  record-same : (x : Option Recorded) → recordMeans s x .state .settings ≡ s .settings
-  record-same none = refl
-  record-same (some x) = refl
-
-  restore-same : (r : Saving.ImageRead) → restoreMeans s (Saving.restoreRead s r) .state .settings ≡ settingsBy (recordsOf r) (s .settings)
-  restore-same (Saving.fault n at) = refl
-  restore-same (Saving.good es) = refl
-
-  -- it leaves the receive progress as it is, and is not refused as 12
-  pub local-stays : (c : LocalCall) → let m = meant s (Histories.local c) in
-      (m .state .received ≡ s .received) × Not12 (m .answer)
-  unfolding meant Local.afterTake Local.post Local.withPosted Local.setOptions Saving.restore
-  local-stays (Histories.take room) = (refl, tt)
-  local-stays (Histories.post action text) =
-      cond-by DoneStays (eqb action 0) _ _ (λ e. (refl, λ n. omega (arith, n))) (λ e.
-      cond-by DoneStays (ltb Limits.longest-alert (length text)) _ _ (λ f. (refl, λ n. omega (arith, n))) (λ f.
-      cond-by DoneStays (ltb (length (s .waiting)) Limits.most-alerts) _ _ (λ g. (refl, tt)) (λ g. (refl, λ n. omega (arith, n)))))
-  local-stays (Histories.setOptions options) =
-      cond-by DoneStays (Local.optionsAllowed options) _ _ (λ e. (refl, tt)) (λ e. (refl, λ n. omega (arith, n)))
-  local-stays (Histories.lookup key most) = (refl, tt)
-  local-stays (Histories.edition key) = (refl, tt)
-  local-stays Histories.signal = (refl, tt)
-  local-stays Histories.flags = (refl, tt)
-  local-stays (Histories.readRecord k) = record-stays (Histories.recordKept s k)
-  local-stays (Histories.save room) =
-      cond-by Stays (ltb (length room) (length (Saving.saved (s .settings)))) _ _ (λ e. (refl, λ n. omega (arith, n))) (λ e. (refl, tt))
-  local-stays (Histories.restore image) = restore-stays (Saving.readImage image) (read-faults image)
-
-  -- the settings, by what a call restores
-  pub local-settings : (c : LocalCall) → meant s (Histories.local c) .state .settings ≡ settingsBy (recordsRestored c) (s .settings)
-  unfolding meant Local.afterTake Local.post Local.withPosted Local.setOptions Saving.restore recordsRestored
-  local-settings (Histories.take room) = refl
-  local-settings (Histories.post action text) =
-      cond-by DoneSame (eqb action 0) _ _ (λ e. refl) (λ e.
-      cond-by DoneSame (ltb Limits.longest-alert (length text)) _ _ (λ f. refl) (λ f.
-      cond-by DoneSame (ltb (length (s .waiting)) Limits.most-alerts) _ _ (λ g. refl) (λ g. refl)))
-  local-settings (Histories.setOptions options) = cond-by DoneSame (Local.optionsAllowed options) _ _ (λ e. refl) (λ e. refl)
-  local-settings (Histories.lookup key most) = refl
-  local-settings (Histories.edition key) = refl
-  local-settings Histories.signal = refl
-  local-settings Histories.flags = refl
-  local-settings (Histories.readRecord k) = record-same (Histories.recordKept s k)
-  local-settings (Histories.save room) =
-      cond-by (λ (m : Means). m .state .settings ≡ s .settings) (ltb (length room) (length (Saving.saved (s .settings)))) _ _ (λ e. refl)
-      (λ e. refl)
-  local-settings (Histories.restore image) = restore-same (Saving.readImage image)
+  -- the settings, by what it restores
+  pub local-settings : local-meant .state .settings ≡ settingsBy (recordsRestored c) (s .settings)
+  unfolding recordsRestored
+  local-settings = ap (λ (t : State). t .settings) (row-laws c .keeps-rest s) ∙ by (localRow c .change)
+    where
+      by : (x : Change)
+          → stateBy x (local-meant .answer) s (local-meant .state) .settings ≡ settingsBy (recordsBy x) (s .settings)
+      by Change.nothing = refl
+      by Change.outbox = refl
+      by (Change.registers added) = refl
+      by (Change.settings image) = refl
 
 -- ---- the bytes since the last 00
 
@@ -147,4 +97,4 @@ module _ (w : List ℕ) (s : State) (h : Since (split w .rest) s) where
       by false = record { received = refl; nonzero = tt }
   called (Histories.receive image piece) = streamed image piece
   called (Histories.step image piece) = streamed image (ListN.take (upTo piece) piece)
-  called (Histories.local c) = unread (local-stays s c .0)
+  called (Histories.local c) = unread (local-stays s c)
