@@ -732,8 +732,6 @@ def editions():
         for other in KEYS:
             c.ask(0x10, bytes([other]) + b'the other').edition(other)
         yield c.local().start(FULL).ask(0x10, data).local()
-        c = Case(f'the last edition of key {key} without a value', Start()).store_edition(key, LAST_EDITION).mark().ask_both(0x10, data).ask_both(0x10, past).stores_same()
-        yield c.ask_both(0x0e, bytes([key]) + b'\xff\xff').local()
         c = Case(f'key {key}: each byte of the edition', Start()).ask(0x10, data)
         for edition in (0xff, 0xffff, 0xffffff, 0x01020304, 0xfffffffe):
             c.store_edition(key, edition).ask(0x10, data).edition(key).ask(0x0e, bytes([key]) + b'\xff\xff', version=2)
@@ -763,9 +761,6 @@ def passphrase():
     for size in (0, 7, 8, 63, 64):
         c.ask_both(0x10, key + nonzero(size))
     yield c.stores_same().local()
-    for size in (0, 8, 63):
-        c = Case(f'a stored length of {size} without a passphrase', FULL).store('settings', SETTINGS[PASSPHRASE] + SETTING_LENGTH, two(size), False)
-        yield asked(c).ask(0x10, key + nonzero(9)).local()
     image = record(3, 1, b'a') + record(4, 2, b'b') + record(5, 3, b'c')
     c = Case('images leave the passphrase alone', FULL).ask(0x10, key + nonzero(20)).restore(image + b'KE').save().mark()
     c.restore(image + record(PASSPHRASE, 4, nonzero(8)) + b'KE').restore(record(PASSPHRASE, 4, nonzero(8)) + b'KE')
@@ -824,9 +819,9 @@ def saving():
     for n in (PUBLISHED['settings'] - 1, 0):
         c.lend('settings', n).save().restore(image).restore(b'')
     yield c.same().lend('settings', PUBLISHED['settings']).save().restore(image).save()
-    # a setting without a value whose bytes hold an edition, a length and a value
-    c = Case('no value, but an edition', Start()).store_edition(4, 9).store('settings', SETTINGS[4] + SETTING_LENGTH, little(2, 2), False)
-    yield c.save().edition(4).ask(0x10, b'\4v').edition(4).restore(b'KE').edition(4).ask(0x10, b'\4v').edition(4)
+    # a restore takes a value away, and its edition and length with it
+    c = Case('a value taken away', Start()).ask(0x10, b'\4v').ask(0x10, b'\4w').edition(4).restore(b'KE').edition(4).save()
+    yield c.ask(0x10, b'\4v').edition(4).save()
 
 
 def inventory():
@@ -1046,9 +1041,12 @@ def fields():
     for key, at in SETTINGS.items():
         shortest = SHORTEST.get(key, 0)
         yield 'settings', f'key {key} flag', [('settings', at + SETTING_LENGTH, two(shortest))], at, [b'\2', b'\xff'], [b'\1']
-        yield 'settings', f'key {key} edition', [], at + SETTING_EDITION, [], [little(n, 4) for n in (1, LAST_EDITION - 1, LAST_EDITION)]
+        editions = [little(n, 4) for n in (1, 256, 65536, 1 << 24, LAST_EDITION - 1, LAST_EDITION)]
         long, right = [two(KEYS[key] + 1), two(65535)], [two(shortest), two(KEYS[key])]
-        yield 'settings', f'key {key} length', [], at + SETTING_LENGTH, [two(n) for n in range(1, shortest, 6)] + long, [two(0)] + right
+        value = [('settings', at, b'\1'), ('settings', at + SETTING_LENGTH, two(shortest))]
+        yield 'settings', f'key {key} edition', [], at + SETTING_EDITION, editions, [little(0, 4)]
+        yield 'settings', f'key {key} edition of a value', value, at + SETTING_EDITION, [], editions + [little(0, 4)]
+        yield 'settings', f'key {key} length', [], at + SETTING_LENGTH, [two(1), two(7), two(256)] + long + [two(KEYS[key])], [two(0)]
         yield 'settings', f'key {key} length of a value', [('settings', at, b'\1')], at + SETTING_LENGTH, [two(n) for n in (0, 1, 7) if n < shortest] + long, right
     yield 'registers', 'status', [], 0, [little(4, 8), little(256, 8), little(TOP + 1, 8)], [little(3, 8)]
     yield 'registers', 'options', [], 8, [little(512, 8), little(65536, 8), little(TOP, 8)], [little(511, 8)]

@@ -353,15 +353,15 @@ impl World {
         Ok(())
     }
 
-    /// Every part gets random bytes, with allowed values in its fields and some editions at their end.
+    /// Every part gets random bytes, with allowed values in its fields; some values are at their last edition.
     fn scatter(&mut self) {
         for part in LINE..=REGISTERS {
             self.parts[part] = self.random.bytes(LENGTHS[part] + TAIL);
             self.settle(part);
         }
         for (place, _) in state::KEYS {
-            if self.random.percent(40) {
-                let edition = self.random.pick(&[0, model::LAST_EDITION - 1, model::LAST_EDITION]);
+            if self.parts[SETTINGS][place] == 1 && self.random.percent(80) {
+                let edition = self.random.pick(&[0, model::LAST_EDITION - 1, model::LAST_EDITION, model::LAST_EDITION]);
                 state::put(&mut self.parts[SETTINGS], place + state::EDITION_OFFSET, 4, u64::from(edition));
             }
         }

@@ -2,7 +2,8 @@
 // Assumes docs/STATE.md alone.
 
 use crate::model::{
-    broken, Alert, Factory, Fault, Item, Outbox, Reader, Record, Registers, Retained, Setting, Settings, LONGEST, MOST_ITEMS, SHORTEST_PASSPHRASE,
+    broken, Alert, Factory, Fault, Item, Outbox, Reader, Record, Registers, Retained, Setting, Settings, LAST_EDITION, LONGEST, MOST_ITEMS,
+    SHORTEST_PASSPHRASE,
 };
 
 /// The parts: a line reader's of its own, then the supervisor's five.
@@ -107,17 +108,27 @@ fn start_fields(bytes: &[u8]) -> Vec<Field> {
     fields
 }
 
-/// The length of key 6's value: 8 to 63, and 0 only where none is held.
-fn passphrase_length(held: bool) -> Allowed {
-    let lower = SHORTEST_PASSPHRASE - usize::from(broken(Fault::PassphraseOf7Held));
-    let upper = LONGEST[3] + usize::from(broken(Fault::PassphraseOf64Held));
-    if held && !broken(Fault::PassphraseEmptyHeld) {
-        Allowed::Between(lower as u64, upper as u64)
-    } else if !held && broken(Fault::PassphraseNotHeld) {
-        Allowed::UpTo(0)
-    } else {
-        Allowed::ZeroOr(lower as u64, upper as u64)
+/// The lengths that a held value of a settings key may have, by the key's index.
+fn value_lengths(index: usize) -> Allowed {
+    if index < 3 {
+        return Allowed::UpTo(LONGEST[index] as u64);
     }
+    let lower = (SHORTEST_PASSPHRASE - usize::from(broken(Fault::PassphraseOf7Held))) as u64;
+    let upper = (LONGEST[index] + usize::from(broken(Fault::PassphraseOf64Held))) as u64;
+    if broken(Fault::PassphraseEmptyHeld) { Allowed::ZeroOr(lower, upper) } else { Allowed::Between(lower, upper) }
+}
+
+/// A setting: a flag, and where no value is held edition and length are 0.
+fn setting_fields(index: usize, bytes: &[u8]) -> [Field; 3] {
+    let (place, _) = KEYS[index];
+    let held = bytes[place] == 1;
+    let edition = if held || broken(Fault::EditionNotHeld) { u64::from(LAST_EDITION) } else { 0 };
+    let length = if held || broken(Fault::LengthNotHeld) { value_lengths(index) } else { Allowed::UpTo(0) };
+    [
+        Field { place, width: 1, allowed: Allowed::UpTo(1) },
+        Field { place: place + EDITION_OFFSET, width: 4, allowed: Allowed::UpTo(edition) },
+        Field { place: place + VALUE_LENGTH_OFFSET, width: 2, allowed: length },
+    ]
 }
 
 /// The fields of a part that 12 tests; the bytes have at least the published length.
@@ -133,13 +144,7 @@ pub fn fields(part: usize, bytes: &[u8]) -> Vec<Field> {
             fields.push(Field { place: PONG_OFFSET, width: 4, allowed: Allowed::OneOf(&[0x676e_6f70]) });
             fields
         }
-        SETTINGS => {
-            let [lengths @ .., (passphrase, _)] = KEYS;
-            let mut fields: Vec<Field> = lengths.iter().flat_map(|&(place, most)| [flag(place), up_to(place + VALUE_LENGTH_OFFSET, 2, most as u64)]).collect();
-            fields.push(flag(passphrase));
-            fields.push(Field { place: passphrase + VALUE_LENGTH_OFFSET, width: 2, allowed: passphrase_length(bytes[passphrase] == 1) });
-            fields
-        }
+        SETTINGS => (0..KEYS.len()).flat_map(|index| setting_fields(index, bytes)).collect(),
         _ => {
             let mut fields = vec![
                 up_to(0, 8, 3),

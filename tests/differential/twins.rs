@@ -49,17 +49,18 @@ impl Twins {
         Twins { random: Random(seed ^ 0x7777), worlds, models, calls: 0, said: 0, lent: 0, planted: 0, asked: 0, stored: 0 }
     }
 
-    /// Each twin gets a setting of key 6 of its own: held or not, of any length, value and bytes past it, its edition far from the end.
+    /// Each twin gets a setting of key 6 of its own: held, of any length and edition far from the end, or not; any bytes stand past it.
     fn plant(&mut self) {
         for world in &mut self.worlds {
             let random = &mut self.random;
             let setting = &mut world.parts[SETTINGS][PASSPHRASE_OFFSET..LENGTHS[SETTINGS]];
             random.fill(setting);
             let (held, longest) = (random.percent(60), model::LONGEST[3]);
-            let length = if held || random.percent(50) { SHORTEST_PASSPHRASE + random.below(longest - SHORTEST_PASSPHRASE + 1) } else { 0 };
+            let length = SHORTEST_PASSPHRASE + random.below(longest - SHORTEST_PASSPHRASE + 1);
+            let edition = random.next() % u64::from(LAST_EDITION / 2);
             state::put(setting, 0, 1, u64::from(held));
-            state::put(setting, state::EDITION_OFFSET, 4, random.next() % u64::from(LAST_EDITION / 2));
-            state::put(setting, state::VALUE_LENGTH_OFFSET, 2, length as u64);
+            state::put(setting, state::EDITION_OFFSET, 4, if held { edition } else { 0 });
+            state::put(setting, state::VALUE_LENGTH_OFFSET, 2, if held { length as u64 } else { 0 });
             world.supervisor.settings = state::settings(&world.parts[SETTINGS]);
         }
         self.planted += 1;

@@ -16,7 +16,7 @@ use std::fmt;
 pub const TAIL: usize = 24;
 const GUARD: usize = 16;
 /// The fields of docs/STATE.md with forbidden values: 1 in a line reader's part (two of them), 3, 37, 8 and 28 in the others.
-pub const FIELDS: usize = 2 + 3 + (3 + 2 * model::MOST_ITEMS + 2) + 2 * model::LONGEST.len() + 28;
+pub const FIELDS: usize = 2 + 3 + (3 + 2 * model::MOST_ITEMS + 2) + 3 * model::LONGEST.len() + 28;
 
 /// Both sides: the library's lent parts, and the model.
 pub struct World {

@@ -1,7 +1,7 @@
 -- What a request does keeps the outbox, the settings and the registers valid.
 -- Assumes nothing.
 use mathlib.Core.Path.{_≡_, refl, ap, _∙_}
-use mathlib.Core.Logic.{inl, inr, ⊎-map}
+use mathlib.Core.Logic.{inl, inr}
 use mathlib.Core.Bool.{Bool, true, false, cond, _||_, and-eq-true-iff}
 use mathlib.Core.List.{List, [], _∷_, _++_}
 use mathlib.Core.Option.{Option, none, some}
@@ -26,7 +26,7 @@ use Rattle.supervisor.specs.Valid.{validOutbox, validFactory, validSettings, va
 use Rattle.supervisor.specs.Calls.{resultNumber, lookupResultPromise, editionNumber, editionPromise}
 use Rattle.supervisor.proofs.KeyLaws.{value-short}
 use Rattle.supervisor.proofs.OffsetLaws.{offset-within, longest-short, Lies, setting-lies}
-use Rattle.supervisor.proofs.ValidLaws.{all-each, each-all, outbox-valid, valid-outbox, settings-valid, valid-settings}
+use Rattle.supervisor.proofs.ValidLaws.{all-each, each-all, outbox-valid, valid-outbox, setting-kept, settings-valid, valid-settings}
 use Rattle.supervisor.specs.Valid.{SettingValid, SettingsValid}
 use Rattle.supervisor.proofs.ValidLaws.{alert-valid, valid-alert, RecordValid, RegistersValid, registers-valid}
 use Rattle.supervisor.proofs.KeptRegisters.{FlagsValid, FailureValid, PanicValid, groups-valid, numbers-kept, flags-kept, failure-kept}
@@ -411,14 +411,6 @@ module _ (s v : List ℕ) (at : ℕ) (room : at + (Layout.setting-value-offset +
       (omega (arith, length-setting next v))
       ∙ take-length v
 
--- what stands before its value is the same
-pub setting-kept : {s t : List ℕ} {at shortest longest : ℕ} → Same at (at + Layout.setting-value-offset) s t
-    → SettingValid s at shortest longest → SettingValid t at shortest longest
-setting-kept {at = at} same g =
-    let held = number-same same 1 at (omega arith) in
-    let size = number-same same 2 (at + Layout.setting-length-offset) (omega arith) in
-    record { held = omega arith; size = omega arith; short = ⊎-map (λ l. omega arith) (λ n. omega arith) (g .short) }
-
 module _ (s v : List ℕ) (w : SettingsValid s) (key : ℕ) (h : Limits.SettingsKey key) (short : length v ≤ Limits.longest-setting key) where
   abbrev here : ℕ
   here = Layout.setting-offset key
@@ -436,7 +428,7 @@ module _ (s v : List ℕ) (w : SettingsValid s) (key : ℕ) (h : Limits.Settings
     setting-left j (inr (inl e)) g =
         let held = setting-held s v here value-room in
         let size = setting-size s v here value-room value-small in
-        rw e (record { held = omega arith; size = omega arith; short = inl (omega arith) })
+        rw e (record { size = omega arith; held = inl (omega arith, omega arith) })
     setting-left j (inr (inr l)) g = setting-kept (setting-after s v here value-room (omega arith)) g
 
     settings-left : validSettings (Receive.withValue s here v) ≡ true

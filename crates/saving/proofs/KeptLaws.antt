@@ -1,7 +1,7 @@
 -- Restoring keeps the settings valid, their length, and that they are bytes.
 -- Assumes nothing.
 use mathlib.Core.Path.{_≡_, refl, ap, _∙_}
-use mathlib.Core.Logic.{inl, inr, ⊎-map}
+use mathlib.Core.Logic.{_⊎_, inl, inr, ⊎-map}
 use mathlib.Core.Bool.{true}
 use mathlib.Core.List.{List, [], _∷_}
 use Prim.Native.Nat.{ℕ, zero, suc, _+_, _-_, _≤_, _<_}
@@ -13,12 +13,12 @@ use Rattle.octets.proofs.Conditions.{cond-by}
 use Rattle.octets.proofs.Each.{each-append, each-run}
 use Rattle.octets.proofs.Numbers.{bytes-each}
 use Rattle.octets.proofs.Overlay.{length-run, length-overlay, overlay-part, overlay-each}
-use Rattle.octets.proofs.SameBytes.{Same, same-before, same-after, number-same}
+use Rattle.octets.proofs.SameBytes.{same-before, same-after}
 use Rattle.supervisor.specs.Limits.{first-setting, SettingsKey, longest-setting, shortest-settings, shortest-setting}
-use Rattle.supervisor.specs.Layout.{setting-offset, setting-length-offset, setting-value-offset, settingBytes}
+use Rattle.supervisor.specs.Layout.{setting-offset, setting-edition-offset, setting-length-offset, setting-value-offset, settingBytes}
 use Rattle.supervisor.specs.Valid.{validSettings}
 use Rattle.supervisor.proofs.OffsetLaws.{offset-within, longest-short, Lies, setting-lies}
-use Rattle.supervisor.proofs.ValidLaws.{settings-valid, valid-settings}
+use Rattle.supervisor.proofs.ValidLaws.{setting-kept, settings-valid, valid-settings}
 use Rattle.supervisor.specs.Valid.{SettingValid, SettingsValid}
 use Rattle.saving.specs.Saving.{highest-saved, saved-count, savedLengthAt, savedEntryAt, SavedEntry, ImageRead, fault, good}
 use Rattle.saving.specs.Saving.{readImage}
@@ -52,26 +52,26 @@ module _ (s xs : List ℕ) (key : ℕ) (w : SettingsValid s) (k : SettingsKey ke
   pub put-long : length (overlay here xs s) ≡ length s
   put-long = length-overlay here xs s put-room
 
-  other-kept : {at shortest longest : ℕ} → Same at (at + setting-value-offset) s (overlay here xs s) → SettingValid s at shortest longest
-      → SettingValid (overlay here xs s) at shortest longest
-  other-kept {at} same v =
-      let held = number-same same 1 at (omega arith) in
-      let size = number-same same 2 (at + setting-length-offset) (omega arith) in
-      record { held = omega arith; size = omega arith; short = ⊎-map (λ l. omega arith) (λ n. omega arith) (v .short) }
-
-  module _ (saved : key ≤ highest-saved) (held : numberAt 1 xs 0 ≤ 1)
-      (size : numberAt 2 xs setting-length-offset ≤ longest-setting key) where
+  -- they hold a value, or none
+  module _ (saved : key ≤ highest-saved) (size : numberAt 2 xs setting-length-offset ≤ longest-setting key)
+      (held : (numberAt 1 xs 0 ≡ 1)
+      ⊎ ((numberAt 1 xs 0 ≡ 0) × (numberAt 2 xs setting-length-offset ≡ 0) × (numberAt 4 xs setting-edition-offset ≡ 0))) where
     this-valid : SettingValid (overlay here xs s) here (shortest-setting key) (longest-setting key)
     this-valid =
         let a = ap number (rw add-zero at (overlay-part here 0 1 xs s (omega (arith, put-room)) (omega arith))) in
         let b = ap number (overlay-part here setting-length-offset 2 xs s (omega (arith, put-room)) (omega arith)) in
-        record { held = omega (arith, a); size = omega (arith, b); short = inl (omega (arith, saved-shortest key saved)) }
+        let c = ap number (overlay-part here setting-edition-offset 4 xs s (omega (arith, put-room)) (omega arith)) in
+        record {
+          size = omega (arith, b);
+          held =
+              ⊎-map (λ h. (a ∙ h, omega (arith, saved-shortest key saved))) (λ h. (a ∙ h .0, b ∙ h .1, c ∙ h .2)) held;
+        }
 
     each-valid : (j : ℕ) → Lies j key → SettingValid s (setting-offset j) (shortest-setting j) (longest-setting j)
         → SettingValid (overlay here xs s) (setting-offset j) (shortest-setting j) (longest-setting j)
-    each-valid j (inl l) v = other-kept (same-before here xs s (omega (arith, put-room)) (omega arith)) v
+    each-valid j (inl l) v = setting-kept (same-before here xs s (omega (arith, put-room)) (omega arith)) v
     each-valid j (inr (inl e)) v = rw e this-valid
-    each-valid j (inr (inr l)) v = other-kept (same-after here xs s (omega (arith, put-room)) (omega arith)) v
+    each-valid j (inr (inr l)) v = setting-kept (same-after here xs s (omega (arith, put-room)) (omega arith)) v
 
     pub put-valid : SettingsValid (overlay here xs s)
     put-valid = record { long = omega (arith, put-long, w .long); each = λ j i. each-valid j (setting-lies j key i k) (w .each j i) }
@@ -86,7 +86,8 @@ module _ (s : List ℕ) (w : SettingsValid s) where
       let v = cleared-valid n (omega arith) in
       let zeros : List ℕ = replicate setting-value-offset 0 in
       let k = saved-key n (omega arith) in (
-        put-valid (cleared n s) zeros (first-setting + n) (v .0) k (omega arith) (omega arith) (omega arith) (omega arith) (omega arith),
+        put-valid (cleared n s) zeros (first-setting + n) (v .0) k (omega arith) (omega arith) (omega arith) (omega arith)
+            (inr (refl, refl, refl)),
         put-long (cleared n s) zeros (first-setting + n) (v .0) k (omega arith) (omega arith) ∙ v .1,
       )
 
@@ -121,8 +122,8 @@ module _ (e : SavedEntry) (a : Allowed e) (s : List ℕ) (w : SettingsValid s) w
   unfolding number bytes
   entry-valid =
       let l = length-setting (e .edition) (e .value) in
-      put-valid s xs (e .key) w (a .its-key) (omega arith) (omega (arith, a .short)) (a .saved) (omega arith)
-      (omega (arith, a .short, longest-short (e .key)))
+      put-valid s xs (e .key) w (a .its-key) (omega arith) (omega (arith, a .short)) (a .saved)
+      (omega (arith, a .short, longest-short (e .key))) (inl refl)
 
   entry-long : length (putEntry e s) ≡ length s
   entry-long =

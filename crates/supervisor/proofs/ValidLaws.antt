@@ -13,6 +13,7 @@ use borrow.Author.Count.{below-none, below-more}
 use borrow.Author.Tests.{leb-true, le-leb, eqb-true, eq-eqb, not-true, not-false}
 use Rattle.octets.specs.Bytes.{numberAt, run}
 use Rattle.octets.proofs.Equal.{equal-true, equal-refl}
+use Rattle.octets.proofs.SameBytes.{Same, number-same}
 use Rattle.supervisor.specs.Limits
 use Rattle.supervisor.specs.Local.{resultAllowed, bsuAllowed, optionsAllowed, pong}
 use Rattle.supervisor.specs.Layout
@@ -181,24 +182,48 @@ pub setting-valid : (s : List ℕ) (at shortest longest : ℕ) → Valid.validSe
 unfolding Valid.validSetting
 setting-valid s at shortest longest e =
     let a = le-and _ _ _ e in
-    let b = le-and _ _ _ (a .1) in
     record {
-      held = a .0;
-      size = b .0;
-      short = ⊎-map (leb-true _ _) (λ t. let z = both _ _ t in (eqb-true _ _ (z .0), eqb-true _ _ (z .1))) (either _ _ (b .1));
+      size = a .0;
+      held =
+          ⊎-map (λ t. let b = both _ _ t in (eqb-true _ _ (b .0), leb-true _ _ (b .1)))
+          (λ t.
+          let b = both _ _ t in
+          let c = both _ _ (b .1) in
+          (eqb-true _ _ (b .0), eqb-true _ _ (c .0), eqb-true _ _ (c .1)))
+          (either _ _ (a .1));
     }
 
 pub valid-setting : (s : List ℕ) (at shortest longest : ℕ) → SettingValid s at shortest longest
     → Valid.validSetting s at shortest longest ≡ true
 unfolding Valid.validSetting
 valid-setting s at shortest longest v =
-    and-le _ _ _ (v .held)
-    (and-le _ _ _ (v .size) (or _ _ (⊎-map (le-leb _ _) (λ z. and _ _ (eq-eqb _ _ (z .0)) (eq-eqb _ _ (z .1))) (v .short))))
+    and-le _ _ _ (v .size)
+    (or _ _
+    (⊎-map (λ f. and _ _ (eq-eqb _ _ (f .0)) (le-leb _ _ (f .1)))
+    (λ f. and _ _ (eq-eqb _ _ (f .0)) (and _ _ (eq-eqb _ _ (f .1)) (eq-eqb _ _ (f .2))))
+    (v .held)))
 
--- where the length is below the shortest no value is held
-pub none-held : (s : List ℕ) (at shortest longest : ℕ) → Valid.validSetting s at shortest longest ≡ true
-    → Layout.settingLength s at < shortest → (Layout.settingLength s at ≡ 0) × (Layout.settingHeld s at ≡ 0)
-none-held s at shortest longest e h = ⊎-elim (λ l. absurd (omega arith)) (λ z. z) (setting-valid s at shortest longest e .short)
+module _ {s : List ℕ} {at shortest longest : ℕ} (v : SettingValid s at shortest longest) where
+  pub held-flag : Layout.settingHeld s at ≤ 1
+  held-flag = ⊎-elim (λ f. omega (arith, f .0)) (λ f. omega (arith, f .0)) (v .held)
+
+  pub value-long : Layout.settingHeld s at ≡ 1 → shortest ≤ Layout.settingLength s at
+  value-long h = ⊎-elim (λ f. f .1) (λ f. absurd (omega (arith, f .0))) (v .held)
+
+  pub none-held : Layout.settingHeld s at ≡ 0 → (Layout.settingLength s at ≡ 0) × (Layout.settingEdition s at ≡ 0)
+  none-held h = ⊎-elim (λ f. absurd (omega (arith, f .0))) (λ f. (f .1, f .2)) (v .held)
+
+-- what stands before its value is the same
+pub setting-kept : {s t : List ℕ} {at shortest longest : ℕ} → Same at (at + Layout.setting-value-offset) s t
+    → SettingValid s at shortest longest → SettingValid t at shortest longest
+setting-kept {at = at} same g =
+    let held = number-same same 1 at (omega arith) in
+    let edition = number-same same 4 (at + Layout.setting-edition-offset) (omega arith) in
+    let size = number-same same 2 (at + Layout.setting-length-offset) (omega arith) in
+    record {
+      size = omega (arith, g .size);
+      held = ⊎-map (λ f. (omega (arith, f .0), omega (arith, f .1))) (λ f. (held ∙ f .0, size ∙ f .1, edition ∙ f .2)) (g .held);
+    }
 
 pub settings-valid : (s : List ℕ) → Valid.validSettings s ≡ true → SettingsValid s
 unfolding Valid.validSettings

@@ -52,12 +52,12 @@ validFactory f =
     && (eqb (numberAt 4 f Layout.inventory-version-offset) 0
     && equal (run Layout.pong-offset 4 f) pong))
 
--- a length below the shortest is 0, and no value is held
+-- a value is held, as long as its key allows; or none is, and its length and its edition are 0
 unfoldable pub validSetting : List ℕ → ℕ → ℕ → ℕ → Bool
 validSetting s at shortest longest =
-    leb (Layout.settingHeld s at) 1
-    && (leb (Layout.settingLength s at) longest
-    && (leb shortest (Layout.settingLength s at) || (eqb (Layout.settingLength s at) 0 && eqb (Layout.settingHeld s at) 0)))
+    leb (Layout.settingLength s at) longest
+    && ((eqb (Layout.settingHeld s at) 1 && leb shortest (Layout.settingLength s at))
+    || (eqb (Layout.settingHeld s at) 0 && (eqb (Layout.settingLength s at) 0 && eqb (Layout.settingEdition s at) 0)))
 
 -- of a key
 abbrev pub validValue : List ℕ → ℕ → Bool
@@ -110,9 +110,9 @@ validRegisters r =
 
 -- what validSetting tests, as facts
 pub record SettingValid (s : List ℕ) (at shortest longest : ℕ) : Type 0 where
-  pub held : Layout.settingHeld s at ≤ 1
   pub size : Layout.settingLength s at ≤ longest
-  pub short : (shortest ≤ Layout.settingLength s at) ⊎ ((Layout.settingLength s at ≡ 0) × (Layout.settingHeld s at ≡ 0))
+  pub held : ((Layout.settingHeld s at ≡ 1) × (shortest ≤ Layout.settingLength s at))
+      ⊎ ((Layout.settingHeld s at ≡ 0) × (Layout.settingLength s at ≡ 0) × (Layout.settingEdition s at ≡ 0))
 
 -- what validSettings tests, as facts
 pub record SettingsValid (s : List ℕ) : Type 0 where

@@ -97,26 +97,26 @@ pub fn factory_is_valid(factory: &[u8]) -> bool
     )
 }
 
-// A length below the shortest is 0, and no value is held.
+// A value is held, as long as its key allows; or none is, and its length and its edition are 0.
 fn setting_is_valid(settings: &[u8], at: usize, shortest: usize, longest: usize) -> bool
     requires { ⌜ at < 65536 ⌝ }
     ensures { λ r. ⌜ r ≡ validSetting (now (settings .entry)) at shortest longest ⌝ }
 {
-    let held = octets::byte_at(settings, at);
-    if 1 < held {
-        return false;
-    }
     let n = octets::word_at(settings, at + layout::SETTING_LENGTH_OFFSET);
     if longest < n {
         return false;
     }
-    if shortest <= n {
-        return true;
+    let held = octets::byte_at(settings, at);
+    if held == 1 {
+        return shortest <= n;
+    }
+    if held != 0 {
+        return false;
     }
     if n != 0 {
         return false;
     }
-    held == 0
+    octets::read_u32(settings, at + layout::SETTING_EDITION_OFFSET) == 0
 }
 
 pub fn settings_are_valid(settings: &[u8]) -> bool

@@ -64,8 +64,9 @@ module _ (s : List ℕ) (z : Clear 0 Layout.settings-length s) where
       setting-clear : (at least most : ℕ) → at + Layout.setting-value-offset ≤ Layout.settings-length → SettingValid s at least most
       setting-clear at least most h =
           let held = z 1 at (omega arith) (omega arith) in
+          let edition = z 4 (at + Layout.setting-edition-offset) (omega arith) (omega arith) in
           let size = z 2 (at + Layout.setting-length-offset) (omega arith) (omega arith) in
-          record { held = omega arith; size = omega arith; short = inr (size, held) }
+          record { size = omega arith; held = inr (held, size, edition) }
 
 none-allowed : Local.optionsAllowed 0 ≡ true
 unfolding Local.optionsAllowed Local.highest

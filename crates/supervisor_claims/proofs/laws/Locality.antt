@@ -26,11 +26,10 @@ use Rattle.supervisor.specs.Valid.{validOutbox, validFactory, validSettings, va
 use Rattle.supervisor.specs.Calls.{Parts}
 use Rattle.supervisor.proofs.ValidLaws.{OutboxValid, FactoryValid, RegistersValid}
 use Rattle.supervisor.proofs.ValidLaws.{outbox-valid, valid-outbox, factory-valid, valid-factory, settings-valid, valid-settings}
-use Rattle.supervisor.proofs.ValidLaws.{registers-valid}
+use Rattle.supervisor.proofs.ValidLaws.{registers-valid, setting-kept}
 use Rattle.supervisor.proofs.ValidLaws.{start-good, good-start}
 use Rattle.supervisor.proofs.KeptRegisters.{groups-valid, numbers-kept, flags-kept, failure-kept, panic-kept, waiting-kept, retained-kept}
 use Rattle.supervisor.proofs.OffsetLaws.{offset-within}
-use Rattle.responder.proofs.KeptLaws.{setting-kept}
 use Rattle.supervisor_claims.specs.ByPart.{Part, published, part, Every}
 use Rattle.supervisor_claims.specs.View.{factoryOf, settingsOf, pendingOf, view}
 use Rattle.supervisor_claims.specs.Sound.{Valid, Bytes, Sound, Lengths, Leaves}

@@ -1,11 +1,11 @@
 -- `valid::setting_is_valid` meets its contract.
 -- Assumes nothing.
-use mathlib.Core.Path.{sym}
 use mathlib.Core.Logic.{inl, inr}
 use native.Mathlib.Omega.{arith}
 use borrow.Author.Needs.{needs}
+use lib.Dec.{eqb}
 use borrow.Author.Tests.{eqb-true, eq-eqb}
-use Rattle.supervisor.proofs.ValidLaws.{untrue, alike, setting-valid, valid-setting, none-held}
+use Rattle.supervisor.proofs.ValidLaws.{untrue, alike, le-alike, setting-valid, valid-setting, held-flag, value-long, none-held}
 use Rattle.supervisor.proofs.valid.setting_is_valid.Statement.{statement}
 use Rattle.supervisor.proofs.valid.setting_is_valid.Tie as tie
 
@@ -13,14 +13,20 @@ pub setting-is-valid-spec : {M : Type 1} → statement M
 setting-is-valid-spec =
     tie.close
     (tie.spec
-    (λ c κs. search needs) (λ c. untrue _ (λ e. omega (arith, setting-valid _ _ _ _ e))) (λ c. search needs) (λ c κs. search needs)
-    (λ c. untrue _ (λ e. omega (arith, setting-valid _ _ _ _ e)))
-    (λ c. sym (valid-setting _ _ _ _ (record { held = search needs; size = search needs; short = inl (search needs) })))
-    (λ c. untrue _ (λ e. omega (arith, none-held _ _ _ _ e (search needs))))
+    (λ c. search needs) (λ c κs. search needs) (λ c. untrue _ (λ e. omega (arith, setting-valid _ _ _ _ e .size))) (λ c κs. search needs)
     (λ c.
-    let held = c .before .before .before .before .before .byte-at in
-    alike _ _
+    let read = c .before .before .before in
+    let shortest = read .before .before .args .shortest in
+    let n = read .word-at .result in
+    le-alike shortest n _ (λ l. valid-setting _ _ _ _ (record { size = search needs; held = inl (search needs, search needs) }))
+    (λ e. omega (arith, value-long (setting-valid _ _ _ _ e) (search needs))))
+    (λ c. untrue _ (λ e. omega (arith, held-flag (setting-valid _ _ _ _ e))))
+    (λ c. untrue _ (λ e. omega (arith, none-held (setting-valid _ _ _ _ e) (search needs))))
+    (λ c. search needs) (λ c κs. search needs)
+    (λ c.
+    let edition = c .read-u32 .result in
+    alike (eqb edition 0) _
     (λ t.
     valid-setting _ _ _ _
-    (record { held = search needs; size = search needs; short = inr (search needs, omega (arith, eqb-true (held .result) 0 t)) }))
-    (λ e. eq-eqb (held .result) 0 (omega (arith, none-held _ _ _ _ e (search needs))))))
+    (record { size = search needs; held = inr (search needs, search needs, omega (arith, eqb-true edition 0 t)) }))
+    (λ e. eq-eqb edition 0 (omega (arith, none-held (setting-valid _ _ _ _ e) (search needs) .1)))))
