@@ -4,7 +4,8 @@
 - a file of statements (Demand.., Item.., BothEnds) has records of statements, and proofs/ exactly one element of each, with a proof for each field;
 - every name that docs/CLAIMS.md gives exists, and every name with a capital inside (`takePromise`) that another document gives;
 - each row of `did`, of `localRow` and of `mainDid` (supervisor_claims, specs/Histories and specs/LocalCalls; requester_claims, specs/Histories) cites the definition, with the
-  arguments, of the `ensures` of the call that it stands for; a row of `localRow` cites all that this definition settles, and may change the part that it leaves, else nothing.
+  arguments, of the first `ensures` of the call that it stands for; a row of `localRow` cites all that this definition settles, and may change the part that it leaves, else nothing;
+- a public function of a library that hands out a part of lent bytes has an `ensures` on where it begins (`.ptr`).
 Assumes the sources as `rt fmt` lays them out (docs/sources.py).
 
 usage: tests/statements.py            prints what is wrong, or how much was compared
@@ -144,7 +145,7 @@ def plain(words):
 
 
 def promised(found, path, names):
-    """The right side of a function's `ensures`: the definition that it cites, and its arguments."""
+    """The right side of a function's first `ensures`: the definition that it cites, and its arguments."""
     item = dict(reading.promises(found))[path]
     words = plain(item.told.split(' ≡ ')[1].split('⌝')[0])
     return found.resolved(found.files[item.module], words[0]), [names.get(word, word) for word in words[1:]]
@@ -199,9 +200,19 @@ def row_faults(found, count):
                 yield f'{did.place}: the row {call} of {did.name} may change another part than its promise leaves'
 
 
+# ---- Parts and their places
+
+def parts_without_place(found):
+    for module, file in found.files.items():
+        if file.path.suffix == '.rt' and (ROOT / 'crates' / module.split('.')[0] / 'src' / 'lib.rt').exists():
+            for name, line, contract in reading.functions(file):
+                if re.search(r'\) -> [^\n]*&', contract) and 'r .ptr ≡ ' not in contract:
+                    yield f'{file.path.relative_to(ROOT)}:{line}: {name} hands out a part and does not say where it begins'
+
+
 def faults(found, text, count, documents=None):
     others = documents or {path: (ROOT / path).read_text() for path in DOCUMENTS}
-    return [*laws_in_specs(found), *record_faults(found), *unknown_names(found, text), *unknown_words(found, others), *row_faults(found, count)]
+    return [*laws_in_specs(found), *record_faults(found), *unknown_names(found, text), *unknown_words(found, others), *row_faults(found, count), *parts_without_place(found)]
 
 
 # ---- Planted mistakes
@@ -232,6 +243,7 @@ def planted():
         'a row of did exchanged': (changed(found, 'supervisor_claims.specs.Histories', 'Receive.receivePromise image p piece', 'Receive.stepPromise image p piece'), text),
         'a row that leaves out what is settled': (changed(found, table, '(t .room) (t .outbox)', '(t .room) []'), text),
         'a row with another change': (changed(found, table, 'change = Change.settings image', 'change = Change.nothing'), text),
+        'a part without its place': (changed(found, 'supervisor.src.keys', 'r .ptr ≡ lookupPlace', 'now r ≡ lookupPlace'), text),
     }
     missed = [name for name, (sources_then, text_then) in mistakes.items() if not faults(sources_then, text_then, [0])]
     misspelt = {'docs/PROMISES.md': (ROOT / 'docs/PROMISES.md').read_text().replace('`takePromise`', '`takesPromise`', 1)}

@@ -6,7 +6,9 @@ use mathlib.Core.Option.{Option, none, some}
 use Prim.Native.Nat.{ℕ, suc, _+_}
 use lib.Dec.{leb, ltb, eqb}
 use lib.ListN.{length}
+use denote.Ref.{now}
 use Rattle.octets.specs.Bytes.{bytes, run, numberAt, overlay}
+use Rattle.octets.specs.Places.{LentBytes, Place, placeIn}
 use Rattle.line.specs.Limits.{header-length, longest-data, longest-form}
 use Rattle.line.specs.Numbers.{reason-form, reason-checksum, reason-length, reason-magic}
 use Rattle.line.specs.Message.{Message}
@@ -187,3 +189,11 @@ partOf (some number) part = []
 
 unfoldable pub dataPromise : List ℕ → ℕ → List ℕ
 dataPromise s n = partOf (dataGivenPromise s n) (run data-offset n s)
+
+-- which begins where the state does; else the part begins at the data's offset
+unfoldable pub dataPlaceByRefusal : Option ℕ → LentBytes → Place
+dataPlaceByRefusal none s = placeIn s data-offset
+dataPlaceByRefusal (some number) s = placeIn s 0
+
+unfoldable pub dataPlace : LentBytes → ℕ → Place
+dataPlace s n = dataPlaceByRefusal (dataGivenPromise (now s) n) s

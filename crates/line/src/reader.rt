@@ -17,7 +17,7 @@ ghost use Rattle.line.specs.Judge.{judgeForm};
 ghost use Rattle.line.specs.Reader.{frame-offset, reader-length, overlong, receivedCount, withCount, validReader, readReport};
 ghost use Rattle.line.specs.Reader.{verdictReport, pushedAll, frameOutcome, finishForm, finish, readOutcome, readPromise};
 ghost use Rattle.line.specs.Reader.{readerStartOutcome, readerStartPromise, tailReport, tailPromise, dataReport, dataGivenPromise};
-ghost use Rattle.line.specs.Reader.{dataPromise};
+ghost use Rattle.line.specs.Reader.{dataPromise, dataPlace};
 
 const FRAME_OFFSET: usize = 2;
 
@@ -114,6 +114,7 @@ pub fn read(state: &mut [u8], piece: &[u8]) -> Reading
 // The data of the message that `read` handed out with this length; an empty part where `message_data_given` refuses.
 pub fn message_data<'a>(state: &'a [u8], count: usize) -> &'a [u8]
     ensures { λ r. ⌜ now r ≡ dataPromise (now (state .entry)) count ⌝ }
+    ensures { λ r. ⌜ r .ptr ≡ dataPlace (state .entry) count ⌝ }
 {
     if !is_valid(state) {
         return &state[..0];

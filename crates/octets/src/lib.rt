@@ -3,6 +3,7 @@
 ghost use mathlib.Core.Path.{_≡_};
 ghost use Prim.Native.Nat.{_<_, min};
 ghost use Rattle.octets.specs.Bytes.{bytes, run, numberAt, put, copied, movedDown, sameRun};
+ghost use Rattle.octets.specs.Places.{partPlace};
 
 // The smaller of two numbers.
 pub fn min(a: usize, b: usize) -> usize
@@ -77,6 +78,7 @@ pub fn word_at(s: &[u8], at: usize) -> usize
 // The n bytes from an offset on, or as many as there are.
 pub fn part<'a>(s: &'a [u8], at: usize, n: usize) -> &'a [u8]
     ensures { λ r. ⌜ now r ≡ run at n (now (s .entry)) ⌝ }
+    ensures { λ r. ⌜ r .ptr ≡ partPlace (s .entry) at ⌝ }
 {
     if s.len() < at {
         return &s[0..0];

@@ -4,6 +4,7 @@ use mathlib.Core.Path.{_≡_, refl, sym, _∙_}
 use mathlib.Core.Bool.{true}
 use mathlib.Core.List.{List, []}
 use Prim.Native.Nat.{ℕ, _+_, _≤_}
+use native.Mathlib.Omega.{arith}
 use borrow.Author.Tests.{ltb-false, eqb-true, eq-eqb, ne-eqb, not-false}
 use lib.ListN.{length}
 use Rattle.octets.proofs.Conditions.{cond-by}
@@ -16,7 +17,7 @@ use Rattle.rot.specs.Writing.{rotMessageWith, rotWritePromise}
 use Rattle.rot.specs.Reading.{protocolOf, typeOf, payloadLength, crcField, rotPayload, checked, RotVerdict, failure, unsent, good}
 use Rattle.rot.specs.Reading.{noInput, nothingSent, wrongProtocol, shortHeader, longPayload, cutShort, wrongCrc, wrongType}
 use Rattle.rot.specs.Reading.{judgeMessage, judgeLength, rotJudge, judgedAs, serveMessage, answerTo, rotReadPromise, handedPart}
-use Rattle.rot.specs.Reading.{payloadPromise}
+use Rattle.rot.specs.Reading.{payloadPromise, payloadOffset}
 use Rattle.rot.specs.declared.reader.Verdict.{Verdict}
 use Rattle.rot.specs.declared.reader.Verdict.the-variants as verdict
 use Rattle.rot.proofs.Writing.{write-sends}
@@ -76,6 +77,17 @@ module _ (input : List ℕ) {kind : ℕ} {v : Verdict} (j : judgedAs input v ≡
   pub payload-handed : (kind ≡ echo-request → ⊥) → rotPayload input ≡ payloadPromise input
   unfolding handedPart payloadPromise
   payload-handed k = rw (found, ne-eqb kind echo-request k)
+
+  pub offset-echo : kind ≡ echo-request → payloadOffset (rotJudge input) ≡ 0
+  unfolding payloadOffset
+  offset-echo k = rw (found, eq-eqb kind echo-request k)
+
+  pub offset-handed : (kind ≡ echo-request → ⊥) → payloadOffset (rotJudge input) ≡ rot-header-length
+  unfolding payloadOffset
+  offset-handed k = rw (found, ne-eqb kind echo-request k)
+
+  pub header-there : rot-header-length ≤ length input
+  header-there = omega (arith, judged-sound input _ found .whole)
 
   -- the writer's answer to an echo request is the reader's
   pub read-echo : (out : List ℕ) → kind ≡ echo-request

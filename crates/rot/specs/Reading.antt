@@ -5,7 +5,9 @@ use mathlib.Core.List.{List, [], _++_}
 use Prim.Native.Nat.{ℕ, _+_}
 use lib.Dec.{eqb, ltb}
 use lib.ListN.{length, take}
+use denote.Ref.{now}
 use Rattle.octets.specs.Bytes.{run, numberAt}
+use Rattle.octets.specs.Places.{LentBytes, Place, placeIn}
 use Rattle.rot.specs.Limits.{crc-field-offset, rot-header-length, longest-payload}
 use Rattle.rot.specs.Crc.{crc}
 use Rattle.rot.specs.Message.{null-protocol, version-1, echo-request, listedType, RotMessage, rotMessage, echoed}
@@ -131,3 +133,12 @@ handedPart (good m) = cond (eqb (m .type) echo-request) [] (m .payload)
 
 unfoldable pub payloadPromise : List ℕ → List ℕ
 payloadPromise input = handedPart (rotJudge input)
+
+-- It begins behind the header; an empty part for want of a message begins where the input does.
+unfoldable pub payloadOffset : RotVerdict → ℕ
+payloadOffset (failure n) = 0
+payloadOffset unsent = 0
+payloadOffset (good m) = cond (eqb (m .type) echo-request) 0 rot-header-length
+
+unfoldable pub payloadPlace : LentBytes → Place
+payloadPlace input = placeIn input (payloadOffset (rotJudge (now input)))

@@ -13,7 +13,7 @@ ghost use Rattle.rot.specs.Crc.{crc};
 ghost use Rattle.rot.specs.Answers.{rotOutcome};
 ghost use Rattle.rot.specs.Writing.{rotMessageWith, rotWritePromise};
 ghost use Rattle.rot.specs.Reading.{payloadLength, crcField, checked, judgeMessage, judgeLength, rotJudge, judgedAs, rotReadReport};
-ghost use Rattle.rot.specs.Reading.{rotReadPromise, payloadPromise};
+ghost use Rattle.rot.specs.Reading.{rotReadPromise, payloadPromise, payloadPlace};
 
 // A message that is handed out: its type, and how long its payload is, which lies in the input.
 pub struct Head {
@@ -57,6 +57,7 @@ pub fn read(input: &[u8], out: &mut [u8]) -> Answer
 // The payload of the message that `read` hands out; an empty part where it hands out none.
 pub fn payload<'a>(input: &'a [u8]) -> &'a [u8]
     ensures { λ r. ⌜ now r ≡ payloadPromise (now (input .entry)) ⌝ }
+    ensures { λ r. ⌜ r .ptr ≡ payloadPlace (input .entry) ⌝ }
 {
     let verdict = judge(input);
     match verdict {

@@ -1,23 +1,27 @@
 -- Laws of looking a key up: what valid stores answer, and how long a value is.
 -- Assumes nothing.
 use mathlib.Core.Path.{_≡_}
-use mathlib.Core.Bool.{true, _&&_}
+use mathlib.Core.Bool.{true, _&&_, and-eq-true-iff}
 use mathlib.Core.List.{List, []}
 use Prim.Native.Nat.{ℕ, _+_, _≤_}
 use native.Mathlib.Omega.{arith}
 use lib.Dec.{ltb, eqb}
 use lib.ListN.{length, drop, length-take}
 use borrow.Author.Tests.{le-ltb, ltb-false}
+use denote.Ref.{now}
 use Rattle.octets.specs.Bytes.{run}
+use Rattle.octets.specs.Places.{LentBytes}
 use Rattle.octets.proofs.Conditions.{cond-by}
 use Rattle.supervisor.specs.Limits
 use Rattle.supervisor.specs.Limits.{highest-key}
 use Rattle.supervisor.specs.Layout
 use Rattle.supervisor.specs.Valid.{validFactory, validSettings}
 use Rattle.supervisor.specs.Calls.{settingAt, locationOf, resultAt, lookupResultPromise, within, valueIn, lookupPromise}
+use Rattle.supervisor.specs.Calls.{valuePlace, lookupPlace}
 use Rattle.supervisor.specs.Calls.{editionReportAt, editionPromise}
 use Rattle.supervisor.specs.declared.keys.Location.{Location}
-use Rattle.supervisor.proofs.OffsetLaws.{longest-short, settings-key}
+use Rattle.supervisor.specs.declared.keys.Location.the-variants as location
+use Rattle.supervisor.proofs.OffsetLaws.{longest-short, offset-within, settings-key}
 use Rattle.supervisor.proofs.ValidLaws.{FactoryValid, factory-valid, settings-valid}
 use Rattle.supervisor.specs.Valid.{SettingsValid}
 
@@ -33,6 +37,40 @@ module _
   pub value-found : lookupPromise f s key most ≡ valueIn f s most p
   unfolding lookupPromise
   value-found = rw (v, le-ltb highest-key key k, e)
+
+pub place-found : (f s : LentBytes) (key most : ℕ) (p : Location) → (validFactory (now f) && validSettings (now s)) ≡ true
+    → key ≤ highest-key → p ≡ locationOf (now f) (now s) key → lookupPlace f s key most ≡ valuePlace f s most p
+unfolding lookupPlace
+place-found f s key most p v k e = rw (v, le-ltb highest-key key k, e)
+
+-- ---- a value begins within the store that holds it
+
+module _ (f s : List ℕ) where
+  abbrev pub Begins : Location → Type 0
+  Begins (location.Factory at n) = at ≤ length f
+  Begins (location.Settings at n) = at ≤ length s
+  Begins location.Nowhere = Unit {0}
+  Begins location.SetOnly = Unit {0}
+
+  setting-begins : (at : ℕ) → at + Layout.setting-value-offset ≤ length s → Begins (settingAt s at)
+  unfolding settingAt
+  setting-begins at h = cond-by Begins (eqb (Layout.settingHeld s at) 1) _ _ (λ _. h) (λ _. tt)
+
+  location-begins : (key : ℕ) → Layout.factory-length ≤ length f → Layout.settings-length ≤ length s → key ≤ highest-key
+      → Begins (locationOf f s key)
+  unfolding locationOf
+  location-begins key v w h =
+      cond-by Begins (eqb key 0) _ _ (λ _. omega (arith, v)) (λ a.
+      cond-by Begins (eqb key 1) _ _ (λ _. omega (arith, v)) (λ b.
+      cond-by Begins (eqb key 2) _ _ (λ _. omega (arith, v)) (λ c.
+      cond-by Begins (eqb key Limits.passphrase-key) _ _ (λ _. tt) (λ _.
+      setting-begins (Layout.setting-offset key) (omega (arith, w, offset-within key (settings-key key a b c h)))))))
+
+  pub found-begins : (key : ℕ) (p : Location) → (validFactory f && validSettings s) ≡ true → key ≤ highest-key → p ≡ locationOf f s key
+      → Begins p
+  found-begins key p v h e =
+      let valid = and-eq-true-iff _ _ .0 v in
+      rw e (location-begins key (factory-valid f (valid .0) .long) (settings-valid s (valid .1) .long) h)
 
 -- ---- the edition of a key
 

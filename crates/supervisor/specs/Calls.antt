@@ -6,7 +6,9 @@ use mathlib.Core.Option.{Option, none, some}
 use Prim.Native.Nat.{ℕ, _+_, _-_, min}
 use lib.Dec.{leb, ltb, eqb}
 use lib.ListN.{length, replicate, getD}
+use denote.Ref.{now}
 use Rattle.octets.specs.Bytes.{bytes, run, numberAt, overlay}
+use Rattle.octets.specs.Places.{LentBytes, Place, placeIn}
 use Rattle.line.specs.Reader
 use Rattle.supervisor.specs.Limits
 use Rattle.supervisor.specs.Local
@@ -279,6 +281,24 @@ lookupPromise f s key most =
     (cond (ltb Limits.highest-key key) [] (valueIn f s most (locationOf f s key)))
     []
 
+-- where n bytes at an offset of a store begin; if they are more than asked for, the part is empty and begins where the store does
+abbrev pub placeWithin : ℕ → ℕ → LentBytes → ℕ → Place
+placeWithin most n s at = placeIn s (cond (ltb most n) 0 at)
+
+-- the part lies in the store that holds the value
+unfoldable pub valuePlace : LentBytes → LentBytes → ℕ → Location → Place
+valuePlace f s most (location.Factory at n) = placeWithin most n f at
+valuePlace f s most (location.Settings at n) = placeWithin most n s at
+valuePlace f s most location.Nowhere = placeIn f 0
+valuePlace f s most location.SetOnly = placeIn f 0
+
+-- an empty part for want of a value, and a refused call's, begins where the factory store does
+unfoldable pub lookupPlace : LentBytes → LentBytes → ℕ → ℕ → Place
+lookupPlace f s key most =
+    cond (validFactory (now f) && validSettings (now s))
+    (cond (ltb Limits.highest-key key) (placeIn f 0) (valuePlace f s most (locationOf (now f) (now s) key)))
+    (placeIn f 0)
+
 -- ---- Read the line signal, the two flags, a record
 
 -- what is read, or the table's number
@@ -338,3 +358,10 @@ recordBytesPromise r k =
     (cond (eqb (Layout.recordHeld r (recordOffset k)) 1) (run (recordOffset k + Layout.record-kept-offset) (keptCount r (recordOffset k)) r)
     [])
     []
+
+-- where the part begins: at the record's kept bytes, an empty part for want of a record where the registers do
+unfoldable pub recordBytesPlace : LentBytes → Kind → Place
+recordBytesPlace r k =
+    cond (validRegisters (now r))
+    (cond (eqb (Layout.recordHeld (now r) (recordOffset k)) 1) (placeIn r (recordOffset k + Layout.record-kept-offset)) (placeIn r 0))
+    (placeIn r 0)

@@ -4,10 +4,11 @@ use crate::layout;
 use crate::valid;
 ghost use mathlib.Core.Path.{_≡_};
 ghost use mathlib.Core.Bool.{_&&_};
-ghost use Prim.Native.Nat.{_<_};
+ghost use Prim.Native.Nat.{_≤_, _<_};
+ghost use lib.ListN.{length};
 ghost use Rattle.supervisor.specs.Valid.{validFactory, validSettings};
-ghost use Rattle.supervisor.specs.Calls.{resultNumber, lookupReport, lookupResultPromise, lookupPromise, editionReport};
-ghost use Rattle.supervisor.specs.Calls.{editionPromise, editionNumber, locationOf, settingAt, sized, within};
+ghost use Rattle.supervisor.specs.Calls.{resultNumber, lookupReport, lookupResultPromise, lookupPromise, lookupPlace, editionReport};
+ghost use Rattle.supervisor.specs.Calls.{editionPromise, editionNumber, locationOf, settingAt, sized, within, placeWithin};
 ghost use Rattle.octets.specs.Bytes.{run};
 
 pub enum Found {
@@ -38,6 +39,7 @@ pub(crate) enum Location {
 // The value of a key, if it has at most `most` bytes; an empty part where `lookup_result` is not 0.
 pub fn lookup<'a>(factory: &'a [u8], settings: &'a [u8], key: u8, most: u16) -> &'a [u8]
     ensures { λ r. ⌜ now r ≡ lookupPromise (now (factory .entry)) (now (settings .entry)) key most ⌝ }
+    ensures { λ r. ⌜ r .ptr ≡ lookupPlace (factory .entry) (settings .entry) key most ⌝ }
 {
     if !stores_are_valid(factory, settings) {
         return &factory[0..0];
@@ -180,7 +182,9 @@ fn size(n: usize, most: u16) -> Found
 
 // The n bytes of s from an offset on, if they are at most `most`.
 fn part<'a>(s: &'a [u8], at: usize, n: usize, most: u16) -> &'a [u8]
+    requires { ⌜ at ≤ length (now s) ⌝ }
     ensures { λ r. ⌜ now r ≡ within most n (run at n (now (s .entry))) ⌝ }
+    ensures { λ r. ⌜ r .ptr ≡ placeWithin most n (s .entry) at ⌝ }
 {
     if (most as usize) < n {
         return &s[0..0];

@@ -7,7 +7,7 @@ ghost use Prim.Native.Nat.{_≤_, _<_};
 ghost use Rattle.supervisor.specs.Limits.{most-kept};
 ghost use Rattle.supervisor.specs.Layout.{panic-offset};
 ghost use Rattle.supervisor.specs.Calls.{signalReport, signalPromise, flagsReport, flagsPromise, recordOffset, recordReport};
-ghost use Rattle.supervisor.specs.Calls.{recordPromise, recordBytesPromise, keptCount};
+ghost use Rattle.supervisor.specs.Calls.{recordPromise, recordBytesPromise, recordBytesPlace, keptCount};
 
 pub enum SignalRead {
     Refused,
@@ -90,6 +90,7 @@ pub fn record(registers: &[u8], kind: Kind) -> Recorded
 // A record's kept bytes; an empty part where there is no record.
 pub fn record_bytes<'a>(registers: &'a [u8], kind: Kind) -> &'a [u8]
     ensures { λ r. ⌜ now r ≡ recordBytesPromise (now (registers .entry)) kind ⌝ }
+    ensures { λ r. ⌜ r .ptr ≡ recordBytesPlace (registers .entry) kind ⌝ }
 {
     if !valid::registers_are_valid(registers) {
         return &registers[0..0];

@@ -1,7 +1,7 @@
 -- The laws of fields, numbers, digests and pieces, by one byte more each.
 -- Assumes nothing.
 use Prim.Native.Nat.{ℕ, zero, suc, _+_, _-_, _*_, _/_, _%_, _≤_, _<_}
-use mathlib.Core.Path.{_≡_, refl, sym, _∙_}
+use mathlib.Core.Path.{_≡_, refl, sym, ap, _∙_}
 use mathlib.Core.Bool.{cond}
 use mathlib.Core.List.{List, [], _∷_, _++_}
 use native.Mathlib.Nat.{mul-le-mul, add-mul-mod-self-right}
@@ -11,7 +11,10 @@ use lib.Dec.{eqb}
 use lib.ListN.{length, take, drop, set, getD, length-append, length-drop, drop-of-length-le}
 use lib.Seq.{take-all, drop-cons}
 use borrow.Author.Tests.{ne-eqb, lt-ltb, le-ltb, le-leb, lt-leb}
+use denote.Ref.{now}
 use Rattle.octets.specs.Bytes.{number, run, numberAt, overlay}
+use Rattle.octets.specs.Places.{LentBytes, placeIn, partPlace}
+use Rattle.octets.proofs.Parts.{place-there}
 use Rattle.octets.proofs.Overlay.{overlay-take, overlay-more, put-fits, put-not}
 use Rattle.text_lines.specs.Fields.{field, digit, withDigit, withDigits, pairAt}
 use Rattle.text_lines.specs.Pieces.{values, adds, addedAt, bytesAdded, roomAfter, countAfter}
@@ -20,6 +23,12 @@ use Rattle.text_lines.specs.Digest.{digestOn}
 -- all from an offset on
 pub rest : (at : ℕ) (s : List ℕ) → run at (length s) s ≡ drop at s
 rest at s = take-all (length s) (drop at s) (simp length-drop (omega arith))
+
+pub rest-place : (s : LentBytes) (at : ℕ) (t : List ℕ) → at ≤ length (now s) → drop at (now s) ≡ t
+    → partPlace s at ≡ placeIn s (length (now s) - length t)
+rest-place s at t h e =
+    let l = length-drop at (now s) in
+    sym (place-there s at h) ∙ ap (placeIn s) (rw (← e, l) (omega arith))
 
 pub drop-end : (i : ℕ) (s : List ℕ) → length s ≤ i → drop i s ≡ []
 drop-end i s h = drop-of-length-le s h

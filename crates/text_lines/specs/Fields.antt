@@ -4,8 +4,10 @@ use mathlib.Core.Bool.{cond, _&&_}
 use mathlib.Core.List.{List, [], _∷_}
 use Prim.Native.Nat.{ℕ, _+_, _-_, _*_, _%_}
 use lib.Dec.{ltb, leb, eqb}
-use lib.ListN.{drop}
+use lib.ListN.{length, drop}
+use denote.Ref.{now}
 use Rattle.octets.specs.Bytes.{numberAt}
+use Rattle.octets.specs.Places.{LentBytes, Place, placeIn, partPlace}
 
 -- the first byte, and 0 where there is none
 abbrev pub keyOf : List ℕ → ℕ
@@ -15,10 +17,17 @@ keyOf line = numberAt 1 line 0
 abbrev pub behindKey : List ℕ → List ℕ
 behindKey line = drop 2 line
 
+abbrev pub behindKeyPlace : LentBytes → Place
+behindKeyPlace line = partPlace line 2
+
 -- the field behind the k-th space, with all that follows it; nothing where there are fewer spaces
 unfoldable pub field : ℕ → List ℕ → List ℕ
 field k [] = []
 field k (b ∷ line) = cond (eqb k 0) (b ∷ line) (field (cond (eqb b 32) (k - 1) k) line)
+
+-- it begins so far ahead of the line's end as it is long
+abbrev pub fieldPlace : ℕ → LentBytes → Place
+fieldPlace k line = placeIn line (length (now line) - length (field k (now line)))
 
 -- the value of one of the digits 0 to 9 and a to f, and 16 for any other byte
 unfoldable pub digit : ℕ → ℕ

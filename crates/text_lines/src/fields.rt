@@ -4,9 +4,9 @@ ghost use mathlib.Core.Path.{_≡_};
 ghost use mathlib.Core.Bool.{cond};
 ghost use Prim.Native.Nat.{_-_, _%_, _≤_, _<_};
 ghost use lib.Dec.{eqb};
-ghost use lib.ListN.{drop};
+ghost use lib.ListN.{length, drop};
 ghost use Rattle.text_lines.specs.Fields.{keyOf, behindKey, field as fieldOf, digit as digitOf, withDigit, numberAhead, decimalIn};
-ghost use Rattle.text_lines.specs.Fields.{hexIn, pairAt};
+ghost use Rattle.text_lines.specs.Fields.{hexIn, pairAt, behindKeyPlace, fieldPlace};
 
 // How many bytes the key and the space behind it have.
 const KEY_LENGTH: usize = 2;
@@ -35,6 +35,7 @@ pub fn key(line: &[u8]) -> u8
 // What stands behind the key and a space.
 pub fn behind_key<'a>(line: &'a [u8]) -> &'a [u8]
     ensures { λ r. ⌜ now r ≡ behindKey (now (line .entry)) ⌝ }
+    ensures { λ r. ⌜ r .ptr ≡ behindKeyPlace (line .entry) ⌝ }
 {
     octets::part(line, KEY_LENGTH, line.len())
 }
@@ -52,7 +53,7 @@ fn spaces_left(b: u8, left: usize) -> usize
 
 // Where the field behind the k-th space begins.
 fn field_start(line: &[u8], k: usize) -> usize
-    ensures { λ r. ⌜ drop r (now (line .entry)) ≡ fieldOf k (now (line .entry)) ⌝ }
+    ensures { λ r. ⌜ (drop r (now (line .entry)) ≡ fieldOf k (now (line .entry))) × (r ≤ length (now (line .entry))) ⌝ }
 {
     let mut left = k;
     let mut i = 0;
@@ -69,6 +70,7 @@ fn field_start(line: &[u8], k: usize) -> usize
 // The field behind the k-th space, and all that follows it.
 pub fn field<'a>(line: &'a [u8], k: usize) -> &'a [u8]
     ensures { λ r. ⌜ now r ≡ fieldOf k (now (line .entry)) ⌝ }
+    ensures { λ r. ⌜ r .ptr ≡ fieldPlace k (line .entry) ⌝ }
 {
     octets::part(line, field_start(line, k), line.len())
 }

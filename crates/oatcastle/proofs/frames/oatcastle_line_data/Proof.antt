@@ -26,7 +26,7 @@ returns-3 c =
     let bytes = called .before .before in
     let arm = bytes .before in
     let asked = arm .before .before in
-    rw (← asked .message-data-given .ensures, arm .enum-told3 .given .1, ← bytes .message-data .ensures) (called .write-bytes .ensures)
+    rw (← asked .message-data-given .ensures, arm .enum-told3 .given .1, ← bytes .message-data .ensures .0) (called .write-bytes .ensures)
 
 pub oatcastle-line-data-spec : {M : Type 1} → statement M
 oatcastle-line-data-spec =

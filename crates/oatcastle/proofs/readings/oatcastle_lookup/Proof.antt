@@ -11,7 +11,7 @@ returns c =
     let handed = c .before .before .before .before in
     let result = handed .before .before .before in
     let value = result .before in
-    rw (← result .lookup-result .ensures, ← value .lookup .ensures) (handed .answer-value .ensures)
+    rw (← result .lookup-result .ensures, ← value .lookup .ensures .0) (handed .answer-value .ensures)
 
 pub oatcastle-lookup-spec : {M : Type 1} → statement M
 oatcastle-lookup-spec =

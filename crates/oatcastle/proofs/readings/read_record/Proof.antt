@@ -11,7 +11,7 @@ returns c =
     let handed = c .before .before .before .before in
     let found = handed .before .before .before in
     let kept = found .before in
-    rw (← found .«record» .ensures, ← kept .record-bytes .ensures) (handed .answer-record .ensures)
+    rw (← found .«record» .ensures, ← kept .record-bytes .ensures .0) (handed .answer-record .ensures)
 
 pub read-record-spec : {M : Type 1} → statement M
 read-record-spec =

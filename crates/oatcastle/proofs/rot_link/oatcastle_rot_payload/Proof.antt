@@ -10,7 +10,7 @@ unfolding rotPayloadCall
 returns c =
     let at-write-bytes = c .before .before in
     let at-payload = at-write-bytes .before .before in
-    rw (← at-payload .payload .ensures) (at-write-bytes .write-bytes .ensures)
+    rw (← at-payload .payload .ensures .0) (at-write-bytes .write-bytes .ensures)
 
 pub oatcastle-rot-payload-spec : {M : Type 1} → statement M
 oatcastle-rot-payload-spec =

@@ -30,7 +30,7 @@ returns-3 c =
     let if1 = if2 .before .before in
     let start = start-of if1 in
     fetch-status (now (start .args .reader)) (start .args .head) (start .pre .0) (start .pre .1) _ (if1 .if1 .left) (if2 .if2 .left)
-    (message-data .message-data .ensures) (read-u64 .read-u64 .ensures) (read-u642 .read-u642 .ensures) (c .serve .ensures)
+    (message-data .message-data .ensures .0) (read-u64 .read-u64 .ensures) (read-u642 .read-u642 .ensures) (c .serve .ensures)
 
 pub settle-fetch-spec : {M : Type 1} → statement M
 settle-fetch-spec =

@@ -27,7 +27,7 @@ send-requires c κs =
     let read = at-read-u64 c in
     let start = read .before .before .before .before .before .before .before in
     let l = length-take 4096 (drop (read .read-u64 .result) (now (start .args .image))) in
-    (search needs, rw (c .part .ensures) (omega arith))
+    (search needs, rw (c .part .ensures .0) (omega arith))
 
 returns-2 : tie.Need-returns-2
 returns-2 c =
@@ -37,7 +37,7 @@ returns-2 c =
     rw (
       ← block-same _ _ _ (start-of (tested .before) .pre .1) _ (tested .before .same .ensures) (tested .if1 .left),
       ← at-read-u64 at-part .read-u64 .ensures,
-      ← at-part .part .ensures,
+      ← at-part .part .ensures .0,
     )
     (at-send .send .ensures)
 

@@ -19,7 +19,7 @@ send-requires : tie.Need-send-requires
 send-requires c κs =
     let at-write-u32 = c .before .before .before .before .before .before in
     let valid = at-write-u32 .before .before .before .before .before .before .before .before .before .before .pre .1 in
-    let short : length (now (c .lookup .result)) ≤ 4096 = rw (c .lookup .ensures) (value-short _ _ _ _ (valid .0) (valid .1)) in
+    let short : length (now (c .lookup .result)) ≤ 4096 = rw (c .lookup .ensures .0) (value-short _ _ _ _ (valid .0) (valid .1)) in
     let head = at-head-length c .head-length in
     (search needs, omega (arith, length-take (head .result - 0) (at-write-u32 .write-u32 .last .0), head .ensures .1))
 
@@ -39,7 +39,7 @@ returns c =
       ← result .result-number .ensures,
       ← edition .edition-number .ensures,
       ← value-head _ (result .result-number .result) _ (omega arith) (length .head-length .ensures .0) (at-write-u32 .write-u32 .ensures),
-      ← looked .lookup .ensures,
+      ← looked .lookup .ensures .0,
     )
     (at-send .send .ensures)
 

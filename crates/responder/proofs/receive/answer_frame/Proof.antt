@@ -57,7 +57,7 @@ request-requires c κs =
     let at-message-data = message-data-of c in
     let at-match = at-message-data .before .before .before .before in
     let p = start at-match .pre in
-    (p .0, (p .1 .0, (p .1 .1, rw (at-message-data .message-data .ensures) (data-short _ _))))
+    (p .0, (p .1 .0, (p .1 .1, rw (at-message-data .message-data .ensures .0) (data-short _ _))))
 
 returns-4 : tie.Need-returns-4
 unfolding readReport
@@ -69,7 +69,7 @@ returns-4 c =
     let a = start at-match .args in
     settled-message (now (a .image)) (now (a .factory)) (inner (now (a .outbox)) (now (a .settings)) (now (a .registers))) (now (a .reader))
     _ _ _ _
-    (ap readReport (at-answer .answer .given .1)) (given .message-data .ensures) (called .request .ensures)
+    (ap readReport (at-answer .answer .given .1)) (given .message-data .ensures .0) (called .request .ensures)
 
 returns-5 : tie.Need-returns-5
 unfolding readReport

@@ -11,7 +11,7 @@ returns c =
     let parts = c .before .before in
     let at-part = parts .before in
     let entry = at-part .before .before in
-    crc-tested (now (entry .args .input)) (entry .pre) (at-part .part .ensures) (parts .part2 .ensures) (c .before .read-u32 .ensures)
+    crc-tested (now (entry .args .input)) (entry .pre) (at-part .part .ensures .0) (parts .part2 .ensures .0) (c .before .read-u32 .ensures)
     (c .crc-of-parts .ensures)
 
 pub has-its-crc-spec : {M : Type 1} → statement M

@@ -13,7 +13,7 @@ returns c =
     let length = part .before .before in
     let arm = length .before .before in
     let at-judge = arm .before .before in
-    rw (echo .echo .ensures, part .part .ensures, length .word-at .ensures .0)
+    rw (echo .echo .ensures, part .part .ensures .0, length .word-at .ensures .0)
     (read-echo _ (at-judge .judge .ensures) (arm .verdict2 .given .1) _ (part .before .if1 .taken))
 
 returns-2 : tie.Need-returns-2

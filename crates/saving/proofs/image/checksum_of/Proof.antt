@@ -5,7 +5,7 @@ use Rattle.saving.proofs.image.checksum_of.Statement.{statement}
 use Rattle.saving.proofs.image.checksum_of.Tie as tie
 
 returns : tie.Need-returns
-returns c = rw (c .checksum .ensures, c .before .part .ensures)
+returns c = rw (c .checksum .ensures, c .before .part .ensures .0)
 
 pub checksum-of-spec : {M : Type 1} → statement M
 checksum-of-spec =

@@ -9,4 +9,4 @@ use Rattle.text_lines.proofs.fields.behind_key.Tie as tie
 
 pub behind-key-spec : {M : Type 1} → statement M
 behind-key-spec = tie.close (tie.spec (λ c κs. search needs)
-    (λ c. let start = c .before .before in c .part .ensures ∙ rest 2 (now (start .args .line))))
+    (λ c. let start = c .before .before in (c .part .ensures .0 ∙ rest 2 (now (start .args .line)), c .part .ensures .1)))

@@ -30,7 +30,7 @@ loop-again c =
     let a = c .before .before .before .before .before .before .before .before .before .before .args in (
       search needs,
       search needs,
-      rw (c .added-at .ensures, c .before .part .ensures, l .inv .2)
+      rw (c .added-at .ensures, c .before .part .ensures .0, l .inv .2)
           (add-more (now (a .line)) (now (a .room)) (a .n) (l .j) (search needs)),
     )
 

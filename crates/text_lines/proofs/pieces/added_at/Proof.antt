@@ -11,7 +11,7 @@ unfolding addedAt
 returns c =
     let then1 = c .before .before in
     let at-key = then1 .before in
-    rw (← at-key .key .ensures, eq-eqb _ 43 (then1 .if1 .taken), ← c .before .behind-key .ensures) (c .pair .ensures)
+    rw (← at-key .key .ensures, eq-eqb _ 43 (then1 .if1 .taken), ← c .before .behind-key .ensures .0) (c .pair .ensures)
 
 returns-2 : tie.Need-returns-2
 unfolding addedAt

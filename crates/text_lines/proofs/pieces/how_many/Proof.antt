@@ -10,7 +10,7 @@ returns : tie.Need-returns
 unfolding adds
 returns c =
     let at-key = c .before .before in
-    rw (← at-key .key .ensures, eq-eqb _ 43 (c .before .if1 .taken), ← c .behind-key .ensures)
+    rw (← at-key .key .ensures, eq-eqb _ 43 (c .before .if1 .taken), ← c .behind-key .ensures .0)
 
 returns-2 : tie.Need-returns-2
 unfolding adds
