@@ -20,8 +20,8 @@ LISTS = {
     # the blind spots at one or two neighbouring bytes
     'checksum-claim': 'ChecksumClaim Near SameButAt AllSameOr00Ff SameOr00Ff Each Byte checksum sums',
     # the promise of the call that reads an unfinished tail's length: its own report, the tail, 12's test, and where the number of bytes stands
-    'line::reader::tail': 'tailReport Unfinished TailReport tailPromise validReader receivedCount numberAt number run overlong longest-form longest-message '
-                          'longest-group reader-length frame-offset',
+    'line::reader::tail': 'tailReport Unfinished TailReport tailPromise tailOf receivedOf receivedBytes validReader receivedCount numberAt number run overlong '
+                          'longest-form longest-message longest-group reader-length frame-offset',
 }
 
 # names with the crates that have a claim of their own by it; a claim that several records hold is one

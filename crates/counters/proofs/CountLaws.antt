@@ -10,13 +10,13 @@ use lib.Dec.{leb}
 use lib.ListN.{length, take, drop, getD, length-drop, drop-of-length-le}
 use lib.Seq.{take-all, drop-drop}
 use borrow.Author.Tests.{not-true, not-false, ne-eqb}
-use Rattle.octets.specs.Bytes.{Byte, Each, bytes, run}
+use Rattle.octets.specs.Bytes.{Byte, Each, bytes}
 use Rattle.octets.proofs.Conditions.{cond-by}
-use Rattle.octets.proofs.Each.{each-run}
 use Rattle.octets.proofs.Numbers.{length-bytes, number-small}
 use Rattle.line.specs.Limits.{longest-data}
 use Rattle.line.specs.Numbers.{first-version}
 use Rattle.line.specs.Reader as LineReader
+use Rattle.line.proofs.Received.{data-short, data-each}
 use Rattle.supervisor.specs.Valid.{validFactory}
 use Rattle.supervisor.specs.Calls.{Parts}
 use Rattle.responder.specs.Requests.{Verdict, failure, good, versionServed, known, lengthAllowed, tested}
@@ -24,7 +24,7 @@ use Rattle.responder.specs.Receive as Receive
 use Rattle.responder.specs.declared.receive.Received.{Received}
 use Rattle.responder.specs.declared.receive.Received.the-variants as received
 use Rattle.responder.proofs.KeptLaws.{answering-valid, carried-valid}
-use Rattle.responder.proofs.StepLaws.{parts-valid, valid-parts, read-valid, data-short, served-small, Held, begun, over, valid-step-used}
+use Rattle.responder.proofs.StepLaws.{parts-valid, valid-parts, read-valid, served-small, Held, begun, over, valid-step-used}
 use Rattle.responder.proofs.StepLaws.{went}
 use Rattle.counters.specs.declared.Counters.{Counters}
 use Rattle.counters.specs.Count.{bumpedFor, bumpedForAll}
@@ -36,15 +36,6 @@ use Rattle.counters.specs.Counting.{endings, countPromise}
 bytes-each : (s : List ℕ) → ((i : ℕ) → getD s i 0 < 256) → Each Byte s
 bytes-each [] h = tt
 bytes-each (b ∷ bs) h = (h 0, bytes-each bs (λ i. h (suc i)))
-
--- the data that a reader of bytes hands out begin with a byte
-data-byte : (reader : List ℕ) (n : ℕ) → Each Byte reader → Each Byte (LineReader.dataPromise reader n)
-unfolding LineReader.dataPromise LineReader.partOf
-data-byte reader n h = by (LineReader.dataGivenPromise reader n)
-  where
-    by : (x : Option ℕ) → Each Byte (LineReader.partOf x (run LineReader.data-offset n reader))
-    by none = each-run LineReader.data-offset n reader h
-    by (some x) = tt
 
 module _ (image f : List ℕ) (i : Receive.Inner) (factory : validFactory f ≡ true) (valid : Receive.validInner i ≡ true) where
   abbrev Stays : Verdict → Type 0
@@ -80,7 +71,7 @@ module _ (image f : List ℕ) (i : Receive.Inner) (factory : validFactory f ≡ 
   answer-stays reader h LineReader.empty = valid
   answer-stays reader h (LineReader.failed reason sequence) = failure-stays reason first-version sequence
   answer-stays reader h (LineReader.message version sequence command n) =
-      message-stays version sequence command (LineReader.dataPromise reader n) (data-short reader n) (data-byte reader n h)
+      message-stays version sequence command (LineReader.dataPromise reader n) (data-short reader n) (data-each reader n h)
 
 module _ (image piece : List ℕ) (p : Parts) {q : Parts} {n : ℕ} {g : Receive.Ended} (valid : Receive.validParts p ≡ true)
     (e : record { used = n; ended = g; parts = q } ≡ Receive.stepPromise image p piece) where

@@ -12,7 +12,7 @@ use Rattle.line.specs.Reader.{receivedOf}
 use Rattle.octets.specs.Bytes.{Each}
 use Rattle.octets.proofs.Each.{each-append}
 use Rattle.line.specs.Reader as LineReader
-use Rattle.line.proofs.State.{valid-ready, ready-valid, ready-pushed}
+use Rattle.line.proofs.Received.{pushed-received, pushed-stays, finish-received, finish-stays}
 use Rattle.line.specs.Frame.{split, closedBehind}
 use Rattle.line.proofs.Pieces.{split-at, split-none, closed-rest}
 use Rattle.supervisor.specs.State.{State}
@@ -26,14 +26,14 @@ use Rattle.supervisor_claims.specs.View.{view}
 use Rattle.supervisor_claims.specs.Histories
 use Rattle.supervisor_claims.specs.Histories.{Call, Answer, refused, Did, did, upTo, endedMeant, endedInPiece, Lent, lentOf, enough, Made}
 use Rattle.supervisor_claims.specs.Histories.{made}
-use Rattle.supervisor_claims.specs.FrameHistory.{pieceRead, bytesReceivedBy, endedByFrames, progressOf}
+use Rattle.supervisor_claims.specs.FrameHistory.{pieceRead, bytesReceivedBy, endedByFrames}
+use Rattle.line.specs.Judge.{progressOf}
 use Rattle.supervisor_claims.specs.Sound.{Sound}
 use Rattle.supervisor_claims.proofs.Sound.{valid-long}
 use Rattle.supervisor_claims.proofs.laws.Locality.{EnoughOfAll, lent-sound, lent-view}
 use Rattle.supervisor_claims.proofs.laws.Progress.{Since}
 use Rattle.supervisor_claims.proofs.calls.StepClaim.{step-ends, valid-step-stepped}
-use Rattle.supervisor_claims.proofs.calls.ReceivedClaim.{pushed-received, finished-received, finished-kept}
-use Rattle.supervisor_claims.proofs.claims.InOrder.{tail-within, more-tail}
+use Rattle.line.proofs.Judged.{tail-within, more-tail}
 use Rattle.supervisor_claims.proofs.claims.FramesClaim.{closed-ends}
 use Rattle.supervisor_claims.proofs.calls.RowLaws.{WhereRefused}
 use Rattle.supervisor_claims.proofs.claims.LentCalls.{valid-parts, made-12, widened-enough}
@@ -60,13 +60,11 @@ unfolding endings endedAll split
 endings-frames [] s p v e h = rw (append-nil, split-none p h)
 endings-frames (zero ∷ bs) s p v e h =
     let i =
-    endings-frames bs (LineReader.finish s .state) [] (finished-kept s v .valid)
-    (finished-received s v ∙ sym (tail-within [] (omega arith))) tt in
+    endings-frames bs (LineReader.finish s .state) [] (finish-stays s v .valid)
+    (finish-received s v ∙ sym (tail-within [] (omega arith))) tt in
     rw (split-at p bs h, finish-ends s p v e, i)
 endings-frames (suc b ∷ bs) s p v e h =
-    let r = valid-ready s v in
-    let k = ready-pushed s (suc b) r in
-    let w = ready-valid (LineReader.pushed s (suc b)) (omega arith, k .1) in
+    let w = pushed-stays s (suc b) v .valid in
     let i = endings-frames bs (LineReader.pushed s (suc b)) (p ++ (suc b ∷ [])) w (pushed-received s (suc b) v ∙ rw e (more-tail p (suc b)))
     (each-append (λ b. 1 ≤ b) p (suc b ∷ []) h (omega arith, tt)) in
     rw (eqb·suc-zero, ← append-snoc p (suc b) bs) i

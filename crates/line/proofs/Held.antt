@@ -1,93 +1,70 @@
 -- The state since the last 00: which bytes it holds, and what the 00 behind them gives.
 -- Assumes nothing.
-use mathlib.Core.Path.{_≡_, refl, sym, ap, _∙_}
-use mathlib.Core.Bool.{false, cond}
+use mathlib.Core.Path.{_≡_, refl, ap, _∙_}
+use mathlib.Core.Bool.{false}
 use mathlib.Core.List.{List, [], _∷_}
 use mathlib.Core.Option.{Option, none, some}
-use Prim.Native.Nat.{ℕ, _+_, _-_, _≤_, _<_}
-use native.Mathlib.Nat.{add-zero, zero-add}
+use Prim.Native.Nat.{ℕ, zero, suc, _+_, _-_, _≤_, _<_}
 use native.Mathlib.Omega.{arith}
-use lib.Dec.{ltb, eqb}
-use lib.ListN.{length, take, length-drop, length-take}
-use lib.Seq.{length-take-le}
-use borrow.Author.Tests.{eq-eqb, ne-eqb, lt-ltb, le-ltb, ltb-true, ltb-false}
+use lib.ListN.{length, length-drop, length-take}
+use borrow.Author.Tests.{lt-ltb, le-ltb}
 use Rattle.octets.specs.Bytes.{run, overlay, number}
 use Rattle.octets.proofs.Conditions.{cond-by}
-use Rattle.octets.proofs.Overlay.{run-take, length-overlay, overlay-inside, overlay-part, overlay-before}
+use Rattle.octets.proofs.Overlay.{run-take, length-run, length-overlay, overlay-part, overlay-before}
 use Rattle.line.specs.Limits.{header-length, checksum-length, shortest-message, longest-data, longest-form}
-use Rattle.line.specs.Judge.{wrongLength, payloadOf}
-use Rattle.line.specs.Cobs.{uncobs}
-use Rattle.line.specs.Reader.{frame-offset, reader-length, overlong, receivedCount, withCount, receivedBytes, pushedAll}
-use Rattle.line.specs.Reader.{empty, failed, FrameOutcome, frameOutcome, unpacked, finishForm, finish, dataGivenPromise, partOf}
-use Rattle.line.specs.Reader.{dataPromise}
-use Rattle.line.proofs.State.{Ready, ready-valid, length-counted, count-counted, run-counted, pushes-fit, pushes-some}
-use Rattle.line.proofs.Lent.{fit-length}
+use Rattle.line.specs.Judge.{wrongLength, payloadOf, judge, judgeReceived, decodedReceived}
+use Rattle.line.specs.Cobs.{groupBytes, uncobs}
+use Rattle.line.specs.ReaderLayout.{frame-offset, overlong, receivedCount, withCount, receivedBytes, unpacked}
+use Rattle.line.specs.Reader.{reader-length, receivedOf, readerFresh, empty, failed, verdictReport, frameOutcome, finishForm}
+use Rattle.line.specs.Reader.{closedState, finish, dataGivenPromise, partOf, dataPromise}
+use Rattle.line.proofs.State.{ready-valid, length-counted, count-counted, run-counted}
+use Rattle.line.proofs.Judged.{fit-length}
+
+-- ---- the bytes since the last 00
+
+module _ (s : List ℕ) where
+  pub received-none : longest-form < receivedCount s → receivedOf s ≡ none
+  unfolding receivedOf
+  received-none h = rw (lt-ltb longest-form (receivedCount s) h)
+
+  pub received-some : receivedCount s ≤ longest-form → receivedOf s ≡ some (receivedBytes s)
+  unfolding receivedOf
+  received-some h = rw (le-ltb longest-form (receivedCount s) h)
+
+  pub received-nothing : receivedCount s ≡ 0 → receivedOf s ≡ some []
+  unfolding receivedBytes
+  received-nothing e = rw (received-some (omega arith), e)
+
+  pub length-kept : reader-length ≤ length s → receivedCount s ≤ longest-form → length (receivedBytes s) ≡ receivedCount s
+  unfolding receivedBytes
+  length-kept h l = length-run frame-offset (receivedCount s) s (omega arith)
 
 -- ---- the 00 of a frame
 
+judged-some : (form : List ℕ) → 0 < length form → judgeReceived (some form) ≡ some (judge form)
+judged-some [] h = absurd (omega arith)
+judged-some (b ∷ bs) h = refl
+
+positive : (n : ℕ) → (n ≡ 0 → ⊥) → 0 < n
+positive zero f = absurd (f refl)
+positive (suc n) f = omega arith
+
 module _ (s : List ℕ) where
   pub finish-empty : receivedCount s ≡ 0 → frameOutcome empty (withCount 0 s) ≡ finish s
-  unfolding finish
-  finish-empty e = rw (eq-eqb (receivedCount s) 0 e)
+  unfolding finish closedState readerFresh uncobs groupBytes unpacked
+  finish-empty e = rw (received-nothing s e)
 
   pub finish-over : longest-form < receivedCount s → frameOutcome (failed 1 none) (withCount 0 s) ≡ finish s
-  unfolding finish
-  finish-over h = rw (ne-eqb (receivedCount s) 0 (λ e. omega arith), lt-ltb longest-form (receivedCount s) h)
+  unfolding finish closedState readerFresh unpacked verdictReport
+  finish-over h = rw (received-none s h)
 
-  pub finish-form : (receivedCount s ≡ 0 → ⊥) → receivedCount s ≤ longest-form → frame-offset ≤ length s
+  pub finish-form : (receivedCount s ≡ 0 → ⊥) → receivedCount s ≤ longest-form → reader-length ≤ length s
       → finishForm (run frame-offset (receivedCount s) (withCount 0 s)) (withCount 0 s) ≡ finish s
-  unfolding finish receivedBytes
-  finish-form n h l = rw (ne-eqb (receivedCount s) 0 n, le-ltb longest-form (receivedCount s) h, run-counted 0 s l (receivedCount s))
-
--- ---- what a 00 gives behind the bytes t, where s keeps none of a frame
-
-module _ (s t : List ℕ) (h : reader-length ≤ length s) (z : receivedCount s ≡ 0) where
-  ready : Ready s
-  ready = (h, omega arith)
-
-  fitted : 0 < length t → length t ≤ longest-form → pushedAll s t ≡ withCount (length t) (overlay frame-offset t s)
-  fitted k l = rw (z, zero-add, add-zero) at (pushes-fit t s ready k (omega arith))
-
-  pub held-form : 0 < length t → length t ≤ longest-form → finish (pushedAll s t) ≡ finishForm t (withCount 0 (pushedAll s t))
-  held-form k l =
-      let o = overlay frame-offset t s in
-      let e : length o ≡ length s = length-overlay frame-offset t s (omega arith) in
-      let n = length-counted (length t) o (omega arith) in
-      let c = count-counted (length t) o (omega arith) (omega arith) in
-      let f = finish-form (withCount (length t) o) (λ x. omega arith) (omega arith) (omega arith) in
-      let r = run-counted 0 (withCount (length t) o) (omega arith) (length t) ∙ run-counted (length t) o (omega arith) (length t) in
-      rw (fitted k l) (sym (rw (c, r, overlay-inside frame-offset t s (omega arith)) at f))
-
-  -- more bytes than the longest form has
-  pub held-over : longest-form < length t → finish (pushedAll s t) ≡ frameOutcome (failed 1 none) (withCount 0 (pushedAll s t))
-  held-over l =
-      let room = longest-form - receivedCount s in
-      let o = overlay (frame-offset + receivedCount s) (take room t) s in
-      let m = length-take-le room t (omega arith) in
-      let e : length o ≡ length s = length-overlay (frame-offset + receivedCount s) (take room t) s (omega arith) in
-      let c = count-counted overlong o (omega arith) (omega arith) in
-      rw (pushes-some t s ready (omega arith) (omega arith) (omega arith)) (sym (finish-over (withCount overlong o) (omega arith)))
-
-  -- how many bytes it holds
-  pub held-count : cond (ltb longest-form (length t)) overlong (length t) ≡ receivedCount (pushedAll s t)
-  unfolding pushedAll
-  held-count =
-      cond-by (λ n. n ≡ receivedCount (pushedAll s t)) (ltb longest-form (length t)) overlong (length t) (λ e. over (ltb-true _ _ e))
-      (λ e. within t refl (ltb-false _ _ e))
-    where
-      over : longest-form < length t → overlong ≡ receivedCount (pushedAll s t)
-      over l =
-          let room = longest-form - receivedCount s in
-          let m = length-take-le room t (omega arith) in
-          let e = length-overlay (frame-offset + receivedCount s) (take room t) s (omega arith) in
-          rw (pushes-some t s ready (omega arith) (omega arith) (omega arith)) (sym (count-counted overlong _ (omega arith) (omega arith)))
-
-      within : (x : List ℕ) → x ≡ t → length t ≤ longest-form → length t ≡ receivedCount (pushedAll s t)
-      within [] p l = rw (← p) (sym z)
-      within (b ∷ bs) p l =
-          let k = ap length p in
-          let e = length-overlay frame-offset t s (omega arith) in
-          rw (fitted (omega arith) l) (sym (count-counted (length t) _ (omega arith) (omega arith)))
+  unfolding finish closedState finishForm readerFresh receivedBytes
+  finish-form n h l =
+      let k = length-kept s l h in
+      let m = positive (receivedCount s) n in
+      rw (run-counted 0 s (omega arith) (receivedCount s), received-some s h, judged-some (receivedBytes s) (omega arith))
 
 -- ---- the state that a 00 leaves
 
@@ -116,13 +93,9 @@ module _ (s : List ℕ) (h : reader-length ≤ length s) where
       (rw (overlay-part frame-offset header-length n xs s (omega arith) (omega arith), run-take header-length n xs, t))
 
 pub finish-leaves : (s : List ℕ) → reader-length ≤ length s → (length (finish s .state) ≡ length s) × (receivedCount (finish s .state) ≡ 0)
-unfolding finish finishForm
+unfolding finish closedState readerFresh
 finish-leaves s h =
     let l = length-counted 0 s (omega arith) in
     let c = count-counted 0 s (omega arith) (omega arith) in
-    let u = unpacked-keeps (withCount 0 s) (omega arith) (uncobs (receivedBytes s)) in
-    cond-by Leaves (eqb (receivedCount s) 0) _ _ (λ e. (l, c)) (λ e.
-    cond-by Leaves (ltb longest-form (receivedCount s)) _ _ (λ f. (l, c)) (λ f. (u .0 ∙ l, u .1 ∙ c)))
-  where
-    Leaves : FrameOutcome → Type 0
-    Leaves x = (length (x .state) ≡ length s) × (receivedCount (x .state) ≡ 0)
+    let u = unpacked-keeps (withCount 0 s) (omega arith) (decodedReceived (receivedOf s)) in
+    (u .0 ∙ l, u .1 ∙ c)

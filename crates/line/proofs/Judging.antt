@@ -19,7 +19,8 @@ use Rattle.line.specs.Judge.{bodyOf, checksumOf, magicOf, versionOf, seq
 use Rattle.line.specs.Judge.{judge}
 use Rattle.line.specs.Cobs.{uncobs}
 use Rattle.line.specs.Decoding.{measured, plain}
-use Rattle.line.specs.Reader.{frame-offset, reader-length, ReadReport, failed, message, verdictReport, frameOutcome, unpacked}
+use Rattle.line.specs.ReaderLayout.{frame-offset, unpacked}
+use Rattle.line.specs.Reader.{reader-length, ReadReport, failed, message, verdictReport, frameOutcome}
 use Rattle.line.specs.Reader.{finishForm}
 use Rattle.line.specs.declared.cobs.Measured.{Measured}
 use Rattle.line.specs.declared.cobs.Measured.the-variants.{Bad, Length}

@@ -1,35 +1,24 @@
 -- A state of which a call is lent the first bytes: what it does to them is what it does to the whole state.
 -- Assumes nothing.
-use mathlib.Core.Path.{_≡_, refl}
-use mathlib.Core.Bool.{Bool, true, false, _||_}
+use mathlib.Core.Path.{_≡_, refl, ap}
 use mathlib.Core.List.{List, [], _∷_, _++_}
 use mathlib.Core.Option.{Option, none, some}
 use Prim.Native.Nat.{ℕ, _+_, _≤_}
 use native.Mathlib.Omega.{arith}
-use lib.Dec.{ltb, eqb}
+use lib.Dec.{ltb}
 use lib.ListN.{length, length-append}
 use borrow.Author.Tests.{ltb-true, ltb-false, le-leb}
 use Rattle.octets.specs.Bytes.{bytes, run}
 use Rattle.octets.proofs.Numbers.{length-bytes}
-use Rattle.octets.proofs.Conditions.{cond-by, cond-map}
+use Rattle.octets.proofs.Conditions.{cond-by, cond-both, cond-map}
 use Rattle.octets.proofs.Overlay.{length-overlay, overlay-append, run-append}
-use Rattle.line.specs.Limits.{shortest-message, longest-message, longest-data, longest-form}
-use Rattle.line.specs.Judge.{wrongLength}
-use Rattle.line.specs.Cobs.{uncobs}
-use Rattle.line.specs.Reader.{frame-offset, reader-length, overlong, receivedCount, withCount, receivedBytes, validReader, pushed}
-use Rattle.line.specs.Reader.{FrameOutcome, frameOutcome, unpacked, finishForm, finish, data-offset, dataGivenPromise, partOf}
-use Rattle.line.specs.Reader.{dataPromise}
+use Rattle.line.specs.Limits.{longest-data, longest-form}
+use Rattle.line.specs.Judge.{wrongLength, decodedReceived}
+use Rattle.line.specs.ReaderLayout.{frame-offset, overlong, receivedCount, withCount, receivedBytes, unpacked, data-offset}
+use Rattle.line.specs.Reader.{reader-length, receivedOf, validReader, readerFresh, pushed, FrameOutcome, frameOutcome, closedState}
+use Rattle.line.specs.Reader.{finish, tailPromise, dataGivenPromise, partOf, dataPromise}
+use Rattle.line.proofs.Judged.{fit-length}
 use Rattle.line.proofs.State.{length-counted}
-
--- bytes with a message's length
-pub fit-length : (xs : List ℕ) → wrongLength xs ≡ false → (shortest-message ≤ length xs) × (length xs ≤ longest-message)
-fit-length xs e =
-    let f = neither (ltb (length xs) shortest-message) _ e in
-    (ltb-false (length xs) shortest-message (f .0), ltb-false longest-message (length xs) (f .1))
-  where
-    neither : (a b : Bool) → (a || b) ≡ false → (a ≡ false) × (b ≡ false)
-    neither true b p = (p, cc)
-    neither false b p = (refl, p)
 
 -- ---- a state in two parts
 
@@ -38,7 +27,7 @@ abbrev behind : List ℕ → FrameOutcome → FrameOutcome
 behind u x = frameOutcome (x .answer) (x .state ++ u)
 
 module _ (t u : List ℕ) (h : reader-length ≤ length t) where
-  pub count-append : receivedCount (t ++ u) ≡ receivedCount t
+  count-append : receivedCount (t ++ u) ≡ receivedCount t
   unfolding receivedCount
   count-append = rw (run-append t u 0 2 (omega arith))
 
@@ -46,14 +35,27 @@ module _ (t u : List ℕ) (h : reader-length ≤ length t) where
   unfolding withCount
   counted-append n = let l = length-bytes 2 n in overlay-append t u 0 (bytes 2 n) (omega arith)
 
-  kept-append : receivedCount t ≤ longest-form → receivedBytes (t ++ u) ≡ receivedBytes t
-  unfolding receivedBytes
-  kept-append k = rw (count-append, run-append t u frame-offset (receivedCount t) (omega arith))
+  pub received-append : receivedOf (t ++ u) ≡ receivedOf t
+  unfolding receivedOf receivedBytes
+  received-append =
+      let n = receivedCount t in
+      rw count-append
+      (cond-both (λ x y. x ≡ y) (ltb longest-form n) (λ e. refl) (λ e.
+      let l = ltb-false longest-form n e in
+      ap some (run-append t u frame-offset n (omega arith))))
+
+  pub fresh-append : readerFresh (t ++ u) ≡ readerFresh t ++ u
+  unfolding readerFresh
+  fresh-append = counted-append 0
 
   pub valid-append : validReader (t ++ u) ≡ validReader t
   unfolding validReader
   valid-append =
       rw (count-append, le-leb reader-length (length t) h, le-leb reader-length (length (t ++ u)) (simp length-append (omega arith)))
+
+  pub tail-append : tailPromise (t ++ u) ≡ tailPromise t
+  unfolding tailPromise
+  tail-append = rw (valid-append, received-append)
 
   pub dataOf-append : (n : ℕ) → dataPromise (t ++ u) n ≡ dataPromise t n
   unfolding dataPromise dataGivenPromise partOf
@@ -90,13 +92,11 @@ module _ (t u : List ℕ) (h : reader-length ≤ length t) where
       (λ e. counted-append t u h overlong))
 
   pub finish-append : finish (t ++ u) ≡ behind u (finish t)
-  unfolding finish finishForm
+  unfolding finish closedState readerFresh
   finish-append =
       let l : length (withCount 0 t) ≡ length t = length-counted 0 t (omega arith) in
-      rw (count-append t u h, counted-append t u h 0)
-      (cond-map (behind u) (eqb (receivedCount t) 0) (λ e. refl) (λ e.
-      cond-map (behind u) (ltb longest-form (receivedCount t)) (λ f. refl) (λ f.
       rw (
-        kept-append t u h (ltb-false longest-form (receivedCount t) f),
-        unpacked-append (withCount 0 t) u (omega arith) (uncobs (receivedBytes t)),
-      ))))
+        received-append t u h,
+        counted-append t u h 0,
+        unpacked-append (withCount 0 t) u (omega arith) (decodedReceived (receivedOf t)),
+      )

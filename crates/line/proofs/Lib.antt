@@ -10,12 +10,14 @@ pub mod Alike
 pub mod Groups
 pub mod Decoding
 pub mod InPlace
+pub mod Judged
 pub mod State
 pub mod Judging
 pub mod Rest
 pub mod Reading
 pub mod Lent
 pub mod Held
+pub mod Received
 pub mod Assemble
 pub mod Sending
 pub mod Proved

@@ -16,7 +16,8 @@ use Rattle.octets.proofs.Numbers.{length-bytes}
 use Rattle.octets.proofs.Overlay.{length-overlay, overlay-after, overlay-none, overlay-again, overlay-next, overlay-swap, put-fits}
 use Rattle.octets.proofs.Overlay.{number-put, copied-fits}
 use Rattle.line.specs.Limits.{longest-form}
-use Rattle.line.specs.Reader.{frame-offset, reader-length, overlong, receivedCount, withCount, validReader, pushed, pushedAll}
+use Rattle.line.specs.ReaderLayout.{frame-offset, overlong, receivedCount, withCount}
+use Rattle.line.specs.Reader.{reader-length, validReader, pushed, pushedAll}
 
 -- ---- the count
 

@@ -1,7 +1,7 @@
 -- What the line layer's tests make of the bytes before a 00 (document 01, "Reading a request", down to magic).
 -- Assumes nothing: these are definitions.
 use mathlib.Core.Bool.{Bool, cond, not, _||_}
-use mathlib.Core.List.{List}
+use mathlib.Core.List.{List, [], _∷_, _++_}
 use mathlib.Core.Option.{Option, none, some}
 use Prim.Native.Nat.{ℕ, _-_}
 use lib.Dec.{eqb, ltb}
@@ -73,3 +73,24 @@ judgeForm (some xs) =
 
 unfoldable pub judge : List ℕ → LineVerdict
 judge form = judgeForm (decoded form)
+
+-- ---- What has come of a frame since the last 00: its bytes, none where they are more than 4,140
+
+unfoldable pub progressOf : List ℕ → Option (List ℕ)
+progressOf bs = cond (ltb longest-form (length bs)) none (some bs)
+
+-- one byte more, or one too many
+unfoldable pub moreReceived : Option (List ℕ) → ℕ → Option (List ℕ)
+moreReceived none b = none
+moreReceived (some bs) b = cond (ltb (length bs) longest-form) (some (bs ++ (b ∷ []))) none
+
+-- the verdict at a 00; none on an empty frame, which is ignored
+abbrev pub judgeReceived : Option (List ℕ) → Option LineVerdict
+judgeReceived none = some (failure reason-form none)
+judgeReceived (some []) = none
+judgeReceived (some (b ∷ bs)) = some (judge (b ∷ bs))
+
+-- the bytes of its form, unless it is none
+abbrev pub decodedReceived : Option (List ℕ) → Option (List ℕ)
+decodedReceived none = none
+decodedReceived (some form) = uncobs form

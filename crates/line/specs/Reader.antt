@@ -1,19 +1,20 @@
--- The reader's lent state, and what each call of the reader answers and leaves (document 01, "Reading a request", "When a call says no").
--- Assumes nothing: these are definitions.
+-- What each call of the reader answers, and what it leaves in the lent state (document 01, "Reading a request", "When a call says no").
+-- Which byte of the state is where stands in ReaderLayout. Assumes nothing: these are definitions.
 use mathlib.Core.Bool.{Bool, cond, _&&_}
 use mathlib.Core.List.{List, [], _∷_}
 use mathlib.Core.Option.{Option, none, some}
-use Prim.Native.Nat.{ℕ, suc, _+_}
+use Prim.Native.Nat.{ℕ, suc}
 use lib.Dec.{leb, ltb, eqb}
 use lib.ListN.{length}
 use denote.Ref.{now}
-use Rattle.octets.specs.Bytes.{bytes, run, numberAt, overlay}
+use Rattle.octets.specs.Bytes.{run}
 use Rattle.octets.specs.Places.{LentBytes, Place, placeIn}
-use Rattle.line.specs.Limits.{header-length, longest-data, longest-form}
+use Rattle.line.specs.Limits.{longest-data, longest-form}
 use Rattle.line.specs.Numbers.{reason-form, reason-checksum, reason-length, reason-magic}
 use Rattle.line.specs.Message.{Message}
 use Rattle.line.specs.Cobs.{uncobs}
-use Rattle.line.specs.Judge.{LineVerdict, failure, good, wrongLength, judge}
+use Rattle.line.specs.Judge.{LineVerdict, failure, good, judge, judgeReceived, decodedReceived}
+use Rattle.line.specs.ReaderLayout.{overlong, receivedCount, withCount, receivedBytes, withByte, unpacked, data-offset}
 use Rattle.line.specs.declared.reader.Answer.{Answer}
 use Rattle.line.specs.declared.reader.Answer.the-variants as answer
 use Rattle.line.specs.declared.reader.Reading.{Reading}
@@ -24,29 +25,9 @@ use Rattle.line.specs.declared.reader.Unfinished.the-variants as tail-an
 use Rattle.line.specs.declared.reader.Handed.{Handed}
 use Rattle.line.specs.declared.reader.Handed.the-variants as handed-answer
 
--- The state: how many bytes of the frame have come, in two bytes, and then those bytes.
-
-abbrev pub frame-offset : ℕ
-frame-offset = 2
-
--- the state's published length: 4,142 bytes
+-- the state's published length
 abbrev pub reader-length : ℕ
-reader-length = frame-offset + longest-form
-
--- stands for more bytes than the longest form has
-abbrev pub overlong : ℕ
-overlong = suc longest-form
-
-unfoldable pub receivedCount : List ℕ → ℕ
-receivedCount s = numberAt 2 s 0
-
--- the state with another count
-unfoldable pub withCount : ℕ → List ℕ → List ℕ
-withCount n s = overlay 0 (bytes 2 n) s
-
--- the bytes of the frame that have come
-unfoldable pub receivedBytes : List ℕ → List ℕ
-receivedBytes s = run frame-offset (receivedCount s) s
+reader-length = 4142
 
 -- what has come of a frame since the last 00: its bytes, none where they are more than a form has
 unfoldable pub receivedOf : List ℕ → Option (List ℕ)
@@ -55,6 +36,10 @@ receivedOf s = cond (ltb longest-form (receivedCount s)) none (some (receivedByt
 -- what the table's 12 requires of the state
 unfoldable pub validReader : List ℕ → Bool
 validReader s = leb reader-length (length s) && leb (receivedCount s) overlong
+
+-- the state with nothing of a frame, as a start leaves it
+unfoldable pub readerFresh : List ℕ → List ℕ
+readerFresh s = withCount 0 s
 
 -- What an answer reports: document 01's numbers and values.
 pub data ReadReport : Type 0 where
@@ -81,11 +66,14 @@ unfoldable pub verdictReport : LineVerdict → ReadReport
 verdictReport (failure reason sequence) = failed reason sequence
 verdictReport (good m) = message (m .version) (m .sequence) (m .command) (length (m .payload))
 
+-- what a 00 is answered, by the verdict on its frame; an empty frame has none
+abbrev pub closedReport : Option LineVerdict → ReadReport
+closedReport none = empty
+closedReport (some v) = verdictReport v
+
 -- One byte that is not 00: kept, or one too many.
 unfoldable pub pushed : List ℕ → ℕ → List ℕ
-pushed s b =
-    cond (ltb (receivedCount s) longest-form) (withCount (receivedCount s + 1) (overlay (frame-offset + receivedCount s) (b ∷ []) s))
-    (withCount overlong s)
+pushed s b = cond (ltb (receivedCount s) longest-form) (withByte b s) (withCount overlong s)
 
 -- bytes that are not 00, one after the other
 unfoldable pub pushedAll : List ℕ → List ℕ → List ℕ
@@ -100,20 +88,17 @@ pub record FrameOutcome : Type 0 where
 abbrev pub frameOutcome : ReadReport → List ℕ → FrameOutcome
 frameOutcome a s = record { answer = a; state = s }
 
--- the bytes of a form at the frame's offset, where they have a message's length
-unfoldable pub unpacked : Option (List ℕ) → List ℕ → List ℕ
-unpacked none s = s
-unpacked (some xs) s = cond (wrongLength xs) s (overlay frame-offset xs s)
-
+-- of the form's bytes, in a state with nothing of a frame
 unfoldable pub finishForm : List ℕ → List ℕ → FrameOutcome
 finishForm form s = frameOutcome (verdictReport (judge form)) (unpacked (uncobs form) s)
 
--- the count is 0 afterwards; an empty frame has no reason, and one of more than 4,140 bytes has reason 1
+-- the state behind a 00: nothing of a frame, and a message's bytes where the frame decodes to a message's length
+unfoldable pub closedState : List ℕ → List ℕ
+closedState s = unpacked (decodedReceived (receivedOf s)) (readerFresh s)
+
+-- an empty frame has no reason, and one of more than 4,140 bytes has reason 1
 unfoldable pub finish : List ℕ → FrameOutcome
-finish s =
-    cond (eqb (receivedCount s) 0) (frameOutcome empty (withCount 0 s))
-    (cond (ltb longest-form (receivedCount s)) (frameOutcome (failed reason-form none) (withCount 0 s))
-    (finishForm (receivedBytes s) (withCount 0 s)))
+finish s = frameOutcome (closedReport (judgeReceived (receivedOf s))) (closedState s)
 
 -- How many bytes a call read, what it answered, and the state that it left.
 pub record ReadOutcome : Type 0 where
@@ -138,7 +123,7 @@ readPiece s (b ∷ bs) =
 unfoldable pub readPromise : List ℕ → List ℕ → ReadOutcome
 readPromise s piece = cond (validReader s) (readPiece s piece) (record { used = 0; answer = refused 12; state = s })
 
--- A call of `start`: it tests the room alone, and sets the count. `refusal` is the table's number, none where the call is carried out.
+-- A call of `start`: it tests the room alone. `refusal` is the table's number, none where the call is carried out.
 pub record ReaderStartOutcome : Type 0 where
   pub refusal : Option ℕ
   pub state : List ℕ
@@ -152,7 +137,7 @@ readerStartOutcome r s = record { refusal = readerStartReport r; state = s }
 
 unfoldable pub readerStartPromise : List ℕ → ReaderStartOutcome
 readerStartPromise s =
-    cond (leb reader-length (length s)) (record { refusal = none; state = withCount 0 s }) (record { refusal = some 12; state = s })
+    cond (leb reader-length (length s)) (record { refusal = none; state = readerFresh s }) (record { refusal = some 12; state = s })
 
 -- A call of `tail`: how many bytes of an unfinished frame have come, or that they are more than the longest form has.
 pub data TailReport : Type 0 where
@@ -165,15 +150,16 @@ tailReport tail-answer.Refused = TailReport.refused 12
 tailReport (tail-answer.Bytes n) = unfinished n
 tailReport tail-answer.Longer = longer
 
+-- by what has come of the frame
+abbrev pub tailOf : Option (List ℕ) → TailReport
+tailOf none = longer
+tailOf (some bs) = unfinished (length bs)
+
 unfoldable pub tailPromise : List ℕ → TailReport
-tailPromise s =
-    cond (validReader s) (cond (ltb longest-form (receivedCount s)) longer (unfinished (receivedCount s))) (TailReport.refused 12)
+tailPromise s = cond (validReader s) (tailOf (receivedOf s)) (TailReport.refused 12)
 
 -- The bytes from the data's offset on, so many: the data of the message that a call of `read` handed out with that length, in the
 -- state as that call left it; for any other length, or after another call of `read`, the bytes that stand there.
-abbrev pub data-offset : ℕ
-data-offset = frame-offset + header-length
-
 unfoldable pub dataGivenPromise : List ℕ → ℕ → Option ℕ
 dataGivenPromise s n = cond (validReader s) (cond (ltb longest-data n) (some 9) none) (some 12)
 

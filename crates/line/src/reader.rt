@@ -14,7 +14,8 @@ ghost use Rattle.line.specs.Limits.{shortest-message, longest-message, l
 ghost use Rattle.line.specs.Cobs.{uncobs};
 ghost use Rattle.line.specs.Decoding.{measured, plain};
 ghost use Rattle.line.specs.Judge.{judgeForm};
-ghost use Rattle.line.specs.Reader.{frame-offset, reader-length, overlong, receivedCount, withCount, validReader, readReport};
+ghost use Rattle.line.specs.ReaderLayout.{frame-offset, overlong, receivedCount, withCount};
+ghost use Rattle.line.specs.Reader.{reader-length, validReader, readReport};
 ghost use Rattle.line.specs.Reader.{verdictReport, pushedAll, frameOutcome, finishForm, finish, readOutcome, readPromise};
 ghost use Rattle.line.specs.Reader.{readerStartOutcome, readerStartPromise, tailReport, tailPromise, dataReport, dataGivenPromise};
 ghost use Rattle.line.specs.Reader.{dataPromise, dataPlace};

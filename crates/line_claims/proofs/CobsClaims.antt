@@ -1,11 +1,10 @@
--- What COBS keeps of a list: reading its form gives it back, the form has no zero byte, bytes are
--- read from bytes, and the form's length is bounded.
+-- What COBS keeps of a list: reading its form gives it back, the form has no zero byte, and its length is bounded.
 -- Assumes nothing.
 use mathlib.Core.Path.{_≡_, refl}
-use mathlib.Core.Bool.{Bool, true, false, _&&_, _||_}
-use mathlib.Core.Option.{Option, none, some, Option·map}
-use mathlib.Core.List.{List, [], _∷_, _++_}
-use Prim.Native.Nat.{ℕ, zero, suc, _+_, _-_, _≤_}
+use mathlib.Core.Bool.{Bool, true, false, _&&_}
+use mathlib.Core.Option.{some}
+use mathlib.Core.List.{List, [], _∷_}
+use Prim.Native.Nat.{ℕ, zero, suc, _+_, _≤_}
 use native.Mathlib.Omega.{arith}
 use native.Mathlib.Nat.{add-zero}
 use native.Mathlib.Numerals.{sub-one}
@@ -13,10 +12,8 @@ use borrow.Author.Tests.{lt-ltb, le-ltb, eqb-true}
 use lib.ListN.{drop}
 use lib.Dec.{eqb, ltb, eqb·suc-suc, eqb·suc-zero}
 use Rattle.octets.specs.Bytes.{Byte, Each, equal}
-use Rattle.octets.proofs.Conditions.{cond-by}
-use Rattle.octets.proofs.Each.{each-append}
 use Rattle.line.specs.Limits.{longest-group}
-use Rattle.line.specs.Cobs.{full-code, places-left, coded, groups, cobs, impliedZero, lastOneAfterFull, groupBytes, uncobs}
+use Rattle.line.specs.Cobs.{full-code, places-left, coded, groups, cobs, lastOneAfterFull, groupBytes, uncobs}
 use Rattle.line.proofs.FrameLength
 use Rattle.line.specs.Frame.{NonZero}
 use Rattle.line_claims.specs.Demand3.{LineRoundTrip, NoZero, FormFits, FrameFits}
@@ -98,39 +95,6 @@ above-zero xs = cobs-each (λ b. 1 ≤ b) (λ b. Unit {0}) (λ n h. omega arith)
     any : (ys : List ℕ) → Each (λ b. Unit {0}) ys
     any [] = tt
     any (y ∷ ys) = (tt, any ys)
-
--- ---- reading keeps a property
-
--- P holds of each element read if it holds of a zero and of each element of the form
-module _ (P : ℕ → Type 0) (of-zero : P 0) where
-  abbrev EachRead : Option (List ℕ) → Type 0
-  EachRead none = Unit {0}
-  EachRead (some xs) = Each P xs
-
-  then-each : (f : List ℕ → List ℕ) → ((xs : List ℕ) → Each P xs → Each P (f xs)) → (o : Option (List ℕ)) → EachRead o
-      → EachRead (Option·map f o)
-  then-each f h none r = tt
-  then-each f h (some xs) r = h xs r
-
-  zeros-each : (holds : Bool) → Each P (impliedZero holds)
-  zeros-each true = (of-zero, tt)
-  zeros-each false = tt
-
-  group-each : (bs : List ℕ) (left : ℕ) (holds : Bool) → Each P bs → EachRead (groupBytes left holds bs)
-  unfolding groupBytes
-  group-each [] zero holds h = tt
-  group-each [] (suc left) holds h = tt
-  group-each (b ∷ bs) (suc left) holds h =
-      then-each (λ xs. b ∷ xs) (λ xs k. (h .0, k)) (groupBytes left holds bs) (group-each bs left holds (h .1))
-  group-each (c ∷ cs) zero holds h =
-      cond-by EachRead (eqb c 0 || lastOneAfterFull c cs) _ _ (λ e. tt) (λ e.
-      then-each (λ xs. impliedZero holds ++ xs) (λ xs k. each-append P (impliedZero holds) xs (zeros-each holds) k)
-      (groupBytes (c - 1) (ltb c full-code) cs) (group-each cs (c - 1) (ltb c full-code) (h .1)))
-
--- bytes are read from bytes
-pub uncobs-each : (form xs : List ℕ) → Each Byte form → uncobs form ≡ some xs → Each Byte xs
-unfolding uncobs
-uncobs-each form xs h e = rw e at (group-each Byte (omega arith) form 0 false h)
 
 -- ---- length
 

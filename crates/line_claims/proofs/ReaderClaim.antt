@@ -1,26 +1,25 @@
 -- Demand 3's claim over lists of calls of a line reader, the law of any stream behind it, and the cut law.
 -- Assumes nothing.
 use mathlib.Core.Path.{_≡_, refl, sym, ap, _∙_}
-use mathlib.Core.Bool.{Bool, true, false, cond}
-use mathlib.Core.List.{List, [], _∷_, _++_, map, map-append, append-assoc, append-nil}
-use mathlib.Core.Option.{Option, none, some}
-use Prim.Native.Nat.{ℕ, zero, suc, _≤_, _<_}
+use mathlib.Core.Bool.{true}
+use mathlib.Core.List.{List, [], _∷_, _++_, map, map-append, append-assoc}
+use mathlib.Core.Option.{some}
+use Prim.Native.Nat.{ℕ, zero, suc, _≤_}
 use native.Mathlib.Omega.{arith}
 use lib.Dec.{leb, ltb}
-use lib.ListN.{length, length-append}
-use borrow.Author.Tests.{leb-true, le-leb, ltb-true, ltb-false, le-ltb, lt-ltb}
-use Rattle.octets.specs.Bytes.{Each, overlay}
+use lib.ListN.{length}
+use borrow.Author.Tests.{leb-true, le-leb}
+use Rattle.octets.specs.Bytes.{Each}
 use Rattle.line.specs.Limits.{longest-form}
 use Rattle.line.specs.Message.{Message, InRange}
-use Rattle.line.specs.Cobs.{uncobs}
-use Rattle.line.specs.Judge.{LineVerdict, failure, good, fields, wrongLength, wrongChecksum, wrongMagic, judgeForm, judge}
-use Rattle.line.specs.Reader.{verdictReport, reader-length, frame-offset, receivedCount, withCount, pushedAll}
-use Rattle.line.specs.Reader.{overlong, unpacked, FrameOutcome, finishForm, finish, ReaderStartOutcome, readerStartPromise, unfinished}
-use Rattle.line.specs.Reader.{longer, tailPromise}
+use Rattle.line.specs.Judge.{LineVerdict, failure, good, judge, progressOf, judgeReceived}
+use Rattle.line.specs.Reader.{verdictReport, reader-length, receivedOf, validReader, readerFresh, FrameOutcome, finish, ReaderStartOutcome}
+use Rattle.line.specs.Reader.{readerStartPromise, tailOf, tailPromise}
 use Rattle.octets.proofs.Conditions.{cond-by, cond-both}
-use Rattle.line.proofs.State.{Ready, ready-valid, length-counted, count-counted, pushes-append, ready-pushes}
-use Rattle.line.proofs.Lent.{count-append}
-use Rattle.line.proofs.Held.{finish-empty, held-form, held-over, held-count, data-unpacked, finish-leaves}
+use Rattle.line.proofs.Judged.{tail-within, more-tail, judged-progress}
+use Rattle.line.proofs.Lent.{received-append, valid-append}
+use Rattle.line.proofs.Received.{valid-long, fresh-received, fresh-stays, pushed-received, pushed-stays, finish-received, finish-stays}
+use Rattle.line.proofs.Received.{finish-data}
 use Rattle.line_claims.proofs.JudgeClaim.{judge-of-message}
 use Rattle.line.specs.Frame.{split, nonEmpty, form}
 use Rattle.line.proofs.Pieces.{split-close, split-more, nonEmpty-append}
@@ -29,7 +28,7 @@ use Rattle.line_claims.proofs.LoanLaws.{lent-enough, front}
 use Rattle.line_claims.specs.Calls.{LineCall, read, start, lentState, back, messagesHanded, reasonsReported, answersTo00, Reader}
 use Rattle.line_claims.specs.Calls.{readerOn}
 use Rattle.line_claims.specs.Calls.{afterRestart, afterStart, afterLineCall, afterLineCalls, freshReader}
-use Rattle.line_claims.specs.Calls.{tailMeant, frameReport, gathered, goodOf, reasonOf, goodMessages, failureReasons}
+use Rattle.line_claims.specs.Calls.{tailMeant, frameReport, gathered, goodMessages, failureReasons}
 use Rattle.line_claims.proofs.Streams.{afterByte, stream, stream-read, bytesRead, call-stream, reads-stream}
 use Rattle.line_claims.specs.Demand3.{HandsOut, AnyStream, AnyMessages, AnyFailures, AnyTail, LineCut}
 use Rattle.line_claims.specs.Demand1.{StaysValid}
@@ -53,112 +52,55 @@ reasons-forms (m ∷ ms) r = rw (judge-of-message m (r .0)) (reasons-forms ms (r
 
 -- ---- one 00
 
--- a message's data as the state at the call's return holds them
-module _ (s : List ℕ) (h : Ready s) where
-  abbrev Hands : List ℕ → LineVerdict → Type 0
-  Hands t v = messagesHanded (verdictReport v) t ≡ goodOf v
-
-  handed-bytes : (form : Option (List ℕ)) → Hands (unpacked form s) (judgeForm form)
-  unfolding judgeForm unpacked messagesHanded verdictReport fields
-  handed-bytes none = refl
-  handed-bytes (some xs) =
-      let t = overlay frame-offset xs s in
-      cond-both Hands (wrongLength xs) (λ e. refl) (λ e.
-      cond-by (Hands t) (wrongChecksum xs) _ _ (λ f. refl) (λ f.
-      cond-by (Hands t) (wrongMagic xs) _ _ (λ g. refl) (λ g. rw (data-unpacked s (h .0) xs (h .1) e))))
-
-  handed-form : (t : List ℕ) → length t ≤ longest-form → messagesHanded (verdictReport (judge t)) (unpacked (uncobs t) s) ≡ goodOf (judge t)
-  unfolding judge
-  handed-form t l = rw (le-ltb longest-form (length t) l) (handed-bytes (uncobs t))
-
 -- what a 00 gives is the verdict on the bytes before it
 record Judged (t : List ℕ) (x : FrameOutcome) : Type 0 where
   answered : answersTo00 (x .answer) ≡ frameReport t ∷ []
   messages : messagesHanded (x .answer) (x .state) ≡ goodMessages (nonEmpty (t ∷ []))
   failures : reasonsReported (x .answer) ≡ failureReasons (nonEmpty (t ∷ []))
 
-verdict-answers : (v : LineVerdict) → answersTo00 (verdictReport v) ≡ verdictReport v ∷ []
-unfolding verdictReport answersTo00
-verdict-answers (failure reason sequence) = refl
-verdict-answers (good m) = refl
+module _ (s : List ℕ) (valid : validReader s ≡ true) where
+  judged-by : (b : ℕ) (bs : List ℕ) (v : LineVerdict) → judge (b ∷ bs) ≡ v → judgeReceived (receivedOf s) ≡ some v
+      → Judged (b ∷ bs) (finish s)
+  unfolding finish frameReport gathered nonEmpty answersTo00 messagesHanded reasonsReported verdictReport
+  judged-by b bs (failure reason sequence) j e = rw e (record { answered = rw j; messages = rw j; failures = rw j })
+  judged-by b bs (good m) j e =
+      let d = finish-data s valid m e in
+      rw e (record { answered = rw j; messages = rw (j, d); failures = rw j })
 
-verdict-reasons : (v : LineVerdict) → reasonsReported (verdictReport v) ≡ reasonOf v
-unfolding verdictReport reasonsReported
-verdict-reasons (failure reason sequence) = refl
-verdict-reasons (good m) = refl
-
-judge-over : (t : List ℕ) → longest-form < length t → judge t ≡ failure 1 none
-unfolding judge judgeForm
-judge-over t l = rw (lt-ltb longest-form (length t) l)
-
-cleared : (s : List ℕ) → reader-length ≤ length s → (reader-length ≤ length (withCount 0 s)) × (receivedCount (withCount 0 s) ≡ 0)
-cleared s h = (omega (arith, length-counted 0 s (omega arith)), count-counted 0 s (omega arith) (omega arith))
-
-module _ (s : List ℕ) (enough : reader-length ≤ length s) (clear : receivedCount s ≡ 0) where
-  judged-some : (b : ℕ) (bs : List ℕ) (k : Bool) → ltb longest-form (length (b ∷ bs)) ≡ k → Judged (b ∷ bs) (finish (pushedAll s (b ∷ bs)))
-  unfolding frameReport gathered nonEmpty finishForm answersTo00 messagesHanded reasonsReported verdictReport
-  judged-some b bs true e =
-      let l = ltb-true longest-form (length (b ∷ bs)) e in
-      let v = judge-over (b ∷ bs) l in
-      rw (held-over s (b ∷ bs) enough clear l) (record { answered = rw v; messages = rw v; failures = rw v })
-  judged-some b bs false e =
-      let t = b ∷ bs in
-      let l = ltb-false longest-form (length t) e in
-      let p = ready-pushes t s (enough, omega arith) in
-      let c = cleared (pushedAll s t) (omega arith) in
-      rw (held-form s t enough clear (omega arith) l)
-      (record {
-        answered = verdict-answers (judge t);
-        messages = rw append-nil (handed-form (withCount 0 (pushedAll s t)) (c .0, omega arith) t l);
-        failures = rw append-nil (verdict-reasons (judge t));
-      })
-
-  judged : (t : List ℕ) → Judged t (finish (pushedAll s t))
-  unfolding frameReport gathered nonEmpty pushedAll answersTo00 messagesHanded reasonsReported
-  judged [] = rw (← finish-empty s clear) (record { answered = refl; messages = refl; failures = refl })
-  judged (b ∷ bs) = judged-some b bs (ltb longest-form (length (b ∷ bs))) refl
+  judged : (t : List ℕ) → receivedOf s ≡ progressOf t → Judged t (finish s)
+  unfolding finish frameReport gathered nonEmpty answersTo00 messagesHanded reasonsReported
+  judged [] e = rw (e, tail-within [] (omega arith)) (record { answered = refl; messages = refl; failures = refl })
+  judged (b ∷ bs) e = judged-by b bs (judge (b ∷ bs)) refl (rw e (judged-progress b bs))
 
 -- ---- a reader and the bytes that it has read
 
 -- the state holds the bytes after the last 00, and what was answered before is the verdict on each piece
 record Follows (r : Reader) : Type 0 where
-  base : List ℕ
-  enough : reader-length ≤ length base
-  clear : receivedCount base ≡ 0
-  state : r .state ≡ pushedAll base (split (r .bytes) .rest)
+  valid : validReader (r .state) ≡ true
+  received : receivedOf (r .state) ≡ progressOf (split (r .bytes) .rest)
   answered : r .answered ≡ map frameReport (split (r .bytes) .closed)
   messages : r .messages ≡ goodMessages (nonEmpty (split (r .bytes) .closed))
   failures : r .failures ≡ failureReasons (nonEmpty (split (r .bytes) .closed))
 
-fresh-follows : (s : List ℕ) → reader-length ≤ length s → receivedCount s ≡ 0 → Follows (readerOn s)
-unfolding readerOn split pushedAll gathered nonEmpty
-fresh-follows s h z = record { base = s; enough = h; clear = z; state = refl; answered = refl; messages = refl; failures = refl }
-
-ready : (r : Reader) → Follows r → Ready (r .state)
-ready r f =
-    let p = ready-pushes (split (r .bytes) .rest) (f .base) (f .enough, omega arith) in
-    rw (f .state) (omega arith, p .1)
+fresh-follows : (s : List ℕ) → validReader s ≡ true → receivedOf s ≡ some [] → Follows (readerOn s)
+unfolding readerOn split gathered nonEmpty
+fresh-follows s v e =
+    record { valid = v; received = e ∙ sym (tail-within [] (omega arith)); answered = refl; messages = refl; failures = refl }
 
 byte-follows : (r : Reader) (b : ℕ) → Follows r → Follows (afterByte r b)
-unfolding afterByte pushedAll
+unfolding afterByte
 byte-follows r zero f =
-    let t = split (r .bytes) .rest in
-    let j : Judged t (finish (r .state)) = rw (f .state) (judged (f .base) (f .enough) (f .clear) t) in
-    let l = finish-leaves (r .state) (ready r f .0) in
+    let j = judged (r .state) (f .valid) (split (r .bytes) .rest) (f .received) in
     record {
-      base = finish (r .state) .state;
-      enough = omega (arith, ready r f .0);
-      clear = l .1;
-      state = rw (split-close (r .bytes));
+      valid = finish-stays (r .state) (f .valid) .valid;
+      received = rw (split-close (r .bytes)) (finish-received (r .state) (f .valid) ∙ sym (tail-within [] (omega arith)));
       answered = rw (split-close (r .bytes), map-append, f .answered, j .answered);
       messages = rw (split-close (r .bytes), nonEmpty-append, gathered-append, f .messages, j .messages);
       failures = rw (split-close (r .bytes), nonEmpty-append, gathered-append, f .failures, j .failures);
     }
 byte-follows r (suc b) f = record {
-  base = f .base;
-  enough = f .enough;
-  clear = f .clear;
-  state = rw (split-more (r .bytes) b, pushes-append, f .state);
+  valid = pushed-stays (r .state) (suc b) (f .valid) .valid;
+  received = rw (split-more (r .bytes) b, ← more-tail, ← f .received) (pushed-received (r .state) (suc b) (f .valid));
   answered = rw (split-more (r .bytes) b) (f .answered);
   messages = rw (split-more (r .bytes) b) (f .messages);
   failures = rw (split-more (r .bytes) b) (f .failures);
@@ -178,10 +120,12 @@ call-follows r (start lent) f =
     (leb reader-length (length t)) _ _
     (λ e.
     let l = leb-true reader-length (length t) e in
-    let c = cleared t l in
+    let c = fresh-stays t l .valid in
+    let k = valid-long (readerFresh t) c in
     let b = front reader-length lent (r .state) (lent-enough reader-length (r .state) lent (omega arith) l) in
     let u = b .rest in
-    rw (b .back) (fresh-follows (withCount 0 t ++ u) (simp length-append (omega arith)) (count-append (withCount 0 t) u (c .0) ∙ c .1)))
+    rw (b .back)
+    (fresh-follows (readerFresh t ++ u) (valid-append (readerFresh t) u k ∙ c) (received-append (readerFresh t) u k ∙ fresh-received t l)))
     (λ e. f)
 
 calls-follow : (cs : List LineCall) (r : Reader) → Follows r → Follows (afterLineCalls r cs)
@@ -195,9 +139,9 @@ module _ (room : List ℕ) (enough : reader-length ≤ length room) (cs : List L
   follows : Follows (afterLineCalls (freshReader room) cs)
   unfolding freshReader readerStartPromise
   follows =
-      let c = cleared room enough in
       rw (le-leb reader-length (length room) enough)
-      (calls-follow cs (readerOn (withCount 0 room)) (fresh-follows (withCount 0 room) (c .0) (c .1)))
+      (calls-follow cs (readerOn (readerFresh room))
+      (fresh-follows (readerFresh room) (fresh-stays room enough .valid) (fresh-received room enough)))
 
   pub any-stream : AnyStream (afterLineCalls (freshReader room) cs)
   any-stream = follows .answered
@@ -215,19 +159,14 @@ module _ (room : List ℕ) (enough : reader-length ≤ length room) (cs : List L
   )
 
   pub stays-valid : StaysValid (afterLineCalls (freshReader room) cs)
-  stays-valid = ready-valid _ (ready (afterLineCalls (freshReader room) cs) follows)
+  stays-valid = follows .valid
 
   pub any-tail : AnyTail (afterLineCalls (freshReader room) cs)
-  unfolding tailPromise tailMeant
+  unfolding tailPromise tailMeant progressOf
   any-tail =
-      let r = afterLineCalls (freshReader room) cs in
-      let t = split (r .bytes) .rest in
-      let c : cond (ltb longest-form (length t)) overlong (length t) ≡ receivedCount (r .state) =
-      rw (follows .state) (held-count (follows .base) t (follows .enough) (follows .clear)) in
-      rw (stays-valid, ← c)
-      (cond-by (λ n. cond (ltb longest-form n) longer (unfinished n) ≡ cond (ltb longest-form (length t)) longer (unfinished (length t)))
-      (ltb longest-form (length t)) _ _
-      (λ e. rw e) (λ e. refl))
+      let t = split (afterLineCalls (freshReader room) cs .bytes) .rest in
+      rw (stays-valid, follows .received)
+      (cond-both (λ x y. tailOf x ≡ y) (ltb longest-form (length t)) (λ e. refl) (λ e. refl))
 
 pub cut : LineCut
 unfolding readerOn

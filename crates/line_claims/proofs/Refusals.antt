@@ -11,16 +11,16 @@ use lib.Dec.{leb, ltb, eqb, eqb·suc-zero}
 use lib.ListN.{length}
 use borrow.Author.Tests.{le-leb, lt-leb, le-ltb, lt-ltb, leb-true, leb-false}
 use Rattle.octets.proofs.Conditions.{cond-by}
-use Rattle.line.specs.Limits.{longest-data, longest-form}
+use Rattle.line.specs.Limits.{longest-data}
 use Rattle.line.specs.Frame.{frame}
-use Rattle.line.specs.Judge.{LineVerdict, failure, good}
-use Rattle.line.specs.Reader.{ReadReport, refused, more, empty, message, failed, verdictReport, reader-length, receivedCount, validReader}
-use Rattle.line.specs.Reader.{pushed, FrameOutcome, finishForm, finish}
+use Rattle.line.specs.Judge.{LineVerdict, failure, good, judgeReceived}
+use Rattle.line.specs.Reader.{ReadReport, refused, more, empty, message, failed, verdictReport, closedReport, reader-length, receivedOf}
+use Rattle.line.specs.Reader.{validReader, pushed, finish}
 use Rattle.line.specs.Reader.{ReadOutcome, oneByteLater, readPiece, readPromise, ReaderStartOutcome, readerStartPromise, TailReport}
-use Rattle.line.specs.Reader.{unfinished, longer, tailPromise}
-use Rattle.line.specs.Reader.{dataGivenPromise, partOf, dataPromise}
+use Rattle.line.specs.Reader.{unfinished, longer, tailOf, tailPromise}
+use Rattle.line.specs.Reader.{dataGivenPromise}
 use Rattle.line.specs.Writer
-use Rattle.line.proofs.State.{valid-ready}
+use Rattle.line.proofs.Received.{valid-long, short-invalid, data-refused}
 use Rattle.line.proofs.Lent.{valid-append}
 use Rattle.line_claims.proofs.CobsClaims.{frame-fits}
 use Rattle.line_claims.proofs.LoanLaws.{back-same, lent-long, lent-short, front}
@@ -69,13 +69,12 @@ verdict-report (failure reason sequence) = refl
 verdict-report (good m) = refl
 
 finish-report : (s : List ℕ) → isRefused (finish s .answer) ≡ false
-unfolding finish finishForm
-finish-report s =
-    cond-by Says (eqb (receivedCount s) 0) _ _ (λ e. refl)
-    (λ e. cond-by Says (ltb longest-form (receivedCount s)) _ _ (λ f. refl) (λ f. verdict-report _))
+unfolding finish
+finish-report s = by (judgeReceived (receivedOf s))
   where
-    Says : FrameOutcome → Type 0
-    Says x = isRefused (x .answer) ≡ false
+    by : (v : Option LineVerdict) → isRefused (closedReport v) ≡ false
+    by none = refl
+    by (some v) = verdict-report v
 
 piece-report : (s piece : List ℕ) → isRefused (readPiece s piece .answer) ≡ false
 unfolding readPiece oneByteLater
@@ -99,6 +98,10 @@ tailRefused (TailReport.refused number) = true
 tailRefused (unfinished n) = false
 tailRefused longer = false
 
+tail-reports : (received : Option (List ℕ)) → tailRefused (tailOf received) ≡ false
+tail-reports none = refl
+tail-reports (some bs) = refl
+
 -- a tail has no number, and a refused one its own
 pub tail-refused-exactly : TailRefusedExactly
 unfolding tailPromise firstFailing
@@ -110,13 +113,8 @@ tail-refused-exactly s n = by (validReader s)
     reported : (t : TailReport) → tailRefused t ≡ false → Refused t none
     reported t f = (λ e. absurd (not-both f (ap tailRefused e)), λ e. absurd (let z : _≡_ {A = ℕ} 0 1 = cc in omega arith))
 
-    Tail : TailReport
-    Tail = cond (ltb longest-form (receivedCount s)) longer (unfinished (receivedCount s))
-
-    by : (b : Bool) → Refused (cond b Tail (TailReport.refused 12)) (cond (not b) (some 12) none)
-    by true =
-        cond-by (λ t. Refused t none) (ltb longest-form (receivedCount s)) _ _ (λ _. reported longer refl)
-        (λ _. reported (unfinished (receivedCount s)) refl)
+    by : (b : Bool) → Refused (cond b (tailOf (receivedOf s)) (TailReport.refused 12)) (cond (not b) (some 12) none)
+    by true = reported (tailOf (receivedOf s)) (tail-reports (receivedOf s))
     by false = (λ e. cc, λ e. cc)
 
 pub data-refused-exactly : DataRefusedExactly
@@ -131,8 +129,7 @@ data-refused-exactly s k = by (validReader s)
     by false = refl
 
 pub data-not-handed : DataNotHanded
-unfolding dataPromise partOf
-data-not-handed s k n e = rw e
+data-not-handed s k n e = data-refused s k n e
 
 pub start-refused-exactly : StartRefusedExactly
 unfolding readerStartPromise firstFailing
@@ -155,21 +152,23 @@ valid-answers : (part : List ℕ) → validReader part ≡ true → NotRefused p
 unfolding tailPromise dataGivenPromise readerStartPromise
 valid-answers part v = record {
   reads = λ piece a. not-both (refused-exactly part piece .0 a) v;
-  tails =
-      rw v (λ a.
-      not-both (cond-by (λ x. tailRefused x ≡ false) (ltb longest-form (receivedCount part)) longer (unfinished (receivedCount part))
-      (λ e. refl) (λ e. refl))
-      (ap tailRefused a));
+  tails = rw v (λ a. not-both (tail-reports (receivedOf part)) (ap tailRefused a));
   hands =
       λ n. rw v (λ a. not-both (cond-by (λ x. twelve x ≡ false) (ltb longest-data n) (some 9) none (λ e. refl) (λ e. refl)) (ap twelve a));
-  starts = rw (le-leb reader-length (length part) (valid-ready part v .0));
+  starts = rw (le-leb reader-length (length part) (valid-long part v));
 }
 
 pub too-little-12 : TooLittle12
-unfolding validReader tailPromise dataGivenPromise readerStartPromise
+unfolding tailPromise dataGivenPromise readerStartPromise
 too-little-12 s l e =
-    let short = lt-leb reader-length (length (lentState l s)) (lent-short reader-length s l (omega arith) e) in
-    record { reads = λ piece. refused-nothing (lentState l s) piece (rw short); tails = rw short; hands = λ n. rw short; starts = rw short }
+    let h = lent-short reader-length s l (omega arith) e in
+    let v = short-invalid (lentState l s) h in
+    record {
+      reads = λ piece. refused-nothing (lentState l s) piece v;
+      tails = rw v;
+      hands = λ n. rw v;
+      starts = rw (lt-leb reader-length (length (lentState l s)) h);
+    }
 
 pub too-little-nothing : TooLittleNothing
 unfolding afterLineCall afterLineRead afterOutcome afterStart afterRestart messagesHanded reasonsReported answersTo00
@@ -182,7 +181,7 @@ module _ (room : List ℕ) (enough : reader-length ≤ length room) (cs : List L
       let s = afterLineCalls (freshReader room) cs .state in
       let v = stays-valid room enough cs in
       let f = front reader-length l s e in
-      let h = lent-long reader-length s l e (valid-ready s v .0) in
+      let h = lent-long reader-length s l e (valid-long s v) in
       valid-answers (lentState l s) (sym (valid-append (lentState l s) (f .rest) h) ∙ rw (f .whole) v)
 
   -- ---- What was written is what is handed out

@@ -18,10 +18,8 @@ use Rattle.line.specs.Cobs.{full-code, places-left, Group, coded, unlessEnd, gr
 use Rattle.line.specs.Cobs.{uncobs}
 use Rattle.line.specs.Frame.{frame, NonZero}
 use Rattle.line.specs.Judge.{good, judgeForm, judge}
-use Rattle.line.proofs.Lent.{fit-length}
-use Rattle.line_claims.proofs.CobsClaims.{uncobs-each}
+use Rattle.line.proofs.Judged.{fit-length, uncobs-each, judge-good}
 use Rattle.line_claims.proofs.MessageLaws.{fields-range, message-written}
-use Rattle.line_claims.proofs.JudgeClaim.{judge-good}
 use Rattle.line_claims.specs.Item6.{OneSpelling, ReadWritten, GoodFrame}
 
 -- ---- what a part of a form was read as

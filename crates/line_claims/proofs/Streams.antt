@@ -1,6 +1,7 @@
 -- A reader that is given its bytes one by one, and the law that a call gives what the bytes that it reads give one by one.
 -- Assumes nothing.
 use mathlib.Core.Path.{_≡_, refl, sym, ap, _∙_}
+use mathlib.Core.Bool.{true}
 use mathlib.Core.List.{List, [], _∷_, _++_, append-nil}
 use Prim.Native.Nat.{ℕ, zero, suc, _≤_}
 use native.Mathlib.Omega.{arith}
@@ -10,9 +11,8 @@ use lib.Seq.{append-snoc}
 use Rattle.line.specs.Reader.{ReadReport, refused, more, empty, message, failed, reader-length, validReader, pushed, finish, ReadOutcome}
 use Rattle.line.specs.Reader.{oneByteLater, readPiece, readPromise}
 use Rattle.octets.proofs.Conditions.{cond-by}
-use Rattle.line.proofs.State.{Ready, valid-ready, ready-pushed}
 use Rattle.line.proofs.Lent.{dataOf-append, pushed-append, finish-append}
-use Rattle.line.proofs.Held.{finish-leaves}
+use Rattle.line.proofs.Received.{valid-long, pushed-stays, finish-stays}
 use Rattle.line_claims.proofs.LoanLaws.{back-same, lent-enough, front}
 use Rattle.line_claims.specs.Calls.{LineRead, lentState, messagesHanded, reasonsReported, answersTo00, Reader, extended, afterOutcome}
 use Rattle.line_claims.specs.Calls.{afterLineRead, afterLineCall, afterLineCalls, afterLineReads}
@@ -63,16 +63,16 @@ handed-append (failed reason sequence) t u h = refl
 abbrev joined : Reader → List ℕ → List ℕ → ReadOutcome → Reader
 joined r piece u o = extended r (o .answer) (o .state) (take (o .used) piece) (o .state ++ u)
 
-piece-stream : (piece : List ℕ) (r : Reader) (t u : List ℕ) → Ready t → r .state ≡ t ++ u
+piece-stream : (piece : List ℕ) (r : Reader) (t u : List ℕ) → validReader t ≡ true → r .state ≡ t ++ u
     → joined r piece u (readPiece t piece) ≡ stream r (take (readPiece t piece .used) piece)
 unfolding readPiece stream oneByteLater afterByte messagesHanded reasonsReported answersTo00
-piece-stream [] r t u h e = simp (append-nil, ← e)
-piece-stream (zero ∷ bs) r t u h e =
-    let l = finish-leaves t (h .0) in
-    rw (e, finish-append t u (h .0), handed-append (finish t .answer) (finish t .state) u (omega arith))
-piece-stream (suc b ∷ bs) r t u h e =
-    let p = ready-pushed t (suc b) h in
-    let i = piece-stream bs (afterByte r (suc b)) (pushed t (suc b)) u (omega arith, p .1) (rw e (pushed-append t u (h .0) (suc b))) in
+piece-stream [] r t u v e = simp (append-nil, ← e)
+piece-stream (zero ∷ bs) r t u v e =
+    let k = valid-long _ (finish-stays t v .valid) in
+    rw (e, finish-append t u (valid-long t v), handed-append (finish t .answer) (finish t .state) u k)
+piece-stream (suc b ∷ bs) r t u v e =
+    let w = pushed-stays t (suc b) v .valid in
+    let i = piece-stream bs (afterByte r (suc b)) (pushed t (suc b)) u w (rw e (pushed-append t u (valid-long t v) (suc b))) in
     rw eqb·suc-zero (rw append-snoc at i)
 
 -- the bytes that a call reads
@@ -86,9 +86,8 @@ call-stream r c =
     let t = lentState (c .lent) (r .state) in
     cond-by (λ o. afterOutcome r c o ≡ stream r (take (o .used) (c .piece))) (validReader t) _ _
     (λ e.
-    let h = valid-ready t e in
-    let f = front reader-length (c .lent) (r .state) (lent-enough reader-length (r .state) (c .lent) (omega arith) (h .0)) in
-    rw (f .back) (piece-stream (c .piece) r t (f .rest) h (sym (f .whole))))
+    let f = front reader-length (c .lent) (r .state) (lent-enough reader-length (r .state) (c .lent) (omega arith) (valid-long t e)) in
+    rw (f .back) (piece-stream (c .piece) r t (f .rest) e (sym (f .whole))))
     (λ e. simp (append-nil, back-same))
 
 -- ---- calls

@@ -3,18 +3,17 @@
 use mathlib.Core.Path.{_≡_, refl}
 use mathlib.Core.Bool.{true, false}
 use mathlib.Core.List.{List, [], _∷_}
-use mathlib.Core.Option.{none, some}
+use mathlib.Core.Option.{Option, none, some}
 use Prim.Native.Nat.{ℕ, _≤_, _<_}
 use borrow.Author.Tests.{lt-ltb, le-ltb}
 use lib.Dec.{ltb, eqb}
 use lib.ListN.{length}
 use Rattle.octets.proofs.Conditions.{cond-by}
-use Rattle.line.specs.Limits.{longest-data, longest-form}
+use Rattle.line.specs.Limits.{longest-data}
 use Rattle.line.specs.Message.{Message}
-use Rattle.line.specs.Judge.{LineVerdict, failure, good, judge}
+use Rattle.line.specs.Judge.{LineVerdict, failure, good, judgeReceived}
 use Rattle.line.specs.Reader as LineReader
-use Rattle.line.specs.Reader.{verdictReport, finishForm, finish, oneByteLater, readPiece, readPromise, receivedBytes, receivedCount}
-use Rattle.line.specs.Reader.{validReader}
+use Rattle.line.specs.Reader.{verdictReport, receivedOf, validReader, finish, oneByteLater, readPiece, readPromise}
 use Rattle.line.specs.Frame.{frame}
 use Rattle.line.specs.Writer as LineWriter
 use Rattle.line.specs.Writer.{writeReport, writeInto, writePromise}
@@ -39,14 +38,13 @@ unfolding verdictReport
 spoken-verdict (failure reason sequence) = tt
 spoken-verdict (good m) = tt
 
-abbrev Ended : LineReader.FrameOutcome → Type 0
-Ended o = Spoken (o .answer)
-
 spoken-finish : (s : List ℕ) → Spoken (finish s .answer)
-unfolding finish finishForm
-spoken-finish s =
-    cond-by Ended (eqb (receivedCount s) 0) _ _ (λ _. tt) (λ _.
-    cond-by Ended (ltb longest-form (receivedCount s)) _ _ (λ _. tt) (λ _. spoken-verdict (judge (receivedBytes s))))
+unfolding finish
+spoken-finish s = by (judgeReceived (receivedOf s))
+  where
+    by : (v : Option LineVerdict) → Spoken (LineReader.closedReport v)
+    by none = tt
+    by (some v) = spoken-verdict v
 
 pub spoken : (s piece : List ℕ) → Spoken (readPiece s piece .answer)
 unfolding readPiece oneByteLater

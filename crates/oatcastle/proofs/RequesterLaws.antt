@@ -1,7 +1,7 @@
 -- Laws of the main processor's calls in the C interface.
 -- Assumes nothing.
 use mathlib.Core.Path.{_≡_, refl, ap}
-use mathlib.Core.Bool.{Bool, true, false}
+use mathlib.Core.Bool.{Bool}
 use mathlib.Core.List.{List, [], _∷_}
 use Prim.Native.Nat.{ℕ, suc, _≤_, _<_}
 use native.Mathlib.Omega.{arith}
@@ -164,19 +164,21 @@ module _ (p : MainParts) (answer : List ℕ) where
   -- an empty piece changes nothing
   none-received : mainReceiveValid p [] .parts ≡ p
   unfolding mainReceiveValid LineReader.readPiece heardOf heardOutcomeOf Calls.partMovedTo
-  none-received = by (Calls.isOverlong (p .reader)) refl
+  none-received = by (LineReader.tailPromise (p .reader)) refl
     where
-      by : (x : Bool) → Calls.isOverlong (p .reader) ≡ x → mainReceiveValid p [] .parts ≡ p
-      by true e = rw e
-      by false e = rw (e, take-nil) (rw e)
+      by : (x : LineReader.TailReport) → LineReader.tailPromise (p .reader) ≡ x → mainReceiveValid p [] .parts ≡ p
+      by (LineReader.TailReport.refused n) e = rw e (rw e)
+      by (LineReader.unfinished n) e = rw (e, take-nil) (rw e)
+      by LineReader.longer e = rw e
 
   none-handed : shortReceipt (mainReceiveValid p [] .report) ≡ 8
   unfolding mainReceiveValid LineReader.readPiece heardOf heardOutcomeOf Calls.handedReportOf shortReceipt
-  none-handed = by (Calls.isOverlong (p .reader)) refl
+  none-handed = by (LineReader.tailPromise (p .reader)) refl
     where
-      by : (x : Bool) → Calls.isOverlong (p .reader) ≡ x → shortReceipt (mainReceiveValid p [] .report) ≡ 8
-      by true e = rw e
-      by false e = rw (e, take-nil) (rw e)
+      by : (x : LineReader.TailReport) → LineReader.tailPromise (p .reader) ≡ x → shortReceipt (mainReceiveValid p [] .report) ≡ 8
+      by (LineReader.TailReport.refused n) e = rw e (rw e)
+      by (LineReader.unfinished n) e = rw (e, take-nil) (rw e)
+      by LineReader.longer e = rw e
 
   pub listen-short : (t : Received) (piece : List ℕ) {q : MainParts} {n : ℕ} → length answer < 7
       → Calls.mainReceiveOutcome t q ≡ mainReceivePromise p []

@@ -3,9 +3,8 @@
 use mathlib.Core.Path.{_≡_, ap}
 use mathlib.Core.Bool.{Bool, true, false, and-false}
 use mathlib.Core.List.{List}
-use Prim.Native.Nat.{ℕ, _-_, _≤_, _<_, min}
+use Prim.Native.Nat.{ℕ, suc, _-_, min}
 use lib.ListN.{length, take}
-use borrow.Author.Tests.{lt-ltb, le-ltb}
 use Rattle.line.specs.Limits.{longest-form}
 use Rattle.line.specs.Reader as LineReader
 use Rattle.requester.specs.Requester
@@ -44,15 +43,12 @@ outcomeBy used a reader = record { used = used; answer = a; state = reader }
 
 -- by the reader's answer and the state that it left
 module _ (p : MainParts) (piece : List ℕ) (v : mainValidParts p ≡ true) {used : ℕ} {a : LineReader.ReadReport} {reader : List ℕ} where
-  module _ {n end : ℕ} (e : n ≡ LineReader.receivedCount (p .reader)) (l : n ≤ longest-form)
-      (f : end ≡ min (LineReader.overlong - n) (length piece))
+  module _ {n end : ℕ} (e : LineReader.tailPromise (p .reader) ≡ LineReader.unfinished n)
+      (f : end ≡ min (suc longest-form - n) (length piece))
       (w : outcomeBy used a reader ≡ LineReader.readPromise (p .reader) (take end piece)) where
-    short : LineReader.receivedCount (p .reader) ≤ longest-form
-    short = rw e at l
-
     read : outcomeBy used a reader ≡ LineReader.readPiece (p .reader) (readable (p .reader) piece)
     read =
-        rw (le-ltb longest-form (LineReader.receivedCount (p .reader)) short, ← take-min, ← e, ← f)
+        rw (e, ← take-min, ← f)
         (read-by (p .reader) (take end piece) (parts-valid p v .reader) w)
 
     pub heard-received : {t : HandedReport} {x : Requester.Next} {ended unsent : Bool} {r : List ℕ}
@@ -64,18 +60,18 @@ module _ (p : MainParts) (piece : List ℕ) (v : mainValidParts p ≡ true) {use
     heard-received o m u =
         rw (
           ← read,
-          le-ltb longest-form (LineReader.receivedCount (p .reader)) short,
+          e,
           ← ap (λ (y : OutcomeReport). y .report) o,
           ← ap (λ (y : OutcomeReport). y .next) o,
           ← m,
           u,
         )
 
-  pub rest-received : {unsent : Bool} → longest-form < LineReader.receivedCount (p .reader)
+  pub rest-received : {unsent : Bool} → LineReader.tailPromise (p .reader) ≡ LineReader.longer
       → outcomeBy used a reader ≡ LineReader.readPromise (p .reader) piece
       → unsent ≡ Layout.isUnsent (p .requester)
       → receipt used Calls.nothing false unsent (mainParts reader (p .requester)) ≡ mainReceiveValid p piece
   unfolding mainReceiveValid heardOutcomeOf partMovedTo Calls.handedReportOf
   rest-received l w u =
       let q = read-by (p .reader) piece (parts-valid p v .reader) w in
-      rw (lt-ltb longest-form (LineReader.receivedCount (p .reader)) l, ← q, u)
+      rw (l, ← q, u)

@@ -16,6 +16,7 @@ use Rattle.line.specs.Limits.{longest-data}
 use Rattle.line.specs.Message.{Message}
 use Rattle.line.specs.Judge.{good}
 use Rattle.line.specs.Reader as LineReader
+use Rattle.line.proofs.Received.{data-length}
 use Rattle.line.specs.declared.reader.Head.{Head}
 use Rattle.requester.specs.Limits.{last-number}
 use Rattle.requester.specs.State.{RecoveryStep, fetch, acknowledge, alert, isSome}
@@ -29,7 +30,6 @@ use Rattle.requester.specs.Hearing.{headMessage, nextOf, outcomeReport, 
 use Rattle.requester.specs.declared.outcome.Handed.the-variants as handed
 use Rattle.requester.specs.declared.outcome.Next.the-variants as next
 use Rattle.requester.proofs.ProgressLaws.{step-number}
-use Rattle.requester.proofs.ReaderLaws.{data-length}
 
 -- ---- a good message, test by test
 

@@ -180,13 +180,23 @@ handedReportOf (Requester.answered m) = answered (m .version) (m .sequence) (m .
 handedReportOf (Requester.status s o n) = status s o n
 handedReportOf (Requester.alerted m) = alerted (m .version) (m .sequence) (m .command) (length (m .payload))
 
--- more than 4,140 bytes of a frame have come
+-- more than 4,140 bytes of a frame have come, by the answer of the line reader's `tail`
+abbrev pub isLonger : LineReader.TailReport → Bool
+isLonger (LineReader.TailReport.refused n) = false
+isLonger (LineReader.unfinished n) = false
+isLonger LineReader.longer = true
+
 abbrev pub isOverlong : List ℕ → Bool
-isOverlong reader = ltb longest-form (LineReader.receivedCount reader)
+isOverlong reader = isLonger (LineReader.tailPromise reader)
 
 -- the bytes of a piece that may be read: to a frame's 4,141st, unless it has passed
+abbrev pub readableBy : LineReader.TailReport → List ℕ → List ℕ
+readableBy (LineReader.TailReport.refused n) piece = piece
+readableBy (LineReader.unfinished n) piece = take (suc longest-form - n) piece
+readableBy LineReader.longer piece = piece
+
 abbrev pub readable : List ℕ → List ℕ → List ℕ
-readable reader piece = cond (isOverlong reader) piece (take (LineReader.overlong - LineReader.receivedCount reader) piece)
+readable reader piece = readableBy (LineReader.tailPromise reader) piece
 
 -- what is heard under the newest number, by the line reader's answer and the state that it left
 unfoldable pub heardOf : ℕ → List ℕ → LineReader.ReadReport → Option Heard

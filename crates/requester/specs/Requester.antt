@@ -1,7 +1,7 @@
 -- What each call does, what a received frame comes to, and what one received byte does, in document 02's words (item 2).
 -- Assumes nothing: these are definitions.
 use mathlib.Core.Bool.{Bool, true, false, cond, not, _&&_, _||_}
-use mathlib.Core.List.{List, [], _∷_, _++_}
+use mathlib.Core.List.{List, [], _∷_}
 use mathlib.Core.Option.{Option, none, some}
 use Prim.Native.Nat.{ℕ, suc, _+_}
 use lib.Dec.{leb, ltb, eqb}
@@ -12,7 +12,7 @@ use Rattle.line.specs.Limits.{longest-data, longest-form}
 use Rattle.line.specs.Numbers.{first-version, top-bit, all-ones, status-length, command-reboot, command-power-off, command-boot-failure}
 use Rattle.line.specs.Numbers.{reply-decode-failure, reply-status}
 use Rattle.line.specs.Message.{Message}
-use Rattle.line.specs.Judge.{LineVerdict, failure, good, judge}
+use Rattle.line.specs.Judge.{LineVerdict, failure, good, judge, moreReceived}
 use Rattle.requester.specs.Limits.{last-number}
 use Rattle.requester.specs.State.{Request, RecoveryStep, fetch, acknowledge, alert, MainState, mainState, isSome, outstanding}
 use Rattle.requester.specs.State.{requestFrame}
@@ -208,11 +208,16 @@ mainClosed none s = dropped s
 mainClosed (some []) s = dropped s
 mainClosed (some (b ∷ bs)) s = afterHeard (hear (s .newest) (judge (b ∷ bs))) s
 
+-- whether a byte more is a frame's 4,141st
+abbrev pub fills : Option (List ℕ) → Bool
+fills none = false
+fills (some bs) = leb longest-form (length bs)
+
 -- one byte more; the 4,141st without a 00 is a ground
 abbrev pub mainMore : Option (List ℕ) → ℕ → MainState → MainResult
-mainMore none b s = dropped s
-mainMore (some bs) b s =
-    cond (ltb (length bs) longest-form) (dropped (mainWithReceived s (some (bs ++ b ∷ [])))) (afterHeard ground (mainWithReceived s none))
+mainMore received b s =
+    let x = mainWithReceived s (moreReceived received b) in
+    cond (fills received) (afterHeard ground x) (dropped x)
 
 unfoldable pub mainByte : MainState → ℕ → MainResult
 mainByte s b = cond (eqb b 0) (mainClosed (s .received) (mainWithReceived s (some []))) (mainMore (s .received) b s)
@@ -220,10 +225,6 @@ mainByte s b = cond (eqb b 0) (mainClosed (s .received) (mainWithReceived s (som
 -- ---- A piece of the received stream
 
 -- whether a byte is a 00, or the 4,141st of its frame
-abbrev pub fills : Option (List ℕ) → Bool
-fills none = false
-fills (some bs) = leb longest-form (length bs)
-
 abbrev pub stops : MainState → ℕ → Bool
 stops s b = eqb b 0 || fills (s .received)
 

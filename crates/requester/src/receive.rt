@@ -8,9 +8,9 @@ use crate::valid;
 use line::reader::Unfinished;
 ghost use mathlib.Core.Path.{_≡_};
 ghost use mathlib.Core.Bool.{true};
-ghost use Prim.Native.Nat.{_≤_, _<_, min};
+ghost use Prim.Native.Nat.{_≤_, min};
 ghost use Rattle.line.specs.Limits.{longest-form};
-ghost use Rattle.line.specs.Reader.{receivedCount};
+ghost use Rattle.line.specs.Reader.{unfinished, longer, tailPromise};
 ghost use Rattle.requester.specs.Calls.{mainParts, mainValidParts, mainReceiveOutcome, mainReceiveValid, mainReceivePromise};
 
 // How many bytes of the piece were read, what is handed out, whether 14 ended a recovery, and whether a frame is to go out.
@@ -50,7 +50,7 @@ pub fn receive(piece: &[u8], reader: &mut [u8], requester: &mut [u8]) -> Receive
 // A frame of which n bytes have come, n at most 4,140.
 fn listen(piece: &[u8], reader: &mut [u8], requester: &mut [u8], n: usize) -> Received
     requires { ⌜ mainValidParts (mainParts (now reader) (now requester)) ≡ true ⌝ }
-    requires { ⌜ n ≡ receivedCount (now reader) ⌝ }
+    requires { ⌜ tailPromise (now reader) ≡ unfinished n ⌝ }
     requires { ⌜ n ≤ longest-form ⌝ }
     ensures { λ r. ⌜ mainReceiveOutcome r (mainParts (now (reader .exit)) (now (requester .exit)))
         ≡ mainReceiveValid (mainParts (now (reader .entry)) (now (requester .entry))) (now (piece .entry)) ⌝ }
@@ -75,7 +75,7 @@ fn listen(piece: &[u8], reader: &mut [u8], requester: &mut [u8], n: usize) -> Re
 // What is left of a frame of more than 4,140 bytes.
 fn skip(piece: &[u8], reader: &mut [u8], requester: &[u8]) -> Received
     requires { ⌜ mainValidParts (mainParts (now reader) (now requester)) ≡ true ⌝ }
-    requires { ⌜ longest-form < receivedCount (now reader) ⌝ }
+    requires { ⌜ tailPromise (now reader) ≡ longer ⌝ }
     ensures { λ r. ⌜ mainReceiveOutcome r (mainParts (now (reader .exit)) (now (requester .entry)))
         ≡ mainReceiveValid (mainParts (now (reader .entry)) (now (requester .entry))) (now (piece .entry)) ⌝ }
 {

@@ -11,10 +11,11 @@ use lib.ListN.{length}
 use lib.Seq.{append-snoc}
 use borrow.Author.Tests.{eqb-true}
 use Rattle.octets.proofs.Conditions.{cond-by}
-use Rattle.line.specs.Limits.{longest-form}
 use Rattle.line.specs.Numbers.{status-length}
 use Rattle.line.specs.Message.{Message}
 use Rattle.line.specs.Judge.{LineVerdict, failure, good, judge}
+use Rattle.line.specs.Judge.{moreReceived}
+use Rattle.line.proofs.Judged.{more-some}
 use Rattle.requester.specs.State.{RecoveryStep, fetch, acknowledge, alert, MainState, isSome}
 use Rattle.requester.specs.Requester
 use Rattle.requester.specs.Requester.{Handed, Heard, ground, other, answer, hear, failsDecode, replySequence, settle}
@@ -22,7 +23,7 @@ use Rattle.requester.specs.Calls.{handedReportOf}
 use Rattle.requester_claims.specs.View.{mainView}
 use Rattle.requester_claims.specs.Histories
 use Rattle.requester_claims.specs.Histories.{received, MainMeans, mainMeant, mainMeantMade, mainEnough, OfValid}
-use Rattle.requester_claims.proofs.MeaningLaws.{grown, quiet-byte, quiet-positive}
+use Rattle.requester_claims.proofs.MeaningLaws.{quiet-byte, quiet-positive}
 use Rattle.requester_claims.proofs.History.{one-call}
 use Rattle.requester_claims.specs.Answers.{OfReport, OfAnswer}
 use Rattle.requester_claims.specs.Item6.{Comes, AnswerBytes}
@@ -95,10 +96,9 @@ module _ (s : MainState) where
       by (answer m) g = (z, x ∷ xs, refl, g)
 
   more-hands : (bs : Option (List ℕ)) (b : ℕ) → Hands (Closes (s .received) b) (Requester.mainMore bs b s .handed)
-  more-hands none b = tt
-  more-hands (some bs) b =
-      cond-by (λ (x : Requester.MainResult). Hands (Closes (s .received) b) (x .handed)) (ltb (length bs) longest-form) _ _ (λ _. tt)
-      (λ _. settled-hands (Closes (s .received) b) (s .recovery) (isSome (s .kept)) ground tt)
+  more-hands bs b =
+      cond-by (λ (x : Requester.MainResult). Hands (Closes (s .received) b) (x .handed)) (Requester.fills bs) _ _
+      (λ _. settled-hands (Closes (s .received) b) (s .recovery) (isSome (s .kept)) ground tt) (λ _. tt)
 
   byte-hands : (b : ℕ) → Hands (Closes (s .received) b) (Requester.mainByte s b .handed)
   unfolding Requester.mainByte
@@ -123,13 +123,13 @@ at-once b bs x m w =
       judged = rw append-nil (w .3);
     }
 
-later : (b : ℕ) (bs : List ℕ) → 1 ≤ b → (x : Option (List ℕ)) (used : ℕ) (m : Message) → Comes bs (grown x b) used m
+later : (b : ℕ) (bs : List ℕ) → 1 ≤ b → (x : Option (List ℕ)) (used : ℕ) (m : Message) → Comes bs (moreReceived x b) used m
     → Comes (b ∷ bs) x (suc used) m
-unfolding grown
+unfolding moreReceived
 later b bs z none used m w = let f : _≡_ {A = ℕ} 0 1 = (let e = w .ended .begun in cc) in absurd (omega arith)
 later b bs z (some xs) used m w =
     let x = w .ended in
-    let f : x .since ≡ xs ++ b ∷ [] = (let e = x .begun in cc) in
+    let f : x .since ≡ xs ++ b ∷ [] = more-some xs (x .since) b (x .begun) in
     record {
       ended = record { since = xs; ahead = suc (x .ahead); begun = refl; read = ap suc (x .read); closed = x .closed };
       whole = (z, w .whole);
@@ -152,7 +152,7 @@ receive-hands (b ∷ bs) s = by (Requester.stops s b) refl (λ x. receive-hands 
         (Requester.mainReceived (suc (r .used)) (r .result)))
     by true e i = hands-then (Closes (s .received) b) _ (at-once b bs (s .received)) (Requester.mainByte s b .handed) (byte-hands s b)
     by false e i =
-        let x = grown (s .received) b in
+        let x = moreReceived (s .received) b in
         let r = Requester.receive (Requester.mainWithReceived s x) bs in
         rw (quiet-byte s b e)
         (hands-then (Comes bs x (r .used)) _ (later b bs (quiet-positive s b e) (s .received) (r .used)) (r .result .handed) (i x))

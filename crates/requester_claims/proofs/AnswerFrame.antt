@@ -16,6 +16,7 @@ use Rattle.line.specs.Message.{Message}
 use Rattle.line.specs.Judge.{judge}
 use Rattle.line.specs.Frame.{NonZero}
 use Rattle.line_claims.proofs.SpellingClaim.{good-frame}
+use Rattle.line.specs.Judge.{moreReceived}
 use Rattle.requester.specs.Limits.{last-number}
 use Rattle.requester.specs.State.{Request, RecoveryStep, MainState, mainFresh, isSome, outstanding, requestFrame}
 use Rattle.requester.specs.Requester
@@ -56,18 +57,23 @@ closes-since none s = tt
 closes-since (some []) s = tt
 closes-since (some (b ∷ bs)) s = hears-since (hear (s .newest) (judge (b ∷ bs))) (Requester.mainWithReceived s (some [])) tt
 
-more-since : (bs : Option (List ℕ)) (b : ℕ) (s : MainState) → NonZero b → Since bs → Since (s .received)
-    → Since (Requester.mainMore bs b s .state .received)
-more-since none b s z w h = h
-more-since (some bs) b s z w h =
-    cond-by (λ (x : Requester.MainResult). Since (x .state .received)) (ltb (length bs) longest-form) _ _
-    (λ _. each-append NonZero bs (b ∷ []) w (z, tt)) (λ _. hears-since ground (Requester.mainWithReceived s none) tt)
+received-since : (bs : Option (List ℕ)) (b : ℕ) → NonZero b → Since bs → Since (moreReceived bs b)
+unfolding moreReceived
+received-since none b z w = tt
+received-since (some bs) b z w =
+    cond-by Since (ltb (length bs) longest-form) _ _ (λ _. each-append NonZero bs (b ∷ []) w (z, tt)) (λ _. tt)
+
+more-since : (bs : Option (List ℕ)) (b : ℕ) (s : MainState) → NonZero b → Since bs → Since (Requester.mainMore bs b s .state .received)
+more-since bs b s z w =
+    let r = received-since bs b z w in
+    cond-by (λ (x : Requester.MainResult). Since (x .state .received)) (Requester.fills bs) _ _
+    (λ _. hears-since ground (Requester.mainWithReceived s (moreReceived bs b)) r) (λ _. r)
 
 byte-since : (s : MainState) (b : ℕ) → Byte b → Since (s .received) → Since (Requester.mainByte s b .state .received)
 unfolding Requester.mainByte
 byte-since s b h w =
     cond-by (λ (x : Requester.MainResult). Since (x .state .received)) (eqb b 0) _ _
-    (λ _. closes-since (s .received) s) (λ e. more-since (s .received) b s (positive b (eqb-false b 0 e), omega arith) w w)
+    (λ _. closes-since (s .received) s) (λ e. more-since (s .received) b s (positive b (eqb-false b 0 e), omega arith) w)
 
 receive-since : (piece : List ℕ) (s : MainState) → Each Byte piece → Since (s .received)
     → Since (Requester.receive s piece .result .state .received)

@@ -2,7 +2,7 @@
 -- Assumes nothing.
 use mathlib.Core.Path.{_≡_, refl, sym, _∙_}
 use mathlib.Core.Bool.{Bool, true, false, cond, not, _&&_, false≢true}
-use mathlib.Core.List.{List, [], _∷_, _++_}
+use mathlib.Core.List.{List, [], _∷_}
 use mathlib.Core.Option.{Option, none, some}
 use Prim.Native.Nat.{ℕ, suc, _+_, _^_, _≤_}
 use native.Mathlib.Nat.{zero-add}
@@ -11,9 +11,10 @@ use lib.Dec.{leb, ltb, eqb}
 use lib.ListN.{length}
 use borrow.Author.Tests.{not-false, eqb-true, eq-eqb}
 use Rattle.octets.proofs.Conditions.{cond-by}
-use Rattle.line.specs.Limits.{longest-data, longest-form}
+use Rattle.line.specs.Limits.{longest-data}
 use Rattle.line.specs.Numbers.{status-length}
 use Rattle.line.specs.Judge.{LineVerdict, failure, good, judge}
+use Rattle.line.specs.Judge.{moreReceived}
 use Rattle.requester.specs.Limits.{last-number}
 use Rattle.requester.specs.State.{Request, RecoveryStep, fetch, acknowledge, alert, MainState, mainFresh, isSome, outstanding, requestFrame}
 use Rattle.requester.specs.Requester
@@ -24,7 +25,7 @@ use Rattle.requester_claims.specs.View.{mainView, keptRequestOf}
 use Rattle.requester_claims.specs.Histories
 use Rattle.requester_claims.specs.Histories.{MainCall, received, MainMeans, putMeans, mainDoneMeans, mainMeant, MainMade, mainMade}
 use Rattle.requester_claims.specs.Histories.{mainMeantMade, mainLeft, mainEnough}
-use Rattle.requester_claims.proofs.MeaningLaws.{grown, quiet-byte}
+use Rattle.requester_claims.proofs.MeaningLaws.{quiet-byte}
 use Rattle.requester_claims.proofs.History.{one-call, started}
 use Rattle.requester_claims.specs.Histories.{mainStarted, OfMainStart, OfValid}
 use Rattle.requester_claims.specs.Item2.{AnswerMatches, AnswersCounted, OneAnswerEach}
@@ -86,10 +87,9 @@ module _ (s : MainState) where
       settled-matches (s .newest) (s .recovery) (isSome (s .kept)) _ (heard-matches (s .newest) (judge (b ∷ bs)))
 
   more-matches : (bs : Option (List ℕ)) (b : ℕ) → ResultMatches (Requester.mainMore bs b s)
-  more-matches none b = nothing-matches
-  more-matches (some bs) b =
-      cond-by ResultMatches (ltb (length bs) longest-form) _ _ (λ _. nothing-matches)
-      (λ _. settled-matches (s .newest) (s .recovery) (isSome (s .kept)) ground tt)
+  more-matches bs b =
+      cond-by ResultMatches (Requester.fills bs) _ _ (λ _. settled-matches (s .newest) (s .recovery) (isSome (s .kept)) ground tt)
+      (λ _. nothing-matches)
 
   byte-matches : (b : ℕ) → ResultMatches (Requester.mainByte s b)
   unfolding Requester.mainByte
@@ -108,7 +108,7 @@ receive-matches (b ∷ bs) s = by (Requester.stops s b) refl (λ x. receive-matc
         → let r = Requester.receive (Requester.mainByte s b .state) bs in P (cond t (Requester.mainReceived 1 (Requester.mainByte s b))
         (Requester.mainReceived (suc (r .used)) (r .result)))
     by true e i = byte-matches s b
-    by false e i = rw (quiet-byte s b e) (i (grown (s .received) b))
+    by false e i = rw (quiet-byte s b e) (i (moreReceived (s .received) b))
 
 module _ (s : MainState) where
   abbrev MeansMatches : MainMeans → Type 0
@@ -213,11 +213,9 @@ module _ (s : MainState) where
   closes-balanced (some (b ∷ bs)) = hears-balanced (Requester.mainWithReceived s (some [])) (hear (s .newest) (judge (b ∷ bs)))
 
   more-balanced : (bs : Option (List ℕ)) (b : ℕ) → Balanced s (Requester.mainMore bs b s)
-  more-balanced none b = nothing-balanced s s refl
-  more-balanced (some bs) b =
-      cond-by (Balanced s) (ltb (length bs) longest-form) _ _
-      (λ _. nothing-balanced s (Requester.mainWithReceived s (some (bs ++ b ∷ []))) refl)
-      (λ _. hears-balanced (Requester.mainWithReceived s none) ground)
+  more-balanced bs b =
+      let x = Requester.mainWithReceived s (moreReceived bs b) in
+      cond-by (Balanced s) (Requester.fills bs) _ _ (λ _. hears-balanced x ground) (λ _. nothing-balanced s x refl)
 
   byte-balanced : (b : ℕ) → Balanced s (Requester.mainByte s b)
   unfolding Requester.mainByte
@@ -233,7 +231,7 @@ receive-balanced (b ∷ bs) s = by (Requester.stops s b) refl (λ x. receive-bal
         → let r = Requester.receive (Requester.mainByte s b .state) bs in Balanced s (cond t
         (Requester.mainReceived 1 (Requester.mainByte s b)) (Requester.mainReceived (suc (r .used)) (r .result)) .result)
     by true e i = byte-balanced s b
-    by false e i = rw (quiet-byte s b e) (i (grown (s .received) b))
+    by false e i = rw (quiet-byte s b e) (i (moreReceived (s .received) b))
 
 -- ---- what a call does to it
 

@@ -1,24 +1,24 @@
 -- A byte does to the view what document 02 says, and a call of receive is the bytes that it reads, one after the other.
 -- Assumes nothing.
 use mathlib.Core.Path.{_≡_, refl, ap, _∙_}
-use mathlib.Core.Bool.{Bool, true, false, _||_}
+use mathlib.Core.Bool.{Bool, true, false, cond, false≢true}
 use mathlib.Core.List.{List, [], _∷_, _++_}
-use mathlib.Core.Option.{Option, none, some}
-use Prim.Native.Nat.{ℕ, zero, suc, _-_, _≤_, _<_}
-use native.Mathlib.Nat.{lt-of-not-le}
+use mathlib.Core.Option.{Option, none, some, Option·map}
+use Prim.Native.Nat.{ℕ, zero, suc, _-_}
 use native.Mathlib.Omega.{arith}
-use lib.Dec.{leb, ltb, eqb, eqb·suc-zero}
-use lib.ListN.{length}
+use lib.Dec.{leb, eqb·suc-zero}
+use lib.ListN.{length, length-append}
 use lib.Seq.{take-nil}
-use borrow.Author.Tests.{lt-ltb, le-ltb, ltb-true, ltb-false, leb-true, leb-false, eq-eqb, ne-eqb, eqb-true, eqb-false}
-use Rattle.line.specs.Reader.{receivedOf}
+use borrow.Author.Tests.{leb-true, leb-false}
 use Rattle.octets.proofs.Conditions.{cond-by, cond-both}
 use Rattle.line.specs.Limits.{longest-form}
-use Rattle.line.specs.Judge.{judge}
+use Rattle.line.specs.Judge.{judge, moreReceived, judgeReceived}
+use Rattle.line.specs.Reader.{receivedOf}
 use Rattle.line.specs.Reader as LineReader
-use Rattle.line.proofs.State.{Ready, valid-ready, ready-valid, ready-pushed}
-use Rattle.line.proofs.Held.{finish-leaves}
-use Rattle.requester.specs.State.{RecoveryStep, MainState}
+use Rattle.line.proofs.Judged.{more-room, more-over}
+use Rattle.line.proofs.Received.{ReaderStays, pushed-received, pushed-stays, received-most, tail-received, finish-received, finish-stays}
+use Rattle.line.proofs.Received.{data-length}
+use Rattle.requester.specs.State.{RecoveryStep}
 use Rattle.requester.specs.Requester
 use Rattle.requester.specs.Requester.{Heard, ground, hear, settle, dropped, afterHeard, mainByte, receive}
 use Rattle.requester.specs.Layout
@@ -26,11 +26,10 @@ use Rattle.requester.specs.Calls
 use Rattle.requester.specs.Calls.{MainParts, mainParts, isOverlong, heardOf, heardOutcomeOf, mainReceiveValid, MainPartsValid}
 use Rattle.requester.proofs.ValidLaws.{requester-valid, valid-requester}
 use Rattle.requester.specs.Hearing.{dataFit}
-use Rattle.requester.proofs.ReaderLaws.{read-leaves, data-length}
+use Rattle.requester.proofs.ReaderLaws.{read-fit}
 use Rattle.requester_claims.specs.View.{mainView}
 use Rattle.requester_claims.proofs.NextClaim.{kept-some, moves, Given, given-nothing, given-ground, given-good}
-use Rattle.requester_claims.proofs.ReceivedClaim.{received-none, received-some, length-kept, pushed-count, pushed-received}
-use Rattle.requester_claims.proofs.ReceivedClaim.{over-count, over-received, finished-received, finished-empty, finished-heard}
+use Rattle.requester_claims.proofs.ReceivedClaim.{finished-heard}
 use Rattle.requester_claims.proofs.OneByte.{Fed, fed, fedBy, feed, stopsAt, Walked, walk, receiptOf}
 use Rattle.requester_claims.specs.Histories.{MainLengths}
 
@@ -51,25 +50,16 @@ pub record Follows (p : MainParts) (f : Fed) (x : Requester.MainResult) : Type 0
 
 -- ---- by what is heard
 
-positive : (n : ℕ) → (n ≡ 0 → ⊥) → 0 < n
-positive zero f = absurd (f refl)
-positive (suc n) f = omega arith
-
--- nothing has come since the last 00
-kept-none : (s : List ℕ) → LineReader.receivedCount s ≡ 0 → LineReader.receivedBytes s ≡ []
-unfolding LineReader.receivedBytes
-kept-none s e = rw e
-
-module _ (p : MainParts) (v : MainPartsValid p) (reader : List ℕ) (bs : Option (List ℕ)) (ready : Ready reader)
-    (long : length reader ≡ length (p .reader)) (e : receivedOf reader ≡ bs) where
+module _ (p : MainParts) (v : MainPartsValid p) (reader : List ℕ) (bs : Option (List ℕ)) (stays : ReaderStays (p .reader) reader)
+    (e : receivedOf reader ≡ bs) where
   drop-follows : Follows p (fedBy p reader none) (dropped (Requester.mainWithReceived (mainView p) bs))
   unfolding fedBy heardOutcomeOf Calls.partMovedTo mainView
   drop-follows = record {
     handed = refl;
     ended = refl;
     state = rw e;
-    valid = record { reader = ready-valid reader ready; requester = v .requester };
-    lengths = record { reader = long; requester = refl };
+    valid = record { reader = stays .valid; requester = v .requester };
+    lengths = record { reader = stays .long; requester = refl };
     given = given-nothing reader;
   }
 
@@ -85,8 +75,8 @@ module _ (p : MainParts) (v : MainPartsValid p) (reader : List ℕ) (bs : Option
         handed = refl;
         ended = m .ended;
         state = rw e (m .state);
-        valid = record { reader = ready-valid reader ready; requester = valid-requester _ (m .valid) };
-        lengths = record { reader = long; requester = m .long };
+        valid = record { reader = stays .valid; requester = valid-requester _ (m .valid) };
+        lengths = record { reader = stays .long; requester = m .long };
         given = g;
       })
 
@@ -111,120 +101,85 @@ module _ (number : ℕ) (reader : List ℕ) (t : Option RecoveryStep) (k : Bool)
 
 -- ---- one byte
 
--- a number at its limit
-full : (a b : ℕ) → a ≤ b → eqb a b ≡ leb b a
-full a b h = by (leb b a) refl
+-- a byte more is one too many where it is the 4,141st
+more-longer : (bs : List ℕ) (b : ℕ) → Calls.isLonger (LineReader.tailOf (moreReceived (some bs) b)) ≡ Requester.fills (some bs)
+more-longer bs b = by (leb longest-form (length bs)) refl
   where
-    by : (x : Bool) → leb b a ≡ x → eqb a b ≡ x
-    by true e = eq-eqb a b (omega (arith, leb-true b a e))
-    by false e = ne-eqb a b (λ z. omega (arith, leb-false b a e))
+    by : (full : Bool) → leb longest-form (length bs) ≡ full → Calls.isLonger (LineReader.tailOf (moreReceived (some bs) b)) ≡ full
+    by true f = rw (more-over bs b (leb-true _ _ f))
+    by false f = rw (more-room bs b (leb-false _ _ f))
 
-below : (a b : ℕ) → a ≤ b → (a ≡ b → ⊥) → a < b
-below a b h z = lt-of-not-le (λ k. z (omega arith))
+-- a byte that is not 00 is heard where it fills the frame
+feed-more : (p : MainParts) → LineReader.validReader (p .reader) ≡ true → (b : ℕ)
+    → feed p (suc b)
+    ≡ fedBy p (LineReader.pushed (p .reader) (suc b)) (cond (Requester.fills (receivedOf (p .reader))) (some ground) none)
+unfolding feed heardOf moreReceived
+feed-more p v b = by (receivedOf (p .reader)) refl
+  where
+    t : List ℕ
+    t = LineReader.pushed (p .reader) (suc b)
 
--- what is not empty is judged
-closes-some : (xs : List ℕ) (t : MainState) → 0 < length xs → Requester.mainClosed (some xs) t ≡ afterHeard (hear (t .newest) (judge xs)) t
-closes-some [] t h = absurd (omega arith)
-closes-some (x ∷ xs) t h = refl
+    by : (o : Option (List ℕ)) → receivedOf (p .reader) ≡ o
+        → feed p (suc b) ≡ fedBy p t (cond (Requester.fills (receivedOf (p .reader))) (some ground) none)
+    by none e = rw (tail-received (p .reader) v, e)
+    by (some bs) e =
+        let more = pushed-received (p .reader) (suc b) v in
+        rw (tail-received (p .reader) v, tail-received t (pushed-stays (p .reader) (suc b) v .valid), more, e, more-longer bs (suc b))
 
 module _ (p : MainParts) (v : MainPartsValid p) where
   abbrev s : List ℕ
   s = p .reader
 
-  abbrev n : ℕ
-  n = LineReader.receivedCount s
+  abbrev number : ℕ
+  number = Layout.newestNumber (p .requester)
 
-  r : Ready s
-  r = valid-ready s (v .reader)
-
-  finish-ready : Ready (LineReader.finish s .state)
-  finish-ready = let l = finish-leaves s (r .0) in (omega (arith, r .0), omega arith)
-
-  finish-given : (LineReader.receivedCount s ≡ 0 → ⊥) → n ≤ longest-form
-      → Given (LineReader.finish s .state)
-      (settle (Layout.recoveryStep (p .requester)) (Layout.isKept (p .requester))
-      (hear (Layout.newestNumber (p .requester)) (judge (LineReader.receivedBytes s))) .handed)
+  finish-given : (h : Heard) → Option·map (hear number) (judgeReceived (receivedOf s)) ≡ some h
+      → Given (LineReader.finish s .state) (settle (Layout.recoveryStep (p .requester)) (Layout.isKept (p .requester)) h .handed)
   unfolding LineReader.readPiece
-  finish-given z h =
-      let number = Layout.newestNumber (p .requester) in
-      let fit = read-leaves (0 ∷ []) s r .fit in
-      rw (finished-heard number s r z h) at
+  finish-given h e =
+      rw (finished-heard number s (v .reader), e) at
       (given-heard number (LineReader.finish s .state) (Layout.recoveryStep (p .requester)) (Layout.isKept (p .requester))
-      (LineReader.finish s .answer) (ready-valid _ finish-ready) fit)
+      (LineReader.finish s .answer) (finish-stays s (v .reader) .valid) (read-fit (0 ∷ []) s))
 
   -- a 00
   close-follows : Follows p (feed p 0) (mainByte (mainView p) 0)
   unfolding mainByte feed mainView
-  close-follows = by (ltb longest-form n) (eqb n 0) refl refl
+  close-follows = by (receivedOf s) refl
     where
       t : List ℕ
       t = LineReader.finish s .state
 
-      by : (a b : Bool) → ltb longest-form n ≡ a → eqb n 0 ≡ b → Follows p (feed p 0) (mainByte (mainView p) 0)
-      by true b e f =
-          rw (e, received-none s (ltb-true _ _ e))
-          (drop-follows p v t (some []) finish-ready (finish-leaves s (r .0) .0) (finished-received s r))
-      by false true e f =
-          let z = eqb-true n 0 f in
-          rw (e, finished-empty (Layout.newestNumber (p .requester)) s r z, received-some s (ltb-false _ _ e), kept-none s z)
-          (drop-follows p v t (some []) finish-ready (finish-leaves s (r .0) .0) (finished-received s r))
-      by false false e f =
-          let z = eqb-false n 0 f in
-          let h = ltb-false longest-form n e in
-          let k : 0 < length (LineReader.receivedBytes s) = rw (length-kept s (r .0) h) (positive n z) in
-          rw (
-            e,
-            finished-heard (Layout.newestNumber (p .requester)) s r z h,
-            received-some s h,
-            closes-some (LineReader.receivedBytes s) (Requester.mainWithReceived (mainView p) (some [])) k,
-          )
-          (hear-follows p v t (some []) finish-ready (finish-leaves s (r .0) .0) (finished-received s r) _ (finish-given z h))
+      by : (o : Option (List ℕ)) → receivedOf s ≡ o → Follows p (feed p 0) (mainByte (mainView p) 0)
+      by none e =
+          rw (tail-received s (v .reader), e)
+          (drop-follows p v t (some []) (finish-stays s (v .reader)) (finish-received s (v .reader)))
+      by (some []) e =
+          rw (finished-heard number s (v .reader), tail-received s (v .reader), e)
+          (drop-follows p v t (some []) (finish-stays s (v .reader)) (finish-received s (v .reader)))
+      by (some (b ∷ bs)) e =
+          let h = hear number (judge (b ∷ bs)) in
+          rw (finished-heard number s (v .reader), tail-received s (v .reader), e)
+          (hear-follows p v t (some []) (finish-stays s (v .reader)) (finish-received s (v .reader)) h (finish-given h (rw e)))
 
   -- any other byte
   push-follows : (b : ℕ) → Follows p (feed p (suc b)) (mainByte (mainView p) (suc b))
-  unfolding mainByte feed mainView heardOf
-  push-follows b = by (ltb longest-form n) (ltb n longest-form) refl refl
+  unfolding mainByte mainView
+  push-follows b = by (Requester.fills (receivedOf s)) refl
     where
       t : List ℕ
       t = LineReader.pushed s (suc b)
 
-      ready : Ready t
-      ready = let q = ready-pushed s (suc b) r in (omega (arith, r .0), q .1)
+      stays : ReaderStays s t
+      stays = pushed-stays s (suc b) (v .reader)
 
-      long : length t ≡ length s
-      long = ready-pushed s (suc b) r .0
+      more : receivedOf t ≡ moreReceived (receivedOf s) (suc b)
+      more = pushed-received s (suc b) (v .reader)
 
-      by : (x y : Bool) → ltb longest-form n ≡ x → ltb n longest-form ≡ y → Follows p (feed p (suc b)) (mainByte (mainView p) (suc b))
-      by true y e f =
-          let h = ltb-true longest-form n e in
-          rw (e, eqb·suc-zero, received-none s h) (drop-follows p v t none ready long (over-received s (suc b) r (omega arith)))
-      by false true e f =
-          let h = ltb-true n longest-form f in
-          let c = pushed-count s (suc b) r h in
-          let l = ltb-false longest-form n e in
-          let k = length-kept s (r .0) l in
-          rw (
-            e,
-            le-ltb longest-form (LineReader.receivedCount t) (omega arith),
-            eqb·suc-zero,
-            received-some s l,
-            lt-ltb (length (LineReader.receivedBytes s)) longest-form (omega arith),
-          )
-          (drop-follows p v t (some (LineReader.receivedBytes s ++ suc b ∷ [])) ready long (pushed-received s (suc b) r h))
-      by false false e f =
-          let h = ltb-false n longest-form f in
-          let c = over-count s (suc b) r h in
-          let l = ltb-false longest-form n e in
-          let k = length-kept s (r .0) l in
-          rw (
-            e,
-            lt-ltb longest-form (LineReader.receivedCount t) (omega arith),
-            eqb·suc-zero,
-            received-some s l,
-            le-ltb (length (LineReader.receivedBytes s)) longest-form (omega arith),
-          )
-          (hear-follows p v t none ready long (over-received s (suc b) r h) ground
-          (given-ground t (Layout.recoveryStep (p .requester)) (Layout.isKept (p .requester))))
+      by : (full : Bool) → Requester.fills (receivedOf s) ≡ full → Follows p (feed p (suc b)) (mainByte (mainView p) (suc b))
+      by true f =
+          rw (feed-more p (v .reader) b, eqb·suc-zero, f)
+          (hear-follows p v t _ stays more ground (given-ground t (Layout.recoveryStep (p .requester)) (Layout.isKept (p .requester))))
+      by false f = rw (feed-more p (v .reader) b, eqb·suc-zero, f) (drop-follows p v t _ stays more)
 
   pub feed-follows : (b : ℕ) → Follows p (feed p b) (mainByte (mainView p) b)
   feed-follows zero = close-follows
@@ -233,15 +188,7 @@ module _ (p : MainParts) (v : MainPartsValid p) where
   -- where a call stops
   stops-alike : (b : ℕ) → stopsAt s b ≡ Requester.stops (mainView p) b
   unfolding mainView
-  stops-alike b = by (ltb longest-form n) refl
-    where
-      by : (x : Bool) → ltb longest-form n ≡ x → (eqb b 0 || eqb n longest-form) ≡ (eqb b 0 || Requester.fills (receivedOf s))
-      by true e =
-          let h = ltb-true longest-form n e in
-          rw (received-none s h, ne-eqb n longest-form (λ z. omega arith))
-      by false e =
-          let h = ltb-false longest-form n e in
-          rw (received-some s h, length-kept s (r .0) h, full n longest-form h)
+  stops-alike b = refl
 
 -- ---- a piece
 
@@ -274,102 +221,88 @@ walk-follows (b ∷ bs) p v =
 abbrev later : Calls.MainReceiveOutcome → Calls.MainReceiveOutcome
 later x = record { used = suc (x .used); report = x .report; ended = x .ended; unsent = x .unsent; parts = x .parts }
 
-module _ (p : MainParts) (r : Ready (p .reader)) where
-  -- one byte more may be read where the frame has not passed 4,140
-  room : LineReader.receivedCount (p .reader) ≤ longest-form
-      → LineReader.overlong - LineReader.receivedCount (p .reader) ≡ suc (longest-form - LineReader.receivedCount (p .reader))
-  room h = omega arith
+module _ (p : MainParts) (v : LineReader.validReader (p .reader) ≡ true) where
+  abbrev part : List ℕ
+  part = p .reader
 
   received-none-read : mainReceiveValid p [] ≡ receiptOf (walk p [])
   unfolding mainReceiveValid walk LineReader.readPiece heardOf heardOutcomeOf Calls.partMovedTo
-  received-none-read = by (isOverlong (p .reader)) refl
+  received-none-read = by (LineReader.tailPromise part) refl
     where
-      by : (x : Bool) → isOverlong (p .reader) ≡ x → mainReceiveValid p [] ≡ receiptOf (walk p [])
-      by true e = rw e
-      by false e = rw (e, take-nil) (rw e)
+      by : (x : LineReader.TailReport) → LineReader.tailPromise part ≡ x → mainReceiveValid p [] ≡ receiptOf (walk p [])
+      by (LineReader.TailReport.refused n) e = rw e (rw e)
+      by (LineReader.unfinished n) e = rw (e, take-nil) (rw e)
+      by LineReader.longer e = rw e
+
+  -- one byte more may be read where the frame has not passed 4,140
+  room : (bs : List ℕ) → receivedOf part ≡ some bs → suc longest-form - length bs ≡ suc (longest-form - length bs)
+  room bs e = let l = received-most part bs e v in omega arith
 
   received-closed : (bs : List ℕ) → mainReceiveValid p (0 ∷ bs) ≡ receiptOf (walk p (0 ∷ bs))
   unfolding mainReceiveValid walk LineReader.readPiece feed fedBy
-  received-closed bs = by (isOverlong (p .reader)) refl
+  received-closed bs = by (receivedOf part) refl
     where
-      by : (x : Bool) → isOverlong (p .reader) ≡ x → mainReceiveValid p (0 ∷ bs) ≡ receiptOf (walk p (0 ∷ bs))
-      by true e = rw e
-      by false e = rw (e, room (ltb-false _ _ e))
+      by : (o : Option (List ℕ)) → receivedOf part ≡ o → mainReceiveValid p (0 ∷ bs) ≡ receiptOf (walk p (0 ∷ bs))
+      by none e = rw (tail-received part v, e)
+      by (some xs) e = rw (tail-received part v, e, room xs e)
 
   -- a byte that fills the frame
-  received-filled : (b : ℕ) (bs : List ℕ) → LineReader.receivedCount (p .reader) ≡ longest-form
+  received-filled : (b : ℕ) (bs : List ℕ) → Requester.fills (receivedOf part) ≡ true
       → mainReceiveValid p (suc b ∷ bs) ≡ receiptOf (walk p (suc b ∷ bs))
   unfolding mainReceiveValid walk LineReader.readPiece LineReader.oneByteLater feed fedBy
-  received-filled b bs z =
-      let h : LineReader.receivedCount (p .reader) ≤ longest-form = omega arith in
-      let k : longest-form - LineReader.receivedCount (p .reader) ≡ 0 = omega arith in
-      rw (
-        le-ltb longest-form (LineReader.receivedCount (p .reader)) h,
-        room h,
-        k,
-        eqb·suc-zero,
-        eq-eqb (LineReader.receivedCount (p .reader)) longest-form z,
-      )
-
-  -- any other hands nothing out and changes the reader's part alone
-  pub feed-quiet : (b : ℕ) → (LineReader.receivedCount (p .reader) ≡ longest-form → ⊥)
-      → feed p (suc b) ≡ fed Requester.nothing false (mainParts (LineReader.pushed (p .reader) (suc b)) (p .requester))
-  unfolding feed fedBy heardOf heardOutcomeOf Calls.partMovedTo
-  feed-quiet b z = by (isOverlong (p .reader)) refl
+  received-filled b bs = by (receivedOf part) refl
     where
-      n : ℕ
-      n = LineReader.receivedCount (p .reader)
+      by : (o : Option (List ℕ)) → receivedOf part ≡ o → Requester.fills o ≡ true
+          → mainReceiveValid p (suc b ∷ bs) ≡ receiptOf (walk p (suc b ∷ bs))
+      by none e f = absurd (false≢true f)
+      by (some xs) e f =
+          let k : longest-form - length xs ≡ 0 = omega (arith, leb-true longest-form (length xs) f) in
+          rw (tail-received part v, e, room xs e, k, eqb·suc-zero, f)
 
-      t : List ℕ
-      t = LineReader.pushed (p .reader) (suc b)
+  -- any other hands nothing out and changes the reader'part part alone
+  module _ (b : ℕ) (quiet : Requester.fills (receivedOf part) ≡ false) where
+    abbrev t : List ℕ
+    t = LineReader.pushed part (suc b)
 
-      by : (x : Bool) → isOverlong (p .reader) ≡ x → feed p (suc b) ≡ fed Requester.nothing false (mainParts t (p .requester))
-      by true e = rw e
-      by false e =
-          let h = below n longest-form (ltb-false longest-form n e) z in
-          let c = pushed-count (p .reader) (suc b) r h in
-          rw (e, le-ltb longest-form (LineReader.receivedCount t) (omega arith))
+    more : (bs : List ℕ) → receivedOf part ≡ some bs → receivedOf t ≡ some (bs ++ suc b ∷ [])
+    more bs e =
+        let f : leb longest-form (length bs) ≡ false = rw e at quiet in
+        pushed-received part (suc b) v ∙ rw e (more-room bs (suc b) (leb-false _ _ f))
 
-  received-later : (b : ℕ) (bs : List ℕ) → (LineReader.receivedCount (p .reader) ≡ longest-form → ⊥)
-      → mainReceiveValid p (suc b ∷ bs) ≡ later (mainReceiveValid (mainParts (LineReader.pushed (p .reader) (suc b)) (p .requester)) bs)
-  unfolding mainReceiveValid LineReader.readPiece LineReader.oneByteLater
-  received-later b bs z = by (isOverlong (p .reader)) refl
-    where
-      n : ℕ
-      n = LineReader.receivedCount (p .reader)
+    pub feed-quiet : feed p (suc b) ≡ fed Requester.nothing false (mainParts t (p .requester))
+    unfolding fedBy heardOutcomeOf Calls.partMovedTo
+    feed-quiet = feed-more p v b ∙ rw quiet
 
-      t : List ℕ
-      t = LineReader.pushed (p .reader) (suc b)
+    received-later : (bs : List ℕ) → mainReceiveValid p (suc b ∷ bs) ≡ later (mainReceiveValid (mainParts t (p .requester)) bs)
+    unfolding mainReceiveValid LineReader.readPiece LineReader.oneByteLater moreReceived
+    received-later bs = by (receivedOf part) refl
+      where
+        w : LineReader.validReader t ≡ true
+        w = pushed-stays part (suc b) v .valid
 
-      by : (x : Bool) → isOverlong (p .reader) ≡ x
-          → mainReceiveValid p (suc b ∷ bs) ≡ later (mainReceiveValid (mainParts t (p .requester)) bs)
-      by true e =
-          let h = ltb-true longest-form n e in
-          let c = over-count (p .reader) (suc b) r (omega arith) in
-          rw (e, lt-ltb longest-form (LineReader.receivedCount t) (omega arith), eqb·suc-zero)
-      by false e =
-          let h = ltb-false longest-form n e in
-          let l = below n longest-form h z in
-          let c = pushed-count (p .reader) (suc b) r l in
-          let k : longest-form - n ≡ LineReader.overlong - LineReader.receivedCount t = omega arith in
-          rw (e, le-ltb longest-form (LineReader.receivedCount t) (omega arith), room h, eqb·suc-zero, k)
+        by : (o : Option (List ℕ)) → receivedOf part ≡ o
+            → mainReceiveValid p (suc b ∷ bs) ≡ later (mainReceiveValid (mainParts t (p .requester)) bs)
+        by none e =
+            let k : receivedOf t ≡ none = pushed-received part (suc b) v ∙ rw e in
+            rw (tail-received part v, tail-received t w, k, e, eqb·suc-zero)
+        by (some xs) e =
+            let l : suc longest-form - length (xs ++ suc b ∷ []) ≡ longest-form - length xs = simp length-append (omega arith) in
+            rw (tail-received part v, tail-received t w, more xs e, e, room xs e, l, eqb·suc-zero)
 
-pub received-walk : (piece : List ℕ) (p : MainParts) → Ready (p .reader) → mainReceiveValid p piece ≡ receiptOf (walk p piece)
+pub received-walk : (piece : List ℕ) (p : MainParts) → LineReader.validReader (p .reader) ≡ true
+    → mainReceiveValid p piece ≡ receiptOf (walk p piece)
 unfolding walk
-received-walk [] p r = received-none-read p r
-received-walk (zero ∷ bs) p r = received-closed p r bs
-received-walk (suc b ∷ bs) p r =
-    let q = ready-pushed (p .reader) (suc b) r in
-    by (eqb (LineReader.receivedCount (p .reader)) longest-form) refl
-    (received-walk bs (mainParts (LineReader.pushed (p .reader) (suc b)) (p .requester)) (omega (arith, r .0), q .1))
+received-walk [] p v = received-none-read p v
+received-walk (zero ∷ bs) p v = received-closed p v bs
+received-walk (suc b ∷ bs) p v =
+    by (Requester.fills (receivedOf (p .reader))) refl
+    (received-walk bs (mainParts (LineReader.pushed (p .reader) (suc b)) (p .requester)) (pushed-stays (p .reader) (suc b) v .valid))
   where
     t : List ℕ
     t = LineReader.pushed (p .reader) (suc b)
 
-    by : (x : Bool) → eqb (LineReader.receivedCount (p .reader)) longest-form ≡ x
+    by : (x : Bool) → Requester.fills (receivedOf (p .reader)) ≡ x
         → mainReceiveValid (mainParts t (p .requester)) bs ≡ receiptOf (walk (mainParts t (p .requester)) bs)
         → mainReceiveValid p (suc b ∷ bs) ≡ receiptOf (walk p (suc b ∷ bs))
-    by true e i = received-filled p r b bs (eqb-true _ _ e)
-    by false e i =
-        let z = eqb-false _ _ e in
-        received-later p r b bs z ∙ rw (eqb·suc-zero, e, feed-quiet p r b z) (ap later i)
+    by true e i = received-filled p v b bs e
+    by false e i = received-later p v b e bs ∙ rw (eqb·suc-zero, e, feed-quiet p v b e) (ap later i)

@@ -16,7 +16,7 @@ use Rattle.octets.proofs.Conditions.{cond-by, cond-both}
 use Rattle.octets.proofs.Overlay.{length-overlay, overlay-part, overlay-none}
 use Rattle.line.specs.Limits.{longest-data}
 use Rattle.line.specs.Reader as LineReader
-use Rattle.line.proofs.State.{valid-ready, ready-valid, length-counted, count-counted}
+use Rattle.line.proofs.Received.{valid-long, fresh-received, fresh-stays}
 use Rattle.requester.specs.Limits.{last-number}
 use Rattle.requester.specs.State.{Request, RecoveryStep, fetch, acknowledge, alert, MainState, mainState, mainFresh, isSome, outstandingOf}
 use Rattle.requester.specs.State.{requestFrame}
@@ -34,7 +34,6 @@ use Rattle.requester_claims.specs.Histories.{receiptDid, receiveAnswer}
 use Rattle.requester_claims.proofs.FieldLaws.{progressed-held, progressed-valid, progressed-long, progressed-number}
 use Rattle.requester_claims.proofs.FieldLaws.{progressed-recovery, progressed-unsent, progressed-kept}
 use Rattle.requester_claims.proofs.FieldLaws.{flagged-held, flagged-valid, flagged-long, asked-held, asked-valid, asked-long}
-use Rattle.requester_claims.proofs.ReceivedClaim.{received-some}
 use Rattle.requester_claims.specs.Demand1.{MainMeets}
 use Rattle.requester_claims.proofs.ByteClaim.{lengths-same, walk-follows, received-walk}
 use Rattle.requester_claims.proofs.OneByte.{walk}
@@ -122,25 +121,18 @@ module _ (p : MainParts) (room : MainLongEnough p) where
     command = rw (zeros 11 1 (omega arith)) refl;
   }
 
-  started-received : receivedOf (LineReader.withCount 0 (p .reader)) ≡ some []
-  unfolding LineReader.receivedBytes
-  started-received =
-      let c = count-counted 0 (p .reader) (omega (arith, room .reader)) (omega arith) in
-      rw (received-some (LineReader.withCount 0 (p .reader)) (omega arith), c)
-
   pub start-meets : (s : MainState) → MainMeets p (mainDid p Histories.start) (mainMeant s Histories.start)
   unfolding mainDid mainMeant Calls.mainStartPromise Calls.mainFreshParts LineReader.readerStartPromise mainView
   start-meets s =
-      let c = count-counted 0 (p .reader) (omega (arith, room .reader)) (omega arith) in
-      let l = length-counted 0 (p .reader) (omega (arith, room .reader)) in
+      let k = fresh-stays (p .reader) (room .reader) in
       rw (long-enough-is p room, le-leb LineReader.reader-length (length (p .reader)) (room .reader))
       (record {
         answer = refl;
         out = refl;
-        state = rw started-received fresh-held;
-        valid = record { reader = ready-valid _ (omega (arith, room .reader), omega arith); requester = valid-requester t fresh-valid };
+        state = rw (fresh-received (p .reader) (room .reader)) fresh-held;
+        valid = record { reader = k .valid; requester = valid-requester t fresh-valid };
         lengths = record {
-          reader = l;
+          reader = k .long;
           requester = length-overlay 0 (replicate Layout.kept-data-offset 0) (p .requester) (omega (arith, room .requester));
         };
       })
@@ -290,7 +282,7 @@ module _ (p : MainParts) (v : MainPartsValid p) where
   receive-meets piece =
       let f = walk-follows piece p v in
       let x = f .1 in
-      rw (valid-parts p v, received-walk piece p (valid-ready (p .reader) (v .reader)), report-received _ (walk p piece .fed .handed) _ _)
+      rw (valid-parts p v, received-walk piece p (v .reader), report-received _ (walk p piece .fed .handed) _ _)
       (record {
         answer = rw (f .0, x .handed, x .ended, ← x .state, to-go-out (walk p piece .fed .parts));
         out = x .given ∙ ap Histories.handedData (x .handed);
@@ -304,7 +296,7 @@ module _ (p : MainParts) (v : MainPartsValid p) where
   pub call-meets : (c : MainCall) → MainMeets p (mainDid p c) (mainMeant (mainView p) c)
   unfolding mainDid mainMeant
   call-meets Histories.start =
-      start-meets p (record { reader = valid-ready (p .reader) (v .reader) .0; requester = w .long }) (mainView p)
+      start-meets p (record { reader = valid-long (p .reader) (v .reader); requester = w .long }) (mainView p)
   call-meets (Histories.request command d room) = request-meets command d room
   call-meets Histories.interrupt = interrupt-meets
   call-meets (Histories.send room) = send-meets room

@@ -8,8 +8,6 @@ use Prim.Native.Nat.{ℕ, zero, suc}
 use lib.Dec.{eqb·suc-zero}
 use lib.ListN.{take}
 use lib.Seq.{append-snoc}
-use borrow.Author.Tests.{eqb-false}
-use Rattle.line.proofs.State.{valid-ready}
 use Rattle.requester.specs.Calls
 use Rattle.requester.specs.Calls.{MainParts, handedReportOf, MainPartsValid}
 use Rattle.requester.proofs.ValidLaws.{valid-parts}
@@ -59,7 +57,7 @@ unfolding afterByte fedTo handedEvents handedReportOf
 quiet x zero v e = absurd (false≢true (sym e))
 quiet x (suc b) v e =
     let p = x .parts in
-    rw (feed-quiet p (valid-ready (p .reader) (v .reader)) b (eqb-false _ _ (rw eqb·suc-zero at e)), append-nil)
+    rw (feed-quiet p (v .reader) b (rw eqb·suc-zero at e), append-nil)
 
 -- more bytes behind those of a byte that hands nothing out
 fed-later : (x : Listener) (b : ℕ) (cs : List ℕ) (f : Fed) → MainPartsValid (x .parts) → stopsAt (x .parts .reader) b ≡ false
@@ -106,7 +104,7 @@ did-stream x c v =
     let w = walk p (c .piece) in
     rw (
       valid-parts p v,
-      received-walk (c .piece) p (valid-ready (p .reader) (v .reader)),
+      received-walk (c .piece) p (v .reader),
       report-received (w .used) (w .fed .handed) (w .fed .ended) _,
     )
     (walk-stream (c .piece) x v)

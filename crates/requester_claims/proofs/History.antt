@@ -21,7 +21,7 @@ use Rattle.requester.specs.Valid.{validRequester}
 use Rattle.requester.specs.Calls
 use Rattle.requester.specs.Calls.{MainParts, MainPartsValid, MainLongEnough}
 use Rattle.requester.proofs.ValidLaws.{requester-valid, is-long-enough}
-use Rattle.line.proofs.State.{valid-ready}
+use Rattle.line.proofs.Received.{valid-long}
 use Rattle.requester_claims.specs.View.{mainView}
 use Rattle.requester_claims.specs.Histories
 use Rattle.requester_claims.specs.Histories.{MainCall, MainAnswer, refused, done, put, received, MainDid, mainDidBy, mainDid, putDid}
@@ -137,7 +137,7 @@ never-12 s m e f = let h : mainMeant s (m .call) .answer ≡ refused 12 = rw e a
 
 pub valid-long-enough : (p : MainParts) → MainPartsValid p → MainLongEnough p
 valid-long-enough p v =
-    record { reader = valid-ready (p .reader) (v .reader) .0; requester = requester-valid (p .requester) (v .requester) .long }
+    record { reader = valid-long (p .reader) (v .reader); requester = requester-valid (p .requester) (v .requester) .long }
 
 -- whatever is lent: the answer, what is written outside the state, and the valid parts that are left
 pub one-call : (p : MainParts) (m : MainMade) → MainPartsValid p → MainMeets p (mainMade p m) (mainMeantMade (mainView p) m)

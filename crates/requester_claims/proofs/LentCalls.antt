@@ -9,7 +9,7 @@ use native.Mathlib.Omega.{arith}
 use lib.ListN.{length}
 use Rattle.octets.proofs.Conditions.{cond-by}
 use Rattle.line.specs.Reader as LineReader
-use Rattle.line.proofs.State.{valid-ready}
+use Rattle.line.proofs.Received.{valid-long, read-stays}
 use Rattle.line.proofs.Lent.{dataOf-append}
 use Rattle.line_claims.proofs.LoanLaws.{back-same, lent-long, lent-enough, Front, front}
 use Rattle.requester.specs.Layout
@@ -18,7 +18,6 @@ use Rattle.requester.specs.Calls
 use Rattle.requester.specs.Calls.{MainParts, HandedReport, MainLongEnough}
 use Rattle.requester.proofs.Cases.{untrue}
 use Rattle.requester.proofs.ValidLaws.{requester-valid, parts-valid, is-long-enough}
-use Rattle.requester.proofs.ReaderLaws.{read-leaves}
 use Rattle.requester_claims.specs.Histories
 use Rattle.requester_claims.specs.Histories.{MainCall, MainLent, mainDid, mainLentOf, enoughReader, enoughRequester, mainEnough}
 use Rattle.requester_claims.specs.Histories.{mainMade, handedDataIn, receiptDid}
@@ -41,7 +40,7 @@ receiving-long : (p : MainParts) (piece : List ℕ) → length (Calls.mainReceiv
 unfolding Calls.mainReceivePromise Calls.mainReceiveValid
 receiving-long p piece =
     cond-by (λ (x : Calls.MainReceiveOutcome). length (x .parts .reader) ≡ length (p .reader)) (Calls.mainValidParts p) _ _
-    (λ v. read-leaves (Calls.readable (p .reader) piece) (p .reader) (valid-ready (p .reader) (parts-valid p v .reader)) .long) (λ _. refl)
+    (λ v. read-stays (Calls.readable (p .reader) piece) (p .reader) (parts-valid p v .reader) .long) (λ _. refl)
 
 module _ (l : MainLent) (p : MainParts) (room : MainLongEnough p) where
   abbrev q : MainParts
@@ -148,7 +147,7 @@ module _ (l : MainLent) (p : MainParts) where
   parts-enough e =
       let v = parts-valid (mainLentOf l p) e in
       and-eq-true-iff _ _ .1 (
-        lent-enough LineReader.reader-length (p .reader) (l .reader) (omega arith) (valid-ready _ (v .reader) .0),
+        lent-enough LineReader.reader-length (p .reader) (l .reader) (omega arith) (valid-long _ (v .reader)),
         requester-enough (v .requester),
       )
 

@@ -14,8 +14,8 @@ use Rattle.octets.proofs.Conditions.{cond-by, cond-map}
 use Rattle.octets.proofs.Overlay.{length-overlay, overlay-append, run-append}
 use Rattle.line.specs.Limits.{longest-data}
 use Rattle.line.specs.Reader as LineReader
-use Rattle.line.proofs.State.{Ready, valid-ready, ready-pushed}
-use Rattle.line.proofs.Lent.{count-append, valid-append, dataOf-append, pushed-append, finish-append}
+use Rattle.line.proofs.Lent.{tail-append, fresh-append, valid-append, dataOf-append, pushed-append, finish-append}
+use Rattle.line.proofs.Received.{valid-long, pushed-stays, read-stays}
 use Rattle.requester.specs.Limits.{last-number}
 use Rattle.requester.specs.State.{requestFrame}
 use Rattle.requester.specs.Requester
@@ -26,7 +26,6 @@ use Rattle.requester.specs.Calls
 use Rattle.requester.specs.Calls.{MainParts, mainParts, progressed, heardOf, heardOutcomeOf}
 use Rattle.requester.proofs.ValidLaws.{requester-valid, parts-valid}
 use Rattle.requester.proofs.ProgressLaws.{length-progressed}
-use Rattle.requester.proofs.ReaderLaws.{read-leaves}
 
 -- ---- the main processor's part
 
@@ -167,19 +166,20 @@ module _ (t u : List ℕ) (long : Layout.requester-length ≤ length t) where
 abbrev outcomeBehind : List ℕ → LineReader.ReadOutcome → LineReader.ReadOutcome
 outcomeBehind u o = record { used = o .used; answer = o .answer; state = o .state ++ u }
 
-read-behind : (piece s u : List ℕ) → Ready s → LineReader.readPiece (s ++ u) piece ≡ outcomeBehind u (LineReader.readPiece s piece)
+read-behind : (piece s u : List ℕ) → LineReader.validReader s ≡ true
+    → LineReader.readPiece (s ++ u) piece ≡ outcomeBehind u (LineReader.readPiece s piece)
 unfolding LineReader.readPiece LineReader.oneByteLater
-read-behind [] s u r = refl
-read-behind (zero ∷ bs) s u r = rw (finish-append s u (r .0))
-read-behind (suc b ∷ bs) s u r =
-    let p = ready-pushed s (suc b) r in
-    rw (eqb·suc-zero, pushed-append s u (r .0) (suc b)) (rw (read-behind bs (LineReader.pushed s (suc b)) u (omega (arith, r .0), p .1)))
+read-behind [] s u v = refl
+read-behind (zero ∷ bs) s u v = rw (finish-append s u (valid-long s v))
+read-behind (suc b ∷ bs) s u v =
+    rw (eqb·suc-zero, pushed-append s u (valid-long s v) (suc b))
+    (rw (read-behind bs (LineReader.pushed s (suc b)) u (pushed-stays s (suc b) v .valid)))
 
 heard-behind : (n : ℕ) (s u : List ℕ) → LineReader.reader-length ≤ length s → (a : LineReader.ReadReport)
     → heardOf n (s ++ u) a ≡ heardOf n s a
 unfolding heardOf
 heard-behind n s u h (LineReader.refused k) = refl
-heard-behind n s u h LineReader.more = rw (count-append s u h)
+heard-behind n s u h LineReader.more = rw (tail-append s u h)
 heard-behind n s u h LineReader.empty = refl
 heard-behind n s u h (LineReader.failed reason sequence) = refl
 heard-behind n s u h (LineReader.message version sequence command k) = rw (dataOf-append s u h k)
@@ -203,17 +203,17 @@ module _ (p : MainParts) (a u : List ℕ) (reader : LineReader.reader-length ≤
       → Calls.mainReceiveValid (partsBehind a u p) piece ≡ receiptBehind a u (Calls.mainReceiveValid p piece)
   unfolding Calls.mainReceiveValid
   received-behind v piece =
-      let r = valid-ready (p .reader) (parts-valid p v .reader) in
+      let r = parts-valid p v .reader in
       let q = Calls.readable (p .reader) piece in
       let o = LineReader.readPiece (p .reader) q in
-      let w = read-leaves q (p .reader) r in
+      let w = valid-long (o .state) (read-stays q (p .reader) r .valid) in
       let h = cond (Calls.isOverlong (p .reader)) none (heardOf (Layout.newestNumber (p .requester)) (o .state) (o .answer)) in
       let x = heardOutcomeOf (p .requester) h in
       rw (
-        count-append (p .reader) a reader,
+        tail-append (p .reader) a reader,
         read-behind q (p .reader) a r,
         number-behind (p .requester) u requester 8 Layout.number-offset (omega arith),
-        heard-behind (Layout.newestNumber (p .requester)) (o .state) a (w .ready .0) (o .answer),
+        heard-behind (Layout.newestNumber (p .requester)) (o .state) a w (o .answer),
         outcome-behind (p .requester) u requester h,
         moved-behind (p .requester) u requester (x .next),
         unsent-behind (Calls.partMovedTo (x .next) (p .requester) .requester) u
@@ -228,13 +228,13 @@ module _ (p : MainParts) (a u : List ℕ) (reader : LineReader.reader-length ≤
 
   pub starting-behind : Calls.mainStartPromise (partsBehind a u p)
       ≡ record { refusal = Calls.mainStartPromise p .refusal; parts = partsBehind a u (Calls.mainStartPromise p .parts) }
-  unfolding Calls.mainStartPromise Calls.mainLongEnough Calls.mainFreshParts LineReader.readerStartPromise LineReader.withCount bytes
+  unfolding Calls.mainStartPromise Calls.mainLongEnough Calls.mainFreshParts LineReader.readerStartPromise
   starting-behind =
       rw (
         le-leb LineReader.reader-length (length (p .reader)) reader,
         le-leb LineReader.reader-length (length (p .reader ++ a)) (simp length-append (omega arith)),
         le-leb Layout.requester-length (length (p .requester)) requester,
         le-leb Layout.requester-length (length (p .requester ++ u)) (simp length-append (omega arith)),
-        overlay-append (p .reader) a 0 (bytes 2 0) (omega arith),
+        fresh-append (p .reader) a reader,
         overlay-append (p .requester) u 0 (replicate Layout.kept-data-offset 0) (omega arith),
       )

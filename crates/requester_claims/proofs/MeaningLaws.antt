@@ -1,15 +1,12 @@
 -- A law of document 02's words: a byte that does not stop a call of receive.
 -- Assumes nothing.
-use mathlib.Core.Path.{_≡_, refl, sym, ap, _∙_}
+use mathlib.Core.Path.{_≡_, refl, sym, _∙_}
 use mathlib.Core.Bool.{Bool, true, false, _||_, false≢true}
-use mathlib.Core.List.{List, [], _∷_, _++_}
-use mathlib.Core.Option.{Option, none, some}
 use Prim.Native.Nat.{ℕ, zero, suc, _≤_}
 use native.Mathlib.Omega.{arith}
 use lib.Dec.{eqb}
-use lib.ListN.{length}
-use borrow.Author.Tests.{eqb-false, leb-false, lt-ltb}
-use Rattle.line.specs.Limits.{longest-form}
+use borrow.Author.Tests.{eqb-false}
+use Rattle.line.specs.Judge.{moreReceived}
 use Rattle.requester.specs.State.{MainState}
 use Rattle.requester.specs.Requester
 use Rattle.requester.specs.Requester.{mainByte, dropped}
@@ -18,27 +15,16 @@ either : (a b : Bool) → (a || b) ≡ false → (a ≡ false) × (b ≡ false)
 either true b e = absurd (false≢true (sym e))
 either false b e = (refl, e)
 
--- the receive progress with a byte more
-unfoldable pub grown : Option (List ℕ) → ℕ → Option (List ℕ)
-grown none b = none
-grown (some bs) b = some (bs ++ b ∷ [])
-
-quiet-more : (s : MainState) (b : ℕ) (bs : Option (List ℕ)) → s .received ≡ bs → Requester.fills bs ≡ false
-    → Requester.mainMore bs b s ≡ dropped (Requester.mainWithReceived s (grown bs b))
-unfolding grown
-quiet-more s b none e f = ap (λ (x : Option (List ℕ)). dropped (Requester.mainWithReceived s x)) e
-quiet-more s b (some bs) e f = rw (lt-ltb (length bs) longest-form (leb-false longest-form (length bs) f))
-
 byte-more : (s : MainState) (b : ℕ) → eqb b 0 ≡ false → mainByte s b ≡ Requester.mainMore (s .received) b s
 unfolding mainByte
 byte-more s b e = rw e
 
 -- it changes the receive progress alone, and hands nothing out
 pub quiet-byte : (s : MainState) (b : ℕ) → Requester.stops s b ≡ false
-    → mainByte s b ≡ dropped (Requester.mainWithReceived s (grown (s .received) b))
+    → mainByte s b ≡ dropped (Requester.mainWithReceived s (moreReceived (s .received) b))
 quiet-byte s b e =
     let h = either (eqb b 0) (Requester.fills (s .received)) e in
-    byte-more s b (h .0) ∙ quiet-more s b (s .received) refl (h .1)
+    byte-more s b (h .0) ∙ rw (h .1)
 
 pub positive : (n : ℕ) → (n ≡ 0 → ⊥) → 1 ≤ n
 positive zero f = absurd (f refl)

@@ -13,9 +13,10 @@ use Rattle.octets.specs.Bytes.{Each, overlay}
 use Rattle.octets.proofs.Conditions.{cond-by}
 use Rattle.octets.proofs.Each.{each-append}
 use Rattle.octets.proofs.Overlay.{overlay-inside}
-use Rattle.line.specs.Limits.{longest-data, longest-form}
+use Rattle.line.specs.Limits.{longest-data}
 use Rattle.line.specs.Judge.{judge}
 use Rattle.line.specs.Frame.{frame}
+use Rattle.line.specs.Judge.{moreReceived}
 use Rattle.requester.specs.Limits.{last-number}
 use Rattle.requester.specs.State.{Request, RecoveryStep, MainState, isSome, outstanding, requestFrame}
 use Rattle.requester.specs.Requester
@@ -26,7 +27,7 @@ use Rattle.requester_claims.specs.View.{mainView}
 use Rattle.requester_claims.specs.Histories
 use Rattle.requester_claims.specs.Histories.{MainCall, refused, put, received, MainMeans, mainMeans, putMeans, mainDoneMeans}
 use Rattle.requester_claims.specs.Histories.{mainMeant, MainMade, mainMade, mainMeantMade, mainEnough}
-use Rattle.requester_claims.proofs.MeaningLaws.{grown, quiet-byte}
+use Rattle.requester_claims.proofs.MeaningLaws.{quiet-byte}
 use Rattle.requester_claims.proofs.History.{one-call, history}
 use Rattle.requester_claims.specs.Histories.{OfReached, OfValid}
 use Rattle.requester_claims.specs.Item2.{OneNumber}
@@ -73,10 +74,9 @@ module _ (s : MainState) where
   closes-goes (some (b ∷ bs)) = hears-goes (some []) (hear (s .newest) (judge (b ∷ bs)))
 
   more-goes : (bs : Option (List ℕ)) (b : ℕ) → Goes s (Requester.mainMore bs b s .state) []
-  more-goes none b = nothing-goes s
-  more-goes (some bs) b =
-      cond-by (λ (x : Requester.MainResult). Goes s (x .state) []) (ltb (length bs) longest-form) _ _
-      (λ _. stays refl (inl refl) (inl refl)) (λ _. hears-goes none ground)
+  more-goes bs b =
+      cond-by (λ (x : Requester.MainResult). Goes s (x .state) []) (Requester.fills bs) _ _ (λ _. hears-goes (moreReceived bs b) ground)
+      (λ _. stays refl (inl refl) (inl refl))
 
   byte-goes : (b : ℕ) → Goes s (Requester.mainByte s b .state) []
   unfolding Requester.mainByte
@@ -99,7 +99,7 @@ receive-goes (b ∷ bs) s =
         → let r = Requester.receive (Requester.mainByte s b .state) bs in P (cond t (Requester.mainReceived 1 (Requester.mainByte s b))
         (Requester.mainReceived (suc (r .used)) (r .result)))
     by true e i = byte-goes s b
-    by false e i = rw (quiet-byte s b e) (progress-goes (grown (s .received) b) (i (grown (s .received) b)))
+    by false e i = rw (quiet-byte s b e) (progress-goes (moreReceived (s .received) b) (i (moreReceived (s .received) b)))
 
 -- ---- what is put out
 

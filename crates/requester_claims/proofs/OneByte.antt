@@ -5,7 +5,6 @@ use mathlib.Core.List.{List, [], _∷_}
 use mathlib.Core.Option.{Option, none}
 use Prim.Native.Nat.{ℕ, zero, suc}
 use lib.Dec.{eqb}
-use Rattle.line.specs.Limits.{longest-form}
 use Rattle.line.specs.Reader as LineReader
 use Rattle.requester.specs.Requester
 use Rattle.requester.specs.Requester.{Heard}
@@ -44,7 +43,7 @@ feed p b =
 
 -- whether a byte is a 00, or the 4,141st of its frame
 abbrev pub stopsAt : List ℕ → ℕ → Bool
-stopsAt s b = eqb b 0 || eqb (LineReader.receivedCount s) longest-form
+stopsAt s b = eqb b 0 || Requester.fills (LineReader.receivedOf s)
 
 -- how many bytes were read, and what came of them
 pub record Walked : Type 0 where

@@ -1,23 +1,21 @@
 -- Laws of an iteration: the reader's state stays valid, what a frame comes to by its verdict, and what is left of a piece.
 -- Assumes nothing.
 use mathlib.Core.Path.{_≡_, refl, ap, _∙_}
-use mathlib.Core.Bool.{Bool, true, false, cond, and-eq-true-iff}
+use mathlib.Core.Bool.{Bool, true, false, and-eq-true-iff}
 use mathlib.Core.List.{List, [], _∷_}
 use mathlib.Core.Option.{Option, none, some}
 use Prim.Native.Nat.{ℕ, zero, suc, _+_, _-_, _^_, _≤_, _<_, zero-le}
 use native.Mathlib.Omega.{arith}
-use lib.Dec.{ltb, eqb}
-use lib.ListN.{length, take, drop, length-drop, length-take, drop-of-length-le}
+use lib.Dec.{eqb}
+use lib.ListN.{length, take, drop, length-drop, drop-of-length-le}
 use lib.Seq.{take-all, drop-drop}
-use borrow.Author.Tests.{ltb-false, ne-eqb, eqb-true, le-leb, lt-leb}
-use Rattle.octets.specs.Bytes.{bytes, run, numberAt}
-use Rattle.octets.proofs.Conditions.{cond-by}
+use borrow.Author.Tests.{ne-eqb, eqb-true, le-leb, lt-leb}
+use Rattle.octets.specs.Bytes.{bytes, numberAt}
 use Rattle.octets.proofs.Numbers.{length-bytes}
 use Rattle.line.specs.Limits.{longest-data}
 use Rattle.line.specs.Numbers.{first-version, second-version}
 use Rattle.line.specs.Reader as LineReader
-use Rattle.line.proofs.State.{Ready, valid-ready, ready-valid, ready-pushed}
-use Rattle.line.proofs.Held.{finish-leaves}
+use Rattle.line.proofs.Received.{read-stays}
 use Rattle.supervisor.specs.Valid.{validFactory}
 use Rattle.supervisor.specs.Calls.{Parts, parts}
 use Rattle.responder.specs.Requests.{Verdict, failure, good, versionServed, known, lengthAllowed, tested}
@@ -46,9 +44,8 @@ valid-parts p v = rw (v .reader, v .factory) (v .inner)
 
 -- ---- the reader
 
--- a piece is read at most to its end, at least one byte of it where it has one, and the state stays one that is read
+-- a piece is read at most to its end, and at least one byte of it where it has one
 record Read (piece : List ℕ) (o : LineReader.ReadOutcome) : Type 0 where
-  ready : Ready (o .state)
   most : o .used ≤ length piece
   reads-one : 0 < length piece → 1 ≤ o .used
 
@@ -57,37 +54,21 @@ module _ (s : List ℕ) (b : ℕ) (bs : List ℕ) where
   unfolding LineReader.readPiece
   read-next = rw (ne-eqb (suc b) 0 (λ e. omega arith))
 
-read-leaves : (piece s : List ℕ) → Ready s → Read piece (LineReader.readPiece s piece)
+read-used : (piece s : List ℕ) → Read piece (LineReader.readPiece s piece)
 unfolding LineReader.readPiece LineReader.oneByteLater
-read-leaves [] s r = record { ready = r; most = omega arith; reads-one = λ h. h }
-read-leaves (zero ∷ bs) s r =
-    let f = finish-leaves s (r .0) in
-    record { ready = (omega arith, omega arith); most = omega arith; reads-one = λ h. omega arith }
-read-leaves (suc b ∷ bs) s r =
-    let p = ready-pushed s (suc b) r in
-    let q = read-leaves bs (LineReader.pushed s (suc b)) (omega arith, p .1) in
-    rw (read-next s b bs) (record { ready = q .ready; most = omega (arith, q .most); reads-one = λ h. omega arith })
+read-used [] s = record { most = omega arith; reads-one = λ h. h }
+read-used (zero ∷ bs) s = record { most = omega arith; reads-one = λ h. omega arith }
+read-used (suc b ∷ bs) s =
+    let q = read-used bs (LineReader.pushed s (suc b)) in
+    rw (read-next s b bs) (record { most = omega (arith, q .most); reads-one = λ h. omega arith })
 
 pub read-valid : (s piece : List ℕ) → LineReader.validReader s ≡ true → LineReader.validReader (LineReader.readPiece s piece .state) ≡ true
-read-valid s piece v = ready-valid _ (read-leaves piece s (valid-ready s v) .ready)
+read-valid s piece v = read-stays piece s v .valid
 
 -- a call of `read` on a valid state
 pub accepted : (s piece : List ℕ) → LineReader.validReader s ≡ true → LineReader.readPromise s piece ≡ LineReader.readPiece s piece
 unfolding LineReader.readPromise
 accepted s piece v = rw v
-
--- the data that a reader hands out fit a message
-pub data-short : (s : List ℕ) (n : ℕ) → length (LineReader.dataPromise s n) ≤ longest-data
-unfolding LineReader.dataPromise LineReader.dataGivenPromise LineReader.partOf
-data-short s n =
-    cond-by Short (LineReader.validReader s) (cond (ltb longest-data n) (some 9) none) (some 12)
-    (λ v. cond-by Short (ltb longest-data n) (some 9) none
-    (λ e. omega arith)
-    (λ e. let k = ltb-false longest-data n e in omega (arith, length-take n (drop LineReader.data-offset s))))
-    (λ v. omega arith)
-  where
-    Short : Option ℕ → Type 0
-    Short x = length (LineReader.partOf x (run LineReader.data-offset n s)) ≤ longest-data
 
 -- ---- a request
 
@@ -295,7 +276,7 @@ module _ {image piece : List ℕ} {p₀ p p' : Parts} {at : ℕ} {n : ℕ} {g : 
   pub valid-step-used : (1 ≤ n) × (at + n ≤ length piece)
   unfolding Receive.validStep
   valid-step-used =
-      let w = read-leaves left (p .reader) (valid-ready (p .reader) (parts-valid p (h .valid) .reader)) in
+      let w = read-used left (p .reader) in
       let u : n ≡ LineReader.readPiece (p .reader) left .used = ap (λ (d : Receive.StepOutcome). d .used) by-left in
       let k : length left ≡ length piece - at = length-drop at piece in
       let m = w .most in

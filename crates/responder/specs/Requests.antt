@@ -7,14 +7,13 @@ use Prim.Native.Nat.{ℕ, zero, suc, _-_, _^_}
 use lib.Dec.{leb, ltb, eqb}
 use lib.ListN.{length, take, drop, replicate}
 use Rattle.octets.specs.Bytes.{bytes, numberAt, equal, run, bit}
-use Rattle.line.specs.Limits.{longest-form}
 use Rattle.line.specs.Numbers.{first-version, second-version, top-bit, all-ones, reply-acknowledged, reply-decode-failure, reply-bsu}
 use Rattle.line.specs.Numbers.{reply-identity, reply-mac, reply-status, reply-alert, reply-image-block, reply-key-lookup, reply-inventory}
 use Rattle.line.specs.Numbers.{reply-key-set, reason-form, reason-length, reason-version, reason-sequence, reason-data}
 use Rattle.line.specs.Message.{Message}
 use Rattle.line.specs.Frame.{frame}
 use Rattle.line.specs.Judge as Line
-use Rattle.line.specs.Judge.{judge}
+use Rattle.line.specs.Judge.{judge, moreReceived}
 use Rattle.supervisor.specs.Limits.{inventory-bad-index, highest-key, first-setting, longest-setting, shortest-setting, last-edition}
 use Rattle.supervisor.specs.Limits.{most-kept, longest-block}
 use Rattle.supervisor.specs.State.{Item, Factory, Settings, setting, Recorded, Alert, Retained, State}
@@ -262,11 +261,6 @@ afterSomeVerdict image s (some v) = afterVerdict image (withReceived s (some [])
 -- the 00 behind these bytes
 unfoldable pub closed : List ℕ → State → Option (List ℕ) → State
 closed image s received = afterSomeVerdict image s (verdictSince received)
-
--- one byte more, or one too many
-unfoldable pub moreReceived : Option (List ℕ) → ℕ → Option (List ℕ)
-moreReceived none b = none
-moreReceived (some bs) b = cond (ltb (length bs) longest-form) (some (bs ++ (b ∷ []))) none
 
 unfoldable pub receiveByte : List ℕ → State → ℕ → State
 receiveByte image s b = cond (eqb b 0) (closed image s (s .received)) (withReceived s (moreReceived (s .received) b))

@@ -143,7 +143,7 @@ unfit d p r e = rw (is-long-enough p r, e)
 
 -- the reader's part
 reader-begun : (s t : List ℕ) (a : Reader-Started) → Reader.reader-length ≤ length s
-    → Reader.readerStartOutcome a t ≡ Reader.readerStartPromise s → t ≡ Reader.withCount 0 s
+    → Reader.readerStartOutcome a t ≡ Reader.readerStartPromise s → t ≡ Reader.readerFresh s
 unfolding Reader.readerStartPromise
 reader-begun s t a h e = ap (λ (o : Reader.ReaderStartOutcome). o .state) (rw (le-leb _ _ h) at e)
 

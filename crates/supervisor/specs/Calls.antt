@@ -64,7 +64,7 @@ longEnough p =
 -- status 1; every other register, every setting and the outbox 0; the start data in the factory store, and key 2's version and key 0's text
 unfoldable pub freshParts : List ℕ → Parts → Parts
 freshParts d p = record {
-  reader = Reader.withCount 0 (p .reader);
+  reader = Reader.readerFresh (p .reader);
   outbox = overlay 0 (replicate Layout.outbox-length 0) (p .outbox);
   factory = overlay 0 (d ++ bytes 4 0 ++ pong) (p .factory);
   settings = overlay 0 (replicate Layout.settings-length 0) (p .settings);

@@ -6,7 +6,7 @@ use mathlib.Core.List.{List}
 use Prim.Native.Nat.{ℕ, _≤_, _<_}
 use native.Mathlib.Omega.{arith}
 use lib.ListN.{length}
-use Rattle.line.proofs.State.{valid-ready}
+use Rattle.line.proofs.Received.{valid-long}
 use Rattle.supervisor.specs.Calls.{Parts}
 use Rattle.supervisor.proofs.ValidLaws.{outbox-valid, factory-valid, settings-valid, registers-valid}
 use Rattle.supervisor_claims.specs.ByPart.{Part, reader, outbox, factory, settings, registers, published, part, validPart, partsBy}
@@ -81,7 +81,7 @@ published-some Part.registers = omega arith
 
 -- a part as 12 requires has its published length
 pub part-long : (i : Part) (s : List ℕ) → validPart i s ≡ true → published i ≤ length s
-part-long Part.reader s v = valid-ready s v .0
+part-long Part.reader s v = valid-long s v
 part-long Part.outbox s v = outbox-valid s v .long
 part-long Part.factory s v = factory-valid s v .long
 part-long Part.settings s v = settings-valid s v .long

@@ -27,7 +27,8 @@ use Rattle.supervisor_claims.specs.Histories
 use Rattle.supervisor_claims.specs.Histories.{Typed, Answer, refused, done, found, did, upTo, Lent, enough, Made, made}
 use Rattle.supervisor_claims.specs.Histories.{Output, outputs, left, outputsMeant, leftMeant, AllTyped}
 use Rattle.supervisor_claims.specs.Histories.{receiveWith, locally, FromStart, AfterCalls}
-use Rattle.supervisor_claims.specs.FrameHistory.{receivedSinceAll, frameCarried, progressOf, afterAllFrames, outputsByFrames}
+use Rattle.supervisor_claims.specs.FrameHistory.{receivedSinceAll, frameCarried, afterAllFrames, outputsByFrames}
+use Rattle.line.specs.Judge.{progressOf}
 use Rattle.supervisor_claims.specs.FrameHistory.{leftByFrames, carriedFrames, RepliedWith, OnRequest}
 use Rattle.supervisor_claims.specs.FrameHistory.{OnFrame, DoneLeaving, answeredWith}
 use Rattle.supervisor_claims.specs.LastSet.{successful, setAfter, origin, originBehind, setSince, Has, fittedOf, lookupMessage}

@@ -4,12 +4,11 @@
 use mathlib.Core.Path.{_≡_}
 use mathlib.Core.Bool.{Bool, true, false, cond, not, _&&_}
 use mathlib.Core.List.{List, [], _∷_, _++_}
-use mathlib.Core.Option.{Option, none, some}
+use mathlib.Core.Option.{some}
 use Prim.Native.Nat.{ℕ}
-use lib.Dec.{ltb}
 use lib.ListN as ListN
 use lib.ListN.{length}
-use Rattle.line.specs.Limits.{longest-form}
+use Rattle.line.specs.Judge.{progressOf}
 use Rattle.line.specs.Message.{Message}
 use Rattle.line.specs.Frame.{split, nonEmpty, closedBehind}
 use Rattle.supervisor.specs.State.{State, withReceived, withPending}
@@ -69,10 +68,6 @@ frameCarried image s (b ∷ bs) = afterVerdict image s (verdict (b ∷ bs))
 unfoldable pub framesCarried : List ℕ → State → List (List ℕ) → State
 framesCarried image s [] = s
 framesCarried image s (f ∷ fs) = framesCarried image (frameCarried image s f) fs
-
--- the receive progress after bytes that are not 00: none where they are more than a form has
-unfoldable pub progressOf : List ℕ → Option (List ℕ)
-progressOf bs = cond (ltb longest-form (length bs)) none (some bs)
 
 -- those frames in order, with the image lent: a valid request is carried out, any other frame earns its numbered failure (`afterVerdict`);
 -- the bytes behind the last 00 are the receive progress

@@ -11,6 +11,7 @@ use lib.ListN as ListN
 use lib.ListN.{length}
 use Rattle.octets.specs.Bytes.{Each, Byte}
 use Rattle.line_claims.specs.Loans.{Loan, lentPart, backPart, enoughPart}
+use Rattle.line.specs.Judge.{moreReceived}
 use Rattle.supervisor.specs.Layout
 use Rattle.supervisor.specs.State.{State}
 use Rattle.supervisor.specs.Local
@@ -94,7 +95,7 @@ endedMeant (some v) = Receive.endedByVerdict v
 unfoldable pub endedInPiece : Option (List ℕ) → List ℕ → Ended
 endedInPiece received [] = Ended.more
 endedInPiece received (b ∷ bs) =
-    cond (eqb b 0) (endedMeant (Requests.verdictSince received)) (endedInPiece (Requests.moreReceived received b) bs)
+    cond (eqb b 0) (endedMeant (Requests.verdictSince received)) (endedInPiece (moreReceived received b) bs)
 
 unfoldable pub meant : State → Call → Means
 meant s (start d) = doneMeans s (Local.start (factoryOf d))

@@ -21,7 +21,7 @@ use Rattle.supervisor_claims.specs.View.{view}
 use Rattle.supervisor_claims.specs.Sound.{Sound}
 use Rattle.supervisor_claims.specs.Histories as Supervisor
 use Rattle.supervisor_claims.proofs.claims.History as SupervisorHistory
-use Rattle.supervisor_claims.specs.FrameHistory.{progressOf}
+use Rattle.line.specs.Judge.{progressOf}
 use Rattle.supervisor_claims.specs.LastSet.{Origin}
 use Rattle.both_claims.specs.Ends
 use Rattle.both_claims.specs.Ends.{Log, emptyLog, CallOf, restarts, supervisorLogged, BothStarts, endsBegun, Begun, together}

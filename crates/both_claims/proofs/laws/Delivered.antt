@@ -19,7 +19,8 @@ use Rattle.responder.specs.Requests.{receiveByte, receiveStream}
 use Rattle.supervisor_claims.specs.Histories
 use Rattle.supervisor_claims.specs.Histories.{Call, Made, enough, meant, meantMade, leftMeant, outputsMeant}
 use Rattle.supervisor_claims.specs.FrameHistory.{pieceRead, bytesReceivedBy, frameCarried, framesCarried}
-use Rattle.supervisor_claims.proofs.claims.InOrder.{stream-append, tail-within, in-order}
+use Rattle.supervisor_claims.proofs.claims.InOrder.{stream-append, in-order}
+use Rattle.line.proofs.Judged.{tail-within}
 use Rattle.supervisor_claims.specs.Replies.{movedBytes, takenBytes}
 use Rattle.both_claims.specs.RoundTrip.{TakesPiece, ReceivesWith, allReceived}
 use Rattle.both_claims.specs.Pending.{Takes}

@@ -14,6 +14,8 @@ use Rattle.octets.specs.Bytes.{Each}
 use Rattle.line.specs.Limits.{longest-form}
 use Rattle.line.specs.Message.{Message}
 use Rattle.line.specs.Judge.{good, judge}
+use Rattle.line.specs.Judge.{moreReceived}
+use Rattle.line.proofs.Judged.{more-room}
 use Rattle.requester.specs.State.{Request, MainState, mainState}
 use Rattle.requester.specs.Requester
 use Rattle.requester.specs.Requester.{mainReceived, hear, answer, afterHeard, mainWithReceived, replySequence}
@@ -22,7 +24,7 @@ use Rattle.requester_claims.specs.View.{mainView}
 use Rattle.requester_claims.specs.Histories as Main
 use Rattle.requester_claims.specs.Histories.{mainMeant, mainMeantMade, mainEnough}
 use Rattle.requester_claims.proofs.History.{one-call}
-use Rattle.requester_claims.proofs.MeaningLaws.{grown, quiet-byte}
+use Rattle.requester_claims.proofs.MeaningLaws.{quiet-byte}
 use Rattle.requester_claims.specs.Cuts.{handedEvents, MainRead, Listener, afterMainRead}
 
 -- ---- a frame
@@ -38,10 +40,9 @@ no-stop p s b e h = rw (eqb·suc-zero, e, lt-leb longest-form (length p) h)
 
 more-byte : (p : List ℕ) (s : MainState) (b : ℕ) → s .received ≡ some p → suc (length p) ≤ longest-form
     → Requester.mainByte s (suc b) .state ≡ mainWithReceived s (some (p ++ (suc b ∷ [])))
-unfolding grown
 more-byte p s b e h =
     ap (λ (x : Requester.MainResult). x .state) (quiet-byte s (suc b) (no-stop p s b e h))
-    ∙ ap (λ (x : Option (List ℕ)). mainWithReceived s (grown x (suc b))) e
+    ∙ ap (mainWithReceived s) (ap (λ (x : Option (List ℕ)). moreReceived x (suc b)) e ∙ more-room p (suc b) (omega arith))
 
 -- behind the bytes p, which have come
 pub frame-heard : (f p : List ℕ) (s : MainState) → Each (λ b. 1 ≤ b) f → s .received ≡ some p → 1 ≤ length (p ++ f)

@@ -8,9 +8,7 @@ use mathlib.Core.Option.{Option, some}
 use Prim.Native.Nat.{ℕ, _^_, _≤_, _<_}
 use native.Mathlib.Omega.{arith}
 use lib.Dec.{eqb}
-use lib.ListN.{length}
 use borrow.Author.Tests.{eqb-true}
-use Rattle.line.specs.Reader.{receivedOf}
 use Rattle.octets.specs.Bytes.{Each, Byte}
 use Rattle.octets.proofs.Conditions.{cond-by}
 use Rattle.octets.proofs.Numbers.{number-small}
@@ -20,7 +18,7 @@ use Rattle.octets.proofs.Each.{each-append}
 use Rattle.line.specs.Numbers.{first-version, second-version}
 use Rattle.line.specs.Message.{Message, InRange}
 use Rattle.line.specs.Reader as LineReader
-use Rattle.line.proofs.State.{valid-ready, count-counted}
+use Rattle.line.proofs.Received.{valid-long, fresh-received}
 use Rattle.line.specs.Frame.{NonZero, split}
 use Rattle.line.proofs.Pieces.{split-at}
 use Rattle.supervisor.specs.State.{Retained, State, withReceived}
@@ -33,7 +31,8 @@ use Rattle.supervisor_claims.proofs.Sound.{sound-with}
 use Rattle.supervisor_claims.specs.FrameHistory.{frameCarried, framesCarried}
 use Rattle.supervisor_claims.proofs.calls.ReceivedClaim.{Requestable, good-typed, started-kept}
 use Rattle.supervisor_claims.proofs.calls.ReceiveClaim.{fed-leaves}
-use Rattle.supervisor_claims.proofs.claims.InOrder.{carried-lined, judged-receiving, tail-within, in-order}
+use Rattle.supervisor_claims.proofs.claims.InOrder.{carried-lined, judged-receiving, in-order}
+use Rattle.line.proofs.Judged.{tail-within}
 use Rattle.both_claims.proofs.laws.Table.{passes, top-set}
 use Rattle.both_claims.proofs.laws.ReplyRange.{Versioned, reply-of, reply-sendable}
 use Rattle.both_claims.specs.Ends.{replyMessage, replyToRequest}
@@ -42,20 +41,15 @@ use Rattle.both_claims.specs.Ends.{replyMessage, replyToRequest}
 abbrev pub Held : State → Type 0
 Held x = (p : Parts) × Sound p × (view p ≡ withReceived x (some []))
 
--- a reader that is started
-received-none : (s : List ℕ) → LineReader.reader-length ≤ length s → receivedOf (LineReader.withCount 0 s) ≡ some []
-unfolding receivedOf LineReader.receivedBytes
-received-none s h = rw (count-counted 0 s (omega arith) (omega arith))
-
 pub held-parts : (p : Parts) → Sound p → Held (view p)
 unfolding view
 held-parts p s =
-    let h = valid-ready (p .reader) (s .valid .reader) .0 in
+    let h = valid-long (p .reader) (s .valid .reader) in
     let k = started-kept (p .reader) h in
-    let t = LineReader.withCount 0 (p .reader) in (
+    let t = LineReader.readerFresh (p .reader) in (
       withPart p Part.reader t,
       sound-with p Part.reader t s (k .valid) (k .bytes (s .bytes .reader)) (k .long) .0,
-      rw (received-none (p .reader) h),
+      rw (fresh-received (p .reader) h),
     )
 
 -- a frame

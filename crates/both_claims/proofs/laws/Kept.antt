@@ -13,7 +13,7 @@ use Rattle.requester.specs.State.{MainState}
 use Rattle.requester_claims.specs.Numbers.{Frame, OnePerNumber}
 use Rattle.requester_claims.proofs.Numbers.{Agrees}
 use Rattle.responder.specs.Requests.{good, verdict}
-use Rattle.supervisor_claims.specs.FrameHistory.{progressOf}
+use Rattle.line.specs.Judge.{progressOf}
 use Rattle.both_claims.specs.Ends
 use Rattle.both_claims.specs.Ends.{replyToRequest, Any, Handled, Log, replyMade, NotAsked}
 use Rattle.both_claims.proofs.laws.Lists.{Front, any-so, each-any, each-front}

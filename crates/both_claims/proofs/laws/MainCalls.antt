@@ -33,7 +33,7 @@ use Rattle.requester_claims.proofs.Answers.{heard-matches}
 use Rattle.requester_claims.proofs.AnswerFrame.{request-keeps, interrupt-keeps, send-keeps, put-keeps}
 use Rattle.requester_claims.specs.Numbers.{Frame, isStart}
 use Rattle.requester_claims.proofs.Numbers.{framesOf, Goes, Agrees, agrees-goes, put-goes, joined, call-goes}
-use Rattle.supervisor_claims.specs.FrameHistory.{progressOf}
+use Rattle.line.specs.Judge.{progressOf}
 use Rattle.supervisor_claims.proofs.laws.Progress.{rest-nonzero}
 use Rattle.both_claims.specs.Ends
 use Rattle.both_claims.specs.Ends.{MainTyped, Wire, FreshBy, bytesReadBy, restarts, mainLogged, Any, Handled, Log, replyMade, Fresh}

@@ -4,13 +4,13 @@
 use mathlib.Core.Path.{_≡_, refl, sym, ap, _∙_}
 use mathlib.Core.Bool.{Bool, true, false, cond, _||_, false≢true}
 use mathlib.Core.List.{List, [], _∷_, _++_, append-nil}
-use mathlib.Core.Option.{Option, none, some}
-use Prim.Native.Nat.{ℕ, zero, suc, _+_, _≤_}
+use mathlib.Core.Option.{Option, some}
+use Prim.Native.Nat.{ℕ, zero, suc, _≤_}
 use native.Mathlib.Omega.{arith}
-use lib.Dec.{leb, ltb, eqb, eqb·suc-zero}
-use lib.ListN.{length, take, length-append}
+use lib.Dec.{ltb, eqb, eqb·suc-zero}
+use lib.ListN.{length, take}
 use lib.Seq.{append-snoc}
-use borrow.Author.Tests.{leb-true, leb-false, ltb-true, ltb-false, le-ltb}
+use borrow.Author.Tests.{ltb-true, ltb-false}
 use Rattle.octets.specs.Bytes.{Each}
 use Rattle.octets.proofs.Each.{each-append}
 use Rattle.line.specs.Limits.{longest-form}
@@ -22,11 +22,11 @@ use Rattle.line_claims.specs.Calls.{gathered, goodOf, goodMessages}
 use Rattle.requester.specs.State.{MainState, isSome}
 use Rattle.requester.specs.Requester
 use Rattle.requester.specs.Requester.{Heard, ground, other, answer, hear, settle, MainResult, dropped, afterHeard, mainWithReceived}
-use Rattle.requester_claims.proofs.MeaningLaws.{grown, quiet-byte, quiet-positive}
+use Rattle.requester_claims.proofs.MeaningLaws.{quiet-byte, quiet-positive}
 use Rattle.requester_claims.proofs.AnswerBytes.{HeardGood, heard-good}
 use Rattle.requester_claims.proofs.AnswerFrame.{moved-received}
-use Rattle.supervisor_claims.specs.FrameHistory.{progressOf}
-use Rattle.supervisor_claims.proofs.claims.InOrder.{tail-over, tail-within}
+use Rattle.line.specs.Judge.{progressOf, moreReceived}
+use Rattle.line.proofs.Judged.{tail-over, tail-within, more-tail}
 
 -- an answer under the newest number is the one good message of these
 abbrev pub HeardFrom : ℕ → List Message → Heard → Type 0
@@ -89,59 +89,23 @@ module _ (s : MainState) (p : List ℕ) (z : Each (λ b. 1 ≤ b) p) (e : s .rec
         came = rw (split-at p [] z) (c .1);
       })
 
-  -- a byte more, at which a frame has more bytes than a form has
-  module _ (b : ℕ) (f : Requester.fills (s .received) ≡ true) where
-    full : length p ≡ longest-form
-    full = by (ltb longest-form (length p)) refl
-      where
-        by : (over : Bool) → ltb longest-form (length p) ≡ over → length p ≡ longest-form
-        by true k = absurd (false≢true (rw (e, tail-over p (ltb-true _ _ k)) at f))
-        by false k =
-            let g : leb longest-form (length p) ≡ true = rw (e, tail-within p (ltb-false _ _ k)) at f in
-            omega (arith, ltb-false longest-form (length p) k, leb-true longest-form (length p) g)
+  -- any other byte
+  more-progress : (b : ℕ) → moreReceived (s .received) b ≡ progressOf (p ++ (b ∷ []))
+  more-progress b = ap (λ (x : Option (List ℕ)). moreReceived x b) e ∙ more-tail p b
 
-    fills-byte : Requester.mainByte s (suc b) ≡ afterHeard ground (mainWithReceived s none)
+  -- one at which a frame has more bytes than a form has
+  module _ (b : ℕ) (f : Requester.fills (s .received) ≡ true) where
+    fills-byte : Requester.mainByte s (suc b) ≡ afterHeard ground (mainWithReceived s (progressOf (p ++ (suc b ∷ []))))
     unfolding Requester.mainByte
-    fills-byte =
-        rw eqb·suc-zero
-        (ap (λ (x : Option (List ℕ)). Requester.mainMore x (suc b) s) (e ∙ tail-within p (omega (arith, full)))
-        ∙ rw (le-ltb (length p) longest-form (omega (arith, full))))
+    fills-byte = rw (eqb·suc-zero, f, more-progress (suc b))
 
     fills-reads : Reads s p (suc b ∷ []) (Requester.mainByte s (suc b))
     fills-reads =
         let y = split-none (p ++ (suc b ∷ [])) (each-append (λ b. 1 ≤ b) p (suc b ∷ []) z (omega arith, tt)) in
-        let long : length (p ++ (suc b ∷ [])) ≡ length p + 1 = simp length-append in
-        rw fills-byte
-        (record {
-          progress = hears-progress s none ground ∙ rw (y, tail-over (p ++ (suc b ∷ [])) (omega (arith, full, long)));
-          came = hearing none ground refl tt;
-        })
-
-  -- any other byte
-  grown-tail : (b : ℕ) → Requester.fills (s .received) ≡ false → grown (s .received) b ≡ progressOf (p ++ (b ∷ []))
-  unfolding grown
-  grown-tail b f = by (ltb longest-form (length p)) refl
-    where
-      long : length (p ++ (b ∷ [])) ≡ length p + 1
-      long = simp length-append
-
-      by : (over : Bool) → ltb longest-form (length p) ≡ over → grown (s .received) b ≡ progressOf (p ++ (b ∷ []))
-      by true k =
-          let h = ltb-true longest-form (length p) k in
-          rw (e, tail-over p h, tail-over (p ++ (b ∷ [])) (omega (arith, long)))
-      by false k =
-          let g : leb longest-form (length p) ≡ false = rw (e, tail-within p (ltb-false _ _ k)) at f in
-          let h = leb-false longest-form (length p) g in
-          rw (e, tail-within p (ltb-false _ _ k), tail-within (p ++ (b ∷ [])) (omega (arith, long)))
+        let x = progressOf (p ++ (suc b ∷ [])) in
+        rw fills-byte (record { progress = hears-progress s x ground ∙ rw y; came = hearing x ground refl tt })
 
 -- ---- a piece
-
-quiet-fills : (s : MainState) (b : ℕ) → Requester.stops s b ≡ false → Requester.fills (s .received) ≡ false
-quiet-fills s b k = by (eqb b 0) (Requester.fills (s .received)) k
-  where
-    by : (a c : Bool) → (a || c) ≡ false → c ≡ false
-    by true c k = absurd (false≢true (sym k))
-    by false c k = k
 
 later : (s : MainState) (x : Option (List ℕ)) (ms : List Message) (r : MainResult) → Came (mainWithReceived s x) ms r → Came s ms r
 later s x ms r (quiet y e) = quiet y e
@@ -163,12 +127,14 @@ pub piece-reads : (piece : List ℕ) (s : MainState) (p : List ℕ) → Each (λ
 unfolding Requester.receive
 piece-reads [] s p z e = record { progress = rw (append-nil, split-none p z) e; came = quiet (s .received) refl }
 piece-reads (b ∷ bs) s p z e =
-    by (Requester.stops s b) refl (λ h f. piece-reads bs (mainWithReceived s (grown (s .received) b)) (p ++ (b ∷ [])) h f)
+    by (Requester.stops s b) refl (λ h f. piece-reads bs (mainWithReceived s (moreReceived (s .received) b)) (p ++ (b ∷ [])) h f)
   where
+    x : MainState
+    x = mainWithReceived s (moreReceived (s .received) b)
+
     by : (t : Bool) → Requester.stops s b ≡ t
-        → (Each (λ b. 1 ≤ b) (p ++ (b ∷ [])) → grown (s .received) b ≡ progressOf (p ++ (b ∷ []))
-        → let r = Requester.receive (mainWithReceived s
-        (grown (s .received) b)) bs in Reads (mainWithReceived s (grown (s .received) b)) (p ++ (b ∷ [])) (take (r .used) bs) (r .result))
+        → (Each (λ b. 1 ≤ b) (p ++ (b ∷ [])) → moreReceived (s .received) b ≡ progressOf (p ++ (b ∷ []))
+        → let r = Requester.receive x bs in Reads x (p ++ (b ∷ [])) (take (r .used) bs) (r .result))
         → let r = cond t (Requester.mainReceived 1 (Requester.mainByte s b)) (let x =
         Requester.receive (Requester.mainByte s b .state) bs in
         Requester.mainReceived (suc (x .used)) (x .result)) in
@@ -180,6 +146,5 @@ piece-reads (b ∷ bs) s p z e =
         at-stop (suc c) k = fills-reads s p z e c (stops-or (eqb (suc c) 0) (Requester.fills (s .received)) k (eqb·suc-zero c))
     by false k i =
         let h = quiet-positive s b k in
-        let f : Requester.fills (s .received) ≡ false = quiet-fills s b k in
         rw (quiet-byte s b k)
-        (reads-later s (grown (s .received) b) p b _ _ (i (each-append (λ b. 1 ≤ b) p (b ∷ []) z (h, tt)) (grown-tail s p z e b f)))
+        (reads-later s (moreReceived (s .received) b) p b _ _ (i (each-append (λ b. 1 ≤ b) p (b ∷ []) z (h, tt)) (more-progress s p z e b)))

@@ -33,10 +33,12 @@ use Rattle.supervisor_claims.specs.Sound.{Sound}
 use Rattle.supervisor_claims.specs.Histories as Supervisor
 use Rattle.supervisor_claims.specs.LastSet.{recordsRestored}
 use Rattle.supervisor_claims.specs.FrameHistory as Received
-use Rattle.supervisor_claims.specs.FrameHistory.{progressOf, framesCarried}
+use Rattle.supervisor_claims.specs.FrameHistory.{framesCarried}
+use Rattle.line.specs.Judge.{progressOf}
 use Rattle.supervisor_claims.proofs.calls.SendingClaim.{frame-bytes}
 use Rattle.supervisor_claims.proofs.claims.History as SupervisorHistory
-use Rattle.supervisor_claims.proofs.claims.InOrder.{lined, tail-over, tail-within}
+use Rattle.supervisor_claims.proofs.claims.InOrder.{lined}
+use Rattle.line.proofs.Judged.{tail-over, tail-within}
 use Rattle.supervisor_claims.specs.Replies.{replyBy, takenBytes}
 use Rattle.supervisor_claims.proofs.claims.LastSetLaws.{frames-owed}
 use Rattle.supervisor_claims.proofs.laws.TakenAll.{Quiet, larger-room, after-all, frame-last}

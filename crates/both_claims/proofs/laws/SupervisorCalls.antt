@@ -14,7 +14,7 @@ use Rattle.line.specs.Message.{Message, InRange}
 use Rattle.line.specs.Frame.{frame, NonZero}
 use Rattle.line.specs.Judge.{LineVerdict, failure, good, judge}
 use Rattle.line_claims.specs.Calls.{gathered, goodOf, goodMessages}
-use Rattle.line_claims.proofs.JudgeClaim.{never}
+use Rattle.line.proofs.Judged.{never}
 use Rattle.requester.specs.State.{MainState}
 use Rattle.requester_claims.specs.Numbers.{Frame}
 use Rattle.supervisor.specs.State.{State}

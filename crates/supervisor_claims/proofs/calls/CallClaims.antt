@@ -13,7 +13,7 @@ use Rattle.octets.proofs.Conditions.{cond-by}
 use Rattle.octets.proofs.Each.{each-append, each-take}
 use Rattle.octets.proofs.Numbers.{length-bytes, bytes-each}
 use Rattle.octets.proofs.Overlay.{length-overlay, overlay-each}
-use Rattle.line.specs.Reader as LineReader
+use Rattle.line.proofs.Received.{fresh-stays, fresh-each}
 use Rattle.supervisor.specs.Layout
 use Rattle.supervisor.specs.State.{fresh}
 use Rattle.supervisor.specs.Local
@@ -63,7 +63,7 @@ module _ (d : List ℕ) (typed : Typed (Histories.start d)) (p : Parts) (b : Byt
       )
 
   fresh-keeps : LongEnough p → Bytes (Calls.freshParts d p) × Lengths p (Calls.freshParts d p)
-  unfolding Calls.freshParts LineReader.withCount
+  unfolding Calls.freshParts
   fresh-keeps r =
       let o = cleared-keeps 0 Layout.outbox-length [] (p .outbox) refl (r .outbox) tt (b .outbox) in
       let f = stored-keeps (r .factory) in
@@ -72,14 +72,14 @@ module _ (d : List ℕ) (typed : Typed (Histories.start d)) (p : Parts) (b : Byt
       cleared-keeps 8 (Layout.registers-length - 8) (bytes 8 1) (p .registers) (length-bytes 8 1) (r .registers) (bytes-each 8 1)
       (b .registers) in (
         record {
-          reader = overlay-each Byte 0 _ (p .reader) (bytes-each 2 0) (b .reader);
+          reader = fresh-each (p .reader) (b .reader);
           outbox = o .0;
           factory = f .0;
           settings = s .0;
           registers = g .0;
         },
         record {
-          reader = length-overlay 0 (bytes 2 0) (p .reader) (omega (arith, length-bytes 2 0));
+          reader = fresh-stays (p .reader) (r .reader) .long;
           outbox = o .1;
           factory = f .1;
           settings = s .1;

@@ -17,7 +17,9 @@ use Rattle.line.specs.Numbers.{first-version}
 use Rattle.line.specs.Message.{Message}
 use Rattle.line.specs.Judge as Line
 use Rattle.line.specs.Judge.{decoded, wrongLength, wrongChecksum, wrongMagic, judgeForm, judge}
+use Rattle.line.specs.Judge.{moreReceived}
 use Rattle.line.specs.Reader as LineReader
+use Rattle.line.proofs.Received.{pushed-received, finish-received}
 use Rattle.supervisor.specs.State.{State, withReceived}
 use Rattle.supervisor.specs.Calls.{Parts}
 use Rattle.responder.specs.Commands.{Command, isListed, commandOfNumber}
@@ -32,7 +34,7 @@ use Rattle.supervisor_claims.specs.Sound.{withReader, withOutbox, Sound,
 use Rattle.supervisor_claims.proofs.Sound.{lengths-same, lengths-then, sound-with}
 use Rattle.supervisor_claims.proofs.calls.SendingClaim.{reply-sendable, sent-pending, sent-bytes}
 use Rattle.supervisor_claims.proofs.calls.CommandClaims.{withStores, SendableReply, Changed, command-does}
-use Rattle.supervisor_claims.proofs.calls.ReceivedClaim.{Requestable, ReaderKept, pushed-received, pushed-kept, finished-received}
+use Rattle.supervisor_claims.proofs.calls.ReceivedClaim.{Requestable, ReaderKept, pushed-kept}
 use Rattle.supervisor_claims.proofs.calls.ReceivedClaim.{finished-kept, finished-verdict, finished-typed}
 
 -- ---- Sending
@@ -189,7 +191,7 @@ module _ (image : List ℕ) (each : Each Byte image) (p : Parts) (s : Sound p) w
       (Requests.afterVerdict image (withReceived (view p) (some [])) v)
   frame-leaves v j =
       let a =
-      rw (finished-received (p .reader) (s .valid .reader)) at (reader-leaves p s ended (finished-kept (p .reader) (s .valid .reader))) in
+      rw (finish-received (p .reader) (s .valid .reader)) at (reader-leaves p s ended (finished-kept (p .reader) (s .valid .reader))) in
       let b = judged-leaves image each _ (a .1) v j in
       (b .0 ∙ ap (λ x. Requests.afterVerdict image x v) (a .0), b .1, lengths-then (a .2) (b .2))
 
@@ -205,7 +207,7 @@ module _ (image : List ℕ) (each : Each Byte image) (p : Parts) (s : Sound p) w
   closed-leaves none e = frame-leaves (failure 1 first-version none) (omega arith)
   closed-leaves (some []) e =
       let a =
-      rw (finished-received (p .reader) (s .valid .reader)) at (reader-leaves p s ended (finished-kept (p .reader) (s .valid .reader))) in
+      rw (finish-received (p .reader) (s .valid .reader)) at (reader-leaves p s ended (finished-kept (p .reader) (s .valid .reader))) in
       (a .0 ∙ progress-same (view p) (some []) (received-view ∙ e), a .1, a .2)
   closed-leaves (some (b ∷ bs)) e = frame-leaves _ (judgeable _ (rw e) (verdict-small (b ∷ bs)))
 
@@ -219,10 +221,10 @@ module _ (image : List ℕ) (each : Each Byte image) (p : Parts) (s : Sound p) w
   -- a byte that is not 00
   pushed-leaves : (b : ℕ) → b < 256
       → Leaves p (Receive.partsWith p (LineReader.pushed (p .reader) b) (Receive.innerOf p))
-      (withReceived (view p) (Requests.moreReceived (view p .received) b))
+      (withReceived (view p) (moreReceived (view p .received) b))
   pushed-leaves b small =
       let a = reader-leaves p s (LineReader.pushed (p .reader) b) (pushed-kept (p .reader) b (s .valid .reader) small) in
-      let more = pushed-received (p .reader) b (s .valid .reader) ∙ ap (λ r. Requests.moreReceived r b) (sym received-view) in
+      let more = pushed-received (p .reader) b (s .valid .reader) ∙ ap (λ r. moreReceived r b) (sym received-view) in
       (a .0 ∙ ap (withReceived (view p)) more, a .1, a .2)
 
 pub feed-leaves : (image : List ℕ) (p : Parts) (b : ℕ) → Each Byte image → Sound p → b < 256

@@ -14,8 +14,7 @@ use Rattle.octets.proofs.Conditions.{cond-by}
 use Rattle.octets.specs.Bytes.{number, bytes, overlay}
 use Rattle.octets.proofs.Numbers.{length-bytes, number-bytes}
 use Rattle.octets.proofs.Overlay.{length-overlay}
-use Rattle.line.specs.Reader
-use Rattle.line.proofs.State.{length-counted, count-counted, ready-valid}
+use Rattle.line.proofs.Received.{fresh-received, fresh-stays}
 use Rattle.supervisor.specs.Limits
 use Rattle.supervisor.specs.Layout
 use Rattle.supervisor.specs.State.{Factory, fresh, unset}
@@ -116,15 +115,6 @@ module _ (o : List ℕ) (z : Clear 0 Layout.outbox-length o) where
   unfolding pendingOf
   pending-none = rw (z 2 Layout.outbox-from-offset (omega arith) (omega arith), z 2 Layout.outbox-to-offset (omega arith) (omega arith))
 
-module _ (s : List ℕ) (h : Reader.reader-length ≤ length s) where
-  received-none : receivedOf (Reader.withCount 0 s) ≡ some []
-  unfolding receivedOf Reader.receivedBytes
-  received-none = rw (count-counted 0 s (omega arith) (omega arith))
-
-  reader-valid : Reader.validReader (Reader.withCount 0 s) ≡ true
-  reader-valid =
-      ready-valid _ (omega (arith, length-counted 0 s (omega arith)), omega (arith, count-counted 0 s (omega arith) (omega arith)))
-
 -- ---- the state that parts hold
 
 -- parts that are clear but for status and the factory store
@@ -197,7 +187,7 @@ module _ (d : List ℕ) (size : length d ≡ Layout.start-length) (good : goodSt
   parts-begun : Begun (factoryOf d) (Calls.freshParts d p)
   unfolding Calls.freshParts stored
   parts-begun = record {
-    reader = received-none (p .reader) (r .reader);
+    reader = fresh-received (p .reader) (r .reader);
     outbox = clear 0 Layout.outbox-length [] (p .outbox) refl;
     factory = stored-factory d size good (p .factory);
     settings = clear 0 Layout.settings-length [] (p .settings) refl;
@@ -213,7 +203,7 @@ module _ (d : List ℕ) (size : length d ≡ Layout.start-length) (good : goodSt
       let settings = length-clear 0 Layout.settings-length [] (p .settings) refl (r .settings) in
       let registers = length-clear 8 (Layout.registers-length - 8) (bytes 8 1) (p .registers) (length-bytes 8 1) (r .registers) in
       record {
-        reader = reader-valid (p .reader) (r .reader);
+        reader = fresh-stays (p .reader) (r .reader) .valid;
         outbox = valid-outbox _ (outbox-clear _ (b .outbox) (rw outbox (r .outbox)));
         factory = valid-factory _ (stored-valid d size good (p .factory) (r .factory));
         settings = valid-settings _ (settings-clear _ (b .settings) (rw settings (r .settings)));

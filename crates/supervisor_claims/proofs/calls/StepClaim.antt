@@ -3,22 +3,19 @@
 use mathlib.Core.Path.{_≡_, refl, sym, ap, _∙_}
 use mathlib.Core.Bool.{true}
 use mathlib.Core.List.{List, [], _∷_}
+use mathlib.Core.Option.{Option, none, some}
 use Prim.Native.Nat.{ℕ, zero, suc}
-use native.Mathlib.Omega.{arith}
-use lib.Dec.{ltb, eqb, eqb·suc-zero}
+use lib.Dec.{eqb·suc-zero}
 use lib.ListN as ListN
 use Rattle.line.specs.Reader.{receivedOf}
-use Rattle.octets.proofs.Conditions.{cond-by}
-use Rattle.line.specs.Limits as LineLimits
 use Rattle.line.specs.Judge as Line
-use Rattle.line.specs.Judge.{judge}
 use Rattle.line.specs.Reader as LineReader
-use Rattle.line.proofs.State.{valid-ready, ready-valid, ready-pushed}
+use Rattle.line.proofs.Received.{pushed-received, pushed-stays}
 use Rattle.supervisor.specs.Calls.{Parts}
 use Rattle.responder.specs.Requests
 use Rattle.responder.specs.Receive
 use Rattle.supervisor_claims.specs.Histories.{upTo, endedMeant, endedInPiece, stepped, stepAnswer}
-use Rattle.supervisor_claims.proofs.calls.ReceivedClaim.{pushed-received, finished-verdict}
+use Rattle.supervisor_claims.proofs.calls.ReceivedClaim.{finished-verdict}
 
 -- ---- the bytes read
 
@@ -63,14 +60,12 @@ verdict-ends (Line.failure reason sequence) = tt
 verdict-ends (Line.good m) = tt
 
 finish-ends : (s : List ℕ) → Ends (LineReader.finish s .answer)
-unfolding LineReader.finish LineReader.finishForm
-finish-ends s =
-    cond-by P (eqb (LineReader.receivedCount s) 0) _ _ (λ e. tt) (λ e.
-    cond-by P (ltb LineLimits.longest-form (LineReader.receivedCount s)) _ _ (λ f. tt)
-    (λ f. verdict-ends (judge (LineReader.receivedBytes s))))
+unfolding LineReader.finish
+finish-ends s = by (Line.judgeReceived (receivedOf s))
   where
-    P : LineReader.FrameOutcome → Type 0
-    P x = Ends (x .answer)
+    by : (o : Option Line.LineVerdict) → Ends (LineReader.closedReport o)
+    by none = tt
+    by (some v) = verdict-ends v
 
 ended-verdict : (reader : List ℕ) (a : LineReader.ReadReport) → Ends a
     → Receive.endedByReader reader a ≡ endedMeant (Receive.verdictOf reader a)
@@ -87,10 +82,7 @@ unfolding LineReader.readPiece LineReader.oneByteLater endedInPiece Receive.ende
 step-ends [] s v = refl
 step-ends (zero ∷ bs) s v = ended-verdict _ _ (finish-ends s) ∙ ap endedMeant (finished-verdict s v)
 step-ends (suc b ∷ bs) s v =
-    let r = valid-ready s v in
-    let k = ready-pushed s (suc b) r in
-    let w = ready-valid (LineReader.pushed s (suc b)) (omega arith, k .1) in
-    rw (eqb·suc-zero, ← pushed-received s (suc b) v) (step-ends bs (LineReader.pushed s (suc b)) w)
+    rw (eqb·suc-zero, ← pushed-received s (suc b) v) (step-ends bs (LineReader.pushed s (suc b)) (pushed-stays s (suc b) v .valid))
 
 -- ---- no refusal
 

@@ -18,13 +18,15 @@ use Rattle.supervisor_claims.specs.Sound.{Bytes}
 use Rattle.supervisor_claims.specs.Histories
 use Rattle.supervisor_claims.specs.Histories.{Typed, done, Lent, Made, enough, meant, meantMade, made, AllTyped}
 use Rattle.supervisor_claims.specs.Histories.{reached, startWith, receiveWith}
-use Rattle.supervisor_claims.specs.FrameHistory.{framesClosedBy, receivedSinceAll, frameCarried, framesCarried, progressOf}
+use Rattle.supervisor_claims.specs.FrameHistory.{framesClosedBy, receivedSinceAll, frameCarried, framesCarried}
+use Rattle.line.specs.Judge.{progressOf}
 use Rattle.supervisor_claims.specs.FrameHistory.{carriedOut}
 use Rattle.supervisor_claims.specs.FrameHistory.{DoneLeaving, answeredWith}
 use Rattle.supervisor_claims.specs.Demand2.{NoZeros, FailureAnswered, OverlongAnswered, EmptyFrameIgnored, AheadOfZero}
 use Rattle.supervisor_claims.proofs.laws.Progress.{Since}
 use Rattle.supervisor_claims.proofs.claims.History.{history, one-call}
-use Rattle.supervisor_claims.proofs.claims.InOrder.{tail-within, verdict-over, failure-only-pending, in-order-behind}
+use Rattle.supervisor_claims.proofs.claims.InOrder.{verdict-over, failure-only-pending, in-order-behind}
+use Rattle.line.proofs.Judged.{tail-within}
 use Rattle.supervisor_claims.proofs.claims.FramesClaim.{stream-carried, stream-closes, by-frames}
 
 -- ---- on a state whose receive progress is what stands behind the last 00 of w

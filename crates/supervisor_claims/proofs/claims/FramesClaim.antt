@@ -24,12 +24,14 @@ use Rattle.supervisor_claims.specs.Histories
 use Rattle.supervisor_claims.specs.Histories.{Call, upTo, endedMeant, endedInPiece, meant, Made, enough, meantMade, outputsMeant}
 use Rattle.supervisor_claims.specs.Histories.{leftMeant}
 use Rattle.supervisor_claims.specs.FrameHistory.{pieceRead, bytesReceivedBy, startsAnew, receivedSince, receivedSinceAll}
-use Rattle.supervisor_claims.specs.FrameHistory.{framesClosedBy, endedByFrames, frameCarried, framesCarried, progressOf}
+use Rattle.supervisor_claims.specs.FrameHistory.{framesClosedBy, endedByFrames, frameCarried, framesCarried}
+use Rattle.line.specs.Judge.{progressOf}
 use Rattle.supervisor_claims.specs.FrameHistory.{carriedOut, carriedCall, carriedMade, outputsByFrames, leftByFrames, carriedFrames}
 use Rattle.supervisor_claims.specs.Demand2.{HistoryFrames, EachOnce, ReceivedSince, FramesInOrderAfter}
 use Rattle.supervisor_claims.proofs.laws.Progress.{Since, called}
 use Rattle.supervisor_claims.proofs.claims.History.{history}
-use Rattle.supervisor_claims.proofs.claims.InOrder.{tail-over, tail-within, verdict-over, more-tail}
+use Rattle.supervisor_claims.proofs.claims.InOrder.{verdict-over}
+use Rattle.line.proofs.Judged.{tail-over, tail-within, more-tail}
 use Rattle.supervisor_claims.proofs.claims.InOrder.{stream-append, empty-ignored, closed-framed, in-order-behind}
 
 -- ---- a step

@@ -4,17 +4,16 @@ use mathlib.Core.Path.{_≡_, refl, ap, _∙_}
 use mathlib.Core.Bool.{Bool, true, false}
 use mathlib.Core.List.{List, [], _∷_, _++_, append-nil}
 use mathlib.Core.Option.{Option, none, some}
-use Prim.Native.Nat.{ℕ, zero, suc, _+_, _≤_, _<_}
+use Prim.Native.Nat.{ℕ, zero, suc, _<_}
 use native.Mathlib.Omega.{arith}
 use lib.Dec.{ltb, eqb, eqb·suc-zero}
-use lib.ListN.{length, length-append}
+use lib.ListN.{length}
 use lib.Seq.{append-snoc}
-use borrow.Author.Tests.{ltb-true, ltb-false, lt-ltb, le-ltb}
+use borrow.Author.Tests.{ltb-true, ltb-false}
 use Rattle.octets.proofs.Conditions.{cond-both}
 use Rattle.line.specs.Limits.{longest-form}
 use Rattle.line.specs.Numbers.{first-version}
 use Rattle.line.specs.Message.{Message}
-use Rattle.line.specs.Judge.{judgeForm, judge}
 use Rattle.line.specs.Frame.{split, nonEmpty}
 use Rattle.line.proofs.Pieces.{split-none, split-close, split-more}
 use Rattle.supervisor.specs.State.{Retained, State, withReceived, withPending, withTerminatorOwed}
@@ -22,8 +21,10 @@ use Rattle.supervisor.specs.Local.{lookup, entryOf}
 use Rattle.responder.specs.Commands.{Command, commandOfNumber}
 use Rattle.responder.specs.Requests
 use Rattle.responder.specs.Requests.{Verdict, failure, good, Carried, verdict, effect, carryOutBy, carryOut, afterVerdict, closed}
-use Rattle.responder.specs.Requests.{moreReceived, receiveByte, receiveStream, owed, replyFrame, sent, replyOf}
-use Rattle.supervisor_claims.specs.FrameHistory.{frameCarried, framesCarried, progressOf, afterAllFrames}
+use Rattle.line.proofs.Judged.{tail-over, tail-within, more-tail, judge-over}
+use Rattle.responder.specs.Requests.{receiveByte, receiveStream, owed, replyFrame, sent, replyOf}
+use Rattle.supervisor_claims.specs.FrameHistory.{frameCarried, framesCarried, afterAllFrames}
+use Rattle.line.specs.Judge.{progressOf}
 use Rattle.supervisor_claims.specs.Replies.{afterTable, replyBy}
 use Rattle.supervisor_claims.specs.Demand2.{FramesInOrder, FramesInOrderBehind, RequestCarried, FailureOnlyPending}
 
@@ -146,35 +147,10 @@ empty-ignored image s ((b ∷ bs) ∷ fs) = empty-ignored image (afterVerdict im
 
 -- ---- one byte more
 
-pub tail-over : (bs : List ℕ) → longest-form < length bs → progressOf bs ≡ none
-unfolding progressOf
-tail-over bs h = rw (lt-ltb longest-form (length bs) h)
-
-pub tail-within : (bs : List ℕ) → length bs ≤ longest-form → progressOf bs ≡ some bs
-unfolding progressOf
-tail-within bs h = rw (le-ltb longest-form (length bs) h)
-
-pub more-tail : (bs : List ℕ) (b : ℕ) → moreReceived (progressOf bs) b ≡ progressOf (bs ++ (b ∷ []))
-unfolding moreReceived
-more-tail bs b = by (ltb longest-form (length bs)) (ltb (length bs) longest-form) refl refl
-  where
-    long : length (bs ++ (b ∷ [])) ≡ length bs + 1
-    long = simp length-append
-
-    by : (over room : Bool) → ltb longest-form (length bs) ≡ over → ltb (length bs) longest-form ≡ room
-        → moreReceived (progressOf bs) b ≡ progressOf (bs ++ (b ∷ []))
-    by true room e f =
-        let h = ltb-true longest-form (length bs) e in
-        rw (tail-over bs h, tail-over (bs ++ (b ∷ [])) (omega (arith, long)))
-    by false true e f =
-        rw (tail-within bs (ltb-false _ _ e), f, tail-within (bs ++ (b ∷ [])) (omega (arith, long, ltb-true (length bs) longest-form f)))
-    by false false e f =
-        rw (tail-within bs (ltb-false _ _ e), f, tail-over (bs ++ (b ∷ [])) (omega (arith, long, ltb-false (length bs) longest-form f)))
-
 -- more bytes than a form has
 pub verdict-over : (bs : List ℕ) → longest-form < length bs → verdict bs ≡ failure 1 first-version none
-unfolding verdict judge judgeForm
-verdict-over bs h = rw (lt-ltb longest-form (length bs) h)
+unfolding verdict
+verdict-over bs h = rw (judge-over bs h)
 
 module _ (image : List ℕ) (s : State) where
   -- the 00 behind bytes

@@ -1,17 +1,17 @@
 -- The line layer's own calls on the supervisor's reader part: they leave sound parts, whatever they are lent, which never earn 12.
 -- Assumes nothing.
-use mathlib.Core.Path.{_≡_, refl, _∙_}
+use mathlib.Core.Path.{_≡_, refl}
 use mathlib.Core.Bool.{true}
 use mathlib.Core.List.{List, [], _∷_}
-use Prim.Native.Nat.{ℕ, zero, suc, _≤_}
+use Prim.Native.Nat.{ℕ, _≤_}
 use native.Mathlib.Omega.{arith}
-use lib.Dec.{leb, eqb·suc-zero}
+use lib.Dec.{leb}
 use lib.ListN.{length}
 use borrow.Author.Tests.{leb-true}
-use Rattle.octets.specs.Bytes.{Each, Byte}
+use Rattle.octets.specs.Bytes.{Each}
 use Rattle.octets.proofs.Conditions.{cond-by}
 use Rattle.line.specs.Reader as LineReader
-use Rattle.line.proofs.State.{valid-ready}
+use Rattle.line.proofs.Received.{valid-long as reader-long}
 use Rattle.line_claims.specs.Loans.{Loan, enoughPart}
 use Rattle.line_claims.proofs.LoanLaws.{back-same, lent-enough}
 use Rattle.line_claims.specs.Calls as LineCalls
@@ -22,23 +22,9 @@ use Rattle.supervisor_claims.specs.Histories.{lentOf, givenBack}
 use Rattle.supervisor_claims.specs.Demand1.{PieceBytes, ReaderCallsSound, ReaderNo12}
 use Rattle.supervisor_claims.proofs.Sound.{lengths-same, lengths-then, valid-long}
 use Rattle.supervisor_claims.proofs.laws.Locality.{widened, widened-all, lent-sound, back-leaves}
-use Rattle.supervisor_claims.proofs.calls.ReceivedClaim.{ReaderKept, pushed-kept, finished-kept, started-kept}
+use Rattle.supervisor_claims.proofs.calls.ReceivedClaim.{ReaderKept, read-kept, started-kept}
 use Rattle.supervisor_claims.proofs.calls.ReceiveClaim.{reader-leaves}
 use Rattle.supervisor_claims.proofs.claims.History.{earns-no-12}
-
--- ---- the reader's state
-
-kept-then : {r s t : List ℕ} → ReaderKept r s → ReaderKept s t → ReaderKept r t
-kept-then k l = record { valid = l .valid; long = l .long ∙ k .long; bytes = λ b. l .bytes (k .bytes b) }
-
--- a piece
-read-kept : (piece s : List ℕ) → LineReader.validReader s ≡ true → Each Byte piece → ReaderKept s (LineReader.readPiece s piece .state)
-unfolding LineReader.readPiece LineReader.oneByteLater
-read-kept [] s v h = record { valid = v; long = refl; bytes = λ b. b }
-read-kept (zero ∷ bs) s v h = finished-kept s v
-read-kept (suc b ∷ bs) s v h =
-    let k = pushed-kept s (suc b) v (h .0) in
-    rw eqb·suc-zero (kept-then k (read-kept bs (LineReader.pushed s (suc b)) (k .valid) (h .1)))
 
 -- ---- one call
 
@@ -78,7 +64,7 @@ module _ (p : Parts) (r : LineCalls.Reader) (s : Sound (withReader p (r .state))
   call-stays (LineCalls.read c) h =
       let t = LineCalls.lentState (c .lent) (r .state) in
       cond-by (λ o. Left (LineCalls.afterOutcome r c o)) (LineReader.validReader t) _ _
-      (λ v. back-stays _ s (c .lent) _ (long (c .lent) (valid-ready t v .0)) (read-kept (c .piece) t v h))
+      (λ v. back-stays _ s (c .lent) _ (long (c .lent) (reader-long t v)) (read-kept (c .piece) t v h))
       (λ v. refused-stays _ s (c .lent))
   call-stays (LineCalls.start n) h =
       let t = LineCalls.lentState n (r .state) in

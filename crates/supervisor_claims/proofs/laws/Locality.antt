@@ -1,21 +1,14 @@
 -- The view and what 12 requires read the published bytes alone: parts of which some bytes are lent, and parts with bytes behind them.
 -- Assumes nothing.
-use mathlib.Core.Path.{_≡_, refl, ap, _∙_}
+use mathlib.Core.Path.{_≡_, ap, _∙_}
 use mathlib.Core.Bool.{Bool, true, false, cond, not, _||_}
 use mathlib.Core.List.{List}
-use mathlib.Core.Option.{some}
 use Prim.Native.Nat.{ℕ, _+_, _-_, _≤_}
 use native.Mathlib.Omega.{arith}
-use lib.Dec.{ltb}
 use lib.ListN.{length, take, length-take}
-use borrow.Author.Tests.{ltb-false}
-use Rattle.line.specs.Reader.{receivedOf}
 use Rattle.octets.specs.Bytes.{Each, Byte}
-use Rattle.octets.proofs.Conditions.{cond-both}
 use Rattle.octets.proofs.SameBytes.{Same, same-first, same-within, number-same}
-use Rattle.line.specs.Limits as LineLimits
-use Rattle.line.specs.Reader as LineReader
-use Rattle.line.proofs.State.{Ready, valid-ready, ready-valid}
+use Rattle.line.proofs.Received
 use Rattle.line_claims.specs.Loans.{first, lentPart, enoughPart}
 use Rattle.line_claims.proofs.LoanLaws
 use Rattle.line_claims.proofs.LoanLaws.{back-same, back-length, lent-each, back-each, whole-enough, lent-first, back-first}
@@ -40,25 +33,6 @@ use Rattle.supervisor_claims.proofs.laws.ViewLaws.{listed-same, factory
 use Rattle.supervisor_claims.proofs.laws.GoodStart.{good-bad}
 use Rattle.supervisor_claims.proofs.laws.RegisterLaws.{recorded-same, retained-same, alerts-same}
 use Rattle.supervisor_claims.proofs.laws.SettingLaws.{setting-same}
-
--- ---- the line reader's part
-
-module _ {s t : List ℕ} (same : Same 0 LineReader.reader-length s t) (r : Ready s) where
-  count-alike : LineReader.receivedCount t ≡ LineReader.receivedCount s
-  unfolding LineReader.receivedCount
-  count-alike = number-same same 2 0 (omega arith)
-
-  received-alike : receivedOf t ≡ receivedOf s
-  unfolding receivedOf LineReader.receivedBytes
-  received-alike =
-      let n = LineReader.receivedCount s in
-      rw count-alike
-      (cond-both (λ x y. x ≡ y) (ltb LineLimits.longest-form n) (λ e. refl) (λ e.
-      let l = ltb-false LineLimits.longest-form n e in
-      ap some (same .runs LineReader.frame-offset n (omega arith))))
-
-  reader-alike : LineReader.reader-length ≤ length t → LineReader.validReader t ≡ true
-  reader-alike h = ready-valid t (h, omega (arith, count-alike))
 
 -- ---- the outbox
 
@@ -152,7 +126,7 @@ module _ {p q : Parts} (a : Alike p q) (v : Valid p) where
         number-same r 1 Layout.alert-count-offset (omega arith),
         alerts-same r (Layout.alertCount (p .registers)) (omega arith) (w .rest .alerts),
         retained-same r (omega arith) (w .rest .text),
-        received-alike (same Part.reader) (valid-ready (p .reader) (v .reader)),
+        Received.received-alike (p .reader) (q .reader) (v .reader) (of a Part.reader),
         pending-alike o (outbox-valid (p .outbox) (v .outbox)),
         number-same o 1 Layout.outbox-terminator-owed-offset (omega arith),
       )
@@ -167,7 +141,7 @@ module _ {p q : Parts} (a : Alike p q) (v : Valid p) where
   valid-alike =
       let r = long-alike in
       record {
-        reader = reader-alike (same Part.reader) (valid-ready (p .reader) (v .reader)) (r .reader);
+        reader = Received.valid-alike (p .reader) (q .reader) (v .reader) (of a Part.reader);
         outbox = outbox-alike (same Part.outbox) (outbox-valid (p .outbox) (v .outbox)) (r .outbox);
         factory = factory-alike (same Part.factory) (factory-valid (p .factory) (v .factory)) (r .factory);
         settings = settings-alike (same Part.settings) (settings-valid (p .settings) (v .settings)) (r .settings);

@@ -9,6 +9,7 @@ use native.Mathlib.Omega.{arith}
 use lib.ListN as ListN
 use Rattle.octets.specs.Bytes.{Each}
 use Rattle.line.specs.Frame.{split, aheadOfPieces}
+use Rattle.line.specs.Judge.{progressOf}
 use Rattle.line.proofs.Pieces.{split-join}
 use Rattle.supervisor.specs.State.{State, fresh}
 use Rattle.supervisor.specs.Local
@@ -17,7 +18,7 @@ use Rattle.supervisor_claims.specs.View.{factoryOf}
 use Rattle.supervisor_claims.specs.LocalCalls.{Change, localRow}
 use Rattle.supervisor_claims.specs.Histories
 use Rattle.supervisor_claims.specs.Histories.{LocalCall, Call, Means, doneMeans, meant, upTo}
-use Rattle.supervisor_claims.specs.FrameHistory.{isAcceptedStart, pieceRead, progressOf}
+use Rattle.supervisor_claims.specs.FrameHistory.{isAcceptedStart, pieceRead}
 use Rattle.supervisor_claims.specs.LastSet.{recordsBy, recordsRestored}
 use Rattle.supervisor_claims.proofs.calls.RowLaws.{settingsBy, stateBy}
 use Rattle.supervisor_claims.proofs.calls.LocalLaws.{row-laws}

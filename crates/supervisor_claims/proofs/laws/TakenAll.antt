@@ -16,9 +16,11 @@ use Rattle.line.proofs.Pieces.{split-close, split-more, nonEmpty-append}
 use Rattle.supervisor.specs.State.{State, withReceived}
 use Rattle.supervisor.specs.Local.{lastNonZero, taken, afterTake}
 use Rattle.responder.specs.Requests.{Reply, verdict, afterVerdict, closed, receiveByte, owed, replyFrame}
-use Rattle.supervisor_claims.specs.FrameHistory.{frameCarried, progressOf}
+use Rattle.supervisor_claims.specs.FrameHistory.{frameCarried}
+use Rattle.line.specs.Judge.{progressOf}
 use Rattle.supervisor_claims.specs.Replies.{replyToFrame, afterFrame, replies}
-use Rattle.supervisor_claims.proofs.claims.InOrder.{lined, done-lined, judged-is, more-tail, closed-framed}
+use Rattle.supervisor_claims.proofs.claims.InOrder.{lined, done-lined, judged-is, closed-framed}
+use Rattle.line.proofs.Judged.{more-tail}
 
 drop-all : (n : ℕ) (l : List ℕ) → length l ≤ n → drop n l ≡ []
 drop-all n l h = drop-of-length-le l h

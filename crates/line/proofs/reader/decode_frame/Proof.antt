@@ -4,7 +4,7 @@ use borrow.Author.Needs.{needs}
 use denote.Ref.{now}
 use Rattle.octets.specs.Bytes.{run}
 use Rattle.line.specs.Decoding.{plain}
-use Rattle.line.specs.Reader.{frame-offset}
+use Rattle.line.specs.ReaderLayout.{frame-offset}
 use Rattle.line.proofs.Rest.{rest-mid, rest-overlay}
 use Rattle.line.proofs.reader.decode_frame.Statement.{statement}
 use Rattle.line.proofs.reader.decode_frame.Tie as tie

@@ -2,7 +2,7 @@
 -- Assumes nothing.
 use borrow.Author.Needs.{needs}
 use denote.Ref.{now}
-use Rattle.line.specs.Reader.{frame-offset}
+use Rattle.line.specs.ReaderLayout.{frame-offset}
 use Rattle.line.proofs.Rest.{rest-mid}
 use Rattle.line.proofs.reader.frame_length.Statement.{statement}
 use Rattle.line.proofs.reader.frame_length.Tie as tie

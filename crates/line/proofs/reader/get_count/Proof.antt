@@ -1,7 +1,7 @@
 -- `line::reader::get_count` meets its contract.
 -- Assumes nothing.
 use borrow.Author.Needs.{needs}
-use Rattle.line.specs.Reader.{receivedCount}
+use Rattle.line.specs.ReaderLayout.{receivedCount}
 use Rattle.line.proofs.reader.get_count.Statement.{statement}
 use Rattle.line.proofs.reader.get_count.Tie as tie
 

@@ -7,7 +7,7 @@ use denote.Ref.{now}
 use Rattle.octets.specs.Bytes.{bytes}
 use Rattle.octets.proofs.Numbers.{length-bytes}
 use Rattle.octets.proofs.Overlay.{put-fits}
-use Rattle.line.specs.Reader.{withCount}
+use Rattle.line.specs.ReaderLayout.{withCount}
 use Rattle.line.proofs.reader.set_count.Statement.{statement}
 use Rattle.line.proofs.reader.set_count.Tie as tie
 

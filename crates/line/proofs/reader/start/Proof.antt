@@ -2,7 +2,7 @@
 -- Assumes nothing.
 use borrow.Author.Needs.{needs}
 use borrow.Author.Tests.{le-leb, lt-leb}
-use Rattle.line.specs.Reader.{readerStartReport, readerStartPromise}
+use Rattle.line.specs.Reader.{readerFresh, readerStartReport, readerStartPromise}
 use Rattle.line.proofs.reader.start.Statement.{statement}
 use Rattle.line.proofs.reader.start.Tie as tie
 
@@ -11,7 +11,7 @@ unfolding readerStartReport readerStartPromise
 returns c = rw (lt-leb _ _ (c .if1 .taken))
 
 returns-2 : tie.Need-returns-2
-unfolding readerStartReport readerStartPromise
+unfolding readerStartReport readerStartPromise readerFresh
 returns-2 c =
     let at-set-count = c .before .before in
     let else1 = at-set-count .before .before in

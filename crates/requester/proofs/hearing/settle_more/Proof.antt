@@ -3,7 +3,6 @@
 use borrow.Author.Needs.{needs}
 use mathlib.Core.Path.{sym, _∙_}
 use mathlib.Core.Bool.{false≢true}
-use borrow.Author.Tests.{le-ltb, lt-ltb}
 use Rattle.line.specs.Reader.{tailReport}
 use Rattle.requester.specs.Calls.{heardOutcomeOf}
 use Rattle.requester.proofs.ReaderLaws.{tail-holds}
@@ -23,14 +22,14 @@ unfolding tailReport heardOutcomeOf
 returns-2 c =
     let at-tail = c .before .before .before in
     let t = tail-holds _ (rw (c .before .enum-told2 .given .1) at (at-tail .tail .ensures)) in
-    rw (le-ltb _ _ (t .2)) (c .settle-none2 .ensures)
+    rw (t .1) (c .settle-none2 .ensures)
 
 returns-3 : tie.Need-returns-3
 unfolding tailReport
 returns-3 c =
     let at-tail = c .before .before .before in
     let t = tail-holds _ (rw (c .before .enum-told3 .given .1) at (at-tail .tail .ensures)) in
-    rw (lt-ltb _ _ (t .1)) (c .settle-ground .ensures)
+    rw (t .1) (c .settle-ground .ensures)
 
 pub settle-more-spec : {M : Type 1} → statement M
 settle-more-spec =

@@ -50,7 +50,7 @@ returns c =
     let read = read-of (settle .before) in
     let at-min = min-of (read .before) in
     let start = start-from-min at-min in
-    heard-received _ _ (start .pre .0) (start .pre .1 .0) (start .pre .1 .1) (at-min .min .ensures) (read .read .ensures)
+    heard-received _ _ (start .pre .0) (start .pre .1 .0) (at-min .min .ensures) (read .read .ensures)
     (settle .settle .ensures) (go-on .go-on .ensures) (c .is-unsent .ensures)
 
 pub listen-spec : {M : Type 1} → statement M

@@ -1,7 +1,6 @@
 -- `requester::receive::receive` meets its contract.
 -- Assumes nothing.
 use borrow.Author.Needs.{needs}
-use native.Mathlib.Omega.{arith}
 use Rattle.line.specs.Reader.{tailReport}
 use Rattle.requester.specs.Calls.{handedReport}
 use Rattle.requester.proofs.Cases.{refused, passed}
@@ -24,7 +23,7 @@ listen-requires c κs =
     let requester-is-valid = if1 .before in
     let t = tail-holds _ (rw (tail2 .tail2 .given .1) at (tail .tail .ensures)) in (
       valid-parts _ (record { reader = t .0; requester = passed _ _ (requester-is-valid .requester-is-valid .ensures) (if1 .if1 .left) }),
-      (t .1, omega arith),
+      (t .1, t .2),
     )
 
 skip-requires : tie.Need-skip-requires

@@ -10,9 +10,10 @@ use Rattle.octets.specs.Bytes.{bytes}
 use Rattle.line.specs.Numbers.{first-version}
 use Rattle.line.specs.Reader.{ReadReport, readReport}
 use Rattle.line.specs.Reader as LineReader
+use Rattle.line.proofs.Received.{data-short}
 use Rattle.responder.specs.Receive.{Ended, sentBox, Head, failureHead, replyBytes, inner, innerAfter, verdictOf, endedByReader}
 use Rattle.responder.specs.Receive.{stepReport}
-use Rattle.responder.proofs.StepLaws.{Settled, data-short, settled-failure, settled-message}
+use Rattle.responder.proofs.StepLaws.{Settled, settled-failure, settled-message}
 use Rattle.responder.proofs.receive.answer_frame.Statement.{statement}
 use Rattle.responder.proofs.receive.answer_frame.Tie as tie
 
