@@ -463,6 +463,7 @@ def spoiled():
     """12 for each field, and nothing changes."""
     fields = [('number', 0, (LAST + 1).to_bytes(8, 'little'), (1).to_bytes(8, 'little')), ('step', 8, b'\4', b'\0'), ('unsent', 9, b'\2', b'\0'),
               ('kept', 10, b'\2', b'\1'), ('length', 12, (4105).to_bytes(2, 'little'), (3).to_bytes(2, 'little'))]
+    fields += [('number 0', 0, bytes(8), (1).to_bytes(8, 'little'))]
     fields += [(f'command {c:02x}', 11, bytes([c]), b'\x0e') for c in (0x01, 0x02, 0x06)]
     for name, at, bad, good in fields:
         c = waiting(f'bad {name}').store(1, at, bad).note()
@@ -470,6 +471,12 @@ def spoiled():
         c.request(0x03).interrupt().send().receive(reply(1, 0x0a)).same()
         c.refuses = False
         yield c.store(1, at, good).receive(reply(1, 0x0a))
+    c = fetching_alone('number 0 in a recovery').store(1, 0, bytes(8)).note()
+    c.refuses = True
+    c.request(0x03).interrupt().send().receive(status(1, 0)).same()
+    c.refuses = False
+    yield c.store(1, 0, (1).to_bytes(8, 'little')).receive(status(1, 0)).request(0x03)
+    yield Case('number 0 with none outstanding').request(0x01).number(0).send().receive(reply(1, 0x0a)).request(0x03)
     c = waiting('bad count of the reader').store(0, 0, (4142).to_bytes(2, 'little')).note()
     c.refuses = True
     c.receive(reply(1, 0x0a)).same()

@@ -12,10 +12,10 @@ const READER_LENGTH: usize = 4142;
 const LENGTH: usize = 4118;
 /// Bytes behind each part.
 const TAIL: usize = 9;
-/// The fields that 12 tests: part, offset, width, values outside.
+/// The fields that 12 tests: part, offset, width, values outside; number 0 is outside where one is outstanding.
 const FIELDS: [(usize, usize, usize, &[u64]); 7] = [
     (0, 0, 2, &[4142, 65535]),
-    (1, 0, 8, &[LAST + 1, u64::MAX]),
+    (1, 0, 8, &[0, LAST + 1, u64::MAX]),
     (1, 8, 1, &[4, 255]),
     (1, 9, 1, &[2, 255]),
     (1, 10, 1, &[2, 255]),
@@ -264,7 +264,7 @@ impl Pair {
             let value = number(&self.parts[part], place, width);
             match (part, place) {
                 (0, _) => value <= 4141 || !matches!(call, Call::Receive { .. }),
-                (_, 0) => value <= LAST,
+                (_, 0) => value <= LAST && (value > 0 || (self.parts[1][8] == 0 && self.parts[1][10] == 0)),
                 (_, 8) => value <= 3,
                 (_, 11) => !matches!(value, 0x01 | 0x02 | 0x06),
                 (_, 12) => value <= 4104,
@@ -491,6 +491,9 @@ impl Pair {
     fn outside(&mut self) -> Result<(), String> {
         let (part, place, width, values) = self.random.pick(&FIELDS);
         let value = self.random.pick(values);
+        if (part, place, value) == (1, 0, 0) && self.requester.outstanding().is_none() {
+            return Ok(());
+        }
         let held = number(&self.parts[part], place, width);
         put(&mut self.parts[part], place, width, value);
         let piece = vec![1, 0];

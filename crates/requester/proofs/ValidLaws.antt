@@ -1,7 +1,7 @@
 -- What the test of specs/Valid.antt says of the numbers that it reads, as a record, and back; valid parts and parts that are long enough.
 -- Assumes nothing.
-use mathlib.Core.Path.{_≡_, sym, ap}
-use mathlib.Core.Bool.{true, and-eq-true-iff}
+use mathlib.Core.Path.{_≡_, sym, ap, _∙_}
+use mathlib.Core.Bool.{Bool, true, and-eq-true-iff}
 use mathlib.Core.List.{List}
 use mathlib.Core.Option.{Option}
 use Prim.Native.Nat.{ℕ, _≤_}
@@ -13,11 +13,11 @@ use Rattle.line.specs.Reader as LineReader
 use Rattle.requester.specs.Limits.{last-number}
 use Rattle.requester.specs.Requester.{staysOut}
 use Rattle.requester.specs.Layout
-use Rattle.requester.specs.Valid.{validRequester}
+use Rattle.requester.specs.Valid.{isNumbered, validRequester}
 use Rattle.requester.specs.Calls.{MainParts, mainLongEnough, mainValidParts, mainStartOutcome, mainStartPromise}
 use Rattle.requester.specs.Calls
 use Rattle.requester.specs.declared.start.Started.the-variants as started
-use Rattle.requester.proofs.Cases.{untrue, le-and, and-le}
+use Rattle.requester.proofs.Cases.{untrue, alike, implied, implies, le-and, and-le}
 use Rattle.requester.specs.Calls.{MainPartsValid, MainLongEnough}
 
 pub record RequesterValid (r : List ℕ) : Type 0 where
@@ -28,6 +28,15 @@ pub record RequesterValid (r : List ℕ) : Type 0 where
   pub kept : Layout.keptFlag r ≤ 1
   pub size : Layout.keptLength r ≤ longest-data
   pub command : staysOut (Layout.keptCommand r) ≡ true
+  pub numbered : Layout.isOutstanding r ≡ true → 1 ≤ Layout.newestNumber r
+
+numbered-then : (r : List ℕ) → isNumbered r ≡ true → Layout.isOutstanding r ≡ true → 1 ≤ Layout.newestNumber r
+unfolding isNumbered
+numbered-then r e o = leb-true _ _ (implied _ _ e o)
+
+then-numbered : (r : List ℕ) → (Layout.isOutstanding r ≡ true → 1 ≤ Layout.newestNumber r) → isNumbered r ≡ true
+unfolding isNumbered
+then-numbered r h = implies _ _ (λ o. le-leb _ _ (h o))
 
 pub requester-valid : (r : List ℕ) → validRequester r ≡ true → RequesterValid r
 unfolding validRequester
@@ -38,7 +47,17 @@ requester-valid r e =
     let d = le-and _ _ _ (c .1) in
     let f = le-and _ _ _ (d .1) in
     let g = le-and _ _ _ (f .1) in
-    record { long = a .0; number = b .0; recovery = c .0; unsent = d .0; kept = f .0; size = g .0; command = g .1 }
+    let h = and-eq-true-iff _ _ .0 (g .1) in
+    record {
+      long = a .0;
+      number = b .0;
+      recovery = c .0;
+      unsent = d .0;
+      kept = f .0;
+      size = g .0;
+      command = h .0;
+      numbered = numbered-then r (h .1);
+    }
 
 pub valid-requester : (r : List ℕ) → RequesterValid r → validRequester r ≡ true
 unfolding validRequester
@@ -47,7 +66,14 @@ valid-requester r v =
     (and-le _ _ _ (v .number)
     (and-le _ _ _ (v .recovery)
     (and-le _ _ _ (v .unsent)
-    (and-le _ _ _ (v .kept) (and-le _ _ _ (v .size) (v .command))))))
+    (and-le _ _ _ (v .kept)
+    (and-le _ _ _ (v .size) (and-eq-true-iff _ _ .1 (v .command, then-numbered r (v .numbered))))))))
+
+-- where the other tests hold, the last one decides
+pub numbered-valid : (r : List ℕ) {b : Bool} → ((Layout.isOutstanding r ≡ true → 1 ≤ Layout.newestNumber r) → RequesterValid r)
+    → b ≡ isNumbered r → b ≡ validRequester r
+numbered-valid r f e =
+    alike _ _ (λ t. valid-requester r (f (numbered-then r (sym e ∙ t)))) (λ v. e ∙ then-numbered r (requester-valid r v .numbered))
 
 -- ---- all parts
 

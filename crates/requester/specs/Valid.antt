@@ -1,6 +1,6 @@
 -- What the table's 12 requires of the main processor's part (documents 01, "When a call says no", and 02, item 2).
 -- Assumes nothing: these are definitions.
-use mathlib.Core.Bool.{Bool, _&&_}
+use mathlib.Core.Bool.{Bool, not, _&&_, _||_}
 use mathlib.Core.List.{List}
 use Prim.Native.Nat.{ℕ}
 use lib.Dec.{leb}
@@ -10,7 +10,11 @@ use Rattle.requester.specs.Limits.{last-number}
 use Rattle.requester.specs.Requester.{staysOut}
 use Rattle.requester.specs.Layout
 
--- each field by itself, also where nothing is kept
+-- the one outstanding has a number: sequences run from 1
+unfoldable pub isNumbered : List ℕ → Bool
+isNumbered r = not (Layout.isOutstanding r) || leb 1 (Layout.newestNumber r)
+
+-- each field by itself, also where nothing is kept; and number 0 only where none is outstanding
 unfoldable pub validRequester : List ℕ → Bool
 validRequester r =
     leb Layout.requester-length (length r)
@@ -19,4 +23,5 @@ validRequester r =
     && (leb (Layout.unsentOf r) 1
     && (leb (Layout.keptFlag r) 1
     && (leb (Layout.keptLength r) longest-data
-    && staysOut (Layout.keptCommand r))))))
+    && (staysOut (Layout.keptCommand r)
+    && isNumbered r))))))

@@ -1,11 +1,12 @@
 // The tests for 12 on the main processor's part.
 // Assumes nothing.
 use crate::layout;
+use crate::progress;
 use line::limits;
 use line::numbers;
 ghost use mathlib.Core.Path.{_≡_};
 ghost use Rattle.requester.specs.Requester.{staysOut};
-ghost use Rattle.requester.specs.Valid.{validRequester};
+ghost use Rattle.requester.specs.Valid.{isNumbered, validRequester};
 
 // Whether a request with this command stays outstanding: reboot, power off and boot failure never do.
 pub(crate) fn stays_out(command: u8) -> bool
@@ -41,5 +42,18 @@ pub fn requester_is_valid(requester: &[u8]) -> bool
     if limits::LONGEST_DATA < octets::word_at(requester, layout::LENGTH_OFFSET) {
         return false;
     }
-    stays_out(octets::read_u8(requester, layout::COMMAND_OFFSET))
+    if !stays_out(octets::read_u8(requester, layout::COMMAND_OFFSET)) {
+        return false;
+    }
+    is_numbered(requester)
+}
+
+// Whether the one outstanding has a number: sequences run from 1.
+fn is_numbered(requester: &[u8]) -> bool
+    ensures { λ r. ⌜ r ≡ isNumbered (now (requester .entry)) ⌝ }
+{
+    if !progress::is_outstanding(requester) {
+        return true;
+    }
+    1 <= octets::read_u64(requester, layout::NUMBER_OFFSET)
 }

@@ -1,7 +1,7 @@
 -- Each call, on valid parts, answers, writes and leaves what document 02 has of it.
 -- Assumes nothing.
 use mathlib.Core.Path.{_≡_, refl, ap, _∙_}
-use mathlib.Core.Bool.{Bool, true, false, cond, not, _&&_, _||_}
+use mathlib.Core.Bool.{Bool, true, false, cond, not, _&&_, _||_, false≢true}
 use mathlib.Core.List.{List, [], _∷_}
 use mathlib.Core.Option.{Option, none, some}
 use Prim.Native.Nat.{ℕ, suc, _+_, _≤_}
@@ -108,7 +108,7 @@ module _ (p : MainParts) (room : MainLongEnough p) where
   fresh-held = rw (zeros 0 8 (omega arith), zeros 8 1 (omega arith), zeros 9 1 (omega arith), zeros 10 1 (omega arith))
 
   fresh-valid : RequesterValid t
-  unfolding staysOut number
+  unfolding staysOut number Layout.isOutstanding
   fresh-valid = record {
     long =
         omega
@@ -119,6 +119,7 @@ module _ (p : MainParts) (room : MainLongEnough p) where
     kept = rw (zeros 10 1 (omega arith)) (omega arith);
     size = rw (zeros 12 2 (omega arith)) (omega arith);
     command = rw (zeros 11 1 (omega arith)) refl;
+    numbered = λ o. absurd (false≢true (rw (zeros 8 1 (omega arith), zeros 10 1 (omega arith)) at o));
   }
 
   pub start-meets : (s : MainState) → MainMeets p (mainDid p Histories.start) (mainMeant s Histories.start)
@@ -175,7 +176,7 @@ module _ (p : MainParts) (v : MainPartsValid p) where
         cond-both Keeps (staysOut command)
         (λ e.
         let t = Calls.progressed n 0 0 1 r in
-        let x = progressed-valid n 0 0 1 r w s (omega arith) (omega arith) (omega arith) in (
+        let x = progressed-valid n 0 0 1 r w s (omega arith) (omega arith) (omega arith) (λ _. omega arith) in (
           asked-held command d t x l bs
               ∙ rw (
                 progressed-number n 0 0 1 r w s,
@@ -188,7 +189,7 @@ module _ (p : MainParts) (v : MainPartsValid p) where
         ))
         (λ e. (
           progressed-held n 0 0 0 r w s bs,
-          progressed-valid n 0 0 0 r w s (omega arith) (omega arith) (omega arith),
+          progressed-valid n 0 0 0 r w s (omega arith) (omega arith) (omega arith) (λ _. omega arith),
           progressed-long n 0 0 0 r w,
         ))
 
@@ -224,7 +225,7 @@ module _ (p : MainParts) (v : MainPartsValid p) where
       let s = leb-false last-number (Layout.newestNumber r) e in
       let n = suc (Layout.newestNumber r) in
       changed p v Histories.done [] _ _ (progressed-held n 1 1 (Layout.keptFlag r) r w (omega arith) bs)
-      (progressed-valid n 1 1 (Layout.keptFlag r) r w (omega arith) (omega arith) (omega arith) (w .kept))
+      (progressed-valid n 1 1 (Layout.keptFlag r) r w (omega arith) (omega arith) (omega arith) (w .kept) (λ _. omega arith))
       (progressed-long n 1 1 (Layout.keptFlag r) r w))
 
   -- in a recovery nothing is added

@@ -1,7 +1,7 @@
 -- What the main processor's part holds once its fields are stored: the state, and that it stays valid.
 -- Assumes nothing.
-use mathlib.Core.Path.{_≡_, ap, _∙_}
-use mathlib.Core.Bool.{true, cond}
+use mathlib.Core.Path.{_≡_, sym, ap, _∙_}
+use mathlib.Core.Bool.{true, cond, not, _||_}
 use mathlib.Core.List.{List, [], _∷_, _++_}
 use mathlib.Core.Option.{Option, none, some}
 use Prim.Native.Nat.{ℕ, _≤_}
@@ -38,6 +38,11 @@ module _ {r s : List ℕ} (same : Same Layout.command-offset Layout.requester-le
   request-same : Layout.keptRequest s ≡ Layout.keptRequest r
   unfolding Layout.keptRequest
   request-same = rw (command-same, length-same, same .runs Layout.kept-data-offset (Layout.keptLength r) (omega arith))
+
+outstanding-same : (r s : List ℕ) → Layout.recoveryOf s ≡ Layout.recoveryOf r → Layout.keptFlag s ≡ Layout.keptFlag r
+    → Layout.isOutstanding s ≡ Layout.isOutstanding r
+unfolding Layout.isOutstanding
+outstanding-same r s e f = rw (e, f)
 
 -- ---- the first fields
 
@@ -79,8 +84,12 @@ module _ (n t u k : ℕ) (r : List ℕ) (v : RequesterValid r) where
     progressed-held bs =
         rw (progressed-number small, progressed-recovery, progressed-unsent, progressed-kept, request-same progressed-same (v .size))
 
-    pub progressed-valid : t ≤ 3 → u ≤ 1 → k ≤ 1 → RequesterValid fields
-    progressed-valid a b c =
+    progressed-outstanding : Layout.isOutstanding fields ≡ (not (eqb t 0) || eqb k 1)
+    unfolding Layout.isOutstanding
+    progressed-outstanding = rw (progressed-recovery, progressed-kept)
+
+    pub progressed-valid : t ≤ 3 → u ≤ 1 → k ≤ 1 → ((not (eqb t 0) || eqb k 1) ≡ true → 1 ≤ n) → RequesterValid fields
+    progressed-valid a b c o =
         let e = progressed-number small in
         let f = progressed-recovery in
         let g = progressed-unsent in
@@ -94,6 +103,7 @@ module _ (n t u k : ℕ) (r : List ℕ) (v : RequesterValid r) where
           kept = omega arith;
           size = omega (arith, v .size);
           command = rw (command-same progressed-same (v .size)) (v .command);
+          numbered = λ x. rw e (o (sym progressed-outstanding ∙ x));
         }
 
 -- ---- whether the frame is to go out
@@ -141,6 +151,7 @@ module _ (u : ℕ) (r : List ℕ) (v : RequesterValid r) where
         kept = omega (arith, v .kept);
         size = omega (arith, v .size);
         command = rw (command-same (same-within after (omega arith)) (v .size)) (v .command);
+        numbered = λ o. rw a (v .numbered (sym (outstanding-same r flagged b d) ∙ o));
       }
 
 -- ---- a request behind the first fields
@@ -205,4 +216,5 @@ module _ (command : ℕ) (d r : List ℕ) (v : RequesterValid r) (l : length d �
         kept = omega (arith, v .kept);
         size = omega arith;
         command = rw asked-command s;
+        numbered = λ o. rw a (v .numbered (sym (outstanding-same r asked b e) ∙ o));
       }

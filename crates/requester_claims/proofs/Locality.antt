@@ -21,7 +21,7 @@ use Rattle.requester.specs.State.{requestFrame}
 use Rattle.requester.specs.Requester
 use Rattle.requester.specs.Requester.{Heard, staysOut}
 use Rattle.requester.specs.Layout
-use Rattle.requester.specs.Valid.{validRequester}
+use Rattle.requester.specs.Valid.{isNumbered, validRequester}
 use Rattle.requester.specs.Calls
 use Rattle.requester.specs.Calls.{MainParts, mainParts, progressed, heardOf, heardOutcomeOf}
 use Rattle.requester.proofs.ValidLaws.{requester-valid, parts-valid}
@@ -44,7 +44,7 @@ module _ (t u : List ℕ) (long : Layout.requester-length ≤ length t) where
   number-behind k at h = ap number (run-append t u at k (omega arith))
 
   valid-behind : validRequester (t ++ u) ≡ validRequester t
-  unfolding validRequester
+  unfolding validRequester isNumbered Layout.isOutstanding
   valid-behind =
       rw (
         le-leb Layout.requester-length (length t) long,

@@ -1,7 +1,7 @@
 -- What comes next, on the main processor's part and on the state that it holds; and the data of what is handed out.
 -- Assumes nothing.
 use mathlib.Core.Path.{_≡_, refl, _∙_}
-use mathlib.Core.Bool.{Bool, true, false, cond, not, _&&_}
+use mathlib.Core.Bool.{Bool, true, false, cond, not, _&&_, false≢true}
 use mathlib.Core.List.{List}
 use mathlib.Core.Option.{Option, none, some}
 use Prim.Native.Nat.{ℕ, suc, _^_, _≤_, _<_}
@@ -56,7 +56,9 @@ module _ (r : List ℕ) (v : RequesterValid r) (bs : Option (List ℕ)) where
   idled e = record {
     ended = refl;
     state = progressed-held (Layout.newestNumber r) 0 0 0 r v (v .number) bs;
-    valid = progressed-valid (Layout.newestNumber r) 0 0 0 r v (v .number) (omega arith) (omega arith) (omega arith);
+    valid =
+        progressed-valid (Layout.newestNumber r) 0 0 0 r v (v .number) (omega arith) (omega arith) (omega arith)
+        (λ o. absurd (false≢true o));
     long = progressed-long (Layout.newestNumber r) 0 0 0 r v;
   }
 
@@ -72,7 +74,7 @@ module _ (r : List ℕ) (v : RequesterValid r) (bs : Option (List ℕ)) where
       record {
         ended = refl;
         state = progressed-held n k 1 (Layout.keptFlag r) r v (omega arith) bs ∙ rw (step-at t);
-        valid = progressed-valid n k 1 (Layout.keptFlag r) r v (omega arith) (number-step t) (omega arith) (v .kept);
+        valid = progressed-valid n k 1 (Layout.keptFlag r) r v (omega arith) (number-step t) (omega arith) (v .kept) (λ _. omega arith);
         long = progressed-long n k 1 (Layout.keptFlag r) r v;
       })
   moves idle = idled false
