@@ -277,7 +277,7 @@ module _ (p : MainParts) (v : MainPartsValid p) (q : Request) (kept : mainView p
 
   -- the frame, whole
   pub reply-heard : Requester.receive s (frame r) ≡ Requester.mainReceived (length (frame r))
-      (Requester.mainResult (Requester.answered r) (Requester.mainMoved false (mainState (s .newest) none none false (some []))))
+      (Requester.mainResult (Requester.answered r) (Requester.mainMoved none (mainState (s .newest) none none false (some []))))
   unfolding frame
   reply-heard =
       let h = heard-answer (s .newest) r version sequence command in

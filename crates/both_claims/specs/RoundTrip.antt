@@ -77,7 +77,7 @@ abbrev pub handedOut : Message → HandedEvent
 handedOut r = record {
   report = MainCalls.answered (r .version) (r .sequence) (r .command) (length (r .payload));
   payload = r .payload;
-  ended = false;
+  ended = none;
 }
 
 -- The frame fr of the request a was just put out, which left the parts p. It is delivered to the supervisor's parts q in any cuts; the

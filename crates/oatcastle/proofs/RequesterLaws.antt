@@ -1,7 +1,7 @@
 -- Laws of the main processor's calls in the C interface.
 -- Assumes nothing.
 use mathlib.Core.Path.{_≡_, refl, ap}
-use mathlib.Core.Bool.{Bool}
+use mathlib.Core.Bool.{Bool, true, false}
 use mathlib.Core.List.{List, [], _∷_}
 use Prim.Native.Nat.{ℕ, suc, _≤_, _<_}
 use native.Mathlib.Omega.{arith}
@@ -16,7 +16,7 @@ use Rattle.line.specs.Cobs.{cobs}
 use Rattle.line.specs.Frame.{frame}
 use Rattle.line.specs.Reader as LineReader
 use Rattle.requester.specs.Limits.{last-number}
-use Rattle.requester.specs.State.{Request, requestFrame}
+use Rattle.requester.specs.State.{Request, requestFrame, isSome}
 use Rattle.requester.specs.Requester
 use Rattle.requester.specs.Layout
 use Rattle.requester.specs.Valid.{validRequester}
@@ -154,7 +154,12 @@ handed-writes used (Requester.status s o n) e u = refl
 handed-writes used (Requester.alerted m) e u = refl
 
 abbrev givenBy : Calls.MainReceiveOutcome → CallReport
-givenBy x = receiptGiven (x .used) (x .report) (x .ended) (x .unsent)
+givenBy x = receiptGiven (x .used) (x .report) (isSome (x .ended)) (x .unsent)
+
+end-told : (e : Bool) → isSome (Calls.endReport e) ≡ e
+unfolding Calls.endReport
+end-told true = refl
+end-told false = refl
 
 module _ (p : MainParts) (answer : List ℕ) where
   receipt-writes : (piece : List ℕ) → Writes 7 (givenBy (mainReceiveValid p piece))
@@ -207,6 +212,6 @@ module _ (p : MainParts) (answer : List ℕ) where
       → callOutcome n (q, answer') ≡ listenCall p piece answer
   unfolding listenCall
   listen-given t piece {q} h e f =
-      rw (← e)
+      rw (← e, end-told)
       (answering-given p q answer (receiptGiven (t .used) (Calls.handedReport (t .handed)) (t .ended) (t .unsent))
-      (rw (← e) at (listen-kept piece)) h f)
+      (rw end-told at (rw (← e) at (listen-kept piece))) h f)

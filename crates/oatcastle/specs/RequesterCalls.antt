@@ -3,6 +3,7 @@
 use mathlib.Core.Bool.{Bool}
 use mathlib.Core.List.{List, [], _∷_}
 use Prim.Native.Nat.{ℕ}
+use Rattle.requester.specs.State.{isSome}
 use Rattle.requester.specs.Calls
 use Rattle.requester.specs.Calls.{MainParts}
 use Rattle.oatcastle.specs.Answers.{CallOutcome, callOutcome, callNumber, CallReport, refused, given, writingAfter, flag}
@@ -55,8 +56,9 @@ receiptGiven used (Calls.answered version sequence command n) e u = given (used 
 receiptGiven used (Calls.status s o n) e u = given (used ∷ 2 ∷ flag e ∷ flag u ∷ s ∷ o ∷ n ∷ [])
 receiptGiven used (Calls.alerted version sequence command n) e u = given (used ∷ 3 ∷ flag e ∷ flag u ∷ sequence ∷ command ∷ n ∷ [])
 
+-- the flag says whether a recovery ended so; its number is always 14 (`endReport`)
 abbrev pub receiptCallOutcome : Calls.MainReceiveOutcome → MainParts → List ℕ → CallOutcome (MainParts × List ℕ)
-receiptCallOutcome x p answer = writingAfter (receiptGiven (x .used) (x .report) (x .ended) (x .unsent)) p (x .parts) answer
+receiptCallOutcome x p answer = writingAfter (receiptGiven (x .used) (x .report) (isSome (x .ended)) (x .unsent)) p (x .parts) answer
 
 unfoldable pub listenCall : MainParts → List ℕ → List ℕ → CallOutcome (MainParts × List ℕ)
 listenCall p piece answer = receiptCallOutcome (Calls.mainReceivePromise p piece) p answer

@@ -3,6 +3,7 @@
 use mathlib.Core.Path.{_≡_, ap}
 use mathlib.Core.Bool.{Bool, true, false, and-false}
 use mathlib.Core.List.{List}
+use mathlib.Core.Option.{Option, none}
 use Prim.Native.Nat.{ℕ, suc, _-_, min}
 use lib.ListN.{length, take}
 use Rattle.line.specs.Limits.{longest-form}
@@ -25,11 +26,11 @@ pub invalid-requester : (p : MainParts) → validRequester (p .requester) ≡ fa
 unfolding mainValidParts
 invalid-requester p e = rw (e, and-false)
 
-abbrev pub receipt : ℕ → HandedReport → Bool → Bool → MainParts → MainReceiveOutcome
+abbrev pub receipt : ℕ → HandedReport → Option ℕ → Bool → MainParts → MainReceiveOutcome
 receipt used t ended unsent p = record { used = used; report = t; ended = ended; unsent = unsent; parts = p }
 
 pub receive-refused : (p : MainParts) (piece : List ℕ) → mainValidParts p ≡ false
-    → receipt 0 (HandedReport.refused 12) false false p ≡ mainReceivePromise p piece
+    → receipt 0 (HandedReport.refused 12) none false p ≡ mainReceivePromise p piece
 unfolding mainReceivePromise
 receive-refused p piece e = rw e
 
@@ -51,7 +52,7 @@ module _ (p : MainParts) (piece : List ℕ) (v : mainValidParts p ≡ true) {use
         rw (e, ← take-min, ← f)
         (read-by (p .reader) (take end piece) (parts-valid p v .reader) w)
 
-    pub heard-received : {t : HandedReport} {x : Requester.Next} {ended unsent : Bool} {r : List ℕ}
+    pub heard-received : {t : HandedReport} {x : Requester.Next} {ended : Option ℕ} {unsent : Bool} {r : List ℕ}
         → record { report = t; next = x }
         ≡ outcomeReportOf (heardOutcomeOf (p .requester) (heardOf (Layout.newestNumber (p .requester)) reader a))
         → partMoved ended r ≡ partMovedTo x (p .requester) → unsent ≡ Layout.isUnsent r
@@ -70,7 +71,7 @@ module _ (p : MainParts) (piece : List ℕ) (v : mainValidParts p ≡ true) {use
   pub rest-received : {unsent : Bool} → LineReader.tailPromise (p .reader) ≡ LineReader.longer
       → outcomeBy used a reader ≡ LineReader.readPromise (p .reader) piece
       → unsent ≡ Layout.isUnsent (p .requester)
-      → receipt used Calls.nothing false unsent (mainParts reader (p .requester)) ≡ mainReceiveValid p piece
+      → receipt used Calls.nothing none unsent (mainParts reader (p .requester)) ≡ mainReceiveValid p piece
   unfolding mainReceiveValid heardOutcomeOf partMovedTo Calls.handedReportOf
   rest-received l w u =
       let q = read-by (p .reader) piece (parts-valid p v .reader) w in

@@ -167,15 +167,15 @@ module _ (r : List ℕ) (h : Heard) where
 
 module _ (r : List ℕ) {n : ℕ} (e : n ≡ Layout.newestNumber r) where
   pub number-spent : (t : Option RecoveryStep) {r' : List ℕ} → last-number ≤ n → r' ≡ progressed n 0 0 0 r
-      → partMoved true r' ≡ partMovedTo (anew t) r
+      → partMoved (some 14) r' ≡ partMovedTo (anew t) r
   unfolding partMovedTo
   number-spent t l w = rw (w, ← e, le-leb last-number n l)
 
   pub number-taken : (step : ℕ) {k : ℕ} {r' : List ℕ} → step ≤ 3 → n < last-number → k ≡ Layout.keptFlag r
-      → r' ≡ progressed (n + 1) step 1 k r → partMoved false r' ≡ partMovedTo (anew (Layout.stepAt step)) r
+      → r' ≡ progressed (n + 1) step 1 k r → partMoved none r' ≡ partMovedTo (anew (Layout.stepAt step)) r
   unfolding partMovedTo
   number-taken step s l f w = rw (w, ← e, lt-leb last-number n l, ← f, step-number step s, add-one)
 
-  pub idle-next : {r' : List ℕ} → r' ≡ progressed n 0 0 0 r → partMoved false r' ≡ partMovedTo idle r
+  pub idle-next : {r' : List ℕ} → r' ≡ progressed n 0 0 0 r → partMoved none r' ≡ partMovedTo idle r
   unfolding partMovedTo
   idle-next w = rw (w, ← e)

@@ -212,35 +212,46 @@ unfoldable pub heardOutcomeOf : List ℕ → Option Heard → HeardOutcome
 heardOutcomeOf r none = Requester.heardOutcome Requester.nothing Requester.same
 heardOutcomeOf r (some h) = settle (Layout.recoveryStep r) (Layout.isKept r) h
 
--- whether 14 ended a recovery; the part
+-- the table's number with which a recovery, and any original, ended: 14, where no new number was left; none where none ended
+unfoldable pub endReport : Bool → Option ℕ
+endReport false = none
+endReport true = some 14
+
+-- how a recovery ended; the part
 pub record PartMoved : Type 0 where
-  pub ended : Bool
+  pub ended : Option ℕ
   pub requester : List ℕ
 
-abbrev pub partMoved : Bool → List ℕ → PartMoved
+abbrev pub partMoved : Option ℕ → List ℕ → PartMoved
 partMoved e r = record { ended = e; requester = r }
 
 abbrev pub idlePart : List ℕ → List ℕ
 idlePart r = progressed (Layout.newestNumber r) 0 0 0 r
 
 unfoldable pub partMovedTo : Requester.Next → List ℕ → PartMoved
-partMovedTo Requester.same r = partMoved false r
-partMovedTo Requester.again r = partMoved false (overlay Layout.unsent-offset (1 ∷ []) r)
+partMovedTo Requester.same r = partMoved none r
+partMovedTo Requester.again r = partMoved none (overlay Layout.unsent-offset (1 ∷ []) r)
 partMovedTo (Requester.anew t) r =
-    cond (leb last-number (Layout.newestNumber r)) (partMoved true (idlePart r))
-    (partMoved false (progressed (suc (Layout.newestNumber r)) (Layout.stepNumber t) 1 (Layout.keptFlag r) r))
-partMovedTo Requester.idle r = partMoved false (idlePart r)
+    cond (leb last-number (Layout.newestNumber r)) (partMoved (some 14) (idlePart r))
+    (partMoved none (progressed (suc (Layout.newestNumber r)) (Layout.stepNumber t) 1 (Layout.keptFlag r) r))
+partMovedTo Requester.idle r = partMoved none (idlePart r)
 
--- how many bytes were read, what is handed out, whether 14 ended a recovery, whether a frame is to go out; the parts
+-- how many bytes were read, what is handed out, how a recovery ended, whether a frame is to go out; the parts
 pub record MainReceiveOutcome : Type 0 where
   pub used : ℕ
   pub report : HandedReport
-  pub ended : Bool
+  pub ended : Option ℕ
   pub unsent : Bool
   pub parts : MainParts
 
 abbrev pub mainReceiveOutcome : Received → MainParts → MainReceiveOutcome
-mainReceiveOutcome r p = record { used = r .used; report = handedReport (r .handed); ended = r .ended; unsent = r .unsent; parts = p }
+mainReceiveOutcome r p = record {
+  used = r .used;
+  report = handedReport (r .handed);
+  ended = endReport (r .ended);
+  unsent = r .unsent;
+  parts = p;
+}
 
 abbrev pub mainReceiveBy : ℕ → List ℕ → HandedReport → PartMoved → MainReceiveOutcome
 mainReceiveBy used reader t m = record {
@@ -265,7 +276,7 @@ mainValidParts p = LineReader.validReader (p .reader) && validRequester (p .requ
 unfoldable pub mainReceivePromise : MainParts → List ℕ → MainReceiveOutcome
 mainReceivePromise p piece =
     cond (mainValidParts p) (mainReceiveValid p piece)
-    (record { used = 0; report = HandedReport.refused 12; ended = false; unsent = false; parts = p })
+    (record { used = 0; report = HandedReport.refused 12; ended = none; unsent = false; parts = p })
 
 -- both parts are as 12 requires
 pub record MainPartsValid (p : MainParts) : Type 0 where

@@ -163,38 +163,39 @@ settle (some t) original h = hearIn (some t) original h
 
 -- ---- The state that comes next
 
--- whether a recovery, and any original, ended with 14; the state
+-- the table's number with which a recovery, and any original, ended, none where none did; the state
 pub record MainMoved : Type 0 where
-  pub ended : Bool
+  pub ended : Option ℕ
   pub state : MainState
 
-abbrev pub mainMoved : Bool → MainState → MainMoved
+abbrev pub mainMoved : Option ℕ → MainState → MainMoved
 mainMoved e s = record { ended = e; state = s }
 
 abbrev pub idleState : MainState → MainState
 idleState s = mainState (s .newest) none none false (s .received)
 
+-- without a new number, a recovery and any original end with 14
 unfoldable pub mainMovedTo : Next → MainState → MainMoved
-mainMovedTo same s = mainMoved false s
-mainMovedTo again s = mainMoved false (mainState (s .newest) (s .kept) (s .recovery) true (s .received))
+mainMovedTo same s = mainMoved none s
+mainMovedTo again s = mainMoved none (mainState (s .newest) (s .kept) (s .recovery) true (s .received))
 mainMovedTo (anew t) s =
-    cond (leb last-number (s .newest)) (mainMoved true (idleState s))
-    (mainMoved false (mainState (suc (s .newest)) (s .kept) t true (s .received)))
-mainMovedTo idle s = mainMoved false (idleState s)
+    cond (leb last-number (s .newest)) (mainMoved (some 14) (idleState s))
+    (mainMoved none (mainState (suc (s .newest)) (s .kept) t true (s .received)))
+mainMovedTo idle s = mainMoved none (idleState s)
 
 -- ---- One received byte
 
--- what is handed out, whether 14 ended a recovery, and the state
+-- what is handed out, the number with which a recovery ended, and the state
 pub record MainResult : Type 0 where
   pub handed : Handed
-  pub ended : Bool
+  pub ended : Option ℕ
   pub state : MainState
 
 abbrev pub mainResult : Handed → MainMoved → MainResult
 mainResult h m = record { handed = h; ended = m .ended; state = m .state }
 
 abbrev pub dropped : MainState → MainResult
-dropped s = mainResult nothing (mainMoved false s)
+dropped s = mainResult nothing (mainMoved none s)
 
 abbrev pub afterHeard : Heard → MainState → MainResult
 afterHeard h s = let o = settle (s .recovery) (isSome (s .kept)) h in mainResult (o .handed) (mainMovedTo (o .next) s)

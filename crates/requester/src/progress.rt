@@ -8,7 +8,7 @@ ghost use Prim.Native.Nat.{_≤_};
 ghost use lib.ListN.{length};
 ghost use Rattle.requester.specs.Layout.{requester-length, isKept, isOutstanding, isUnsent, stepAt};
 ghost use Rattle.requester.specs.Requester.{anew};
-ghost use Rattle.requester.specs.Calls.{progressed, partMoved, partMovedTo};
+ghost use Rattle.requester.specs.Calls.{progressed, endReport, partMoved, partMovedTo};
 ghost use Rattle.requester.specs.Hearing.{nextOf};
 
 // Whether a request is kept.
@@ -52,7 +52,7 @@ pub(crate) fn set_progress(requester: &mut [u8], number: u64, recovery: u8, unse
 pub(crate) fn take_number(requester: &mut [u8], step: u8) -> bool
     requires { ⌜ requester-length ≤ length (now requester) ⌝ }
     requires { ⌜ step ≤ 3 ⌝ }
-    ensures { λ r. ⌜ partMoved r (now (requester .exit)) ≡ partMovedTo (anew (stepAt step)) (now (requester .entry)) ⌝ }
+    ensures { λ r. ⌜ partMoved (endReport r) (now (requester .exit)) ≡ partMovedTo (anew (stepAt step)) (now (requester .entry)) ⌝ }
 {
     let number = octets::read_u64(requester, layout::NUMBER_OFFSET);
     let kept = octets::read_u8(requester, layout::KEPT_OFFSET);
@@ -64,10 +64,10 @@ pub(crate) fn take_number(requester: &mut [u8], step: u8) -> bool
     false
 }
 
-// Goes on to what comes next; whether 14 ended a recovery.
+// Goes on to what comes next; whether a recovery ended with 14.
 pub(crate) fn go_on(requester: &mut [u8], next: Next) -> bool
     requires { ⌜ requester-length ≤ length (now requester) ⌝ }
-    ensures { λ r. ⌜ partMoved r (now (requester .exit)) ≡ partMovedTo (nextOf next) (now (requester .entry)) ⌝ }
+    ensures { λ r. ⌜ partMoved (endReport r) (now (requester .exit)) ≡ partMovedTo (nextOf next) (now (requester .entry)) ⌝ }
 {
     match next {
         Next::Same => false,

@@ -13,7 +13,7 @@ ghost use Rattle.line.specs.Limits.{longest-form};
 ghost use Rattle.line.specs.Reader.{unfinished, longer, tailPromise};
 ghost use Rattle.requester.specs.Calls.{mainParts, mainValidParts, mainReceiveOutcome, mainReceiveValid, mainReceivePromise};
 
-// How many bytes of the piece were read, what is handed out, whether 14 ended a recovery, and whether a frame is to go out.
+// How many bytes were read, what is handed out, whether a recovery ended with 14 (`endReport`), and whether a frame is to go out.
 pub struct Received {
     pub used: usize,
     pub handed: Handed,

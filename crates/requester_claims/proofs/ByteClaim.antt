@@ -259,7 +259,7 @@ module _ (p : MainParts) (v : LineReader.validReader (p .reader) ≡ true) where
           let k : longest-form - length xs ≡ 0 = omega (arith, leb-true longest-form (length xs) f) in
           rw (tail-received part v, e, room xs e, k, eqb·suc-zero, f)
 
-  -- any other hands nothing out and changes the reader'part part alone
+  -- any other hands nothing out and changes the reader's part alone
   module _ (b : ℕ) (quiet : Requester.fills (receivedOf part) ≡ false) where
     abbrev t : List ℕ
     t = LineReader.pushed part (suc b)
@@ -269,7 +269,7 @@ module _ (p : MainParts) (v : LineReader.validReader (p .reader) ≡ true) where
         let f : leb longest-form (length bs) ≡ false = rw e at quiet in
         pushed-received part (suc b) v ∙ rw e (more-room bs (suc b) (leb-false _ _ f))
 
-    pub feed-quiet : feed p (suc b) ≡ fed Requester.nothing false (mainParts t (p .requester))
+    pub feed-quiet : feed p (suc b) ≡ fed Requester.nothing none (mainParts t (p .requester))
     unfolding fedBy heardOutcomeOf Calls.partMovedTo
     feed-quiet = feed-more p v b ∙ rw quiet
 

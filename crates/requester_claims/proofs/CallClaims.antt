@@ -139,7 +139,7 @@ module _ (p : MainParts) (room : MainLongEnough p) where
       })
 
 -- what is handed out is no refusal
-pub report-received : (used : ℕ) (h : Requester.Handed) (e u : Bool)
+pub report-received : (used : ℕ) (h : Requester.Handed) (e : Option ℕ) (u : Bool)
     → receiveAnswer used (handedReportOf h) e u ≡ Histories.received used (handedReportOf h) e u
 unfolding handedReportOf
 report-received used Requester.nothing e u = refl

@@ -51,7 +51,7 @@ number-step (some acknowledge) = omega arith
 number-step (some alert) = omega arith
 
 module _ (r : List ℕ) (v : RequesterValid r) (bs : Option (List ℕ)) where
-  idled : (e : Bool) → Moves r bs (Calls.partMoved e (Calls.idlePart r)) (Requester.mainMoved e (Requester.idleState (held r bs)))
+  idled : (e : Option ℕ) → Moves r bs (Calls.partMoved e (Calls.idlePart r)) (Requester.mainMoved e (Requester.idleState (held r bs)))
   unfolding Layout.stepAt
   idled e = record {
     ended = refl;
@@ -67,7 +67,7 @@ module _ (r : List ℕ) (v : RequesterValid r) (bs : Option (List ℕ)) where
   moves same = record { ended = refl; state = refl; valid = v; long = refl }
   moves again = record { ended = refl; state = flagged-held 1 r v bs; valid = flagged-valid 1 r v (omega arith); long = flagged-long 1 r v }
   moves (anew t) =
-      cond-both (Moves r bs) (leb last-number (Layout.newestNumber r)) (λ e. idled true) (λ e.
+      cond-both (Moves r bs) (leb last-number (Layout.newestNumber r)) (λ e. idled (some 14)) (λ e.
       let l : Layout.newestNumber r < last-number = leb-false _ _ e in
       let n = suc (Layout.newestNumber r) in
       let k = Layout.stepNumber t in
@@ -77,7 +77,7 @@ module _ (r : List ℕ) (v : RequesterValid r) (bs : Option (List ℕ)) where
         valid = progressed-valid n k 1 (Layout.keptFlag r) r v (omega arith) (number-step t) (omega arith) (v .kept) (λ _. omega arith);
         long = progressed-long n k 1 (Layout.keptFlag r) r v;
       })
-  moves idle = idled false
+  moves idle = idled none
 
 -- ---- the data of what is handed out
 

@@ -1,6 +1,6 @@
 -- What one byte of the received stream does to the parts, and a call of receive as the bytes that it reads, one after the other.
 -- Assumes nothing: these are definitions.
-use mathlib.Core.Bool.{Bool, false, cond, _||_}
+use mathlib.Core.Bool.{Bool, cond, _||_}
 use mathlib.Core.List.{List, [], _∷_}
 use mathlib.Core.Option.{Option, none}
 use Prim.Native.Nat.{ℕ, zero, suc}
@@ -12,13 +12,13 @@ use Rattle.requester.specs.Layout
 use Rattle.requester.specs.Calls
 use Rattle.requester.specs.Calls.{MainParts, mainParts, isOverlong, heardOf, heardOutcomeOf, handedReportOf}
 
--- what is handed out, whether 14 ended a recovery, and the parts
+-- what is handed out, the number with which a recovery ended, and the parts
 pub record Fed : Type 0 where
   pub handed : Requester.Handed
-  pub ended : Bool
+  pub ended : Option ℕ
   pub parts : MainParts
 
-abbrev pub fed : Requester.Handed → Bool → MainParts → Fed
+abbrev pub fed : Requester.Handed → Option ℕ → MainParts → Fed
 fed h e p = record { handed = h; ended = e; parts = p }
 
 -- by what is heard, and the state that the line reader left
@@ -54,7 +54,7 @@ abbrev pub walked : ℕ → Fed → Walked
 walked n f = record { used = n; fed = f }
 
 unfoldable pub walk : MainParts → List ℕ → Walked
-walk p [] = walked 0 (fed Requester.nothing false p)
+walk p [] = walked 0 (fed Requester.nothing none p)
 walk p (b ∷ bs) =
     cond (stopsAt (p .reader) b) (walked 1 (feed p b))
     (let w = walk (feed p b .parts) bs in walked (suc (w .used)) (w .fed))

@@ -39,7 +39,7 @@ module _ (n : ℕ) where
   none-put : (k : ℕ) → Numbered (Histories.put k) none
   none-put k = (λ e. absurd (zero-one cc), λ e. absurd (zero-one cc))
 
-  none-received : (used : ℕ) (t : Calls.HandedReport) (e u : Bool) → Numbered (Histories.received used t e u) none
+  none-received : (used : ℕ) (t : Calls.HandedReport) (e : Option ℕ) (u : Bool) → Numbered (Histories.received used t e u) none
   none-received used t e u = (λ f. absurd (zero-one cc), λ f. absurd (zero-one cc))
 
   abbrev PutBy : Calls.PutOutcome → Option ℕ → Type 0

@@ -1,8 +1,8 @@
 -- What receives hand out and read, one after the other and between other calls.
 -- Assumes nothing: these are definitions.
 use mathlib.Core.Path.{_≡_}
-use mathlib.Core.Bool.{Bool, true, false}
 use mathlib.Core.List.{List, [], _∷_, _++_}
+use mathlib.Core.Option.{Option, none, some}
 use Prim.Native.Nat.{ℕ}
 use lib.ListN.{take}
 use Rattle.requester.specs.Calls
@@ -10,17 +10,17 @@ use Rattle.requester.specs.Calls.{MainParts, HandedReport}
 use Rattle.requester_claims.specs.Histories
 use Rattle.requester_claims.specs.Histories.{MainAnswer, refused, done, put, received, MainLent, MainMade, mainMade, MainOutput}
 
--- what a call hands out, with its data, and whether 14 ended a recovery
+-- what a call hands out, with its data, and the table's number with which a recovery ended
 pub record HandedEvent : Type 0 where
   pub report : HandedReport
   pub payload : List ℕ
-  pub ended : Bool
+  pub ended : Option ℕ
 
 -- nothing is no event
-unfoldable pub handedEvents : HandedReport → List ℕ → Bool → List HandedEvent
+unfoldable pub handedEvents : HandedReport → List ℕ → Option ℕ → List HandedEvent
 handedEvents (HandedReport.refused n) d e = []
-handedEvents Calls.nothing d false = []
-handedEvents Calls.nothing d true = record { report = Calls.nothing; payload = d; ended = true } ∷ []
+handedEvents Calls.nothing d none = []
+handedEvents Calls.nothing d (some n) = record { report = Calls.nothing; payload = d; ended = some n } ∷ []
 handedEvents (Calls.answered v q c n) d e = record { report = Calls.answered v q c n; payload = d; ended = e } ∷ []
 handedEvents (Calls.status s o n) d e = record { report = Calls.status s o n; payload = d; ended = e } ∷ []
 handedEvents (Calls.alerted v q c n) d e = record { report = Calls.alerted v q c n; payload = d; ended = e } ∷ []

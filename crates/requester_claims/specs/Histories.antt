@@ -34,8 +34,8 @@ pub data MainAnswer : Type 0 where
   done : MainAnswer
   -- how many bytes were put out
   put : ℕ → MainAnswer
-  -- how many bytes were read, what is handed out, whether 14 ended a recovery, whether a frame is to go out
-  received : ℕ → HandedReport → Bool → Bool → MainAnswer
+  -- how many bytes were read, what is handed out, the table's number with which a recovery ended, whether a frame is to go out
+  received : ℕ → HandedReport → Option ℕ → Bool → MainAnswer
 
 -- ---- By the promises
 
@@ -62,7 +62,7 @@ withRequester p r = mainParts (p .reader) r
 abbrev pub putDid : MainParts → Calls.PutOutcome → MainDid
 putDid p t = mainDidBy (putAnswer (t .report)) (t .out) (withRequester p (t .requester))
 
-abbrev pub receiveAnswer : ℕ → HandedReport → Bool → Bool → MainAnswer
+abbrev pub receiveAnswer : ℕ → HandedReport → Option ℕ → Bool → MainAnswer
 receiveAnswer used (HandedReport.refused n) e u = refused n
 receiveAnswer used Calls.nothing e u = received used Calls.nothing e u
 receiveAnswer used (Calls.answered v q c n) e u = received used (Calls.answered v q c n) e u

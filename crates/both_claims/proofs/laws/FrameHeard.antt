@@ -75,7 +75,7 @@ heard-answer n r v q c =
 -- the request kept is answered, and nothing is outstanding
 pub answers-kept : (s : MainState) (q : Request) (r : Message) (x : Option (List ℕ)) → s .recovery ≡ none → s .kept ≡ some q
     → afterHeard (answer r) (mainWithReceived s x)
-    ≡ Requester.mainResult (Requester.answered r) (Requester.mainMoved false (mainState (s .newest) none none false x))
+    ≡ Requester.mainResult (Requester.answered r) (Requester.mainMoved none (mainState (s .newest) none none false x))
 unfolding Requester.settle Requester.mainMovedTo
 answers-kept s q r x t k = rw (t, k)
 

@@ -268,7 +268,7 @@ module _ (e : Ends.Ends) (rest : AtRest e) (x : Exchange e) where
   -- the reply is handed out, and none is outstanding
   record Answered : Type 0 where
     answer : hears .answer
-        ≡ Main.received (length (frame r)) (MainCalls.answered (r .version) (r .sequence) (r .command) (length (r .payload))) false false
+        ≡ Main.received (length (frame r)) (MainCalls.answered (r .version) (r .sequence) (r .command) (length (r .payload))) none false
     out : hears .out ≡ r .payload
     state : mainView (hears .parts) ≡ mainState (mainView (asks .parts) .newest) none none false (some [])
 

@@ -2,22 +2,22 @@
 -- Assumes nothing.
 use borrow.Author.Needs.{needs}
 use mathlib.Core.Path.{ap}
-use mathlib.Core.Bool.{false}
+use mathlib.Core.Option.{none}
 use Rattle.octets.proofs.Overlay.{overlay-one}
 use Rattle.requester.specs.Layout.{stepAt}
-use Rattle.requester.specs.Calls.{partMoved, partMovedTo}
+use Rattle.requester.specs.Calls.{endReport, partMoved, partMovedTo}
 use Rattle.requester.specs.Hearing.{nextOf}
 use Rattle.requester.proofs.SettlingLaws.{idle-next}
 use Rattle.requester.proofs.progress.go_on.Statement.{statement}
 use Rattle.requester.proofs.progress.go_on.Tie as tie
 
 returns : tie.Need-returns
-unfolding nextOf partMovedTo
+unfolding nextOf partMovedTo endReport
 returns c = rw (c .enum-told .given .1)
 
 returns-2 : tie.Need-returns-2
-unfolding nextOf partMovedTo
-returns-2 c = rw (c .enum-told2 .given .1) (ap (partMoved false) (overlay-one _ _ _ (search needs)))
+unfolding nextOf partMovedTo endReport
+returns-2 c = rw (c .enum-told2 .given .1) (ap (partMoved none) (overlay-one _ _ _ (search needs)))
 
 returns-3 : tie.Need-returns-3
 unfolding nextOf stepAt
@@ -48,7 +48,7 @@ returns-6 c =
     rw (enum-told6 .enum-told6 .given .1) (take-number4 .take-number4 .ensures)
 
 returns-7 : tie.Need-returns-7
-unfolding nextOf
+unfolding nextOf endReport
 returns-7 c =
     let set-progress = c .before .before in
     let read-u64 = set-progress .before .before in

@@ -1,6 +1,7 @@
 -- `requester::progress::take_number` meets its contract.
 -- Assumes nothing.
 use borrow.Author.Needs.{needs}
+use Rattle.requester.specs.Calls.{endReport}
 use Rattle.requester.proofs.SettlingLaws.{number-spent, number-taken}
 use Rattle.requester.proofs.progress.take_number.Statement.{statement}
 use Rattle.requester.proofs.progress.take_number.Tie as tie
@@ -10,6 +11,7 @@ abbrev at-read-u64 : tie.After-read-u8 → tie.After-read-u64
 at-read-u64 c = c .before .before
 
 returns : tie.Need-returns
+unfolding endReport
 returns c =
     let set-progress = c .before .before in
     let if1 = set-progress .before .before in
@@ -17,6 +19,7 @@ returns c =
     number-spent _ (read-u64 .read-u64 .ensures) _ (if1 .if1 .taken) (set-progress .set-progress .ensures)
 
 returns-2 : tie.Need-returns-2
+unfolding endReport
 returns-2 c =
     let set-progress2 = c .before .before in
     let if1 = set-progress2 .before .before in

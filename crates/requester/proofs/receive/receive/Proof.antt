@@ -2,7 +2,7 @@
 -- Assumes nothing.
 use borrow.Author.Needs.{needs}
 use Rattle.line.specs.Reader.{tailReport}
-use Rattle.requester.specs.Calls.{handedReport}
+use Rattle.requester.specs.Calls.{endReport, handedReport}
 use Rattle.requester.proofs.Cases.{refused, passed}
 use Rattle.requester.proofs.ValidLaws.{valid-parts}
 use Rattle.requester.proofs.ReaderLaws.{tail-holds}
@@ -11,7 +11,7 @@ use Rattle.requester.proofs.receive.receive.Statement.{statement}
 use Rattle.requester.proofs.receive.receive.Tie as tie
 
 returns : tie.Need-returns
-unfolding handedReport
+unfolding handedReport endReport
 returns c = receive-refused _ _ (invalid-requester _ (refused _ _ (c .before .requester-is-valid .ensures) (c .if1 .taken)))
 
 listen-requires : tie.Need-listen-requires
@@ -39,7 +39,7 @@ skip-requires c κs =
     )
 
 returns-2 : tie.Need-returns-2
-unfolding handedReport tailReport
+unfolding handedReport endReport tailReport
 returns-2 c =
     let at-tail = c .before .before in
     receive-refused _ _ (invalid-reader _ (tail-holds _ (rw (c .enum-told .given .1) at (at-tail .tail .ensures))))

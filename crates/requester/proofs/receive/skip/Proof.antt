@@ -1,13 +1,13 @@
 -- `requester::receive::skip` meets its contract.
 -- Assumes nothing.
 use borrow.Author.Needs.{needs}
-use Rattle.requester.specs.Calls.{handedReport}
+use Rattle.requester.specs.Calls.{endReport, handedReport}
 use Rattle.requester.proofs.ReceiveLaws.{rest-received}
 use Rattle.requester.proofs.receive.skip.Statement.{statement}
 use Rattle.requester.proofs.receive.skip.Tie as tie
 
 returns : tie.Need-returns
-unfolding handedReport
+unfolding handedReport endReport
 returns c =
     let read = c .before .before .before in
     let start = read .before .before .before .before .before in
