@@ -162,7 +162,7 @@ module _ (P Q : ℕ → Message → Type 0) (f : (used : ℕ) (m : Message) → 
   report-then used (HandedReport.refused n) d c = tt
   report-then used Calls.nothing d c = tt
   report-then used (Calls.answered v q k n) d c = f used _ c
-  report-then used (Calls.status s o n) d c = tt
+  report-then used (Calls.status s o n) d c = record { from = c .from; shape = c .shape; holds = f used (c .from) (c .holds) }
   report-then used (Calls.alerted v q k n) d c = f used _ c
 
   answer-then : (a : MainAnswer) (d : List ℕ) → OfAnswer P a d → OfAnswer Q a d
@@ -177,5 +177,5 @@ answer-frame p l h ms t k piece b =
     let q = mainLeft (mainStarted p l) ms in
     let w : Since (mainView q .received) = rw (i .1) (left-since mainFresh ms t fresh-since) in
     let m : MainMade = record { lent = k; call = Histories.receive piece } in
-    answer-then _ _ (comes-framed piece b (mainView q .received) w) (mainMade q m .answer) (mainMade q m .out)
-    (answer-bytes q (i .2) k piece)
+    answer-then _ _ (λ used m c. (comes-framed piece b (mainView q .received) w used m (c .0), c .1))
+    (mainMade q m .answer) (mainMade q m .out) (answer-bytes q (i .2) k piece)

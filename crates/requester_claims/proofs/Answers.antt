@@ -1,24 +1,23 @@
 -- What is handed out matches the one outstanding, and there is at most one answer for each request.
 -- Assumes nothing.
 use mathlib.Core.Path.{_≡_, refl, sym, _∙_}
-use mathlib.Core.Bool.{Bool, true, false, cond, not, _&&_, false≢true}
+use mathlib.Core.Bool.{Bool, true, false, cond, _&&_, false≢true}
 use mathlib.Core.List.{List, [], _∷_}
 use mathlib.Core.Option.{Option, none, some}
-use Prim.Native.Nat.{ℕ, suc, _+_, _^_, _≤_}
+use Prim.Native.Nat.{ℕ, suc, _+_, _≤_}
 use native.Mathlib.Nat.{zero-add}
 use native.Mathlib.Omega.{arith}
 use lib.Dec.{leb, ltb, eqb}
 use lib.ListN.{length}
-use borrow.Author.Tests.{not-false, eqb-true, eq-eqb}
 use Rattle.octets.proofs.Conditions.{cond-by}
 use Rattle.line.specs.Limits.{longest-data}
 use Rattle.line.specs.Numbers.{status-length}
-use Rattle.line.specs.Judge.{LineVerdict, failure, good, judge}
+use Rattle.line.specs.Judge.{judge}
 use Rattle.line.specs.Judge.{moreReceived}
 use Rattle.requester.specs.Limits.{last-number}
 use Rattle.requester.specs.State.{Request, RecoveryStep, fetch, acknowledge, alert, MainState, mainFresh, isSome, outstanding, requestFrame}
 use Rattle.requester.specs.Requester
-use Rattle.requester.specs.Requester.{Heard, ground, other, answer, hear, failsDecode, replySequence, settle, staysOut}
+use Rattle.requester.specs.Requester.{Heard, ground, other, answer, hear, settle, staysOut}
 use Rattle.requester.specs.Layout
 use Rattle.requester.specs.Calls.{MainParts, handedReportOf}
 use Rattle.requester_claims.specs.View.{mainView, keptRequestOf}
@@ -31,84 +30,17 @@ use Rattle.requester_claims.specs.Histories.{mainStarted, OfMainStart, O
 use Rattle.requester_claims.specs.Item2.{AnswerMatches, AnswersCounted, OneAnswerEach}
 use Rattle.requester_claims.specs.Answers.{OfReport, OfAnswer, MessageMatching, answersReported, answersIn, requestsByCall}
 use Rattle.requester_claims.specs.Answers.{answersCounted, requestsCounted, keptNumber}
+use Rattle.requester_claims.proofs.AnswerBytes.{ComesAnswer, hands-then, hands-report, receive-hands}
 
 -- ---- answers that match
 
-abbrev pub HeardMatches : ℕ → Heard → Type 0
-HeardMatches n ground = Unit {0}
-HeardMatches n other = Unit {0}
-HeardMatches n (answer m) = MessageMatching n m
-
-pub heard-matches : (n : ℕ) (v : LineVerdict) → HeardMatches n (hear n v)
-unfolding hear
-heard-matches n (failure reason sequence) = tt
-heard-matches n (good m) =
-    cond-by (HeardMatches n) (not (eqb (m .version) 1)) _ _ (λ _. tt) (λ a.
-    cond-by (HeardMatches n) (ltb (m .sequence) (2 ^ 63)) _ _ (λ _. tt) (λ _.
-    cond-by (HeardMatches n) (failsDecode n m) _ _ (λ _. tt) (λ f.
-    cond-by (HeardMatches n) (eqb (m .sequence) (replySequence n)) _ _ (λ q. record {
-      version-1 = eqb-true _ _ (not-false _ a);
-      reply = eqb-true _ _ q;
-      no-failure = λ c. false≢true (sym f ∙ rw (eq-eqb (m .command) 0x02 c, q));
-    }) (λ _. tt))))
-
--- of what is handed out
-abbrev HandedMatches : ℕ → Requester.Handed → Type 0
-HandedMatches n h = OfReport (MessageMatching n) (handedReportOf h) (Histories.handedData h)
-
--- whatever is outstanding
-module _ (n : ℕ) where
-  settled-matches : (t : Option RecoveryStep) (k : Bool) (h : Heard) → HeardMatches n h → HandedMatches n (settle t k h .handed)
-  unfolding settle handedReportOf Histories.handedData Requester.fetched
-  settled-matches none false h w = tt
-  settled-matches none true ground w = tt
-  settled-matches none true other w = tt
-  settled-matches none true (answer m) w = w
-  settled-matches (some t) k ground w = tt
-  settled-matches (some t) k other w = tt
-  settled-matches (some fetch) k (answer m) w =
-      cond-by (λ (o : Requester.HeardOutcome). HandedMatches n (o .handed))
-      (eqb (m .command) 0x06 && eqb (length (m .payload)) status-length) _ _ (λ _. tt) (λ _. tt)
-  settled-matches (some acknowledge) k (answer m) w = tt
-  settled-matches (some alert) k (answer m) w = w
-
-module _ (s : MainState) where
-  abbrev ResultMatches : Requester.MainResult → Type 0
-  ResultMatches x = HandedMatches (s .newest) (x .handed)
-
-  nothing-matches : HandedMatches (s .newest) Requester.nothing
-  unfolding handedReportOf
-  nothing-matches = tt
-
-  closes-matches : (bs : Option (List ℕ)) → ResultMatches (Requester.mainClosed bs (Requester.mainWithReceived s (some [])))
-  closes-matches none = nothing-matches
-  closes-matches (some []) = nothing-matches
-  closes-matches (some (b ∷ bs)) =
-      settled-matches (s .newest) (s .recovery) (isSome (s .kept)) _ (heard-matches (s .newest) (judge (b ∷ bs)))
-
-  more-matches : (bs : Option (List ℕ)) (b : ℕ) → ResultMatches (Requester.mainMore bs b s)
-  more-matches bs b =
-      cond-by ResultMatches (Requester.fills bs) _ _ (λ _. settled-matches (s .newest) (s .recovery) (isSome (s .kept)) ground tt)
-      (λ _. nothing-matches)
-
-  byte-matches : (b : ℕ) → ResultMatches (Requester.mainByte s b)
-  unfolding Requester.mainByte
-  byte-matches b = cond-by ResultMatches (eqb b 0) _ _ (λ _. closes-matches (s .received)) (λ _. more-matches (s .received) b)
-
-receive-matches : (piece : List ℕ) (s : MainState) → HandedMatches (s .newest) (Requester.receive s piece .result .handed)
-unfolding Requester.receive
-receive-matches [] s = nothing-matches s
-receive-matches (b ∷ bs) s = by (Requester.stops s b) refl (λ x. receive-matches bs (Requester.mainWithReceived s x))
-  where
-    P : Requester.MainReceived → Type 0
-    P x = HandedMatches (s .newest) (x .result .handed)
-
-    by : (t : Bool) → Requester.stops s b ≡ t
-        → ((x : Option (List ℕ)) → HandedMatches (s .newest) (Requester.receive (Requester.mainWithReceived s x) bs .result .handed))
-        → let r = Requester.receive (Requester.mainByte s b .state) bs in P (cond t (Requester.mainReceived 1 (Requester.mainByte s b))
-        (Requester.mainReceived (suc (r .used)) (r .result)))
-    by true e i = byte-matches s b
-    by false e i = rw (quiet-byte s b e) (i (moreReceived (s .received) b))
+receive-matches : (piece : List ℕ) (s : MainState) → let h = Requester.receive s piece .result .handed in
+    OfReport (MessageMatching (s .newest)) (handedReportOf h) (Histories.handedData h)
+receive-matches piece s =
+    let r = Requester.receive s piece in
+    let P = ComesAnswer (s .newest) piece (s .received) (r .used) in
+    let h = r .result .handed in
+    hands-report (MessageMatching (s .newest)) h (hands-then P (MessageMatching (s .newest)) (λ m w. w .1) h (receive-hands piece s))
 
 module _ (s : MainState) where
   abbrev MeansMatches : MainMeans → Type 0

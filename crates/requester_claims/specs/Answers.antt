@@ -5,10 +5,12 @@ use mathlib.Core.Bool.{cond}
 use mathlib.Core.List.{List, [], _∷_}
 use mathlib.Core.Option.{Option, none, some}
 use Prim.Native.Nat.{ℕ, _+_}
-use Rattle.line.specs.Numbers.{reply-decode-failure}
+use lib.Count.{ones}
+use lib.ListN.{length}
+use Rattle.line.specs.Numbers.{status-length, reply-decode-failure, reply-status}
 use Rattle.line.specs.Message.{Message}
 use Rattle.requester.specs.State.{Request}
-use Rattle.requester.specs.Requester.{replySequence, staysOut}
+use Rattle.requester.specs.Requester.{replySequence, staysOut, messageStatus, messageOptions}
 use Rattle.requester.specs.Layout
 use Rattle.requester.specs.Calls
 use Rattle.requester.specs.Calls.{MainParts, HandedReport}
@@ -21,12 +23,27 @@ pub record Matching (n version sequence command : ℕ) : Type 0 where
   pub reply : sequence ≡ replySequence n
   pub no-failure : command ≡ reply-decode-failure → ⊥
 
--- a property of the message that is handed out to the caller, or as a recovery's alert: its version, sequence and command, and the data
+-- the message of a status: 0x06 with 16 bytes, which are the status and the options, and so many bits of the status are set
+pub record StatusMessage (m : Message) (s o n : ℕ) : Type 0 where
+  pub command : m .command ≡ reply-status
+  pub size : length (m .payload) ≡ status-length
+  pub status : messageStatus m ≡ s
+  pub options : messageOptions m ≡ o
+  pub set-bits : ones s ≡ n
+
+-- a status comes from such a message, which has the property
+pub record StatusFrom (P : Message → Type 0) (s o n : ℕ) : Type 0 where
+  pub from : Message
+  pub shape : StatusMessage from s o n
+  pub holds : P from
+
+-- A property of the message that is handed out: to the caller or as a recovery's alert, by its version, sequence, command and data;
+-- of a status, the message that it comes from.
 abbrev pub OfReport : (Message → Type 0) → HandedReport → List ℕ → Type 0
 OfReport P (HandedReport.refused k) d = Unit {0}
 OfReport P Calls.nothing d = Unit {0}
 OfReport P (Calls.answered v q c k) d = P (record { version = v; sequence = q; command = c; payload = d })
-OfReport P (Calls.status s o k) d = Unit {0}
+OfReport P (Calls.status s o k) d = StatusFrom P s o k
 OfReport P (Calls.alerted v q c k) d = P (record { version = v; sequence = q; command = c; payload = d })
 
 -- of that message and of how many bytes the call read

@@ -13,7 +13,7 @@ use Rattle.requester.specs.Calls.{MainParts}
 use Rattle.requester_claims.specs.View.{mainView}
 use Rattle.requester_claims.specs.Histories
 use Rattle.requester_claims.specs.Histories.{MainCall, MainLent, MainMade, mainMade, mainLeft, OfMainStart, OfValid}
-use Rattle.requester_claims.specs.Answers.{OfAnswer}
+use Rattle.requester_claims.specs.Answers.{OfAnswer, MessageMatching}
 
 -- the last byte that a call read of a piece is a 00; bs is what had come of its frame before the piece
 pub record ReadTo00 (piece : List ℕ) (bs : Option (List ℕ)) (used : ℕ) : Type 0 where
@@ -35,11 +35,11 @@ pub record InFrame (piece : List ℕ) (bs : Option (List ℕ)) (used : ℕ) (m :
   pub ended : ReadTo00 piece bs used
   pub framed : (ended .since ++ take (ended .ahead) piece) ++ 0 ∷ [] ≡ frame m
 
--- of the message that a receive hands out
+-- of the message that a receive hands out, or that a status comes from: it is an answer under the newest number
 abbrev pub MainReceives : (List ℕ → Option (List ℕ) → ℕ → Message → Type 0) → MainParts → MainLent → List ℕ → Type 0
 MainReceives P p l piece =
     let d = mainMade p (record { lent = l; call = Histories.receive piece }) in
-    OfAnswer (P piece (mainView p .received)) (d .answer) (d .out)
+    OfAnswer (λ used m. P piece (mainView p .received) used m × MessageMatching (mainView p .newest) m) (d .answer) (d .out)
 
 -- a piece of the received stream is made of bytes
 abbrev pub PieceTyped : MainCall → Type 0
@@ -60,8 +60,9 @@ AnswerFrame p = (ms : List MainMade) → AllPiecesTyped ms → (l : MainLent) (p
     → MainReceives InFrame (mainLeft p ms) l piece
 
 pub record MainItem6 : Type 0 where
-  -- Where a receive on valid parts hands out an answer or an alert's answer, the last byte that it read is a 00.
-  -- The message is what the line layer's tests find in the bytes since the 00 before.
+  -- Where a receive on valid parts hands out an answer, an alert's answer or a status, the last byte that it read is a 00.
+  -- The message is what the line layer's tests find in the bytes since the 00 before, and an answer under the newest number.
+  -- A status is of a message 0x06 with 16 bytes: these two numbers.
   pub answer-bytes : OfValid AnswerBytes
-  -- from a start on, behind any calls whose pieces are bytes, these bytes and the 00 are exactly the frame of the message handed out
+  -- from a start on, behind any calls whose pieces are bytes, these bytes and the 00 are exactly the frame of that message
   pub answer-frame : OfMainStart AnswerFrame

@@ -29,7 +29,7 @@ use Rattle.requester_claims.specs.Histories as Main
 use Rattle.requester_claims.specs.Histories.{mainMeant, mainMeantMade, mainEnough, MainAnswer, MainCall, MainMade, MainMeans, mainDoneMeans}
 use Rattle.requester_claims.specs.Histories.{mainMeans, mainUntouched}
 use Rattle.requester_claims.specs.Answers.{Matching}
-use Rattle.requester_claims.proofs.Answers.{heard-matches}
+use Rattle.requester_claims.proofs.AnswerBytes.{heard-matches}
 use Rattle.requester_claims.proofs.AnswerFrame.{request-keeps, interrupt-keeps, send-keeps, put-keeps}
 use Rattle.requester_claims.specs.Numbers.{Frame, isStart}
 use Rattle.requester_claims.proofs.Numbers.{framesOf, Goes, Agrees, agrees-goes, put-goes, joined, call-goes}
