@@ -28,13 +28,14 @@ use Rattle.supervisor_claims.proofs.laws.Progress.{Since}
 use Rattle.supervisor_claims.proofs.claims.AlertClaim.{local-keeps}
 use Rattle.supervisor_claims.proofs.claims.FramesClaim.{made-carried, by-frames}
 use Rattle.supervisor_claims.proofs.claims.History as SupervisorHistory
+use Rattle.requester_claims.specs.CameAs.{restarts}
 use Rattle.both_claims.specs.Ends
 use Rattle.both_claims.specs.Ends.{Any, Handled, Log, CarriedOut, Fresh, AlertTaken, AlertNotRetained, CallOf, retainedUnder}
 use Rattle.both_claims.specs.Ends.{replyMessage}
 use Rattle.both_claims.specs.Ends.{asMessage}
 use Rattle.both_claims.specs.Ends.{MainGoesOn, AlertAgainst, endsAfterAll, handledBy, originBy, Wire}
 use Rattle.both_claims.specs.Ends.{EndCallTyped, endsAfter, BothStarts, endsBegun, Begun, mainLogged, supervisorLogged, brought}
-use Rattle.both_claims.specs.Ends.{clearedBy, imageLent, restarts}
+use Rattle.both_claims.specs.Ends.{clearedBy, imageLent}
 use Rattle.both_claims.proofs.laws.Lists.{Front, none-some, any-or, each-then, each-any}
 use Rattle.both_claims.proofs.laws.Kept.{Known, Kept, not-asked-by}
 use Rattle.both_claims.proofs.laws.ThatRequest.{answered}

@@ -40,9 +40,10 @@ use Rattle.supervisor_claims.proofs.claims.FramesClaim.{made-carried, by-frames
 use Rattle.supervisor_claims.proofs.claims.LastSetLaws.{afterSets, after-append, after-sets, onto, onto-low, entry-held, requests-append}
 use Rattle.supervisor_claims.proofs.claims.LastSetLaws.{frames-have, Holds, fresh-holds, made-holds, since-keeps, in-low, read-low}
 use Rattle.supervisor_claims.proofs.claims.History as SupervisorHistory
+use Rattle.requester_claims.specs.CameAs.{restarts}
 use Rattle.both_claims.specs.Ends
 use Rattle.both_claims.specs.Ends.{Any, Handled, Log, CarriedOut, Fresh, replyMessage, asMessage, drops, originBy, handledBy}
-use Rattle.both_claims.specs.Ends.{imageLent, brought, supervisorLogged, mainLogged, restarts}
+use Rattle.both_claims.specs.Ends.{imageLent, brought, supervisorLogged, mainLogged}
 use Rattle.both_claims.specs.Ends.{endsAfterAll, handledFrames, isRestore, acceptsRestore, Stays, CallStays, NotAsked, ValueSince}
 use Rattle.both_claims.specs.Ends.{ValueAgainst}
 use Rattle.both_claims.specs.Ends.{EndCallTyped, endsAfter, BothStarts, endsBegun, Begun, Always, Wire, WireAfter, CallOf}

@@ -30,8 +30,9 @@ use Rattle.supervisor_claims.proofs.claims.InOrder.{judged-is}
 use Rattle.supervisor_claims.proofs.laws.Progress.{Since}
 use Rattle.supervisor_claims.proofs.claims.FramesClaim.{made-carried, by-frames}
 use Rattle.supervisor_claims.proofs.claims.History as SupervisorHistory
+use Rattle.requester_claims.specs.CameAs.{restarts}
 use Rattle.both_claims.specs.Ends
-use Rattle.both_claims.specs.Ends.{EndCallTyped, endsAfter, BothStarts, endsBegun, Always, restarts, mainLogged, imageLent}
+use Rattle.both_claims.specs.Ends.{EndCallTyped, endsAfter, BothStarts, endsBegun, Always, mainLogged, imageLent}
 use Rattle.both_claims.specs.Ends.{stillPending, takenBy, brought, supervisorLogged}
 use Rattle.both_claims.specs.Ends.{Log, replyMessage, replyMade, originBy, handledBy, newestReply, drops}
 use Rattle.both_claims.proofs.laws.Table.{frame-some}

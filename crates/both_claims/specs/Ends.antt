@@ -8,7 +8,7 @@ use mathlib.Core.Option.{Option, none, some}
 use Prim.Native.Nat.{ℕ, _<_}
 use lib.Count.{ones}
 use lib.Dec.{eqb}
-use lib.ListN.{length, take}
+use lib.ListN.{length}
 use Rattle.octets.specs.Bytes.{Each, Byte, bytes}
 use Rattle.line.specs.Numbers.{status-length, first-version, command-reboot, command-power-off, command-alert, command-key-lookup}
 use Rattle.line.specs.Numbers.{reply-status, reply-key-lookup}
@@ -24,7 +24,8 @@ use Rattle.requester.specs.Calls as MainCalls
 use Rattle.requester_claims.specs.View.{mainView}
 use Rattle.requester_claims.specs.Histories.{MainAnswer, MainCall, MainLent, MainMade, mainMade}
 use Rattle.requester_claims.specs.Histories as Main
-use Rattle.requester_claims.specs.Numbers.{Frame, framesPutOut, isStart}
+use Rattle.requester_claims.specs.Numbers.{Frame, framesPutOut}
+use Rattle.requester_claims.specs.CameAs.{bytesReadBy, restarts}
 use Rattle.supervisor.specs.State.{Retained, State}
 use Rattle.supervisor.specs.Local.{entryOf}
 use Rattle.supervisor.specs.Calls as SupervisorCalls
@@ -132,27 +133,6 @@ abbrev pub got : Log → List Message
 got l = goodMessages (nonEmpty (split (l .read) .closed))
 
 -- ---- A call of the main processor's end
-
--- the bytes that it reads, by its answer
-abbrev usedBy : List ℕ → MainAnswer → List ℕ
-usedBy piece (Main.refused n) = []
-usedBy piece Main.done = []
-usedBy piece (Main.put n) = []
-usedBy piece (Main.received used t e u) = take used piece
-
-abbrev pub bytesReadBy : MainCall → MainAnswer → List ℕ
-bytesReadBy Main.start a = []
-bytesReadBy (Main.request command d room) a = []
-bytesReadBy Main.interrupt a = []
-bytesReadBy (Main.send room) a = []
-bytesReadBy (Main.receive piece) a = usedBy piece a
-
--- whether it is a start that was accepted
-abbrev pub restarts : MainCall → MainAnswer → Bool
-restarts c (Main.refused n) = false
-restarts c Main.done = isStart c
-restarts c (Main.put n) = false
-restarts c (Main.received used t e u) = false
 
 -- by its answer, what it wrote outside the state, and the newest number that it left
 unfoldable pub mainLogged : Log → MainCall → MainAnswer → List ℕ → ℕ → Log

@@ -14,7 +14,8 @@ use Rattle.responder.specs.Requests.{owed}
 use Rattle.supervisor_claims.specs.View.{view}
 use Rattle.supervisor_claims.specs.Histories as Supervisor
 use Rattle.supervisor_claims.specs.Replies.{takenBytes}
-use Rattle.both_claims.specs.Ends.{Ends, EndCall, main, supervisor, endsAfter, restarts}
+use Rattle.requester_claims.specs.CameAs.{restarts}
+use Rattle.both_claims.specs.Ends.{Ends, EndCall, main, supervisor, endsAfter}
 
 -- a call that takes
 abbrev pub Takes : Supervisor.Call → Type 0

@@ -12,10 +12,10 @@ use Rattle.octets.specs.Bytes.{Byte, Each}
 use Rattle.octets.proofs.Conditions.{cond-by}
 use Rattle.octets.proofs.Each.{each-append, each-take}
 use Rattle.line.specs.Limits.{longest-data, longest-form}
-use Rattle.line.specs.Message.{Message}
+use Rattle.line.specs.Message.{Message, InRange}
 use Rattle.line.specs.Judge.{judge}
 use Rattle.line.specs.Frame.{NonZero}
-use Rattle.line_claims.proofs.SpellingClaim.{good-frame}
+use Rattle.line_claims.proofs.SpellingClaim.{good-form, good-frame}
 use Rattle.line.specs.Judge.{moreReceived}
 use Rattle.requester.specs.Limits.{last-number}
 use Rattle.requester.specs.State.{Request, RecoveryStep, MainState, mainFresh, isSome, outstanding, requestFrame}
@@ -32,11 +32,11 @@ use Rattle.requester_claims.proofs.History.{history}
 use Rattle.requester_claims.specs.Histories.{mainStarted, OfMainStart}
 use Rattle.requester_claims.specs.Answers.{OfReport, OfAnswer}
 use Rattle.requester_claims.proofs.AnswerBytes.{answer-bytes}
-use Rattle.requester_claims.specs.Item6.{Comes, InFrame, PieceTyped, AllPiecesTyped, AnswerFrame}
+use Rattle.requester_claims.specs.Item6.{ReadTo00, Comes, InFrame, PieceTyped, AllPiecesTyped, AnswerFrame}
 
 -- ---- the bytes since the last 00 are not 00
 
-abbrev Since : Option (List ℕ) → Type 0
+abbrev pub Since : Option (List ℕ) → Type 0
 Since none = Unit {0}
 Since (some xs) = Each NonZero xs
 
@@ -125,7 +125,7 @@ module _ (s : MainState) where
       rw (put-keeps (Requester.sentOf (length room) (outstanding s) s) room, send-keeps (length room) (outstanding s)) w
   meant-since (Histories.receive piece) h w = receive-since piece s h w
 
-  made-since : (m : MainMade) → PieceTyped (m .call) → Since (s .received) → Since (mainMeantMade s m .state .received)
+  pub made-since : (m : MainMade) → PieceTyped (m .call) → Since (s .received) → Since (mainMeantMade s m .state .received)
   unfolding mainMeantMade
   made-since m h w =
       cond-by (λ (x : MainMeans). Since (x .state .received)) (mainEnough (m .call) (m .lent)) _ _ (λ _. meant-since (m .call) h w) (λ _. w)
@@ -135,7 +135,7 @@ unfolding mainLeftMeant
 left-since s [] h w = w
 left-since s (m ∷ ms) h w = left-since (mainMeantMade s m .state) ms (h .1) (made-since s m (h .0) w)
 
-fresh-since : Since (mainFresh .received)
+pub fresh-since : Since (mainFresh .received)
 unfolding mainFresh
 fresh-since = tt
 
@@ -146,15 +146,23 @@ both [] h k = tt
 both (b ∷ bs) h k = ((k .0, omega (arith, h .0)), both bs (h .1) (k .1))
 
 module _ (piece : List ℕ) (h : Each Byte piece) (bs : Option (List ℕ)) (w : Since bs) where
-  comes-framed : (used : ℕ) (m : Message) → Comes piece bs used m → InFrame piece bs used m
-  comes-framed used m c =
-      let x = c .ended in
-      let f : Each NonZero (x .since) = rw (x .begun) at w in
-      let g = both (take (x .ahead) piece) (each-take Byte (x .ahead) piece h) (c .whole) in
-      record {
-        ended = x;
-        framed = good-frame (x .since ++ take (x .ahead) piece) m (each-append NonZero (x .since) (take (x .ahead) piece) f g) (c .judged);
-      }
+  module _ (used : ℕ) (m : Message) (c : Comes piece bs used m) where
+    abbrev x : ReadTo00 piece bs used
+    x = c .ended
+
+    abbrev read : List ℕ
+    read = x .since ++ take (x .ahead) piece
+
+    read-nonzero : Each NonZero read
+    read-nonzero =
+        each-append NonZero (x .since) (take (x .ahead) piece) (rw (x .begun) at w)
+        (both (take (x .ahead) piece) (each-take Byte (x .ahead) piece h) (c .whole))
+
+    pub comes-framed : InFrame piece bs used m
+    comes-framed = record { ended = x; framed = good-frame read m read-nonzero (c .judged) }
+
+    pub comes-in-range : InRange m
+    comes-in-range = good-form read m read-nonzero (c .judged) .1
 
 -- a property that follows from another
 module _ (P Q : ℕ → Message → Type 0) (f : (used : ℕ) (m : Message) → P used m → Q used m) where

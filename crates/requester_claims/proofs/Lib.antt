@@ -16,4 +16,5 @@ pub mod Numbers
 pub mod Answers
 pub mod AnswerBytes
 pub mod AnswerFrame
+pub mod EqualFrames
 pub mod Proved

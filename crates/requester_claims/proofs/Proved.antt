@@ -11,6 +11,7 @@ use Rattle.requester_claims.proofs.Numbers.{one-number, one-number-star
 use Rattle.requester_claims.proofs.Answers.{answer-matches, answer-matches-started, answers-counted, one-answer-each}
 use Rattle.requester_claims.proofs.AnswerBytes.{answer-bytes}
 use Rattle.requester_claims.proofs.AnswerFrame.{answer-frame}
+use Rattle.requester_claims.proofs.EqualFrames.{came-framed, equal-frames}
 
 pub number-due : MainNumberDue
 number-due = record {
@@ -48,4 +49,9 @@ item-2 = record {
 }
 
 pub item-6 : MainItem6
-item-6 = record { answer-bytes = answer-bytes; answer-frame = answer-frame }
+item-6 = record {
+  answer-bytes = answer-bytes;
+  answer-frame = answer-frame;
+  equal-frames = equal-frames;
+  came-framed = came-framed;
+}

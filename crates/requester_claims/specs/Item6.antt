@@ -14,6 +14,7 @@ use Rattle.requester_claims.specs.View.{mainView}
 use Rattle.requester_claims.specs.Histories
 use Rattle.requester_claims.specs.Histories.{MainCall, MainLent, MainMade, mainMade, mainLeft, OfMainStart, OfValid}
 use Rattle.requester_claims.specs.Answers.{OfAnswer, MessageMatching}
+use Rattle.requester_claims.specs.CameAs.{CameAs, cameAs}
 
 -- the last byte that a call read of a piece is a 00; bs is what had come of its frame before the piece
 pub record ReadTo00 (piece : List ℕ) (bs : Option (List ℕ)) (used : ℕ) : Type 0 where
@@ -59,6 +60,17 @@ abbrev pub AnswerFrame : MainParts → Type 0
 AnswerFrame p = (ms : List MainMade) → AllPiecesTyped ms → (l : MainLent) (piece : List ℕ) → Each Byte piece
     → MainReceives InFrame (mainLeft p ms) l piece
 
+-- each message came as its frame
+abbrev pub CameFramed : MainParts → Type 0
+CameFramed p = (ms : List MainMade) → AllPiecesTyped ms → Each (λ (x : CameAs). x .bytes ≡ frame (x .message)) (cameAs p [] ms)
+
+-- equal messages came as equal frames
+abbrev pub FramesEqual : List CameAs → List CameAs → Type 0
+FramesEqual xs ys = Each (λ (x : CameAs). Each (λ (y : CameAs). x .message ≡ y .message → x .bytes ≡ y .bytes) ys) xs
+
+abbrev pub EqualFrames : MainParts → MainParts → Type 0
+EqualFrames p q = (ms ns : List MainMade) → AllPiecesTyped ms → AllPiecesTyped ns → FramesEqual (cameAs p [] ms) (cameAs q [] ns)
+
 pub record MainItem6 : Type 0 where
   -- Where a receive on valid parts hands out an answer, an alert's answer or a status, the last byte that it read is a 00.
   -- The message is what the line layer's tests find in the bytes since the 00 before, and an answer under the newest number.
@@ -66,3 +78,9 @@ pub record MainItem6 : Type 0 where
   pub answer-bytes : OfValid AnswerBytes
   -- from a start on, behind any calls whose pieces are bytes, these bytes and the 00 are exactly the frame of that message
   pub answer-frame : OfMainStart AnswerFrame
+  -- Item 6's words at this end, over any two lists of calls, each behind an accepted start and of pieces that are bytes:
+  -- equal messages handed out came as equal frames.
+  -- A status is the reply to the newest number that has its two numbers (`statusReply`), so equal numbers under the same request number.
+  pub equal-frames : OfMainStart (λ p. OfMainStart (EqualFrames p))
+  -- since over any such list each message handed out came as exactly its frame
+  pub came-framed : OfMainStart CameFramed

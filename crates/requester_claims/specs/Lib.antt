@@ -5,6 +5,7 @@ pub mod Histories
 pub mod Cuts
 pub mod Numbers
 pub mod Answers
+pub mod CameAs
 pub mod Item2
 pub mod Demand1
 pub mod Item6

@@ -23,8 +23,9 @@ use Rattle.supervisor_claims.specs.Histories as Supervisor
 use Rattle.supervisor_claims.proofs.claims.History as SupervisorHistory
 use Rattle.line.specs.Judge.{progressOf}
 use Rattle.supervisor_claims.specs.LastSet.{Origin}
+use Rattle.requester_claims.specs.CameAs.{restarts}
 use Rattle.both_claims.specs.Ends
-use Rattle.both_claims.specs.Ends.{Log, emptyLog, CallOf, restarts, supervisorLogged, BothStarts, endsBegun, Begun, together}
+use Rattle.both_claims.specs.Ends.{Log, emptyLog, CallOf, supervisorLogged, BothStarts, endsBegun, Begun, together}
 use Rattle.both_claims.specs.Ends.{MainTyped, EndCallTyped, endsAfter, Wire, endsAfterAll, Always, WireAfter, mainLogged}
 use Rattle.both_claims.proofs.laws.Ranges.{fresh-ranged}
 use Rattle.both_claims.proofs.laws.Held.{held-parts}

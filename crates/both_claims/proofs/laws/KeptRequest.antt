@@ -25,7 +25,8 @@ use Rattle.requester_claims.specs.Histories.{MainMeans, mainMeans, putMeans, ma
 use Rattle.requester_claims.specs.Histories.{MainMade}
 use Rattle.requester_claims.specs.Numbers.{framesPutOut}
 use Rattle.requester_claims.proofs.Numbers.{framesOf, framed, frames-put, some-bytes}
-use Rattle.both_claims.specs.Ends.{messageHanded, restarts, requestOf, putsRequest}
+use Rattle.requester_claims.specs.CameAs.{restarts}
+use Rattle.both_claims.specs.Ends.{messageHanded, requestOf, putsRequest}
 use Rattle.both_claims.proofs.laws.MainReads.{Came, quiet, hearing}
 
 -- ---- what is heard

@@ -22,7 +22,8 @@ use Rattle.supervisor.specs.State.{State}
 use Rattle.supervisor_claims.specs.Histories as Supervisor
 use Rattle.supervisor_claims.specs.FrameHistory as Received
 use Rattle.supervisor_claims.specs.Replies.{replyBy}
-use Rattle.both_claims.specs.Ends.{Log, Among, InOrder, bytesReadBy, restarts, mainLogged, supervisorLogged}
+use Rattle.requester_claims.specs.CameAs.{bytesReadBy, restarts}
+use Rattle.both_claims.specs.Ends.{Log, Among, InOrder, mainLogged, supervisorLogged}
 use Rattle.both_claims.specs.Ends.{replyMessage, replyMade, imageLent, handledBy, newestReply, stillPending, takenBy, brought}
 
 -- ---- frames read whole

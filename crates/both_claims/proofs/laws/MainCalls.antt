@@ -35,8 +35,9 @@ use Rattle.requester_claims.specs.Numbers.{Frame, isStart}
 use Rattle.requester_claims.proofs.Numbers.{framesOf, Goes, Agrees, agrees-goes, put-goes, joined, call-goes}
 use Rattle.line.specs.Judge.{progressOf}
 use Rattle.supervisor_claims.proofs.laws.Progress.{rest-nonzero}
+use Rattle.requester_claims.specs.CameAs.{bytesReadBy, restarts}
 use Rattle.both_claims.specs.Ends
-use Rattle.both_claims.specs.Ends.{MainTyped, Wire, FreshBy, bytesReadBy, restarts, mainLogged, Any, Handled, Log, replyMade, Fresh}
+use Rattle.both_claims.specs.Ends.{MainTyped, Wire, FreshBy, mainLogged, Any, Handled, Log, replyMade, Fresh}
 use Rattle.both_claims.specs.Ends.{FreshReport}
 use Rattle.both_claims.proofs.laws.Lists.{front-more, none-some, any-so, each-right, each-then, each-and, each-any}
 use Rattle.both_claims.proofs.laws.GoodFrames.{closed-nonzero, good-range}

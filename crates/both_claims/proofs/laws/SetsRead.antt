@@ -30,9 +30,10 @@ use Rattle.supervisor.specs.State.{State}
 use Rattle.supervisor_claims.specs.Histories as Supervisor
 use Rattle.supervisor_claims.specs.FrameHistory as Received
 use Rattle.supervisor_claims.specs.LastSet.{Origin}
+use Rattle.requester_claims.specs.CameAs.{restarts}
 use Rattle.both_claims.specs.Ends
 use Rattle.both_claims.specs.Ends.{Any, Handled, Log, CarriedOut, Fresh, MainTyped, EndCallTyped, Wire, endsAfter, messageHanded}
-use Rattle.both_claims.specs.Ends.{restarts, requestOf, putsRequest, asMessage}
+use Rattle.both_claims.specs.Ends.{requestOf, putsRequest, asMessage}
 use Rattle.both_claims.specs.Ends.{imageLent, originBy, handledBy, drops, brought, mainLogged, supervisorLogged, Begun, together}
 use Rattle.both_claims.specs.Ends.{endsAfterAll, Always, WireAfter, GoesOn, NoRequest}
 use Rattle.both_claims.proofs.FreshAnswer.{answer-fresh}
