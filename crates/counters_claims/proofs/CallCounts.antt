@@ -37,7 +37,7 @@ use Rattle.line.proofs.Judged.{tail-within, more-tail}
 use Rattle.supervisor_claims.proofs.claims.FramesClaim.{closed-ends}
 use Rattle.supervisor_claims.proofs.calls.RowLaws.{WhereRefused}
 use Rattle.supervisor_claims.proofs.claims.LentCalls.{valid-parts, made-12, widened-enough}
-use Rattle.counters_claims.specs.CountHistory.{didCounted, madeCounted, endedAll}
+use Rattle.counters_claims.specs.CountHistory.{didCounted, madeCounted, IsRefusal, endedAll}
 use Rattle.counters_claims.proofs.FrameLaws.{closed-none}
 
 -- ---- the frames of a piece
@@ -116,6 +116,33 @@ module _ (image piece : List ℕ) (l : Lent) (p : Parts) where
           (ap (λ (x : Did). x .answer) (made-12 p (record { lent = l; call = Histories.step image piece }) e)))
       by false v = refl
 
+-- ---- a call that is refused counts nothing
+
+none-refused : (n : ℕ) (c : Counters) → bumpedFor c (Receive.Ended.refused n) ≡ c
+unfolding bumpedFor
+none-refused n c = refl
+
+module _ (c : Counters) (p : Parts) (l : Lent) where
+  abbrev Unchanged : Call → Type 0
+  Unchanged k = IsRefusal (made p (record { lent = l; call = k }) .answer) → madeCounted c p (record { lent = l; call = k }) .block ≡ c
+
+  receive-unchanged : (image piece : List ℕ) (t : Bool) → Receive.validParts (lentOf l p) ≡ t → Unchanged (Histories.receive image piece)
+  unfolding made did madeCounted didCounted Receive.receivePromise countPromise
+  receive-unchanged image piece true v h = absurd (rw v at h)
+  receive-unchanged image piece false v h = rw v refl
+
+  step-unchanged : (image piece : List ℕ) (t : Bool) → Receive.validParts (lentOf l p) ≡ t → Unchanged (Histories.step image piece)
+  unfolding made did madeCounted didCounted Receive.stepPromise
+  step-unchanged image piece true v h = absurd (rw (v, valid-step-stepped image (lentOf l p) piece) at h)
+  step-unchanged image piece false v h = rw v (none-refused 12 c)
+
+  pub refused-counts : (k : Call) → Unchanged k
+  unfolding madeCounted didCounted
+  refused-counts (Histories.start d) h = refl
+  refused-counts (Histories.receive image piece) h = receive-unchanged image piece _ refl h
+  refused-counts (Histories.step image piece) h = step-unchanged image piece _ refl h
+  refused-counts (Histories.local k) h = refl
+
 -- ---- one call
 
 -- sound parts that hold what stands behind the last 00 of the bytes w
@@ -128,10 +155,6 @@ module _ (w : List ℕ) (p : Parts) (s : Sound p) (h : Since (split w .rest) (vi
       rw (closed-rest w bs, endings-frames bs (lentOf l p .reader) (split w .rest) (v .1) (v .2 ∙ h .received) (h .nonzero))
 
   -- nothing is read
-  refused-none : (n : ℕ) → bumpedFor c (Receive.Ended.refused n) ≡ c
-  unfolding bumpedFor
-  refused-none n = refl
-
   none-counts : (t : Bool) → c ≡ bumpedForAll c (endedAll (closedBehind w (cond t [] [])))
   unfolding bumpedForAll endedAll
   none-counts true = rw (closed-none w)
@@ -154,7 +177,7 @@ module _ (w : List ℕ) (p : Parts) (s : Sound p) (h : Since (split w .rest) (vi
   step-counts image piece l true e =
       let k = widened-enough l p (valid-long {p = p} (s .valid)) (Histories.step image piece) e in
       rw (e, lent-enough l p s k .0) (step-endings piece (lentOf l p .reader) c ∙ read-counts l (ListN.take (upTo piece) piece) k)
-  step-counts image piece l false e = rw (e, step-refused image piece l p e) (refused-none 12 ∙ none-counts true)
+  step-counts image piece l false e = rw (e, step-refused image piece l p e) (none-refused 12 c ∙ none-counts true)
 
   any-counts : (l : Lent) (k : Call) → Counts l k
   unfolding didCounted pieceRead

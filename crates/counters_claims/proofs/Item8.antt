@@ -12,20 +12,20 @@ use Rattle.counters.specs.declared.Counters.{Counters}
 use Rattle.counters.specs.Count.{endedByFrame, clearedCounters, bumpedForAll}
 use Rattle.supervisor_claims.specs.View.{factoryOf, view}
 use Rattle.supervisor_claims.specs.Histories
-use Rattle.supervisor_claims.specs.Histories.{Call, Did, Made, made, outputs, left, AllTyped, OfStart}
+use Rattle.supervisor_claims.specs.Histories.{Call, Answer, Did, Made, made, outputs, left, AllTyped, startWith, OfStart}
 use Rattle.supervisor_claims.specs.FrameHistory.{receivedSince, receivedSinceAll}
 use Rattle.supervisor_claims.specs.Sound.{Sound}
 use Rattle.supervisor_claims.proofs.laws.Progress.{Since}
-use Rattle.supervisor_claims.proofs.claims.History.{one-call, history}
+use Rattle.supervisor_claims.proofs.claims.History.{one-call, history, refused-made, fault-made}
 use Rattle.supervisor_claims.proofs.claims.InOrder.{verdict-over}
 use Rattle.supervisor_claims.proofs.claims.FramesClaim.{made-carried, by-frames}
 use Rattle.counters_claims.specs.CountHistory.{didCounted, madeCounted, Lending, didLending, outputsLending, leftLending, unlent}
 use Rattle.counters_claims.specs.CountHistory.{CountEvent, plain, counted, clear, Held, afterEvent, afterEvents, callsOfEvents}
-use Rattle.counters_claims.specs.CountHistory.{allCounted, endedAll}
+use Rattle.counters_claims.specs.CountHistory.{allCounted, IsRefusal, RefusedEvent, AllRefusedEvents, endedAll}
 use Rattle.counters_claims.specs.Item8.{CountersCount, CountersFromStart, OverlongOnce, BlocksAlone}
 use Rattle.counters_claims.proofs.FrameLaws.{ended-append, closedSince, frames-since}
 use Rattle.counters_claims.proofs.TallyLaws.{bumped-tally, bumped-append}
-use Rattle.counters_claims.proofs.CallCounts.{call-counts}
+use Rattle.counters_claims.proofs.CallCounts.{refused-counts, call-counts}
 
 -- ---- replies and state do not depend on a block
 
@@ -109,9 +109,47 @@ counters-count p b l d typed e block before t ms u =
     (parts-so before (record { parts = q; block = block }))
     ∙ (y ∙ rw (frames-since w ms) (bumped-tally (endedAll (closedSince w ms)))))
 
+-- ---- calls that are refused
+
+refusal-keeps : (p : Parts) (m : Made) → IsRefusal (made p m .answer) → made p m .parts ≡ p
+refusal-keeps p m h = by (made p m .answer) refl h
+  where
+    by : (a : Answer) → made p m .answer ≡ a → IsRefusal a → made p m .parts ≡ p
+    by (Histories.refused n) e k = refused-made p m n e .0
+    by Histories.done e k = absurd k
+    by (Histories.stepped used ended) e k = absurd k
+    by (Histories.moved n) e k = absurd k
+    by (Histories.found result n) e k = absurd k
+    by (Histories.foundEdition result n) e k = absurd k
+    by (Histories.asserted b) e k = absurd k
+    by (Histories.asked reboot off) e k = absurd k
+    by (Histories.recorded r) e k = absurd k
+    by (Histories.written n) e k = absurd k
+    by (Histories.faulty n at) e k = fault-made p m n at e .0
+
+abbrev cleared : Parts → Held
+cleared p = record { parts = p; block = clearedCounters }
+
+refused-event : (p : Parts) (e : CountEvent) → RefusedEvent (cleared p) e → afterEvent (cleared p) e ≡ cleared p
+unfolding afterEvent
+refused-event p (plain m) h = rw (refusal-keeps p m h)
+refused-event p (counted m) h =
+    after-counted (cleared p) m ∙ rw (refusal-keeps p m h, refused-counts clearedCounters p (m .lent) (m .call) h)
+refused-event p clear h = refl
+
+refused-events : (p : Parts) (es : List CountEvent) → AllRefusedEvents (cleared p) es → afterEvents (cleared p) es ≡ cleared p
+unfolding afterEvents
+refused-events p [] h = refl
+refused-events p (e ∷ es) h =
+    let k = refused-event p e (h .0) in
+    let g : AllRefusedEvents (cleared p) es = rw k at (h .1) in
+    rw k (refused-events p es g)
+
 pub counters-from-start : OfStart CountersFromStart
 unfolding afterEvents afterEvent callsOfEvents receivedSinceAll
-counters-from-start p b l d typed e block ms u = counters-count p b l d typed e block [] tt ms u
+counters-from-start p b l d typed e block between r ms u =
+    let x = after-append between (plain (startWith l d) ∷ allCounted ms) (cleared p) in
+    ap (λ (z : Held). z .block) x ∙ rw (refused-events p between r) (counters-count p b l d typed e block [] tt ms u)
 
 pub overlong-once : OverlongOnce
 unfolding endedByFrame

@@ -12,7 +12,7 @@ use Rattle.counters.specs.declared.Counters.{Counters}
 use Rattle.counters.specs.Count.{endedByFrame, clearedCounters, bumpedFor}
 use Rattle.counters.specs.Counting.{countPromise}
 use Rattle.supervisor_claims.specs.Histories
-use Rattle.supervisor_claims.specs.Histories.{Call, Did, didBy, refusal, stepAnswer, did, lentOf, givenBack, Made, made, Output}
+use Rattle.supervisor_claims.specs.Histories.{Call, Answer, Did, didBy, refusal, stepAnswer, did, lentOf, givenBack, Made, made, Output}
 use Rattle.supervisor_claims.specs.FrameHistory.{bytesReceivedBy, startsAnew}
 
 -- ---- A call that is lent a block
@@ -105,6 +105,33 @@ callsOfEvents (clear ∷ es) = callsOfEvents es
 unfoldable pub allCounted : List Made → List CountEvent
 allCounted [] = []
 allCounted (m ∷ ms) = counted m ∷ allCounted ms
+
+-- ---- Calls that are refused
+
+-- the table's number, or a fault of an image with its offset
+abbrev pub IsRefusal : Answer → Type 0
+IsRefusal (Histories.refused n) = Unit {0}
+IsRefusal Histories.done = ⊥
+IsRefusal (Histories.stepped used ended) = ⊥
+IsRefusal (Histories.moved n) = ⊥
+IsRefusal (Histories.found result n) = ⊥
+IsRefusal (Histories.foundEdition result n) = ⊥
+IsRefusal (Histories.asserted b) = ⊥
+IsRefusal (Histories.asked reboot off) = ⊥
+IsRefusal (Histories.recorded r) = ⊥
+IsRefusal (Histories.written n) = ⊥
+IsRefusal (Histories.faulty n at) = Unit {0}
+
+-- a call that is refused, lent the block or not, or another clear of it
+abbrev pub RefusedEvent : Held → CountEvent → Type 0
+RefusedEvent h (plain m) = IsRefusal (made (h .parts) m .answer)
+RefusedEvent h (counted m) = IsRefusal (made (h .parts) m .answer)
+RefusedEvent h clear = Unit {0}
+
+-- one after the other, each on what those before it left
+abbrev pub AllRefusedEvents : Held → List CountEvent → Type 0
+AllRefusedEvents h [] = Unit {0}
+AllRefusedEvents h (e ∷ es) = RefusedEvent h e × AllRefusedEvents (afterEvent h e) es
 
 -- ---- The frames
 

@@ -9,12 +9,12 @@ use Rattle.line.specs.Limits.{longest-form}
 use Rattle.supervisor.specs.Calls.{Parts}
 use Rattle.responder.specs.Receive.{Ended}
 use Rattle.counters.specs.declared.Counters.{Counters}
-use Rattle.counters.specs.Count.{endedByFrame, isGood, isEmpty, isReason, howMany, tallyOf}
+use Rattle.counters.specs.Count.{endedByFrame, clearedCounters, isGood, isEmpty, isReason, howMany, tallyOf}
 use Rattle.supervisor_claims.specs.Histories.{Lent, Made, made, AllTyped, startWith, OfStart}
 use Rattle.supervisor_claims.specs.FrameHistory.{receivedSinceAll}
 use Rattle.counters_claims.specs.CountHistory.{Lending, outputsLending, leftLending, unlent}
 use Rattle.counters_claims.specs.CountHistory.{CountEvent, plain, clear, afterEvents, callsOfEvents, allCounted, framesSince}
-use Rattle.counters_claims.specs.CountHistory.{endedAll}
+use Rattle.counters_claims.specs.CountHistory.{AllRefusedEvents, endedAll}
 
 -- a number for each of the nine kinds of frames that a block counts, all together
 abbrev pub nine : ((Ended → Bool) → ℕ) → ℕ
@@ -28,8 +28,10 @@ CountersCount p l d = (block : Counters) (before : List CountEvent) → AllTyped
     ≡ tallyOf (endedAll (framesSince (receivedSinceAll [] (callsOfEvents before)) ms))
 
 abbrev pub CountersFromStart : Parts → Lent → List ℕ → Type 0
-CountersFromStart p l d = (block : Counters) (ms : List Made) → AllTyped ms
-    → afterEvents (record { parts = p; block = block }) (clear ∷ plain (startWith l d) ∷ allCounted ms) .block
+CountersFromStart p l d =
+    (block : Counters) (between : List CountEvent) → AllRefusedEvents (record { parts = p; block = clearedCounters }) between
+    → (ms : List Made) → AllTyped ms
+    → afterEvents (record { parts = p; block = block }) (clear ∷ (between ++ plain (startWith l d) ∷ allCounted ms)) .block
     ≡ tallyOf (endedAll (framesSince [] ms))
 
 abbrev pub OverlongOnce : Type 0
@@ -48,7 +50,8 @@ pub record CountersItem8 : Type 0 where
   -- Each counter is the number of such frames whose 00 was received since that clear, or 4,294,967,295 where that is more (`tallyOf`).
   -- What had come of a frame before the clear counts with it; what a start drops does not (`framesSince`).
   pub counters-count : OfStart CountersCount
-  -- the same where the block is cleared ahead of that start
+  -- The same where the block is cleared ahead of that start, with any calls between that are refused, lent the block or not.
+  -- They change nothing and count nothing.
   pub counters-from-start : OfStart CountersFromStart
   -- a frame of more bytes than a form has counts as reason 1
   pub overlong-once : OverlongOnce
