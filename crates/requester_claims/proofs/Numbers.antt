@@ -26,13 +26,15 @@ use Rattle.requester.specs.Calls.{MainParts, MainPartsValid}
 use Rattle.requester_claims.specs.View.{mainView}
 use Rattle.requester_claims.specs.Histories
 use Rattle.requester_claims.specs.Histories.{MainCall, refused, put, received, MainMeans, mainMeans, putMeans, mainDoneMeans}
-use Rattle.requester_claims.specs.Histories.{mainMeant, MainMade, mainMade, mainMeantMade, mainEnough}
+use Rattle.requester_claims.specs.Histories.{mainMeant, MainLent, MainMade, mainMade, mainMeantMade, mainEnough}
 use Rattle.requester_claims.proofs.MeaningLaws.{quiet-byte}
+use Rattle.requester.proofs.ValidLaws.{requester-valid}
+use Rattle.requester_claims.proofs.CallClaims.{outstanding-some}
 use Rattle.requester_claims.proofs.History.{one-call, history}
 use Rattle.requester_claims.specs.Histories.{OfReached, OfValid}
-use Rattle.requester_claims.specs.Item2.{OneNumber}
+use Rattle.requester_claims.specs.Item2.{OneNumber, NumbersInRange}
 use Rattle.requester_claims.specs.Numbers.{Frame, framesPutOut, frames, isStart, NoMainStart, Between, OnePerNumber, OneAbove}
-use Rattle.requester_claims.specs.Numbers.{RequestFrame}
+use Rattle.requester_claims.specs.Numbers.{RequestFrame, InNumbers}
 
 -- ---- one call
 
@@ -304,3 +306,46 @@ one-number p v ms h =
 
 pub one-number-started : OfReached OneNumber
 one-number-started p l h before = one-number _ (history p l h before .2)
+
+-- ---- sequences run from 1 to the last
+
+goes-in : {s t : MainState} {fs : List Frame} → (isSome (outstanding s) ≡ true → 1 ≤ s .newest) → s .newest ≤ last-number
+    → t .newest ≤ last-number → Goes s t fs → Each InNumbers fs
+goes-in o a b (stays e k (inl h)) = rw h tt
+goes-in o a b (stays e k (inr (q, w, h))) = rw h ((o (rw w refl), a), tt)
+goes-in o a b (takes e (inl h)) = rw h tt
+goes-in o a b (takes e (inr (q, w, h))) = rw h ((omega (arith, e), b), tt)
+
+start-none : (s : MainState) (l : MainLent) (c : MainCall) → isStart c ≡ true
+    → framesOf (mainMeantMade s (record { lent = l; call = c })) ≡ []
+unfolding mainMeantMade mainMeant framesPutOut
+start-none s l Histories.start e =
+    cond-by (λ (x : MainMeans). framesOf x ≡ []) (mainEnough Histories.start l) _ _ (λ _. refl) (λ _. refl)
+start-none s l (Histories.request command d room) e = absurd (false≢true e)
+start-none s l Histories.interrupt e = absurd (false≢true e)
+start-none s l (Histories.send room) e = absurd (false≢true e)
+start-none s l (Histories.receive piece) e = absurd (false≢true e)
+
+module _ (p : MainParts) (v : MainPartsValid p) where
+  newest-numbered : isSome (outstanding (mainView p)) ≡ true → 1 ≤ mainView p .newest
+  unfolding mainView
+  newest-numbered e = requester-valid (p .requester) (v .requester) .numbered (sym (outstanding-some (p .requester)) ∙ e)
+
+  call-in : (m : MainMade) → Each InNumbers (framesOf (mainMeantMade (mainView p) m))
+  call-in m = by (isStart (m .call)) refl
+    where
+      by : (t : Bool) → isStart (m .call) ≡ t → Each InNumbers (framesOf (mainMeantMade (mainView p) m))
+      by true f = rw (start-none (mainView p) (m .lent) (m .call) f) tt
+      by false f =
+          goes-in newest-numbered (rw (newest-is p) at (requester-valid (p .requester) (v .requester) .number))
+          (rw (newest-after p v m) at (requester-valid _ (one-call p m v .valid .requester) .number))
+          (call-goes (mainView p) m (λ e. absurd (false≢true (sym f ∙ e))))
+
+pub numbers-in-range : OfValid NumbersInRange
+unfolding frames
+numbers-in-range p v [] = tt
+numbers-in-range p v (m ∷ ms) =
+    let k = one-call p m v in
+    let d = mainMade p m in
+    each-append InNumbers (framesPutOut (d .answer) (d .out) (Layout.newestNumber (d .parts .requester))) (frames (d .parts) ms)
+    (rw (k .answer, k .out, newest-after p v m) (call-in p v m)) (numbers-in-range (d .parts) (k .valid) ms)

@@ -7,7 +7,7 @@ use Rattle.requester_claims.proofs.LentCalls.{too-little, whole}
 use Rattle.requester_claims.proofs.History.{call-as-meant, history, no-12, refused-holds, refused-made}
 use Rattle.requester_claims.proofs.TableNumber.{main-refused-exactly, main-start-accepted}
 use Rattle.requester_claims.proofs.Cuts.{cut, cut-between, cut-between-started}
-use Rattle.requester_claims.proofs.Numbers.{one-number, one-number-started}
+use Rattle.requester_claims.proofs.Numbers.{one-number, one-number-started, numbers-in-range}
 use Rattle.requester_claims.proofs.Answers.{answer-matches, answer-matches-started, answers-counted, one-answer-each}
 use Rattle.requester_claims.proofs.AnswerBytes.{answer-bytes}
 use Rattle.requester_claims.proofs.AnswerFrame.{answer-frame}
@@ -42,6 +42,7 @@ item-2 = record {
   cut-between-started = cut-between-started;
   one-number = one-number;
   one-number-started = one-number-started;
+  numbers-in-range = numbers-in-range;
   answer-matches = answer-matches;
   answer-matches-started = answer-matches-started;
   answers-counted = answers-counted;

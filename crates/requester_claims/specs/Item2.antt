@@ -23,7 +23,7 @@ use Rattle.requester_claims.specs.Histories.{mainUntouched, mainMade}
 use Rattle.requester_claims.specs.Histories.{mainOutputs, mainLeft, mainOutputsMeant, mainLeftMeant}
 use Rattle.requester_claims.specs.Histories.{MainLengths, Accepted, mainStarted, OfMainStart, OfReached, OfValid}
 use Rattle.requester_claims.specs.Cuts.{MainRead, listening, afterMainReads, Stretch, stretchOutputs, leftByStretches, SameBytes}
-use Rattle.requester_claims.specs.Numbers.{frames, Between, OnePerNumber, OneAbove, RequestFrame}
+use Rattle.requester_claims.specs.Numbers.{frames, Between, OnePerNumber, OneAbove, RequestFrame, InNumbers}
 use Rattle.requester_claims.specs.Answers.{AllMatch, answersCounted, requestsCounted, keptNumber}
 
 -- calls on q do what document 02 has of the same calls on the state s, and leave valid parts, as long as p's
@@ -97,6 +97,9 @@ CutBetween p = (ss ts : List Stretch) → SameBytes p ss ts
 abbrev pub OneNumber : MainParts → Type 0
 OneNumber p = (ms : List MainMade) → Between ms → OnePerNumber (frames p ms) × Each RequestFrame (frames p ms) × OneAbove p ms
 
+abbrev pub NumbersInRange : MainParts → Type 0
+NumbersInRange p = (ms : List MainMade) → Each InNumbers (frames p ms)
+
 abbrev pub AnswerMatches : MainParts → Type 0
 AnswerMatches p = (ms : List MainMade) → AllMatch p ms
 
@@ -140,6 +143,8 @@ pub record MainItem2 : Type 0 where
   pub one-number : OfValid OneNumber
   -- so behind a start and any calls
   pub one-number-started : OfReached OneNumber
+  -- sequences run from 1 to 0x7ffffffffffffffe: every frame that calls on valid parts put out has such a number
+  pub numbers-in-range : OfValid NumbersInRange
   -- An answer, or an alert's answer, that is handed out has version 1 and a command other than 0x02.
   -- Its sequence is the reply sequence of the newest number.
   -- A status comes from such a message: 0x06 with 16 bytes, these two numbers.

@@ -7,6 +7,7 @@ use mathlib.Core.Logic.{_⊎_}
 use Prim.Native.Nat.{ℕ, zero, suc, _≤_}
 use lib.ListN.{take}
 use Rattle.octets.specs.Bytes.{Each}
+use Rattle.requester.specs.Limits.{last-number}
 use Rattle.requester.specs.State.{Request, requestFrame}
 use Rattle.requester.specs.Layout
 use Rattle.requester.specs.Calls.{MainParts}
@@ -63,3 +64,7 @@ OneAbove p (m ∷ ms) =
 -- each of the frames is a request's, under its number
 abbrev pub RequestFrame : Frame → Type 0
 RequestFrame x = (q : Request) × (x .bytes ≡ requestFrame (x .number) q)
+
+-- its number is one that sequences run through: from 1 to the last
+abbrev pub InNumbers : Frame → Type 0
+InNumbers x = (1 ≤ x .number) × (x .number ≤ last-number)
