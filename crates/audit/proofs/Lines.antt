@@ -12,8 +12,7 @@ use Rattle.octets.specs.Bytes.{run, overlay, copied}
 use Rattle.octets.proofs.Overlay.{copied-fits}
 use Rattle.line.specs.Judge.{judge}
 use Rattle.plain.specs.Listing.{ListedFrame, Listing, listedFrame, listing}
-use Rattle.plain.specs.Answers.{pieceAt, plainVerdict}
-use Rattle.plain.specs.declared.Piece.the-variants.{Frame, Tail}
+use Rattle.plain.specs.Answers.{NextReport, pieceAt, plainVerdict}
 use Rattle.plain.specs.declared.Answer.{Answer}
 use Rattle.plain.specs.declared.Answer.the-variants.{Message, BadForm, BadLength, BadChecksum, BadMagic}
 use Rattle.plain.proofs.Steps.{listedFrom, added, at-frame, at-tail}
@@ -84,7 +83,7 @@ unfolding listing
 middle-start w s = record { done = []; wrote = wrote-none s 0; whole = refl; short = omega arith }
 
 module _ (w s t : List ℕ) (at k n : ℕ) (mid : Middle w s t at k) where
-  pub middle-next : Frame n ≡ pieceAt w at → (u : List ℕ) (r : ℕ) → Wrote t k (lines (listedFrame at (run at n w))) u r
+  pub middle-next : NextReport.frame n ≡ pieceAt w at → (u : List ℕ) (r : ℕ) → Wrote t k (lines (listedFrame at (run at n w))) u r
       → r ≤ k + 5 * (n + 1) → Middle w s u (at + (n + 1)) r
   middle-next e u r o l =
       let f = at-frame w at e in
@@ -99,11 +98,11 @@ module _ (w s t : List ℕ) (at k n : ℕ) (mid : Middle w s t at k) where
         short = omega arith;
       }
 
-  text-tail : Tail n ≡ pieceAt w at → text (listedFrom w at) ≡ tailLine n
+  text-tail : NextReport.tail n ≡ pieceAt w at → text (listedFrom w at) ≡ tailLine n
   unfolding text lines
   text-tail e = ap text (at-tail w at e .step)
 
-  pub middle-end : Tail n ≡ pieceAt w at → (u : List ℕ) (r : ℕ) → Wrote t k (tailLine n) u r → Wrote s 0 (text (listing w)) u r
+  pub middle-end : NextReport.tail n ≡ pieceAt w at → (u : List ℕ) (r : ℕ) → Wrote t k (tailLine n) u r → Wrote s 0 (text (listing w)) u r
   middle-end e u r o = rw (mid .whole, text-tail e) (wrote-then (mid .wrote) o)
 
 -- ---- a capture

@@ -9,27 +9,26 @@ use native.Mathlib.Omega.{arith}
 use lib.ListN.{length, drop, getD, drop-of-length-le}
 use lib.Seq.{drop-cons}
 use Rattle.line.specs.Frame.{aheadOfPieces, split}
-use Rattle.plain.specs.Answers.{firstOf, firstPiece, pieceAt}
-use Rattle.plain.specs.declared.Piece.{Piece}
-use Rattle.plain.specs.declared.Piece.the-variants.{Frame, Tail}
+use Rattle.plain.specs.Answers.{NextReport, nextReport, firstOf, firstPiece, pieceAt}
+use Rattle.plain.specs.declared.Piece.the-variants as piece
 
 -- a piece that begins k bytes earlier
-abbrev pub longer : ℕ → Piece → Piece
-longer k (Frame n) = Frame (k + n)
-longer k (Tail n) = Tail (k + n)
+abbrev pub longer : ℕ → NextReport → NextReport
+longer k (NextReport.frame n) = NextReport.frame (k + n)
+longer k (NextReport.tail n) = NextReport.tail (k + n)
 
-longer-none : (p : Piece) → longer 0 p ≡ p
-longer-none (Frame n) = ap Frame (omega arith)
-longer-none (Tail n) = ap Tail (omega arith)
+longer-none : (p : NextReport) → longer 0 p ≡ p
+longer-none (NextReport.frame n) = ap NextReport.frame (omega arith)
+longer-none (NextReport.tail n) = ap NextReport.tail (omega arith)
 
-longer-more : (j k : ℕ) (p : Piece) → longer j (longer k p) ≡ longer (j + k) p
-longer-more j k (Frame n) = ap Frame (omega arith)
-longer-more j k (Tail n) = ap Tail (omega arith)
+longer-more : (j k : ℕ) (p : NextReport) → longer j (longer k p) ≡ longer (j + k) p
+longer-more j k (NextReport.frame n) = ap NextReport.frame (omega arith)
+longer-more j k (NextReport.tail n) = ap NextReport.tail (omega arith)
 
 first-ahead : (b : ℕ) (ps : List (List ℕ)) (rest : List ℕ) → firstPiece (aheadOfPieces b ps rest) ≡ longer 1 (firstOf ps rest)
 unfolding firstOf
-first-ahead b [] rest = ap Tail (omega arith)
-first-ahead b (p ∷ ps) rest = ap Frame (omega arith)
+first-ahead b [] rest = ap NextReport.tail (omega arith)
+first-ahead b (p ∷ ps) rest = ap NextReport.frame (omega arith)
 
 first-more : (b : ℕ) (v : List ℕ) → (b ≡ 0 → ⊥) → firstPiece (split (b ∷ v)) ≡ longer 1 (firstPiece (split v))
 unfolding split
@@ -38,7 +37,7 @@ first-more (suc b) v h = first-ahead (suc b) (split v .closed) (split v .rest)
 
 -- one byte
 module _ (w : List ℕ) (i : ℕ) where
-  piece-end : length w ≤ i → pieceAt w i ≡ Tail 0
+  piece-end : length w ≤ i → pieceAt w i ≡ NextReport.tail 0
   unfolding pieceAt split firstOf
   piece-end h = rw (drop-of-length-le w h)
 
@@ -46,7 +45,7 @@ module _ (w : List ℕ) (i : ℕ) where
     at-offset : drop i w ≡ getD w i 0 ∷ drop (i + 1) w
     at-offset = rw add-one (drop-cons w i 0 h)
 
-    piece-zero : getD w i 0 ≡ 0 → pieceAt w i ≡ Frame 0
+    piece-zero : getD w i 0 ≡ 0 → pieceAt w i ≡ NextReport.frame 0
     unfolding pieceAt split firstOf
     piece-zero e = rw (at-offset, e)
 
@@ -71,8 +70,10 @@ module _ (w : List ℕ) (at i : ℕ) (r : Reached w at i) where
       let s : i - at + 1 ≡ i + 1 - at = omega arith in
       record { from = omega arith; piece = r .piece ∙ rw (piece-more w i h e, longer-more, s) }
 
-  pub reached-zero : i < length w → getD w i 0 ≡ 0 → Frame (i - at) ≡ pieceAt w at
+  pub reached-zero : i < length w → getD w i 0 ≡ 0 → nextReport (piece.Frame (i - at)) ≡ pieceAt w at
+  unfolding nextReport
   reached-zero h e = rw (r .piece, piece-zero w i h e, add-zero)
 
-  pub reached-end : length w ≤ i → Tail (i - at) ≡ pieceAt w at
+  pub reached-end : length w ≤ i → nextReport (piece.Tail (i - at)) ≡ pieceAt w at
+  unfolding nextReport
   reached-end h = rw (r .piece, piece-end w i h, add-zero)

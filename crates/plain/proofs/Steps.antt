@@ -10,8 +10,7 @@ use Rattle.octets.specs.Bytes.{Each, run}
 use Rattle.line.specs.Frame.{split, withZeros}
 use Rattle.line.proofs.Pieces.{split-at, split-each, split-whole}
 use Rattle.plain.specs.Listing.{ListedFrame, Listing, listedFrame, listedFrames, listingFrom}
-use Rattle.plain.specs.Answers.{firstOf, pieceAt}
-use Rattle.plain.specs.declared.Piece.the-variants.{Frame, Tail}
+use Rattle.plain.specs.Answers.{NextReport, firstOf, pieceAt}
 
 -- what is listed from an offset on
 abbrev pub listedFrom : List ℕ → ℕ → Listing
@@ -66,17 +65,19 @@ module _ (w : List ℕ) (at : ℕ) where
       let l = ap length (f .whole) ∙ length-append p (0 ∷ a) in
       record { within = omega (arith, length-drop at w); step = rw (t, g, f .closed, f .rest, e) }
 
-  frame-by : (ps : List (List ℕ)) {n : ℕ} → split (drop at w) .closed ≡ ps → Frame n ≡ firstOf ps (split (drop at w) .rest) → AtFrame w at n
+  frame-by : (ps : List (List ℕ)) {n : ℕ} → split (drop at w) .closed ≡ ps → NextReport.frame n ≡ firstOf ps (split (drop at w) .rest)
+      → AtFrame w at n
   unfolding firstOf
   frame-by [] e h = let z : _≡_ {A = ℕ} 0 1 = cc in absurd (omega arith)
   frame-by (p ∷ ps) {n} e h = let l : length p ≡ n = cc in rw l at (at-first p ps e)
 
   -- a frame begins there
-  pub at-frame : {n : ℕ} → Frame n ≡ pieceAt w at → AtFrame w at n
+  pub at-frame : {n : ℕ} → NextReport.frame n ≡ pieceAt w at → AtFrame w at n
   unfolding pieceAt
   at-frame h = frame-by (split (drop at w) .closed) refl h
 
-  tail-by : (ps : List (List ℕ)) {n : ℕ} → split (drop at w) .closed ≡ ps → Tail n ≡ firstOf ps (split (drop at w) .rest) → AtTail w at n
+  tail-by : (ps : List (List ℕ)) {n : ℕ} → split (drop at w) .closed ≡ ps → NextReport.tail n ≡ firstOf ps (split (drop at w) .rest)
+      → AtTail w at n
   unfolding firstOf listedFrames
   tail-by [] {n} e h =
       let l : n ≡ length (split (drop at w) .rest) = cc in
@@ -85,6 +86,6 @@ module _ (w : List ℕ) (at : ℕ) where
   tail-by (p ∷ ps) e h = let z : _≡_ {A = ℕ} 0 1 = cc in absurd (omega arith)
 
   -- the tail begins there
-  pub at-tail : {n : ℕ} → Tail n ≡ pieceAt w at → AtTail w at n
+  pub at-tail : {n : ℕ} → NextReport.tail n ≡ pieceAt w at → AtTail w at n
   unfolding pieceAt
   at-tail h = tail-by (split (drop at w) .closed) refl h

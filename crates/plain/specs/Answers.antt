@@ -12,20 +12,29 @@ use Rattle.line.specs.Cobs.{full-code, impliedZero, lastOneAfterFull}
 use Rattle.line.specs.Judge.{LineVerdict, failure, good}
 use Rattle.line.specs.Frame.{Pieces, split}
 use Rattle.plain.specs.declared.Piece.{Piece}
-use Rattle.plain.specs.declared.Piece.the-variants.{Frame, Tail}
+use Rattle.plain.specs.declared.Piece.the-variants as piece
 use Rattle.plain.specs.declared.Answer.{Answer}
 use Rattle.plain.specs.declared.Answer.the-variants.{Message, BadForm, BadLength, BadChecksum, BadMagic}
 
--- the first piece, by its length
-unfoldable pub firstOf : List (List ℕ) → List ℕ → Piece
-firstOf [] rest = Tail (length rest)
-firstOf (p ∷ ps) rest = Frame (length p)
+-- a frame with so many bytes before its 00, or the unfinished tail of so many bytes
+pub data NextReport : Type 0 where
+  frame : ℕ → NextReport
+  tail : ℕ → NextReport
 
-abbrev pub firstPiece : Pieces → Piece
+unfoldable pub nextReport : Piece → NextReport
+nextReport (piece.Frame n) = NextReport.frame n
+nextReport (piece.Tail n) = NextReport.tail n
+
+-- the first piece, by its length
+unfoldable pub firstOf : List (List ℕ) → List ℕ → NextReport
+firstOf [] rest = NextReport.tail (length rest)
+firstOf (p ∷ ps) rest = NextReport.frame (length p)
+
+abbrev pub firstPiece : Pieces → NextReport
 firstPiece x = firstOf (x .closed) (x .rest)
 
 -- what begins at an offset of a capture
-unfoldable pub pieceAt : List ℕ → ℕ → Piece
+unfoldable pub pieceAt : List ℕ → ℕ → NextReport
 pieceAt w at = firstPiece (split (drop at w))
 
 -- the verdict that an answer stands for; the data stand in the array behind the message's header

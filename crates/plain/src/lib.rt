@@ -8,7 +8,7 @@ ghost use Rattle.octets.specs.Bytes.{overlay};
 ghost use Rattle.line.specs.Checksum.{checksum};
 ghost use Rattle.line.specs.Cobs.{impliedZero, lastOneAfterFull};
 ghost use Rattle.line.specs.Judge.{judgeForm, judge};
-ghost use Rattle.plain.specs.Answers.{pieceAt, plainVerdict, decodeForm, decodedInto};
+ghost use Rattle.plain.specs.Answers.{nextReport, pieceAt, plainVerdict, decodeForm, decodedInto};
 ghost use Rattle.plain.specs.Inner.{decodedReport};
 
 // Document 01's numbers stand here by themselves: the second reader takes nothing of the line layer's code, these neither.
@@ -48,7 +48,7 @@ pub enum Answer {
 
 // What begins at an offset of a capture.
 pub fn next(capture: &[u8], at: usize) -> Piece
-    ensures { λ r. ⌜ r ≡ pieceAt (now (capture .entry)) at ⌝ }
+    ensures { λ r. ⌜ nextReport r ≡ pieceAt (now (capture .entry)) at ⌝ }
 {
     let mut i = at;
     while i < capture.len() {

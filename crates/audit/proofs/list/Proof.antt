@@ -1,14 +1,13 @@
 -- `audit::list` meets its contract.
 -- The loop's invariant: the text up to an offset of the capture is written, and the text is that and what is left.
 -- Assumes nothing.
-use mathlib.Core.Path.{_≡_, refl, sym, _∙_}
+use mathlib.Core.Path.{_≡_, refl, sym, ap, _∙_}
 use Prim.Native.Nat.{_+_, _-_, _≤_, _<_}
 use native.Mathlib.Omega.{arith}
 use lib.ListN.{length}
 use borrow.Author.Needs.{needs}
 use denote.Ref.{now}
-use Rattle.plain.specs.Answers.{pieceAt}
-use Rattle.plain.specs.declared.Piece.the-variants.{Frame}
+use Rattle.plain.specs.Answers.{NextReport, nextReport, pieceAt}
 use Rattle.plain.proofs.Steps.{at-frame, at-tail}
 use Rattle.audit.proofs.Lines.{Middle, middle-start, middle-next, middle-end}
 use Rattle.audit.proofs.list.Statement.{statement}
@@ -37,19 +36,21 @@ abbrev at-next : tie.After-slice-known2 Inv-loop μ-loop → tie.After-next Inv-
 at-next c = c .before .before .before .before .before .before .before
 
 put-frame-requires : tie.Need-put-frame-requires Inv-loop μ-loop
+unfolding nextReport
 put-frame-requires c κs =
     let at-piece = c .before .before in
     let asked = at-piece .before .before in
     let iteration = asked .before .loop in
     let a = start asked .args in
-    let f = at-frame (now (a .capture)) (iteration .at) (sym (at-piece .piece .given .1) ∙ asked .next .ensures) in
+    let f = at-frame (now (a .capture)) (iteration .at) (ap nextReport (sym (at-piece .piece .given .1)) ∙ asked .next .ensures) in
     (omega (arith, f .within), (omega arith, omega (arith, f .within, iteration .inv .2 .short)))
 
 -- the frame that was found
 found : (c : tie.After-slice-known2 Inv-loop μ-loop) → let asked = at-next c in
     let iteration = asked .before .loop in let a = start asked .args in
-    Frame (piece-of c .piece .given .0 .0) ≡ pieceAt (now (a .capture)) (iteration .at)
-found c = sym (piece-of c .piece .given .1) ∙ at-next c .next .ensures
+    NextReport.frame (piece-of c .piece .given .0 .0) ≡ pieceAt (now (a .capture)) (iteration .at)
+unfolding nextReport
+found c = ap nextReport (sym (piece-of c .piece .given .1)) ∙ at-next c .next .ensures
 
 within : (c : tie.After-slice-known2 Inv-loop μ-loop) → let asked = at-next c in
     let iteration = asked .before .loop in let a = start asked .args in
@@ -78,14 +79,16 @@ loop-again c =
     )
 
 put-tail-requires : tie.Need-put-tail-requires Inv-loop μ-loop
+unfolding nextReport
 put-tail-requires c κs =
     let asked = at-next-from-piece2 (piece2-of c) in
     let iteration = asked .before .loop in
     let a = start asked .args in
-    let t = at-tail (now (a .capture)) (iteration .at) (sym (piece2-of c .piece2 .given .1) ∙ asked .next .ensures) in
+    let t = at-tail (now (a .capture)) (iteration .at) (ap nextReport (sym (piece2-of c .piece2 .given .1)) ∙ asked .next .ensures) in
     (omega (arith, t .within), omega (arith, iteration .inv .2 .short))
 
 returns : tie.Need-returns Inv-loop μ-loop
+unfolding nextReport
 returns c =
     let wrote = c .before .before in
     let at-piece2 = wrote .before .before .before in
@@ -93,7 +96,7 @@ returns c =
     let iteration = asked .before .loop in
     let a = start asked .args in
     middle-end (now (a .capture)) (now (a .text)) (iteration .text) (iteration .at) (iteration .k) _ (iteration .inv .2)
-    (sym (at-piece2 .piece2 .given .1) ∙ asked .next .ensures) _ _ (wrote .put-tail .ensures)
+    (ap nextReport (sym (at-piece2 .piece2 .given .1)) ∙ asked .next .ensures) _ _ (wrote .put-tail .ensures)
 
 pub list-spec : {M : Type 1} → statement M
 list-spec =
