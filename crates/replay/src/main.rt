@@ -5,6 +5,15 @@ use supervisor::layout;
 use supervisor::outbox::Taken;
 use supervisor::outbox::take;
 use supervisor::start::start;
+ghost use mathlib.Core.Path.{_≡_};
+ghost use mathlib.Core.List.{[]};
+ghost use Prim.Native.Nat.{_+_, _≤_};
+ghost use lib.ListN.{length};
+ghost use Rattle.octets.specs.Bytes.{overlay};
+ghost use Rattle.supervisor.specs.Limits.{most-pending};
+ghost use Rattle.supervisor.specs.Calls.{parts};
+ghost use Rattle.responder.specs.Replay.{takeAll, allPending, replayBytes};
+ghost use Rattle.replay.specs.Feed.{feedOutcome, feedPromise};
 
 const INPUT: i32 = 0;
 
@@ -15,6 +24,12 @@ const OUT_ROOM: usize = 1024 + layout::MOST_PENDING;
 
 // More reads than any input has.
 const MOST_READS: u64 = 0xffffffffffffffff;
+
+// How many bytes were read, and how many bytes of output are kept at the start of the room.
+struct Fed {
+    read: usize,
+    kept: usize,
+}
 
 fn main() {
     let mut data = [0u8; layout::START_LENGTH];
@@ -51,7 +66,9 @@ fn replay(
     factory: &[u8],
     settings: &mut [u8],
     registers: &mut [u8],
-) {
+)
+    requires { ⌜ most-pending ≤ length (now out) ⌝ }
+{
     let mut left = MOST_READS;
     while 0 < left {
         left -= 1;
@@ -69,14 +86,16 @@ fn replay_some(
     factory: &[u8],
     settings: &mut [u8],
     registers: &mut [u8],
-) -> bool {
+) -> bool
+    requires { ⌜ most-pending ≤ length (now out) ⌝ }
+{
     let mut bytes = io::large_buffer();
     let got = libc::read(INPUT, &mut bytes);
     let n = io::count(got, &bytes);
     if n == 0 {
         return false;
     }
-    let kept = feed(
+    feed_all(
         &bytes[..n],
         out,
         reader,
@@ -85,11 +104,45 @@ fn replay_some(
         settings,
         registers,
     );
-    write_first(out, kept);
     true
 }
 
-// The bytes one by one; how many bytes of output are kept and not written.
+// Feeds all bytes, and writes the output that they earn where room gets short and at their end.
+fn feed_all(
+    bytes: &[u8],
+    out: &mut [u8],
+    reader: &mut [u8],
+    outbox: &mut [u8],
+    factory: &[u8],
+    settings: &mut [u8],
+    registers: &mut [u8],
+)
+    requires { ⌜ most-pending ≤ length (now out) ⌝ }
+    ensures { λ _. ⌜ parts (now (reader .exit)) (now (outbox .exit)) (now (factory .entry)) (now (settings .exit)) (now (registers .exit))
+        ≡ replayBytes []
+        (parts (now (reader .entry)) (now (outbox .entry)) (now (factory .entry)) (now (settings .entry)) (now (registers .entry)))
+        (now (bytes .entry)) .parts ⌝ }
+{
+    let mut at = 0;
+    while at < bytes.len() {
+        let fed = feed(
+            &bytes[at..],
+            out,
+            reader,
+            outbox,
+            factory,
+            settings,
+            registers,
+        );
+        let kept = fed.kept;
+        io::write_all(OUTPUT, &out[..kept]);
+        let read = fed.read;
+        at += read;
+    }
+}
+
+// Feeds bytes one by one and takes all pending output after each, to the start of out.
+// It stops ahead of a byte where less room is left than can be pending.
 fn feed(
     bytes: &[u8],
     out: &mut [u8],
@@ -98,10 +151,18 @@ fn feed(
     factory: &[u8],
     settings: &mut [u8],
     registers: &mut [u8],
-) -> usize {
+) -> Fed
+    ensures { λ r. ⌜ feedOutcome r (now (out .exit))
+        (parts (now (reader .exit)) (now (outbox .exit)) (now (factory .entry)) (now (settings .exit)) (now (registers .exit)))
+        ≡ feedPromise (now (bytes .entry)) (now (out .entry))
+        (parts (now (reader .entry)) (now (outbox .entry)) (now (factory .entry)) (now (settings .entry)) (now (registers .entry))) ⌝ }
+{
     let mut kept = 0;
     let mut i = 0;
     while i < bytes.len() {
+        if out.len() - kept < layout::MOST_PENDING {
+            return Fed { read: i, kept };
+        }
         receive(
             &bytes[0..0],
             &bytes[i..i + 1],
@@ -111,46 +172,22 @@ fn feed(
             settings,
             registers,
         );
-        kept = keep(outbox, out, kept);
+        kept += take_behind(outbox, out, kept);
         i += 1;
     }
-    kept
+    Fed { read: i, kept }
 }
 
-// Takes all pending output behind the bytes kept, which are written first where the room behind them could be too short.
-fn keep(outbox: &mut [u8], out: &mut [u8], kept: usize) -> usize {
-    if out.len() < kept {
-        return 0;
-    }
-    if out.len() - kept < layout::MOST_PENDING {
-        write_first(out, kept);
-        return take_behind(outbox, out, 0);
-    }
-    take_behind(outbox, out, kept)
-}
-
-// Takes pending output into the bytes from an offset on; where it ends.
-fn take_behind(outbox: &mut [u8], out: &mut [u8], at: usize) -> usize {
-    if out.len() < at {
-        return at;
-    }
-    let room = out.len() - at;
+// Takes all pending output to the bytes of out from an offset on; how many bytes it has.
+fn take_behind(outbox: &mut [u8], out: &mut [u8], at: usize) -> usize
+    requires { ⌜ at + most-pending ≤ length (now out) ⌝ }
+    ensures { λ r. ⌜ r ≡ length (allPending (now (outbox .entry))) ⌝ }
+    ensures { λ _. ⌜ now (outbox .exit) ≡ takeAll (now (outbox .entry)) .outbox ⌝ }
+    ensures { λ _. ⌜ now (out .exit) ≡ overlay at (allPending (now (outbox .entry))) (now (out .entry)) ⌝ }
+{
     let taken = take(outbox, &mut out[at..]);
     match taken {
-        Taken::Refused => at,
-        Taken::Moved(n) => {
-            if room < n {
-                return at;
-            }
-            at + n
-        }
+        Taken::Refused => 0,
+        Taken::Moved(n) => n,
     }
-}
-
-// Writes the first n bytes.
-fn write_first(out: &[u8], n: usize) {
-    if out.len() < n {
-        return;
-    }
-    io::write_all(OUTPUT, &out[0..n]);
 }

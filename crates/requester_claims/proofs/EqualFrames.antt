@@ -31,7 +31,8 @@ use Rattle.requester_claims.specs.Answers.{StatusMessage, MessageMatchin
 use Rattle.requester_claims.specs.CameAs.{CameAs, allCameAs, cameAs, bytesReadBy, readSince, statusReply, messagesReported}
 use Rattle.requester_claims.specs.CameAs.{mainMessagesHanded}
 use Rattle.requester_claims.specs.Item6.{Comes, PieceTyped, AllPiecesTyped, CameFramed, FramesEqual, EqualFrames}
-use Rattle.requester_claims.proofs.MeaningLaws.{grown, quiet-byte}
+use Rattle.line.specs.Judge.{moreReceived}
+use Rattle.requester_claims.proofs.MeaningLaws.{quiet-byte}
 use Rattle.requester_claims.proofs.History.{one-call, started}
 use Rattle.requester_claims.proofs.AnswerBytes.{Hands, ComesAnswer, receive-hands}
 use Rattle.requester_claims.proofs.AnswerFrame.{Since, moved-received, request-keeps, interrupt-keeps, send-keeps, made-since}
@@ -89,8 +90,8 @@ receive-last (b ∷ bs) s w h =
         P (cond t (Requester.mainReceived 1 (Requester.mainByte s b)) (Requester.mainReceived (suc (r .used)) (r .result)))
     by true e i = byte-last s w h b
     by false e i =
-        let k : SinceLast (grown (s .received) b) (w ++ b ∷ []) = rw (quiet-byte s b e) at (byte-last s w h b) in
-        rw (quiet-byte s b e) (rw append-snoc at (i (grown (s .received) b) k))
+        let k : SinceLast (moreReceived (s .received) b) (w ++ b ∷ []) = rw (quiet-byte s b e) at (byte-last s w h b) in
+        rw (quiet-byte s b e) (rw append-snoc at (i (moreReceived (s .received) b) k))
 
 -- ---- a call
 

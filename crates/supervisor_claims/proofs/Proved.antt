@@ -19,7 +19,7 @@ use Rattle.supervisor_claims.proofs.claims.InOrder.{in-order, in-order-
 use Rattle.supervisor_claims.proofs.claims.FramesClaim.{history-frames, each-once, received-since, in-order-after}
 use Rattle.supervisor_claims.proofs.claims.FailureClaim.{failure-answered, overlong-answered, ahead-of-zero, empty-frame-ignored}
 use Rattle.supervisor_claims.proofs.claims.Cuts.{cut-any}
-use Rattle.supervisor_claims.proofs.claims.Replies.{replies-in-order}
+use Rattle.supervisor_claims.proofs.claims.Replies.{replies-in-order, replies-replayed}
 use Rattle.supervisor_claims.proofs.claims.SetResults.{more-items-11, up-to-64-items, value-lengths, stores-nothing}
 use Rattle.supervisor_claims.proofs.claims.SetResults.{factory-edition, reply-version, failure-version}
 use Rattle.supervisor_claims.proofs.claims.LastSetLaws.{set-successful, successful-exactly, replaced-other}
@@ -61,6 +61,7 @@ carried-out = record {
   in-order-after = in-order-after;
   request-carried = request-carried;
   replies-in-order = replies-in-order;
+  replies-replayed = replies-replayed;
   value-last-set = value-last-set;
   last-set = last-set;
   withdrawn-list-answered = withdrawn-list-answered;

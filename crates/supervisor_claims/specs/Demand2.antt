@@ -21,6 +21,7 @@ use Rattle.supervisor.specs.Calls
 use Rattle.supervisor.specs.Calls.{Parts}
 use Rattle.responder.specs.Requests.{failure, good, verdict, wrongValueLength, storeValue, carryOut, receiveStream}
 use Rattle.responder.specs.Requests.{owed, replyFrame, replyOf, failureReply}
+use Rattle.responder.specs.Replay.{replayBytes}
 use Rattle.supervisor_claims.specs.View.{factoryOf, view}
 use Rattle.supervisor_claims.specs.Sound.{Valid, Bytes, Sound, Lengths}
 use Rattle.supervisor_claims.specs.Histories
@@ -96,6 +97,10 @@ abbrev pub RepliesInOrder : Type 0
 RepliesInOrder = (image : List ℕ) → Each Byte image → FromStart (λ p d q. (ts : List Cycle) → Each Ample ts
     → takenBytes (outputs q (byteByByte image ts)) ≡ replies image (fresh (factoryOf d)) (nonEmpty (split (streamOf ts) .closed)))
 
+abbrev pub RepliesReplayed : Type 0
+RepliesReplayed = (image : List ℕ) → Each Byte image → FromStart (λ p d q. (bs : List ℕ) → Each Byte bs
+    → replayBytes image q bs .taken ≡ replies image (fresh (factoryOf d)) (nonEmpty (split bs .closed)))
+
 abbrev pub ValueLastSet : List Made → Parts → Type 0
 ValueLastSet ms q = (k : ℕ) → SettingsKey k → Local.entryOf (view q) k ≡ setSince k (origin k ms)
 
@@ -153,6 +158,8 @@ pub record RequestsCarriedOut : Type 0 where
   pub request-carried : RequestCarried
   -- replies: with everything taken after each byte, the bytes taken are the frames of the replies to the non-empty frames, in order
   pub replies-in-order : RepliesInOrder
+  -- the same of the replay of a stream, which the promise of the replay program's function `feed` cites
+  pub replies-replayed : RepliesReplayed
   -- A settings key starts from the last accepted start or, of a saved key, from a later restore. The successful sets since then count its
   -- edition on, and its value is that of the last of them.
   pub value-last-set : AfterCalls ValueLastSet

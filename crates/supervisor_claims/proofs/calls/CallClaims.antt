@@ -41,7 +41,7 @@ use Rattle.supervisor_claims.proofs.claims.LentCalls.{valid-parts}
 
 -- ---- start
 
-zeros-each : (n : ℕ) → Each Byte (replicate n 0)
+pub zeros-each : (n : ℕ) → Each Byte (replicate n 0)
 zeros-each zero = tt
 zeros-each (suc n) = (omega arith, zeros-each n)
 

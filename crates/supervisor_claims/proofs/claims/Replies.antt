@@ -5,7 +5,7 @@ use mathlib.Core.Bool.{true}
 use mathlib.Core.List.{List, [], _∷_}
 use Prim.Native.Nat.{ℕ, _+_, _-_, _≤_}
 use native.Mathlib.Omega.{arith}
-use lib.ListN.{length, drop, length-take}
+use lib.ListN.{length, drop, length-take, length-replicate}
 use Rattle.octets.specs.Bytes.{Each, Byte}
 use Rattle.octets.proofs.Overlay.{overlay-inside}
 use Rattle.supervisor.specs.Limits.{most-pending}
@@ -13,18 +13,21 @@ use Rattle.supervisor.specs.Layout
 use Rattle.supervisor.specs.State.{fresh}
 use Rattle.supervisor.specs.Local
 use Rattle.supervisor.specs.Valid.{validOutbox}
-use Rattle.supervisor.specs.Calls.{Parts}
+use Rattle.supervisor.specs.Calls.{Parts, TakeReport}
 use Rattle.supervisor.proofs.ValidLaws.{outbox-valid}
 use Rattle.responder.specs.Requests
+use Rattle.responder.specs.Replay.{wholeRoom, takeAll, movedTo, replayByte, replayBytes}
 use Rattle.supervisor_claims.specs.View.{pendingOf, factoryOf, view}
 use Rattle.supervisor_claims.specs.Sound.{Sound}
 use Rattle.supervisor_claims.specs.Histories
-use Rattle.supervisor_claims.specs.Histories.{done, made, meant, meantMade, outputs}
+use Rattle.supervisor_claims.specs.Histories.{done, Did, did, made, meant, meantMade, outputs}
+use Rattle.supervisor_claims.specs.LocalCalls.{takeAnswer}
 use Rattle.supervisor_claims.specs.Replies.{Cycle, Ample, byteReceived, takenIn, byteByByte, streamOf, movedBytes, takenBytes}
 use Rattle.supervisor_claims.specs.Demand1.{Meets}
-use Rattle.supervisor_claims.specs.Demand2.{RepliesInOrder}
+use Rattle.supervisor_claims.specs.Demand2.{RepliesInOrder, RepliesReplayed}
 use Rattle.supervisor_claims.proofs.laws.TakenAll.{larger-room, allTaken, afterAll, cycle, session, replies-taken}
 use Rattle.supervisor_claims.proofs.claims.History.{started, one-call}
+use Rattle.supervisor_claims.proofs.calls.CallClaims.{zeros-each, call-meets}
 
 pending-short : (o : List ℕ) → validOutbox o ≡ true → length (pendingOf o) ≤ most-pending
 unfolding pendingOf
@@ -36,6 +39,18 @@ view-pending-short : (p : Parts) → Sound p → length (view p .pending) ≤ mo
 unfolding view
 view-pending-short p s = pending-short (p .outbox) (s .valid .outbox)
 
+-- all is taken, where a take in a room of sufficient length does what document 01 has of it
+took-all : (p : Parts) → Sound p → (room : List ℕ) → most-pending ≤ length room → (d : Did)
+    → Meets p d (meant (view p) (Histories.local (Histories.take room)))
+    → (movedBytes (d .answer) (d .out) ≡ allTaken (view p)) × (view (d .parts) ≡ afterAll (view p)) × Sound (d .parts)
+unfolding meant
+took-all p s room long d c =
+    let big = larger-room (view p) (length room) (omega (arith, view-pending-short p s)) in (
+      rw (c .answer, c .out) (overlay-inside 0 (Local.taken (view p) (length room)) room (omega arith)) ∙ big .0,
+      c .leaves .0 ∙ big .1,
+      c .leaves .1,
+    )
+
 module _ (image : List ℕ) (each : Each Byte image) where
   module _ (p : Parts) (s : Sound p) (t : Cycle) (a : Ample t) where
     -- a byte is received
@@ -46,15 +61,8 @@ module _ (image : List ℕ) (each : Each Byte image) where
     -- and all is taken
     take-meant : let d = made p (takenIn t) in
         (movedBytes (d .answer) (d .out) ≡ allTaken (view p)) × (view (d .parts) ≡ afterAll (view p)) × Sound (d .parts)
-    unfolding meantMade meant
-    take-meant =
-        let room = t .room in
-        let c = rw (a .taking) at (one-call p (takenIn t) s (a .room)) in
-        let big = larger-room (view p) (length room) (omega (arith, view-pending-short p s, a .long)) in (
-          rw (c .answer, c .out) (overlay-inside 0 (Local.taken (view p) (length room)) room (omega arith)) ∙ big .0,
-          c .leaves .0 ∙ big .1,
-          c .leaves .1,
-        )
+    unfolding meantMade
+    take-meant = took-all p s (t .room) (a .long) _ (rw (a .taking) at (one-call p (takenIn t) s (a .room)))
 
   session-taken : (p : Parts) → Sound p → (ts : List Cycle) → Each Ample ts
       → takenBytes (outputs p (byteByByte image ts)) ≡ session image (view p) (streamOf ts) .taken
@@ -67,6 +75,31 @@ module _ (image : List ℕ) (each : Each Byte image) where
       let rest = session-taken (made q (takenIn t) .parts) (k .2) ts (h .1) in
       rw (r .answer, k .0, rest, k .1, r .leaves .0)
 
+-- ---- the replay of a stream
+
+moved-bytes : (t : TakeReport) (room : List ℕ) → movedTo t room ≡ movedBytes (takeAnswer t) room
+unfolding movedTo
+moved-bytes (TakeReport.moved n) room = refl
+moved-bytes (TakeReport.refused n) room = refl
+
+whole-room : (most-pending ≤ length wholeRoom) × Each Byte wholeRoom
+unfolding wholeRoom
+whole-room = (omega (arith, length-replicate {A = ℕ} most-pending 0), zeros-each most-pending)
+
+module _ (image : List ℕ) (each : Each Byte image) where
+  replayed-taken : (p : Parts) → Sound p → (bs : List ℕ) → Each Byte bs → replayBytes image p bs .taken ≡ session image (view p) bs .taken
+  unfolding replayBytes replayByte session cycle did meant Requests.receiveStream
+  replayed-taken p s [] h = refl
+  replayed-taken p s (b ∷ bs) h =
+      let r = call-meets p s (Histories.receive image (b ∷ [])) (each, (h .0, tt)) in
+      let q = did p (Histories.receive image (b ∷ [])) .parts in
+      let take = Histories.local (Histories.take wholeRoom) in
+      let k = took-all q (r .leaves .1) wholeRoom (whole-room .0) (did q take) (call-meets q (r .leaves .1) take (whole-room .1)) in
+      let rest = replayed-taken (did q take .parts) (k .2) bs (h .1) in
+      rw (moved-bytes (takeAll (q .outbox) .report) (takeAll (q .outbox) .room), k .0, rest, k .1, r .leaves .0)
+
+-- ---- the claims
+
 pub replies-in-order : RepliesInOrder
 unfolding fresh
 replies-in-order image each p b l d typed h ts e =
@@ -74,3 +107,11 @@ replies-in-order image each p b l d typed h ts e =
     session-taken image each _ (f .1) ts e
     ∙ ap (λ s. session image s (streamOf ts) .taken) (f .0)
     ∙ replies-taken image (fresh (factoryOf d)) (streamOf ts) refl refl refl
+
+pub replies-replayed : RepliesReplayed
+unfolding fresh
+replies-replayed image each p b l d typed h bs e =
+    let f = started p b l d typed h in
+    replayed-taken image each _ (f .1) bs e
+    ∙ ap (λ s. session image s bs .taken) (f .0)
+    ∙ replies-taken image (fresh (factoryOf d)) bs refl refl refl

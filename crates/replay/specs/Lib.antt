@@ -1,0 +1,3 @@
+-- The definitions that the contracts of the replay program cite.
+-- Assumes nothing.
+pub mod Feed
