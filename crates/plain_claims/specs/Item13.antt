@@ -62,8 +62,8 @@ pub record PlainItem13 : Type 0 where
   pub cut-reads : CutReads
   -- whoever repeats `next` and `judged` over a capture gets its listing
   pub repeated : Repeated
-  -- so that what is got by repeating the two is what a fresh line reader hands out on that stream, cut anywhere: any calls that read exactly
-  -- that stream, and those for any pieces of it
+  -- so that what is got by repeating the two is what a fresh line reader hands out on that stream, cut anywhere: after any calls that read
+  -- exactly that stream, and after those for any pieces of it
   pub repeated-agrees : RepeatedAgrees
   -- and it ends: whatever `judged` answers and leaves, as its promise has it, there is such a listing
   pub ends : EndsReached

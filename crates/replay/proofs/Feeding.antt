@@ -99,7 +99,8 @@ module _ {bytes room₀ room : List ℕ} {p₀ p : Parts} {kept i : ℕ} (f : Fe
       let n : readCount p₀ (length room₀) bytes ≡ i = f .count ∙ rw z (add-zero i) in
       rw (n, f .length-kept, f .holds, f .leaves)
 
-  pub feeding-short : length room₀ - kept < most-pending → record { read = i; kept = kept; room = room; parts = p } ≡ feedPromise bytes room₀ p₀
+  pub feeding-short : length room₀ - kept < most-pending
+      → record { read = i; kept = kept; room = room; parts = p } ≡ feedPromise bytes room₀ p₀
   feeding-short h = sym (stopped (count-none p (length room₀ - kept) (drop i bytes) h))
 
   pub feeding-end : length bytes ≤ i → record { read = i; kept = kept; room = room; parts = p } ≡ feedPromise bytes room₀ p₀

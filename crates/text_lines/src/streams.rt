@@ -44,34 +44,46 @@ pub fn read_line(room: &mut [u8]) -> usize
     n
 }
 
-pub fn word(s: &[u8]) {
+pub fn word(s: &[u8])
+    ensures { λ r. ⌜ (r ≡ tt) × (now (s .exit) ≡ now (s .entry)) ⌝ }
+{
     io::write_all(OUTPUT, s);
 }
 
-pub fn number(n: u64) {
+pub fn number(n: u64)
+    ensures { λ r. ⌜ r ≡ tt ⌝ }
+{
     word(b" ");
     io::print_decimal(OUTPUT, n);
 }
 
-pub fn hex(n: u64, width: usize) {
+pub fn hex(n: u64, width: usize)
+    ensures { λ r. ⌜ r ≡ tt ⌝ }
+{
     word(b" ");
     io::print_hex(OUTPUT, n, width);
 }
 
 // The name of the case that the line begins.
-pub fn name(line: &[u8]) {
+pub fn name(line: &[u8])
+    ensures { λ r. ⌜ (r ≡ tt) × (now (line .exit) ≡ now (line .entry)) ⌝ }
+{
     word(fields::behind_key(line));
     word(b":");
 }
 
 // A refusal by its number in the papers.
-pub fn refused(n: u64) {
+pub fn refused(n: u64)
+    ensures { λ r. ⌜ r ≡ tt ⌝ }
+{
     word(b" refused");
     number(n);
 }
 
 // The digest of bytes.
-pub fn digest(s: &[u8]) {
+pub fn digest(s: &[u8])
+    ensures { λ r. ⌜ (r ≡ tt) × (now (s .exit) ≡ now (s .entry)) ⌝ }
+{
     number(digest_on(0, s) as u64);
 }
 
@@ -86,7 +98,9 @@ fn digits(s: &[u8]) {
 }
 
 // How many bytes; then, unless there are none, the first of them in hex and the digest of all.
-pub fn bytes(s: &[u8]) {
+pub fn bytes(s: &[u8])
+    ensures { λ r. ⌜ (r ≡ tt) × (now (s .exit) ≡ now (s .entry)) ⌝ }
+{
     number(s.len() as u64);
     if s.len() == 0 {
         return;
