@@ -41,7 +41,12 @@ pub demand-1 : Demand1
 demand-1 = record { number-due = number-due; as-it-was = as-it-was }
 
 pub demand-2 : Demand2
-demand-2 = record { carried-out = Supervisor.carried-out; numbered-failures = Supervisor.numbered-failures; cuts = Supervisor.cuts }
+demand-2 = record {
+  carried-out = Supervisor.carried-out;
+  numbered-failures = Supervisor.numbered-failures;
+  cuts = Supervisor.cuts;
+  mixed-lists = Supervisor.mixed-lists;
+}
 
 pub demand-3 : Demand3
 demand-3 = record { wire-determines = Line.wire-determines; fresh-reader = Line.fresh-reader; blind-spots = Line.blind-spots }

@@ -9,7 +9,7 @@ use Rattle.line_claims.specs.Item6.{LineItem6}
 use Rattle.line_claims.specs.Item12.{LineItem12}
 use Rattle.saving_claims.specs.Item11.{SavingItem11}
 use Rattle.supervisor_claims.specs.Demand1.{SupervisorAsItWas, SupervisorNumberDue}
-use Rattle.supervisor_claims.specs.Demand2.{RequestsCarriedOut, Cuts, NumberedFailures}
+use Rattle.supervisor_claims.specs.Demand2.{RequestsCarriedOut, Cuts, MixedLists, NumberedFailures}
 use Rattle.supervisor_claims.specs.Item1.{SupervisorItem1}
 use Rattle.supervisor_claims.specs.Item4.{SupervisorItem4}
 use Rattle.supervisor_claims.specs.Item5.{SupervisorItem5}
@@ -65,6 +65,8 @@ pub record Demand2 : Type 0 where
   pub numbered-failures : NumberedFailures
   -- cutting the stream elsewhere changes nothing
   pub cuts : Cuts
+  -- the same with the line layer's own calls among them
+  pub mixed-lists : MixedLists
 
 pub record Demand3 : Type 0 where
   -- wire bytes determine the list of messages

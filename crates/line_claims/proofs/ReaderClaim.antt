@@ -53,23 +53,24 @@ reasons-forms (m ∷ ms) r = rw (judge-of-message m (r .0)) (reasons-forms ms (r
 -- ---- one 00
 
 -- what a 00 gives is the verdict on the bytes before it
-record Judged (t : List ℕ) (x : FrameOutcome) : Type 0 where
-  answered : answersTo00 (x .answer) ≡ frameReport t ∷ []
-  messages : messagesHanded (x .answer) (x .state) ≡ goodMessages (nonEmpty (t ∷ []))
-  failures : reasonsReported (x .answer) ≡ failureReasons (nonEmpty (t ∷ []))
+pub record Judged (t : List ℕ) (x : FrameOutcome) : Type 0 where
+  pub answer : x .answer ≡ frameReport t
+  pub answered : answersTo00 (x .answer) ≡ frameReport t ∷ []
+  pub messages : messagesHanded (x .answer) (x .state) ≡ goodMessages (nonEmpty (t ∷ []))
+  pub failures : reasonsReported (x .answer) ≡ failureReasons (nonEmpty (t ∷ []))
 
 module _ (s : List ℕ) (valid : validReader s ≡ true) where
   judged-by : (b : ℕ) (bs : List ℕ) (v : LineVerdict) → judge (b ∷ bs) ≡ v → judgeReceived (receivedOf s) ≡ some v
       → Judged (b ∷ bs) (finish s)
   unfolding finish frameReport gathered nonEmpty answersTo00 messagesHanded reasonsReported verdictReport
-  judged-by b bs (failure reason sequence) j e = rw e (record { answered = rw j; messages = rw j; failures = rw j })
+  judged-by b bs (failure reason sequence) j e = rw e (record { answer = rw j; answered = rw j; messages = rw j; failures = rw j })
   judged-by b bs (good m) j e =
       let d = finish-data s valid m e in
-      rw e (record { answered = rw j; messages = rw (j, d); failures = rw j })
+      rw e (record { answer = rw j; answered = rw j; messages = rw (j, d); failures = rw j })
 
-  judged : (t : List ℕ) → receivedOf s ≡ progressOf t → Judged t (finish s)
+  pub judged : (t : List ℕ) → receivedOf s ≡ progressOf t → Judged t (finish s)
   unfolding finish frameReport gathered nonEmpty answersTo00 messagesHanded reasonsReported
-  judged [] e = rw (e, tail-within [] (omega arith)) (record { answered = refl; messages = refl; failures = refl })
+  judged [] e = rw (e, tail-within [] (omega arith)) (record { answer = refl; answered = refl; messages = refl; failures = refl })
   judged (b ∷ bs) e = judged-by b bs (judge (b ∷ bs)) refl (rw e (judged-progress b bs))
 
 -- ---- a reader and the bytes that it has read

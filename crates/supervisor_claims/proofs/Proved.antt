@@ -1,7 +1,7 @@
 -- The supervisor's claims, proved: one element of each record of statements in specs/.
 -- Assumes nothing.
 use Rattle.supervisor_claims.specs.Demand1.{SupervisorNumberDue, SupervisorAsItWas}
-use Rattle.supervisor_claims.specs.Demand2.{RequestsCarriedOut, NumberedFailures, Cuts}
+use Rattle.supervisor_claims.specs.Demand2.{RequestsCarriedOut, NumberedFailures, Cuts, MixedLists}
 use Rattle.supervisor_claims.specs.Item1.{SupervisorItem1}
 use Rattle.supervisor_claims.specs.Item4.{SupervisorItem4}
 use Rattle.supervisor_claims.specs.Item5.{SupervisorItem5}
@@ -12,11 +12,11 @@ use Rattle.supervisor_claims.proofs.calls.StartClaim.{start-meant}
 use Rattle.supervisor_claims.proofs.calls.LookupClaim.{edition-meant}
 use Rattle.supervisor_claims.proofs.claims.Refusals.{each-number-exactly, refused-exactly, refused-holds, parts-fit}
 use Rattle.supervisor_claims.proofs.claims.LentCalls.{made-12}
-use Rattle.supervisor_claims.proofs.claims.History.{one-call, refused-made, fault-made, no-12, history, cut}
+use Rattle.supervisor_claims.proofs.claims.History.{one-call, refused-made, fault-made, history, cut}
 use Rattle.supervisor_claims.proofs.claims.History.{step-receives, step-then-receive, steps-receive}
-use Rattle.supervisor_claims.proofs.claims.ReaderCalls.{reader-calls-sound, reader-no-12}
 use Rattle.supervisor_claims.proofs.claims.InOrder.{in-order, in-order-behind, request-carried, failure-only-pending}
 use Rattle.supervisor_claims.proofs.claims.FramesClaim.{history-frames, each-once, received-since, in-order-after}
+use Rattle.supervisor_claims.proofs.claims.MixedClaim.{no-12, mixed-frames, without-line-calls, collected-receives}
 use Rattle.supervisor_claims.proofs.claims.FailureClaim.{failure-answered, overlong-answered, ahead-of-zero, empty-frame-ignored}
 use Rattle.supervisor_claims.proofs.claims.Cuts.{cut-any}
 use Rattle.supervisor_claims.proofs.claims.Replies.{replies-in-order, replies-replayed}
@@ -41,8 +41,6 @@ number-due = record {
   refused-exactly = refused-exactly;
   made-12 = made-12;
   no-12 = no-12;
-  reader-calls-sound = reader-calls-sound;
-  reader-no-12 = reader-no-12;
   parts-fit = parts-fit;
 }
 
@@ -86,6 +84,13 @@ cuts = record {
   step-receives = step-receives;
   step-then-receive = step-then-receive;
   steps-receive = steps-receive;
+}
+
+pub mixed-lists : MixedLists
+mixed-lists = record {
+  mixed-frames = mixed-frames;
+  without-line-calls = without-line-calls;
+  collected-receives = collected-receives;
 }
 
 pub item-1 : SupervisorItem1

@@ -14,3 +14,4 @@ pub mod ReceivedClaim
 pub mod ReceiveClaim
 pub mod StepClaim
 pub mod CallClaims
+pub mod LineReads

@@ -3,9 +3,9 @@
 pub mod Refusals
 pub mod LentCalls
 pub mod History
-pub mod ReaderCalls
 pub mod InOrder
 pub mod FramesClaim
+pub mod MixedClaim
 pub mod FailureClaim
 pub mod Cuts
 pub mod Replies

@@ -9,20 +9,19 @@ use mathlib.Core.Option.{some}
 use Prim.Native.Nat.{ℕ, _+_, _≤_}
 use lib.Dec.{leb}
 use lib.ListN.{length}
-use Rattle.octets.specs.Bytes.{Each, Byte}
 use Rattle.line.specs.Reader as LineReader
 use Rattle.octets.specs.TableTests.{TableTest, tableTest, firstFailing}
-use Rattle.line_claims.specs.Calls as LineCalls
 use Rattle.supervisor.specs.Layout
 use Rattle.supervisor.specs.Local
 use Rattle.supervisor.specs.Calls.{Parts}
 use Rattle.supervisor_claims.specs.ByPart.{Part, published, part, validPart}
 use Rattle.supervisor_claims.specs.View.{factoryOf, view}
-use Rattle.supervisor_claims.specs.Sound.{Sound, Lengths, Leaves, withReader}
+use Rattle.supervisor_claims.specs.Sound.{Sound, Leaves}
 use Rattle.supervisor_claims.specs.LocalCalls.{localRow}
 use Rattle.supervisor_claims.specs.Histories
 use Rattle.supervisor_claims.specs.Histories.{Call, Typed, refused, faulty, Did, didBy, did, Means, ofTaken, enough}
-use Rattle.supervisor_claims.specs.Histories.{Made, untouched, made, meantMade, AfterCalls}
+use Rattle.supervisor_claims.specs.Histories.{Made, untouched, made, meantMade, FromStart}
+use Rattle.supervisor_claims.specs.MixedCalls.{MixedCall, TypedMixed, AllTypedMixed, enoughMixed, Says12, madeMixed, leftMixed}
 
 -- ---- The table's number exactly where it is due
 
@@ -65,26 +64,10 @@ Made12 = (p : Parts) (m : Made) → enough (m .call) (m .lent) ≡ false → mad
 
 -- no call that is lent enough of these parts is refused as 12
 abbrev pub Never12 : Parts → Type 0
-Never12 q = (m : Made) → Typed (m .call) → enough (m .call) (m .lent) ≡ true → made q m .answer ≡ refused 12 → ⊥
+Never12 q = (c : MixedCall) → TypedMixed c → enoughMixed c ≡ true → Says12 (madeMixed q c .answer) → ⊥
 
 abbrev pub No12 : Type 0
-No12 = AfterCalls (λ ms q. Never12 q)
-
--- the piece of a call holds bytes
-abbrev pub PieceBytes : LineCalls.LineCall → Type 0
-PieceBytes (LineCalls.read c) = Each Byte (c .piece)
-PieceBytes (LineCalls.start n) = Unit {0}
-
--- what holds of sound parts, and of what any calls of the line layer's reader leave of them, whatever each is lent of the reader's part
-abbrev pub AfterReaderCalls : (Parts → Parts → Type 0) → Type 0
-AfterReaderCalls P = (p : Parts) → Sound p → (cs : List LineCalls.LineCall) → Each PieceBytes cs
-    → P p (withReader p (LineCalls.afterLineCalls (LineCalls.readerOn (p .reader)) cs .state))
-
-abbrev pub ReaderCallsSound : Type 0
-ReaderCallsSound = AfterReaderCalls (λ p q. Sound q × Lengths p q)
-
-abbrev pub ReaderNo12 : Type 0
-ReaderNo12 = AfterReaderCalls (λ p q. Never12 q)
+No12 = FromStart (λ p d q. (cs : List MixedCall) → AllTypedMixed cs → Never12 (leftMixed q cs))
 
 abbrev pub PartsFit : Type 0
 PartsFit =
@@ -100,12 +83,8 @@ pub record SupervisorNumberDue : Type 0 where
   pub refused-exactly : RefusedExactly
   -- too little of a part that it takes is 12, and nothing changes
   pub made-12 : Made12
-  -- contents that these calls left never earn 12
+  -- contents that these calls, or the line layer's own, left there never earn 12
   pub no-12 : No12
-  -- the line layer's own calls on the reader's part leave sound parts
-  pub reader-calls-sound : ReaderCallsSound
-  -- contents that they left never earn 12 either
-  pub reader-no-12 : ReaderNo12
   -- all parts together have at most 65,536 bytes
   pub parts-fit : PartsFit
 

@@ -2,7 +2,7 @@
 -- Assumes nothing: these are definitions and statements.
 use mathlib.Core.Path.{_≡_}
 use mathlib.Core.Bool.{true, cond, not, _&&_}
-use mathlib.Core.List.{List, [], _∷_, _++_, flatten}
+use mathlib.Core.List.{List, [], _∷_, _++_, flatten, map}
 use mathlib.Core.Logic.{_⊎_}
 use mathlib.Core.Option.{Option, none, some}
 use Prim.Native.Nat.{ℕ, zero, suc, _≤_, _<_}
@@ -13,6 +13,8 @@ use Rattle.line.specs.Limits.{longest-form}
 use Rattle.line.specs.Numbers.{first-version, command-key-set}
 use Rattle.line.specs.Message.{Message}
 use Rattle.line.specs.Frame.{split, nonEmpty}
+use Rattle.line.specs.Reader.{more}
+use Rattle.line_claims.specs.Loans.{Loan}
 use Rattle.supervisor.specs.Limits.{last-edition, SettingsKey}
 use Rattle.supervisor.specs.Layout
 use Rattle.supervisor.specs.State.{Factory, Setting, Settings, State, fresh, withPending, withReceived}
@@ -32,6 +34,9 @@ use Rattle.supervisor_claims.specs.FrameHistory.{receivedSinceAll, frame
 use Rattle.line.specs.Judge.{progressOf}
 use Rattle.supervisor_claims.specs.FrameHistory.{leftByFrames, carriedFrames, RepliedWith, OnRequest}
 use Rattle.supervisor_claims.specs.FrameHistory.{OnFrame, DoneLeaving, answeredWith}
+use Rattle.supervisor_claims.specs.MixedCalls.{MixedCall, lineRead, MixedAnswer, AllTypedMixed, Says12, madeMixed, mixedSinceAll}
+use Rattle.supervisor_claims.specs.MixedCalls.{MixedOutput, outputsMixed, leftMixed, MixedAsFrames, leftMixedByFrames}
+use Rattle.supervisor_claims.specs.MixedCalls.{carried, frameBrought, broughtAll}
 use Rattle.supervisor_claims.specs.LastSet.{successful, setAfter, origin, originBehind, setSince, Has, fittedOf, lookupMessage}
 use Rattle.supervisor_claims.specs.LastSet.{lookupReply, ReadBack}
 use Rattle.supervisor_claims.specs.Replies.{Cycle, Ample, byteByByte, streamOf, takenBytes, replies}
@@ -270,3 +275,45 @@ pub record Cuts : Type 0 where
   pub step-then-receive : StepThenReceive
   -- on sound parts, steps, one for each byte at most, do what a receive of the whole piece does
   pub steps-receive : StepsReceive
+
+-- ---- The line layer's own calls among them
+
+-- the frames that the calls brought since the last accepted start, each by its call, are all those of the joined bytes that are not empty
+abbrev pub BroughtOnce : List MixedCall → Type 0
+BroughtOnce cs = map frameBrought (broughtAll [] [] cs) ≡ nonEmpty (split (mixedSinceAll [] cs) .closed)
+
+abbrev pub MixedFrames : Type 0
+MixedFrames = FromStart (λ p d q. (cs : List MixedCall) → AllTypedMixed cs
+    → MixedAsFrames q [] (fresh (factoryOf d)) cs
+    × (view (leftMixed q cs) ≡ leftMixedByFrames [] (fresh (factoryOf d)) cs)
+    × BroughtOnce cs
+    × Sound (leftMixed q cs)
+    × Lengths p (leftMixed q cs))
+
+abbrev pub supervisorOutput : Output → MixedOutput
+supervisorOutput o = record { answer = MixedAnswer.supervisor (o .answer); out = o .out }
+
+abbrev pub WithoutLineCalls : Type 0
+WithoutLineCalls = (q : Parts) (w : List ℕ) (s : State) (ms : List Made) → let cs = map MixedCall.supervisor ms in
+    (outputsMixed q cs ≡ map supervisorOutput (outputs q ms))
+    × (leftMixed q cs ≡ left q ms)
+    × (leftMixedByFrames w s cs ≡ leftByFrames w s ms)
+    × (mixedSinceAll w cs ≡ receivedSinceAll w ms)
+    × ((fs : List (List ℕ)) → broughtAll w (map carried fs) cs ≡ map carried (carriedFrames w fs ms))
+
+abbrev pub CollectedReceives : Type 0
+CollectedReceives = (p : Parts) (l : Lent) (k : Loan) (image piece : List ℕ) → NoZeros piece
+    → let r = made p (receiveWith image l piece) in
+    let c = madeMixed p (lineRead k piece) in
+    r .answer ≡ done → (Says12 (c .answer) → ⊥) → (c .answer ≡ MixedAnswer.lineRead (length piece) more) × (c .parts ≡ r .parts)
+
+pub record MixedLists : Type 0 where
+  -- A start that is accepted, and then any calls of the supervisor and of the line layer on the same reader's part: each answers and hands
+  -- out what the frames of the joined bytes make of it. What a line read reads joins the stream. A frame whose 00 a line read brings is
+  -- neither carried out nor answered, and discards nothing. An accepted line start drops what was read of an unfinished frame.
+  pub mixed-frames : MixedFrames
+  -- without calls of the line layer these are the lists of calls of `history-frames`
+  pub without-line-calls : WithoutLineCalls
+  -- Reading a piece without a 00 with the line layer is receiving it, on any parts where neither is refused: it leaves the same
+  -- bytes in every part, and so the same later answers.
+  pub collected-receives : CollectedReceives

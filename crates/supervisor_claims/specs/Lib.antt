@@ -7,6 +7,7 @@ pub mod Sound
 pub mod LocalCalls
 pub mod Histories
 pub mod FrameHistory
+pub mod MixedCalls
 pub mod LastSet
 pub mod Alerts
 pub mod Replies

@@ -133,7 +133,7 @@ in-order-after f ms image bs =
 
 -- ---- each frame once
 
-frames-join : (w : List ℕ) (m : Made) → let fs = nonEmpty (split w .closed) in
+pub frames-join : (w : List ℕ) (m : Made) → let fs = nonEmpty (split w .closed) in
     cond (startsAnew m) [] (fs ++ framesClosedBy w (bytesReceivedBy m)) ≡ nonEmpty (split (receivedSince w m) .closed)
 unfolding receivedSince framesClosedBy nonEmpty split
 frames-join w m = by (startsAnew m)

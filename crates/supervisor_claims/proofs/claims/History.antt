@@ -24,7 +24,7 @@ use Rattle.supervisor_claims.specs.Histories.{Call, Typed, refused, done
 use Rattle.supervisor_claims.specs.Histories.{Lent, lentOf, takesPart, enough, Made, made, meantMade, outputs, left, outputsMeant}
 use Rattle.supervisor_claims.specs.Histories.{leftMeant, AllTyped}
 use Rattle.supervisor_claims.specs.Histories.{startWith}
-use Rattle.supervisor_claims.specs.Demand1.{partAsked, partsFitCall, Meets, OneCall, RefusedMade, FaultMade, Never12, No12}
+use Rattle.supervisor_claims.specs.Demand1.{partAsked, partsFitCall, Meets, OneCall, RefusedMade, FaultMade}
 use Rattle.supervisor_claims.specs.Demand2.{Follows, stepCalls, History, Cut, StepReceives, StepThenReceive, StepsReceive}
 use Rattle.supervisor_claims.proofs.ByPart.{every, of, every-true, part-long}
 use Rattle.supervisor_claims.proofs.Sound.{lengths-same, lengths-then, valid-long}
@@ -89,9 +89,9 @@ sound-fits q c s = every-true _ (every (λ i. by i (takesPart c i)))
     by i true = sound-asked c i (part q i) (of (s .valid) i)
     by i false = refl
 
-pub earns-no-12 : (p : Parts) → Sound p → Never12 p
+pub earns-no-12 : (p : Parts) → Sound p → (m : Made) → enough (m .call) (m .lent) ≡ true → made p m .answer ≡ refused 12 → ⊥
 unfolding made
-earns-no-12 p s m typed e h =
+earns-no-12 p s m e h =
     let n = widened (takesPart (m .call)) (m .lent) p in
     let w = widened-enough (m .lent) p (valid-long {p = p} (s .valid)) (m .call) e in
     let k : did (lentOf n p) (m .call) .answer ≡ refused 12 =
@@ -112,7 +112,7 @@ follows q s (m ∷ ms) h =
 -- ---- the first start, on any bytes
 
 -- a refusal is not done
-undone : (n : ℕ) → refused n ≡ done → ⊥
+pub undone : (n : ℕ) → refused n ≡ done → ⊥
 undone n e = subst (λ a. WhereRefused a (λ _. ⊥)) (sym e) tt
 
 module _ (p : Parts) (b : Bytes p) (l : Lent) (d : List ℕ) (typed : Typed (Histories.start d)) where
@@ -136,9 +136,6 @@ history p b l d typed h ms t =
     let k = started p b l d typed h in
     let i = rw (k .0) at (follows _ (k .1) ms t) in
     (i .0, i .1, i .2, lengths-then (k .2) (i .3))
-
-pub no-12 : No12
-no-12 p b l d typed h ms t = earns-no-12 _ (history p b l d typed h ms t .2)
 
 -- ---- the cut law
 

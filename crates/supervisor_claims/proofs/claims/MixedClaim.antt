@@ -1,0 +1,397 @@
+-- Calls of the supervisor and of the line layer in one list: what each answers, hands out and leaves by the frames of the joined bytes.
+-- Assumes nothing.
+use mathlib.Core.Path.{_≡_, refl, sym, ap, _∙_}
+use mathlib.Core.Bool.{Bool, true, false, cond}
+use mathlib.Core.List.{List, [], _∷_, _++_, map, map-append, append-nil}
+use mathlib.Core.Option.{Option, none, some}
+use Prim.Native.Nat.{ℕ, zero, suc, _≤_, _<_}
+use native.Mathlib.Omega.{arith}
+use lib.Dec.{ltb, eqb·suc-zero}
+use lib.ListN as ListN
+use lib.ListN.{length}
+use borrow.Author.Tests.{le-leb, lt-leb}
+use Rattle.octets.specs.Bytes.{Each, Byte}
+use Rattle.octets.proofs.Conditions.{cond-by, cond-both}
+use Rattle.line.specs.Limits.{longest-data, longest-form}
+use Rattle.line.specs.Frame.{split, nonEmpty, closedBehind, withZeros}
+use Rattle.line.specs.Judge as Line
+use Rattle.line.specs.Judge.{progressOf}
+use Rattle.line.specs.Reader as LineReader
+use Rattle.line.specs.Reader.{receivedOf, pushedAll}
+use Rattle.line.proofs.Judged.{tail-within}
+use Rattle.line.proofs.Lent.{pushed-append}
+use Rattle.line.proofs.Received as Received
+use Rattle.line.proofs.Received.{short-invalid, fresh-received, tail-received, data-refused, pushed-stays}
+use Rattle.line.proofs.Pieces.{split-at, nonEmpty-append, split-join, closed-rest, closed-join, split-each}
+use Rattle.line_claims.specs.Loans.{Loan}
+use Rattle.line_claims.specs.Calls.{lentState, back, messagesHanded, tailMeant}
+use Rattle.line_claims.proofs.LoanLaws.{back-same, lent-long, lent-short, lent-enough, front}
+use Rattle.supervisor.specs.State.{State, fresh, withReceived}
+use Rattle.supervisor.specs.Calls.{Parts}
+use Rattle.responder.specs.Receive
+use Rattle.supervisor_claims.specs.ByPart.{Part, is}
+use Rattle.supervisor_claims.specs.View.{factoryOf, view}
+use Rattle.supervisor_claims.specs.Sound.{withReader, Sound, Lengths, Leaves}
+use Rattle.supervisor_claims.specs.Histories.{Lent, lentOf, givenBack, Made, did, made, outputs, left, upTo, receiveWith}
+use Rattle.supervisor_claims.specs.FrameHistory.{bytesReceivedBy, startsAnew, receivedSince, receivedSinceAll, framesClosedBy}
+use Rattle.supervisor_claims.specs.FrameHistory.{carriedMade, leftByFrames, carriedFrames}
+use Rattle.supervisor_claims.specs.MixedCalls
+use Rattle.supervisor_claims.specs.MixedCalls.{MixedCall, TypedMixed, AllTypedMixed, enoughOfReader, SettledAs, DidMixed, MixedMeans}
+use Rattle.supervisor_claims.specs.MixedCalls.{outputsMixed, leftMixed, MixedAsFrames, leftMixedByFrames}
+use Rattle.supervisor_claims.specs.MixedCalls.{Brought, carried, passed, frameBrought}
+use Rattle.supervisor_claims.specs.MixedCalls.{broughtSince, broughtAll}
+use Rattle.supervisor_claims.specs.MixedCalls.{madeMixed, mixedSince, mixedSinceAll, carriedMixed, readByFrames, lineBytesRead}
+use Rattle.supervisor_claims.specs.Demand1.{Never12, No12}
+use Rattle.supervisor_claims.specs.Demand2.{NoZeros, MixedFrames, WithoutLineCalls, CollectedReceives}
+use Rattle.supervisor_claims.proofs.ByPart.{part-long}
+use Rattle.supervisor_claims.proofs.Sound.{lengths-same, lengths-then, valid-long}
+use Rattle.supervisor_claims.proofs.laws.Locality.{EnoughOfAll, widened, widened-all, lent-sound, lent-view, back-leaves}
+use Rattle.supervisor_claims.proofs.laws.Progress.{Since, rest-nonzero}
+use Rattle.supervisor_claims.proofs.calls.ReceivedClaim.{ReaderKept, started-kept, read-kept}
+use Rattle.supervisor_claims.proofs.calls.ReceiveClaim.{reader-leaves}
+use Rattle.supervisor_claims.proofs.calls.LineReads.{read-follows, read-all}
+use Rattle.supervisor_claims.proofs.claims.LentCalls.{parts-valid}
+use Rattle.supervisor_claims.proofs.claims.History.{one-call, earns-no-12, started, undone}
+use Rattle.supervisor_claims.proofs.claims.FramesClaim.{made-carried, frames-join}
+
+-- ---- the bytes up to and with the last 00
+
+split-zeros : (ps : List (List ℕ)) → Each NoZeros ps → split (withZeros ps) ≡ record { closed = ps; rest = [] }
+unfolding split withZeros
+split-zeros [] z = refl
+split-zeros (p ∷ ps) z = rw (split-at p (withZeros ps) (z .0), split-zeros ps (z .1))
+
+through-split : (w : List ℕ) → split (MixedCalls.throughLast00 w) ≡ record { closed = split w .closed; rest = [] }
+through-split w = split-zeros (split w .closed) (split-each (λ b. Unit {0}) (λ b. 1 ≤ b) (λ b u. omega arith) w (any-each w) .0)
+  where
+    any-each : (bs : List ℕ) → Each (λ b. Unit {0}) bs
+    any-each [] = tt
+    any-each (b ∷ bs) = (tt, any-each bs)
+
+through-last : (w : List ℕ) → split (MixedCalls.throughLast00 w) .rest ≡ []
+through-last w = rw (through-split w)
+
+-- whether data are handed out
+given-valid : (s : List ℕ) (n : ℕ) → LineReader.validReader s ≡ true
+    → LineReader.dataGivenPromise s n ≡ cond {A = Option ℕ} (ltb longest-data n) (some 9) none
+unfolding LineReader.dataGivenPromise
+given-valid s n v = rw v
+
+given-invalid : (s : List ℕ) (n : ℕ) → LineReader.validReader s ≡ false → LineReader.dataGivenPromise s n ≡ some 12
+unfolding LineReader.dataGivenPromise
+given-invalid s n v = rw v
+
+-- how many bytes have come
+tail-progress : (bs : List ℕ) → LineReader.tailOf (progressOf bs) ≡ tailMeant bs
+unfolding progressOf tailMeant
+tail-progress bs =
+    cond-both (λ o a. LineReader.tailOf o ≡ a) (ltb longest-form (length bs)) (λ e. refl) (λ e. refl)
+
+-- ---- what is lent of the reader's part
+
+module _ (p : Parts) (s : Sound p) (l : Loan) (e : enoughOfReader l ≡ true) where
+  -- that of the reader's part, and all of the others
+  abbrev loans : Lent
+  loans = widened (is Part.reader) (λ i. l) p
+
+  enough-all : EnoughOfAll loans
+  enough-all =
+      widened-all (is Part.reader) (λ i. l) p (valid-long {p = p} (s .valid))
+      (record { reader = e; outbox = refl; factory = refl; settings = refl; registers = refl })
+
+  lent-valid : LineReader.validReader (lentState l (p .reader)) ≡ true
+  lent-valid = lent-sound loans p enough-all s .valid .reader
+
+  lent-received : receivedOf (lentState l (p .reader)) ≡ view p .received
+  unfolding view
+  lent-received = ap (λ (x : State). x .received) (lent-view loans p enough-all (s .valid))
+
+  -- it came back as t
+  back-reader : (t : List ℕ) → ReaderKept (lentState l (p .reader)) t
+      → Leaves p (withReader p (back l (p .reader) t)) (withReceived (view p) (receivedOf t))
+  back-reader t k =
+      let b =
+      back-leaves loans p (withReader (lentOf loans p) t) (s .bytes)
+      (reader-leaves (lentOf loans p) (lent-sound loans p enough-all s) t k) in
+      let same : givenBack loans p (withReader (lentOf loans p) t) ≡ withReader p (back l (p .reader) t) = simp back-same in
+      rw (lent-view loans p enough-all (s .valid)) at (rw same at b)
+
+-- ---- one call
+
+-- it did what the frames make of it, and the bytes v have come then
+record MixedMeets (p : Parts) (d : DidMixed) (m : MixedMeans) (v : List ℕ) : Type 0 where
+  answer : d .answer ≡ m .answer
+  out : SettledAs (d .out) (m .out)
+  leaves : Leaves p (d .parts) (m .state)
+  since : Since (split v .rest) (m .state)
+
+module _ (w : List ℕ) (p : Parts) (s : Sound p) (h : Since (split w .rest) (view p)) where
+  abbrev Meets : MixedCall → Type 0
+  Meets c = MixedMeets p (madeMixed p c) (carriedMixed w (view p) c) (mixedSince w c)
+
+  -- nothing changes
+  unchanged : Leaves p p (view p)
+  unchanged = (refl, s, lengths-same)
+
+  module _ (l : Loan) where
+    abbrev lent : List ℕ
+    lent = lentState l (p .reader)
+
+    lent-some : enoughOfReader l ≡ true → LineReader.reader-length ≤ length lent
+    lent-some e = lent-long LineReader.reader-length (p .reader) l e (valid-long {p = p} (s .valid) .reader)
+
+    lent-little : enoughOfReader l ≡ false → length lent < LineReader.reader-length
+    lent-little e = lent-short LineReader.reader-length (p .reader) l (omega arith) e
+
+    -- too little of the reader's part is not as 12 requires
+    invalid : enoughOfReader l ≡ false → LineReader.validReader lent ≡ false
+    invalid e = short-invalid lent (lent-little e)
+
+    start-meets : Meets (MixedCalls.lineStart l)
+    unfolding madeMixed carriedMixed mixedSince LineReader.readerStartPromise
+    start-meets = by (enoughOfReader l) refl
+      where
+        by : (b : Bool) → enoughOfReader l ≡ b → Meets (MixedCalls.lineStart l)
+        by true e =
+            let r = fresh-received lent (lent-some e) in
+            rw (e, le-leb LineReader.reader-length (length lent) (lent-some e))
+            (record {
+              answer = refl;
+              out = refl;
+              leaves = rw r at (back-reader p s l e _ (started-kept lent (lent-some e)));
+              since = record { received = rw (through-last w, tail-within [] (omega arith)); nonzero = rw (through-last w) tt };
+            })
+        by false e =
+            rw (e, lt-leb LineReader.reader-length (length lent) (lent-little e), back-same)
+            (record { answer = refl; out = refl; leaves = unchanged; since = h })
+
+    read-meets : (piece : List ℕ) → Each Byte piece → Meets (MixedCalls.lineRead l piece)
+    unfolding madeMixed carriedMixed readByFrames mixedSince lineBytesRead framesClosedBy LineReader.readPromise MixedCalls.dataOf
+        messagesHanded
+    read-meets piece b = by (enoughOfReader l) refl
+      where
+        bs : List ℕ
+        bs = ListN.take (upTo piece) piece
+
+        joined : split (w ++ bs) .rest ≡ split (split w .rest ++ bs) .rest
+        joined = rw (split-join w bs)
+
+        by : (t : Bool) → enoughOfReader l ≡ t → Meets (MixedCalls.lineRead l piece)
+        by true e =
+            let f = read-follows piece (split w .rest) lent (lent-valid p s l e) (h .nonzero) (lent-received p s l e ∙ h .received) in
+            rw (e, lent-valid p s l e)
+            (record {
+              answer = rw (f .used, f .answer, closed-rest w bs);
+              out = rw (f .handed, closed-rest w bs);
+              leaves = rw joined (rw (f .received) at (back-reader p s l e _ (read-kept piece lent (lent-valid p s l e) b)));
+              since = record { received = refl; nonzero = rest-nonzero (w ++ bs) };
+            })
+        by false e = rw (e, invalid e, back-same, append-nil) (record { answer = refl; out = refl; leaves = unchanged; since = h })
+
+    untold : enoughOfReader l ≡ false → LineReader.tailPromise lent ≡ LineReader.TailReport.refused 12
+    unfolding LineReader.tailPromise
+    untold e = rw (invalid e)
+
+    tail-meets : Meets (MixedCalls.lineTail l)
+    unfolding madeMixed carriedMixed mixedSince
+    tail-meets = by (enoughOfReader l) refl
+      where
+        told : enoughOfReader l ≡ true → LineReader.tailPromise lent ≡ tailMeant (split w .rest)
+        told e =
+            tail-received lent (lent-valid p s l e)
+            ∙ ap LineReader.tailOf (lent-received p s l e ∙ h .received)
+            ∙ tail-progress (split w .rest)
+
+        by : (t : Bool) → enoughOfReader l ≡ t → Meets (MixedCalls.lineTail l)
+        by true e = rw (e, told e) (record { answer = refl; out = refl; leaves = unchanged; since = h })
+        by false e = rw (e, untold e) (record { answer = refl; out = refl; leaves = unchanged; since = h })
+
+    data-meets : (n : ℕ) → Meets (MixedCalls.lineData l n)
+    unfolding madeMixed carriedMixed mixedSince
+    data-meets n = by (enoughOfReader l) (ltb longest-data n) refl refl
+      where
+        by : (t u : Bool) → enoughOfReader l ≡ t → ltb longest-data n ≡ u → Meets (MixedCalls.lineData l n)
+        by true true e f =
+            let g : LineReader.dataGivenPromise lent n ≡ some 9 = given-valid lent n (lent-valid p s l e) ∙ rw f in
+            rw (e, f, g, data-refused lent n 9 g) (record { answer = refl; out = refl; leaves = unchanged; since = h })
+        by true false e f =
+            let g : LineReader.dataGivenPromise lent n ≡ none = given-valid lent n (lent-valid p s l e) ∙ rw f in
+            rw (e, f, g) (record { answer = refl; out = tt; leaves = unchanged; since = h })
+        by false u e f =
+            let g = given-invalid lent n (invalid e) in
+            rw (e, g, data-refused lent n 12 g) (record { answer = refl; out = refl; leaves = unchanged; since = h })
+
+  supervisor-meets : (m : Made) → TypedMixed (MixedCalls.supervisor m) → Meets (MixedCalls.supervisor m)
+  unfolding madeMixed carriedMixed mixedSince
+  supervisor-meets m typed =
+      let k = one-call p m s typed in
+      let c = made-carried w (view p) h m in
+      rw (c .0) (record { answer = ap MixedCalls.MixedAnswer.supervisor (k .answer); out = k .out; leaves = k .leaves; since = c .1 })
+
+  mixed-meets : (c : MixedCall) → TypedMixed c → Meets c
+  mixed-meets (MixedCalls.supervisor m) typed = supervisor-meets m typed
+  mixed-meets (MixedCalls.lineStart l) typed = start-meets l
+  mixed-meets (MixedCalls.lineRead l piece) typed = read-meets l piece typed
+  mixed-meets (MixedCalls.lineTail l) typed = tail-meets l
+  mixed-meets (MixedCalls.lineData l n) typed = data-meets l n
+
+-- ---- lists of calls
+
+-- calls on q do what the frames make of them, where the bytes w came before
+MixedFollows : Parts → Parts → List ℕ → State → List MixedCall → Type 0
+MixedFollows p q w s cs =
+    MixedAsFrames q w s cs × (view (leftMixed q cs) ≡ leftMixedByFrames w s cs) × Sound (leftMixed q cs) × Lengths p (leftMixed q cs)
+
+mixed-follows : (cs : List MixedCall) (w : List ℕ) (q : Parts) → Sound q → Since (split w .rest) (view q) → AllTypedMixed cs
+    → MixedFollows q q w (view q) cs
+unfolding MixedFollows leftMixed leftMixedByFrames
+mixed-follows [] w q s h t = (tt, refl, s, lengths-same)
+mixed-follows (c ∷ cs) w q s h t =
+    let k = mixed-meets w q s h c (t .0) in
+    let v = k .leaves .0 in
+    let i = rw v at (mixed-follows cs (mixedSince w c) (madeMixed q c .parts) (k .leaves .1) (rw v (k .since)) (t .1)) in
+    ((k .answer, k .out, i .0), i .1, i .2, lengths-then (k .leaves .2) (i .3))
+
+-- ---- each frame once
+
+map-passed : (fs : List (List ℕ)) → map frameBrought (map passed fs) ≡ fs
+map-passed [] = refl
+map-passed (f ∷ fs) = rw (map-passed fs)
+
+map-carried : (fs : List (List ℕ)) → map frameBrought (map carried fs) ≡ fs
+map-carried [] = refl
+map-carried (f ∷ fs) = rw (map-carried fs)
+
+mixed-join : (w : List ℕ) (fs : List Brought) → map frameBrought fs ≡ nonEmpty (split w .closed) → (c : MixedCall)
+    → map frameBrought (broughtSince w fs c) ≡ nonEmpty (split (mixedSince w c) .closed)
+unfolding broughtSince mixedSince framesClosedBy
+mixed-join w fs h (MixedCalls.supervisor m) = joined (startsAnew m) ∙ frames-join w m
+  where
+    gs : List (List ℕ)
+    gs = framesClosedBy w (bytesReceivedBy m)
+
+    joined : (t : Bool) → map frameBrought (cond t [] (fs ++ map carried gs)) ≡ cond t [] (nonEmpty (split w .closed) ++ gs)
+    joined true = refl
+    joined false = rw (map-append, h, map-carried)
+mixed-join w fs h (MixedCalls.lineStart l) =
+    cond-by (λ v. map frameBrought fs ≡ nonEmpty (split v .closed)) (enoughOfReader l) _ _ (λ e. rw (through-split w) h) (λ e. h)
+mixed-join w fs h (MixedCalls.lineRead l piece) =
+    let bs = lineBytesRead l piece in
+    rw (map-append, h, map-passed, closed-join w bs, nonEmpty-append (split w .closed) (closedBehind w bs))
+mixed-join w fs h (MixedCalls.lineTail l) = h
+mixed-join w fs h (MixedCalls.lineData l n) = h
+
+brought-once : (cs : List MixedCall) (w : List ℕ) (fs : List Brought) → map frameBrought fs ≡ nonEmpty (split w .closed)
+    → map frameBrought (broughtAll w fs cs) ≡ nonEmpty (split (mixedSinceAll w cs) .closed)
+unfolding broughtAll mixedSinceAll
+brought-once [] w fs h = h
+brought-once (c ∷ cs) w fs h = brought-once cs (mixedSince w c) (broughtSince w fs c) (mixed-join w fs h c)
+
+pub mixed-frames : MixedFrames
+unfolding MixedFollows fresh progressOf split nonEmpty
+mixed-frames p b l d typed h cs t =
+    let k = started p b l d typed h in
+    let z : Since [] (fresh (factoryOf d)) = record { received = refl; nonzero = tt } in
+    let i = rw (k .0) at (mixed-follows cs [] _ (k .1) (rw (k .0) z) t) in
+    (i .0, i .1, brought-once cs [] [] refl, i .2, lengths-then (k .2) (i .3))
+
+-- ---- 12
+
+closed-12 : (o : Option Line.LineVerdict) → LineReader.closedReport o ≡ LineReader.refused 12 → ⊥
+unfolding LineReader.verdictReport
+closed-12 none h = let z : _≡_ {A = ℕ} 0 1 = cc in omega arith
+closed-12 (some (Line.failure reason sequence)) h = let z : _≡_ {A = ℕ} 0 1 = cc in omega arith
+closed-12 (some (Line.good m)) h = let z : _≡_ {A = ℕ} 0 1 = cc in omega arith
+
+read-12 : (piece s : List ℕ) → LineReader.readPiece s piece .answer ≡ LineReader.refused 12 → ⊥
+unfolding LineReader.readPiece LineReader.oneByteLater LineReader.finish
+read-12 [] s h = let z : _≡_ {A = ℕ} 0 1 = cc in omega arith
+read-12 (zero ∷ bs) s h = closed-12 (Line.judgeReceived (receivedOf s)) h
+read-12 (suc b ∷ bs) s h = read-12 bs (LineReader.pushed s (suc b)) (rw eqb·suc-zero at h)
+
+tail-12 : (received : Option (List ℕ)) → LineReader.tailOf received ≡ LineReader.TailReport.refused 12 → ⊥
+tail-12 none h = let z : _≡_ {A = ℕ} 0 1 = cc in omega arith
+tail-12 (some bs) h = let z : _≡_ {A = ℕ} 0 1 = cc in omega arith
+
+data-12 : (t : Bool) → cond {A = Option ℕ} t (some 9) none ≡ some 12 → ⊥
+data-12 true h = let z : _≡_ {A = ℕ} 9 12 = cc in omega arith
+data-12 false h = let z : _≡_ {A = ℕ} 0 1 = cc in omega arith
+
+never-12 : (p : Parts) → Sound p → Never12 p
+unfolding madeMixed LineReader.readerStartPromise LineReader.readPromise LineReader.tailPromise LineReader.dataGivenPromise
+never-12 p s (MixedCalls.supervisor m) typed e h = earns-no-12 p s m e h
+never-12 p s (MixedCalls.lineStart l) typed e h =
+    let r = rw (le-leb LineReader.reader-length _ (part-long Part.reader _ (lent-valid p s l e))) at h in
+    let z : _≡_ {A = ℕ} 0 1 = cc in absurd (omega arith)
+never-12 p s (MixedCalls.lineRead l piece) typed e h = read-12 piece _ (rw (lent-valid p s l e) at h)
+never-12 p s (MixedCalls.lineTail l) typed e h = tail-12 (receivedOf (lentState l (p .reader))) (rw (lent-valid p s l e) at h)
+never-12 p s (MixedCalls.lineData l n) typed e h =
+    data-12 (ltb longest-data n) (rw (lent-valid p s l e) at h)
+
+pub no-12 : No12
+no-12 p b l d typed h cs t = never-12 _ (mixed-frames p b l d typed h cs t .3)
+
+-- ---- without calls of the line layer
+
+pub without-line-calls : WithoutLineCalls
+unfolding outputsMixed leftMixed leftMixedByFrames mixedSinceAll broughtAll madeMixed carriedMixed mixedSince broughtSince
+    outputs left leftByFrames receivedSinceAll carriedFrames
+without-line-calls q w s [] = (refl, refl, refl, refl, λ fs. refl)
+without-line-calls q w s (m ∷ ms) =
+    let i = without-line-calls (made q m .parts) (receivedSince w m) (carriedMade w s m .state) ms in (
+      rw (i .0),
+      i .1,
+      i .2,
+      i .3,
+      λ fs. ap (λ gs. broughtAll (receivedSince w m) gs (map MixedCalls.supervisor ms)) (more fs (startsAnew m)) ∙ i .4 _,
+    )
+  where
+    more : (fs : List (List ℕ)) (t : Bool) → let gs = framesClosedBy w (bytesReceivedBy m) in
+        cond t [] (map carried fs ++ map carried gs) ≡ map carried (cond t [] (fs ++ gs))
+    more fs true = refl
+    more fs false = rw map-append
+
+-- ---- a piece without a 00
+
+pushes-behind : (bs t u : List ℕ) → LineReader.validReader t ≡ true → pushedAll (t ++ u) bs ≡ pushedAll t bs ++ u
+unfolding pushedAll
+pushes-behind [] t u v = refl
+pushes-behind (b ∷ bs) t u v =
+    rw (pushed-append t u (Received.valid-long t v) b) (pushes-behind bs (LineReader.pushed t b) u (pushed-stays t b v .valid))
+
+fed-pushed : (image piece : List ℕ) (q : Parts) → NoZeros piece
+    → Receive.feedBytes image q piece ≡ withReader q (pushedAll (q .reader) piece)
+unfolding Receive.feedBytes Receive.feedByte pushedAll
+fed-pushed image [] q z = refl
+fed-pushed image (zero ∷ bs) q z = absurd (omega arith)
+fed-pushed image (suc b ∷ bs) q z = rw (eqb·suc-zero, fed-pushed image bs (withReader q (LineReader.pushed (q .reader) (suc b))) (z .1))
+
+-- where enough is lent of a reader's state, the bytes read go where they go with all of it lent
+back-pushed : (l : Loan) (r bs : List ℕ) → LineReader.validReader (lentState l r) ≡ true
+    → back l r (pushedAll (lentState l r) bs) ≡ pushedAll r bs
+back-pushed l r bs v =
+    let e = lent-enough LineReader.reader-length r l (omega arith) (part-long Part.reader (lentState l r) v) in
+    let f = front LineReader.reader-length l r e in
+    rw (f .back) (sym (pushes-behind bs (lentState l r) (f .rest) v) ∙ ap (λ x. pushedAll x bs) (f .whole))
+
+pub collected-receives : CollectedReceives
+unfolding madeMixed made did LineReader.readPromise Receive.receivePromise
+collected-receives p l k image piece z h n =
+    by (LineReader.validReader (lentState k (p .reader))) (Receive.validParts (lentOf l p)) refl refl
+  where
+    by : (t u : Bool) → LineReader.validReader (lentState k (p .reader)) ≡ t → Receive.validParts (lentOf l p) ≡ u
+        → let r = made p (receiveWith image l piece) in
+        let c = madeMixed p (MixedCalls.lineRead k piece) in
+        (c .answer ≡ MixedCalls.MixedAnswer.lineRead (length piece) LineReader.more) × (c .parts ≡ r .parts)
+    by true true e f = rw (e, f, read-all piece (lentState k (p .reader)) z) (refl, rw (fed-pushed image piece (lentOf l p) z) same)
+      where
+        t : List ℕ
+        t = pushedAll (lentState (l Part.reader) (p .reader)) piece
+
+        valid : LineReader.validReader (lentState (l Part.reader) (p .reader)) ≡ true
+        valid = parts-valid (lentOf l p) f .reader
+
+        same : withReader p (back k (p .reader) (pushedAll (lentState k (p .reader)) piece)) ≡ givenBack l p (withReader (lentOf l p) t)
+        same = rw (back-pushed k (p .reader) piece e) (simp (back-same, back-pushed (l Part.reader) (p .reader) piece valid))
+    by true false e f = absurd (undone 12 (rw f at h))
+    by false u e f = absurd (n (rw e))
