@@ -37,7 +37,8 @@ use Rattle.line.proofs.Judged.{tail-within, more-tail}
 use Rattle.supervisor_claims.proofs.claims.FramesClaim.{closed-ends}
 use Rattle.supervisor_claims.proofs.calls.RowLaws.{WhereRefused}
 use Rattle.supervisor_claims.proofs.claims.LentCalls.{valid-parts, made-12, widened-enough}
-use Rattle.counters_claims.specs.CountHistory.{didCounted, madeCounted, IsRefusal, endedAll}
+use Rattle.supervisor_claims.specs.LocalCalls.{IsRefusal}
+use Rattle.counters_claims.specs.CountHistory.{didCounted, madeCounted, endedAll}
 use Rattle.counters_claims.proofs.FrameLaws.{closed-none}
 
 -- ---- the frames of a piece

@@ -12,16 +12,16 @@ use Rattle.counters.specs.declared.Counters.{Counters}
 use Rattle.counters.specs.Count.{endedByFrame, clearedCounters, bumpedForAll}
 use Rattle.supervisor_claims.specs.View.{factoryOf, view}
 use Rattle.supervisor_claims.specs.Histories
-use Rattle.supervisor_claims.specs.Histories.{Call, Answer, Did, Made, made, outputs, left, AllTyped, startWith, OfStart}
+use Rattle.supervisor_claims.specs.Histories.{Call, Did, Made, made, outputs, left, AllTyped, startWith, OfStart}
 use Rattle.supervisor_claims.specs.FrameHistory.{receivedSince, receivedSinceAll}
 use Rattle.supervisor_claims.specs.Sound.{Sound}
 use Rattle.supervisor_claims.proofs.laws.Progress.{Since}
-use Rattle.supervisor_claims.proofs.claims.History.{one-call, history, refused-made, fault-made}
+use Rattle.supervisor_claims.proofs.claims.History.{one-call, history, refused-made}
 use Rattle.supervisor_claims.proofs.claims.InOrder.{verdict-over}
 use Rattle.supervisor_claims.proofs.claims.FramesClaim.{made-carried, by-frames}
 use Rattle.counters_claims.specs.CountHistory.{didCounted, madeCounted, Lending, didLending, outputsLending, leftLending, unlent}
 use Rattle.counters_claims.specs.CountHistory.{CountEvent, plain, counted, clear, Held, afterEvent, afterEvents, callsOfEvents}
-use Rattle.counters_claims.specs.CountHistory.{allCounted, IsRefusal, RefusedEvent, AllRefusedEvents, endedAll}
+use Rattle.counters_claims.specs.CountHistory.{allCounted, RefusedEvent, AllRefusedEvents, endedAll}
 use Rattle.counters_claims.specs.Item8.{CountersCount, CountersFromStart, OverlongOnce, BlocksAlone}
 use Rattle.counters_claims.proofs.FrameLaws.{ended-append, closedSince, frames-since}
 use Rattle.counters_claims.proofs.TallyLaws.{bumped-tally, bumped-append}
@@ -111,30 +111,14 @@ counters-count p b l d typed e block before t ms u =
 
 -- ---- calls that are refused
 
-refusal-keeps : (p : Parts) (m : Made) → IsRefusal (made p m .answer) → made p m .parts ≡ p
-refusal-keeps p m h = by (made p m .answer) refl h
-  where
-    by : (a : Answer) → made p m .answer ≡ a → IsRefusal a → made p m .parts ≡ p
-    by (Histories.refused n) e k = refused-made p m n e .0
-    by Histories.done e k = absurd k
-    by (Histories.stepped used ended) e k = absurd k
-    by (Histories.moved n) e k = absurd k
-    by (Histories.found result n) e k = absurd k
-    by (Histories.foundEdition result n) e k = absurd k
-    by (Histories.asserted b) e k = absurd k
-    by (Histories.asked reboot off) e k = absurd k
-    by (Histories.recorded r) e k = absurd k
-    by (Histories.written n) e k = absurd k
-    by (Histories.faulty n at) e k = fault-made p m n at e .0
-
 abbrev cleared : Parts → Held
 cleared p = record { parts = p; block = clearedCounters }
 
 refused-event : (p : Parts) (e : CountEvent) → RefusedEvent (cleared p) e → afterEvent (cleared p) e ≡ cleared p
 unfolding afterEvent
-refused-event p (plain m) h = rw (refusal-keeps p m h)
+refused-event p (plain m) h = rw (refused-made p m h .0)
 refused-event p (counted m) h =
-    after-counted (cleared p) m ∙ rw (refusal-keeps p m h, refused-counts clearedCounters p (m .lent) (m .call) h)
+    after-counted (cleared p) m ∙ rw (refused-made p m h .0, refused-counts clearedCounters p (m .lent) (m .call) h)
 refused-event p clear h = refl
 
 refused-events : (p : Parts) (es : List CountEvent) → AllRefusedEvents (cleared p) es → afterEvents (cleared p) es ≡ cleared p

@@ -11,8 +11,9 @@ use Rattle.responder.specs.Receive.{Ended, receivePromise, stepPromise}
 use Rattle.counters.specs.declared.Counters.{Counters}
 use Rattle.counters.specs.Count.{endedByFrame, clearedCounters, bumpedFor}
 use Rattle.counters.specs.Counting.{countPromise}
+use Rattle.supervisor_claims.specs.LocalCalls.{IsRefusal}
 use Rattle.supervisor_claims.specs.Histories
-use Rattle.supervisor_claims.specs.Histories.{Call, Answer, Did, didBy, refusal, stepAnswer, did, lentOf, givenBack, Made, made, Output}
+use Rattle.supervisor_claims.specs.Histories.{Call, Did, didBy, refusal, stepAnswer, did, lentOf, givenBack, Made, made, Output}
 use Rattle.supervisor_claims.specs.FrameHistory.{bytesReceivedBy, startsAnew}
 
 -- ---- A call that is lent a block
@@ -107,20 +108,6 @@ allCounted [] = []
 allCounted (m ∷ ms) = counted m ∷ allCounted ms
 
 -- ---- Calls that are refused
-
--- the table's number, or a fault of an image with its offset
-abbrev pub IsRefusal : Answer → Type 0
-IsRefusal (Histories.refused n) = Unit {0}
-IsRefusal Histories.done = ⊥
-IsRefusal (Histories.stepped used ended) = ⊥
-IsRefusal (Histories.moved n) = ⊥
-IsRefusal (Histories.found result n) = ⊥
-IsRefusal (Histories.foundEdition result n) = ⊥
-IsRefusal (Histories.asserted b) = ⊥
-IsRefusal (Histories.asked reboot off) = ⊥
-IsRefusal (Histories.recorded r) = ⊥
-IsRefusal (Histories.written n) = ⊥
-IsRefusal (Histories.faulty n at) = Unit {0}
 
 -- a call that is refused, lent the block or not, or another clear of it
 abbrev pub RefusedEvent : Held → CountEvent → Type 0

@@ -12,7 +12,7 @@ use Rattle.supervisor_claims.proofs.calls.StartClaim.{start-meant}
 use Rattle.supervisor_claims.proofs.calls.LookupClaim.{edition-meant}
 use Rattle.supervisor_claims.proofs.claims.Refusals.{each-number-exactly, refused-exactly, refused-holds, parts-fit}
 use Rattle.supervisor_claims.proofs.claims.LentCalls.{made-12}
-use Rattle.supervisor_claims.proofs.claims.History.{one-call, refused-made, fault-made, history, cut}
+use Rattle.supervisor_claims.proofs.claims.History.{one-call, refused-made, history, cut}
 use Rattle.supervisor_claims.proofs.claims.History.{step-receives, step-then-receive, steps-receive}
 use Rattle.supervisor_claims.proofs.claims.InOrder.{in-order, in-order-behind, request-carried, failure-only-pending}
 use Rattle.supervisor_claims.proofs.claims.FramesClaim.{history-frames, each-once, received-since, in-order-after}
@@ -45,7 +45,7 @@ number-due = record {
 }
 
 pub as-it-was : SupervisorAsItWas
-as-it-was = record { refused-holds = refused-holds; refused-made = refused-made; fault-made = fault-made }
+as-it-was = record { refused-holds = refused-holds; refused-made = refused-made }
 
 pub carried-out : RequestsCarriedOut
 carried-out = record {

@@ -18,8 +18,9 @@ use Rattle.supervisor_claims.specs.ByPart.{Part, published, part, validP
 use Rattle.supervisor_claims.specs.View.{factoryOf, view}
 use Rattle.supervisor_claims.specs.Sound.{Sound, Leaves}
 use Rattle.supervisor_claims.specs.LocalCalls.{localRow}
+use Rattle.supervisor_claims.specs.LocalCalls.{IsRefusal}
 use Rattle.supervisor_claims.specs.Histories
-use Rattle.supervisor_claims.specs.Histories.{Call, Typed, refused, faulty, Did, didBy, did, Means, ofTaken, enough}
+use Rattle.supervisor_claims.specs.Histories.{Call, Typed, refused, Did, didBy, did, Means, ofTaken, enough}
 use Rattle.supervisor_claims.specs.Histories.{Made, untouched, made, meantMade, FromStart}
 use Rattle.supervisor_claims.specs.MixedCalls.{MixedCall, TypedMixed, AllTypedMixed, enoughMixed, Says12, madeMixed, leftMixed}
 
@@ -91,19 +92,13 @@ pub record SupervisorNumberDue : Type 0 where
 -- ---- Everything lent as it was
 
 abbrev pub RefusedHolds : Type 0
-RefusedHolds = (p : Parts) (c : Call) (n : ℕ) → did p c .answer ≡ refused n → (did p c .parts ≡ p) × (did p c .out ≡ untouched c)
+RefusedHolds = (p : Parts) (c : Call) → IsRefusal (did p c .answer) → (did p c .parts ≡ p) × (did p c .out ≡ untouched c)
 
 abbrev pub RefusedMade : Type 0
-RefusedMade = (p : Parts) (m : Made) (n : ℕ) → made p m .answer ≡ refused n → (made p m .parts ≡ p) × (made p m .out ≡ untouched (m .call))
-
-abbrev pub FaultMade : Type 0
-FaultMade = (p : Parts) (m : Made) (n at : ℕ) → made p m .answer ≡ faulty n at
-    → (made p m .parts ≡ p) × (made p m .out ≡ untouched (m .call))
+RefusedMade = (p : Parts) (m : Made) → IsRefusal (made p m .answer) → (made p m .parts ≡ p) × (made p m .out ≡ untouched (m .call))
 
 pub record SupervisorAsItWas : Type 0 where
-  -- a refused call leaves state and output buffers as they were
+  -- a refused call leaves state and output buffers as they were, a restore that finds a fault too, 30 to 35
   pub refused-holds : RefusedHolds
   -- the same whatever it is lent
   pub refused-made : RefusedMade
-  -- so does a restore that finds a fault, 30 to 35, which it answers with the fault's offset
-  pub fault-made : FaultMade

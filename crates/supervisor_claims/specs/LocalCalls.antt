@@ -86,6 +86,17 @@ kindOf (recorded r) = AnswerKind.other
 kindOf (written n) = AnswerKind.other
 kindOf (faulty n at) = AnswerKind.fault n
 
+-- a refusal with the table's number, or with a fault's: 30 to 35 of a restore
+abbrev pub RefusedKind : AnswerKind → Type 0
+RefusedKind (AnswerKind.number n) = Unit {0}
+RefusedKind (AnswerKind.fault n) = Unit {0}
+RefusedKind AnswerKind.carried-out = ⊥
+RefusedKind (AnswerKind.taken n) = ⊥
+RefusedKind AnswerKind.other = ⊥
+
+abbrev pub IsRefusal : Answer → Type 0
+IsRefusal a = RefusedKind (kindOf a)
+
 -- ---- Answers by the promises
 
 abbrev pub refusal : Option ℕ → Answer

@@ -27,15 +27,15 @@ use Rattle.supervisor_claims.proofs.laws.AlikeLaws.{Alike}
 -- ---- refusals
 
 -- what holds of the number where an answer is a refusal or a fault
+abbrev pub WhereKind : AnswerKind → (ℕ → Type 0) → Type 0
+WhereKind (AnswerKind.number n) X = X n
+WhereKind (AnswerKind.fault n) X = X n
+WhereKind AnswerKind.carried-out X = Unit {0}
+WhereKind (AnswerKind.taken n) X = Unit {0}
+WhereKind AnswerKind.other X = Unit {0}
+
 abbrev pub WhereRefused : Answer → (ℕ → Type 0) → Type 0
-WhereRefused a X = by (kindOf a)
-  where
-    by : AnswerKind → Type 0
-    by (AnswerKind.number n) = X n
-    by (AnswerKind.fault n) = X n
-    by AnswerKind.carried-out = Unit {0}
-    by (AnswerKind.taken n) = Unit {0}
-    by AnswerKind.other = Unit {0}
+WhereRefused a X = WhereKind (kindOf a) X
 
 -- its number is not 12, and nothing has changed
 abbrev pub Other : Parts → Call → Did → Type 0

@@ -116,5 +116,5 @@ cut-any image i l p b ps qs h k e = (x .0 ∙ sym (y .0), by (Receive.validParts
         → (AllDone image l p ps × AllDone image l p qs) ⊎ (AllRefused image l p ps × AllRefused image l p qs)
     by true a = inl (rw a at (x .1), rw a at (y .1))
     by false a =
-        let z = refused-made p (receiveWith image l (flatten qs)) 12 a .0 in
+        let z = refused-made p (receiveWith image l (flatten qs)) (rw a tt) .0 in
         inr ((rw a at (x .1), x .0 ∙ z), (rw a at (y .1), y .0 ∙ z))

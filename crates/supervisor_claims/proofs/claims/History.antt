@@ -24,7 +24,7 @@ use Rattle.supervisor_claims.specs.Histories.{Call, Typed, refused, done
 use Rattle.supervisor_claims.specs.Histories.{Lent, lentOf, takesPart, enough, Made, made, meantMade, outputs, left, outputsMeant}
 use Rattle.supervisor_claims.specs.Histories.{leftMeant, AllTyped}
 use Rattle.supervisor_claims.specs.Histories.{startWith}
-use Rattle.supervisor_claims.specs.Demand1.{partAsked, partsFitCall, Meets, OneCall, RefusedMade, FaultMade}
+use Rattle.supervisor_claims.specs.Demand1.{partAsked, partsFitCall, Meets, OneCall, RefusedMade}
 use Rattle.supervisor_claims.specs.Demand2.{Follows, stepCalls, History, Cut, StepReceives, StepThenReceive, StepsReceive}
 use Rattle.supervisor_claims.proofs.ByPart.{every, of, every-true, part-long}
 use Rattle.supervisor_claims.proofs.Sound.{lengths-same, lengths-then, valid-long}
@@ -33,7 +33,7 @@ use Rattle.supervisor_claims.proofs.calls.StartClaim.{start-refused}
 use Rattle.supervisor_claims.proofs.calls.ReceiveClaim.{fed-leaves}
 use Rattle.supervisor_claims.proofs.calls.StepClaim.{step-fed}
 use Rattle.supervisor_claims.proofs.calls.CallClaims.{start-leaves, call-meets}
-use Rattle.supervisor_claims.proofs.claims.Refusals.{refused-12, refused-holds, fault-holds, refused-exactly}
+use Rattle.supervisor_claims.proofs.claims.Refusals.{refused-12, refused-holds, refused-exactly}
 use Rattle.supervisor_claims.proofs.calls.RowLaws.{WhereRefused}
 use Rattle.supervisor_claims.proofs.claims.LentCalls.{parts-valid, valid-parts, made-12, widened-enough, widened-same}
 
@@ -41,14 +41,8 @@ use Rattle.supervisor_claims.proofs.claims.LentCalls.{parts-valid, vali
 
 pub refused-made : RefusedMade
 unfolding made
-refused-made p m n e =
-    let h = refused-holds (lentOf (m .lent) p) (m .call) n e in
-    (rw (h .0) (back-lent (m .lent) p), h .1)
-
-pub fault-made : FaultMade
-unfolding made
-fault-made p m n at e =
-    let h = fault-holds (lentOf (m .lent) p) (m .call) n at e in
+refused-made p m e =
+    let h = refused-holds (lentOf (m .lent) p) (m .call) e in
     (rw (h .0) (back-lent (m .lent) p), h .1)
 
 -- ---- one call

@@ -17,11 +17,12 @@ use Rattle.supervisor.specs.Calls.{Parts}
 use Rattle.responder.specs.Receive
 use Rattle.supervisor_claims.specs.ByPart.{part, validPart, everyPart}
 use Rattle.supervisor_claims.specs.View.{factoryOf}
+use Rattle.supervisor_claims.specs.LocalCalls.{AnswerKind, kindOf, RefusedKind}
 use Rattle.supervisor_claims.specs.Histories
 use Rattle.supervisor_claims.specs.Histories.{Call, Typed, Answer, refused, Did, didBy, did, refusal, untouched}
 use Rattle.supervisor_claims.specs.Demand1.{partsFitCall, laterTests, EachNumberExactly, RefusedExactly, RefusedHolds, PartsFit}
 use Rattle.supervisor_claims.proofs.laws.GoodStart.{good-bad}
-use Rattle.supervisor_claims.proofs.calls.RowLaws.{Other, Unrefused, unrefused, Tested}
+use Rattle.supervisor_claims.proofs.calls.RowLaws.{WhereKind, Other, Unrefused, unrefused, Tested}
 use Rattle.supervisor_claims.proofs.calls.LocalLaws.{row-laws}
 use Rattle.supervisor_claims.proofs.calls.StepClaim.{valid-step-stepped}
 
@@ -121,18 +122,20 @@ refused-exactly p c = (by (partsFitCall p c) refl, λ e. ap (λ (x : Did). x .an
     by true e h = absurd ((rw h at (fit-other p c e)) .0 refl)
     by false e h = e
 
--- so does a fault
-pub fault-holds : (p : Parts) (c : Call) (n at : ℕ) → did p c .answer ≡ Histories.faulty n at
-    → (did p c .parts ≡ p) × (did p c .out ≡ untouched c)
-fault-holds p c n at h = by (partsFitCall p c) refl
-  where
-    by : (t : Bool) → partsFitCall p c ≡ t → (did p c .parts ≡ p) × (did p c .out ≡ untouched c)
-    by true e = let k = rw h at (fit-other p c e) in (k .1, k .2)
-    by false e = rw (refused-12 p c e) (refl, refl)
+-- ---- a refusal changes nothing
+
+module _ (p : Parts) (c : Call) (d : Did) where
+  unchanged : (k : AnswerKind) → WhereKind k (λ n. (n ≡ 12 → ⊥) × (d .parts ≡ p) × (d .out ≡ untouched c)) → RefusedKind k
+      → (d .parts ≡ p) × (d .out ≡ untouched c)
+  unchanged (AnswerKind.number n) w r = (w .1, w .2)
+  unchanged (AnswerKind.fault n) w r = (w .1, w .2)
+  unchanged AnswerKind.carried-out w r = absurd r
+  unchanged (AnswerKind.taken n) w r = absurd r
+  unchanged AnswerKind.other w r = absurd r
 
 pub refused-holds : RefusedHolds
-refused-holds p c n h = by (partsFitCall p c) refl
+refused-holds p c h = by (partsFitCall p c) refl
   where
     by : (t : Bool) → partsFitCall p c ≡ t → (did p c .parts ≡ p) × (did p c .out ≡ untouched c)
-    by true e = let k = rw h at (fit-other p c e) in (k .1, k .2)
+    by true e = unchanged p c (did p c) (kindOf (did p c .answer)) (fit-other p c e) h
     by false e = rw (refused-12 p c e) (refl, refl)
