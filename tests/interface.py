@@ -1,12 +1,14 @@
 #!/usr/bin/env python3
 """Compares the C interface where it is written down: the functions of crates/oatcastle/src, include/oatcastle.h and
 bindings/rust/src/raw.rs by name, parameters' names and kinds; the records that they take, by their fields; every #define of the header, and the
-wrapper's numbers, with the crates.
+wrapper's numbers, with the crates. Every constant of the crates behind them must be named in the code of a function, or in another constant that is: a
+number that no function names is held by no contract.
 Assumes the layouts of these files as `rt fmt` and their own style have them.
 
 usage: tests/interface.py [planted]
 
-planted: changes each #define, each parameter, each record's fields and each number of the wrapper in turn, in memory alone, and asks that every change be seen"""
+planted: changes each #define, each parameter, each record's fields and each number of the wrapper in turn, takes each constant of the crates out of
+the functions, in memory alone, and asks that every change be seen"""
 import functools
 import pathlib
 import re
@@ -433,6 +435,54 @@ def wrapper_faults(texts):
             yield f'{name}: bindings/rust/src has none, the crates {wanted[name]}'
 
 
+# ---- Ties: constants of the crates that a function names
+
+CONSTANT = r'^(?:pub(?:\(crate\))? )?const (\w+): [^=]+=\s*([^;]+);'
+
+
+def sources():
+    """The code of the crates that the library is made of, by file."""
+    crates = re.search(r'^oatcastle: (.*)$', read('crates.txt'), re.M).group(1).split()
+    return {path.relative_to(ROOT).as_posix(): path.read_text() for crate in ['oatcastle', *crates] for path in sorted((ROOT / 'crates' / crate / 'src').glob('*.rt'))}
+
+
+def spelled(constant, where):
+    """How a file names a constant: bare in its own, behind its module's name in another."""
+    path, name = constant
+    module = path.split('/')[1] if path.endswith('/lib.rt') else pathlib.Path(path).stem
+    return name if path == where else f'{module}::{name}'
+
+
+@functools.cache
+def named_in(text):
+    """The names of a text, each with the module ahead of it."""
+    return {'::'.join(path.split('::')[-2:]) for path in re.findall(r'\w+(?:::\w+)*', re.sub(r'//[^\n]*', '', text))}
+
+
+@functools.cache
+def made_in(text):
+    """The constants of a text with their values, and the text without them."""
+    return re.findall(CONSTANT, text, re.M), re.sub(CONSTANT, '', text, flags=re.M)
+
+
+def tie_faults(code):
+    """The constants that no function names, nor another constant that one names."""
+    values = {(path, name): value for path, text in code.items() for name, value in made_in(text)[0]}
+    tied, more = set(), {constant for constant in values if any(spelled(constant, path) in named_in(made_in(text)[1]) for path, text in code.items())}
+    while more:
+        tied |= more
+        more = {constant for constant in values.keys() - tied if any(spelled(constant, other[0]) in named_in(values[other]) for other in tied)}
+    return [f'{path}: no function names {name}, so that no contract holds it' for path, name in values if (path, name) not in tied]
+
+
+def untied(code):
+    """Each constant, and the code without its name but where it is made."""
+    for path, text in code.items():
+        for name, _ in made_in(text)[0]:
+            taken = {where: re.sub(rf'\b{spelled((path, name), where)}\b', '0', other) if name in other else other for where, other in code.items()}
+            yield name, {**taken, path: taken[path].replace('const 0:', f'const {name}:')}
+
+
 def as_written():
     return {path: read(path) for path in (HEADER, RAW, *WRAPPER)}
 
@@ -502,18 +552,21 @@ def try_planted():
     texts = as_written()
     changes = list(planted(texts))
     unseen = [f'{path}: {what}' for path, what, text in changes if not faults({**texts, path: text})]
+    taken = list(untied(sources()))
+    unseen += [f'{name} taken out of the functions' for name, code in taken if not tie_faults(code)]
     for line in unseen:
         print('not seen: ' + line)
-    print(f'interface: {len(changes)} changes planted, {len(unseen)} not seen')
+    print(f'interface: {len(changes) + len(taken)} changes planted, {len(unseen)} not seen')
     return 1 if unseen else 0
 
 
 def main():
     texts = as_written()
-    found = faults(texts)
+    code = sources()
+    found = [*faults(texts), *tie_faults(code)]
     for fault in found:
         print(fault)
-    print(f'interface: {len(exported())} functions, {len(RECORDS)} records, {len(wanted_numbers())} constants and {len(list(wrapper_numbers(texts)))} numbers of the wrapper compared, {len(found)} differ')
+    print(f'interface: {len(exported())} functions, {len(RECORDS)} records, {len(wanted_numbers())} constants and {len(list(wrapper_numbers(texts)))} numbers of the wrapper compared, {sum(len(made_in(text)[0]) for text in code.values())} constants looked for in the functions, {len(found)} faults')
     return 1 if found or not exported() else 0
 
 

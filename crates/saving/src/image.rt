@@ -4,6 +4,7 @@ use supervisor::layout;
 ghost use mathlib.Core.Path.{_≡_};
 ghost use Rattle.octets.specs.Bytes.{run};
 ghost use Rattle.line.specs.Checksum.{checksum};
+ghost use Rattle.saving.specs.Calls.{longest-image};
 
 // The saved settings are those from the first to this one.
 pub(crate) const HIGHEST_SAVED: u8 = 5;
@@ -30,6 +31,13 @@ pub const LONGEST_IMAGE: usize = 3 * RECORD_LENGTH
     + layout::LONGEST_KEY_4
     + layout::LONGEST_KEY_5
     + MARK_LENGTH;
+
+// The length of a room that takes every image.
+pub fn longest_image() -> usize
+    ensures { λ r. ⌜ r ≡ longest-image ⌝ }
+{
+    LONGEST_IMAGE
+}
 
 // The checksum of n bytes from an offset on.
 pub(crate) fn checksum_of(image: &[u8], at: usize, n: usize) -> u16
