@@ -1,6 +1,6 @@
 #!/usr/bin/env python3
-"""Checks that every edit applies to the sources as they are: those of crates/*/must-fail, which the gate tries, and of tests/mutants.
-Assumes the form that tests/mutants/run reads, and asks its function.
+"""Checks that every edit applies to the sources as they are and is named in docs/PROMISES.md or docs/CLAIMS.md: those of crates/*/must-fail,
+which the gate tries, and of tests/mutants. Assumes the form that tests/mutants/run reads, and asks its function.
 
 usage: tests/edits.py"""
 import importlib.machinery
@@ -45,9 +45,11 @@ def fault(path, crate):
 
 def main():
     found = list(edits())
+    texts = ''.join((ROOT / 'docs' / name).read_text() for name in ('PROMISES.md', 'CLAIMS.md'))
     wrong = [f'{path.relative_to(ROOT)}: {fault(path, crate)}' for path, crate in found if fault(path, crate)]
-    print('\n'.join(wrong + [f'edits: {len(found)}, {len(wrong)} of them do not apply']))
-    sys.exit(1 if wrong or not found else 0)
+    unnamed = [f'{path.relative_to(ROOT)}: no document names it' for path, _ in found if f'`{path.stem}`' not in texts]
+    print('\n'.join(wrong + unnamed + [f'edits: {len(found)}, {len(wrong)} of them do not apply, {len(unnamed)} have no name in a document']))
+    sys.exit(1 if wrong or unnamed or not found else 0)
 
 
 main()
