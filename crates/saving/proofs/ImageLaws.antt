@@ -2,21 +2,23 @@
 -- Assumes nothing.
 use mathlib.Core.Path.{_≡_, refl, ap, _∙_}
 use mathlib.Core.Bool.{Bool, true, false}
-use mathlib.Core.List.{List, [], _++_}
+use mathlib.Core.List.{List, [], _∷_, _++_}
+use mathlib.Core.Option.{some}
 use Prim.Native.Nat.{ℕ, suc, _+_, _-_, _≤_, _<_}
 use native.Mathlib.Omega.{arith}
 use lib.Dec.{eqb}
-use lib.ListN.{length, length-append}
+use lib.ListN.{length, take, replicate, length-append, length-replicate}
 use borrow.Author.Tests.{eq-eqb, ne-eqb, eqb-true, eqb-false}
 use Rattle.octets.specs.Bytes.{run, overlay, copied}
 use Rattle.octets.proofs.Overlay.{length-run, overlay-next, copied-fits}
-use Rattle.supervisor.specs.Limits.{first-setting, SettingsKey, longest-setting}
+use Rattle.supervisor.specs.Limits.{first-setting, SettingsKey, longest-settings, longest-setting}
+use Rattle.supervisor.specs.State.{Settings}
 use Rattle.supervisor.specs.Layout.{setting-offset, setting-value-offset, settingHeld, settingEdition, settingLength}
 use Rattle.supervisor.specs.Valid.{validSettings}
 use Rattle.supervisor.proofs.OffsetLaws.{offset-within}
 use Rattle.supervisor.proofs.ValidLaws.{settings-valid}
-use Rattle.saving.specs.Saving.{saved-count, end-mark, savedRecord}
-use Rattle.saving.specs.Calls.{savedRecordBytes, savedRecordsFrom, imageBytes, longest-image}
+use Rattle.saving.specs.Saving.{saved-count, end-mark, savedRecord, imageFrom, saved}
+use Rattle.saving.specs.Calls.{savedRecordBytes, savedRecordsFrom, imageBytes, records-size, longest-image}
 use Rattle.saving.proofs.StoreLaws.{length-record}
 
 -- ---- a record
@@ -107,3 +109,19 @@ image-short s valid =
       record-most s 4 valid (record { lower = omega arith; upper = omega arith }),
       record-most s 5 valid (record { lower = omega arith; upper = omega arith }),
     ))
+
+-- settings with values of these lengths
+abbrev pub settings-of : List ℕ → Settings
+settings-of [] = []
+settings-of (n ∷ ns) = record { edition = 0; value = some (replicate n 0) } ∷ settings-of ns
+
+image-size : (key : ℕ) (ns : List ℕ) → length (imageFrom key (settings-of ns)) ≡ records-size ns
+unfolding imageFrom
+image-size key [] = refl
+image-size key (n ∷ ns) =
+    simp length-append (omega (arith, length-record key 0 (replicate n 0), length-replicate {A = ℕ} n 0, image-size (suc key) ns))
+
+-- an image of settings at their longest is as long
+pub image-longest : length (saved (settings-of longest-settings)) ≡ longest-image
+unfolding saved
+image-longest = image-size first-setting (take saved-count longest-settings)
