@@ -16,13 +16,19 @@ use Rattle.supervisor_claims.specs.Histories.{Call, Did, Made, made, outputs, l
 use Rattle.supervisor_claims.specs.FrameHistory.{receivedSince, receivedSinceAll}
 use Rattle.supervisor_claims.specs.Sound.{Sound}
 use Rattle.supervisor_claims.proofs.laws.Progress.{Since}
-use Rattle.supervisor_claims.proofs.claims.History.{one-call, history, refused-made}
+use Rattle.supervisor_claims.proofs.claims.History.{one-call, started, history, refused-made}
 use Rattle.supervisor_claims.proofs.claims.InOrder.{verdict-over}
 use Rattle.supervisor_claims.proofs.claims.FramesClaim.{made-carried, by-frames}
+use Rattle.supervisor_claims.proofs.claims.MixedClaim.{mixed-meets}
+use Rattle.supervisor_claims.specs.MixedCalls.{madeMixed, mixedSince}
+use Rattle.supervisor.specs.State.{fresh}
+use Rattle.octets.specs.Bytes.{Each}
+use Rattle.line.specs.Judge.{progressOf}
 use Rattle.counters_claims.specs.CountHistory.{didCounted, madeCounted, Lending, didLending, outputsLending, leftLending, unlent}
 use Rattle.counters_claims.specs.CountHistory.{CountEvent, plain, counted, clear, Held, afterEvent, afterEvents, callsOfEvents}
 use Rattle.counters_claims.specs.CountHistory.{allCounted, RefusedEvent, AllRefusedEvents, endedAll}
-use Rattle.counters_claims.specs.Item8.{CountersCount, CountersFromStart, OverlongOnce, BlocksAlone}
+use Rattle.counters_claims.specs.CountHistory.{MixedEvent, lentBlock, withoutBlock, afterMixedEvents, TypedEvent, framesCounted}
+use Rattle.counters_claims.specs.Item8.{CountersCount, CountersFromStart, MixedCount, OverlongOnce, BlocksAlone}
 use Rattle.counters_claims.proofs.FrameLaws.{ended-append, closedSince, frames-since}
 use Rattle.counters_claims.proofs.TallyLaws.{bumped-tally, bumped-append}
 use Rattle.counters_claims.proofs.CallCounts.{refused-counts, call-counts}
@@ -108,6 +114,29 @@ counters-count p b l d typed e block before t ms u =
     ∙ (ap (λ (r : Parts). afterEvents (record { parts = r; block = clearedCounters }) (allCounted ms) .block)
     (parts-so before (record { parts = q; block = block }))
     ∙ (y ∙ rw (frames-since w ms) (bumped-tally (endedAll (closedSince w ms)))))
+
+-- ---- the line layer's own calls among them
+
+mixed-counts : (es : List MixedEvent) (w : List ℕ) (p : Parts) → Sound p → Since (split w .rest) (view p) → Each TypedEvent es
+    → (c : Counters) → afterMixedEvents (record { parts = p; block = c }) es .block ≡ bumpedForAll c (endedAll (framesCounted w es))
+unfolding afterMixedEvents framesCounted endedAll bumpedForAll
+mixed-counts [] w p s h t c = refl
+mixed-counts (lentBlock m ∷ es) w p s h t c =
+    let k = one-call p m s (t .0) .leaves in
+    let g : Since (split (receivedSince w m) .rest) (view (made p m .parts)) = rw (k .0) (made-carried w (view p) h m .1) in
+    let i = mixed-counts es (receivedSince w m) (made p m .parts) (k .1) g (t .1) (madeCounted c p m .block) in
+    ap (λ (x : Held). afterMixedEvents x es .block) (after-counted (record { parts = p; block = c }) m)
+    ∙ (i ∙ rw (call-counts w p s h c m, ended-append, bumped-append))
+mixed-counts (withoutBlock x ∷ es) w p s h t c =
+    let k = mixed-meets w p s h x (t .0) in
+    mixed-counts es (mixedSince w x) (madeMixed p x .parts) (k .leaves .1) (rw (k .leaves .0) (k .since)) (t .1) c
+
+pub mixed-count : OfStart MixedCount
+unfolding fresh progressOf split
+mixed-count p b l d typed e block es t =
+    let k = started p b l d typed e in
+    let z : Since [] (fresh (factoryOf d)) = record { received = refl; nonzero = tt } in
+    mixed-counts es [] _ (k .1) (rw (k .0) z) t block
 
 -- ---- calls that are refused
 

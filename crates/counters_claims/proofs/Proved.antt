@@ -3,13 +3,14 @@
 use Rattle.counters_claims.specs.Item8.{CountersItem8}
 use Rattle.counters_claims.specs.Item14.{CountersItem14}
 use Rattle.counters_claims.proofs.TallyLaws.{each-counted-once}
-use Rattle.counters_claims.proofs.Item8.{counters-count, counters-from-start, overlong-once, blocks-alone}
+use Rattle.counters_claims.proofs.Item8.{counters-count, counters-from-start, mixed-count, overlong-once, blocks-alone}
 use Rattle.counters_claims.proofs.Item14.{two-counted-states, two-counted-runs}
 
 pub item-8 : CountersItem8
 item-8 = record {
   counters-count = counters-count;
   counters-from-start = counters-from-start;
+  mixed-count = mixed-count;
   overlong-once = overlong-once;
   each-counted-once = each-counted-once;
   blocks-alone = blocks-alone;

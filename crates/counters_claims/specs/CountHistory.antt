@@ -5,7 +5,7 @@ use mathlib.Core.List.{List, [], _∷_, _++_}
 use mathlib.Core.Option.{Option, none, some}
 use Prim.Native.Nat.{ℕ}
 use lib.ListN.{length, drop}
-use Rattle.line.specs.Frame.{split}
+use Rattle.line.specs.Frame.{split, closedBehind}
 use Rattle.supervisor.specs.Calls.{Parts}
 use Rattle.responder.specs.Receive.{Ended, receivePromise, stepPromise}
 use Rattle.counters.specs.declared.Counters.{Counters}
@@ -14,7 +14,9 @@ use Rattle.counters.specs.Counting.{countPromise}
 use Rattle.supervisor_claims.specs.LocalCalls.{IsRefusal}
 use Rattle.supervisor_claims.specs.Histories
 use Rattle.supervisor_claims.specs.Histories.{Call, Did, didBy, refusal, stepAnswer, did, lentOf, givenBack, Made, made, Output}
-use Rattle.supervisor_claims.specs.FrameHistory.{bytesReceivedBy, startsAnew}
+use Rattle.supervisor_claims.specs.Histories.{Typed}
+use Rattle.supervisor_claims.specs.FrameHistory.{bytesReceivedBy, startsAnew, receivedSince}
+use Rattle.supervisor_claims.specs.MixedCalls.{MixedCall, TypedMixed, madeMixed, mixedSince}
 
 -- ---- A call that is lent a block
 
@@ -119,6 +121,28 @@ RefusedEvent h clear = Unit {0}
 abbrev pub AllRefusedEvents : Held → List CountEvent → Type 0
 AllRefusedEvents h [] = Unit {0}
 AllRefusedEvents h (e ∷ es) = RefusedEvent h e × AllRefusedEvents (afterEvent h e) es
+
+-- ---- Calls of the line layer among them
+
+-- a call of the supervisor that is lent the block, or a call of either that is not
+pub data MixedEvent : Type 0 where
+  lentBlock : Made → MixedEvent
+  withoutBlock : MixedCall → MixedEvent
+
+unfoldable pub afterMixedEvents : Held → List MixedEvent → Held
+afterMixedEvents h [] = h
+afterMixedEvents h (lentBlock m ∷ es) = afterMixedEvents (afterEvent h (counted m)) es
+afterMixedEvents h (withoutBlock c ∷ es) = afterMixedEvents (record { parts = madeMixed (h .parts) c .parts; block = h .block }) es
+
+abbrev pub TypedEvent : MixedEvent → Type 0
+TypedEvent (lentBlock m) = Typed (m .call)
+TypedEvent (withoutBlock c) = TypedMixed c
+
+-- the frames whose 00 the calls brought that are lent the block, where the bytes w came before
+unfoldable pub framesCounted : List ℕ → List MixedEvent → List (List ℕ)
+framesCounted w [] = []
+framesCounted w (lentBlock m ∷ es) = closedBehind w (bytesReceivedBy m) ++ framesCounted (receivedSince w m) es
+framesCounted w (withoutBlock c ∷ es) = framesCounted (mixedSince w c) es
 
 -- ---- The frames
 

@@ -5,16 +5,17 @@ use mathlib.Core.Bool.{Bool}
 use mathlib.Core.List.{List, [], _∷_, _++_}
 use Prim.Native.Nat.{ℕ, _+_, _<_}
 use lib.ListN.{length}
+use Rattle.octets.specs.Bytes.{Each}
 use Rattle.line.specs.Limits.{longest-form}
 use Rattle.supervisor.specs.Calls.{Parts}
 use Rattle.responder.specs.Receive.{Ended}
 use Rattle.counters.specs.declared.Counters.{Counters}
-use Rattle.counters.specs.Count.{endedByFrame, clearedCounters, isGood, isEmpty, isReason, howMany, tallyOf}
+use Rattle.counters.specs.Count.{endedByFrame, clearedCounters, bumpedForAll, isGood, isEmpty, isReason, howMany, tallyOf}
 use Rattle.supervisor_claims.specs.Histories.{Lent, Made, made, AllTyped, startWith, OfStart}
 use Rattle.supervisor_claims.specs.FrameHistory.{receivedSinceAll}
 use Rattle.counters_claims.specs.CountHistory.{Lending, outputsLending, leftLending, unlent}
 use Rattle.counters_claims.specs.CountHistory.{CountEvent, plain, clear, afterEvents, callsOfEvents, allCounted, framesSince}
-use Rattle.counters_claims.specs.CountHistory.{AllRefusedEvents, endedAll}
+use Rattle.counters_claims.specs.CountHistory.{AllRefusedEvents, MixedEvent, afterMixedEvents, TypedEvent, framesCounted, endedAll}
 
 -- a number for each of the nine kinds of frames that a block counts, all together
 abbrev pub nine : ((Ended → Bool) → ℕ) → ℕ
@@ -33,6 +34,11 @@ CountersFromStart p l d =
     → (ms : List Made) → AllTyped ms
     → afterEvents (record { parts = p; block = block }) (clear ∷ (between ++ plain (startWith l d) ∷ allCounted ms)) .block
     ≡ tallyOf (endedAll (framesSince [] ms))
+
+abbrev pub MixedCount : Parts → Lent → List ℕ → Type 0
+MixedCount p l d = (block : Counters) (es : List MixedEvent) → Each TypedEvent es
+    → afterMixedEvents (record { parts = made p (startWith l d) .parts; block = block }) es .block
+    ≡ bumpedForAll block (endedAll (framesCounted [] es))
 
 abbrev pub OverlongOnce : Type 0
 OverlongOnce = (f : List ℕ) → longest-form < length f → endedByFrame f ≡ Ended.failed 1
@@ -53,6 +59,9 @@ pub record CountersItem8 : Type 0 where
   -- The same where the block is cleared ahead of that start, with any calls between that are refused, lent the block or not.
   -- They change nothing and count nothing.
   pub counters-from-start : OfStart CountersFromStart
+  -- With the line layer's own calls among them: exactly the frames count whose 00 a call brought that is lent the block.
+  -- A frame whose 00 a line read brings counts nowhere.
+  pub mixed-count : OfStart MixedCount
   -- a frame of more bytes than a form has counts as reason 1
   pub overlong-once : OverlongOnce
   -- every frame is counted, in one counter: the numbers of the nine kinds of frames come to the number of all

@@ -90,7 +90,7 @@ judgeReceived none = some (failure reason-form none)
 judgeReceived (some []) = none
 judgeReceived (some (b ∷ bs)) = some (judge (b ∷ bs))
 
--- the bytes of its form, unless it is none
+-- the bytes that its form decodes to; none where it decodes to none
 abbrev pub decodedReceived : Option (List ℕ) → Option (List ℕ)
 decodedReceived none = none
 decodedReceived (some form) = uncobs form

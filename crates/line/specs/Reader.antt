@@ -176,7 +176,7 @@ partOf (some number) part = []
 unfoldable pub dataPromise : List ℕ → ℕ → List ℕ
 dataPromise s n = partOf (dataGivenPromise s n) (run data-offset n s)
 
--- which begins where the state does; else the part begins at the data's offset
+-- where the part begins: at the data's offset; a refused call's where the state begins
 unfoldable pub dataPlaceByRefusal : Option ℕ → LentBytes → Place
 dataPlaceByRefusal none s = placeIn s data-offset
 dataPlaceByRefusal (some number) s = placeIn s 0

@@ -147,7 +147,7 @@ pub record MainItem2 : Type 0 where
   pub numbers-in-range : OfValid NumbersInRange
   -- An answer, or an alert's answer, that is handed out has version 1 and a command other than 0x02.
   -- Its sequence is the reply sequence of the newest number.
-  -- A status comes from such a message: 0x06 with 16 bytes, these two numbers.
+  -- A status has the form of such a message: 0x06 with 16 bytes, these two numbers. That one came so, `answer-bytes` says.
   pub answer-matches : OfValid AnswerMatches
   -- so from a start on
   pub answer-matches-started : OfMainStart AnswerMatches

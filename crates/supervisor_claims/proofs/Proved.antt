@@ -16,7 +16,8 @@ use Rattle.supervisor_claims.proofs.claims.History.{one-call, refused-m
 use Rattle.supervisor_claims.proofs.claims.History.{step-receives, step-then-receive, steps-receive}
 use Rattle.supervisor_claims.proofs.claims.InOrder.{in-order, in-order-behind, request-carried, failure-only-pending}
 use Rattle.supervisor_claims.proofs.claims.FramesClaim.{history-frames, each-once, received-since, in-order-after}
-use Rattle.supervisor_claims.proofs.claims.MixedClaim.{no-12, mixed-frames, without-line-calls, collected-receives}
+use Rattle.supervisor_claims.proofs.claims.MixedClaim.{no-12, sound-no-12, mixed-frames, without-line-calls}
+use Rattle.supervisor_claims.proofs.claims.MixedClaim.{data-behind-read, collected-receives}
 use Rattle.supervisor_claims.proofs.claims.FailureClaim.{failure-answered, overlong-answered, ahead-of-zero, empty-frame-ignored}
 use Rattle.supervisor_claims.proofs.claims.Cuts.{cut-any}
 use Rattle.supervisor_claims.proofs.claims.Replies.{replies-in-order, replies-replayed}
@@ -41,6 +42,7 @@ number-due = record {
   refused-exactly = refused-exactly;
   made-12 = made-12;
   no-12 = no-12;
+  sound-no-12 = sound-no-12;
   parts-fit = parts-fit;
 }
 
@@ -90,6 +92,7 @@ pub mixed-lists : MixedLists
 mixed-lists = record {
   mixed-frames = mixed-frames;
   without-line-calls = without-line-calls;
+  data-behind-read = data-behind-read;
   collected-receives = collected-receives;
 }
 

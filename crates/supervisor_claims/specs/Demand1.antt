@@ -22,7 +22,7 @@ use Rattle.supervisor_claims.specs.LocalCalls.{IsRefusal}
 use Rattle.supervisor_claims.specs.Histories
 use Rattle.supervisor_claims.specs.Histories.{Call, Typed, refused, Did, didBy, did, Means, ofTaken, enough}
 use Rattle.supervisor_claims.specs.Histories.{Made, untouched, made, meantMade, FromStart}
-use Rattle.supervisor_claims.specs.MixedCalls.{MixedCall, TypedMixed, AllTypedMixed, enoughMixed, Says12, madeMixed, leftMixed}
+use Rattle.supervisor_claims.specs.MixedCalls.{MixedCall, AllTypedMixed, enoughMixed, Says12, madeMixed, leftMixed}
 
 -- ---- The table's number exactly where it is due
 
@@ -65,7 +65,11 @@ Made12 = (p : Parts) (m : Made) → enough (m .call) (m .lent) ≡ false → mad
 
 -- no call that is lent enough of these parts is refused as 12
 abbrev pub Never12 : Parts → Type 0
-Never12 q = (c : MixedCall) → TypedMixed c → enoughMixed c ≡ true → Says12 (madeMixed q c .answer) → ⊥
+Never12 q = (c : MixedCall) → enoughMixed c ≡ true → Says12 (madeMixed q c .answer) → ⊥
+
+-- sound parts, and what calls leave of them
+abbrev pub SoundNo12 : Type 0
+SoundNo12 = (q : Parts) → Sound q → (cs : List MixedCall) → AllTypedMixed cs → Sound (leftMixed q cs) × Never12 (leftMixed q cs)
 
 abbrev pub No12 : Type 0
 No12 = FromStart (λ p d q. (cs : List MixedCall) → AllTypedMixed cs → Never12 (leftMixed q cs))
@@ -86,6 +90,8 @@ pub record SupervisorNumberDue : Type 0 where
   pub made-12 : Made12
   -- contents that these calls, or the line layer's own, left there never earn 12
   pub no-12 : No12
+  -- the same of any sound parts, which stay sound
+  pub sound-no-12 : SoundNo12
   -- all parts together have at most 65,536 bytes
   pub parts-fit : PartsFit
 

@@ -13,7 +13,7 @@ use Rattle.line.specs.Limits.{longest-form}
 use Rattle.line.specs.Numbers.{first-version, command-key-set}
 use Rattle.line.specs.Message.{Message}
 use Rattle.line.specs.Frame.{split, nonEmpty}
-use Rattle.line.specs.Reader.{more}
+use Rattle.line.specs.Reader.{more, message}
 use Rattle.line_claims.specs.Loans.{Loan}
 use Rattle.supervisor.specs.Limits.{last-edition, SettingsKey}
 use Rattle.supervisor.specs.Layout
@@ -34,9 +34,10 @@ use Rattle.supervisor_claims.specs.FrameHistory.{receivedSinceAll, frame
 use Rattle.line.specs.Judge.{progressOf}
 use Rattle.supervisor_claims.specs.FrameHistory.{leftByFrames, carriedFrames, RepliedWith, OnRequest}
 use Rattle.supervisor_claims.specs.FrameHistory.{OnFrame, DoneLeaving, answeredWith}
-use Rattle.supervisor_claims.specs.MixedCalls.{MixedCall, lineRead, MixedAnswer, AllTypedMixed, Says12, madeMixed, mixedSinceAll}
+use Rattle.supervisor_claims.specs.MixedCalls.{MixedCall, lineRead, lineData, enoughOfReader, MixedAnswer, AllTypedMixed, Says12}
+use Rattle.supervisor_claims.specs.MixedCalls.{madeMixed, mixedSinceAll}
 use Rattle.supervisor_claims.specs.MixedCalls.{MixedOutput, outputsMixed, leftMixed, MixedAsFrames, leftMixedByFrames}
-use Rattle.supervisor_claims.specs.MixedCalls.{carried, frameBrought, broughtAll}
+use Rattle.supervisor_claims.specs.MixedCalls.{broughtAll}
 use Rattle.supervisor_claims.specs.LastSet.{successful, setAfter, origin, originBehind, setSince, Has, fittedOf, lookupMessage}
 use Rattle.supervisor_claims.specs.LastSet.{lookupReply, ReadBack}
 use Rattle.supervisor_claims.specs.Replies.{Cycle, Ample, byteByByte, streamOf, takenBytes, replies}
@@ -280,7 +281,7 @@ pub record Cuts : Type 0 where
 
 -- the frames that the calls brought since the last accepted start, each by its call, are all those of the joined bytes that are not empty
 abbrev pub BroughtOnce : List MixedCall → Type 0
-BroughtOnce cs = map frameBrought (broughtAll [] [] cs) ≡ nonEmpty (split (mixedSinceAll [] cs) .closed)
+BroughtOnce cs = broughtAll [] [] cs ≡ nonEmpty (split (mixedSinceAll [] cs) .closed)
 
 abbrev pub MixedFrames : Type 0
 MixedFrames = FromStart (λ p d q. (cs : List MixedCall) → AllTypedMixed cs
@@ -297,9 +298,17 @@ abbrev pub WithoutLineCalls : Type 0
 WithoutLineCalls = (q : Parts) (w : List ℕ) (s : State) (ms : List Made) → let cs = map MixedCall.supervisor ms in
     (outputsMixed q cs ≡ map supervisorOutput (outputs q ms))
     × (leftMixed q cs ≡ left q ms)
+    × (MixedAsFrames q w s cs → outputs q ms ≡ outputsByFrames w s ms)
     × (leftMixedByFrames w s cs ≡ leftByFrames w s ms)
     × (mixedSinceAll w cs ≡ receivedSinceAll w ms)
-    × ((fs : List (List ℕ)) → broughtAll w (map carried fs) cs ≡ map carried (carriedFrames w fs ms))
+    × ((fs : List (List ℕ)) → broughtAll w fs cs ≡ carriedFrames w fs ms)
+
+-- a call for the data of the message that a line read just handed out
+abbrev pub DataBehindRead : Type 0
+DataBehindRead = (p : Parts) → Sound p → (l k : Loan) (piece : List ℕ) → enoughOfReader l ≡ true → enoughOfReader k ≡ true
+    → let r = madeMixed p (lineRead l piece) in
+    (used version sequence command n : ℕ) → r .answer ≡ MixedAnswer.lineRead used (message version sequence command n)
+    → madeMixed (r .parts) (lineData k n) .out ≡ r .out
 
 abbrev pub CollectedReceives : Type 0
 CollectedReceives = (p : Parts) (l : Lent) (k : Loan) (image piece : List ℕ) → NoZeros piece
@@ -308,12 +317,14 @@ CollectedReceives = (p : Parts) (l : Lent) (k : Loan) (image piece : List ℕ) �
     r .answer ≡ done → (Says12 (c .answer) → ⊥) → (c .answer ≡ MixedAnswer.lineRead (length piece) more) × (c .parts ≡ r .parts)
 
 pub record MixedLists : Type 0 where
-  -- A start that is accepted, and then any calls of the supervisor and of the line layer on the same reader's part: each answers and hands
-  -- out what the frames of the joined bytes make of it. What a line read reads joins the stream. A frame whose 00 a line read brings is
-  -- neither carried out nor answered, and discards nothing. An accepted line start drops what was read of an unfinished frame.
+  -- From an accepted start, any calls of the supervisor and of the line layer on the same reader's part do what the frames make of them.
+  -- What a line read reads joins the stream. A frame whose 00 a line read brings is neither carried out nor answered, and discards nothing.
+  -- An accepted line start drops what was read of an unfinished frame. What a call for data hands out is left open here.
   pub mixed-frames : MixedFrames
-  -- without calls of the line layer these are the lists of calls of `history-frames`
+  -- without calls of the line layer these are the lists of calls of `history-frames`, and answer as it says
   pub without-line-calls : WithoutLineCalls
+  -- behind a line read that hands out a message, a call for its data hands out those that the read did, whatever each is lent
+  pub data-behind-read : DataBehindRead
   -- Reading a piece without a 00 with the line layer is receiving it, on any parts where neither is refused: it leaves the same
   -- bytes in every part, and so the same later answers.
   pub collected-receives : CollectedReceives

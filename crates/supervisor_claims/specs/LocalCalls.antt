@@ -1,5 +1,5 @@
 -- The local calls as a table. One row for each call and its arguments: the parts that it takes, what it may change, its promise, its tests
--- behind 12, and what document 01 has of it.
+-- behind 12, and what the papers have of it.
 -- Assumes nothing: these are definitions.
 use mathlib.Core.Bool.{Bool, cond, not, _||_}
 use mathlib.Core.List.{List, [], _∷_}
@@ -132,7 +132,7 @@ restoreAnswer (SavingCalls.faulty n at) = faulty n at
 abbrev pub flagsAsked : Bool × Bool → Answer
 flagsAsked b = asked (b .0) (b .1)
 
--- ---- Answers and states by document 01
+-- ---- Answers and states by the papers
 
 pub record Means : Type 0 where
   pub answer : Answer
@@ -171,7 +171,7 @@ restoreMeans s (Saving.left t) = means done [] t
 
 -- ---- A row
 
--- what a local call may change: nothing else changes of the parts (`leftIn`), nor of the state (`keeps-rest`)
+-- what a local call may change: nothing else changes of the parts (`leftIn`)
 pub data Change : Type 0 where
   nothing : Change
   -- the bytes pending, and whether a 00 is owed
@@ -202,7 +202,8 @@ pub record LocalRow : Type 1 where
   -- the caller's room before the call; nothing is handed out
   pub room : List ℕ
   pub promise : Parts → LocalDid
-  -- by document 01: the tests behind 12, in its order, 13, 9, 11, 10, 8; and what the call answers, writes outside the state and leaves
+  -- by the papers: the tests behind 12, in document 01's order, 13, 9, 11, 10, 8;
+  -- and what the call answers, writes outside the state and leaves
   pub tests : State → List TableTest
   pub meaning : State → Means
 

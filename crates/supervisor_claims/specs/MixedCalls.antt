@@ -3,7 +3,7 @@
 -- Assumes nothing: these are definitions.
 use mathlib.Core.Path.{_≡_}
 use mathlib.Core.Bool.{Bool, cond}
-use mathlib.Core.List.{List, [], _∷_, _++_, map}
+use mathlib.Core.List.{List, [], _∷_, _++_}
 use mathlib.Core.Option.{Option, none, some}
 use Prim.Native.Nat.{ℕ}
 use lib.Dec.{ltb}
@@ -117,7 +117,7 @@ lineBytesRead l piece = cond (enoughOfReader l) (ListN.take (upTo piece) piece) 
 abbrev pub throughLast00 : List ℕ → List ℕ
 throughLast00 w = withZeros (split w .closed)
 
--- All bytes since the supervisor's last accepted start, joined: w before a call, and so after it. What a line read reads joins them.
+-- All bytes since the supervisor's last accepted start, joined: w are those before a call. What a line read reads joins them.
 -- An accepted line start drops what was read of an unfinished frame.
 unfoldable pub mixedSince : List ℕ → MixedCall → List ℕ
 mixedSince w (supervisor m) = receivedSince w m
@@ -199,23 +199,15 @@ unfoldable pub leftMixedByFrames : List ℕ → State → List MixedCall → Sta
 leftMixedByFrames w s [] = s
 leftMixedByFrames w s (c ∷ cs) = leftMixedByFrames (mixedSince w c) (carriedMixed w s c .state) cs
 
--- a frame that is not empty, by the call that brought its 00: the supervisor's carry it out or answer it, a line read does not
-pub data Brought : Type 0 where
-  carried : List ℕ → Brought
-  passed : List ℕ → Brought
-
-abbrev pub frameBrought : Brought → List ℕ
-frameBrought (carried f) = f
-frameBrought (passed f) = f
-
--- the frames brought since the last accepted start, call after call: fs before a call, and so after it
-unfoldable pub broughtSince : List ℕ → List Brought → MixedCall → List Brought
-broughtSince w fs (supervisor m) = cond (startsAnew m) [] (fs ++ map carried (framesClosedBy w (bytesReceivedBy m)))
+-- The frames that are not empty whose 00 the calls brought since the last accepted start: fs are those before a call.
+-- Which of them are carried out or answered says `carriedMixed`: those of the supervisor's calls.
+unfoldable pub broughtSince : List ℕ → List (List ℕ) → MixedCall → List (List ℕ)
+broughtSince w fs (supervisor m) = cond (startsAnew m) [] (fs ++ framesClosedBy w (bytesReceivedBy m))
 broughtSince w fs (lineStart l) = fs
-broughtSince w fs (lineRead l piece) = fs ++ map passed (framesClosedBy w (lineBytesRead l piece))
+broughtSince w fs (lineRead l piece) = fs ++ framesClosedBy w (lineBytesRead l piece)
 broughtSince w fs (lineTail l) = fs
 broughtSince w fs (lineData l n) = fs
 
-unfoldable pub broughtAll : List ℕ → List Brought → List MixedCall → List Brought
+unfoldable pub broughtAll : List ℕ → List (List ℕ) → List MixedCall → List (List ℕ)
 broughtAll w fs [] = fs
 broughtAll w fs (c ∷ cs) = broughtAll (mixedSince w c) (broughtSince w fs c) cs

@@ -2,13 +2,13 @@
 -- Assumes nothing.
 use mathlib.Core.Path.{_≡_, refl, sym, ap, _∙_}
 use mathlib.Core.Bool.{Bool, true, false, cond}
-use mathlib.Core.List.{List, [], _∷_, _++_, map, map-append, append-nil}
+use mathlib.Core.List.{List, [], _∷_, _++_, map, append-nil}
 use mathlib.Core.Option.{Option, none, some}
 use Prim.Native.Nat.{ℕ, zero, suc, _≤_, _<_}
 use native.Mathlib.Omega.{arith}
 use lib.Dec.{ltb, eqb·suc-zero}
 use lib.ListN as ListN
-use lib.ListN.{length}
+use lib.ListN.{length, length-append}
 use borrow.Author.Tests.{le-leb, lt-leb}
 use Rattle.octets.specs.Bytes.{Each, Byte}
 use Rattle.octets.proofs.Conditions.{cond-by, cond-both}
@@ -19,9 +19,9 @@ use Rattle.line.specs.Judge.{progressOf}
 use Rattle.line.specs.Reader as LineReader
 use Rattle.line.specs.Reader.{receivedOf, pushedAll}
 use Rattle.line.proofs.Judged.{tail-within}
-use Rattle.line.proofs.Lent.{pushed-append}
+use Rattle.line.proofs.Lent.{pushed-append, dataOf-append}
 use Rattle.line.proofs.Received as Received
-use Rattle.line.proofs.Received.{short-invalid, fresh-received, tail-received, data-refused, pushed-stays}
+use Rattle.line.proofs.Received.{short-invalid, fresh-received, tail-received, data-refused, pushed-stays, read-stays}
 use Rattle.line.proofs.Pieces.{split-at, nonEmpty-append, split-join, closed-rest, closed-join, split-each}
 use Rattle.line_claims.specs.Loans.{Loan}
 use Rattle.line_claims.specs.Calls.{lentState, back, messagesHanded, tailMeant}
@@ -33,16 +33,15 @@ use Rattle.supervisor_claims.specs.ByPart.{Part, is}
 use Rattle.supervisor_claims.specs.View.{factoryOf, view}
 use Rattle.supervisor_claims.specs.Sound.{withReader, Sound, Lengths, Leaves}
 use Rattle.supervisor_claims.specs.Histories.{Lent, lentOf, givenBack, Made, did, made, outputs, left, upTo, receiveWith}
-use Rattle.supervisor_claims.specs.FrameHistory.{bytesReceivedBy, startsAnew, receivedSince, receivedSinceAll, framesClosedBy}
-use Rattle.supervisor_claims.specs.FrameHistory.{carriedMade, leftByFrames, carriedFrames}
+use Rattle.supervisor_claims.specs.FrameHistory.{receivedSince, receivedSinceAll, framesClosedBy}
+use Rattle.supervisor_claims.specs.FrameHistory.{carriedMade, outputsByFrames, leftByFrames, carriedFrames}
 use Rattle.supervisor_claims.specs.MixedCalls
 use Rattle.supervisor_claims.specs.MixedCalls.{MixedCall, TypedMixed, AllTypedMixed, enoughOfReader, SettledAs, DidMixed, MixedMeans}
 use Rattle.supervisor_claims.specs.MixedCalls.{outputsMixed, leftMixed, MixedAsFrames, leftMixedByFrames}
-use Rattle.supervisor_claims.specs.MixedCalls.{Brought, carried, passed, frameBrought}
 use Rattle.supervisor_claims.specs.MixedCalls.{broughtSince, broughtAll}
 use Rattle.supervisor_claims.specs.MixedCalls.{madeMixed, mixedSince, mixedSinceAll, carriedMixed, readByFrames, lineBytesRead}
-use Rattle.supervisor_claims.specs.Demand1.{Never12, No12}
-use Rattle.supervisor_claims.specs.Demand2.{NoZeros, MixedFrames, WithoutLineCalls, CollectedReceives}
+use Rattle.supervisor_claims.specs.Demand1.{Never12, SoundNo12, No12}
+use Rattle.supervisor_claims.specs.Demand2.{NoZeros, MixedFrames, WithoutLineCalls, DataBehindRead, CollectedReceives}
 use Rattle.supervisor_claims.proofs.ByPart.{part-long}
 use Rattle.supervisor_claims.proofs.Sound.{lengths-same, lengths-then, valid-long}
 use Rattle.supervisor_claims.proofs.laws.Locality.{EnoughOfAll, widened, widened-all, lent-sound, lent-view, back-leaves}
@@ -116,14 +115,20 @@ module _ (p : Parts) (s : Sound p) (l : Loan) (e : enoughOfReader l ≡ true) wh
       let same : givenBack loans p (withReader (lentOf loans p) t) ≡ withReader p (back l (p .reader) t) = simp back-same in
       rw (lent-view loans p enough-all (s .valid)) at (rw same at b)
 
+lent-some : (p : Parts) → Sound p → (l : Loan) → enoughOfReader l ≡ true → LineReader.reader-length ≤ length (lentState l (p .reader))
+lent-some p s l e = lent-long LineReader.reader-length (p .reader) l e (valid-long {p = p} (s .valid) .reader)
+
+lent-little : (p : Parts) (l : Loan) → enoughOfReader l ≡ false → length (lentState l (p .reader)) < LineReader.reader-length
+lent-little p l e = lent-short LineReader.reader-length (p .reader) l (omega arith) e
+
 -- ---- one call
 
 -- it did what the frames make of it, and the bytes v have come then
-record MixedMeets (p : Parts) (d : DidMixed) (m : MixedMeans) (v : List ℕ) : Type 0 where
-  answer : d .answer ≡ m .answer
-  out : SettledAs (d .out) (m .out)
-  leaves : Leaves p (d .parts) (m .state)
-  since : Since (split v .rest) (m .state)
+pub record MixedMeets (p : Parts) (d : DidMixed) (m : MixedMeans) (v : List ℕ) : Type 0 where
+  pub answer : d .answer ≡ m .answer
+  pub out : SettledAs (d .out) (m .out)
+  pub leaves : Leaves p (d .parts) (m .state)
+  pub since : Since (split v .rest) (m .state)
 
 module _ (w : List ℕ) (p : Parts) (s : Sound p) (h : Since (split w .rest) (view p)) where
   abbrev Meets : MixedCall → Type 0
@@ -137,15 +142,9 @@ module _ (w : List ℕ) (p : Parts) (s : Sound p) (h : Since (split w .rest) (vi
     abbrev lent : List ℕ
     lent = lentState l (p .reader)
 
-    lent-some : enoughOfReader l ≡ true → LineReader.reader-length ≤ length lent
-    lent-some e = lent-long LineReader.reader-length (p .reader) l e (valid-long {p = p} (s .valid) .reader)
-
-    lent-little : enoughOfReader l ≡ false → length lent < LineReader.reader-length
-    lent-little e = lent-short LineReader.reader-length (p .reader) l (omega arith) e
-
     -- too little of the reader's part is not as 12 requires
     invalid : enoughOfReader l ≡ false → LineReader.validReader lent ≡ false
-    invalid e = short-invalid lent (lent-little e)
+    invalid e = short-invalid lent (lent-little p l e)
 
     start-meets : Meets (MixedCalls.lineStart l)
     unfolding madeMixed carriedMixed mixedSince LineReader.readerStartPromise
@@ -153,16 +152,16 @@ module _ (w : List ℕ) (p : Parts) (s : Sound p) (h : Since (split w .rest) (vi
       where
         by : (b : Bool) → enoughOfReader l ≡ b → Meets (MixedCalls.lineStart l)
         by true e =
-            let r = fresh-received lent (lent-some e) in
-            rw (e, le-leb LineReader.reader-length (length lent) (lent-some e))
+            let r = fresh-received lent (lent-some p s l e) in
+            rw (e, le-leb LineReader.reader-length (length lent) (lent-some p s l e))
             (record {
               answer = refl;
               out = refl;
-              leaves = rw r at (back-reader p s l e _ (started-kept lent (lent-some e)));
+              leaves = rw r at (back-reader p s l e _ (started-kept lent (lent-some p s l e)));
               since = record { received = rw (through-last w, tail-within [] (omega arith)); nonzero = rw (through-last w) tt };
             })
         by false e =
-            rw (e, lt-leb LineReader.reader-length (length lent) (lent-little e), back-same)
+            rw (e, lt-leb LineReader.reader-length (length lent) (lent-little p l e), back-same)
             (record { answer = refl; out = refl; leaves = unchanged; since = h })
 
     read-meets : (piece : List ℕ) → Each Byte piece → Meets (MixedCalls.lineRead l piece)
@@ -228,7 +227,7 @@ module _ (w : List ℕ) (p : Parts) (s : Sound p) (h : Since (split w .rest) (vi
       let c = made-carried w (view p) h m in
       rw (c .0) (record { answer = ap MixedCalls.MixedAnswer.supervisor (k .answer); out = k .out; leaves = k .leaves; since = c .1 })
 
-  mixed-meets : (c : MixedCall) → TypedMixed c → Meets c
+  pub mixed-meets : (c : MixedCall) → TypedMixed c → MixedMeets p (madeMixed p c) (carriedMixed w (view p) c) (mixedSince w c)
   mixed-meets (MixedCalls.supervisor m) typed = supervisor-meets m typed
   mixed-meets (MixedCalls.lineStart l) typed = start-meets l
   mixed-meets (MixedCalls.lineRead l piece) typed = read-meets l piece typed
@@ -254,38 +253,22 @@ mixed-follows (c ∷ cs) w q s h t =
 
 -- ---- each frame once
 
-map-passed : (fs : List (List ℕ)) → map frameBrought (map passed fs) ≡ fs
-map-passed [] = refl
-map-passed (f ∷ fs) = rw (map-passed fs)
-
-map-carried : (fs : List (List ℕ)) → map frameBrought (map carried fs) ≡ fs
-map-carried [] = refl
-map-carried (f ∷ fs) = rw (map-carried fs)
-
-mixed-join : (w : List ℕ) (fs : List Brought) → map frameBrought fs ≡ nonEmpty (split w .closed) → (c : MixedCall)
-    → map frameBrought (broughtSince w fs c) ≡ nonEmpty (split (mixedSince w c) .closed)
+mixed-join : (w : List ℕ) (c : MixedCall) → broughtSince w (nonEmpty (split w .closed)) c ≡ nonEmpty (split (mixedSince w c) .closed)
 unfolding broughtSince mixedSince framesClosedBy
-mixed-join w fs h (MixedCalls.supervisor m) = joined (startsAnew m) ∙ frames-join w m
-  where
-    gs : List (List ℕ)
-    gs = framesClosedBy w (bytesReceivedBy m)
-
-    joined : (t : Bool) → map frameBrought (cond t [] (fs ++ map carried gs)) ≡ cond t [] (nonEmpty (split w .closed) ++ gs)
-    joined true = refl
-    joined false = rw (map-append, h, map-carried)
-mixed-join w fs h (MixedCalls.lineStart l) =
-    cond-by (λ v. map frameBrought fs ≡ nonEmpty (split v .closed)) (enoughOfReader l) _ _ (λ e. rw (through-split w) h) (λ e. h)
-mixed-join w fs h (MixedCalls.lineRead l piece) =
+mixed-join w (MixedCalls.supervisor m) = frames-join w m
+mixed-join w (MixedCalls.lineStart l) =
+    cond-by (λ v. nonEmpty (split w .closed) ≡ nonEmpty (split v .closed)) (enoughOfReader l) _ _ (λ e. rw (through-split w)) (λ e. refl)
+mixed-join w (MixedCalls.lineRead l piece) =
     let bs = lineBytesRead l piece in
-    rw (map-append, h, map-passed, closed-join w bs, nonEmpty-append (split w .closed) (closedBehind w bs))
-mixed-join w fs h (MixedCalls.lineTail l) = h
-mixed-join w fs h (MixedCalls.lineData l n) = h
+    rw (closed-join w bs, nonEmpty-append (split w .closed) (closedBehind w bs))
+mixed-join w (MixedCalls.lineTail l) = refl
+mixed-join w (MixedCalls.lineData l n) = refl
 
-brought-once : (cs : List MixedCall) (w : List ℕ) (fs : List Brought) → map frameBrought fs ≡ nonEmpty (split w .closed)
-    → map frameBrought (broughtAll w fs cs) ≡ nonEmpty (split (mixedSinceAll w cs) .closed)
+brought-once : (cs : List MixedCall) (w : List ℕ)
+    → broughtAll w (nonEmpty (split w .closed)) cs ≡ nonEmpty (split (mixedSinceAll w cs) .closed)
 unfolding broughtAll mixedSinceAll
-brought-once [] w fs h = h
-brought-once (c ∷ cs) w fs h = brought-once cs (mixedSince w c) (broughtSince w fs c) (mixed-join w fs h c)
+brought-once [] w = refl
+brought-once (c ∷ cs) w = rw (mixed-join w c) (brought-once cs (mixedSince w c))
 
 pub mixed-frames : MixedFrames
 unfolding MixedFollows fresh progressOf split nonEmpty
@@ -293,7 +276,7 @@ mixed-frames p b l d typed h cs t =
     let k = started p b l d typed h in
     let z : Since [] (fresh (factoryOf d)) = record { received = refl; nonzero = tt } in
     let i = rw (k .0) at (mixed-follows cs [] _ (k .1) (rw (k .0) z) t) in
-    (i .0, i .1, brought-once cs [] [] refl, i .2, lengths-then (k .2) (i .3))
+    (i .0, i .1, brought-once cs [], i .2, lengths-then (k .2) (i .3))
 
 -- ---- 12
 
@@ -319,37 +302,78 @@ data-12 false h = let z : _≡_ {A = ℕ} 0 1 = cc in omega arith
 
 never-12 : (p : Parts) → Sound p → Never12 p
 unfolding madeMixed LineReader.readerStartPromise LineReader.readPromise LineReader.tailPromise LineReader.dataGivenPromise
-never-12 p s (MixedCalls.supervisor m) typed e h = earns-no-12 p s m e h
-never-12 p s (MixedCalls.lineStart l) typed e h =
+never-12 p s (MixedCalls.supervisor m) e h = earns-no-12 p s m e h
+never-12 p s (MixedCalls.lineStart l) e h =
     let r = rw (le-leb LineReader.reader-length _ (part-long Part.reader _ (lent-valid p s l e))) at h in
     let z : _≡_ {A = ℕ} 0 1 = cc in absurd (omega arith)
-never-12 p s (MixedCalls.lineRead l piece) typed e h = read-12 piece _ (rw (lent-valid p s l e) at h)
-never-12 p s (MixedCalls.lineTail l) typed e h = tail-12 (receivedOf (lentState l (p .reader))) (rw (lent-valid p s l e) at h)
-never-12 p s (MixedCalls.lineData l n) typed e h =
-    data-12 (ltb longest-data n) (rw (lent-valid p s l e) at h)
+never-12 p s (MixedCalls.lineRead l piece) e h = read-12 piece _ (rw (lent-valid p s l e) at h)
+never-12 p s (MixedCalls.lineTail l) e h = tail-12 (receivedOf (lentState l (p .reader))) (rw (lent-valid p s l e) at h)
+never-12 p s (MixedCalls.lineData l n) e h = data-12 (ltb longest-data n) (rw (lent-valid p s l e) at h)
 
 pub no-12 : No12
 no-12 p b l d typed h cs t = never-12 _ (mixed-frames p b l d typed h cs t .3)
+
+-- ---- sound parts stay sound
+
+module _ (p : Parts) (s : Sound p) where
+  start-sound : (l : Loan) → Sound (madeMixed p (MixedCalls.lineStart l) .parts)
+  unfolding madeMixed LineReader.readerStartPromise
+  start-sound l = by (enoughOfReader l) refl
+    where
+      by : (t : Bool) → enoughOfReader l ≡ t → Sound (madeMixed p (MixedCalls.lineStart l) .parts)
+      by true e =
+          let long = lent-some p s l e in
+          rw (le-leb LineReader.reader-length _ long) (back-reader p s l e _ (started-kept _ long) .1)
+      by false e = rw (lt-leb LineReader.reader-length _ (lent-little p l e), back-same) s
+
+  read-sound : (l : Loan) (piece : List ℕ) → Each Byte piece → Sound (madeMixed p (MixedCalls.lineRead l piece) .parts)
+  unfolding madeMixed LineReader.readPromise
+  read-sound l piece b = by (enoughOfReader l) refl
+    where
+      by : (t : Bool) → enoughOfReader l ≡ t → Sound (madeMixed p (MixedCalls.lineRead l piece) .parts)
+      by true e = rw (lent-valid p s l e) (back-reader p s l e _ (read-kept piece _ (lent-valid p s l e) b) .1)
+      by false e = rw (short-invalid _ (lent-little p l e), back-same) s
+
+  call-sound : (c : MixedCall) → TypedMixed c → Sound (madeMixed p c .parts)
+  unfolding madeMixed
+  call-sound (MixedCalls.supervisor m) typed = one-call p m s typed .leaves .1
+  call-sound (MixedCalls.lineStart l) typed = start-sound l
+  call-sound (MixedCalls.lineRead l piece) typed = read-sound l piece typed
+  call-sound (MixedCalls.lineTail l) typed = s
+  call-sound (MixedCalls.lineData l n) typed = s
+
+calls-sound : (cs : List MixedCall) (q : Parts) → Sound q → AllTypedMixed cs → Sound (leftMixed q cs)
+unfolding leftMixed
+calls-sound [] q s t = s
+calls-sound (c ∷ cs) q s t = calls-sound cs (madeMixed q c .parts) (call-sound q s c (t .0)) (t .1)
+
+pub sound-no-12 : SoundNo12
+sound-no-12 q s cs t = let k = calls-sound cs q s t in (k, never-12 _ k)
 
 -- ---- without calls of the line layer
 
 pub without-line-calls : WithoutLineCalls
 unfolding outputsMixed leftMixed leftMixedByFrames mixedSinceAll broughtAll madeMixed carriedMixed mixedSince broughtSince
-    outputs left leftByFrames receivedSinceAll carriedFrames
-without-line-calls q w s [] = (refl, refl, refl, refl, λ fs. refl)
+    outputs left outputsByFrames leftByFrames receivedSinceAll carriedFrames
+without-line-calls q w s [] = (refl, refl, λ h. refl, refl, refl, λ fs. refl)
 without-line-calls q w s (m ∷ ms) =
     let i = without-line-calls (made q m .parts) (receivedSince w m) (carriedMade w s m .state) ms in (
       rw (i .0),
       i .1,
-      i .2,
+      λ h. answered h (i .2 (h .2)),
       i .3,
-      λ fs. ap (λ gs. broughtAll (receivedSince w m) gs (map MixedCalls.supervisor ms)) (more fs (startsAnew m)) ∙ i .4 _,
+      i .4,
+      λ fs. i .5 _,
     )
   where
-    more : (fs : List (List ℕ)) (t : Bool) → let gs = framesClosedBy w (bytesReceivedBy m) in
-        cond t [] (map carried fs ++ map carried gs) ≡ map carried (cond t [] (fs ++ gs))
-    more fs true = refl
-    more fs false = rw map-append
+    answered : MixedAsFrames q w s (map MixedCalls.supervisor (m ∷ ms))
+        → outputs (made q m .parts) ms ≡ outputsByFrames (receivedSince w m) (carriedMade w s m .state) ms
+        → outputs q (m ∷ ms) ≡ outputsByFrames w s (m ∷ ms)
+    answered h k =
+        let g : MixedCalls.MixedAnswer.supervisor (made q m .answer)
+        ≡ MixedCalls.MixedAnswer.supervisor (carriedMade w s m .answer) = h .0 in
+        let a : made q m .answer ≡ carriedMade w s m .answer = cc in
+        rw (a, h .1, k)
 
 -- ---- a piece without a 00
 
@@ -373,6 +397,33 @@ back-pushed l r bs v =
     let e = lent-enough LineReader.reader-length r l (omega arith) (part-long Part.reader (lentState l r) v) in
     let f = front LineReader.reader-length l r e in
     rw (f .back) (sym (pushes-behind bs (lentState l r) (f .rest) v) ∙ ap (λ x. pushedAll x bs) (f .whole))
+
+module _ (r : List ℕ) (l k : Loan) (piece : List ℕ) (v : LineReader.validReader (lentState l r) ≡ true)
+    (f : enoughOfReader k ≡ true) where
+  abbrev behind : List ℕ
+  behind = LineReader.readPiece (lentState l r) piece .state
+
+  -- what is lent of the state behind a read holds the data that the read left
+  data-same : (n : ℕ) → LineReader.dataPromise (lentState k (back l r behind)) n ≡ LineReader.dataPromise behind n
+  data-same n =
+      let x = back l r behind in
+      let long = Received.valid-long behind (read-stays piece (lentState l r) v .valid) in
+      let b = front LineReader.reader-length l r (lent-enough LineReader.reader-length r l (omega arith) (Received.valid-long _ v)) in
+      let whole : LineReader.reader-length ≤ length x = rw (b .back behind) (simp length-append (omega arith)) in
+      let c = front LineReader.reader-length k x f in
+      sym (dataOf-append (lentState k x) (c .rest) (lent-long LineReader.reader-length x k f whole) n)
+      ∙ ap (λ y. LineReader.dataPromise y n) (c .whole ∙ b .back behind)
+      ∙ dataOf-append behind (b .rest) long n
+
+pub data-behind-read : DataBehindRead
+unfolding madeMixed LineReader.readPromise MixedCalls.dataOf messagesHanded
+data-behind-read p s l k piece e f used version sequence command n h =
+    let v = lent-valid p s l e in
+    let g : MixedCalls.MixedAnswer.lineRead (LineReader.readPiece (lentState l (p .reader)) piece .used)
+    (LineReader.readPiece (lentState l (p .reader)) piece .answer)
+    ≡ MixedCalls.MixedAnswer.lineRead used (LineReader.message version sequence command n) = rw v at h in
+    let a : LineReader.readPiece (lentState l (p .reader)) piece .answer ≡ LineReader.message version sequence command n = cc in
+    rw (v, a) (data-same (p .reader) l k piece v f n)
 
 pub collected-receives : CollectedReceives
 unfolding madeMixed made did LineReader.readPromise Receive.receivePromise
