@@ -312,9 +312,9 @@ one-number-started p l h before = one-number _ (history p l h before .2)
 goes-in : {s t : MainState} {fs : List Frame} → (isSome (outstanding s) ≡ true → 1 ≤ s .newest) → s .newest ≤ last-number
     → t .newest ≤ last-number → Goes s t fs → Each InNumbers fs
 goes-in o a b (stays e k (inl h)) = rw h tt
-goes-in o a b (stays e k (inr (q, w, h))) = rw h ((o (rw w refl), a), tt)
+goes-in o a b (stays e k (inr (q, w, h))) = rw h (((q, refl), o (rw w refl), a), tt)
 goes-in o a b (takes e (inl h)) = rw h tt
-goes-in o a b (takes e (inr (q, w, h))) = rw h ((omega (arith, e), b), tt)
+goes-in o a b (takes e (inr (q, w, h))) = rw h (((q, refl), omega (arith, e), b), tt)
 
 start-none : (s : MainState) (l : MainLent) (c : MainCall) → isStart c ≡ true
     → framesOf (mainMeantMade s (record { lent = l; call = c })) ≡ []

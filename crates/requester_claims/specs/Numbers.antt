@@ -65,6 +65,6 @@ OneAbove p (m ∷ ms) =
 abbrev pub RequestFrame : Frame → Type 0
 RequestFrame x = (q : Request) × (x .bytes ≡ requestFrame (x .number) q)
 
--- its number is one that sequences run through: from 1 to the last
+-- a request's frame, whose number is one that sequences run through: from 1 to the last
 abbrev pub InNumbers : Frame → Type 0
-InNumbers x = (1 ≤ x .number) × (x .number ≤ last-number)
+InNumbers x = RequestFrame x × (1 ≤ x .number) × (x .number ≤ last-number)

@@ -1,12 +1,15 @@
 -- Document 02's item 11: what was saved restores to the same settings, and an image is exactly what it restores.
 -- Assumes nothing: these are definitions and statements.
 use mathlib.Core.Path.{_≡_}
+use mathlib.Core.Bool.{true}
 use mathlib.Core.List.{List, [], _∷_, _++_, map}
 use mathlib.Core.Option.{Option, none, some}
 use Prim.Native.Nat.{ℕ, suc, _^_, _≤_, _<_}
-use lib.ListN.{length, take, drop}
+use lib.ListN.{length, take, drop, replicate}
 use Rattle.octets.specs.Bytes.{Byte, Each}
-use Rattle.supervisor.specs.Limits.{first-setting, longest-setting}
+use Rattle.supervisor.specs.Limits.{first-setting, longest-setting, longest-settings}
+use Rattle.supervisor.specs.Valid.{validSettings}
+use Rattle.saving.specs.Calls.{imageBytes, longest-image}
 use Rattle.supervisor.specs.State.{Settings}
 use Rattle.saving.specs.Saving.{saved-count, saved, SavedEntry, fault, good, readImage, restoredSettings}
 use Rattle.saving_claims.specs.Samples.{imageSampleMeant, imageSamples}
@@ -66,7 +69,22 @@ SavedOmits = (xs ys : Settings) → take 3 xs ≡ take 3 ys → saved xs ≡ sav
 abbrev pub OtherKey31 : Type 0
 OtherKey31 = (k : ℕ) (rest : List ℕ) → k < 256 → 5 < k → readImage (0x4b ∷ 0x56 ∷ k ∷ rest) ≡ fault 31 2
 
+-- settings with values of these lengths
+abbrev pub settingsOfLengths : List ℕ → Settings
+settingsOfLengths [] = []
+settingsOfLengths (n ∷ ns) = record { edition = 0; value = some (replicate n 0) } ∷ settingsOfLengths ns
+
+abbrev pub NoLongerImage : Type 0
+NoLongerImage = (s : List ℕ) → validSettings s ≡ true → length (imageBytes s) ≤ longest-image
+
+abbrev pub LongestReached : Type 0
+LongestReached = length (saved (settingsOfLengths longest-settings)) ≡ longest-image
+
 pub record SavingItem11 : Type 0 where
+  -- no image of a valid settings store is longer than the published length, so that a room of that length is never too short
+  pub no-longer-image : NoLongerImage
+  -- and settings at their longest have an image of that length
+  pub longest-reached : LongestReached
   -- the image is that of keys 3, 4 and 5 alone
   pub saved-omits : SavedOmits
   -- a first record of a key above 5 is fault 31, at the key
