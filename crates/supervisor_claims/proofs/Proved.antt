@@ -20,7 +20,7 @@ use Rattle.supervisor_claims.proofs.claims.MixedClaim.{no-12, sound-no-
 use Rattle.supervisor_claims.proofs.claims.MixedClaim.{data-behind-read, collected-receives}
 use Rattle.supervisor_claims.proofs.claims.FailureClaim.{failure-answered, overlong-answered, ahead-of-zero, empty-frame-ignored}
 use Rattle.supervisor_claims.proofs.claims.Cuts.{cut-any}
-use Rattle.supervisor_claims.proofs.claims.Replies.{replies-in-order, replies-replayed}
+use Rattle.supervisor_claims.proofs.claims.Replies.{replies-in-order, replies-replayed, replay-joined}
 use Rattle.supervisor_claims.proofs.claims.SetResults.{more-items-11, up-to-64-items, value-lengths, stores-nothing}
 use Rattle.supervisor_claims.proofs.claims.SetResults.{factory-edition, reply-version, failure-version}
 use Rattle.supervisor_claims.proofs.claims.LastSetLaws.{set-successful, successful-exactly, replaced-other}
@@ -62,6 +62,7 @@ carried-out = record {
   request-carried = request-carried;
   replies-in-order = replies-in-order;
   replies-replayed = replies-replayed;
+  replay-joined = replay-joined;
   value-last-set = value-last-set;
   last-set = last-set;
   withdrawn-list-answered = withdrawn-list-answered;

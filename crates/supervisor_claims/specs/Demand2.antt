@@ -107,6 +107,13 @@ abbrev pub RepliesReplayed : Type 0
 RepliesReplayed = (image : List ℕ) → Each Byte image → FromStart (λ p d q. (bs : List ℕ) → Each Byte bs
     → replayBytes image q bs .taken ≡ replies image (fresh (factoryOf d)) (nonEmpty (split bs .closed)))
 
+-- a replay of bytes in two stretches
+abbrev pub ReplayJoined : Type 0
+ReplayJoined = (image : List ℕ) (p : Parts) (xs ys : List ℕ)
+    → let c = replayBytes image p xs in
+    let d = replayBytes image (c .parts) ys in
+    replayBytes image p (xs ++ ys) ≡ record { taken = c .taken ++ d .taken; parts = d .parts }
+
 abbrev pub ValueLastSet : List Made → Parts → Type 0
 ValueLastSet ms q = (k : ℕ) → SettingsKey k → Local.entryOf (view q) k ≡ setSince k (origin k ms)
 
@@ -166,6 +173,8 @@ pub record RequestsCarriedOut : Type 0 where
   pub replies-in-order : RepliesInOrder
   -- the same of the replay of a stream, which the promise of the replay program's function `feed` cites
   pub replies-replayed : RepliesReplayed
+  -- replayed in stretches, a stream gives the same, so that what `feed` keeps, call after call, is the replay of the whole
+  pub replay-joined : ReplayJoined
   -- A settings key starts from the last accepted start or, of a saved key, from a later restore. The successful sets since then count its
   -- edition on, and its value is that of the last of them.
   pub value-last-set : AfterCalls ValueLastSet

@@ -2,7 +2,7 @@
 -- Assumes nothing.
 use mathlib.Core.Path.{_≡_, refl, ap, _∙_}
 use mathlib.Core.Bool.{true}
-use mathlib.Core.List.{List, [], _∷_}
+use mathlib.Core.List.{List, [], _∷_, append-assoc}
 use Prim.Native.Nat.{ℕ, _+_, _-_, _≤_}
 use native.Mathlib.Omega.{arith}
 use lib.ListN.{length, drop, length-take, length-replicate}
@@ -24,7 +24,7 @@ use Rattle.supervisor_claims.specs.Histories.{done, Did, did, made, mean
 use Rattle.supervisor_claims.specs.LocalCalls.{takeAnswer}
 use Rattle.supervisor_claims.specs.Replies.{Cycle, Ample, byteReceived, takenIn, byteByByte, streamOf, movedBytes, takenBytes}
 use Rattle.supervisor_claims.specs.Demand1.{Meets}
-use Rattle.supervisor_claims.specs.Demand2.{RepliesInOrder, RepliesReplayed}
+use Rattle.supervisor_claims.specs.Demand2.{RepliesInOrder, RepliesReplayed, ReplayJoined}
 use Rattle.supervisor_claims.proofs.laws.TakenAll.{larger-room, allTaken, afterAll, cycle, session, replies-taken}
 use Rattle.supervisor_claims.proofs.claims.History.{started, one-call}
 use Rattle.supervisor_claims.proofs.calls.CallClaims.{zeros-each, call-meets}
@@ -115,3 +115,8 @@ replies-replayed image each p b l d typed h bs e =
     replayed-taken image each _ (f .1) bs e
     ∙ ap (λ s. session image s bs .taken) (f .0)
     ∙ replies-taken image (fresh (factoryOf d)) bs refl refl refl
+
+pub replay-joined : ReplayJoined
+unfolding replayBytes
+replay-joined image p [] ys = refl
+replay-joined image p (b ∷ xs) ys = rw (replay-joined image (replayByte image p b .parts) xs ys, append-assoc)
