@@ -585,7 +585,7 @@ uint32_t oatcastle_rot_read(const uint8_t *input, oatcastle_length input_length,
                             uint64_t *answer, oatcastle_length answer_count);
 
 /** Copies to the room the payload of the message that oatcastle_rot_read hands out; nothing where it hands out none.
- * @return 0; 8: the room is shorter than the payload. */
+ * @return 0; else the first of 20, 21, 22, 23, 24, 25, 26, 8: oatcastle_rot_read refuses the input so, or the room is too short. */
 uint32_t oatcastle_rot_payload(const uint8_t *input, oatcastle_length input_length, uint8_t *room, oatcastle_length room_length);
 
 /** Writes a message to the start of out; bytes of out past it stay.

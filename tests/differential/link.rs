@@ -116,6 +116,7 @@ fn read(input: &[u8], room: usize, places: usize) -> Expected {
 
 fn payload(input: &[u8], room: usize) -> Expected {
     match judge(input) {
+        Read::Refused(number) => refused(number),
         Read::Message(kind, payload) if kind != ECHO_REQUEST => answered(Vec::new(), payload, room, 0),
         _ => Expected::default(),
     }

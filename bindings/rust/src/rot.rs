@@ -71,7 +71,7 @@ pub fn read<'i, 'o>(input: &'i [u8], out: &'o mut [u8]) -> Result<Received<'i, '
 ///
 /// # Errors
 ///
-/// `NoRoom` where the room is shorter than the payload.
+/// As `read` refuses the input; `NoRoom` where the room is shorter than the payload.
 pub fn copy_payload(input: &[u8], room: &mut [u8]) -> Result<(), Refusal> {
     let (input, room) = (lent(input), lent_mut(room));
     // SAFETY: each pointer is valid for the length behind it, and the two runs do not overlap.

@@ -34,6 +34,11 @@ pub data CallReport : Type 0 where
   refused : ℕ → CallReport
   given : List ℕ → CallReport
 
+-- a part that is handed out, or the number of a refusal
+unfoldable pub partGiven : Option ℕ → List ℕ → CallReport
+partGiven none bs = given bs
+partGiven (some n) bs = refused n
+
 -- what is handed out stands at the start of a lent list, or 8 where that is shorter; a refused call leaves the list
 unfoldable pub writingAnswer : CallReport → List ℕ → CallOutcome (List ℕ)
 writingAnswer (refused n) lent = callOutcome n lent

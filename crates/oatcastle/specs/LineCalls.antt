@@ -1,13 +1,14 @@
 -- The calls of the line layer in the C interface: the number that each returns, and what it leaves of what it is lent.
 -- Assumes nothing: these are definitions.
 use mathlib.Core.List.{List, [], _∷_}
-use mathlib.Core.Option.{Option, none, some}
+use mathlib.Core.Option.{none, some}
 use Prim.Native.Nat.{ℕ}
 use Rattle.line.specs.Checksum.{checksum}
 use Rattle.line.specs.Message.{Message}
 use Rattle.line.specs.Reader as LineReader
 use Rattle.line.specs.Writer as LineWriter
-use Rattle.oatcastle.specs.Answers.{CallOutcome, callOutcome, callNumber, CallReport, refused, given, writingAnswer, writingAfter}
+use Rattle.oatcastle.specs.Answers.{CallOutcome, callOutcome, callNumber, CallReport, refused, given, partGiven, writingAnswer}
+use Rattle.oatcastle.specs.Answers.{writingAfter}
 
 -- ---- Start
 
@@ -38,12 +39,8 @@ lineReadCall s piece answer = readCallOutcome (LineReader.readPromise s piece) s
 
 -- ---- The data of the message just handed out, to a room
 
-unfoldable pub lineDataGiven : Option ℕ → List ℕ → CallReport
-lineDataGiven none bs = given bs
-lineDataGiven (some n) bs = refused n
-
 unfoldable pub lineDataCall : List ℕ → ℕ → List ℕ → CallOutcome (List ℕ)
-lineDataCall s n room = writingAnswer (lineDataGiven (LineReader.dataGivenPromise s n) (LineReader.dataPromise s n)) room
+lineDataCall s n room = writingAnswer (partGiven (LineReader.dataGivenPromise s n) (LineReader.dataPromise s n)) room
 
 -- ---- An unfinished frame: 1 if longer than any form, and how many bytes of it have come
 

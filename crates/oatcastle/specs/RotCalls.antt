@@ -5,9 +5,9 @@ use Prim.Native.Nat.{ℕ}
 use Rattle.rot.specs.Crc.{crc}
 use Rattle.rot.specs.Message.{RotMessage}
 use Rattle.rot.specs.Answers as RotAnswers
-use Rattle.rot.specs.Reading.{rotReadPromise, payloadPromise}
+use Rattle.rot.specs.Reading.{rotReadPromise, payloadGivenPromise, payloadPromise}
 use Rattle.rot.specs.Writing.{rotWritePromise}
-use Rattle.oatcastle.specs.Answers.{CallOutcome, CallReport, refused, given, writingAnswer, writingAfter}
+use Rattle.oatcastle.specs.Answers.{CallOutcome, CallReport, refused, given, partGiven, writingAnswer, writingAfter}
 
 -- the number of a call with too short an answer: a refusal's own, else 8
 unfoldable pub rotShortNumber : RotAnswers.RotReport → ℕ
@@ -33,10 +33,10 @@ rotReadCallOutcome o out answer = writingAfter (rotReadGiven (o .answer)) out (o
 unfoldable pub rotReadCall : List ℕ → List ℕ → List ℕ → CallOutcome (List ℕ × List ℕ)
 rotReadCall input out answer = rotReadCallOutcome (rotReadPromise input out) out answer
 
--- ---- The payload of the message that is handed out, to a room; nothing where none is
+-- ---- The payload of the message that is handed out, to a room; nothing where none is, and a refusal where a read refuses the input
 
 unfoldable pub rotPayloadCall : List ℕ → List ℕ → CallOutcome (List ℕ)
-rotPayloadCall input room = writingAnswer (given (payloadPromise input)) room
+rotPayloadCall input room = writingAnswer (partGiven (payloadGivenPromise input) (payloadPromise input)) room
 
 -- ---- Write: the message's length
 

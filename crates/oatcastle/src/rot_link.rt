@@ -7,6 +7,7 @@ use crate::kinds::ROT_MESSAGE;
 use crate::kinds::ROT_NOTHING;
 use crate::refusals;
 use rot::reader::Answer;
+use rot::reader::Handed;
 use rot::refusals::number;
 use rot::writer::Written;
 ghost use mathlib.Core.Path.{_≡_};
@@ -37,12 +38,16 @@ pub extern "C" fn oatcastle_rot_read(input: &[u8], out: &mut [u8], answer: &mut 
     answer_read(answer, read)
 }
 
-// Copies the payload of the message that `oatcastle_rot_read` hands out.
+// Copies the payload of the message that `oatcastle_rot_read` hands out; input that it refuses is refused alike.
 #[no_mangle]
 pub extern "C" fn oatcastle_rot_payload(input: &[u8], room: &mut [u8]) -> u32
     ensures { λ r. ⌜ callOutcome r (now (room .exit)) ≡ rotPayloadCall (now (input .entry)) (now (room .entry)) ⌝ }
 {
-    write_bytes(rot::reader::payload(input), room)
+    let handed = rot::reader::payload_given(input);
+    match handed {
+        Handed::Refused(why) => number(why),
+        Handed::Given => write_bytes(rot::reader::payload(input), room),
+    }
 }
 
 // Writes a message of version 1. With too short an answer it is written to no room.

@@ -2,6 +2,7 @@
 -- Assumes nothing: these are definitions.
 use mathlib.Core.Bool.{Bool, cond, not}
 use mathlib.Core.List.{List, [], _++_}
+use mathlib.Core.Option.{Option, none, some}
 use Prim.Native.Nat.{ℕ, _+_}
 use lib.Dec.{eqb, ltb}
 use lib.ListN.{length, take}
@@ -14,6 +15,8 @@ use Rattle.rot.specs.Message.{null-protocol, version-1, echo-request, li
 use Rattle.rot.specs.Answers.{RotReport, refused, nothing, handed, wrote, RotOutcome, rotOutcome, rotWriteInto, refusalNumber}
 use Rattle.rot.specs.declared.reader.Answer.{Answer}
 use Rattle.rot.specs.declared.reader.Answer.the-variants as answer
+use Rattle.rot.specs.declared.reader.Handed.{Handed}
+use Rattle.rot.specs.declared.reader.Handed.the-variants as given-answer
 use Rattle.rot.specs.declared.reader.Verdict.{Verdict}
 use Rattle.rot.specs.declared.reader.Verdict.the-variants as verdict
 
@@ -133,6 +136,19 @@ handedPart (good m) = cond (eqb (m .type) echo-request) [] (m .payload)
 
 unfoldable pub payloadPromise : List ℕ → List ℕ
 payloadPromise input = handedPart (rotJudge input)
+
+-- A call of `payload_given`: the number with which `read` refuses the input, none where it does not.
+unfoldable pub verdictNumber : RotVerdict → Option ℕ
+verdictNumber (failure n) = some n
+verdictNumber unsent = none
+verdictNumber (good m) = none
+
+unfoldable pub payloadGivenPromise : List ℕ → Option ℕ
+payloadGivenPromise input = verdictNumber (rotJudge input)
+
+unfoldable pub payloadGivenReport : Handed → Option ℕ
+payloadGivenReport (given-answer.Refused why) = some (refusalNumber why)
+payloadGivenReport given-answer.Given = none
 
 -- It begins behind the header; an empty part for want of a message begins where the input does.
 unfoldable pub payloadOffset : RotVerdict → ℕ

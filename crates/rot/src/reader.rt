@@ -13,7 +13,7 @@ ghost use Rattle.rot.specs.Crc.{crc};
 ghost use Rattle.rot.specs.Answers.{rotOutcome};
 ghost use Rattle.rot.specs.Writing.{rotMessageWith, rotWritePromise};
 ghost use Rattle.rot.specs.Reading.{payloadLength, crcField, checked, judgeMessage, judgeLength, rotJudge, judgedAs, rotReadReport};
-ghost use Rattle.rot.specs.Reading.{rotReadPromise, payloadPromise, payloadPlace};
+ghost use Rattle.rot.specs.Reading.{rotReadPromise, payloadPromise, payloadPlace, payloadGivenReport, payloadGivenPromise};
 
 // A message that is handed out: its type, and how long its payload is, which lies in the input.
 pub struct Head {
@@ -27,6 +27,12 @@ pub enum Answer {
     Nothing,
     Message(Head),
     Echoed(usize),
+}
+
+// Whether `payload` is handed out, or refused as `read` refuses the input.
+pub enum Handed {
+    Refused(Refusal),
+    Given,
 }
 
 // What is made of the input; a message by its type.
@@ -51,6 +57,18 @@ pub fn read(input: &[u8], out: &mut [u8]) -> Answer
             }
             Answer::Message(Head { kind, length: n })
         }
+    }
+}
+
+// Whether `payload` hands out a part: the refusals are those of `read`, but for the room.
+pub fn payload_given(input: &[u8]) -> Handed
+    ensures { λ r. ⌜ payloadGivenReport r ≡ payloadGivenPromise (now (input .entry)) ⌝ }
+{
+    let verdict = judge(input);
+    match verdict {
+        Verdict::Refused(why) => Handed::Refused(why),
+        Verdict::Nothing => Handed::Given,
+        Verdict::Good(_) => Handed::Given,
     }
 }
 

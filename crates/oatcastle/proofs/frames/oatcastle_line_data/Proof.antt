@@ -2,25 +2,25 @@
 -- Assumes nothing.
 use borrow.Author.Needs.{needs}
 use Rattle.line.specs.Reader.{dataReport}
-use Rattle.oatcastle.specs.Answers.{writingAnswer}
-use Rattle.oatcastle.specs.LineCalls.{lineDataGiven, lineDataCall}
+use Rattle.oatcastle.specs.Answers.{partGiven, writingAnswer}
+use Rattle.oatcastle.specs.LineCalls.{lineDataCall}
 use Rattle.oatcastle.proofs.frames.oatcastle_line_data.Statement.{statement}
 use Rattle.oatcastle.proofs.frames.oatcastle_line_data.Tie as tie
 
 returns : tie.Need-returns
-unfolding lineDataCall lineDataGiven dataReport writingAnswer
+unfolding lineDataCall partGiven dataReport writingAnswer
 returns c =
     let at-message-data-given = c .before .before in
     rw (← at-message-data-given .message-data-given .ensures, c .enum-told .given .1)
 
 returns-2 : tie.Need-returns-2
-unfolding lineDataCall lineDataGiven dataReport writingAnswer
+unfolding lineDataCall partGiven dataReport writingAnswer
 returns-2 c =
     let at-message-data-given = c .before .before in
     rw (← at-message-data-given .message-data-given .ensures, c .enum-told2 .given .1)
 
 returns-3 : tie.Need-returns-3
-unfolding lineDataCall lineDataGiven dataReport
+unfolding lineDataCall partGiven dataReport
 returns-3 c =
     let called = c .before .before in
     let bytes = called .before .before in
