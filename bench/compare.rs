@@ -3,7 +3,7 @@
 
 use crate::random::Random;
 use crate::receiver::{self, End, Yardstick};
-use oatcastle::{checksum, write_frame, Bsu, LineReader, NotFound, ReadEnd, ReaderStorage, StartData, Supervisor, SupervisorStorage, LONGEST_FRAME};
+use oatcastle::{checksum, write_frame, Bsu, Key, LineReader, NotFound, ReadEnd, ReaderStorage, StartData, Supervisor, SupervisorStorage, LONGEST_FRAME};
 
 const ROUNDS: usize = 4000;
 const HASH: [u8; 32] = [9; 32];
@@ -100,6 +100,7 @@ fn read<Y: Yardstick>(reader: &mut LineReader, other: &mut receiver::Reader<Y>, 
                 assert_eq!(other.data(message.data.len()), message.data, "{}: data", Y::NAME);
                 End::Message { version: message.version, sequence: message.sequence, command: message.command, length: message.data.len() }
             }
+            end => panic!("{end:?} is not known here"),
         };
         assert_eq!(found, end, "{}: answer", Y::NAME);
     }
@@ -121,11 +122,11 @@ fn served<Y: Yardstick>(random: &mut Random) {
         let (mut room, mut other_room) = (vec![0; size], vec![0; size]);
         let taken = other.take(&mut other_room);
         assert_eq!(supervisor.take(&mut room), &other_room[..taken], "{}: reply", Y::NAME);
-        for key in [3, 4, 5] {
+        for key in [Key::EtcSystem, Key::DtraceConf, Key::WithdrawnKeys] {
             let held = supervisor.lookup(key, 4096).map(|found| (found.edition, found.value));
-            assert_eq!(held, other.setting(key).ok_or(NotFound::NoValue), "{}: key {key}", Y::NAME);
+            assert_eq!(held, other.setting(key.number()).ok_or(NotFound::NoValue), "{}: {key}", Y::NAME);
         }
-        assert_eq!(supervisor.lookup(6, 4096), Err(NotFound::SetOnly), "the library hands key 6 out");
+        assert_eq!(supervisor.lookup(Key::Passphrase, 4096), Err(NotFound::SetOnly), "the library hands key 6 out");
     }
 }
 

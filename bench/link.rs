@@ -128,7 +128,7 @@ fn compared(crc: Crc, kind: Type, payload: &[u8], message: &[u8]) {
     assert_eq!(write(crc, kind.number(), payload, &mut other_out), Ok(message));
     match (rot::read(message, &mut out), read(crc, message, &mut other_out)) {
         (Ok(Received::Echoed(ours)), Ok(Read::Echoed(other))) => assert_eq!(ours, other),
-        (Ok(Received::Message { kind, payload: ours }), Ok(Read::Message(number, other))) => assert_eq!((kind.number(), ours), (number, other)),
+        (Ok(Received::Message(ours)), Ok(Read::Message(number, other))) => assert_eq!((ours.kind.number(), ours.payload), (number, other)),
         _ => panic!("no message"),
     }
 }

@@ -1,11 +1,12 @@
 #!/usr/bin/env python3
-"""Writes docs/FIRMWARE.md: what is proved and what is tested on other processors, and the figures of cross/build and tests/cross/run.
+"""Writes docs/FIRMWARE.md: what is proved and what is tested on other processors, and the figures of cross/build and tests/cross/run. Writes also the
+table of include/oatcastle.h: stack and instructions of each call, between two marks.
 Assumes what tests/cross/run assumes. The figures of a trace are those of seed 1 and 20,000 calls of the differential test.
 
 usage: docs/firmware.py write | check
 
 write: runs tests/cross/run 1 20000 first (some minutes)
-check: compares the document with the logs of the last tests/cross/run, but for what depends on the trace's length"""
+check: compares both with the logs of the last tests/cross/run, but for what depends on the trace's length"""
 import pathlib
 import re
 import subprocess
@@ -15,6 +16,8 @@ ROOT = pathlib.Path(__file__).resolve().parent.parent
 sys.path.insert(0, str(ROOT / 'tests'))
 from common import made
 FILE = ROOT / 'docs/FIRMWARE.md'
+HEADER = ROOT / 'include/oatcastle.h'
+MARKS = (' * ---- Table by docs/firmware.py\n', ' * ---- End of the table\n')
 LOGS = ROOT / 'target/cross/tests'
 WORDS = {'x86-64-O3': 'x86-64, -O3', 'thumbv7em-Os': 'Cortex-M4, -Os', 'thumbv7em-O2': 'Cortex-M4, -O2', 'thumbv6m-Os': 'Cortex-M0, -Os', 'riscv32imc-Os': 'RV32IMC, -Os'}
 TRACE = ('1', '20000')
@@ -47,14 +50,13 @@ def firmware_size():
 
 
 def parts():
-    header = dict(re.findall(r'^#define OATCASTLE_(\w+)_LENGTH (\d+)', (ROOT / 'include/oatcastle.h').read_text(), re.M))
+    header = dict(re.findall(r'^#define OATCASTLE_(\w+)_LENGTH (\d+)', HEADER.read_text(), re.M))
     structs = re.findall(r'typedef struct oatcastle_(\w+) \{\n(.*?)\n\}', (ROOT / 'include/oatcastle_parts.h').read_text(), re.S)
     rows = []
     for struct, fields in structs:
         names = re.findall(r'uint8_t (\w+)\[', fields)
         lengths = [int(header[name.upper()]) for name in names]
         rows.append((f'`oatcastle_{struct}`', ' + '.join(f'{name} {number(n)}' for name, n in zip(names, lengths)), number(sum(lengths))))
-    rows.append(('a line reader', 'its state', number(header['READER'])))
     rows.append(('`oatcastle_counters`', 'nine counters', '36'))
     return table(('Lent memory', 'Parts', 'Bytes'), rows)
 
@@ -91,6 +93,39 @@ def instructions():
     return table(('Request', 'Level', 'Its frame', 'Its reply', 'Frame written', 'Received whole', 'Received byte by byte', 'Reply taken'), sorted(rows, key=lambda r: r[0]))
 
 
+def counted(target):
+    """Instructions of each call, by what it was lent."""
+    found = {}
+    for name, what, n in re.findall(r'^(oatcastle_\w+)(?:, (.*))?: (\d+) instructions$', log(f'count-{target}'), re.M):
+        found.setdefault(name, {})[what] = int(n)
+    return found
+
+
+def call_instructions():
+    small, fast = counted('thumbv7em-Os'), counted('thumbv7em-O2')
+    return table(('Call', 'With', '-Os', '-O2'), [(f'`{name}`', what, number(n), number(fast[name][what])) for name in functions() for what, n in small[name].items()])
+
+
+def header_table():
+    """The same figures as lines of a comment."""
+    stacks = [bounds(target) for target in ('x86-64-O3', 'thumbv7em-Os', 'thumbv6m-Os', 'riscv32imc-Os')]
+    small, fast = counted('thumbv7em-Os'), counted('thumbv7em-O2')
+    form = ' * {:<30}{:>7}{:>7}{:>7}{:>7}  {:<21}{:>8}{:>8}\n'
+    lines = [form.format('', 'x86-64', 'M4', 'M0', 'RV32', 'Instructions, M4', '-Os', '-O2')]
+    for name in functions():
+        head = (name, *(number(bound[name]) for bound in stacks))
+        for what, n in small[name].items():
+            lines.append(form.format(*head, what, number(n), number(fast[name][what])))
+            head = ('',) * len(head)
+    return ''.join(re.sub(' +\n', '\n', line) for line in lines)
+
+
+def header_with(lines):
+    """The header with these lines between the marks."""
+    front, behind = HEADER.read_text().split(MARKS[0])
+    return front + MARKS[0] + lines + MARKS[1] + behind.split(MARKS[1])[1]
+
+
 def replays():
     lines = [name for name in (*WORDS, 'bare-thumbv7em-Os', 'bare-thumbv6m-Os')]
     made = {name: re.search(r'^calls made again: (\d+)$', log(name), re.M).group(1) for name in lines}
@@ -107,7 +142,7 @@ def replays():
 def document():
     """The document in blocks: its text, and whether it depends on the trace's length."""
     return [(TOP, False), (replays(), True), (SIZES + sizes() + '\n' + firmware_size(), False), (RAM + parts(), False), (STACK + stack_bounds(), False),
-            (MEASURED + stack_measured(), True), (INSTRUCTIONS + instructions(), False)]
+            (MEASURED + stack_measured(), True), (INSTRUCTIONS + instructions(), False), (CALLS + call_instructions(), False)]
 
 
 TOP = '''# On the firmware's processor
@@ -157,18 +192,26 @@ INSTRUCTIONS = '''
 By qemu's instruction count (`tests/cross/count.c`), memcpy and memset byte by byte included. A processor takes at least a cycle for each. Byte by byte: one call for each byte of the frame.
 
 '''
+CALLS = '''
+Each call by itself, with short and with long bytes where it depends on them. `include/oatcastle.h` has these figures and the stack in one table.
+
+'''
 
 
 def main(command):
     if command == 'write':
         subprocess.run([ROOT / 'tests/cross/run', *TRACE], check=True)
         FILE.write_text(''.join(text for text, _ in document()))
+        HEADER.write_text(header_with(header_table()))
         return
     made('target/cross/tests/firmware.log')
     text = FILE.read_text()
     stale = [block.strip().split('\n')[0] for block, by_trace in document() if not by_trace and block not in text]
     for head in stale:
         print(f'docs/FIRMWARE.md is not as docs/firmware.py would write it: {head}')
+    if header_with(header_table()) != HEADER.read_text():
+        stale.append('the table of the header')
+        print('include/oatcastle.h has another table than docs/firmware.py would write')
     sys.exit(1 if stale else 0)
 
 

@@ -1,7 +1,10 @@
-"""What the programs of this folder share: the texts of cases, the command line, the comparison with a crate's files, and files that must be made first.
+"""What the programs of this folder share: the texts of cases, the command line, the comparison with a crate's files, files that must be made first, and
+the comments of the header's constants.
 Assumes that each stands in this folder, and the crates beside it."""
+import functools
 import os
 import pathlib
+import re
 import subprocess
 import sys
 
@@ -13,6 +16,13 @@ def made(*files):
     """Ends the run with 2 where a file is missing, and says which command makes it."""
     if subprocess.run([ROOT / 'tests/made', *files]).returncode:
         sys.exit(2)
+
+
+@functools.cache
+def comments(header):
+    """The comment of each constant of the header, which stands behind its #define or in the lines ahead of it, without line ends and stars."""
+    found = re.findall(r'(?:^/\*\*((?:(?!\*/).)*?)\*/\n)?^#define OATCASTLE_(\w+) [^\n/]*(?:/\*\*<((?:(?!\*/).)*?)\*/)?', header, re.M | re.S)
+    return {name: ' '.join(re.sub(r'\n \*', '\n', ahead or behind).split()) for ahead, name, behind in found}
 
 
 def texts(cases):

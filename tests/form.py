@@ -1,6 +1,6 @@
 #!/usr/bin/env python3
 """Holds the form of the sources to its limits:
-- no line of crates/*/{src,specs,proofs} and of include/ is wider than 140 columns;
+- no line of crates/*/{src,specs,proofs} and of include/ is wider than 140 columns, none of the headers wider than 100;
 - no public name of specs/ is defined in two modules;
 - three positions in a row of a walk (`.before .before .before`) stand only where a name is given to the place that they lead to.
 Prints each fault with its place, then how many files were read and how many faults of each kind they have; any fault fails the check.
@@ -16,7 +16,7 @@ ROOT = pathlib.Path(__file__).resolve().parent.parent
 sys.path.insert(0, str(ROOT / 'docs'))
 import sources  # noqa: E402
 
-WIDTH = 140
+WIDTH, HEADER_WIDTH = 140, 100
 RUN = re.compile(r'(?: \.before){3,}')
 # what stands ahead of a run where a name is given: a `let`, or the head of a definition
 NAMED = re.compile(r'(?:\blet \S+ = |^\S+(?: \S+)? = )[^=]*$')
@@ -31,7 +31,7 @@ def paths():
 def wide_lines(texts):
     for path, text in texts.items():
         for number, line in enumerate(text.split('\n'), 1):
-            if len(line) > WIDTH:
+            if len(line) > (HEADER_WIDTH if path.suffix == '.h' else WIDTH):
                 yield f'{path.relative_to(ROOT)}:{number}: {len(line)} columns'
 
 
@@ -54,7 +54,7 @@ def bare_positions(texts):
 
 
 # Each kind of fault, in the words of the summary, and what finds those of some files, path and text.
-KINDS = {f'lines wider than {WIDTH} columns': wide_lines, 'names defined twice': names_twice, 'lines with bare positions': bare_positions}
+KINDS = {f'lines wider than {WIDTH} columns, of headers {HEADER_WIDTH}': wide_lines, 'names defined twice': names_twice, 'lines with bare positions': bare_positions}
 
 
 def faults(texts):
@@ -63,9 +63,11 @@ def faults(texts):
 
 def planted(texts):
     """A fault of each kind is seen, and no other."""
-    path = next(path for path in texts if path.match('crates/line/specs/Frame.antt'))
-    plants = dict(zip(KINDS, (f'-- {"wide " * 28}', 'abbrev pub lookup : ℕ\nlookup = 0', 'pub law : ℕ\nlaw c d = f (c .before .before .before .pre)')))
-    missed = [kind for kind, text in plants.items()
+    spec, header = (next(path for path in texts if path.match(name)) for name in ('crates/line/specs/Frame.antt', 'include/oatcastle.h'))
+    wide, twice, bare = KINDS
+    plants = [(wide, spec, f'-- {"wide " * 28}'), (wide, header, f'/* {"wide " * 19} */'), (twice, spec, 'abbrev pub lookup : ℕ\nlookup = 0'),
+              (bare, spec, 'pub law : ℕ\nlaw c d = f (c .before .before .before .pre)')]
+    missed = [kind for kind, path, text in plants
               if [other for other, found in faults({**texts, path: texts[path] + f'\n{text}\n'}).items() if found] != [kind]]
     for kind in missed:
         print(f'form: not seen alone: {kind}')

@@ -1,31 +1,38 @@
 #!/usr/bin/env python3
 """Compares the C interface where it is written down: the functions of crates/oatcastle/src, include/oatcastle.h and
-bindings/rust/src/raw.rs by name, parameters' names and kinds; the records that they take, by their fields; every #define of the header, and the
-wrapper's numbers, with the crates. Every constant of the crates behind them must be named in the code of a function, or in another constant that is: a
+bindings/rust/src/raw.rs by name, parameters' names and kinds; the answers, by how many numbers the crates write and by the fields of header and
+wrapper; the records that they take, by their fields; every #define of the header, and the wrapper's numbers, with the crates; the texts of
+refusals in header and wrapper. Every constant of the crates behind them must be named in the code of a function, or in another constant that is: a
 number that no function names is held by no contract.
 Assumes the layouts of these files as `rt fmt` and their own style have them.
 
 usage: tests/interface.py [planted]
 
-planted: changes each #define, each parameter, each record's fields and each number of the wrapper in turn, takes each constant of the crates out of
-the functions, in memory alone, and asks that every change be seen"""
+planted: changes each #define, each parameter, each field of an answer or a record, each text of a refusal and each number of the wrapper in turn,
+takes each constant of the crates out of the functions, in memory alone, and asks that every change be seen"""
 import functools
 import pathlib
 import re
 import sys
 
-ROOT = pathlib.Path(__file__).resolve().parent.parent
+from common import ROOT, comments
+
 HEADER = 'include/oatcastle.h'
 RAW = 'bindings/rust/src/raw.rs'
 # The wrapper's files that have numbers: lengths, limits, offsets and kinds; then the enums of numbers.
 LIMITS = 'bindings/rust/src/limits.rs'
-ENUMS = {'bindings/rust/src/numbers.rs': ('Refusal', 'Reason', 'NotFound', 'Fault'), 'bindings/rust/src/rot.rs': ('Type',)}
+ENUMS = {'bindings/rust/src/numbers.rs': ('Refusal', 'Reason', 'NotFound', 'Fault'), 'bindings/rust/src/rot.rs': ('Type',),
+         'bindings/rust/src/wire.rs': ('Command', 'ReplyCommand', 'Key', 'NotSet', 'OptionBit', 'StatusBit'), 'bindings/rust/src/start.rs': ('Bsu', 'ItemResult')}
 WRAPPER = (LIMITS, *ENUMS)
-# The enums' prefixes in the header's names, and the wrapper's names for refusals of the root-of-trust link.
-PREFIXES = {'Refusal': '', 'Reason': 'REASON_', 'NotFound': 'NOT_FOUND_', 'Fault': 'RESTORE_', 'Type': 'ROT_'}
-LINK_REFUSALS = {'PAYLOAD_TOO_LONG': 'ROT_TOO_LONG'}
+# The enums' prefixes in the header's names, and the wrapper's other names for a refusal of the root-of-trust link and for a result.
+PREFIXES = {'Refusal': '', 'Reason': 'REASON_', 'NotFound': 'NOT_FOUND_', 'Fault': 'RESTORE_', 'Type': 'ROT_', 'Command': 'COMMAND_', 'ReplyCommand': 'REPLY_',
+            'Key': 'KEY_', 'NotSet': 'SET_', 'OptionBit': 'OPTION_', 'StatusBit': 'STATUS_', 'Bsu': 'BSU_', 'ItemResult': 'INVENTORY_'}
+OTHER_NAMES = {'PAYLOAD_TOO_LONG': 'ROT_TOO_LONG', 'INVENTORY_FOUND': 'INVENTORY_ITEM'}
+# The prefixes of which the wrapper has every number, but for the results that it has no name for.
+WHOLE = ('NOT_FOUND_', 'LONGEST_SETTINGS[', 'REASON_', 'RESTORE_', 'COMMAND_', 'REPLY_', 'KEY_', 'SET_', 'OPTION_', 'STATUS_', 'BSU_', 'INVENTORY_', 'PASSPHRASE_')
+NAMELESS = ('SET_STORED', 'INVENTORY_BAD_INDEX')
 LIMIT = r'const (\w+): (?:usize|u64) = (\d+);'
-VARIANT = r'^    (\w+) = (\d+), "'
+VARIANT = r'^    (\w+) = (0x[0-9a-f]+|\d+), "([^"]*)"'
 LONGEST_SETTINGS = r'const LONGEST_SETTINGS: \[usize; \d+\] = \[([\d, ]+)\];'
 NUMBERS = {'u8': 'u8', 'u16': 'u16', 'u32': 'u32', 'u64': 'u64', 'usize': 'u64',
            'uint8_t': 'u8', 'uint16_t': 'u16', 'uint32_t': 'u32', 'uint64_t': 'u64'}
@@ -33,6 +40,8 @@ NUMBERS = {'u8': 'u8', 'u16': 'u16', 'u32': 'u32', 'u64': 'u64', 'usize': 'u64',
 LENGTH = 'oatcastle_length'
 # The records that functions take: the crates' name, its file, and the header's name.
 RECORDS = {'Probe': ('crates/probes/src/lib.rt', 'oatcastle_probe'), 'Counters': ('crates/counters/src/lib.rt', 'oatcastle_counters')}
+# The functions that answer in the struct of another, or share one.
+ANSWER_OF = {'step_counted': 'step', 'boot_failure_record': 'record', 'panic_record': 'record'}
 # The numbers of messages, and the limits that others are made of.
 MESSAGES = 'crates/line/src/numbers.rt'
 LINE_LIMITS = 'crates/line/src/limits.rt'
@@ -62,6 +71,9 @@ def rattle_parameters(parameter):
     change = 'mut ' if kind.startswith('&mut ') else 'const '
     if kind == '&mut Counters':
         return [(name, 'mut Counters')]
+    answer = re.fullmatch(r'&mut \[u64; (\d+)\]', kind)
+    if answer:
+        return [(name, f'mut {answer.group(1)} numbers')]
     element = re.fullmatch(r'&(?:mut )?\[(\w+)(; [\w:]+)?\]', kind)
     if not element:
         return [(name, NUMBERS[kind])]
@@ -69,19 +81,28 @@ def rattle_parameters(parameter):
     return [pointer] if element.group(2) else [pointer, (name + ('_length' if element.group(1) == 'u8' else '_count'), 'length')]
 
 
-def c_parameters(parameter):
+def led_to(kind, fields):
+    """What a pointer leads to: a number, a record, or a struct of so many 64-bit numbers."""
+    if kind in ELEMENTS:
+        return ELEMENTS[kind]
+    if fields and all(width == 'u64' for _, width in fields):
+        return f'{len(fields)} numbers'
+    return f'{kind}, which is no type of these'
+
+
+def c_parameters(parameter, text):
     kind, name = re.fullmatch(r'(.*?[\s*])(\w+)(?:\[\w+\])?', parameter, re.S).groups()
     words = kind.replace('*', ' ').split()
     if '*' in kind or '[' in parameter:
-        return [(name, ('const ' if words[0] == 'const' else 'mut ') + ELEMENTS[words[-1]])]
+        return [(name, ('const ' if words[0] == 'const' else 'mut ') + led_to(words[-1], c_structs(text).get(words[-1])))]
     return [(name, 'length' if words == [LENGTH] else NUMBERS.get(words[-1], f'{words[-1]}, which is no type of the header'))]
 
 
-def raw_parameters(parameter):
+def raw_parameters(parameter, text):
     name, kind = (part.strip() for part in parameter.split(':'))
     pointer = re.fullmatch(r'\*(mut|const) (\w+)', kind)
     if pointer:
-        return [(name, f'{pointer.group(1)} ' + ('size' if pointer.group(2) == 'Length' else ELEMENTS[pointer.group(2)]))]
+        return [(name, f'{pointer.group(1)} ' + ('size' if pointer.group(2) == 'Length' else led_to(pointer.group(2), rust_structs(text).get(pointer.group(2)))))]
     return [(name, 'length' if kind == 'Length' else NUMBERS[kind])]
 
 
@@ -95,17 +116,19 @@ def exported():
     return functions(read('crates/oatcastle/src'), r'pub extern "C" fn (\w+)(?:<[^>]*>)?\((.*?)\) -> u32', rattle_parameters)
 
 
-def declared(texts):
-    return functions(texts[HEADER], r'\nuint32_t (\w+)\((.*?)\);', c_parameters)
+@functools.cache
+def declared(header):
+    return functions(header, r'\nuint32_t (\w+)\((.*?)\);', lambda parameter: c_parameters(parameter, header))
 
 
-def bound(texts):
-    return functions(texts[RAW], r'fn (\w+)\((.*?)\) -> u32;', raw_parameters)
+@functools.cache
+def bound(raw):
+    return functions(raw, r'fn (\w+)\((.*?)\) -> u32;', lambda parameter: raw_parameters(parameter, raw))
 
 
 def function_faults(texts):
     wanted = exported()
-    for where, found in (('the header', declared(texts)), (RAW, bound(texts))):
+    for where, found in (('the header', declared(texts[HEADER])), (RAW, bound(texts[RAW]))):
         for name in sorted(wanted.keys() | found.keys()):
             if wanted.get(name) != found.get(name):
                 yield f'{name}: {where} has {found.get(name)}, the crate {wanted.get(name)}'
@@ -116,23 +139,61 @@ def function_faults(texts):
 
 # ---- Records: of each the list of (name, kind) of its fields, in order
 
-def rust_fields(text, name):
-    """The fields of a struct in Rattle or Rust, or None where it is not there with C's layout."""
-    found = re.search(rf'#\[repr\(C\)\]\npub struct {name} \{{\n(.*?)\n\}}', text, re.S)
-    return found and [(field, NUMBERS[kind]) for field, kind in re.findall(r'pub (\w+): (\w+),', found.group(1))]
+@functools.cache
+def rust_structs(text):
+    """The fields of each struct with C's layout in Rattle or Rust."""
+    found = re.findall(r'#\[repr\(C\)\]\npub struct (\w+) \{\n(.*?)\n\}', text, re.S)
+    return {name: [(field, NUMBERS[kind]) for field, kind in re.findall(r'pub (?:r#)?(\w+): (\w+),', inside)] for name, inside in found}
 
 
-def c_fields(text, name):
-    found = re.search(rf'\n(?:typedef )?struct {name} \{{\n(.*?)\n\}}', text, re.S)
-    return found and [(field, NUMBERS[kind]) for kind, field in re.findall(r'(\w+) (\w+);', found.group(1))]
+@functools.cache
+def c_structs(text):
+    found = re.findall(r'\n(?:typedef )?struct (\w+) \{\n(.*?)\n\}', text, re.S)
+    return {name: [(field, NUMBERS[kind]) for kind, field in re.findall(r'(\w+) (\w+);', re.sub(r'/\*.*?\*/', '', inside, flags=re.S))] for name, inside in found}
 
 
 def record_faults(texts):
     for name, (path, c_name) in RECORDS.items():
-        wanted = rust_fields(read(path), name)
-        for where, found in ((HEADER, c_fields(texts[HEADER], c_name)), (RAW, rust_fields(texts[RAW], name))):
+        wanted = rust_structs(read(path)).get(name)
+        for where, found in ((HEADER, c_structs(texts[HEADER]).get(c_name)), (RAW, rust_structs(texts[RAW]).get(name))):
             if not wanted or found != wanted:
                 yield f'{name}: {where} has {found}, the crate {wanted}'
+
+
+# ---- Answers: a struct for each function, by the function's name, with the same fields in header and wrapper
+
+def answer_names(function):
+    """The header's and the wrapper's name of a function's answer."""
+    name = function.removeprefix('oatcastle_')
+    name = ANSWER_OF.get(name, name)
+    return f'oatcastle_{name}_answer', ''.join(word.title() for word in name.split('_')) + 'Answer'
+
+
+@functools.cache
+def sizes_asserted(text):
+    """The size of each struct whose size is asserted."""
+    said = re.findall(r'sizeof\((\w+)\) == (\d+) \?', text) + re.findall(r'size_of::<(\w+)>\(\) == ([\d *]+)\)', text)
+    return {name: eval(size) for name, size in said}
+
+
+@functools.cache
+def answered_in(text):
+    """The struct that each function answers in."""
+    return dict(re.findall(r'\b(oatcastle_\w+)\([^)]*?\b(\w+) \*answer\)', text) + re.findall(r'\bfn (\w+)\([^)]*?\banswer: \*mut (\w+),?\s*\)', text))
+
+
+def answer_faults(texts):
+    for function in (name for name, parameters in exported().items() if 'answer' in dict(parameters)):
+        in_c, in_rust = answer_names(function)
+        fields, others = c_structs(texts[HEADER]).get(in_c), rust_structs(texts[RAW]).get(in_rust)
+        if not fields or fields != others:
+            yield f'{function}: the header has {fields} in {in_c}, the wrapper {others} in {in_rust}'
+            continue
+        for where, name in ((HEADER, in_c), (RAW, in_rust)):
+            if sizes_asserted(texts[where]).get(name) != 8 * len(fields):
+                yield f'{where}: the size of {name} is not asserted'
+            if answered_in(texts[where]).get(function) != name:
+                yield f'{where}: {function} answers in {answered_in(texts[where]).get(function)}, not in {name}'
 
 
 # ---- Numbers
@@ -168,19 +229,9 @@ def arms(text):
     found, known = {}, constants(MESSAGES, 'crates/oatcastle/src/refusals.rt', 'crates/oatcastle/src/kinds.rt')
     for variant, number in re.findall(r'\b(\w+::\w+)(?:\(\w+\))? => (\d+|refusals::\w+),', text):
         found.setdefault(variant, []).append(worth(number, known))
-    # the numbers stand in the call, or in a `let` ahead of it
-    numbers = r'(?:let \w+ = \w+\.\w+ as u64;\s*)*(?:let numbers = |write_answer\(\s*answer,\s*)\[\s*used,\s*([A-Z]\w+),\s*(\w+)'
-    for variant, kind, reason in re.findall(r'\b(\w+::\w+)(?:\(\w+\))? => \{?\s*' + numbers, text):
+    for variant, kind, reason in re.findall(r'\b(\w+::\w+)(?:\(\w+\))? => \{\s*(?:let \w+ = [^;]*;\s*)*\*answer = \[\s*used,\s*([A-Z]\w+),\s*(\w+)', text):
         found.setdefault(variant, []).append((worth(kind, known), worth(reason, known)))
     return found
-
-
-def numbers_given(text):
-    """How many numbers each definition of what a call writes gives."""
-    found = {}
-    for name, given in re.findall(r'^(\w+)[^\n]*\bgiven \(([^\n]*∷ \[\])\)', text, re.M):
-        found.setdefault(name, []).append(given.count('∷'))
-    return {name: the_one(name, counts) for name, counts in found.items()}
 
 
 def places(text, known):
@@ -192,6 +243,7 @@ def places(text, known):
     return found
 
 
+@functools.cache
 def refusals():
     answered = arms(library(link=False))
     named = {'DONE': ('Started::Done', 'Posted::Done', 'OptionsSet::Done', 'Interrupted::Done', 'Updated::Done', 'Restored::Done'), 'BAD_PROBE': ('Updated::Refused',),
@@ -213,6 +265,14 @@ def kinds():
     return {name: the_one(name, (said[0] for variant in variants for said in answered[variant] if isinstance(said, tuple))) for name, variants in named.items()}
 
 
+def states():
+    """What is outstanding at the main processor's end."""
+    known = constants(MESSAGES, 'crates/oatcastle/src/kinds.rt')
+    named = dict(re.findall(r'\bStage::(\w+) => (\w+),', library(link=False)))
+    stages = {'IDLE': 'Idle', 'WAITING': 'Waiting', 'RECOVERY_STATUS': 'Fetch', 'RECOVERY_ACKNOWLEDGE': 'Acknowledge', 'RECOVERY_ALERT': 'Alert'}
+    return {name: worth(named[stage], known) for name, stage in stages.items()}
+
+
 def reasons():
     """The reasons that the line layer's answers and the supervisor's tests have, each under the name that the numbers of messages give it."""
     answered, known = arms(library(link=False)), constants(MESSAGES)
@@ -230,6 +290,7 @@ FAULTS = {'left < image::MARK_LENGTH': 'CUT_SHORT', 'image::MARK_LENGTH < left':
           'left < image::RECORD_LENGTH + n': 'CUT_SHORT', 'octets::read_u16(image, at + body) != sum': 'BAD_CHECKSUM'}
 
 
+@functools.cache
 def image_faults():
     """The faults of an image of the settings."""
     text = read('crates/saving/src/restore.rt')
@@ -242,6 +303,7 @@ def image_faults():
     return {f'RESTORE_{name}': the_one(name, numbers) for name, numbers in found.items()}
 
 
+@functools.cache
 def root_of_trust():
     """The link's refusals, kinds of answer, message types and lengths."""
     text = library(link=True) + read('crates/rot/src/refusals.rt')
@@ -249,7 +311,7 @@ def root_of_trust():
              'BAD_CRC': 'BadCrc', 'BAD_TYPE': 'BadType'}
     found = {name: the_one(name, arms(text)[f'Refusal::{variant}']) for name, variant in named.items()}
     named_kinds = constants(MESSAGES, 'crates/oatcastle/src/kinds.rt')
-    kinds = {variant: named_kinds[kind] for variant, kind in re.findall(r'Answer::(\w+)(?:\(\w+\))? => write_answer\(\s*answer,\s*\[\s*([A-Z]\w+),', text)}
+    kinds = {variant: named_kinds[kind] for variant, kind in re.findall(r'Answer::(\w+)(?:\(\w+\))? => \{\s*\*answer = \[\s*([A-Z]\w+),', text)}
     found.update({name: kinds[name.title()] for name in ('NOTHING', 'MESSAGE', 'ECHOED')})
     known = constants('crates/rot/src/limits.rt')
     found.update({'HEADER_LENGTH': known['HEADER_LENGTH'], 'LONGEST_PAYLOAD': known['LONGEST_PAYLOAD'],
@@ -259,14 +321,6 @@ def root_of_trust():
              'SINK_RESPONSE')
     found.update({name: known.get(name, known['ERROR_RESPONSE'] + i) for i, name in enumerate(types)})
     return {f'ROT_{name}': number for name, number in found.items()}
-
-
-def answer_counts():
-    counted = numbers_given(read('crates/oatcastle/specs'))
-    named = {'LINE_READ': 'readGiven', 'LINE_TAIL': 'tailGiven', 'LINE_WRITE': 'writeGiven', 'LINE_CHECKSUM': 'lineChecksumCall', 'STEP': 'stepGiven',
-             'TAKE': 'takeGiven', 'REQUESTER_REQUEST': 'putGiven', 'REQUESTER_SEND': 'putGiven', 'REQUESTER_RECEIVE': 'receiptGiven', 'ROT_WRITE': 'rotWriteGiven', 'ROT_READ': 'rotReadGiven', 'ROT_CRC': 'rotCrcCall', 'LOOKUP': 'lookupGiven', 'EDITION': 'editionGiven', 'SIGNAL': 'signalGiven', 'FLAGS': 'flagsGiven', 'RECORD': 'recordGiven', 'SAVE': 'saveGiven'}
-    least = re.search(r'answer\.len\(\) < (\d+)', body(library(link=False), 'oatcastle_restore')).group(1)
-    return {'RESTORE_NUMBERS': int(least), **{f'{name}_NUMBERS': counted[definition] for name, definition in named.items()}}
 
 
 def settings(known, most='longest'):
@@ -289,6 +343,8 @@ def limits():
              'MAC_STRIDE': at['stride'], 'IMAGE_HASH': at['hash'], 'IMAGE_ID': at['image-id'], 'BSU': known['BSU_OFFSET'],
              'IMAGE_ID_LENGTH': known['IMAGE_ID_LENGTH_OFFSET'], 'ITEMS': known['ITEMS_OFFSET'], 'ITEM_COUNT': known['ITEM_COUNT_OFFSET']}
     item = {'RESULT': at['result'], 'NAME': at['name'], 'TYPE': at['type'], 'DATA': at['payload'], 'DATA_LENGTH': known['ITEM_DATA_LENGTH_OFFSET']}
+    passphrase = {'RECORD': 0, 'EDITION': known['SETTING_EDITION_OFFSET'], 'LENGTH': known['SETTING_LENGTH_OFFSET'], 'VALUE': known['SETTING_VALUE_OFFSET']}
+    found.update({f'PASSPHRASE_{name}': known[f'KEY_{known["PASSPHRASE_KEY"]}_OFFSET'] + place for name, place in passphrase.items()})
     found.update({f'START_{name}': place for name, place in start.items()})
     found.update({f'ITEM_{name}': place for name, place in item.items()})
     found.update({'READER_LENGTH': known['STATE_LENGTH'], 'REQUESTER_LENGTH': constants(LINE_LIMITS, 'crates/requester/src/layout.rt')['REQUESTER_LENGTH'], 'LONGEST_FRAME': known['LONGEST_FORM'] + 1,
@@ -372,7 +428,7 @@ def wire():
 @functools.cache
 def wanted_numbers():
     """The header's constants by what the crates have: one entry for each #define."""
-    return {**refusals(), **kinds(), **reasons(), **image_faults(), **answer_counts(), **root_of_trust(), **limits(), **wire()}
+    return {**refusals(), **kinds(), **states(), **reasons(), **image_faults(), **root_of_trust(), **limits(), **wire()}
 
 
 def defined(texts):
@@ -398,15 +454,24 @@ def wrapper_wanted():
     known = constants(LINE_LIMITS, 'crates/supervisor/src/layout.rt')
     names = ('FIRST_SETTING', 'LONGEST_ITEM_DATA', 'LONGEST_IMAGE_ID', 'PONG_OFFSET', 'SETTING_EDITION_OFFSET', 'SETTING_LENGTH_OFFSET', 'SETTING_VALUE_OFFSET',
              'BOOT_FAILURE_OFFSET', 'PANIC_OFFSET', 'RECORD_CODE_OFFSET', 'RECORD_WHOLE_OFFSET', 'RECORD_KEPT_OFFSET')
-    results = re.findall(r'Found::(\w+) => write_both\(value, room, \[(\d+),', read('crates/oatcastle/src/readings.rt'))
+    results = re.findall(r'Found::(\w+) => write_value\(value, room, \[(\d+),', read('crates/oatcastle/src/readings.rt'))
     return {**wanted_numbers(), **{name: known[name] for name in names}, 'ALL_OPTIONS': (1 << known['HIGHEST_OPTION'] + 1) - 1,
             'MESSAGE_DATA_OFFSET': constants(LINE_LIMITS, 'crates/line/src/reader.rt')['DATA_OFFSET'],
-            **{f'NOT_FOUND_{upper(name)}': int(number) for name, number in results},
+            **{f'NOT_FOUND_{upper(name)}': int(number) for name, number in results if name != 'Value'},
             **{f'LONGEST_SETTINGS[{i}]': longest for i, longest in enumerate(settings(known))}}
 
 
 def upper(variant):
     return re.sub(r'(?<!^)(?=[A-Z])', '_', variant).upper()
+
+
+def wrapper_variants(texts):
+    """The wrapper's enums of numbers: of each variant its enum, name, number and text."""
+    for path, kinds_of in ENUMS.items():
+        tables = dict(re.findall(r'^    (\w+) as \w+, "[^"]*":\n(.*?)^\}', texts[path], re.M | re.S))
+        for kind in kinds_of:
+            for variant, value, words in re.findall(VARIANT, tables[kind], re.M):
+                yield kind, variant, int(value, 0), words
 
 
 def wrapper_numbers(texts):
@@ -416,12 +481,9 @@ def wrapper_numbers(texts):
     longest = re.search(LONGEST_SETTINGS, texts[LIMITS]).group(1)
     for i, value in enumerate(longest.split(',')):
         yield f'LONGEST_SETTINGS[{i}]', int(value)
-    for path, kinds_of in ENUMS.items():
-        tables = dict(re.findall(r'^    (\w+) as \w+, "[^"]*":\n(.*?)^\}', texts[path], re.M | re.S))
-        for kind in kinds_of:
-            for variant, value in re.findall(VARIANT, tables[kind], re.M):
-                name = PREFIXES[kind] + upper(variant)
-                yield LINK_REFUSALS.get(name, name if name in wrapper_wanted() else f'ROT_{name}'), int(value)
+    for kind, variant, value, _ in wrapper_variants(texts):
+        name = PREFIXES[kind] + upper(variant)
+        yield OTHER_NAMES.get(name, name if name in wrapper_wanted() else f'ROT_{name}'), value
 
 
 def wrapper_faults(texts):
@@ -431,8 +493,32 @@ def wrapper_faults(texts):
         if wanted.get(name) != value:
             yield f'{name}: bindings/rust/src has {value}, the crates {wanted.get(name)}'
     for name in wanted:
-        if name.startswith(('NOT_FOUND_', 'LONGEST_SETTINGS[', 'REASON_', 'RESTORE_')) and name not in dict(found):
+        if name.startswith(WHOLE) and name not in NAMELESS and name not in dict(found):
             yield f'{name}: bindings/rust/src has none, the crates {wanted[name]}'
+
+
+# ---- Texts of refusals
+
+def refusal_texts(texts):
+    """The header's texts by the names of refusals, and its text for any other number."""
+    inside = re.search(r'oatcastle_refusal_text\(uint32_t number\)\n\{(.*?)\n\}', texts[HEADER], re.S).group(1)
+    said = re.findall(r'(?:case OATCASTLE_(\w+)|default):\s*return ((?:"[^"]*"\s*)+);', inside)
+    return {name or None: ''.join(re.findall(r'"([^"]*)"', words)) for name, words in said}
+
+
+def text_faults(texts):
+    """Each refusal has a text: the wrapper's, which may go on where the wrapper's types rule a case out; those of the first table are the comments too."""
+    said, behind = refusal_texts(texts), comments(texts[HEADER])
+    numbers = {**refusals(), **image_faults(), **{name: number for name, number in root_of_trust().items() if number in range(20, 27)}}
+    if sorted(filter(None, said)) != sorted(numbers) or said.get(None) != 'unknown':
+        yield f'oatcastle_refusal_text has texts for {sorted(filter(None, said))}, the crates the refusals {sorted(numbers)}'
+    wrapped = {number: words for kind, _, number, words in wrapper_variants(texts) if kind in ('Refusal', 'Fault')}
+    for name, words in said.items():
+        number = numbers.get(name)
+        if number in wrapped and not (words + ',').startswith(wrapped[number] + ','):
+            yield f'OATCASTLE_{name}: the header has the text "{words}", the wrapper "{wrapped[number]}"'
+        if name in refusals() and words != behind[name]:
+            yield f'OATCASTLE_{name}: the comment is "{behind[name]}", the text "{words}"'
 
 
 # ---- Ties: constants of the crates that a function names
@@ -446,6 +532,7 @@ def sources():
     return {path.relative_to(ROOT).as_posix(): path.read_text() for crate in ['oatcastle', *crates] for path in sorted((ROOT / 'crates' / crate / 'src').glob('*.rt'))}
 
 
+@functools.cache
 def spelled(constant, where):
     """How a file names a constant: bare in its own, behind its module's name in another."""
     path, name = constant
@@ -489,7 +576,7 @@ def as_written():
 
 def faults(texts):
     """Where the texts by hand and the crates differ."""
-    return [*function_faults(texts), *record_faults(texts), *number_faults(texts), *wrapper_faults(texts)]
+    return [*function_faults(texts), *answer_faults(texts), *record_faults(texts), *number_faults(texts), *wrapper_faults(texts), *text_faults(texts)]
 
 
 # ---- Planted changes
@@ -509,6 +596,14 @@ def exchanged(path, text, form, name):
             yield path, f'{one.group(1)} and {other.group(1)} exchanged in {function.group(1)}', text[:a] + text[c:d] + text[b:c] + text[a:b] + text[d:]
 
 
+def changed_answers(path, text, form, field):
+    """Each answer without its last field, and each two neighbouring fields of an answer exchanged."""
+    yield from exchanged(path, text, form, field)
+    for answer in re.finditer(form, text, re.S):
+        last = list(re.finditer(rf'    {field}', answer.group(2)))[-1]
+        yield path, f'{answer.group(1)} without {last.group(1)}', text[:answer.start(2) + last.start()] + text[answer.start(2) + last.end():]
+
+
 def replaced(path, text, what, old, new):
     assert old in text, f'{path} has no {old}'
     return path, what, text.replace(old, new, 1)
@@ -520,7 +615,7 @@ def planted(texts):
     yield from raised(HEADER, header, r'#define OATCASTLE_\w+ (0x[0-9a-f]+|\d+)u?')
     yield from exchanged(HEADER, header, r'\nuint32_t (\w+)\((.*?)\);', r'(\w+)(?=(?:\[\w+\])?(?:,|$))')
     yield from exchanged(RAW, raw, r'fn (\w+)\((.*?)\) -> u32;', r'(\w+)(?=:)')
-    yield replaced(HEADER, header, 'a #define taken out', '#define OATCASTLE_STEP_NUMBERS', '// OATCASTLE_STEP_NUMBERS')
+    yield replaced(HEADER, header, 'a #define taken out', '#define OATCASTLE_STATUS_ALERTS', '// OATCASTLE_STATUS_ALERTS')
     yield replaced(HEADER, header, 'a #define put in', '#define OATCASTLE_DONE', '#define OATCASTLE_OTHER 1\n#define OATCASTLE_DONE')
     yield replaced(HEADER, header, 'a #define of another form', '#define OATCASTLE_NO_ROOM 8u', '#define OATCASTLE_NO_ROOM (8u + 1u)')
     yield replaced(HEADER, header, 'a const left out', 'const uint8_t *piece', 'uint8_t *piece')
@@ -539,11 +634,20 @@ def planted(texts):
     yield replaced(RAW, raw, 'a block for reading alone', 'counters: *mut Counters', 'counters: *const Counters')
     yield replaced(RAW, raw, 'a mut for a const', '*const', '*mut')
     yield replaced(RAW, raw, 'a narrower number', 'sequence: u64', 'sequence: u32')
-    yield replaced(RAW, raw, 'a function by another name', 'oatcastle_panic', 'oatcastle_panics')
+    yield replaced(RAW, raw, 'a function by another name', 'oatcastle_panic_record', 'oatcastle_panic')
+    yield from changed_answers(HEADER, header, r'\ntypedef struct (oatcastle_\w+_answer) \{\n(.*?)\n\}', r'uint64_t (\w+);')
+    yield from changed_answers(RAW, raw, r'\npub struct (\w+Answer) \{\n(.*?)\n\}', r'pub (?:r#)?(\w+): u64,')
+    yield replaced(HEADER, header, 'a narrower field of an answer', 'uint64_t set_bits;', 'uint32_t set_bits;')
+    yield replaced(HEADER, header, 'another struct', 'oatcastle_requester_send_answer *answer', 'oatcastle_save_answer *answer')
+    yield replaced(RAW, raw, 'another struct', 'answer: *mut RequesterSendAnswer', 'answer: *mut SaveAnswer')
+    yield replaced(HEADER, header, 'a size not asserted', 'sizeof(oatcastle_step_answer) == 48', 'sizeof(oatcastle_step_answer) > 0')
+    yield replaced(RAW, raw, 'a size not asserted', 'size_of::<StepAnswer>() == 8 * 6', 'size_of::<StepAnswer>() > 0')
+    for found in re.finditer(r'return "([^"]*)"', header):
+        yield HEADER, f'another text than "{found.group(1)}"', header[:found.start(1)] + 'no ' + header[found.start(1):]
     yield from raised(LIMITS, texts[LIMITS], r'const \w+: (?:usize|u64) = (\d+);')
     yield replaced(LIMITS, texts[LIMITS], 'a shorter setting', '= [256, ', '= [255, ')
     for path in ENUMS:
-        yield from raised(path, texts[path], r'\n    \w+ = (\d+), "')
+        yield from raised(path, texts[path], r'\n    \w+ = (0x[0-9a-f]+|\d+), "')
     yield replaced(WRAPPER[1], texts[WRAPPER[1]], 'a reason taken out', '    Data = 7, ', '    // Data = 7, ')
     yield replaced(WRAPPER[1], texts[WRAPPER[1]], 'a fault taken out', '    BytesAfter = 35, ', '    // BytesAfter = 35, ')
 

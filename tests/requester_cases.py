@@ -13,6 +13,7 @@ Commands, one a line; HEX is pairs of hex digits with no space, COUNT and the li
 q COMMAND ROOM   requests with the piece as its data and the first ROOM bytes of the output (COMMAND: 2 hex digits); prints the answer and the
            digest of the output's 4,199 bytes, and empties the piece
 i          an interrupt
+t          tells what is outstanding: its stage, command and number, `out` where its frame is to go out, `original` where a request goes out behind it
 s ROOM     sends to the first ROOM bytes of the output; prints as q does
 r MOST     receives the piece by calls with MOST bytes at most each until it is used up, and empties it; no bytes are one call. With 1 only the calls
            print that hand something out, end a recovery or are refused.  c COUNT: its first COUNT bytes, then the rest
@@ -36,6 +37,7 @@ TOP = 1 << 63
 ONES = (1 << 64) - 1
 FETCH, ACKNOWLEDGE, ALERT = 1, 2, 3
 STEP_COMMAND = {FETCH: 0x08, ACKNOWLEDGE: 0x09, ALERT: 0x0a}
+STAGES = {None: 'waiting', FETCH: 'fetch', ACKNOWLEDGE: 'acknowledge', ALERT: 'alert'}
 READER_ROOM, REQUESTER_ROOM, OUT_ROOM, WHOLE = 4142 + 9, 4118 + 9, 4199, 8320
 
 
@@ -87,6 +89,12 @@ class Model:
         self.newest += 1
         self.step = FETCH
         self.unsent = True
+
+    def state(self):
+        if not self.outstanding():
+            return f'idle 00 {0:016x}'
+        original = self.step is not None and self.kept is not None
+        return f'{STAGES[self.step]} {self.outstanding()[0]:02x} {self.newest:016x}' + ' out' * self.unsent + ' original' * original
 
     def send(self, room):
         if not (self.outstanding() and self.unsent):
@@ -192,6 +200,10 @@ class Case(LineCase):
         self.commands.append('i')
         number = 12 if self.refuses else self.main.interrupt()
         return self.say(f'refused {number}' if number else 'done')
+
+    def state(self):
+        self.commands.append('t')
+        return self.say('refused 12' if self.refuses else self.main.state())
 
     def send(self, room=OUT_ROOM):
         self.commands.append(f's {room}')
@@ -368,10 +380,10 @@ def cells():
     for state, begun in STATES.items():
         for what, of in FRAMES.items():
             c = begun(f'{state}, {what}')
-            yield c.receive(of(c.main.newest)).send().send()
+            yield c.receive(of(c.main.newest)).state().send().send()
         for command in (0x01, 0x02, 0x06, 0x03, 0x08, 0x0a):
-            yield begun(f'{state}, request {command:02x}').request(command).send()
-        yield begun(f'{state}, interrupt').interrupt().send().interrupt().send()
+            yield begun(f'{state}, request {command:02x}').request(command).state().send()
+        yield begun(f'{state}, interrupt').interrupt().state().send().interrupt().state().send()
         yield begun(f'{state}, no bytes').none().send()
 
 
@@ -468,27 +480,50 @@ def spoiled():
     for name, at, bad, good in fields:
         c = waiting(f'bad {name}').store(1, at, bad).note()
         c.refuses = True
-        c.request(0x03).interrupt().send().receive(reply(1, 0x0a)).same()
+        c.request(0x03).interrupt().send().state().receive(reply(1, 0x0a)).same()
         c.refuses = False
-        yield c.store(1, at, good).receive(reply(1, 0x0a))
+        yield c.store(1, at, good).state().receive(reply(1, 0x0a))
     c = fetching_alone('number 0 in a recovery').store(1, 0, bytes(8)).note()
     c.refuses = True
-    c.request(0x03).interrupt().send().receive(status(1, 0)).same()
+    c.request(0x03).interrupt().send().state().receive(status(1, 0)).same()
     c.refuses = False
     yield c.store(1, 0, (1).to_bytes(8, 'little')).receive(status(1, 0)).request(0x03)
-    yield Case('number 0 with none outstanding').request(0x01).number(0).send().receive(reply(1, 0x0a)).request(0x03)
+    yield Case('number 0 with none outstanding').request(0x01).number(0).state().send().receive(reply(1, 0x0a)).request(0x03)
     c = waiting('bad count of the reader').store(0, 0, (4142).to_bytes(2, 'little')).note()
     c.refuses = True
     c.receive(reply(1, 0x0a)).same()
     c.refuses = False
-    yield c.interrupt().send().start().request(0x03)
+    yield c.state().interrupt().send().start().request(0x03)
     for reader, requester in ((4141, 4118), (4142, 4117), (0, 0), (4142, 4118)):
         c = waiting(f'lent {reader} and {requester}').lend(reader, requester).note()
         short = requester < 4118
         c.refuses = short
-        c.interrupt().send()
+        c.state().interrupt().send().state()
         c.refuses = short or reader < 4142
         yield c.receive(b'\0').start().lend().request(0x03)
+
+
+def states():
+    """What is outstanding, told before and after each frame goes out; the parts stay as they were."""
+    yield idle('state, nothing asked').note().state().same().state()
+    for command in (0x01, 0x02, 0x06, 0x03, 0xff):
+        yield Case(f'state, request {command:02x}').request(command).note().state().same()
+    for name, begun in STATES.items():
+        c = begun(f'state, {name}, sent and resent').note().state().same()
+        yield c.receive(b'\5\1\0').state().send(0).state().send().state()
+    for first, begun in (('with an original', waiting), ('alone', idle)):
+        c = begun(f'state, a whole recovery {first}').interrupt().state().send().state()
+        for data in (lambda n: status(n, 3), lambda n: reply(n, 0x01), lambda n: status(n, 2), lambda n: reply(n, 0x07), lambda n: status(n, 0)):
+            c.receive(data(c.main.newest)).state().send().state()
+        yield c.receive(reply(c.main.newest, 0x0a, b'\0')).state().request(0x03).state()
+    for first, begun in (('with an original', fetching), ('alone', fetching_alone)):
+        c = begun(f'state, a recovery ended with 14 {first}').number(LAST).state()
+        yield c.receive(status(LAST, 1)).state()
+    yield waiting('state, at the last number').number(LAST).state().receive(reply(LAST, 0x0a, b'\0')).state()
+    yield fetching('state, started anew').state().start().state()
+    c = fetching('state, the reader not lent').lend(reader=0, requester=4118).note()
+    c.refuses = False
+    yield c.state().same()
 
 
 def starts():
@@ -498,7 +533,7 @@ def starts():
 
 
 def cases():
-    for group in (cells, recoveries, sending, orders, last_numbers, cuts, spoiled, starts):
+    for group in (cells, recoveries, sending, orders, last_numbers, cuts, spoiled, states, starts):
         yield from group()
 
 

@@ -22,18 +22,27 @@ DEFINED = {'c': r'^(?:static )?\w+ \**(\w+)\([^;{]*\)\n\{', 'rs': r'^fn (\w+)'}
 MISTAKES = {
     'the rest of a piece is dropped': [
         ('README.md', 'rs', 'while !piece.is_empty() {\n        let received', '{\n        let received'),
-        ('README.md', 'rs', 'while !piece.is_empty() {\n            piece', '{\n            piece'),
+        ('README.md', 'rs', 'stdin().read(room)', 'Ok(stdin().read(room)?.min(9))'),
         ('README.md', 'c', 'while (length > 0) {', 'if (length > 0) {'),
         ('include/oatcastle_parts.h', 'c', 'while (length > 0) {', 'if (length > 0) {'),
         ('bindings/rust/README.md', 'rs', 'while !piece.is_empty() {', '{'),
     ],
+    'a part of a reply is not sent': [
+        ('README.md', 'rs', 'stdout().write_all(bytes)', 'stdout().write_all(&bytes[..bytes.len() / 2])'),
+    ],
+    'a lost frame is not asked for again': [
+        ('bindings/rust/README.md', 'rs', 'main.interrupt()?;', ''),
+    ],
+    'an alert is dropped': [
+        ('bindings/rust/README.md', 'rs', 'alerts.push(message.data.to_vec());', ''),
+    ],
     'a broken frame is not asked for again': [
         ('README.md', 'rs', 'wire.extend_from_slice(main.send(&mut [0; LONGEST_FRAME])?);', ''),
-        ('include/oatcastle_parts.h', 'c', 'send(out, put[0]);', '(void)send;'),
+        ('include/oatcastle_parts.h', 'c', 'send(out, put.length);', '(void)send;'),
     ],
     'the answer is not given to the caller': [
-        ('README.md', 'rs', 'Handed::Answer(reply) => answer = Some((reply.command, reply.data.to_vec())),', 'Handed::Answer(_) => answer = None,'),
-        ('include/oatcastle_parts.h', 'c', '            handed(got, data);', '            (void)handed;'),
+        ('README.md', 'rs', 'Handed::Answer(message) => answer = Some((message.command, message.data.to_vec())),', 'Handed::Answer(_) => answer = None,'),
+        ('include/oatcastle_parts.h', 'c', '            handed(&got, data);', '            (void)handed;'),
     ],
 }
 
@@ -199,7 +208,7 @@ def main():
     OUT.mkdir(parents=True, exist_ok=True)
     run('rustc', '--edition', '2021', '-O', '--crate-type', 'rlib', '--crate-name', 'oatcastle', '--out-dir', OUT, 'bindings/rust/src/lib.rs', '-L', 'native=target/staticlib',
         '-l', 'static=oatcastle')
-    cases = {'hear': heard(), 'serve': served(), 'main': given()}
+    cases = {'hear': heard(), 'ping': heard(), 'serve': served(), 'main': given()}
     found = list(snippets())
     for place, (file, language, text) in enumerate(found):
         name = driver(file, language, text)

@@ -50,6 +50,7 @@ ROWS = {
         'interrupt': (['requester::recovery::interrupt'], {}),
         'send': (['requester::sending::send'], {'out': 'room'}),
         'receive': (['requester::receive::receive'], {}),
+        'state': (['requester::state::state'], {}),
     },
 }
 

@@ -188,10 +188,16 @@ class Supervisor:
             reason, sequence, version = failed
             said, reply = f'failure {reason}', framed(ONES if sequence is None else sequence | TOP, 0x02, bytes([reason]), version)
         else:
-            said, answer = 'request', self.request(*rest, image)
+            answer = self.request(*rest, image)
+            said = self.served(rest[2], rest[3], answer)
             reply = b'' if answer is None else framed(rest[1] | TOP, *answer)
         self.pending = (b'\0' if self.last else b'') + reply
         return said
+
+    @staticmethod
+    def served(command, data, answer):
+        """What is told of a valid request: its command; of a key set its key and the result in its reply."""
+        return f'set {data[0]} {answer[1][0]}' if command == 0x10 else f'request {command}'
 
     def failed(self, version, sequence, command, data):
         """The reason, the sequence and the version of the reply to a message that is no valid request."""
@@ -824,6 +830,25 @@ def saving():
     yield c.ask(0x10, b'\4v').edition(4).save()
 
 
+def steps():
+    """What a step says of each request that it carried out."""
+    for version in VERSIONS:
+        c = Case(f'steps of every command in version {version}', FULL).lend_image(nonzero(5000)).post(5, b'alert text')
+        for command, data in COMMANDS.items():
+            c.ask(command, data, how='q', version=version)
+        yield c.receive(b'\0', 'q').ask(3, b'x', how='q', version=version).ask(0x0b, how='q', version=version).ask(1, how='q', version=3).local()
+    for key in (*range(8), 16, 255):
+        c = Case(f'steps of sets of key {key}', Start())
+        for n in (0, 7, 8, 63, 64, 256, 257, 4096, 4097):
+            c.ask(0x10, bytes([key]) + nonzero(n), how='q').ask(0x0e, bytes([key]) + b'\xff\xff', how='q')
+        if key in KEYS:
+            c.store_edition(key, LAST_EDITION).ask(0x10, bytes([key]) + nonzero(8), how='q').ask(0x10, bytes([key]) + nonzero(4097), how='q')
+        yield c.ask(0x10, b'', how='q')
+    sets = [framed(i + 1, 0x10, data) for i, data in enumerate((b'\3value', b'\2x', b'\7x', b'\6short', b'\6' + nonzero(8)))]
+    others = [b'\0', framed(9, 1), b'\2\0', framed(10, 0x0e, b'\3\4\0'), framed(11, 8)]
+    yield Case('steps through one piece', Start()).receive(b''.join(a + b for a, b in zip(sets, others)), 'q').take().local()
+
+
 def inventory():
     last = (0, b'\xff' * 32, 255, b'\0' * ITEM_DATA)
     for items in ([], ITEMS[:1], ITEMS, (ITEMS * 4)[:15] + [last], (ITEMS * MOST_ITEMS)[:MOST_ITEMS - 1] + [last]):
@@ -1177,7 +1202,7 @@ def sessions():
 
 
 def cases():
-    for group in (line_samples, commands, failures, lengths, keys, editions, saving, passphrase, inventory, alerts, options, records, images, sending, again, start_data, short_parts, stored_fields, sessions):
+    for group in (line_samples, commands, failures, lengths, keys, editions, saving, passphrase, steps, inventory, alerts, options, records, images, sending, again, start_data, short_parts, stored_fields, sessions):
         yield from group()
 
 

@@ -1,7 +1,8 @@
 #!/usr/bin/env python3
 """Compares every row of the tables of docs/WIRE.md with the running library, in both versions of the protocol. Requests, images and root-of-trust messages are built from
 the page's own offsets, widths and numbers, and from values of this program. tests/wire/driver.c makes the calls.
-Then each number, byte and word of the tables is changed in turn, in memory alone, and must be seen. Columns for readers alone have no number and are not compared.
+The comments of include/oatcastle.h at the wire's constants are compared with the rows. Columns for readers alone have no number and are compared there alone.
+Then each number, byte and word of the tables and each of these comments is changed in turn, in memory alone, and must be seen.
 Assumes target/staticlib/liboatcastle.a and a C compiler. Ends with 1 at the first difference.
 
 usage: tests/wire.py"""
@@ -14,7 +15,7 @@ import subprocess
 import sys
 
 from audit import L12, checksum
-from common import LIBRARY, ROOT, made
+from common import LIBRARY, ROOT, comments, made
 
 PAGE = ROOT / 'docs' / 'WIRE.md'
 DRIVER = ROOT / 'target' / 'wire' / 'driver'
@@ -73,11 +74,13 @@ def ran(*calls):
     return answers
 
 
+HEADER = (ROOT / 'include' / 'oatcastle.h').read_text()
+
+
 @functools.cache
 def constants():
     """The header's numbers by name."""
-    text = (ROOT / 'include' / 'oatcastle.h').read_text()
-    return {name: int(number, 0) for name, number in re.findall(r'^#define OATCASTLE_(\w+) (0x[0-9a-f]+|\d+)u?\b', text, re.M)}
+    return {name: int(number, 0) for name, number in re.findall(r'^#define OATCASTLE_(\w+) (0x[0-9a-f]+|\d+)u?\b', HEADER, re.M)}
 
 
 def of_header(name):
@@ -244,8 +247,8 @@ def stuffed(message, full):
 class Page:
     """The tables, and messages, frames, records and images by their rules."""
 
-    def __init__(self, found):
-        self.found = found
+    def __init__(self, found, words):
+        self.found, self.words = found, words
         self.layout = layout(self.rows('Message'))
         self.magic, versions = (row[3] for row in self.rows('Message')[:2])
         self.versions = [number(word) for word in versions.split(' or ')]
@@ -940,23 +943,60 @@ def check_complete(page):
         for row in rows:
             if heading in PROSE and re.search(r'\d', row[columns.index(PROSE[heading])]):
                 raise Difference(f'{heading}: a number among words: {row}')
-    wire = re.compile(r'(COMMAND|REPLY|KEY|LOOKUP|SET|INVENTORY|STATUS|OPTION|BSU|REASON|RESTORE|ROT)_(?!NUMBERS|.*_NUMBERS|HEADER|LONGEST|NOTHING|MESSAGE|ECHOED)')
+    wire = re.compile(r'(COMMAND|REPLY|KEY|LOOKUP|SET|INVENTORY|STATUS|OPTION|BSU|REASON|RESTORE|ROT)_(?!HEADER|LONGEST|NOTHING|MESSAGE|ECHOED)')
     listed = {name for name in constants() if wire.match(name)}
     same('names on the page alone and in the header alone', ([], []), (sorted(names - listed), sorted(listed - names)))
+
+
+def sized(cell, length):
+    """A list of fields with its length."""
+    return cell if cell == 'none' else f'{cell} ({length} byte{"s" * (length != "1")})'
+
+
+def mirrored(page):
+    """The comment of each constant of the wire by the page's rows."""
+    out = {}
+    for _, name, data, length, _, reply, first, first_length, second, second_length, results in page.rows('Commands'):
+        if name != 'none':
+            out[f'COMMAND_{named(name)}'] = f'request data: {sized(data, length)}; reply: ' + ('none' if reply == 'none' else f'OATCASTLE_REPLY_{named(reply)}')
+        if reply != 'none':
+            *ahead, last = first.split(', ')
+            later = '' if second == 'same' else f'; in version 2: {sized(", ".join([*ahead, second, last]), second_length)}'
+            out[f'REPLY_{named(reply)}'] = f'data: {sized(first, first_length)}{later}' + ('' if results == 'none' else f'; {fields(first)[0][0]} {results}')
+    for _, name, least, most, can_set, can_look, in_image, value in page.rows('Keys'):
+        can = [word for word, yes in (('set', can_set), ('looked up', can_look), ('saved', in_image)) if yes == 'yes']
+        out[named(name)] = f'{value}; {least if least == most else f"{least} to {most}"} bytes; {", ".join(can)}'
+    for _, _, name, fails, *_ in page.rows('Decode failures'):
+        out[named(name)] = f'{out[named(name)]}; {fails}' if named(name) in out else fails
+    out.update({named(name): when for _, _, name, when in page.rows('Results')})
+    out.update({named(name): meaning for _, name, meaning in page.rows('Bits')})
+    out.update({named(name): f'{when}; at the offset: {field}' for _, name, when, field in page.rows('Image faults')})
+    out.update({named(name): f'{read}; payload: {payload}' for _, name, read, payload in page.rows('Types')})
+    out.update({named(name): when for _, name, *_, when in page.rows('Refusals')})
+    return out
+
+
+def check_comments(page):
+    for name, words in mirrored(page).items():
+        same(f'the comment of OATCASTLE_{name}', words, page.words.get(name))
 
 
 CHECKS = {
     'Message': check_message, 'Limits': check_limits, 'Checksum': check_checksum, 'Frame': check_forms, 'A request, byte by byte': check_request_example,
     'Its reply, run by run': check_reply_example, 'Commands': check_commands, 'Results': check_results, 'Keys': check_keys, 'Bits': check_bits, 'Records': check_records,
     'Alerts': check_alerts, 'Decode failures': check_failures, 'What goes out and when': check_sending, 'Saved image': check_image, 'Image examples': check_image_examples,
-    'Image faults': check_image_faults, 'Root-of-trust message': check_rot, 'Types': check_types, 'CRC': check_crc, 'Refusals': check_refusals, '': check_complete,
+    'Image faults': check_image_faults, 'Root-of-trust message': check_rot, 'Types': check_types, 'CRC': check_crc, 'Refusals': check_refusals, '': check_complete, 'comments': check_comments,
 }
 
 
-def compared(found, first=''):
+# The checks that are of no one table.
+BESIDE = {'', 'Alerts', 'comments'}
+
+
+def compared(found, words, first=''):
     """Makes every check, that of one table first; the first difference, or None."""
     try:
-        page = Page(found)
+        page = Page(found, words)
         for heading in sorted(CHECKS, key=lambda heading: heading != first):
             CHECKS[heading](page)
     except Difference as difference:
@@ -991,31 +1031,35 @@ def planted(found):
     for heading, (columns, rows) in found.items():
         for at, row in enumerate(rows):
             for place, cell in enumerate(row):
-                if PROSE.get(heading) == columns[place]:
-                    continue
+                first = 'comments' if PROSE.get(heading) == columns[place] else heading
                 for new in changes(columns[place], cell, sorted({other[place] for other in rows})):
                     changed = [*rows[:at], [*row[:place], new, *row[place + 1:]], *rows[at + 1:]]
-                    yield heading, f'{heading}, row {at + 1}, {columns[place]}: {cell} as {new}', {**found, heading: (columns, changed)}
+                    yield first, f'{heading}, row {at + 1}, {columns[place]}: {cell} as {new}', {**found, heading: (columns, changed)}
 
 
 def main():
     if sys.argv[1:]:
         sys.exit(__doc__)
     made(LIBRARY)
-    found = tables(PAGE.read_text())
-    missing = set(found) ^ (set(CHECKS) - {'', 'Alerts'})
+    found, words = tables(PAGE.read_text()), comments(HEADER)
+    missing = set(found) ^ (set(CHECKS) - BESIDE)
     if missing:
         sys.exit(f'wire: tables without a check, or checks without a table: {sorted(missing)}')
-    difference = compared(found)
+    difference = compared(found, words)
     if difference:
         sys.exit(f'wire: {difference}')
     rows = sum(len(rows) for _, rows in found.values())
-    print(f'wire: {len(found)} tables of docs/WIRE.md, {rows} rows, as the library has them; {ran.cache_info().currsize} lists of calls')
+    mirrors = list(mirrored(Page(found, words)))
+    print(f'wire: {len(found)} tables of docs/WIRE.md, {rows} rows, as the library has them; {len(mirrors)} comments of the header as the rows; {ran.cache_info().currsize} lists of calls')
     count, missed = 0, []
     for heading, what, changed in planted(found):
         count += 1
-        if compared(changed, heading) is None:
+        if compared(changed, words, heading) is None:
             missed.append(what)
+    for name in mirrors:
+        count += 1
+        if compared(found, {**words, name: words[name] + ' too'}, 'comments') is None:
+            missed.append(f'another comment of OATCASTLE_{name}')
     for what in missed:
         print(f'wire: not seen: {what}')
     print(f'wire: {count - len(missed)} of {count} planted changes seen')

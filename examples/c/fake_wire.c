@@ -19,17 +19,17 @@ static const uint8_t start_data[OATCASTLE_START_LENGTH] = {OATCASTLE_BSU_A};
 static uint32_t send_pending(const char **gap)
 {
     uint8_t room[16];
-    uint64_t moved[OATCASTLE_TAKE_NUMBERS];
+    oatcastle_take_answer taken;
 
     do {
-        uint32_t no = oatcastle_supervisor_take(&supervisor, room, sizeof room, moved);
+        uint32_t no = oatcastle_supervisor_take(&supervisor, room, sizeof room, &taken);
         if (no != OATCASTLE_DONE)
             return no;
-        for (size_t i = 0; i < moved[0]; i++) {
+        for (size_t i = 0; i < taken.moved; i++) {
             printf("%s%02x", *gap, room[i]);
             *gap = " ";
         }
-    } while (moved[0] == sizeof room);
+    } while (taken.moved == sizeof room);
     return OATCASTLE_DONE;
 }
 
@@ -45,7 +45,7 @@ int main(void)
     }
     printf("\n");
     if (no != OATCASTLE_DONE) {
-        fprintf(stderr, "refused: %u\n", (unsigned)no);
+        fprintf(stderr, "refused as %u: %s\n", (unsigned)no, oatcastle_refusal_text(no));
         return 1;
     }
     return 0;

@@ -1,4 +1,4 @@
-/* The board as the firmware sees it: a UART with one interrupt, and what the main loop does besides. far_end.c fakes all of it; a product has its chip's registers here.
+/* The board as the firmware sees it: a UART with one interrupt, a radio, and what the main loop does besides. far_end.c fakes all of it; a product has its chip's registers here.
  * Assumes that the UART raises its interrupt as long as a byte has come and is not read, or a byte is wanted for sending and there is room for it. */
 #ifndef BOARD_H
 #define BOARD_H
@@ -14,6 +14,11 @@ int uart_can_send(void);
 void uart_write(uint8_t byte);
 /* Whether the interrupt is raised while uart_can_send. */
 void uart_want_bytes(int wanted);
+
+/* ---- The radio */
+
+/* Takes over a passphrase. */
+void radio_set(const uint8_t *passphrase, uint32_t length);
 
 /* ---- What the firmware gives: its handler of the UART's interrupt, and how many bytes it found no place for */
 

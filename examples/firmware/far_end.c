@@ -15,7 +15,7 @@
 #define NVIC_PEND (*(volatile uint32_t *)0xe000e200)
 #define UART_INTERRUPT 1u   /* interrupt 0 */
 
-/* ---- What the far ends send, and what they get: the samples L10 and L12 of document 01 with its replies, and a 00 */
+/* ---- What the far ends send, and what they get: the samples L10 and L12 of document 01 with its replies, a 00, and two key sets of the passphrase, of which the first is too short */
 
 static const uint8_t l10[] = {0x02, 0x00};
 static const uint8_t l12[] = {0x06, 0xcc, 0x19, 0xde, 0x01, 0x01, 0x01, 0x01, 0x02, 0x01, 0x01, 0x01, 0x01, 0x01, 0x01, 0x01, 0x04, 0x08, 0xcf, 0x66, 0x00};
@@ -25,6 +25,16 @@ static const uint8_t status[] = {
     0x01, 0x01, 0x01, 0x01, 0x01, 0x01, 0x01, 0x01, 0x01, 0x01, 0x01, 0x01, 0x03, 0x4f, 0x5a, 0x00,
 };
 static const uint8_t zero[] = {0x00};
+static const uint8_t set_short[] = {
+    0x06, 0xcc, 0x19, 0xde, 0x01, 0x01, 0x01, 0x01, 0x02, 0x02, 0x01, 0x01, 0x01, 0x01, 0x01, 0x01, 0x09, 0x10, 0x06, 0x6f, 0x61, 0x74, 0x73, 0x97, 0x10, 0x00,
+};
+static const uint8_t set[] = {
+    0x06, 0xcc, 0x19, 0xde, 0x01, 0x01, 0x01, 0x01, 0x02, 0x03, 0x01, 0x01, 0x01, 0x01, 0x01, 0x01, 0x0e, 0x10, 0x06, 0x6f, 0x61, 0x74, 0x63, 0x61, 0x73, 0x74, 0x6c,
+    0x65, 0xa3, 0x09, 0x00,
+};
+static const uint8_t result3[] = {0x06, 0xcc, 0x19, 0xde, 0x01, 0x01, 0x01, 0x01, 0x02, 0x02, 0x01, 0x01, 0x01, 0x01, 0x01, 0x06, 0x80, 0x0c, 0x03, 0x58, 0xcc, 0x00};
+static const uint8_t result0[] = {0x06, 0xcc, 0x19, 0xde, 0x01, 0x01, 0x01, 0x01, 0x02, 0x03, 0x01, 0x01, 0x01, 0x01, 0x01, 0x03, 0x80, 0x0c, 0x03, 0x56, 0xd3, 0x00};
+static const uint8_t passphrase[] = {'o', 'a', 't', 'c', 'a', 's', 't', 'l', 'e'};
 
 /* ---- The far ends: steps, one after the other, each done so many times, a byte's time each */
 
@@ -37,6 +47,7 @@ enum what {
     TAKE,       /* from here on bytes are taken again */
     AWAIT,      /* the next of these bytes, and no other, has come or comes */
     QUIET,      /* no byte comes; begins anew, and forgets it, where one does */
+    RADIO,      /* the radio was set once in each round, the last time to these bytes */
     AGAIN,      /* every step from the first, so many times */
     END,        /* nothing is sent; then the run ends */
 };
@@ -74,6 +85,11 @@ static const struct step overlong[] = {
     {SEND, ALL(zero)}, {SEND, ALL(l12)}, {AWAIT, ALL(status)}, {END, 500, 0},
 };
 
+/* Two requests in one go: the reply to each comes, and the radio gets the passphrase that was stored alone. */
+static const struct step setting[] = {
+    {SEND, ALL(set_short)}, {SEND, ALL(set)}, {AWAIT, ALL(result3)}, {AWAIT, ALL(result0)}, {RADIO, ALL(passphrase)}, {AGAIN, 50, 0}, {END, 500, 0},
+};
+
 static const struct far_end {
     const char *name;
     const struct step *steps;
@@ -82,6 +98,7 @@ static const struct far_end {
     int loses;          /* whether bytes are lost at a full queue */
 } far_ends[] = {
     {"polite", polite, 2170, 1, 0}, {"asking", asking, 2170, 500, 0}, {"babbling", babbling, 271, 8000, 1}, {"stalling", stalling, 271, 8000, 0}, {"overlong", overlong, 271, 1000, 0},
+    {"setting", setting, 271, 8000, 0},
 };
 
 #define PATIENCE 0xffffffu  /* cycles without a byte before the far end gives up: 0.67 s */
@@ -94,6 +111,8 @@ static uint32_t babble, duty;       /* random numbers */
 static uint32_t sent, taken, got, awaited, overruns;
 static uint8_t seen[KEPT];
 static int holds, waits;
+static uint8_t radio[PLACES];
+static uint32_t radio_length, radio_sets;
 static struct guarded *guarded;
 static volatile uint8_t received, sending;
 static volatile int received_full, sending_full, wanted;
@@ -204,6 +223,10 @@ static int done(void)
         got = awaited;
         times = 0;
         return 0;
+    case RADIO:
+        if (radio_sets != rounds + 1 || radio_length != step->times || radio[times] != step->bytes[times])
+            finish("the radio has another passphrase", 0);
+        return 1;
     case AGAIN: return 1;
     case END:
         if (times + 1 == step->times)
@@ -314,6 +337,16 @@ static const struct far_end *named(void)
     host_text("no such far end\n");
     host_end(0);
     return 0;
+}
+
+void radio_set(const uint8_t *bytes, uint32_t length)
+{
+    if (length > sizeof radio)
+        finish("a passphrase is too long", 0);
+    for (uint32_t i = 0; i < length; i++)
+        radio[i] = bytes[i];
+    radio_length = length;
+    radio_sets++;
 }
 
 void board_start(struct guarded *memory)

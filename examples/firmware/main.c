@@ -65,29 +65,49 @@ static const uint8_t start_data[OATCASTLE_START_LENGTH] = {OATCASTLE_BSU_A};
 static struct guarded piece;
 static int pending;     /* whether the library may have more to send than to_wire had room for */
 
-/* Hands the library what has come, a piece at most. */
-static uint32_t receive(void)
-{
-    uint32_t n = 0;
-
-    while (n < sizeof piece.bytes && filled(&from_wire) > 0)
-        piece.bytes[n++] = get(&from_wire);
-    return oatcastle_supervisor_receive(&supervisor, 0, 0, piece.bytes, n);
-}
-
 /* Hands to_wire what the library has to send, as much as there is room for. */
 static uint32_t send(void)
 {
-    uint64_t answer[OATCASTLE_TAKE_NUMBERS];
-    uint32_t most = room(&to_wire), no = oatcastle_supervisor_take(&supervisor, piece.bytes, most, answer);
+    static uint8_t bytes[PLACES];
+    oatcastle_take_answer taken;
+    uint32_t most = room(&to_wire), no = oatcastle_supervisor_take(&supervisor, bytes, most, &taken);
 
     if (no != OATCASTLE_DONE)
         return no;
-    for (uint32_t i = 0; i < answer[0]; i++)
-        put(&to_wire, piece.bytes[i]);
-    if (answer[0] > 0)
+    for (uint32_t i = 0; i < taken.moved; i++)
+        put(&to_wire, bytes[i]);
+    if (taken.moved > 0)
         uart_want_bytes(1);
-    pending = answer[0] == most;
+    pending = taken.moved == most;
+    return no;
+}
+
+/* Acts on a request that the library has carried out: a new passphrase goes to the radio. No call hands it out; the driver reads it where the settings store has it. */
+static void act(const oatcastle_step_answer *done)
+{
+    const uint8_t *length = supervisor.settings + OATCASTLE_PASSPHRASE_LENGTH;
+
+    if (done->command != OATCASTLE_COMMAND_KEY_SET || done->result != OATCASTLE_SET_STORED)
+        return;
+    if (done->key == OATCASTLE_KEY_PASSPHRASE)
+        radio_set(supervisor.settings + OATCASTLE_PASSPHRASE_VALUE, length[0] + 256u * length[1]);
+}
+
+/* Hands the library what has come, a piece at most, frame by frame: what a frame's reply has room for goes to to_wire before the next frame is read. */
+static uint32_t receive(void)
+{
+    oatcastle_step_answer done = {0};
+    uint32_t n = 0, no = OATCASTLE_DONE;
+
+    while (n < sizeof piece.bytes && filled(&from_wire) > 0)
+        piece.bytes[n++] = get(&from_wire);
+    for (uint32_t at = 0; no == OATCASTLE_DONE && at < n; at += (uint32_t)done.used) {
+        no = oatcastle_supervisor_step(&supervisor, 0, 0, piece.bytes + at, n - at, &done);
+        if (no == OATCASTLE_DONE) {
+            act(&done);
+            no = send();
+        }
+    }
     return no;
 }
 
@@ -120,6 +140,8 @@ int main(void)
         other_duties();
         wait_for_work();
     }
-    host_number("refused: ", no, "\n");
+    host_number("refused as ", no, ": ");
+    host_text(oatcastle_refusal_text(no));
+    host_text("\n");
     return 1;
 }

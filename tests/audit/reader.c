@@ -19,36 +19,36 @@ static void fail(const char *what)
     exit(1);
 }
 
-static void print_answer(size_t start, const uint64_t *answer, size_t room)
+static void print_answer(size_t start, const oatcastle_line_read_answer *answer, size_t room)
 {
     uint64_t digest = 0;
 
-    if (answer[1] == OATCASTLE_FAILURE) {
-        printf("%zu %u", start, (unsigned)answer[2]);
-        if (answer[2] == OATCASTLE_REASON_CHECKSUM || answer[2] == OATCASTLE_REASON_MAGIC)
-            printf(" %016llx", (unsigned long long)answer[4]);
+    if (answer->kind == OATCASTLE_FAILURE) {
+        printf("%zu %u", start, (unsigned)answer->reason);
+        if (answer->reason == OATCASTLE_REASON_CHECKSUM || answer->reason == OATCASTLE_REASON_MAGIC)
+            printf(" %016llx", (unsigned long long)answer->sequence);
         printf("\n");
-    } else if (answer[1] == OATCASTLE_MESSAGE) {
-        if (oatcastle_line_data(state, room, answer[6], data, sizeof data) != OATCASTLE_DONE)
+    } else if (answer->kind == OATCASTLE_MESSAGE) {
+        if (oatcastle_line_data(state, room, answer->length, data, sizeof data) != OATCASTLE_DONE)
             fail("the data are refused");
-        for (size_t i = 0; i < answer[6]; i++)
+        for (size_t i = 0; i < answer->length; i++)
             digest = (digest * 31 + data[i] + 1) % 65521;
-        printf("%zu ok %08llx %016llx %02llx %u %u\n", start, (unsigned long long)answer[3], (unsigned long long)answer[4],
-               (unsigned long long)answer[5], (unsigned)answer[6], (unsigned)digest);
+        printf("%zu ok %08llx %016llx %02llx %u %u\n", start, (unsigned long long)answer->version, (unsigned long long)answer->sequence,
+               (unsigned long long)answer->command, (unsigned)answer->length, (unsigned)digest);
     }
 }
 
 /* Reads a piece by calls until it is used up; the start of the frame that is being read. */
 static size_t give(size_t at, size_t end, size_t start, size_t room)
 {
-    uint64_t answer[OATCASTLE_LINE_READ_NUMBERS];
+    oatcastle_line_read_answer answer;
 
     do {
-        if (oatcastle_line_read(state, room, capture + at, end - at, answer, OATCASTLE_LINE_READ_NUMBERS) != OATCASTLE_DONE)
+        if (oatcastle_line_read(state, room, capture + at, end - at, &answer) != OATCASTLE_DONE)
             fail("a piece is refused");
-        at += answer[0];
-        print_answer(start, answer, room);
-        if (answer[1] != OATCASTLE_MORE)
+        at += answer.used;
+        print_answer(start, &answer, room);
+        if (answer.kind != OATCASTLE_MORE)
             start = at;
     } while (at < end);
     return start;
@@ -56,13 +56,15 @@ static size_t give(size_t at, size_t end, size_t start, size_t room)
 
 static void refuse(size_t lent)
 {
-    uint64_t answer[OATCASTLE_LINE_READ_NUMBERS];
+    oatcastle_line_read_answer answer, stays;
 
     memcpy(before, state, sizeof state);
-    if (oatcastle_line_read(state, lent, capture, 1, answer, OATCASTLE_LINE_READ_NUMBERS) != OATCASTLE_BAD_STATE)
+    memset(&answer, 0xa5, sizeof answer);
+    stays = answer;
+    if (oatcastle_line_read(state, lent, capture, 1, &answer) != OATCASTLE_BAD_STATE)
         fail("too little of the state is not refused");
-    if (memcmp(before, state, sizeof state) != 0)
-        fail("a refused call changed the state");
+    if (memcmp(before, state, sizeof state) != 0 || memcmp(&stays, &answer, sizeof answer) != 0)
+        fail("a refused call changed the state or its answer");
 }
 
 int main(void)
@@ -71,7 +73,7 @@ int main(void)
     uint32_t head[3];
 
     while (fread(head, sizeof *head, 3, stdin) == 3) {
-        uint64_t tail[OATCASTLE_LINE_TAIL_NUMBERS];
+        oatcastle_line_tail_answer tail;
         size_t at = 0, start = 0;
         if (head[0] > sizeof capture || head[1] > 1 << 18 || head[2] < OATCASTLE_READER_LENGTH || head[2] > sizeof state)
             fail("a number is out of range");
@@ -92,12 +94,12 @@ int main(void)
         }
         if (at != head[0])
             fail("the pieces are not the capture");
-        if (oatcastle_line_tail(state, head[2], tail, OATCASTLE_LINE_TAIL_NUMBERS) != OATCASTLE_DONE)
+        if (oatcastle_line_tail(state, head[2], &tail) != OATCASTLE_DONE)
             fail("the tail is refused");
-        if (tail[0])
+        if (tail.longer)
             printf("tail longer\n.\n");
         else
-            printf("tail %u\n.\n", (unsigned)tail[1]);
+            printf("tail %u\n.\n", (unsigned)tail.length);
     }
     return 0;
 }

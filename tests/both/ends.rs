@@ -1,10 +1,12 @@
 // Defines both ends in parts that are lent to the C functions of include/oatcastle.h, one method for each call that the simulation makes.
 // Assumes the lengths of bindings/rust/src/limits.rs. A refusal that the header rules out ends the program.
 
-use crate::library;
+use crate::library::{
+    self, EditionAnswer, LookupAnswer, RequesterReceiveAnswer, RequesterRequestAnswer, RequesterSendAnswer, RequesterStateAnswer, RestoreAnswer, SaveAnswer,
+    SignalAnswer, StepAnswer, TakeAnswer,
+};
 use crate::limits::{
-    ALERT, ANSWER, FACTORY_LENGTH, LONGEST_FRAME, LONGEST_IMAGE, NOTHING, OUTBOX_LENGTH, READER_LENGTH, REGISTERS_LENGTH, REQUESTER_LENGTH,
-    REQUESTER_RECEIVE_NUMBERS, RESTORE_NUMBERS, SAVE_NUMBERS, SETTINGS_LENGTH, START_LENGTH, STATUS, STEP_NUMBERS,
+    FACTORY_LENGTH, LONGEST_FRAME, LONGEST_IMAGE, OUTBOX_LENGTH, READER_LENGTH, REGISTERS_LENGTH, REQUESTER_LENGTH, SETTINGS_LENGTH, START_LENGTH,
 };
 
 fn done(call: &str, number: u32) {
@@ -52,26 +54,25 @@ impl Supervisor {
         });
     }
 
-    /// How many bytes of the piece were read.
-    pub fn step(&mut self, image: &[u8], piece: &[u8]) -> usize {
+    pub fn step(&mut self, image: &[u8], piece: &[u8]) -> StepAnswer {
         let Supervisor { reader, outbox, factory, settings, registers } = self;
-        let mut answer = [0; STEP_NUMBERS];
+        let mut answer = StepAnswer::default();
         done("step", unsafe {
             library::oatcastle_step(
                 image.as_ptr(), image.len(), piece.as_ptr(), piece.len(), reader.as_mut_ptr(), READER_LENGTH, outbox.as_mut_ptr(), OUTBOX_LENGTH,
                 factory.as_ptr(), FACTORY_LENGTH, settings.as_mut_ptr(), SETTINGS_LENGTH, registers.as_mut_ptr(), REGISTERS_LENGTH,
-                answer.as_mut_ptr(), answer.len(),
+                &mut answer,
             )
         });
-        answer[0] as usize
+        answer
     }
 
     /// The bytes that go out, at most so many.
     pub fn take(&mut self, most: usize) -> Vec<u8> {
         let mut room = vec![0; most];
-        let mut answer = [0];
-        done("take", unsafe { library::oatcastle_take(self.outbox.as_mut_ptr(), OUTBOX_LENGTH, room.as_mut_ptr(), most, answer.as_mut_ptr(), 1) });
-        room.truncate(answer[0] as usize);
+        let mut answer = TakeAnswer::default();
+        done("take", unsafe { library::oatcastle_take(self.outbox.as_mut_ptr(), OUTBOX_LENGTH, room.as_mut_ptr(), most, &mut answer) });
+        room.truncate(answer.moved as usize);
         room
     }
 
@@ -79,25 +80,36 @@ impl Supervisor {
         unsafe { library::oatcastle_post(self.registers.as_mut_ptr(), REGISTERS_LENGTH, action, text.as_ptr(), text.len()) }
     }
 
+    /// A lookup's result and value, and the edition's result and number.
+    pub fn lookup(&mut self, key: u8) -> ((u8, Vec<u8>), (u8, u32)) {
+        let Supervisor { factory, settings, .. } = self;
+        let mut room = vec![0; LONGEST_FRAME];
+        let (mut found, mut edition) = (LookupAnswer::default(), EditionAnswer::default());
+        done("lookup", unsafe {
+            library::oatcastle_lookup(
+                factory.as_ptr(), FACTORY_LENGTH, settings.as_ptr(), SETTINGS_LENGTH, key, u16::MAX, room.as_mut_ptr(), room.len(), &mut found,
+            )
+        });
+        done("edition", unsafe { library::oatcastle_edition(factory.as_ptr(), FACTORY_LENGTH, settings.as_ptr(), SETTINGS_LENGTH, key, &mut edition) });
+        room.truncate(found.length as usize);
+        ((found.result as u8, room), (edition.result as u8, edition.edition as u32))
+    }
+
     /// The image of the settings.
     pub fn save(&self) -> Vec<u8> {
         let mut room = vec![0; LONGEST_IMAGE];
-        let mut answer = [0; SAVE_NUMBERS];
-        done("save", unsafe {
-            library::oatcastle_save(self.settings.as_ptr(), SETTINGS_LENGTH, room.as_mut_ptr(), room.len(), answer.as_mut_ptr(), answer.len())
-        });
-        room.truncate(answer[0] as usize);
+        let mut answer = SaveAnswer::default();
+        done("save", unsafe { library::oatcastle_save(self.settings.as_ptr(), SETTINGS_LENGTH, room.as_mut_ptr(), room.len(), &mut answer) });
+        room.truncate(answer.length as usize);
         room
     }
 
     /// A refusal's number, and where the image has its first fault.
     pub fn restore(&mut self, image: &[u8]) -> Result<(), (u32, usize)> {
-        let mut answer = [0; RESTORE_NUMBERS];
-        match unsafe {
-            library::oatcastle_restore(self.settings.as_mut_ptr(), SETTINGS_LENGTH, image.as_ptr(), image.len(), answer.as_mut_ptr(), answer.len())
-        } {
+        let mut answer = RestoreAnswer::default();
+        match unsafe { library::oatcastle_restore(self.settings.as_mut_ptr(), SETTINGS_LENGTH, image.as_ptr(), image.len(), &mut answer) } {
             0 => Ok(()),
-            number => Err((number, answer[0] as usize)),
+            number => Err((number, answer.offset as usize)),
         }
     }
 
@@ -106,33 +118,10 @@ impl Supervisor {
     }
 
     pub fn signal(&self) -> bool {
-        let mut answer = [0];
-        done("signal", unsafe { library::oatcastle_signal(self.registers.as_ptr(), REGISTERS_LENGTH, answer.as_mut_ptr(), 1) });
-        answer[0] == 1
+        let mut answer = SignalAnswer::default();
+        done("signal", unsafe { library::oatcastle_signal(self.registers.as_ptr(), REGISTERS_LENGTH, &mut answer) });
+        answer.asserted == 1
     }
-}
-
-/// What the main processor's end hands out.
-pub enum Handed {
-    Nothing,
-    Answer(Reply),
-    Status { status: u64, options: u64, set_bits: u64 },
-    Alert(Reply),
-}
-
-pub struct Reply {
-    pub sequence: u64,
-    pub command: u8,
-    pub data: Vec<u8>,
-}
-
-pub struct Received {
-    pub used: usize,
-    pub handed: Handed,
-    /// A recovery ended for want of a number.
-    pub ended: bool,
-    /// A frame is to go out.
-    pub unsent: bool,
 }
 
 pub struct Main {
@@ -161,13 +150,13 @@ impl Main {
     /// The frame that goes out, or the refusal's number.
     pub fn request(&mut self, command: u8, data: &[u8]) -> Result<Vec<u8>, u32> {
         let mut room = vec![0; LONGEST_FRAME];
-        let mut answer = [0];
+        let mut answer = RequesterRequestAnswer::default();
         let number = unsafe {
             library::oatcastle_requester_request(
-                self.requester.as_mut_ptr(), REQUESTER_LENGTH, command, data.as_ptr(), data.len(), room.as_mut_ptr(), room.len(), answer.as_mut_ptr(), 1,
+                self.requester.as_mut_ptr(), REQUESTER_LENGTH, command, data.as_ptr(), data.len(), room.as_mut_ptr(), room.len(), &mut answer,
             )
         };
-        room.truncate(answer[0] as usize);
+        room.truncate(answer.length as usize);
         if number == 0 { Ok(room) } else { Err(number) }
     }
 
@@ -178,36 +167,31 @@ impl Main {
     /// The frame that goes out; empty where none does.
     pub fn send(&mut self) -> Vec<u8> {
         let mut room = vec![0; LONGEST_FRAME];
-        let mut answer = [0];
+        let mut answer = RequesterSendAnswer::default();
         done("requester_send", unsafe {
-            library::oatcastle_requester_send(self.requester.as_mut_ptr(), REQUESTER_LENGTH, room.as_mut_ptr(), room.len(), answer.as_mut_ptr(), 1)
+            library::oatcastle_requester_send(self.requester.as_mut_ptr(), REQUESTER_LENGTH, room.as_mut_ptr(), room.len(), &mut answer)
         });
-        room.truncate(answer[0] as usize);
+        room.truncate(answer.length as usize);
         room
     }
 
-    pub fn receive(&mut self, piece: &[u8]) -> Received {
+    /// The answer, and the data of the reply that is handed out, if one is.
+    pub fn receive(&mut self, piece: &[u8]) -> (RequesterReceiveAnswer, Vec<u8>) {
         let Main { reader, requester } = self;
-        let mut answer = [0; REQUESTER_RECEIVE_NUMBERS];
+        let mut answer = RequesterReceiveAnswer::default();
         done("requester_receive", unsafe {
             library::oatcastle_requester_receive(
-                piece.as_ptr(), piece.len(), reader.as_mut_ptr(), READER_LENGTH, requester.as_mut_ptr(), REQUESTER_LENGTH, answer.as_mut_ptr(), answer.len(),
+                piece.as_ptr(), piece.len(), reader.as_mut_ptr(), READER_LENGTH, requester.as_mut_ptr(), REQUESTER_LENGTH, &mut answer,
             )
         });
-        let [used, kind, ended, unsent, first, second, third] = answer;
-        let handed = match kind {
-            NOTHING => Handed::Nothing,
-            STATUS => Handed::Status { status: first, options: second, set_bits: third },
-            ANSWER => Handed::Answer(self.reply(first, second, third)),
-            ALERT => Handed::Alert(self.reply(first, second, third)),
-            _ => panic!("requester_receive hands out kind {kind}"),
-        };
-        Received { used: used as usize, handed, ended: ended == 1, unsent: unsent == 1 }
+        let mut data = vec![0; answer.length as usize];
+        done("line_data", unsafe { library::oatcastle_line_data(reader.as_ptr(), READER_LENGTH, answer.length, data.as_mut_ptr(), data.len()) });
+        (answer, data)
     }
 
-    fn reply(&self, sequence: u64, command: u64, length: u64) -> Reply {
-        let mut data = vec![0; length as usize];
-        done("line_data", unsafe { library::oatcastle_line_data(self.reader.as_ptr(), READER_LENGTH, length, data.as_mut_ptr(), data.len()) });
-        Reply { sequence, command: command as u8, data }
+    pub fn state(&self) -> RequesterStateAnswer {
+        let mut answer = RequesterStateAnswer::default();
+        done("requester_state", unsafe { library::oatcastle_requester_state(self.requester.as_ptr(), REQUESTER_LENGTH, &mut answer) });
+        answer
     }
 }

@@ -1,10 +1,16 @@
 // Defines what each end put out, read and carried out, kept beside the library, and what each thing handed out must come from.
 // Assumes documents 01 and 02 and the model's line layer. A planted fault falsifies the evidence of one answer, so that the comparison itself can be tested.
 
+use crate::alerts::Alerts;
+use crate::claims::{Claim, Claims};
+use crate::editions::Editions;
 use crate::faults::Fault;
+use crate::heard::Heard;
 use crate::lists::{fitted, Answer, By, Lists, Value};
-use crate::model::{Message, TOP_BIT};
+use crate::model::{Message, Settings, TOP_BIT};
 use crate::tally::tally;
+use crate::trips::Trips;
+use crate::values::Values;
 use crate::wire::judged;
 use std::collections::{HashMap, VecDeque};
 
@@ -47,7 +53,19 @@ struct Evidence {
     carried: Vec<Carried>,
 }
 
+/// A reply that was taken as the answer: the number that was outstanding, and whether the supervisor had put the reply out.
+#[derive(Clone, Copy)]
+pub struct Taken {
+    pub number: u64,
+    pub put_out: bool,
+}
+
 tally! {
+    others_requests: "good requests that the main processor's end had not put out since its start",
+    others_replies: "good replies that the supervisor had not put out since then",
+    others_taken: "of these, taken as an answer",
+    weaker: "answers with the hypotheses of fresh-answer behind such a request or reply under another number",
+    second_version: "replies of version 2 that the main processor's end read",
     carried_again: "requests carried out again",
     last_edition: "sets of the list refused at its last edition",
     replies_closed: "replies taken whole but for the 00, which the next one's 00 closed",
@@ -71,12 +89,20 @@ pub struct Ledger {
     carried: Vec<Carried>,
     /// The replies that the supervisor made since that start, by sequence, and the sequence of the newest until its last byte is taken.
     made: HashMap<u64, Vec<Made>>,
+    /// An end has read a good message since that start that the other had not put out.
+    others: bool,
     pending: Option<u64>,
     cleared: bool,
-    /// By document 01's and 02's alert rules: the retained reply's number, and the alerts that wait.
-    retained: Option<u64>,
+    /// By document 01's and 02's alert rules: the retained reply's number and version, and the alerts that wait.
+    retained: Option<(u64, u32)>,
     waiting: VecDeque<Vec<u8>>,
     pub lists: Lists,
+    pub claims: Claims,
+    pub heard: Heard,
+    pub values: Values,
+    pub alerts: Alerts,
+    pub editions: Editions,
+    pub trips: Trips,
 }
 
 fn looks_up_list(request: &Message) -> bool {
@@ -96,15 +122,39 @@ fn short(message: &Message) -> String {
 impl Ledger {
     // ---- What the ends do
 
+    /// Makes one thing wrong; where a claim is given, it alone is compared.
+    pub fn plant_fault(&mut self, fault: Fault, only: Option<Claim>) {
+        self.fault = Some(fault);
+        self.claims.only = only;
+        self.heard.requests_untested = fault == Fault::RequestsUntested;
+        self.heard.replies_untested = fault == Fault::RepliesUntested;
+        self.values.fault = Some(fault);
+        self.alerts.fault = Some(fault);
+    }
+
     pub fn main_started(&mut self) {
+        self.heard.main_started();
+        self.values.main_started();
+        self.alerts.one_started();
+        self.trips.ended();
         self.asked.clear();
         self.made.clear();
         self.carried.clear();
         self.pending = None;
-        (self.newest, self.settled, self.cleared) = (0, 0, false);
+        (self.newest, self.settled, self.cleared, self.others) = (0, 0, false, false);
+    }
+
+    /// Both ends were started together.
+    pub fn both_started(&mut self) {
+        self.cleared = true;
+        self.alerts.both_started();
     }
 
     pub fn supervisor_started(&mut self) {
+        self.values.settings_changed();
+        self.alerts.one_started();
+        self.editions.begun_anew();
+        self.trips.ended();
         self.moment += 1;
         self.waiting.clear();
         self.retained = None;
@@ -115,6 +165,10 @@ impl Ledger {
 
     /// A restore that was accepted, and the list that it left.
     pub fn restored(&mut self, list: &Value) {
+        self.values.settings_changed();
+        if self.fault != Some(Fault::EditionRestored) {
+            self.editions.begun_anew();
+        }
         self.moment += 1;
         if self.fault != Some(Fault::RestoreUntold) {
             self.lists.brought(self.moment, By::Restore, list.clone());
@@ -129,11 +183,20 @@ impl Ledger {
 
     /// The main processor's end counts on from this number, as if all up to it had been answered.
     pub fn counted_on(&mut self, number: u64) {
+        self.heard.counted_on(number);
         (self.newest, self.settled) = (number, number);
     }
 
     pub fn posted(&mut self, action: u8, text: &[u8]) {
-        self.waiting.push_back([&[action], text].concat());
+        let data = [&[action], text].concat();
+        self.alerts.posted(data.clone());
+        self.waiting.push_back(data);
+    }
+
+    /// The caller's request goes out; the supervisor's settings then.
+    pub fn asks(&mut self, command: u8, data: &[u8], settings: &Settings) {
+        self.values.asked(self.newest, command, data, settings, &self.heard);
+        self.alerts.asked(command);
     }
 
     /// A frame that the main processor's end puts out; whether it is the newest one again.
@@ -156,17 +219,50 @@ impl Ledger {
     }
 
     /// A frame that the supervisor has read to its 00: whether it was a request that it carried out, and the frame of its reply, if any.
-    pub fn handled(&mut self, form: &[u8], valid: bool, reply: Option<&[u8]>) {
+    pub fn handled(&mut self, form: &[u8], valid: bool, reply: Option<&[u8]>) -> Result<(), String> {
         self.moment += 1;
         let reply = reply.and_then(|frame| self.reply_made(&frame[..frame.len() - 1]));
         self.pending = reply.as_ref().map(|reply| reply.sequence);
-        let Some(request) = judged(form).ok().filter(|_| valid) else { return };
+        let Ok(request) = judged(form) else { return Ok(()) };
+        self.heard(&request, form);
+        if !valid {
+            return Ok(());
+        }
         let cleared = self.cleared;
         let taken = self.effects(&request, reply.as_ref());
+        self.edition_found(&request, reply.as_ref())?;
         if request.sequence == self.newest {
             self.tally.carried_again += u64::from(!self.carried.is_empty());
             self.carried.push(Carried { moment: self.moment, request, reply, cleared, taken });
         }
+        Ok(())
+    }
+
+    /// The supervisor has read a good message: whether it had been put out, which the hypotheses go by.
+    fn heard(&mut self, message: &Message, form: &[u8]) {
+        let put_out = self.asked.get(&message.sequence).is_some_and(|asked| asked.frame[..asked.frame.len() - 1] == *form);
+        if !put_out {
+            self.tally.others_requests += 1;
+            self.others = true;
+            self.heard.other_read(message);
+        }
+        self.values.read(message, put_out);
+        self.alerts.read(message, put_out);
+    }
+
+    /// A lookup in version 2 with result 0 tells the edition ahead of the value.
+    fn edition_found(&mut self, request: &Message, reply: Option<&Message>) -> Result<(), String> {
+        let Some([0, edition @ ..]) = reply.filter(|reply| request.command == LOOKUP && reply.version == 2).map(|reply| &reply.data[..]) else { return Ok(()) };
+        let Some((edition, value)) = edition.split_first_chunk() else { return Err("a lookup in version 2 without an edition".to_string()) };
+        self.editions.tally.on_wire += 1;
+        self.editions.found(request.data[0], u32::from_le_bytes(*edition), value, &mut self.claims)
+    }
+
+    /// The supervisor has read a piece that ends with a 00 or has none; whether it ended a request that is carried out.
+    pub fn piece_read(&mut self, piece: &[u8], valid: bool) {
+        let retained = self.retained;
+        let silent = |request: &Message| matches!(request.command, 0x01 | 0x02 | 0x06);
+        self.trips.read(piece, |request| valid && !silent(request) && (request.command != ALERT || retained != Some((request.sequence, 2))));
     }
 
     fn reply_made(&mut self, form: &[u8]) -> Option<Message> {
@@ -190,8 +286,8 @@ impl Ledger {
                 Some([0]) => self.lists.brought(self.moment, By::Set, Some(request.data[1..].to_vec())),
                 other => self.tally.last_edition += u64::from(other == Some(&[4])),
             },
-            ALERT if self.retained != Some(request.sequence) => {
-                self.retained = Some(request.sequence);
+            ALERT if self.retained.map(|retained| retained.0) != Some(request.sequence) => {
+                self.retained = Some((request.sequence, request.version));
                 return Some(self.waiting.pop_front().unwrap_or(vec![0]));
             }
             _ => (),
@@ -208,115 +304,122 @@ impl Ledger {
         Some(&made.form[..]).filter(|_| pending == 0)
     }
 
-    // ---- The wire's rule: a good message that an end reads is one that the other has put out since the main processor's end was started
-
-    pub fn asked_for(&self, form: &[u8]) -> Result<(), String> {
-        let Ok(message) = judged(form) else { return Ok(()) };
-        let known = self.asked.get(&message.sequence).is_some_and(|asked| asked.frame[..asked.frame.len() - 1] == *form);
-        if known { Ok(()) } else { Err(format!("the supervisor reads a good message that was not put out: {}", short(&message))) }
-    }
-
-    pub fn replied(&self, form: &[u8]) -> Result<(), String> {
-        let Ok(message) = judged(form) else { return Ok(()) };
-        let put_out = self.reply(&message, form).is_some_and(|made| made.put_out);
-        if put_out { Ok(()) } else { Err(format!("the main processor's end reads a good message that the supervisor did not put out: {}", short(&message))) }
-    }
+    // ---- What the main processor's end reads
 
     fn reply(&self, message: &Message, form: &[u8]) -> Option<&Made> {
         self.made.get(&message.sequence)?.iter().find(|made| made.form == form)
     }
 
-    /// Whether these bytes are a reply that was made and not put out.
-    pub fn made_only(&self, form: &[u8]) -> bool {
-        judged(form).is_ok_and(|message| self.reply(&message, form).is_some_and(|made| !made.put_out))
+    /// The main processor's end has read a frame; whether the supervisor has put it out since that end was started.
+    pub fn read(&mut self, form: &[u8]) -> bool {
+        let Ok(message) = judged(form) else { return false };
+        let (put_out, whole) = self.reply(&message, form).map_or((false, true), |made| (made.put_out, made.whole));
+        self.tally.replies_closed += u64::from(!whole);
+        self.tally.others_replies += u64::from(!put_out);
+        self.others |= !put_out;
+        self.tally.second_version += u64::from(message.version == 2);
+        put_out
     }
 
-    /// The main processor's end has read a frame: counts a reply whose 00 was not taken.
-    pub fn read(&mut self, form: &[u8]) {
-        let closed = judged(form).is_ok_and(|message| self.reply(&message, form).is_some_and(|made| !made.whole));
-        self.tally.replies_closed += u64::from(closed);
+    /// A reply is taken as an answer and handed out.
+    pub fn takes(&mut self, taken: Taken) {
+        if !taken.put_out {
+            self.tally.others_taken += 1;
+            self.heard.other_taken(taken.number);
+        }
     }
 
     // ---- What is handed out
 
-    /// The newest number that was put out.
-    pub fn newest(&self) -> u64 {
-        self.newest
-    }
-
-    /// The message under it.
+    /// The message under the newest number that was put out.
     pub fn outstanding(&self) -> Option<&Message> {
         self.asked.get(&self.newest).map(|asked| &asked.message)
     }
 
-    pub fn answered(&mut self, reply: Message, asked_for: Option<(u8, Vec<u8>)>) -> Result<(), String> {
+    pub fn answered(&mut self, taken: Taken, reply: Message, asked_for: Option<(u8, Vec<u8>)>) -> Result<(), String> {
         if self.fault == Some(Fault::Twice) {
-            self.compared(reply.clone())?;
+            self.compared(taken, reply.clone())?;
         }
-        let request = self.compared(reply)?;
-        let asked_for = asked_for.filter(|_| self.fault != Some(Fault::OtherRequest));
-        if asked_for == Some((request.command, request.data)) { Ok(()) } else { Err(format!("an answer to {:02x}, and the caller had asked for {asked_for:02x?}", request.command)) }
+        let (alert, data) = (reply.command == 0x07, reply.data.clone());
+        let request = self.compared(taken, reply)?;
+        let asked = asked_for.as_ref().filter(|_| self.fault != Some(Fault::OtherRequest));
+        let same = asked.is_some_and(|(command, data)| request.as_ref().is_some_and(|request| (request.command, &request.data) == (*command, data)));
+        let said = if same { Ok(()) } else { Err(format!("an answer to {request:02x?}, and the caller had asked for {asked:02x?}")) };
+        // a number that was not put out has no request of its own
+        self.claims.settle(Claim::OneAnswer, request.is_some(), said)?;
+        if let Some((command, asked)) = &asked_for {
+            self.values.answered(taken.number, (*command, asked), &data, &self.heard, &mut self.claims)?;
+        }
+        if alert { self.alerts.handed(&data, true, &self.heard, &mut self.claims) } else { Ok(()) }
     }
 
-    pub fn alerted(&mut self, reply: Message) -> Result<(), String> {
-        let request = self.compared(reply)?;
-        self.step("an alert", ALERT, &request)
+    pub fn alerted(&mut self, taken: Taken, reply: Message) -> Result<(), String> {
+        let data = reply.data.clone();
+        let request = self.compared(taken, reply)?;
+        self.step(taken, "an alert", ALERT, request)?;
+        self.alerts.handed(&data, false, &self.heard, &mut self.claims)
     }
 
-    pub fn status_read(&mut self, status: u64, options: u64, set_bits: u64) -> Result<(), String> {
+    pub fn status_read(&mut self, taken: Taken, status: u64, options: u64, set_bits: u64) -> Result<(), String> {
         let status = status ^ if self.fault == Some(Fault::OtherStatus) { 2 } else { 0 };
         let set_bits = set_bits + u64::from(self.fault == Some(Fault::OtherBits));
         let data = [status.to_le_bytes(), options.to_le_bytes()].concat();
-        let request = self.compared(Message { version: 1, sequence: self.newest | TOP_BIT, command: 0x06, data })?;
+        let request = self.compared(taken, Message { version: 1, sequence: taken.number | TOP_BIT, command: 0x06, data })?;
         if set_bits != u64::from(status.count_ones()) {
             return Err(format!("status {status:x} has {set_bits} set bits"));
         }
-        self.step("a status", 0x08, &request)
+        self.step(taken, "a status", 0x08, request)
     }
 
     /// A recovery's step has this command and no data.
-    fn step(&self, what: &str, command: u8, request: &Message) -> Result<(), String> {
+    fn step(&mut self, taken: Taken, what: &str, command: u8, request: Option<Message>) -> Result<(), String> {
         let command = command + u8::from(self.fault == Some(Fault::OtherStep));
-        if (request.command, request.data.len()) == (command, 0) { Ok(()) } else { Err(format!("{what} in answer to {:02x}", request.command)) }
+        let same = request.as_ref().is_some_and(|request| (request.command, request.data.len()) == (command, 0));
+        let said = if same { Ok(()) } else { Err(format!("{what} under number {} in answer to {request:02x?}", taken.number)) };
+        self.claims.settle(Claim::OneAnswer, request.is_some(), said)
     }
 
-    /// Compares a reply that is handed out with what the supervisor carried out; gives the request that it answers.
-    fn compared(&mut self, reply: Message) -> Result<Message, String> {
-        let Some(asked) = self.asked.get(&self.newest) else { return Err(format!("nothing was put out: {}", short(&reply))) };
+    /// Compares a reply that is handed out with what the supervisor carried out; gives the request that it answers, if one was put out under that number.
+    fn compared(&mut self, taken: Taken, reply: Message) -> Result<Option<Message>, String> {
+        let held = self.heard.wire_under(taken.number);
+        self.tally.weaker += u64::from(held && self.others);
+        let second = if self.settled >= taken.number { Err(format!("a second answer under one number: {}", short(&reply))) } else { Ok(()) };
+        self.claims.settle(Claim::OneAnswer, true, second)?;
+        self.settled = taken.number;
+        let Some(asked) = self.asked.get(&taken.number) else {
+            let said = Err(format!("nothing was put out under that number: {}", short(&reply)));
+            return self.claims.settle(Claim::FreshAnswer, held, said).map(|()| None);
+        };
         let mut evidence = Evidence { reply, asked: asked.clone(), carried: self.carried.clone() };
         if let Some(fault) = self.fault {
             self.plant(fault, &mut evidence);
         }
         let said = |difference: &str| format!("{difference}\n  handed out: {}\n  put out:    {}", short(&evidence.reply), short(&evidence.asked.message));
-        if self.settled >= self.newest {
-            return Err(said("a second answer under one number"));
+        self.claims.settle(Claim::FreshAnswer, held, evidence.carried_out().map_err(said))?;
+        if looks_up_list(&evidence.asked.message) {
+            let current = self.current_list(&evidence).map_err(said);
+            self.claims.settle(Claim::ListAge, held, current)?;
         }
-        evidence.carried_out().map_err(&said)?;
-        self.current_list(&evidence).map_err(&said)?;
-        self.fresh_alert(&evidence).map_err(&said)?;
-        self.settled = self.newest;
-        Ok(evidence.asked.message)
+        if evidence.asked.message.command == ALERT {
+            let fresh = self.fresh_alert(&evidence, held).map_err(said);
+            self.claims.settle(Claim::AlertAnswer, held, fresh)?;
+        }
+        Ok(Some(evidence.asked.message))
     }
 
     fn current_list(&mut self, evidence: &Evidence) -> Result<(), &'static str> {
         let Evidence { reply, asked, .. } = evidence;
-        if !looks_up_list(&asked.message) {
-            return Ok(());
-        }
         let made = evidence.made_by().map(|carried| carried.moment).collect();
         self.lists.compare(&Answer { first: asked.first, made, most: most(&asked.message), data: &reply.data })
     }
 
     /// An alert was taken in carrying out that request, unless one can be retained from before the main processor's end was started.
-    fn fresh_alert(&mut self, evidence: &Evidence) -> Result<(), &'static str> {
-        if evidence.asked.message.command != ALERT {
-            return Ok(());
-        }
+    fn fresh_alert(&mut self, evidence: &Evidence, held: bool) -> Result<(), &'static str> {
         let taken = evidence.made_by().any(|carried| carried.taken.as_ref() == Some(&evidence.reply.data));
         let cleared = evidence.made_by().any(|carried| carried.cleared);
-        self.tally.alerts_taken += u64::from(taken);
-        self.tally.alerts_cleared += u64::from(cleared);
-        self.tally.alerts_from_before += u64::from(!taken && !cleared);
+        self.tally.alerts_taken += u64::from(held && taken);
+        self.tally.alerts_cleared += u64::from(held && cleared);
+        self.tally.alerts_from_before += u64::from(held && !taken && !cleared);
         if taken || !cleared { Ok(()) } else { Err("an alert reply from before a reboot") }
     }
 

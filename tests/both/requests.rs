@@ -6,7 +6,7 @@ use crate::simulation::{Simulation, IMAGE_LENGTH};
 
 impl Simulation {
     /// A value that no other setting has.
-    fn value(&mut self) -> Vec<u8> {
+    pub fn value(&mut self) -> Vec<u8> {
         self.serial += 1;
         let more = match self.random.below(50) {
             0 => self.random.below(4_000),
@@ -25,8 +25,8 @@ impl Simulation {
             400..=599 => (0x10, [&[5], &self.value()[..]].concat()),
             600..=649 => (0x0e, vec![few % 7, most[0], most[1]]),
             650..=699 => (0x10, [&[few % 7], &self.value()[..]].concat()),
-            700..=769 => (0x0a, Vec::new()),
-            770..=819 => (0x08, Vec::new()),
+            700..=769 if self.mood.own_alerts => (0x0a, Vec::new()),
+            700..=819 => (0x08, Vec::new()),
             820..=849 => (0x09, Vec::new()),
             850..=909 => (self.random.pick(&[0x03, 0x04, 0x05]), Vec::new()),
             910..=929 => (0x0f, u32::from(few / 6).to_le_bytes().to_vec()),
@@ -37,8 +37,8 @@ impl Simulation {
             }
             945..=964 => (0x07, self.random.bytes(2 + usize::from(few))),
             965..=974 => (0x06, self.random.bytes(1 + usize::from(few))),
-            975..=989 => (0x01, Vec::new()),
-            990..=998 => (0x02, Vec::new()),
+            975..=989 if self.mood.reboots => (0x01, Vec::new()),
+            990..=998 if self.mood.reboots => (0x02, Vec::new()),
             // one that the supervisor cannot decode, at times
             _ if self.random.percent(90) => (0x03, Vec::new()),
             _ => (self.random.pick(&[0x0b, 0x0c, 0x05]), vec![few]),

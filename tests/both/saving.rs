@@ -23,11 +23,8 @@ impl Simulation {
     /// The image is kept; one of chance goes for it, so that some grow old.
     pub fn save(&mut self) -> Result<(), String> {
         self.tally.saves += 1;
-        let image = self.supervisor.save();
-        let expected = images::saved(&self.model.settings);
-        if image != expected {
-            return Err(format!("the supervisor saves {image:02x?}, and not {expected:02x?}"));
-        }
+        let known = images::saved(&self.model.settings);
+        let image = self.supervisor_says("a save", |supervisor| supervisor.save(), known)?;
         if self.saved.len() == KEPT {
             self.saved.remove(self.random.below(KEPT));
         }
@@ -51,12 +48,10 @@ impl Simulation {
     /// A refused image changes nothing; a good one replaces the settings of keys 3 to 5.
     pub fn restore(&mut self) -> Result<(), String> {
         let image = self.chosen();
-        let (left, expected) = images::restored(&self.model.settings, &image);
-        let result = self.supervisor.restore(&image);
-        if result != expected {
-            return Err(format!("a restore gives {result:?}, and not {expected:?}"));
-        }
+        let (left, known) = images::restored(&self.model.settings, &image);
+        let result = self.supervisor_says("a restore", |supervisor| supervisor.restore(&image), known)?;
         self.model.settings = left;
+        self.ledger.trips.ended();
         match result {
             Ok(()) => {
                 self.tally.restores += 1;

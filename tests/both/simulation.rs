@@ -1,16 +1,22 @@
 // Defines the turns of a run: both ends, the wire between them, a caller at each end, and the ledger that compares what is handed out.
 // Assumes the model of document 01 for what the supervisor puts out; each byte that it puts out is compared with the model's.
 
-use crate::ends::{Handed, Main, Reply, Supervisor};
-use crate::faults::Fault;
-use crate::ledger::Ledger;
-use crate::limits;
+use crate::calls::step_answer;
+use crate::ends::{Main, Supervisor};
+use crate::faults::{Fault, Side};
+use crate::ledger::{Ledger, Taken};
+use crate::library::{RequesterReceiveAnswer, RequesterStateAnswer, StepAnswer};
+use crate::limits::{self, ALERT, ANSWER, IDLE, RECOVERY_ACKNOWLEDGE, RECOVERY_ALERT, RECOVERY_STATUS, STATUS, WAITING};
 use crate::missed::{forged, Missed};
-use crate::model::{self, Message, Touched};
+use crate::model::{self, Message};
 use crate::random::Random;
+use crate::standing::Known;
+use crate::starts::Mood;
 use crate::state;
 use crate::tally::tally;
-use crate::wire::{cut, judged, Frames, Wire};
+use crate::trips::Departure;
+use crate::wire::{cut, judged, Frames, Kind, Wire};
+use crate::wrong::Memory;
 use std::collections::VecDeque;
 
 /// Turns without a sign of the supervisor until the main processor's caller does something about it, and turns until it gives a request up.
@@ -27,6 +33,9 @@ tally! {
     recoveries: "recoveries",
     main_starts: "starts of the main processor's end",
     near_starts: "of these, close to the last number",
+    kept_starts: "of these, bytes from before are still on their way",
+    both_starts: "of these, together with the supervisor",
+    second: "requests of the second program",
     outstanding: "requests refused as 17",
     requests_refused: "requests refused as 14",
     interrupts_refused: "interrupts refused as 14",
@@ -47,55 +56,74 @@ tally! {
     half_requests: "requests cut off by a start of the main processor's end",
     failed_requests: "frames that failed at the supervisor",
     failed_replies: "frames that failed at the main processor's end",
+    idle: "states told: idle",
+    waiting: "states told: waiting",
+    recovery_status: "states told: a recovery's status",
+    recovery_acknowledge: "states told: a recovery's acknowledgement",
+    recovery_alert: "states told: a recovery's alert",
+    to_go_out: "of these, a frame is to go out",
+    cut_off: "of these, a request goes out anew behind the recovery",
 }
 
-/// The caller of the main processor's end.
+impl Tally {
+    pub fn stood(&mut self, told: &RequesterStateAnswer) {
+        self.to_go_out += told.unsent;
+        self.cut_off += told.original;
+        *match told.state {
+            IDLE => &mut self.idle,
+            WAITING => &mut self.waiting,
+            RECOVERY_STATUS => &mut self.recovery_status,
+            RECOVERY_ACKNOWLEDGE => &mut self.recovery_acknowledge,
+            RECOVERY_ALERT => &mut self.recovery_alert,
+            other => panic!("requester_state tells {other}"),
+        } += 1;
+    }
+}
+
+/// The caller of the main processor's end: what it keeps beside the state that its end tells.
 #[derive(Default)]
 pub struct Caller {
-    /// Bytes on their way to the wire.
-    out: VecDeque<u8>,
+    /// Bytes on their way to the wire, and the turn from which they can go on it.
+    pub out: VecDeque<u8>,
+    pub line_free: u64,
     pub asked_for: Option<(u8, Vec<u8>)>,
-    asked_at: u64,
-    pub recovering: bool,
-    pub unsent: bool,
-    /// The request that a recovery cut off has a new number, under which it has not gone out yet.
-    pub anew: bool,
+    pub asked_at: u64,
     /// A request or an interrupt was refused as 14, and an interrupt with a request outstanding.
     pub refused: bool,
     pub refused_waiting: bool,
-    heard_at: u64,
+    pub heard_at: u64,
     /// The turn in which it is started once more, where it is soon.
-    starts_again: Option<u64>,
+    pub starts_again: Option<u64>,
 }
 
 pub struct Simulation {
+    kind: Kind,
+    pub mood: Mood,
+    pub memory: Memory,
     pub random: Random,
     pub ledger: Ledger,
     pub tally: Tally,
     pub turns: u64,
-    /// Frames that damage made good and that were damaged further, and how many of these were replies that were made and not put out.
-    pub further: u64,
-    pub made_only: u64,
-    /// Damage that no test notices, made on purpose; without it, what chance makes of that kind is damaged further.
+    /// Damage that no test notices, made on purpose.
     pub missed: Option<Missed>,
-    /// Why the wire's rule does not hold since the main processor's end was started, if so.
-    pub ruled_out: Option<String>,
     /// What happened, in words, with its turn; kept where it is there.
     pub journal: Option<Vec<(u64, String)>>,
     pub there: Wire,
     pub back: Wire,
     pub main: Box<Main>,
+    /// What the simulation knows of the main processor's end.
+    pub known: Known,
     pub caller: Caller,
     pub supervisor: Box<Supervisor>,
     pub model: model::Supervisor,
     pub start_data: Box<[u8; limits::START_LENGTH]>,
-    image: Vec<u8>,
+    pub image: Vec<u8>,
     /// Saved images of the settings, the newest last.
     pub saved: Vec<Vec<u8>>,
     /// What each end has read since the last 00, and the last byte that the supervisor put out.
-    main_read: Frames,
-    supervisor_read: Frames,
-    last_put: u8,
+    pub main_read: Frames,
+    pub supervisor_read: Frames,
+    pub last_put: u8,
     /// What the last lookup found.
     last_found: Vec<u8>,
     /// The line signal as the journal has it.
@@ -119,7 +147,7 @@ fn start_data(random: &mut Random) -> Box<[u8; limits::START_LENGTH]> {
 }
 
 impl Simulation {
-    pub fn new(seed: u64) -> Simulation {
+    pub fn new(kind: Kind, seed: u64) -> Simulation {
         let mut random = Random(seed);
         let start_data = start_data(&mut random);
         let (mut main, mut supervisor) = (Main::new(random.byte()), Supervisor::new(random.byte()));
@@ -130,10 +158,11 @@ impl Simulation {
         let mut ledger = Ledger::default();
         ledger.supervisor_started();
         ledger.main_started();
+        ledger.both_started();
         Simulation {
-            random, ledger, tally: Tally::default(), turns: 0, further: 0, made_only: 0, missed: None, ruled_out: None, journal: None, there: Wire::new(),
-            back: Wire::new(), main, caller: Caller::default(), supervisor, model, start_data, image, saved: Vec::new(), main_read: Frames::default(),
-            supervisor_read: Frames::default(), last_put: 0, last_found: Vec::new(), signal: false, serial: 0,
+            kind, mood: Mood::default(), memory: Memory::default(), random, ledger, tally: Tally::default(), turns: 0, missed: None, journal: None,
+            there: Wire::new(kind), back: Wire::new(kind), main, known: Known::default(), caller: Caller::default(), supervisor, model, start_data, image,
+            saved: Vec::new(), main_read: Frames::default(), supervisor_read: Frames::default(), last_put: 0, last_found: Vec::new(), signal: false, serial: 0,
         }
     }
 
@@ -141,15 +170,6 @@ impl Simulation {
         if let Some(journal) = &mut self.journal {
             journal.push((self.turns, words()));
         }
-    }
-
-    /// The wire's rule: without damage on purpose a breach is a difference.
-    fn ruled(&mut self, rule: Result<(), String>) -> Result<(), String> {
-        match rule {
-            Err(breach) if self.missed.is_some() => self.ruled_out = Some(breach),
-            other => return other,
-        }
-        Ok(())
     }
 
     /// One turn: some of what either end can do.
@@ -171,13 +191,17 @@ impl Simulation {
         if dice >> 5 & 1 == 0 {
             self.main_reads()?;
         }
+        if self.kind == Kind::Second {
+            self.second_program();
+        }
         match dice >> 6 & 0x3fff {
-            0 | 1 => self.start_main()?,
-            2..=7 => self.start_supervisor()?,
-            8..=104 => self.post(),
+            0 | 1 => self.start_again()?,
+            2..=7 if !self.mood.calm => self.start_supervisor()?,
+            8..=104 => self.post()?,
             105..=124 => self.set_options(),
             125..=144 => self.save()?,
-            145..=164 => self.restore()?,
+            145..=164 if !self.mood.calm => self.restore()?,
+            165..=264 => self.look_up()?,
             _ => (),
         }
         if self.journal.is_some() && self.signal != self.supervisor.signal() {
@@ -190,38 +214,38 @@ impl Simulation {
 
     // ---- The supervisor and its caller
 
-    fn post(&mut self) {
+    fn post(&mut self) -> Result<(), String> {
         self.serial += 1;
         let text = format!("alert {}", self.serial);
         let action = 1 + (self.serial % 255) as u8;
-        let number = self.supervisor.post(action, text.as_bytes());
-        assert_eq!(number, self.model.registers.post(action, text.as_bytes()).err().unwrap_or(0), "post");
+        let known = self.model.registers.post(action, text.as_bytes()).err().unwrap_or(0);
+        let number = self.supervisor_says("a post", |supervisor| supervisor.post(action, text.as_bytes()), known)?;
+        self.ledger.trips.ended();
         if number == 0 {
             self.ledger.posted(action, text.as_bytes());
             self.note(|| format!("post {text}"));
         }
+        Ok(())
     }
 
     fn set_options(&mut self) {
         let options = self.random.next() & 0x1ff;
         assert_eq!(self.supervisor.set_options(options), 0);
         assert_eq!(self.model.registers.set_options(options), Ok(()));
+        self.ledger.trips.ended();
     }
 
-    /// The supervisor's start, at any moment: half a reply may be out. Its caller ends that with a 00, or not, and restores an image, or not.
-    fn start_supervisor(&mut self) -> Result<(), String> {
-        self.tally.supervisor_starts += 1;
-        self.supervisor.start(&self.start_data);
-        self.model = model::Supervisor::start(self.model.factory.clone(), &self.model.outbox);
-        self.ledger.supervisor_started();
-        self.list_held();
-        self.supervisor_read = Frames::default();
-        self.note(|| "start supervisor".to_string());
-        if self.last_put != 0 && self.random.percent(50) {
-            self.last_put = 0;
-            self.back.put(&[0], self.turns, &mut self.random);
+    /// The supervisor's caller looks a setting up, with its edition.
+    fn look_up(&mut self) -> Result<(), String> {
+        let key = self.random.pick(&[5, 5, 4, 3]);
+        let known = (model::lookup(&self.model.factory, &self.model.settings, key, u16::MAX), model::edition(&self.model.settings, key));
+        let ((result, value), (_, edition)) = self.supervisor_says("a lookup", |supervisor| supervisor.lookup(key), known)?;
+        if result != 0 {
+            return Ok(());
         }
-        if self.random.percent(60) { self.restore_behind_start() } else { Ok(()) }
+        let Ledger { editions, claims, .. } = &mut self.ledger;
+        editions.tally.local += 1;
+        editions.found(key, edition, &value, claims)
     }
 
     fn supervisor_reads(&mut self) -> Result<(), String> {
@@ -232,78 +256,73 @@ impl Simulation {
         self.supervise(piece)
     }
 
-    fn supervise(&mut self, piece: Vec<u8>) -> Result<(), String> {
-        let piece = if self.missed.is_some() { piece } else { self.noticed(piece, &self.supervisor_read.clone(), Ledger::asked_for) };
-        if self.random.percent(50) {
-            self.supervisor.receive(&self.image, &piece);
-        } else {
-            let mut read = 0;
-            while read < piece.len() {
-                read += self.supervisor.step(&self.image, &piece[read..]);
-            }
+    /// The supervisor of the library reads a piece, by steps at times; what these tell.
+    fn library_reads(&mut self, piece: &[u8]) -> Vec<StepAnswer> {
+        let mut steps = Vec::new();
+        if self.replaced(Side::Supervisor) {
+            return steps;
         }
-        for part in cut(&piece) {
-            let (_, kind, reason) = self.model.step(&self.image, part, &mut Touched::none());
+        if self.random.percent(50) {
+            self.supervisor.receive(&self.image, piece);
+            return steps;
+        }
+        let mut read = 0;
+        while read < piece.len() {
+            let step = self.supervisor.step(&self.image, &piece[read..]);
+            read += step.used as usize;
+            steps.push(step);
+        }
+        steps
+    }
+
+    pub fn supervise(&mut self, piece: Vec<u8>) -> Result<(), String> {
+        let steps = self.library_reads(&piece);
+        for (place, part) in cut(&piece).enumerate() {
+            let told = self.model_step(part);
+            if let Some(step) = steps.get(place).filter(|&&step| step != step_answer(told)) {
+                return Err(format!("the supervisor's step tells {step:x?}, and not {told:x?}"));
+            }
+            let (kind, reason) = (told.kind, told.reason);
+            self.ledger.piece_read(part, kind == 2);
             let Some(form) = self.supervisor_read.feed(part) else { continue };
             self.tally.failed_requests += u64::from(kind == 3);
-            let rule = self.ledger.asked_for(&form);
-            self.ruled(rule)?;
             let pending = &self.model.outbox.pending;
             let reply = &pending[usize::from(pending.first() == Some(&0))..];
             self.tally.half_replies += u64::from(reply.len() < pending.len());
-            self.ledger.handled(&form, kind == 2, Some(reply).filter(|reply| !reply.is_empty()));
+            self.ledger.handled(&form, kind == 2, Some(reply).filter(|reply| !reply.is_empty()))?;
             self.list_held();
             self.note(|| if kind == 2 { format!("supervisor reads {}", words(&form)) } else { format!("supervisor reads failed {reason}") });
         }
         Ok(())
     }
 
-    fn supervisor_puts(&mut self) -> Result<(), String> {
+    pub fn supervisor_puts(&mut self) -> Result<(), String> {
         let few = self.random.below(30);
         let all_but_one = self.model.outbox.pending.len().saturating_sub(1);
         let room = self.random.pick(&[limits::MOST_PENDING, limits::MOST_PENDING, few, all_but_one]);
-        let bytes = self.supervisor.take(room);
-        let expected = self.model.outbox.take(room);
-        if bytes != expected {
-            return Err(format!("the supervisor puts out {bytes:02x?}, and not {expected:02x?}"));
-        }
+        let known = self.model.outbox.take(room);
+        let bytes = self.supervisor_says("a take", |supervisor| supervisor.take(room), known)?;
         self.last_put = bytes.last().copied().unwrap_or(self.last_put);
         self.back.put(&bytes, self.turns, &mut self.random);
-        let pending = &self.model.outbox.pending;
-        if self.ledger.fault == Some(Fault::HalfReply) && !bytes.is_empty() {
-            self.back.put(pending, self.turns, &mut self.random);
-        }
-        if let Some(put) = self.ledger.taken(pending.len()).map(words) {
+        let pending = self.model.outbox.pending.len();
+        if let Some(put) = self.ledger.taken(pending).map(words) {
             self.note(|| format!("supervisor puts {put}"));
         }
-        Ok(())
+        self.ledger.trips.taken(&bytes, pending);
+        self.trip_compared()
     }
 
-    // ---- The wire
-
-    /// The piece, with each frame that damage made good damaged further until a test notices it.
-    fn noticed(&mut self, piece: Vec<u8>, before: &Frames, rule: fn(&Ledger, &[u8]) -> Result<(), String>) -> Vec<u8> {
-        if matches!(self.ledger.fault, Some(Fault::BytesKept | Fault::HalfReply)) {
-            return piece;
-        }
-        let mut frames = before.clone();
-        let mut out = Vec::with_capacity(piece.len());
-        for part in cut(&piece) {
-            let mut part = part.to_vec();
-            while let Some(form) = frames.clone().feed(&part).filter(|form| rule(&self.ledger, form).is_err()) {
-                self.further += 1;
-                self.made_only += u64::from(self.ledger.made_only(&form));
-                part.insert(part.len() - 1, 1 + self.random.below(255) as u8);
-            }
-            frames.feed(&part);
-            out.extend(part);
-        }
-        out
+    fn trip_compared(&mut self) -> Result<(), String> {
+        let Ledger { trips, claims, .. } = &mut self.ledger;
+        trips.compare(&self.known.requester.standing(), claims)
     }
 
     // ---- The main processor's end and its caller
 
     fn main_puts(&mut self) {
+        if self.turns < self.caller.line_free {
+            return;
+        }
         let most = self.caller.out.len();
         let few = self.random.below(20);
         let count = self.random.pick(&[most, most, few]).min(most);
@@ -311,47 +330,71 @@ impl Simulation {
         self.there.put(&bytes, self.turns, &mut self.random);
     }
 
-    /// A frame that goes out, behind those that are on their way.
-    fn put_out(&mut self, frame: &[u8]) -> Result<(), String> {
+    /// Both readers are between frames, and nothing is on its way.
+    fn quiet(&self) -> bool {
+        let between = self.supervisor_read.between() && (self.main_read.between() || self.ledger.fault == Some(Fault::TripInside));
+        between && self.there.clear_of_bytes() && self.back.clear_of_bytes() && self.caller.out.is_empty()
+    }
+
+    /// Puts a frame behind those that are on their way.
+    pub fn send_behind(&mut self, frame: &[u8]) {
+        self.caller.out.extend(frame);
+    }
+
+    /// A frame of the second program, behind those that are on their way; where there are none, it keeps the line for some turns.
+    pub fn second_sends(&mut self, frame: &[u8]) {
+        if self.caller.out.is_empty() {
+            self.there.put(frame, self.turns, &mut self.random);
+            self.caller.line_free = self.turns + self.random.below(60) as u64;
+        } else {
+            self.send_behind(frame);
+        }
+    }
+
+    /// A frame that goes out, by a request of the caller's or by a send.
+    fn put_out(&mut self, frame: &[u8], by_send: bool) -> Result<(), String> {
+        let quiet = self.quiet();
         let again = self.ledger.put_out(frame)?;
         self.list_held();
         self.tally.resends += u64::from(again);
-        self.caller.anew = false;
-        self.caller.out.extend(frame);
+        self.send_behind(frame);
         self.caller.heard_at = self.turns;
         self.note(|| format!("main puts {}", words(&frame[..frame.len() - 1])));
+        let told = self.stands()?;
+        self.ledger.trips.ended();
+        if quiet && told.state != IDLE {
+            self.ledger.trips.begun(Departure { frame, told, again, anew: by_send && !again && told.state == WAITING });
+        }
         Ok(())
     }
 
     fn main_reads(&mut self) -> Result<(), String> {
         self.meddle()?;
         let piece = self.back.get(self.turns, &mut self.random);
-        let piece = if self.missed.is_some() { piece } else { self.noticed(piece, &self.main_read.clone(), Ledger::replied) };
         let mut read = 0;
         while read < piece.len() {
-            let received = self.main.receive(&piece[read..]);
-            let form = self.main_read.feed(&piece[read..read + received.used]);
-            if let Some(form) = &form {
-                self.frame_read(form)?;
+            let number = self.known.requester.newest;
+            let (answer, data) = self.receives(&piece[read..])?;
+            let part = &piece[read..read + answer.used as usize];
+            read += part.len();
+            let put_out = self.main_read.feed(part).is_some_and(|form| self.frame_read(&form));
+            self.ledger.trips.came(part, &answer, &data);
+            self.handed(Taken { number, put_out }, &answer, data)?;
+            if answer.ended == 1 {
+                self.recovery_ended()?;
             }
-            read += received.used;
-            self.caller.unsent = received.unsent;
-            let ends = self.ends_recovery(form.as_deref(), &received.handed);
-            self.handed(received.handed)?;
-            self.recovery_ended(ends, received.ended)?;
+            self.stands()?;
+            self.trip_compared()?;
         }
         Ok(())
     }
 
-    /// The main processor's end has read a frame that is not empty.
-    fn frame_read(&mut self, form: &[u8]) -> Result<(), String> {
+    /// The main processor's end has read a frame that is not empty; whether the supervisor has put it out.
+    fn frame_read(&mut self, form: &[u8]) -> bool {
         self.caller.heard_at = self.turns;
         self.tally.failed_replies += u64::from(judged(form).is_err());
-        let rule = self.ledger.replied(form);
-        self.ruled(rule)?;
-        self.ledger.read(form);
         self.note(|| format!("main reads {}", words(form)));
-        Ok(())
+        self.ledger.read(form)
     }
 
     /// Damage on purpose to what comes back.
@@ -372,98 +415,71 @@ impl Simulation {
         Ok(())
     }
 
-    fn handed(&mut self, handed: Handed) -> Result<(), String> {
-        let message = |reply: Reply| Message { version: 1, sequence: reply.sequence, command: reply.command, data: reply.data };
-        match handed {
-            Handed::Nothing => Ok(()),
-            Handed::Status { status, options, set_bits } => {
+    /// What the main processor's end hands out, with the data of a reply.
+    fn handed(&mut self, taken: Taken, answer: &RequesterReceiveAnswer, data: Vec<u8>) -> Result<(), String> {
+        let message = Message { version: 1, sequence: answer.sequence, command: answer.command as u8, data };
+        if answer.kind != 0 {
+            self.ledger.takes(taken);
+        }
+        match answer.kind {
+            STATUS => {
                 self.tally.statuses += 1;
-                self.caller.recovering = status & 3 != 0;
-                self.caller.anew = !self.caller.recovering && self.caller.asked_for.is_some();
-                self.note(|| format!("status {status:x}"));
-                self.ledger.status_read(status, options, set_bits)
+                self.note(|| format!("status {:x}", answer.status));
+                self.ledger.status_read(taken, answer.status, answer.options, answer.set_bits)
             }
-            Handed::Alert(reply) => {
+            ALERT => {
                 self.tally.alerts += 1;
-                self.note(|| format!("alert {}", String::from_utf8_lossy(&reply.data[1..])));
-                self.ledger.alerted(message(reply))
+                self.note(|| format!("alert {}", String::from_utf8_lossy(&message.data[1..])));
+                self.ledger.alerted(taken, message)
             }
-            Handed::Answer(reply) => {
+            ANSWER => {
                 self.tally.answers += 1;
-                self.note(|| format!("answer {}", String::from_utf8_lossy(reply.data.get(1..).unwrap_or(&[])).escape_debug()));
+                self.note(|| format!("answer {}", String::from_utf8_lossy(message.data.get(1..).unwrap_or(&[])).escape_debug()));
                 let asked_for = self.caller.asked_for.take();
                 self.tally.answered_anyway += u64::from(std::mem::take(&mut self.caller.refused_waiting));
-                if reply.command == 0x0a {
-                    self.last_found.clone_from(&reply.data);
+                if message.command == 0x0a {
+                    self.last_found.clone_from(&message.data);
                 }
-                self.ledger.answered(message(reply), asked_for)
+                self.ledger.answered(taken, message, asked_for)
             }
+            _ => Ok(()),
         }
     }
 
     fn interrupt(&mut self) -> Result<(), String> {
-        if self.interrupt_refused()? {
-            return Ok(());
+        let begins = self.known.requester.step.is_none();
+        self.ledger.trips.ended();
+        if self.interrupts()? == 14 {
+            self.interrupt_refused();
+        } else {
+            self.tally.recoveries += u64::from(begins);
+            self.caller.heard_at = self.turns;
+            self.note(|| "interrupt".to_string());
         }
-        self.tally.recoveries += u64::from(!self.caller.recovering);
-        self.caller.recovering = true;
-        self.caller.unsent = true;
-        self.caller.heard_at = self.turns;
-        self.note(|| "interrupt".to_string());
-        Ok(())
+        self.stands().map(|_| ())
     }
 
-    /// The main processor's start. All that is on its way is thrown away first; a 00 ends, at times, what the supervisor has read of a frame, and its reply, which
-    /// may be one to a whole frame from before, is thrown away too.
-    pub fn start_main(&mut self) -> Result<(), String> {
-        self.tally.main_starts += 1;
-        if self.missed != Some(Missed::Late) && self.ledger.fault != Some(Fault::BytesKept) {
-            self.there.clear();
-            self.back.clear();
-            self.tally.half_requests += u64::from(!self.supervisor_read.between());
-            if self.random.percent(70) {
-                self.supervise(vec![0])?;
-            }
-            self.supervisor_puts()?;
-            while !self.model.outbox.pending.is_empty() {
-                self.supervisor_puts()?;
-            }
-            self.back.clear();
-        }
-        self.main.start();
-        self.ledger.main_started();
-        self.count_on();
-        self.main_read = Frames::default();
-        self.ruled_out = None;
-        let turns = self.turns;
-        let starts_again = self.random.percent(25).then(|| turns + self.random.below(200) as u64);
-        self.caller = Caller { heard_at: turns, starts_again, ..Caller::default() };
-        self.note(|| "start main".to_string());
-        Ok(())
-    }
-
-    /// What the main processor's caller does of its own.
+    /// What the main processor's caller does of its own, by the state that its end tells.
     fn decide(&mut self) -> Result<(), String> {
         let turns = self.turns;
+        let told = self.stands()?;
         let caller = &self.caller;
-        let (waiting, late) = (caller.asked_for.is_some(), turns > caller.heard_at + PATIENCE);
-        let given_up = late && caller.recovering
+        let (waiting, recovering, late) = (told.state == WAITING || told.original == 1, told.state > WAITING, turns > caller.heard_at + PATIENCE);
+        let given_up = late && recovering
             || waiting && turns > caller.asked_at + GIVES_UP
-            || caller.refused && self.random.percent(5)
-            || caller.starts_again.is_some_and(|turn| turn <= turns);
-        if caller.unsent && self.random.percent(60) {
-            let frame = self.main.send();
-            self.caller.unsent = false;
-            return if frame.is_empty() { Ok(()) } else { self.put_out(&frame) };
+            || caller.refused && self.random.percent(5);
+        if caller.starts_again.is_some_and(|turn| turn <= turns) {
+            return self.start_main();
         }
-        let signal = self.supervisor.signal();
-        if signal != self.model.registers.signal() {
-            return Err(format!("the line signal is {signal}"));
+        if told.unsent == 1 && self.random.percent(60) {
+            return self.send();
         }
-        let (busy, last) = (waiting || caller.recovering, !self.number_left());
+        let known = self.model.registers.signal();
+        let signal = self.supervisor_says("the line signal", |supervisor| supervisor.signal(), known)?;
+        let (busy, last) = (told.state != IDLE, !self.known.requester.number_left());
         let interrupts = self.random.percent(if late && busy { 50 } else if signal || last { 5 } else { 0 }) || self.random.below(2_000) == 0;
         if given_up {
-            self.start_main()
+            self.start_again()
         } else if interrupts {
             self.interrupt()
         } else if self.random.percent(if !busy { 60 } else if last { 10 } else { 1 }) {
@@ -473,16 +489,28 @@ impl Simulation {
         }
     }
 
+    fn send(&mut self) -> Result<(), String> {
+        let frame = self.sends()?;
+        self.put_out(&frame, true)
+    }
+
     fn ask(&mut self) -> Result<(), String> {
         let (command, data) = self.request();
-        let frame = self.main.request(command, &data);
-        let Some(frame) = self.unless_refused(frame)? else { return Ok(()) };
-        self.note(|| format!("request {command:02x}"));
-        self.put_out(&frame)?;
-        self.tally.requests += 1;
-        self.caller.asked_at = self.turns;
-        self.caller.asked_for = (!matches!(command, 0x01 | 0x02 | 0x06)).then_some((command, data));
-        Ok(())
+        match self.requests(command, &data)? {
+            Err(number) => self.request_refused(number),
+            Ok(frame) => {
+                self.note(|| format!("request {command:02x}"));
+                self.tally.requests += 1;
+                self.caller.asked_at = self.turns;
+                self.caller.asked_for = (!matches!(command, 0x01 | 0x02 | 0x06)).then_some((command, data.clone()));
+                if command == 0x01 && self.random.percent(70) {
+                    self.caller.starts_again = Some(self.turns + self.random.below(100) as u64);
+                }
+                self.put_out(&frame, false)?;
+                self.ledger.asks(command, &data, &self.model.settings);
+            }
+        }
+        self.stands().map(|_| ())
     }
 }
 

@@ -40,10 +40,25 @@ pub const FAULTS: [&str; 10] = [
     "frames again",
 ];
 
+/// The kinds of wire.
+#[derive(Clone, Copy, Debug, PartialEq, Eq)]
+pub enum Kind {
+    Bad,
+    InOrder,
+    Second,
+}
+
+pub const KINDS: [(Kind, &str, &str); 3] = [
+    (Kind::Bad, "bad", "a bad wire"),
+    (Kind::InOrder, "in-order", "a bad wire that keeps the order"),
+    (Kind::Second, "second", "a bad wire with a second program"),
+];
+
 /// How many frames from before can come again.
 const EARLIER: usize = 8;
 
 pub struct Wire {
+    kind: Kind,
     bytes: VecDeque<u8>,
     /// Nothing comes out before this turn.
     still: u64,
@@ -60,8 +75,8 @@ pub struct Wire {
 }
 
 impl Wire {
-    pub fn new() -> Wire {
-        Wire { bytes: VecDeque::new(), still: 0, gap: 0, mean: 400, losing: 0, frame: Vec::new(), earlier: Vec::new(), faults: [0; FAULTS.len()], carried: 0 }
+    pub fn new(kind: Kind) -> Wire {
+        Wire { kind, bytes: VecDeque::new(), still: 0, gap: 0, mean: 400, losing: 0, frame: Vec::new(), earlier: Vec::new(), faults: [0; FAULTS.len()], carried: 0 }
     }
 
     pub fn put(&mut self, bytes: &[u8], turn: u64, random: &mut Random) {
@@ -108,7 +123,7 @@ impl Wire {
         if which < 6 {
             self.faults[8] += 1;
             self.bytes.extend(&[0; 3][which % 3..]);
-        } else if which < 10 {
+        } else if which < 10 && self.kind != Kind::InOrder {
             if let Some(again) = self.earlier.get(random.below(self.earlier.len())) {
                 self.faults[9] += 1;
                 self.bytes.extend(again);
@@ -132,6 +147,11 @@ impl Wire {
         let (few, some) = (1 + random.below(12), 1 + random.below(held));
         let count = random.pick(&[held, held, some, few, 1]);
         self.bytes.drain(..count.min(held)).collect()
+    }
+
+    /// Nothing is on its way.
+    pub fn clear_of_bytes(&self) -> bool {
+        self.bytes.is_empty()
     }
 
     /// The whole frame that comes next, with its 00.

@@ -2,7 +2,7 @@
 """Writes, from the declarations of include/oatcastle.h alone, the two C files by which tests/cross records and replays calls: OUT/calls.h, the table of
 functions with their parameters and one caller for each, and OUT/wrappers.c, one recording function for each. Prints their names, one to a line.
 Assumes the header's layout as tests/interface.py does: a pointer and behind it NAME_length or NAME_count is a run; NAME[LENGTH] is a run of that
-length; any other pointer leads to one record; everything else is a number.
+length; any other pointer leads to one record, as an answer's does; everything else is a number.
 
 usage: tests/cross/calls.py OUT"""
 import hashlib

@@ -1,16 +1,24 @@
 /* Counts the instructions of calls on a bare Cortex-M4 under qemu with -icount shift=6: an instruction takes 64 ns of the board's time there, and a
- * tick of SysTick 40 ns. Prints what each takes; memory.c, byte by byte, is counted in. Assumes the startup code, the linker script and memory.c of examples/firmware, and a processor clock of 25 MHz. */
+ * tick of SysTick 40 ns. Prints what each takes; memory.c, byte by byte, is counted in. An echo request is answered by oatcastle_rot_read. Assumes the startup code, the linker script and memory.c of examples/firmware, and a processor clock of 25 MHz. */
 #include "oatcastle_parts.h"
 #include "semihosting.h"
 
 #define SYSTICK ((volatile uint32_t *)0xe000e010)   /* control, reload, current value */
 #define TICKS 0xffffffu
 
+#define TOP_BIT (1ull << 63)
+/* Counts a call, and says what it was. */
+#define COUNT(what, call) (begin(), refused |= (call), tell(what, end()))
+
 static oatcastle_supervisor supervisor;
+static oatcastle_main_end main_end;
+static oatcastle_line_reader reader;
+static oatcastle_counters counters;
 static const uint8_t start_data[OATCASTLE_START_LENGTH] = {OATCASTLE_BSU_A};
-static uint8_t image[8192], data[OATCASTLE_LONGEST_DATA], piece[OATCASTLE_LONGEST_FRAME], room[OATCASTLE_MOST_PENDING];
-static uint64_t answer[OATCASTLE_LINE_READ_NUMBERS];
-static uint32_t piece_length, refused, began;
+static uint8_t image[8192], data[OATCASTLE_LONGEST_DATA], piece[OATCASTLE_LONGEST_FRAME], room[OATCASTLE_LONGEST_IMAGE];
+static oatcastle_line_write_answer written;
+static oatcastle_take_answer taken;
+static uint32_t refused, began;
 
 static void begin(void)
 {
@@ -27,34 +35,227 @@ static uint32_t end(void)
     return n - nothing;
 }
 
-/* A request's frame, its receipt in one piece and in single bytes, and taking the reply. */
+static void tell(const char *what, uint32_t n)
+{
+    host_text(what);
+    host_number(": ", n, " instructions\n");
+}
+
+/* A frame with so many bytes of data goes to the piece; returns its length. */
+static uint32_t frame(uint64_t sequence, uint8_t command, uint32_t length)
+{
+    refused |= oatcastle_line_write(1, sequence, command, data, length, data, 0, piece, sizeof piece, &written);
+    return (uint32_t)written.length;
+}
+
+/* ---- A request's frame, its receipt in one piece and in single bytes, and taking the reply */
+
 static void request(const char *what, uint8_t command, uint32_t length)
 {
-    uint32_t written, received, singly = 0, taken;
+    uint32_t writing, receiving, singly = 0, taking, n;
 
     begin();
-    refused |= oatcastle_line_write(1, 1, command, data, length, data, 0, piece, sizeof piece, answer, OATCASTLE_LINE_WRITE_NUMBERS);
-    written = end();
-    piece_length = (uint32_t)answer[0];
+    n = frame(1, command, length);
+    writing = end();
     begin();
-    refused |= oatcastle_supervisor_receive(&supervisor, image, sizeof image, piece, piece_length);
-    received = end();
+    refused |= oatcastle_supervisor_receive(&supervisor, image, sizeof image, piece, n);
+    receiving = end();
     begin();
-    refused |= oatcastle_supervisor_take(&supervisor, room, sizeof room, answer);
-    taken = end();
-    for (uint32_t i = 0; i < piece_length; i++) {
+    refused |= oatcastle_supervisor_take(&supervisor, room, sizeof room, &taken);
+    taking = end();
+    for (uint32_t i = 0; i < n; i++) {
         begin();
         refused |= oatcastle_supervisor_receive(&supervisor, image, sizeof image, &piece[i], 1);
         singly += end();
     }
-    refused |= oatcastle_supervisor_take(&supervisor, room, sizeof room, answer);
+    refused |= oatcastle_supervisor_take(&supervisor, room, sizeof room, &taken);
     host_text(what);
-    host_number(": frame ", piece_length, " bytes, ");
-    host_number("reply ", (uint32_t)answer[0], " bytes; ");
-    host_number("written ", written, ", ");
-    host_number("received ", received, ", ");
+    host_number(": frame ", n, " bytes, ");
+    host_number("reply ", (uint32_t)taken.moved, " bytes; ");
+    host_number("written ", writing, ", ");
+    host_number("received ", receiving, ", ");
     host_number("received singly ", singly, ", ");
-    host_number("taken ", taken, "\n");
+    host_number("taken ", taking, "\n");
+}
+
+/* Bytes that are seldom 0. */
+static void fill(uint8_t *bytes, uint32_t length)
+{
+    for (uint32_t i = 0; i < length; i++)
+        bytes[i] = (uint8_t)(i * 11 + i / 256);
+}
+
+static void requests(void)
+{
+    for (uint32_t i = 0; i < sizeof image; i++)
+        image[i] = (uint8_t)(i * 7 + i / 256);
+    refused |= oatcastle_supervisor_start(&supervisor, start_data);
+    request("status request", OATCASTLE_COMMAND_STATUS, 0);
+    request("image block request", OATCASTLE_COMMAND_IMAGE_BLOCK, 40);
+    fill(data, sizeof data);
+    data[0] = OATCASTLE_KEY_DTRACE_CONF;
+    request("key set of 4,096 bytes", OATCASTLE_COMMAND_KEY_SET, 4097);
+    for (uint32_t i = 1; i < sizeof data; i++)
+        data[i] = 0;
+    request("key set of 4,096 zeros", OATCASTLE_COMMAND_KEY_SET, 4097);
+}
+
+/* ---- Each call, with short and with long bytes where it depends on them */
+
+static void line_calls(void)
+{
+    static oatcastle_line_read_answer read;
+    static oatcastle_line_tail_answer tail;
+    static oatcastle_line_checksum_answer sum;
+    uint32_t n;
+
+    fill(data, sizeof data);
+    COUNT("oatcastle_line_start", oatcastle_line_reader_start(&reader));
+    COUNT("oatcastle_line_write, no data", oatcastle_line_write(1, 1, 8, data, 0, data, 0, piece, sizeof piece, &written));
+    COUNT("oatcastle_line_read, no data", oatcastle_line_reader_read(&reader, piece, written.length, &read));
+    COUNT("oatcastle_line_data, no data", oatcastle_line_reader_data(&reader, 0, room, sizeof room));
+    COUNT("oatcastle_line_write, 4,104 bytes", oatcastle_line_write(1, 1, 8, data, sizeof data, data, 0, piece, sizeof piece, &written));
+    n = (uint32_t)written.length;
+    COUNT("oatcastle_line_read, 4,104 bytes", oatcastle_line_reader_read(&reader, piece, n, &read));
+    COUNT("oatcastle_line_data, 4,104 bytes", oatcastle_line_reader_data(&reader, read.length, room, sizeof room));
+    COUNT("oatcastle_line_tail", oatcastle_line_reader_tail(&reader, &tail));
+    COUNT("oatcastle_line_checksum, no byte", oatcastle_line_checksum(data, 0, &sum));
+    COUNT("oatcastle_line_checksum, 4,104 bytes", oatcastle_line_checksum(data, sizeof data, &sum));
+}
+
+/* The four calls that receive, with a frame. */
+static void receipts(const char *const what[4], uint32_t n)
+{
+    static oatcastle_step_answer read;
+
+    COUNT(what[0], oatcastle_supervisor_receive(&supervisor, image, sizeof image, piece, n));
+    COUNT(what[1], oatcastle_supervisor_step(&supervisor, image, sizeof image, piece, n, &read));
+    COUNT(what[2], oatcastle_supervisor_receive_counted(&supervisor, &counters, image, sizeof image, piece, n));
+    COUNT(what[3], oatcastle_supervisor_step_counted(&supervisor, &counters, image, sizeof image, piece, n, &read));
+}
+
+static void receive_calls(void)
+{
+    static const char *const byte[] = {"oatcastle_receive, a byte", "oatcastle_step, a byte", "oatcastle_receive_counted, a byte", "oatcastle_step_counted, a byte"};
+    static const char *const status[] = {
+        "oatcastle_receive, a status request", "oatcastle_step, a status request", "oatcastle_receive_counted, a status request", "oatcastle_step_counted, a status request",
+    };
+    static const char *const set[] = {
+        "oatcastle_receive, a set of 4,096 bytes", "oatcastle_step, a set of 4,096 bytes", "oatcastle_receive_counted, a set of 4,096 bytes", "oatcastle_step_counted, a set of 4,096 bytes",
+    };
+
+    COUNT("oatcastle_start", oatcastle_supervisor_start(&supervisor, start_data));
+    COUNT("oatcastle_clear_counters", oatcastle_clear_counters(&counters));
+    frame(1, OATCASTLE_COMMAND_STATUS, 0);
+    receipts(byte, 1);
+    refused |= oatcastle_supervisor_start(&supervisor, start_data);
+    receipts(status, frame(1, OATCASTLE_COMMAND_STATUS, 0));
+    COUNT("oatcastle_take, 37 bytes", oatcastle_supervisor_take(&supervisor, room, sizeof room, &taken));
+    for (uint32_t i = 0; i < 40; i++)
+        data[i] = 0;
+    refused |= oatcastle_supervisor_receive(&supervisor, image, sizeof image, piece, frame(2, OATCASTLE_COMMAND_IMAGE_BLOCK, 40));
+    COUNT("oatcastle_take, an image block", oatcastle_supervisor_take(&supervisor, room, sizeof room, &taken));
+    fill(data, sizeof data);
+    data[0] = OATCASTLE_KEY_DTRACE_CONF;
+    receipts(set, frame(3, OATCASTLE_COMMAND_KEY_SET, 4097));
+}
+
+static void register_calls(void)
+{
+    static oatcastle_signal_answer signal;
+    static oatcastle_flags_answer flags;
+    static oatcastle_record_answer record;
+
+    COUNT("oatcastle_post, no text", oatcastle_supervisor_post(&supervisor, 1, data, 0));
+    COUNT("oatcastle_post, 256 bytes", oatcastle_supervisor_post(&supervisor, 1, data, OATCASTLE_LONGEST_ALERT));
+    COUNT("oatcastle_set_options", oatcastle_supervisor_set_options(&supervisor, OATCASTLE_OPTION_VERBOSE));
+    COUNT("oatcastle_signal", oatcastle_supervisor_signal(&supervisor, &signal));
+    COUNT("oatcastle_flags", oatcastle_supervisor_flags(&supervisor, &flags));
+    COUNT("oatcastle_boot_failure_record, none", oatcastle_supervisor_boot_failure_record(&supervisor, room, sizeof room, &record));
+    COUNT("oatcastle_panic_record, none", oatcastle_supervisor_panic_record(&supervisor, room, sizeof room, &record));
+    refused |= oatcastle_supervisor_receive(&supervisor, image, 0, piece, frame(4, OATCASTLE_COMMAND_BOOT_FAILURE, sizeof data));
+    refused |= oatcastle_supervisor_receive(&supervisor, image, 0, piece, frame(5, OATCASTLE_COMMAND_PANIC, sizeof data));
+    COUNT("oatcastle_boot_failure_record, 512 bytes", oatcastle_supervisor_boot_failure_record(&supervisor, room, sizeof room, &record));
+    COUNT("oatcastle_panic_record, 512 bytes", oatcastle_supervisor_panic_record(&supervisor, room, sizeof room, &record));
+}
+
+/* The settings keys at their longest. */
+static void set_all(void)
+{
+    static const uint32_t longest[] = {OATCASTLE_LONGEST_ETC_SYSTEM, OATCASTLE_LONGEST_DTRACE_CONF, OATCASTLE_LONGEST_WITHDRAWN_KEYS};
+
+    for (uint8_t i = 0; i < 3; i++) {
+        data[0] = OATCASTLE_KEY_ETC_SYSTEM + i;
+        refused |= oatcastle_supervisor_receive(&supervisor, image, 0, piece, frame(6, OATCASTLE_COMMAND_KEY_SET, 1 + longest[i]));
+    }
+}
+
+static void setting_calls(void)
+{
+    static oatcastle_lookup_answer found;
+    static oatcastle_edition_answer edition;
+    static oatcastle_save_answer saved;
+    static oatcastle_restore_answer restored;
+
+    refused |= oatcastle_supervisor_start(&supervisor, start_data);
+    COUNT("oatcastle_save, no setting", oatcastle_supervisor_save(&supervisor, room, sizeof room, &saved));
+    COUNT("oatcastle_restore, no setting", oatcastle_supervisor_restore(&supervisor, room, saved.length, &restored));
+    set_all();
+    COUNT("oatcastle_save, 8,483 bytes", oatcastle_supervisor_save(&supervisor, room, sizeof room, &saved));
+    COUNT("oatcastle_restore, 8,483 bytes", oatcastle_supervisor_restore(&supervisor, room, saved.length, &restored));
+    COUNT("oatcastle_lookup, key 0", oatcastle_supervisor_lookup(&supervisor, OATCASTLE_KEY_PING, 4, room, sizeof room, &found));
+    COUNT("oatcastle_lookup, 4,096 bytes", oatcastle_supervisor_lookup(&supervisor, OATCASTLE_KEY_WITHDRAWN_KEYS, 4096, room, sizeof room, &found));
+    COUNT("oatcastle_edition", oatcastle_supervisor_edition(&supervisor, OATCASTLE_KEY_WITHDRAWN_KEYS, &edition));
+}
+
+static void requester_calls(void)
+{
+    static const uint8_t damaged[] = {2, 0};
+    static oatcastle_requester_request_answer requested;
+    static oatcastle_requester_send_answer sent;
+    static oatcastle_requester_receive_answer received;
+    static oatcastle_requester_state_answer state;
+    uint32_t n;
+
+    COUNT("oatcastle_requester_start", oatcastle_main_end_start(&main_end));
+    COUNT("oatcastle_requester_request, no data", oatcastle_main_end_request(&main_end, 8, data, 0, room, sizeof room, &requested));
+    refused |= oatcastle_main_end_receive(&main_end, damaged, sizeof damaged, &received);
+    COUNT("oatcastle_requester_send, no data", oatcastle_main_end_send(&main_end, room, sizeof room, &sent));
+    n = frame(TOP_BIT | 1, OATCASTLE_REPLY_STATUS, 16);
+    COUNT("oatcastle_requester_receive, 37 bytes", oatcastle_main_end_receive(&main_end, piece, n, &received));
+    COUNT("oatcastle_requester_request, 4,104 bytes", oatcastle_main_end_request(&main_end, 16, data, sizeof data, room, sizeof room, &requested));
+    refused |= oatcastle_main_end_receive(&main_end, damaged, sizeof damaged, &received);
+    COUNT("oatcastle_requester_send, 4,104 bytes", oatcastle_main_end_send(&main_end, room, sizeof room, &sent));
+    n = frame(TOP_BIT | 2, OATCASTLE_REPLY_KEY_LOOKUP, sizeof data);
+    COUNT("oatcastle_requester_receive, 4,104 bytes", oatcastle_main_end_receive(&main_end, piece, n, &received));
+    COUNT("oatcastle_requester_interrupt", oatcastle_main_end_interrupt(&main_end));
+    COUNT("oatcastle_requester_state", oatcastle_main_end_state(&main_end, &state));
+}
+
+static void other_calls(void)
+{
+    static const uint8_t base[OATCASTLE_ADDRESS_LENGTH] = {2, 0, 0, 0, 0xff, 0xf0};
+    static oatcastle_probe list[64];
+    static oatcastle_length indices[64];
+    static uint8_t results[64];
+    static oatcastle_rot_write_answer put;
+    static oatcastle_rot_read_answer read;
+    static oatcastle_rot_crc_answer crc;
+
+    for (uint32_t i = 0; i < 64; i++)
+        indices[i] = i;
+    COUNT("oatcastle_addresses", oatcastle_addresses(base, 8, 3, room, sizeof room));
+    COUNT("oatcastle_plan", oatcastle_plan(base, 8, 3));
+    COUNT("oatcastle_probe_update, 1 part", oatcastle_probe_update(list, 64, indices, 1, results, 1));
+    COUNT("oatcastle_probe_update, 64 parts", oatcastle_probe_update(list, 64, indices, 64, results, 64));
+    COUNT("oatcastle_rot_write, no payload", oatcastle_rot_write(OATCASTLE_ROT_ECHO_REQUEST, data, 0, piece, sizeof piece, &put));
+    COUNT("oatcastle_rot_read, no payload", oatcastle_rot_read(piece, put.length, room, sizeof room, &read));
+    COUNT("oatcastle_rot_write, 512 bytes", oatcastle_rot_write(OATCASTLE_ROT_ECHO_REQUEST, data, 512, piece, sizeof piece, &put));
+    COUNT("oatcastle_rot_read, 512 bytes", oatcastle_rot_read(piece, put.length, room, sizeof room, &read));
+    refused |= oatcastle_rot_write(OATCASTLE_ROT_SINK_REQUEST, data, 512, piece, sizeof piece, &put);
+    COUNT("oatcastle_rot_payload, 512 bytes", oatcastle_rot_payload(piece, put.length, room, sizeof room));
+    COUNT("oatcastle_rot_crc, no byte", oatcastle_rot_crc(data, 0, &crc));
+    COUNT("oatcastle_rot_crc, 512 bytes", oatcastle_rot_crc(data, 512, &crc));
 }
 
 /* 2,000 instructions: 1,000 turns of two. */
@@ -80,18 +281,13 @@ int main(void)
         host_number("2,000 instructions are counted as ", known, ": run with -icount shift=6\n");
         host_end(0);
     }
-    for (uint32_t i = 0; i < sizeof image; i++)
-        image[i] = (uint8_t)(i * 7 + i / 256);
-    refused |= oatcastle_supervisor_start(&supervisor, start_data);
-    request("status request", OATCASTLE_COMMAND_STATUS, 0);
-    request("image block request", OATCASTLE_COMMAND_IMAGE_BLOCK, 40);
-    for (uint32_t i = 0; i < sizeof data; i++)
-        data[i] = (uint8_t)(i * 11 + i / 256);
-    data[0] = 4;
-    request("key set of 4,096 bytes", OATCASTLE_COMMAND_KEY_SET, 4097);
-    for (uint32_t i = 1; i < sizeof data; i++)
-        data[i] = 0;
-    request("key set of 4,096 zeros", OATCASTLE_COMMAND_KEY_SET, 4097);
+    requests();
+    line_calls();
+    receive_calls();
+    register_calls();
+    setting_calls();
+    requester_calls();
+    other_calls();
     if (refused)
         host_text("a call was refused\n");
     host_end(!refused);

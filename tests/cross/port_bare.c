@@ -38,16 +38,16 @@ void port_end(const char *text, int status)
 static int sample(void)
 {
     uint8_t room[64];
-    uint64_t moved[OATCASTLE_TAKE_NUMBERS];
+    oatcastle_take_answer taken = {0};
     uint32_t n = 0;
     int same = oatcastle_supervisor_start(&supervisor, start_data) == OATCASTLE_DONE;
 
     for (uint32_t i = 0; i < sizeof l12; i++) {
         same &= oatcastle_supervisor_receive(&supervisor, 0, 0, &l12[i], 1) == OATCASTLE_DONE;
-        same &= oatcastle_supervisor_take(&supervisor, room, sizeof room, moved) == OATCASTLE_DONE;
-        for (uint32_t j = 0; j < moved[0]; j++, n++)
+        same &= oatcastle_supervisor_take(&supervisor, room, sizeof room, &taken) == OATCASTLE_DONE;
+        for (uint32_t j = 0; j < taken.moved; j++, n++)
             same &= n < sizeof reply && room[j] == reply[n];
-        host_hex(room, (unsigned)moved[0]);
+        host_hex(room, (unsigned)taken.moved);
     }
     return same && n == sizeof reply;
 }

@@ -13,6 +13,7 @@
 
 static FILE *file;
 static uint32_t calls;
+static int open;    /* a call is being made */
 static struct { uint8_t *held; uint32_t size; } slots[SLOTS];
 
 static void put(uint64_t value, unsigned width)
@@ -103,6 +104,11 @@ static void hold(unsigned slot, const void *at, uint64_t size)
 
 void record_call(unsigned place)
 {
+    if (open) {
+        fprintf(stderr, "record: the library calls a function of the header itself, which cannot be told from the program's calls\n");
+        abort();
+    }
+    open = 1;
     calls++;
     put(place, 1);
 }
@@ -121,6 +127,7 @@ void record_lent(unsigned slot, const void *at, uint64_t count, unsigned size, i
 
 void record_answered(uint32_t number)
 {
+    open = 0;
     put(number, 4);
 }
 

@@ -1,7 +1,13 @@
 // Defines the calls with their arguments, the lengths lent with one, and what the model says of one.
-// Assumes the parts of docs/STATE.md and the C interface's counts of numbers.
+// Assumes the parts of docs/STATE.md and the answers of bindings/rust/src/raw.rs, each a C struct of u64 fields alone.
 
+use crate::library::{
+    EditionAnswer, FlagsAnswer, LineReadAnswer, LineTailAnswer, LineWriteAnswer, LookupAnswer, RecordAnswer, RestoreAnswer, SaveAnswer, SignalAnswer,
+    StepAnswer, TakeAnswer,
+};
+use crate::model::Told;
 use crate::plans::Plan;
+use crate::random::Random;
 use crate::state::{FACTORY, LINE, NAMES, OUTBOX, READER, REGISTERS, SETTINGS, START_LENGTH};
 use std::fmt;
 
@@ -59,11 +65,33 @@ impl Call {
     /// How many numbers the answer has.
     pub fn answers(&self) -> usize {
         match self {
-            Call::LineRead { .. } => 7,
-            Call::LineTail { .. } | Call::Lookup { .. } | Call::Edition { .. } | Call::Flags => 2,
-            Call::Step { .. } => 3,
-            Call::LineWrite { .. } | Call::Take | Call::Save | Call::Restore { .. } | Call::Signal => 1,
-            Call::BootFailure | Call::Panic => 4,
+            Call::LineRead { .. } => fields::<LineReadAnswer>(),
+            Call::LineTail { .. } => fields::<LineTailAnswer>(),
+            Call::LineWrite { .. } => fields::<LineWriteAnswer>(),
+            Call::Step { .. } => fields::<StepAnswer>(),
+            Call::Take => fields::<TakeAnswer>(),
+            Call::Lookup { .. } => fields::<LookupAnswer>(),
+            Call::Edition { .. } => fields::<EditionAnswer>(),
+            Call::Save => fields::<SaveAnswer>(),
+            Call::Restore { .. } => fields::<RestoreAnswer>(),
+            Call::Signal => fields::<SignalAnswer>(),
+            Call::Flags => fields::<FlagsAnswer>(),
+            Call::BootFailure | Call::Panic => fields::<RecordAnswer>(),
+            _ => 0,
+        }
+    }
+
+    /// The wire that the call's piece comes from: the line state's (0) or the supervisor's (1).
+    pub fn wire(&self) -> usize {
+        usize::from(!matches!(self, Call::LineRead { part: LINE, .. }))
+    }
+
+    /// How many bytes of its piece the call has read, if it was carried out and answered these numbers.
+    pub fn used(&self, answer: &[u64]) -> usize {
+        match self {
+            Call::LineRead { .. } => answered::<LineReadAnswer>(answer).used as usize,
+            Call::Step { .. } => answered::<StepAnswer>(answer).used as usize,
+            Call::Receive { piece, .. } => piece.len(),
             _ => 0,
         }
     }
@@ -92,8 +120,8 @@ impl fmt::Display for Call {
             Call::Restore { image } => write!(out, "oatcastle_restore({})", hex(image)),
             Call::Signal => write!(out, "oatcastle_signal"),
             Call::Flags => write!(out, "oatcastle_flags"),
-            Call::BootFailure => write!(out, "oatcastle_boot_failure"),
-            Call::Panic => write!(out, "oatcastle_panic"),
+            Call::BootFailure => write!(out, "oatcastle_boot_failure_record"),
+            Call::Panic => write!(out, "oatcastle_panic_record"),
             Call::Addresses { plan } => write!(out, "oatcastle_addresses({plan})"),
             Call::PlanFits { plan } => write!(out, "oatcastle_plan({plan})"),
         }
@@ -105,7 +133,34 @@ impl fmt::Display for Call {
 pub struct Lent {
     pub parts: [usize; 6],
     pub room: usize,
-    pub answer: usize,
+}
+
+fn fields<A>() -> usize {
+    size_of::<A>() / size_of::<u64>()
+}
+
+/// The numbers of an answer in the order of its fields.
+pub fn numbers<A: Copy>(answer: A) -> Vec<u64> {
+    // An answer is a struct of u64 fields alone.
+    unsafe { std::slice::from_raw_parts((&raw const answer).cast(), fields::<A>()) }.to_vec()
+}
+
+/// The answer of these numbers; what is behind them does not matter.
+pub fn answered<A: Copy>(numbers: &[u64]) -> A {
+    assert!(numbers.len() >= fields::<A>());
+    // An answer is a struct of u64 fields alone.
+    unsafe { numbers.as_ptr().cast::<A>().read() }
+}
+
+/// The answer of a step that tells this.
+pub fn step_answer(told: Told) -> StepAnswer {
+    let Told { used, kind, reason, command, key, result } = told;
+    StepAnswer { used: used as u64, kind: kind.into(), reason: reason.into(), command: command.into(), key: key.into(), result: result.into() }
+}
+
+/// Numbers that stand in an answer ahead of a call.
+pub fn pattern(random: &mut Random, count: usize) -> Vec<u64> {
+    (0..count).map(|_| random.next()).collect()
 }
 
 /// What the model says of a call.

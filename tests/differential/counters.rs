@@ -3,7 +3,7 @@
 
 use crate::calls::{Call, Image, Lent};
 use crate::library::{oatcastle_clear_counters, Counters};
-use crate::model::{self, broken, Fault};
+use crate::model::{self, broken, Fault, Told};
 use crate::random::Random;
 use crate::state::{LENGTHS, START_LENGTH};
 use crate::world::World;
@@ -18,7 +18,7 @@ const REASON: usize = 1;
 pub struct Block {
     held: [u32; 11],
     met: [u64; 9],
-    /// Whether the next receive is lent the block.
+    /// Whether the next receive or step is lent the block.
     pub lent: bool,
 }
 
@@ -31,7 +31,7 @@ impl Block {
         self.held[1..].as_mut_ptr().cast()
     }
 
-    /// Before a receive, which is lent the block or not: at times the block is cleared, or its caller gives a counter another value, most of them near the largest.
+    /// Before a receive or a step, which is lent the block or not: at times the block is cleared, or its caller gives a counter another value, most of them near the largest.
     pub fn prepare(&mut self, random: &mut Random, lent: Option<bool>) {
         self.lent = lent.unwrap_or_else(|| random.percent(60));
         if lent.is_some() {
@@ -81,6 +81,21 @@ impl Block {
         }
         if overlong && broken(Fault::CounterOverlongEarly) {
             self.met[REASON + 1] += 1;
+        }
+    }
+
+    /// The frame that a step ended, if one; whether it left an overlong frame unfinished.
+    pub fn count_step(&mut self, told: &Told, overlong: bool) {
+        let times = if broken(Fault::CounterStepNothing) { 0 } else { 1 + u8::from(broken(Fault::CounterStepTwice)) };
+        for _ in 0..times {
+            self.count(&[(told.kind, told.reason)], overlong);
+        }
+    }
+
+    /// A receive or a step that is refused counts nothing, whatever its piece ends.
+    pub fn refuse(&mut self, piece: &[u8]) {
+        if self.lent && piece.contains(&0) && broken(Fault::CounterRefused) {
+            self.met[EMPTY] += 1;
         }
     }
 
@@ -141,15 +156,39 @@ fn expect(world: &World, what: &str, numbers: [u32; 9]) -> Result<(), String> {
     if world.block.held[1..10] == numbers { Ok(()) } else { Err(format!("{what}: {:?}, not {numbers:?}", &world.block.held[1..10])) }
 }
 
-/// Every outcome, in one piece and byte by byte; at 4,294,967,294 and 4,294,967,295; a start in the middle of a frame; a refused call; a frame from before the clear.
+fn no_image() -> Image {
+    Image { which: 0, length: 0 }
+}
+
+fn receive(world: &mut World, piece: &[u8], lent: &Lent) -> Result<(), String> {
+    world.counting = Some(true);
+    let result = world.call(&Call::Receive { image: no_image(), piece: piece.to_vec() }, lent);
+    world.counting = None;
+    result.map(|_| ())
+}
+
+/// Steps until the piece is read, or one is refused.
+fn steps(world: &mut World, piece: &[u8], lent: &Lent) -> Result<(), String> {
+    world.counting = Some(true);
+    let mut rest = piece;
+    while !rest.is_empty() {
+        let call = Call::Step { image: no_image(), piece: rest.to_vec() };
+        let outcome = world.call(&call, lent)?;
+        rest = if outcome.code == 0 { &rest[call.used(&outcome.answer)..] } else { &[] };
+    }
+    world.counting = None;
+    Ok(())
+}
+
+/// The directed cases, by receives and by steps.
 pub fn cases(world: &mut World) -> Result<(), String> {
-    let whole = Lent { parts: LENGTHS, room: 0, answer: 0 };
-    let receive = |world: &mut World, piece: &[u8], lent: &Lent| {
-        world.counting = Some(true);
-        let result = world.call(&Call::Receive { image: Image { which: 0, length: 0 }, piece: piece.to_vec() }, lent);
-        world.counting = None;
-        result
-    };
+    by(world, receive)?;
+    by(world, steps)
+}
+
+/// Every outcome, in one piece and byte by byte; at 4,294,967,294 and 4,294,967,295; a start in the middle of a frame; a refused call; a frame from before the clear.
+fn by(world: &mut World, receive: fn(&mut World, &[u8], &Lent) -> Result<(), String>) -> Result<(), String> {
+    let whole = Lent { parts: LENGTHS, room: 0 };
     let start = |world: &mut World| {
         let mut data = Box::new([0; START_LENGTH]);
         data[0] = 0x41;

@@ -57,12 +57,7 @@ impl World {
         let lent = self.lend(&call);
         let outcome = self.call(&call, &lent)?;
         if outcome.code == 0 {
-            let used = match (&call, outcome.answer.first()) {
-                (Call::Receive { piece, .. }, _) => piece.len(),
-                (_, Some(&used)) => used as usize,
-                _ => 0,
-            };
-            self.advance(1, used);
+            self.advance(1, call.used(&outcome.answer));
         }
         Ok(())
     }
@@ -73,8 +68,8 @@ impl World {
         let call = Call::LineRead { part, piece };
         let lent = self.lend(&call);
         let outcome = self.call(&call, &lent)?;
-        if let (0, Some(&used)) = (outcome.code, outcome.answer.first()) {
-            self.advance(part, used as usize);
+        if outcome.code == 0 {
+            self.advance(part, call.used(&outcome.answer));
             if self.handed[part].is_some() && self.random.percent(70) {
                 let length = self.handed[part].as_ref().map_or(0, Vec::len) as u64;
                 let call = Call::LineData { part, length };
@@ -208,12 +203,7 @@ impl World {
         let lent = self.lend(call);
         let outcome = self.call(call, &lent)?;
         if outcome.code == 0 {
-            match call {
-                Call::LineRead { part, .. } => self.advance(*part, outcome.answer[0] as usize),
-                Call::Step { .. } => self.advance(1, outcome.answer[0] as usize),
-                Call::Receive { piece, .. } => self.advance(1, piece.len()),
-                _ => {}
-            }
+            self.advance(call.wire(), call.used(&outcome.answer));
         }
         Ok(())
     }
@@ -295,6 +285,29 @@ impl World {
         Ok(())
     }
 
+    /// A set of each key, and of one that is none, with values at every limit and next to it.
+    fn set_lengths(&mut self) -> Result<(), String> {
+        for key in 0..=model::PASSPHRASE + 1 {
+            for length in [0, 7, 8, 63, 64, 256, 257, 1024, 1025, 4096, 4097] {
+                let data = [&[key], &self.random.bytes(length)[..]].concat();
+                let piece = model::frame(1, 1, 0x10, &data);
+                self.call(&Call::Step { image: Image { which: 0, length: 0 }, piece }, &Lent { parts: LENGTHS, room: 0 })?;
+            }
+        }
+        Ok(())
+    }
+
+    /// These sets behind a start, and then with every setting at its last edition.
+    fn set_limits(&mut self) -> Result<(), String> {
+        while !self.start()? {}
+        self.set_lengths()?;
+        for (place, _) in state::KEYS {
+            state::put(&mut self.parts[SETTINGS], place + state::EDITION_OFFSET, 4, u64::from(model::LAST_EDITION));
+        }
+        self.mean();
+        self.set_lengths()
+    }
+
     /// The model's state is what the parts hold.
     pub fn mean(&mut self) {
         let [line, reader, outbox, factory, settings, registers] = &self.parts;
@@ -345,7 +358,7 @@ impl World {
             for length in [0, 1, 7, 8, 63, 64, 65535] {
                 state::put(&mut self.parts[SETTINGS], state::PASSPHRASE_OFFSET, 1, held);
                 state::put(&mut self.parts[SETTINGS], state::PASSPHRASE_OFFSET + state::VALUE_LENGTH_OFFSET, 2, length);
-                self.call(&Call::Edition { key: 3 }, &Lent { parts: LENGTHS, room: 0, answer: 2 })?;
+                self.call(&Call::Edition { key: 3 }, &Lent { parts: LENGTHS, room: 0 })?;
             }
         }
         self.parts[SETTINGS] = stored;
@@ -393,10 +406,10 @@ impl World {
         self.wires[1].extend(frame);
         while !self.wires[1].is_empty() {
             let call = Call::Receive { image, piece: vec![self.wires[1][0]] };
-            let whole = Lent { parts: LENGTHS, room: 0, answer: 0 };
+            let whole = Lent { parts: LENGTHS, room: 0 };
             self.call(&call, &whole)?;
             self.advance(1, 1);
-            self.call(&Call::Take, &Lent { room: 5000, answer: 1, ..whole })?;
+            self.call(&Call::Take, &Lent { room: 5000, ..whole })?;
         }
         Ok(())
     }
@@ -430,6 +443,7 @@ impl World {
     pub fn history(&mut self, count: u64) -> Result<(), String> {
         self.sweep()?;
         while !self.line_start(LINE)? {}
+        self.set_limits()?;
         while !self.start()? {}
         while self.tally.calls < count {
             self.act()?;

@@ -166,7 +166,7 @@ pub fn random_image(random: &mut Random, settings: &Settings) -> Vec<u8> {
 
 /// Every prefix of an image with three keys and every other value of each of its bytes; both limits and one above; the papers' edges.
 pub fn cases(world: &mut World) -> Result<(), String> {
-    let whole = Lent { parts: LENGTHS, room: 0, answer: 1 };
+    let whole = Lent { parts: LENGTHS, room: 0 };
     let mut data = Box::new([0; crate::state::START_LENGTH]);
     data[0] = 0x41;
     world.call(&Call::Start { data }, &whole)?;

@@ -1,14 +1,18 @@
 // Defines the root-of-trust link of document 02's item 7 and source document 003 as ordinary Rust, and random calls of it on both sides, compared.
 // Assumes the C functions of include/oatcastle.h; a fault number of the model changes one rule, so that the comparison itself can be tested.
 
-use crate::calls::{hex, same};
-use crate::library;
+use crate::calls::{hex, numbers, pattern, same};
+use crate::library::{self, RotCrcAnswer, RotReadAnswer, RotWriteAnswer};
 use crate::model::{broken, Fault};
 use crate::random::Random;
 
 const LONGEST_PAYLOAD: usize = 512;
 const ECHO_REQUEST: u8 = 2;
 const ECHO_RESPONSE: u8 = 3;
+
+/// Numbers behind an answer, which stay; the longest answer has three.
+const GUARD: usize = 2;
+const MOST_NUMBERS: usize = 3;
 
 /// From so many calls on, the comparison fails if a refusal or a kind of answer did not come up.
 const DEMANDED: u64 = 5_000;
@@ -97,32 +101,34 @@ fn refused(code: u32) -> Expected {
     Expected { code, ..Expected::default() }
 }
 
-/// Bytes to a room and numbers to an answer, or 8.
-fn answered(answer: Vec<u64>, bytes: Vec<u8>, room: usize, places: usize) -> Expected {
-    if room < bytes.len() || places < answer.len() { refused(8) } else { Expected { code: 0, answer, bytes } }
+/// Bytes to a room, or 8, and numbers to an answer.
+fn answered(answer: Vec<u64>, bytes: Vec<u8>, room: usize) -> Expected {
+    if room < bytes.len() { refused(8) } else { Expected { code: 0, answer, bytes } }
 }
 
-fn read(input: &[u8], room: usize, places: usize) -> Expected {
+fn read(input: &[u8], room: usize) -> Expected {
     match judge(input) {
         Read::Refused(code) => refused(code),
-        Read::Nothing => answered(vec![0, 0, 0], Vec::new(), room, places),
+        Read::Nothing => answered(numbers(RotReadAnswer { kind: 0, r#type: 0, length: 0 }), Vec::new(), room),
         Read::Message(ECHO_REQUEST, payload) => {
             let answer = message(ECHO_RESPONSE, &payload);
-            answered(vec![2, 0, answer.len() as u64], answer, room, places)
+            answered(numbers(RotReadAnswer { kind: 2, r#type: 0, length: answer.len() as u64 }), answer, room)
         }
-        Read::Message(kind, payload) => answered(vec![1, kind.into(), payload.len() as u64], Vec::new(), room, places),
+        Read::Message(kind, payload) => {
+            answered(numbers(RotReadAnswer { kind: 1, r#type: kind.into(), length: payload.len() as u64 }), Vec::new(), room)
+        }
     }
 }
 
 fn payload(input: &[u8], room: usize) -> Expected {
     match judge(input) {
         Read::Refused(number) => refused(number),
-        Read::Message(kind, payload) if kind != ECHO_REQUEST => answered(Vec::new(), payload, room, 0),
+        Read::Message(kind, payload) if kind != ECHO_REQUEST => answered(Vec::new(), payload, room),
         _ => Expected::default(),
     }
 }
 
-fn write(kind: u8, payload: &[u8], room: usize, places: usize) -> Expected {
+fn write(kind: u8, payload: &[u8], room: usize) -> Expected {
     if payload.len() > LONGEST_PAYLOAD {
         return refused(23);
     }
@@ -130,7 +136,7 @@ fn write(kind: u8, payload: &[u8], room: usize, places: usize) -> Expected {
         return refused(26);
     }
     let bytes = message(kind, payload);
-    answered(vec![bytes.len() as u64], bytes, room, places)
+    answered(numbers(RotWriteAnswer { length: bytes.len() as u64 }), bytes, room)
 }
 
 /// A message, whole or with one or several things wrong.
@@ -186,31 +192,31 @@ struct Call {
 fn call(random: &mut Random) -> Call {
     let bytes = input(random);
     let kind = if random.percent(90) { 1 + random.below(9) as u8 } else { random.byte() };
-    let places = random.below(5);
     let size = room(random, bytes.len());
     let mut out = random.bytes(size);
-    let mut answer = vec![u64::MAX; places];
+    let stood = pattern(random, MOST_NUMBERS + GUARD);
+    let mut answer = stood.clone();
     let before = out.clone();
     let what = random.below(4);
-    let words = format!("{} type {kind}, input {}, room {size}, answer {places}", ["read", "payload", "write", "crc"][what], hex(&bytes));
+    let words = format!("{} type {kind}, input {}, room {size}", ["read", "payload", "write", "crc"][what], hex(&bytes));
     let (data, long) = (bytes.as_ptr(), bytes.len());
     let model = match what {
-        0 => read(&bytes, size, places),
+        0 => read(&bytes, size),
         1 => payload(&bytes, size),
-        2 => write(kind, &bytes, size, places),
-        _ => answered(vec![crc(&bytes).into()], Vec::new(), 0, places),
+        2 => write(kind, &bytes, size),
+        _ => answered(numbers(RotCrcAnswer { crc: crc(&bytes).into() }), Vec::new(), 0),
     };
-    let (room, answers) = (out.as_mut_ptr(), answer.as_mut_ptr());
-    // The pointers are to slices of these lengths.
+    let (room, numbers) = (out.as_mut_ptr(), answer.as_mut_ptr());
+    // The pointers are to slices of these lengths, and to as many numbers as the longest answer has.
     let code = unsafe {
         match what {
-            0 => library::oatcastle_rot_read(data, long, room, size, answers, places),
+            0 => library::oatcastle_rot_read(data, long, room, size, numbers.cast()),
             1 => library::oatcastle_rot_payload(data, long, room, size),
-            2 => library::oatcastle_rot_write(kind, data, long, room, size, answers, places),
-            _ => library::oatcastle_rot_crc(data, long, answers, places),
+            2 => library::oatcastle_rot_write(kind, data, long, room, size, numbers.cast()),
+            _ => library::oatcastle_rot_crc(data, long, numbers.cast()),
         }
     };
-    Call { words, model, code, answers: [vec![u64::MAX; places], answer], rooms: [before, out] }
+    Call { words, model, code, answers: [stood, answer], rooms: [before, out] }
 }
 
 fn compared(call: &Call) -> Result<(), String> {
@@ -218,7 +224,10 @@ fn compared(call: &Call) -> Result<(), String> {
     if *code != model.code {
         return Err(format!("{words}: the model says {}, the library {code}", model.code));
     }
-    let numbers = [&model.answer[..], &before[model.answer.len()..]].concat();
+    let mut numbers = [&model.answer[..], &before[model.answer.len()..]].concat();
+    if broken(Fault::LinkRefusedAnswers) && *code != 0 {
+        numbers[0] = 0;
+    }
     if numbers != *answer {
         return Err(format!("{words}: the model answers {numbers:?}, the library {answer:?}"));
     }

@@ -30,11 +30,11 @@ const DEMANDED_BYTES: u64 = 10_000_000;
 
 /// The library's checksum of a body.
 fn checksum(body: &[u8]) -> u16 {
-    let mut answer = [u64::MAX];
-    // The pointers are to slices of these lengths.
-    let number = unsafe { library::oatcastle_line_checksum(body.as_ptr(), body.len(), answer.as_mut_ptr(), answer.len()) };
+    let mut answer = library::LineChecksumAnswer { checksum: u64::MAX };
+    // The pointers are to a slice of this length and to an answer.
+    let number = unsafe { library::oatcastle_line_checksum(body.as_ptr(), body.len(), &mut answer) };
     assert_eq!(number, 0);
-    answer[0] as u16
+    u16::try_from(answer.checksum).expect("a checksum has 16 bits")
 }
 
 /// Bodies of every length up to the longest message's, on both sides.
@@ -83,7 +83,7 @@ fn samples(world: &mut World) -> Result<(), String> {
         ("L11", &[1, 0], reason_3),
         ("L12", &status, status_reply.to_vec()),
     ];
-    let whole = Lent { parts: LENGTHS, room: 0, answer: 0 };
+    let whole = Lent { parts: LENGTHS, room: 0 };
     for (name, input, output) in runs {
         let mut data = Box::new([0; START_LENGTH]);
         data[0] = 0x41;
@@ -91,7 +91,7 @@ fn samples(world: &mut World) -> Result<(), String> {
         let mut taken = Vec::new();
         for &byte in input {
             world.call(&Call::Receive { image: Image { which: 0, length: 0 }, piece: vec![byte] }, &whole)?;
-            taken.extend(world.call(&Call::Take, &Lent { room: 5000, answer: 1, ..whole })?.room);
+            taken.extend(world.call(&Call::Take, &Lent { room: 5000, ..whole })?.room);
         }
         same(name, &output, &taken)?;
     }

@@ -10,6 +10,8 @@ pub const SHORTEST_MESSAGE: usize = 19;
 pub const LONGEST_MESSAGE: usize = 4123;
 pub const LONGEST_DATA: usize = 4104;
 pub const TOP_BIT: u64 = 1 << 63;
+/// The commands of requests.
+pub const COMMANDS: [u8; 14] = [0x01, 0x02, 0x03, 0x04, 0x05, 0x06, 0x07, 0x08, 0x09, 0x0a, 0x0d, 0x0e, 0x0f, 0x10];
 pub const MOST_ITEMS: usize = 64;
 /// The longest value of each settings key, from 3 on.
 pub const LONGEST: [usize; 4] = [256, 4096, 4096, 63];
@@ -92,6 +94,12 @@ faults! {
     NineAlerts: "a ninth alert is let through",
     SignalBit0: "the line signal follows bit 0 alone",
     TwelveLast: "8 is tested ahead of 12",
+    RefusedAnswers: "a call that is refused writes its answer",
+    StepCommandBefore: "a step tells the command of the request before",
+    StepFailureTold: "a step tells the command of a request that fails",
+    StepKeyAsResult: "a step tells the key of a set as its result",
+    StepLookupResult: "a step tells the result of a lookup",
+    StepPassphraseHeld: "a step that sets key 6 tells whether a value was held",
     ItemsPastCount: "start tests items past their count",
     Items16: "start takes 16 items at most",
     StartKeepsFlag: "start keeps that a byte was taken and non-zero",
@@ -119,6 +127,7 @@ faults! {
     HeaderBeforeProtocol: "22 is tested ahead of 21",
     TypeBeforeCrc: "26 is tested ahead of 25",
     Payload513: "a payload of 513 bytes is let through",
+    LinkRefusedAnswers: "a call of the root-of-trust link that is refused writes its answer",
     CounterWraps: "a counter goes on from 4,294,967,295 to 0",
     CounterExchanged: "the counters of reasons 5 and 6 are exchanged",
     CounterLineGood: "a message that the line layer finds good is counted as a good request",
@@ -126,6 +135,9 @@ faults! {
     CounterOverlongEarly: "an overlong frame is counted ahead of its 00 too",
     CounterEmptyIgnored: "an empty frame is not counted",
     CounterStartCounts: "what a start drops of a frame is counted",
+    CounterStepNothing: "a counted step counts nothing",
+    CounterStepTwice: "a counted step counts its frame twice",
+    CounterRefused: "a counted call that is refused counts its frame",
     AnyReply: "a good reply under any number is the answer",
     AnyVersion: "a reply of any version is taken",
     FailureHanded: "a decode failure under the newest number is handed out",
@@ -139,14 +151,30 @@ faults! {
     OriginalLost: "a recovery forgets the request that it cuts off",
     OriginalOldNumber: "the request that was cut off goes out under its step's number",
     FourteenForgets: "an interrupt refused as 14 forgets the request",
+    NumbersEndEarly: "the numbers end one below the last",
+    EndMissed: "a recovery goes on without a number",
+    EndKeeps: "a recovery that ends with 14 keeps the request that it cut off",
+    EndSends: "a recovery that ends with 14 leaves a frame to go out",
     OutstandingBeforeLong: "17 is tested ahead of 9",
     RebootOutstanding: "0x01 stays outstanding",
+    StatusAsSequence: "a status stands in the sequence's field too",
+    MainRefusedAnswers: "a call of the main processor's end that is refused writes its answer",
+    StateKeptCommand: "the state tells the command of the request that a recovery cut off",
+    StateNumberBefore: "the state tells the number before the newest",
+    StateNumberIdle: "the state tells the newest number where nothing is outstanding",
+    StateIdleWaiting: "the state is idle while the caller's request is outstanding",
+    StateOtherStep: "the state tells a recovery's acknowledgement as its alert",
+    StateUnsentOnce: "the state tells a frame that is to go out again as sent",
+    StateUnsentIdle: "the state tells that a frame is to go out where nothing is outstanding",
+    StateOriginalWaiting: "the state tells the caller's outstanding request as one that was cut off",
+    StateOriginalAlways: "the state tells of every recovery that it cut a request off",
     KeyTwice: "an image's key equal to the one before is let through",
     OffsetNextField: "an image's length over its limit is found at the field behind it",
     WrittenEarly: "records of an image ahead of a fault are restored",
     MarkNotSummed: "an image's checksum leaves out the record's mark",
     AbsentKept: "a setting that an image lacks stays",
     EditionKept: "a restore keeps the editions",
+    OffsetOfGood: "a restore that is carried out writes an offset",
 }
 
 static FAULT: AtomicUsize = AtomicUsize::new(0);
@@ -625,8 +653,34 @@ impl Touched {
     }
 }
 
+/// What a step tells: bytes read, kind (0 more, 1 empty, 2 request, 3 failure), a failure's reason, a request's command, and key and result of a key set.
+#[derive(Clone, Copy, Debug, Default, PartialEq, Eq)]
+pub struct Told {
+    pub used: usize,
+    pub kind: u8,
+    pub reason: u8,
+    pub command: u8,
+    pub key: u8,
+    pub result: u8,
+}
+
 fn reply_frame(version: u32, sequence: u64, command: u8, data: &[u8]) -> Vec<u8> {
     frame(if broken(Fault::FirstVersionOnly) { 1 } else { version }, sequence, command, data)
+}
+
+/// What is told of a request that was carried out; whether key 6 held a value before is nobody's to know.
+fn told_of(request: &Message, reply: Option<&Reply>, held: bool) -> Told {
+    let told = Told { kind: 2, command: request.command, ..Told::default() };
+    match (request.command, reply) {
+        (0x10, Some(reply)) => {
+            let (key, result) = (request.data[0], reply.data[0]);
+            let leak = broken(Fault::StepPassphraseHeld) && key == PASSPHRASE && held;
+            let result = if broken(Fault::StepKeyAsResult) { key } else { result + u8::from(leak) };
+            Told { key, result, ..told }
+        }
+        (0x0e, Some(reply)) if broken(Fault::StepLookupResult) => Told { result: reply.data[0], ..told },
+        _ => told,
+    }
 }
 
 impl Supervisor {
@@ -640,44 +694,56 @@ impl Supervisor {
         }
     }
 
-    /// Reads up to the piece's end or its first 00: bytes read, kind (0 more, 1 empty, 2 request, 3 failure), reason.
-    pub fn step(&mut self, image: &[u8], piece: &[u8], touched: &mut Touched) -> (usize, u8, u8) {
+    /// Reads up to the piece's end or its first 00.
+    pub fn step(&mut self, image: &[u8], piece: &[u8], touched: &mut Touched) -> Told {
         let (used, ended) = self.reader.read(piece);
-        let answer = match ended {
-            Ended::More => return (used, 0, 0),
+        let told = Told { used, ..Told::default() };
+        match ended {
+            Ended::More => told,
             Ended::Empty => {
                 if broken(Fault::EmptyDiscards) {
                     self.outbox.replace(None);
                     touched.outbox = true;
                 }
-                return (used, 1, 0);
+                Told { kind: 1, ..told }
             }
-            Ended::Message(message) => self.request(&message, image, touched).map(|reply| (message.sequence, reply)),
-            Ended::Failure(failure) => Err((1, failure)),
-        };
-        touched.outbox = true;
-        match answer {
-            Ok((sequence, reply)) => {
-                if reply.is_some() || !broken(Fault::SilentKeeps) {
-                    self.outbox.replace(reply.map(|reply| reply_frame(reply.version, sequence | TOP_BIT, reply.command, &reply.data)));
-                }
-                (used, 2, 0)
-            }
-            Err((version, failure)) => {
-                touched.reasons[usize::from(failure.reason)] += 1;
-                let sequence = failure.sequence.map_or(u64::MAX, |sequence| sequence | TOP_BIT);
-                self.outbox.replace(Some(reply_frame(version, sequence, 2, &[failure.reason])));
-                (used, 3, failure.reason)
-            }
+            Ended::Message(message) => Told { used, ..self.message(&message, image, touched) },
+            Ended::Failure(failure) => Told { used, ..self.fail(1, failure, touched) },
         }
+    }
+
+    /// A message that the line layer finds good: carried out, or answered as a failure.
+    fn message(&mut self, message: &Message, image: &[u8], touched: &mut Touched) -> Told {
+        let held = self.settings[3].value.is_some();
+        let reply = match self.request(message, image, touched) {
+            Ok(reply) => reply,
+            Err((version, failure)) => {
+                let told = self.fail(version, failure, touched);
+                return if broken(Fault::StepFailureTold) { Told { command: message.command, ..told } } else { told };
+            }
+        };
+        let told = told_of(message, reply.as_ref(), held);
+        touched.outbox = true;
+        if reply.is_some() || !broken(Fault::SilentKeeps) {
+            self.outbox.replace(reply.map(|reply| reply_frame(reply.version, message.sequence | TOP_BIT, reply.command, &reply.data)));
+        }
+        told
+    }
+
+    fn fail(&mut self, version: u32, failure: Failure, touched: &mut Touched) -> Told {
+        touched.outbox = true;
+        touched.reasons[usize::from(failure.reason)] += 1;
+        let sequence = failure.sequence.map_or(u64::MAX, |sequence| sequence | TOP_BIT);
+        self.outbox.replace(Some(reply_frame(version, sequence, 2, &[failure.reason])));
+        Told { kind: 3, reason: failure.reason, ..Told::default() }
     }
 
     pub fn receive(&mut self, image: &[u8], piece: &[u8], touched: &mut Touched) {
         let mut rest = piece;
         while !rest.is_empty() {
-            let (used, kind, reason) = self.step(image, rest, touched);
-            touched.ends.push((kind, reason));
-            rest = &rest[used..];
+            let told = self.step(image, rest, touched);
+            touched.ends.push((told.kind, told.reason));
+            rest = &rest[told.used..];
         }
     }
 

@@ -1,17 +1,19 @@
 // Defines the main processor's end of document 02's item 2 as ordinary Rust over typed state, and random calls of it on both sides, compared.
 // Assumes the C functions of include/oatcastle.h and docs/STATE.md for the lent bytes; a fault number of the model changes one rule.
 
-use crate::calls::{hex, same};
-use crate::library;
+use crate::calls::{answered, hex, numbers, pattern, same};
+use crate::library::{self, RequesterReceiveAnswer, RequesterRequestAnswer, RequesterSendAnswer, RequesterStateAnswer};
 use crate::model::{broken, frame, judge, Fault, Message, Reader, LONGEST_DATA, LONGEST_FORM, TOP_BIT};
 use crate::random::Random;
 use crate::state::{self, number, put};
 
-const LAST: u64 = 0x7fff_ffff_ffff_fffe;
+pub const LAST: u64 = 0x7fff_ffff_ffff_fffe;
 const READER_LENGTH: usize = 4142;
 const LENGTH: usize = 4118;
-/// Bytes behind each part.
+/// Bytes behind each part, and numbers behind an answer; the longest answer has ten.
 const TAIL: usize = 9;
+const GUARD: usize = 2;
+const MOST_NUMBERS: usize = 10;
 /// The fields that 12 tests: part, offset, width, values outside; number 0 is outside where one is outstanding.
 const FIELDS: [(usize, usize, usize, &[u64]); 7] = [
     (0, 0, 2, &[4142, 65535]),
@@ -27,48 +29,121 @@ const FIELDS: [(usize, usize, usize, &[u64]); 7] = [
 const DEMANDED: u64 = 20_000;
 
 #[derive(Clone, Copy, Debug, PartialEq, Eq)]
-enum Step {
-    Fetch = 1,
-    Acknowledge = 2,
-    Alert = 3,
+pub enum Step {
+    Fetch,
+    Acknowledge,
+    Alert,
 }
 
 #[derive(Clone, Debug, PartialEq, Eq, Default)]
-struct Requester {
-    newest: u64,
-    step: Option<Step>,
+pub struct Requester {
+    pub newest: u64,
+    pub step: Option<Step>,
     unsent: bool,
+    /// The caller's request: the one outstanding, or in a recovery the one that was cut off.
     kept: Option<(u8, Vec<u8>)>,
 }
 
-enum Handed {
+pub enum Handed {
     Nothing,
     Answer(Message),
     Status(u64, u64),
     Alert(Message),
 }
 
+impl Handed {
+    /// The fields of the answer that are about it.
+    fn answer(&self) -> RequesterReceiveAnswer {
+        let none = RequesterReceiveAnswer::default();
+        let reply = |kind, m: &Message| RequesterReceiveAnswer {
+            kind,
+            sequence: m.sequence,
+            command: m.command.into(),
+            length: m.data.len() as u64,
+            ..none
+        };
+        match self {
+            Handed::Nothing => none,
+            Handed::Answer(message) => reply(1, message),
+            Handed::Status(status, options) => RequesterReceiveAnswer {
+                kind: 2,
+                sequence: if broken(Fault::StatusAsSequence) { *status } else { 0 },
+                status: *status,
+                options: *options,
+                set_bits: if broken(Fault::TwoBitsCounted) { status & 3 } else { *status }.count_ones().into(),
+                ..none
+            },
+            Handed::Alert(message) => reply(3, message),
+        }
+    }
+
+    /// The data of a reply.
+    fn data(self) -> Option<Vec<u8>> {
+        match self {
+            Handed::Answer(message) | Handed::Alert(message) => Some(message.data),
+            _ => None,
+        }
+    }
+}
+
 /// What a frame hands out, and whether 14 ended a recovery.
-type Heard = (Handed, bool);
+pub type Heard = (Handed, bool);
 
 const SILENT: Heard = (Handed::Nothing, false);
 
 impl Requester {
-    fn outstanding(&self) -> Option<(u8, Vec<u8>)> {
+    /// Whether a number is left for a new one.
+    pub fn number_left(&self) -> bool {
+        self.newest < LAST - u64::from(broken(Fault::NumbersEndEarly))
+    }
+
+    /// The command of the one outstanding.
+    fn command(&self) -> Option<u8> {
         match self.step {
-            Some(Step::Fetch) => Some((0x08, Vec::new())),
-            Some(Step::Acknowledge) => Some((0x09, Vec::new())),
-            Some(Step::Alert) => Some((0x0a, Vec::new())),
-            None => self.kept.clone(),
+            Some(Step::Fetch) => Some(0x08),
+            Some(Step::Acknowledge) => Some(0x09),
+            Some(Step::Alert) => Some(0x0a),
+            None => self.kept.as_ref().map(|request| request.0),
         }
     }
 
-    fn to_go_out(&self) -> bool {
-        self.unsent && self.outstanding().is_some()
+    /// Its data: a recovery's steps have none.
+    fn data(&self) -> &[u8] {
+        self.kept.as_ref().filter(|_| self.step.is_none()).map_or(&[], |request| &request.1)
     }
 
-    fn request(&mut self, command: u8, data: &[u8], room: usize) -> Result<Vec<u8>, u32> {
-        let waits = self.outstanding().is_some();
+    fn to_go_out(&self) -> bool {
+        self.unsent && self.command().is_some()
+    }
+
+    /// What is outstanding: nothing, the caller's request, or a recovery's 0x08, 0x09 or 0x0a.
+    pub fn standing(&self) -> RequesterStateAnswer {
+        let Some(command) = self.command().filter(|_| !(broken(Fault::StateIdleWaiting) && self.step.is_none())) else {
+            let number = if broken(Fault::StateNumberIdle) { self.newest } else { 0 };
+            return RequesterStateAnswer { number, unsent: (self.unsent && broken(Fault::StateUnsentIdle)).into(), ..RequesterStateAnswer::default() };
+        };
+        let state = match self.step {
+            None => 1,
+            Some(Step::Fetch) => 2,
+            Some(Step::Acknowledge) if !broken(Fault::StateOtherStep) => 3,
+            Some(_) => 4,
+        };
+        let kept = self.kept.as_ref().filter(|_| broken(Fault::StateKeptCommand));
+        let original = match self.step {
+            None => broken(Fault::StateOriginalWaiting),
+            Some(_) => self.kept.is_some() || broken(Fault::StateOriginalAlways),
+        };
+        RequesterStateAnswer {
+            state,
+            command: kept.map_or(command, |request| request.0).into(),
+            number: self.newest - u64::from(broken(Fault::StateNumberBefore)),
+            unsent: (self.unsent && !(broken(Fault::StateUnsentOnce) && self.step.is_none())).into(),
+            original: original.into(),
+        }
+    }
+
+    pub fn request(&mut self, command: u8, data: &[u8], room: usize) -> Result<Vec<u8>, u32> {
+        let waits = self.command().is_some();
         if broken(Fault::OutstandingBeforeLong) && waits {
             return Err(17);
         }
@@ -78,7 +153,7 @@ impl Requester {
         if waits {
             return Err(17);
         }
-        if self.newest == LAST {
+        if !self.number_left() {
             return Err(14);
         }
         let out = frame(1, self.newest + 1, command, data);
@@ -92,11 +167,11 @@ impl Requester {
         Ok(out)
     }
 
-    fn interrupt(&mut self) -> Result<(), u32> {
+    pub fn interrupt(&mut self) -> Result<(), u32> {
         if self.step.is_some() && !broken(Fault::InterruptAgain) {
             return Ok(());
         }
-        if self.newest == LAST {
+        if !self.number_left() {
             if broken(Fault::FourteenForgets) {
                 self.kept = None;
             }
@@ -111,14 +186,25 @@ impl Requester {
         Ok(())
     }
 
-    fn send(&mut self, room: usize) -> Result<Vec<u8>, u32> {
-        let Some((command, data)) = self.outstanding().filter(|_| self.unsent) else { return Ok(Vec::new()) };
-        let out = frame(1, self.newest, command, &data);
+    pub fn send(&mut self, room: usize) -> Result<Vec<u8>, u32> {
+        let Some(command) = self.command().filter(|_| self.unsent) else { return Ok(Vec::new()) };
+        let out = frame(1, self.newest, command, self.data());
         if room < out.len() {
             return Err(8);
         }
         self.unsent = false;
         Ok(out)
+    }
+
+    /// A recovery and its original end with 14.
+    fn end(&mut self) {
+        let before = self.clone();
+        self.idle();
+        if broken(Fault::EndKeeps) {
+            self.kept = before.kept;
+        } else if broken(Fault::EndSends) {
+            *self = Requester { unsent: true, ..before };
+        }
     }
 
     fn idle(&mut self) {
@@ -127,18 +213,18 @@ impl Requester {
 
     /// A step, or the original, under a new number; without one both end with 14.
     fn anew(&mut self, step: Option<Step>) -> bool {
-        if self.newest == LAST {
-            self.idle();
+        if !self.number_left() && !broken(Fault::EndMissed) {
+            self.end();
             return true;
         }
-        self.newest += u64::from(step.is_some() || !broken(Fault::OriginalOldNumber));
+        self.newest += u64::from(self.number_left() && (step.is_some() || !broken(Fault::OriginalOldNumber)));
         self.step = step;
         self.unsent = true;
         false
     }
 
     fn ground(&mut self) -> Heard {
-        if self.outstanding().is_some() {
+        if self.command().is_some() {
             self.unsent = true;
             self.newest += u64::from(broken(Fault::AgainNewNumber) && self.newest < LAST);
         }
@@ -147,7 +233,7 @@ impl Requester {
 
     /// A frame that is neither empty nor overlong.
     fn hear(&mut self, form: &[u8]) -> Heard {
-        if self.outstanding().is_none() {
+        if self.command().is_none() {
             return SILENT;
         }
         let Ok(message) = judge(form, false) else { return self.ground() };
@@ -176,6 +262,11 @@ impl Requester {
         }
     }
 
+    /// What a receive answers that has read so many bytes.
+    pub fn receive_answer(&self, used: usize, handed: &Handed, ended: bool) -> RequesterReceiveAnswer {
+        RequesterReceiveAnswer { used: used as u64, ended: ended.into(), unsent: self.to_go_out().into(), ..handed.answer() }
+    }
+
     fn fetched(&mut self, message: &Message) -> Heard {
         if message.command != 0x06 || message.data.len() != 16 {
             return self.ground();
@@ -197,7 +288,7 @@ impl Requester {
     }
 
     /// How many bytes of the piece are read, and what is heard.
-    fn receive(&mut self, reader: &mut Reader, piece: &[u8]) -> (usize, Heard) {
+    pub fn receive(&mut self, reader: &mut Reader, piece: &[u8]) -> (usize, Heard) {
         for (at, &byte) in piece.iter().enumerate() {
             if byte == 0 {
                 let done = std::mem::take(reader);
@@ -233,6 +324,7 @@ enum Call {
     Interrupt,
     Send,
     Receive { piece: Vec<u8> },
+    State,
 }
 
 /// What the model says of a call: its number, the numbers of its answer, the bytes of its room, the data of a reply.
@@ -255,6 +347,8 @@ struct Pair {
     met: [u64; 18],
     kinds: [u64; 4],
     ended: u64,
+    /// By the state that was told.
+    states: [u64; 5],
 }
 
 impl Pair {
@@ -275,22 +369,13 @@ impl Pair {
     }
 
     /// What the model says; a refusal leaves it as it was.
-    fn model(&mut self, call: &Call, lent: [usize; 2], room: usize, places: usize) -> Expected {
-        if !self.valid(lent, call) {
-            return Expected { code: 12, ..Expected::default() };
-        }
-        let (before, reader) = (self.requester.clone(), self.reader.clone());
-        let mut outcome = self.carried_out(call, room);
-        if outcome.code == 0 && places < outcome.answer.len() {
-            outcome = Expected { code: 8, ..Expected::default() };
-            (self.requester, self.reader) = (before, reader);
-        }
-        outcome
+    fn model(&mut self, call: &Call, lent: [usize; 2], room: usize) -> Expected {
+        if self.valid(lent, call) { self.carried_out(call, room) } else { Expected { code: 12, ..Expected::default() } }
     }
 
     fn carried_out(&mut self, call: &Call, room: usize) -> Expected {
-        let put = |out: Result<Vec<u8>, u32>| match out {
-            Ok(bytes) => Expected { answer: vec![bytes.len() as u64], room: bytes, ..Expected::default() },
+        let put = |out: Result<Vec<u8>, u32>, answer: fn(u64) -> Vec<u64>| match out {
+            Ok(bytes) => Expected { answer: answer(bytes.len() as u64), room: bytes, ..Expected::default() },
             Err(code) => Expected { code, ..Expected::default() },
         };
         match call {
@@ -298,21 +383,17 @@ impl Pair {
                 (self.reader, self.requester) = (Reader::default(), Requester::default());
                 Expected::default()
             }
-            Call::Request { command, data } => put(self.requester.request(*command, data, room)),
+            Call::Request { command, data } => {
+                put(self.requester.request(*command, data, room), |length| numbers(RequesterRequestAnswer { length }))
+            }
             Call::Interrupt => Expected { code: self.requester.interrupt().err().unwrap_or(0), ..Expected::default() },
-            Call::Send => put(self.requester.send(room)),
+            Call::Send => put(self.requester.send(room), |length| numbers(RequesterSendAnswer { length })),
             Call::Receive { piece } => {
                 let (used, (handed, ended)) = self.requester.receive(&mut self.reader, piece);
-                let count = |status: u64| if broken(Fault::TwoBitsCounted) { (status & 3).count_ones() } else { status.count_ones() };
-                let (kind, rest, data) = match handed {
-                    Handed::Nothing => (0, [0, 0, 0], None),
-                    Handed::Answer(m) => (1, [m.sequence, m.command.into(), m.data.len() as u64], Some(m.data)),
-                    Handed::Status(status, options) => (2, [status, options, count(status).into()], None),
-                    Handed::Alert(m) => (3, [m.sequence, m.command.into(), m.data.len() as u64], Some(m.data)),
-                };
-                let unsent = self.requester.to_go_out();
-                Expected { answer: [&[used as u64, kind, ended.into(), unsent.into()][..], &rest].concat(), data, ..Expected::default() }
+                let said = self.requester.receive_answer(used, &handed, ended);
+                Expected { answer: numbers(said), data: handed.data(), ..Expected::default() }
             }
+            Call::State => Expected { answer: numbers(self.requester.standing()), ..Expected::default() },
         }
     }
 
@@ -320,35 +401,41 @@ impl Pair {
     fn library(&mut self, call: &Call, lent: [usize; 2], room: &mut [u8], answer: &mut [u64]) -> u32 {
         let [reader, requester] = &mut self.parts;
         let (reader, requester) = (reader.as_mut_ptr(), requester.as_mut_ptr());
-        let (out, size, numbers, places) = (room.as_mut_ptr(), room.len(), answer.as_mut_ptr(), answer.len());
-        // The pointers are to slices of at least these lengths.
+        assert!(answer.len() >= MOST_NUMBERS);
+        let (out, size, numbers) = (room.as_mut_ptr(), room.len(), answer.as_mut_ptr());
+        // The pointers are to slices of at least these lengths, and to as many numbers as the longest answer has.
         unsafe {
             match call {
                 Call::Start => library::oatcastle_requester_start(reader, lent[0], requester, lent[1]),
                 Call::Request { command, data } => {
-                    library::oatcastle_requester_request(requester, lent[1], *command, data.as_ptr(), data.len(), out, size, numbers, places)
+                    library::oatcastle_requester_request(requester, lent[1], *command, data.as_ptr(), data.len(), out, size, numbers.cast())
                 }
                 Call::Interrupt => library::oatcastle_requester_interrupt(requester, lent[1]),
-                Call::Send => library::oatcastle_requester_send(requester, lent[1], out, size, numbers, places),
+                Call::Send => library::oatcastle_requester_send(requester, lent[1], out, size, numbers.cast()),
                 Call::Receive { piece } => {
-                    library::oatcastle_requester_receive(piece.as_ptr(), piece.len(), reader, lent[0], requester, lent[1], numbers, places)
+                    library::oatcastle_requester_receive(piece.as_ptr(), piece.len(), reader, lent[0], requester, lent[1], numbers.cast())
                 }
+                Call::State => library::oatcastle_requester_state(requester, lent[1], numbers.cast()),
             }
         }
     }
 
     /// One call on both sides; what it answers, writes and leaves is compared.
-    fn call(&mut self, call: &Call, lent: [usize; 2], room: usize, places: usize) -> Result<Expected, String> {
-        let words = words(call, lent, room, places);
+    fn call(&mut self, call: &Call, lent: [usize; 2], room: usize) -> Result<Expected, String> {
+        let words = words(call, lent, room);
         let before = self.parts.clone();
         let old_room = self.random.bytes(room);
-        let (mut out, mut answer) = (old_room.clone(), vec![u64::MAX; places]);
-        let outcome = self.model(call, lent, room, places);
+        let stood = pattern(&mut self.random, MOST_NUMBERS + GUARD);
+        let (mut out, mut answer) = (old_room.clone(), stood.clone());
+        let outcome = self.model(call, lent, room);
         let code = self.library(call, lent, &mut out, &mut answer);
         if code != outcome.code {
             return Err(format!("{words}: the model says {}, the library {code}", outcome.code));
         }
-        let numbers = [&outcome.answer[..], &vec![u64::MAX; places][outcome.answer.len()..]].concat();
+        let mut numbers = [&outcome.answer[..], &stood[outcome.answer.len()..]].concat();
+        if broken(Fault::MainRefusedAnswers) && code != 0 {
+            numbers[0] = 0;
+        }
         if numbers != answer {
             return Err(format!("{words}: the model answers {numbers:x?}, the library {answer:x?}"));
         }
@@ -358,16 +445,28 @@ impl Pair {
             self.handed_out(&words, data)?;
         }
         self.met[code as usize] += 1;
-        if let [_, kind, ended, ..] = outcome.answer[..] {
-            self.kinds[kind as usize] += 1;
-            self.ended += ended;
+        if code == 0 {
+            self.noted(call, &answer);
         }
         Ok(outcome)
     }
 
-    /// What a call leaves: all of it where it is refused, else what the parts mean and the bytes past them.
+    /// What a call that was carried out has answered.
+    fn noted(&mut self, call: &Call, answer: &[u64]) {
+        match call {
+            Call::Receive { .. } => {
+                let said: RequesterReceiveAnswer = answered(answer);
+                self.kinds[said.kind as usize] += 1;
+                self.ended += said.ended;
+            }
+            Call::State => self.states[answered::<RequesterStateAnswer>(answer).state as usize] += 1,
+            _ => {}
+        }
+    }
+
+    /// What a call leaves: all of it where it is refused or asks for the state, else what the parts mean and the bytes past them.
     fn left(&self, words: &str, call: &Call, refused: bool, before: &[Vec<u8>; 2]) -> Result<(), String> {
-        let kept = if refused { [0, 0] } else { [READER_LENGTH, LENGTH] };
+        let kept = if refused || matches!(call, Call::State) { [0, 0] } else { [READER_LENGTH, LENGTH] };
         for part in 0..2 {
             same(&format!("{words}: part {part}"), &before[part][kept[part]..], &self.parts[part][kept[part]..])?;
         }
@@ -447,7 +546,7 @@ impl Pair {
     }
 
     fn any_call(&mut self) -> Call {
-        match self.random.below(20) {
+        match self.random.below(24) {
             0 => Call::Start,
             1..=4 => {
                 let any = self.random.byte();
@@ -458,11 +557,12 @@ impl Pair {
             }
             5 | 6 => Call::Interrupt,
             7..=10 => Call::Send,
+            11..=14 => Call::State,
             _ => Call::Receive { piece: self.piece() },
         }
     }
 
-    /// A call of chance, with rooms and answers long and short.
+    /// A call of chance, with rooms long and short.
     fn turn(&mut self) -> Result<(), String> {
         let call = self.any_call();
         let short = [READER_LENGTH - 1, LENGTH - 1];
@@ -473,11 +573,10 @@ impl Pair {
         }
         let any = self.random.below(60);
         let room = self.random.pick(&[4141, 4141, 4141, 4200, 20, 21, any]);
-        let places = if self.random.percent(92) { 7 + self.random.below(2) } else { self.random.below(7) };
-        let outcome = self.call(&call, lent, room, places)?;
-        if let (Call::Receive { .. }, [used, ..]) = (&call, &outcome.answer[..]) {
-            let used = (*used as usize).min(self.wire.len());
-            self.wire.drain(..used);
+        let outcome = self.call(&call, lent, room)?;
+        if matches!(call, Call::Receive { .. }) && outcome.code == 0 {
+            let used = answered::<RequesterReceiveAnswer>(&outcome.answer).used as usize;
+            self.wire.drain(..used.min(self.wire.len()));
         }
         if matches!(call, Call::Start) && outcome.code == 0 && self.random.percent(40) {
             let newest = LAST - self.random.below(6) as u64;
@@ -491,31 +590,54 @@ impl Pair {
     fn outside(&mut self) -> Result<(), String> {
         let (part, place, width, values) = self.random.pick(&FIELDS);
         let value = self.random.pick(values);
-        if (part, place, value) == (1, 0, 0) && self.requester.outstanding().is_none() {
+        if (part, place, value) == (1, 0, 0) && self.requester.command().is_none() {
             return Ok(());
         }
         let held = number(&self.parts[part], place, width);
         put(&mut self.parts[part], place, width, value);
         let piece = vec![1, 0];
-        for call in [Call::Request { command: 8, data: Vec::new() }, Call::Interrupt, Call::Send, Call::Receive { piece }] {
+        for call in [Call::Request { command: 8, data: Vec::new() }, Call::Interrupt, Call::Send, Call::Receive { piece }, Call::State] {
             if part == 1 || matches!(call, Call::Receive { .. }) {
-                self.call(&call, [READER_LENGTH, LENGTH], 4141, 7)?;
+                self.call(&call, [READER_LENGTH, LENGTH], 4141)?;
             }
         }
         put(&mut self.parts[part], place, width, held);
         Ok(())
     }
+
+    /// Both parts get random bytes with allowed values in their fields, and the state is asked for.
+    fn scatter(&mut self) -> Result<(), String> {
+        let random = &mut self.random;
+        self.parts = [random.bytes(READER_LENGTH + TAIL), random.bytes(LENGTH + TAIL)];
+        let (any, other) = (random.next(), random.below(4105) as u64);
+        let outstanding = random.percent(80);
+        put(&mut self.parts[0], 0, 2, random.pick(&[0, other, 4140, 4141]));
+        let fields = [
+            (0, 8, random.pick(&[1, LAST - 1, LAST, 1 + any % LAST, u64::from(outstanding)])),
+            (8, 1, if outstanding { random.below(4) as u64 } else { 0 }),
+            (9, 1, random.below(2) as u64),
+            (10, 1, if outstanding { random.below(2) as u64 } else { 0 }),
+            (11, 1, random.pick(&[0x00, 0x08, 0x09, 0x0a, 0x0e, 0xff])),
+            (12, 2, random.pick(&[0, other, 4104])),
+        ];
+        for (place, width, value) in fields {
+            put(&mut self.parts[1], place, width, value);
+        }
+        (self.reader, self.requester) = (state::reader(&self.parts[0]), meaning(&self.parts[1]));
+        self.call(&Call::State, [READER_LENGTH, LENGTH], 0).map(|_| ())
+    }
 }
 
-fn words(call: &Call, lent: [usize; 2], room: usize, places: usize) -> String {
+fn words(call: &Call, lent: [usize; 2], room: usize) -> String {
     let what = match call {
         Call::Start => "start".to_string(),
         Call::Request { command, data } => format!("request {command:#04x} {}", hex(data)),
         Call::Interrupt => "interrupt".to_string(),
         Call::Send => "send".to_string(),
         Call::Receive { piece } => format!("receive {}", hex(piece)),
+        Call::State => "state".to_string(),
     };
-    format!("{what}, parts {lent:?}, room {room}, answer {places}")
+    format!("{what}, parts {lent:?}, room {room}")
 }
 
 /// So many random calls of the main processor's end.
@@ -523,17 +645,22 @@ pub fn compare(seed: u64, count: u64, calls: &mut u64) -> Result<(), String> {
     let mut random = Random(seed ^ 0x6d61_696e);
     let parts = [random.bytes(READER_LENGTH + TAIL), random.bytes(LENGTH + TAIL)];
     let (reader, requester) = (Reader::default(), Requester::default());
-    let mut pair = Pair { random, parts, reader, requester, wire: Vec::new(), met: [0; 18], kinds: [0; 4], ended: 0 };
+    let mut pair = Pair { random, parts, reader, requester, wire: Vec::new(), met: [0; 18], kinds: [0; 4], ended: 0, states: [0; 5] };
     let named = |difference, calls: u64| format!("main processor's call {calls}: {difference}");
-    pair.call(&Call::Start, [READER_LENGTH, LENGTH], 0, 0).map_err(|difference| named(difference, *calls))?;
+    pair.call(&Call::Start, [READER_LENGTH, LENGTH], 0).map_err(|difference| named(difference, *calls))?;
     for _ in 0..count {
         *calls += 1;
-        let turn = if pair.random.percent(2) { pair.outside() } else { pair.turn() };
+        let turn = match pair.random.below(100) {
+            0 | 1 => pair.outside(),
+            2 => pair.scatter(),
+            _ => pair.turn(),
+        };
         turn.map_err(|difference| named(difference, *calls))?;
     }
     let missing: Vec<usize> = [0, 8, 9, 12, 14, 17].into_iter().filter(|&code| pair.met[code] == 0).collect();
-    if count >= DEMANDED && (!missing.is_empty() || pair.kinds.contains(&0) || pair.ended == 0) {
-        return Err(format!("main processor's calls: not met {missing:?}, kinds {:?}, recoveries ended {}", pair.kinds, pair.ended));
+    let Pair { kinds, ended, states, .. } = pair;
+    if count >= DEMANDED && (!missing.is_empty() || kinds.contains(&0) || ended == 0 || states.contains(&0)) {
+        return Err(format!("main processor's calls: not met {missing:?}, kinds {kinds:?}, recoveries ended {ended}, states {states:?}"));
     }
     Ok(())
 }

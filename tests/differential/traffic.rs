@@ -1,11 +1,10 @@
 // Defines the random frames that are fed to both sides, and random start data.
 // Assumes the model for forms, checksums and what the supervisor holds.
 
-use crate::model::{body, checksum, cobs, frame, Supervisor, LONGEST, MAGIC, MOST_ITEMS, PASSPHRASE, SHORTEST_PASSPHRASE, TOP_BIT};
+use crate::model::{body, checksum, cobs, frame, Supervisor, COMMANDS, LONGEST, MAGIC, MOST_ITEMS, PASSPHRASE, SHORTEST_PASSPHRASE, TOP_BIT};
 use crate::random::Random;
 use crate::state::{number, put, COUNT_OFFSET, ITEMS_OFFSET, ITEM_DATA_LENGTH, ITEM_LENGTH, START_LENGTH};
 
-const COMMANDS: [u8; 14] = [0x01, 0x02, 0x03, 0x04, 0x05, 0x06, 0x07, 0x08, 0x09, 0x0a, 0x0d, 0x0e, 0x0f, 0x10];
 const VERSIONS: [u32; 2] = [1, 2];
 
 /// A length at a limit, next to one, small, or anywhere up to the last limit.

@@ -1,19 +1,22 @@
 // Defines two supervisors that differ only in key 6's setting: the same calls on both, and the comparison of all that they answer, write and leave.
 // Assumes that no call brings either edition to its end; with a fault of the model, what the model says of each stands for what the library does.
 
-use crate::calls::{same, Call, Lent};
+use crate::calls::{answered, pattern, same, Call, Lent};
+use crate::library::StepAnswer;
 use crate::model::{self, break_rule, Fault, FAULTS, LAST_EDITION, PASSPHRASE, SHORTEST_PASSPHRASE};
 use crate::random::Random;
 use crate::state::{self, LENGTHS, LINE, NAMES, PASSPHRASE_OFFSET, REGISTERS, SETTINGS, START_LENGTH};
 use crate::traffic;
 use crate::world::World;
 
-/// In a run of so many calls key 6 must be made to differ, be asked for by a local call and be stored so often at least.
+/// In a run of so many calls key 6 must be made to differ, be asked for by a local call, be stored and be told by a step so often at least.
 const DEMANDED: u64 = 10_000;
 const DEMANDED_TIMES: u64 = 50;
 
 /// The faults with which an answer tells of key 6.
-const LEAKS: [Fault; 4] = [Fault::PassphraseHandedOut, Fault::PassphraseNoValue, Fault::PassphraseTooLong, Fault::PassphraseEdition];
+const LEAKS: [Fault; 5] = [
+    Fault::PassphraseHandedOut, Fault::PassphraseNoValue, Fault::PassphraseTooLong, Fault::PassphraseEdition, Fault::StepPassphraseHeld,
+];
 
 /// A set or a lookup of key 6.
 fn about_passphrase(random: &mut Random) -> Vec<u8> {
@@ -37,16 +40,17 @@ pub struct Twins {
     /// Bytes of numbers, answers and rooms, and of parts.
     said: u64,
     lent: u64,
-    /// How often the settings were made to differ, key 6 was asked for by a local call, and a call has stored it.
+    /// How often the settings were made to differ, key 6 was asked for by a local call, a call has stored it, and a step has told of a set of it.
     planted: u64,
     asked: u64,
     stored: u64,
+    told: u64,
 }
 
 impl Twins {
     fn new(seed: u64, models: bool) -> Twins {
         let worlds = [World::new(seed, false), World::new(seed, false)];
-        Twins { random: Random(seed ^ 0x7777), worlds, models, calls: 0, said: 0, lent: 0, planted: 0, asked: 0, stored: 0 }
+        Twins { random: Random(seed ^ 0x7777), worlds, models, calls: 0, said: 0, lent: 0, planted: 0, asked: 0, stored: 0, told: 0 }
     }
 
     /// Each twin gets a setting of key 6 of its own: held, of any length and edition far from the end, or not; any bytes stand past it.
@@ -98,16 +102,14 @@ impl Twins {
         let mut fill = Random(seed);
         let mut room = vec![0; lent.room];
         fill.fill(&mut room);
-        let mut answer: Vec<u64> = (0..lent.answer).map(|_| fill.next()).collect();
+        let mut answer = pattern(&mut fill, call.answers());
         world.block.prepare(&mut fill, None);
         if !self.models {
             return (world.library(call, lent, &mut room, &mut answer), answer, room);
         }
         let outcome = world.expect(call, lent);
-        if outcome.code == 0 {
-            room[..outcome.room.len()].copy_from_slice(&outcome.room);
-            answer[..outcome.answer.len()].copy_from_slice(&outcome.answer);
-        }
+        room[..outcome.room.len()].copy_from_slice(&outcome.room);
+        answer[..outcome.answer.len()].copy_from_slice(&outcome.answer);
         (outcome.code, answer, room)
     }
 
@@ -153,11 +155,10 @@ impl Twins {
         if said.0 != 0 {
             return;
         }
+        self.worlds[0].advance(call.wire(), call.used(&said.1));
         match call {
-            Call::LineRead { part, .. } => self.worlds[0].advance(*part, said.1[0] as usize),
-            Call::Step { .. } => self.worlds[0].advance(1, said.1[0] as usize),
-            Call::Receive { piece, .. } => self.worlds[0].advance(1, piece.len()),
             Call::Lookup { key: PASSPHRASE, .. } | Call::Edition { key: PASSPHRASE } => self.asked += 1,
+            Call::Step { .. } => self.told += u64::from(answered::<StepAnswer>(&said.1).key == PASSPHRASE.into()),
             _ => {}
         }
     }
@@ -166,7 +167,7 @@ impl Twins {
     fn begin(&mut self) {
         let mut data = Box::new([0; START_LENGTH]);
         data[0] = 0x41;
-        let whole = Lent { parts: LENGTHS, room: 0, answer: 0 };
+        let whole = Lent { parts: LENGTHS, room: 0 };
         for world in &mut self.worlds {
             for call in [Call::LineStart { part: LINE }, Call::Start { data: data.clone() }] {
                 assert_eq!(world.library(&call, &whole, &mut [], &mut []), 0);
@@ -201,11 +202,11 @@ pub fn compare(seed: u64, count: u64) -> Result<String, String> {
     Twins::new(seed, true).run(count)?;
     let mut twins = Twins::new(seed, false);
     twins.run(count)?;
-    let Twins { calls, said, lent, planted, asked, stored, .. } = twins;
-    if count >= DEMANDED && [planted, asked, stored].iter().any(|&times| times < DEMANDED_TIMES) {
-        return Err(format!("key 6 came up too seldom: made to differ {planted} times, asked for {asked}, stored {stored}"));
+    let Twins { calls, said, lent, planted, asked, stored, told, .. } = twins;
+    if count >= DEMANDED && [planted, asked, stored, told].iter().any(|&times| times < DEMANDED_TIMES) {
+        return Err(format!("key 6 came up too seldom: made to differ {planted} times, asked for {asked}, stored {stored}, told by a step {told}"));
     }
     Ok(format!(
-        "{calls} calls on two supervisors, {said} bytes of answers and rooms and {lent} of parts compared; key 6 made to differ {planted} times, asked for {asked}, stored {stored}"
+        "{calls} calls on two supervisors, {said} bytes of answers and rooms and {lent} of parts compared; key 6 made to differ {planted} times, asked for {asked}, stored {stored}, told by a step {told}"
     ))
 }

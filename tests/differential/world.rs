@@ -1,11 +1,11 @@
 // Defines one call on both sides and the comparison of all that it answers, writes and leaves.
 // Assumes document 01 for the answers, docs/STATE.md for the lent bytes, and the linked library.
 
-use crate::calls::{hex, refused, same, Call, Lent, Outcome};
+use crate::calls::{hex, numbers, pattern, refused, same, step_answer, Call, Lent, Outcome};
 use crate::counters::Block;
 use crate::images;
 use crate::library::*;
-use crate::model::{self, broken, Ended, Fault, Reader, Record, Supervisor, Touched, LONGEST_DATA};
+use crate::model::{self, broken, Ended, Failure, Fault, Message, Reader, Record, Supervisor, Told, Touched, COMMANDS, LONGEST_DATA};
 use crate::plans::ROWS_LENGTH;
 use crate::random::Random;
 use crate::state::{self, DATA_OFFSET, FACTORY, LENGTHS, LINE, NAMES, OUTBOX, READER, REGISTERS, SETTINGS, START_LENGTH};
@@ -31,8 +31,10 @@ pub struct World {
     pub images: Vec<Vec<u8>>,
     pub pristine: Vec<Vec<u8>>,
     pub block: Block,
-    /// Whether a receive is lent the block; none where it is left to chance.
+    /// Whether a receive or a step is lent the block; none where it is left to chance.
     pub counting: Option<bool>,
+    /// The command that a step told last, for the fault that tells it late.
+    told: u8,
     pub tally: Tally,
     pub trace: bool,
 }
@@ -54,6 +56,10 @@ pub struct Tally {
     pub commands: [[u64; 17]; 2],
     /// By the result of a set.
     pub sets: [u64; 5],
+    /// Command and result that a step told.
+    pub told: HashSet<(u8, u8)>,
+    /// Receives and steps, without the block and with it.
+    pub counted: [[u64; 2]; 2],
     pub fields: HashSet<(usize, usize)>,
 }
 
@@ -72,16 +78,27 @@ impl Tally {
             }
         }
         for (before, commands) in self.commands.iter().enumerate() {
-            for command in (1..=16).filter(|&command| command != 0x0b && command != 0x0c) {
-                if commands[command] == 0 {
+            for command in COMMANDS {
+                if commands[usize::from(command)] == 0 {
                     missing += &format!(" command {command:#04x} in version {}", before + 1);
                 }
             }
         }
-        for (result, &times) in self.sets.iter().enumerate() {
+        for (result, &times) in (0..).zip(&self.sets) {
             if times == 0 {
                 missing += &format!(" set result {result}");
             }
+            if !self.told.contains(&(0x10, result)) {
+                missing += &format!(" set result {result} told by a step");
+            }
+        }
+        for command in COMMANDS {
+            if !self.told.contains(&(command, 0)) {
+                missing += &format!(" command {command:#04x} told by a step");
+            }
+        }
+        if self.counted.as_flattened().contains(&0) {
+            missing += " receives and steps with the counter block and without";
         }
         if self.fields.len() < FIELDS {
             missing += &format!(" {} fields", FIELDS - self.fields.len());
@@ -118,6 +135,7 @@ impl World {
             images,
             block: Block::new(),
             counting: None,
+            told: 0,
             tally: Tally::default(),
             trace,
         }
@@ -160,10 +178,6 @@ impl World {
                 _ => random.below(LENGTHS[part]),
             };
         }
-        let mut answer = call.answers() + random.below(3);
-        if random.percent(4) && call.answers() > 0 {
-            answer = random.below(call.answers());
-        }
         let pending = self.supervisor.outbox.pending.len();
         let room = match call {
             Call::Take => match random.below(10) {
@@ -184,18 +198,20 @@ impl World {
                 _ => need + random.below(20),
             },
         };
-        Lent { parts, room, answer }
+        Lent { parts, room }
     }
 
     /// What document 01 says of the call; the model's state moves on unless it is refused.
     pub fn expect(&mut self, call: &Call, lent: &Lent) -> Outcome {
-        let short_answer = lent.answer < call.answers();
-        if broken(Fault::TwelveLast) && short_answer {
+        if broken(Fault::TwelveLast) && lent.room < self.need(call) {
             return refused(8);
         }
         for &part in call.parts() {
             let bytes = &self.parts[part][..lent.parts[part]];
             if bytes.len() < LENGTHS[part] || !call.starts() && !state::valid(part, bytes) {
+                if let Call::Receive { piece, .. } | Call::Step { piece, .. } = call {
+                    self.block.refuse(piece);
+                }
                 return refused(12);
             }
         }
@@ -208,23 +224,21 @@ impl World {
                 outcome.exact.push((*part, self.line_started(*part)));
             }
             Call::LineRead { part, piece } => {
-                if short_answer {
-                    return refused(8);
-                }
                 let (used, ended) = self.line_reader(*part).read(piece);
                 self.handed[*part] = None;
-                let said = match ended {
-                    Ended::More => [0; 6],
-                    Ended::Empty => [1, 0, 0, 0, 0, 0],
-                    Ended::Message(message) => {
-                        let length = message.data.len() as u64;
-                        self.handed[*part] = Some(message.data);
-                        [2, 0, u64::from(message.version), message.sequence, u64::from(message.command), length]
+                let said = LineReadAnswer { used: used as u64, ..LineReadAnswer::default() };
+                outcome.answer = numbers(match ended {
+                    Ended::More => said,
+                    Ended::Empty => LineReadAnswer { kind: 1, ..said },
+                    Ended::Message(Message { version, sequence, command, data }) => {
+                        let length = data.len() as u64;
+                        self.handed[*part] = Some(data);
+                        LineReadAnswer { kind: 2, version: version.into(), sequence, command: command.into(), length, ..said }
                     }
-                    Ended::Failure(failure) => [3, u64::from(failure.reason), 0, failure.sequence.unwrap_or(0), 0, 0],
-                };
-                outcome.answer.push(used as u64);
-                outcome.answer.extend_from_slice(&said);
+                    Ended::Failure(Failure { reason, sequence }) => {
+                        LineReadAnswer { kind: 3, reason: reason.into(), sequence: sequence.unwrap_or(0), ..said }
+                    }
+                });
                 outcome.changed[*part] = !piece.is_empty();
             }
             Call::LineData { part, length } => {
@@ -242,11 +256,8 @@ impl World {
                 }
             }
             Call::LineTail { part } => {
-                if short_answer {
-                    return refused(8);
-                }
                 let reader = self.line_reader(*part);
-                outcome.answer = vec![u64::from(reader.long), reader.bytes.len() as u64];
+                outcome.answer = numbers(LineTailAnswer { longer: reader.long.into(), length: reader.bytes.len() as u64 });
             }
             Call::LineWrite { version, sequence, command, head, rest } => {
                 let data = [&head[..], &rest[..]].concat();
@@ -254,10 +265,10 @@ impl World {
                     return refused(9);
                 }
                 let frame = model::frame(*version, *sequence, *command, &data);
-                if short_answer || lent.room < frame.len() {
+                if lent.room < frame.len() {
                     return refused(8);
                 }
-                outcome.answer = vec![frame.len() as u64];
+                outcome.answer = numbers(LineWriteAnswer { length: frame.len() as u64 });
                 outcome.room = frame;
             }
             Call::Start { data } => {
@@ -284,14 +295,12 @@ impl World {
                 ];
             }
             Call::Receive { image, piece } | Call::Step { image, piece } => {
-                if short_answer {
-                    return refused(8);
-                }
                 let image = &self.pristine[image.which][..image.length];
                 let mut touched = Touched::none();
                 if matches!(call, Call::Step { .. }) {
-                    let (used, kind, reason) = self.supervisor.step(image, piece, &mut touched);
-                    outcome.answer = vec![used as u64, u64::from(kind), u64::from(reason)];
+                    let told = self.supervisor.step(image, piece, &mut touched);
+                    self.block.count_step(&told, self.supervisor.reader.long);
+                    outcome.answer = numbers(step_answer(self.tells(told)));
                 } else {
                     self.supervisor.receive(image, piece, &mut touched);
                     self.block.count(&touched.ends, self.supervisor.reader.long);
@@ -309,11 +318,8 @@ impl World {
                 outcome.changed = [false, !piece.is_empty(), touched.outbox, false, touched.settings, touched.registers];
             }
             Call::Take => {
-                if short_answer {
-                    return refused(8);
-                }
                 outcome.room = self.supervisor.outbox.take(lent.room);
-                outcome.answer = vec![outcome.room.len() as u64];
+                outcome.answer = numbers(TakeAnswer { moved: outcome.room.len() as u64 });
                 outcome.changed[OUTBOX] = !outcome.room.is_empty();
             }
             Call::Post { action, text } => {
@@ -333,63 +339,55 @@ impl World {
             }
             Call::Lookup { key, most } => {
                 let (result, value) = model::lookup(&self.supervisor.factory, &self.supervisor.settings, *key, *most);
-                if short_answer || lent.room < value.len() {
+                if lent.room < value.len() {
                     return refused(8);
                 }
-                outcome.answer = vec![u64::from(result), value.len() as u64];
+                outcome.answer = numbers(LookupAnswer { result: result.into(), length: value.len() as u64 });
                 outcome.room = value;
             }
             Call::Edition { key } => {
                 let (result, edition) = model::edition(&self.supervisor.settings, *key);
-                if short_answer {
-                    return refused(8);
-                }
-                outcome.answer = vec![u64::from(result), u64::from(edition)];
+                outcome.answer = numbers(EditionAnswer { result: result.into(), edition: edition.into() });
             }
             Call::Save => {
                 let image = images::saved(&self.supervisor.settings);
-                if short_answer || lent.room < image.len() {
+                if lent.room < image.len() {
                     return refused(8);
                 }
-                outcome.answer = vec![image.len() as u64];
+                outcome.answer = numbers(SaveAnswer { length: image.len() as u64 });
                 outcome.room = image;
             }
             Call::Restore { image } => {
-                if short_answer {
-                    return refused(8);
-                }
                 let (left, result) = images::restored(&self.supervisor.settings, image);
                 outcome.changed[SETTINGS] = result.is_ok() || left != self.supervisor.settings;
                 self.supervisor.settings = left;
                 if let Err((code, offset)) = result {
                     outcome.code = code;
-                    outcome.answer = vec![offset as u64];
+                    outcome.answer = numbers(RestoreAnswer { offset: offset as u64 });
+                } else if broken(Fault::OffsetOfGood) {
+                    outcome.answer = numbers(RestoreAnswer { offset: image.len() as u64 });
                 }
             }
             Call::Signal => {
-                if short_answer {
-                    return refused(8);
-                }
-                outcome.answer = vec![u64::from(self.supervisor.registers.signal())];
+                outcome.answer = numbers(SignalAnswer { asserted: self.supervisor.registers.signal().into() });
             }
             Call::Flags => {
-                if short_answer {
-                    return refused(8);
-                }
                 let registers = &self.supervisor.registers;
-                outcome.answer = vec![u64::from(registers.reboot), u64::from(registers.power_off)];
+                outcome.answer = numbers(FlagsAnswer { reboot: registers.reboot.into(), power_off: registers.power_off.into() });
             }
             Call::BootFailure | Call::Panic => {
                 let record = self.record(call).cloned();
                 let kept = record.as_ref().map_or(0, |record| record.kept.len());
-                if short_answer || lent.room < kept {
+                if lent.room < kept {
                     return refused(8);
                 }
-                outcome.answer = vec![0; 4];
-                if let Some(record) = record {
-                    outcome.answer = vec![1, u64::from(record.code), record.length as u64, kept as u64];
-                    outcome.room = record.kept;
-                }
+                outcome.answer = numbers(record.as_ref().map_or(RecordAnswer::default(), |record| RecordAnswer {
+                    present: 1,
+                    code: record.code.into(),
+                    length: record.length as u64,
+                    kept: kept as u64,
+                }));
+                outcome.room = record.map_or(Vec::new(), |record| record.kept);
             }
             Call::Addresses { plan } => {
                 if lent.room < ROWS_LENGTH {
@@ -406,6 +404,13 @@ impl World {
         outcome
     }
 
+    /// What a step tells; the fault that tells a command late needs the one before.
+    fn tells(&mut self, told: Told) -> Told {
+        let before = std::mem::replace(&mut self.told, told.command);
+        self.tally.told.insert((told.command, told.result));
+        if broken(Fault::StepCommandBefore) && told.kind == 2 { Told { command: before, ..told } } else { told }
+    }
+
     /// A line reader's part just after its start.
     fn line_started(&self, part: usize) -> Vec<u8> {
         let mut bytes = self.parts[part][..LENGTHS[part]].to_vec();
@@ -416,14 +421,14 @@ impl World {
     pub fn library(&mut self, call: &Call, lent: &Lent, room: &mut [u8], answer: &mut [u64]) -> u32 {
         let [line, reader, outbox, factory, settings, registers] = &mut self.parts;
         let [line_n, reader_n, outbox_n, factory_n, settings_n, registers_n] = lent.parts;
-        let (room_n, answer_n) = (lent.room, lent.answer);
-        let (room, answer) = (room.as_mut_ptr(), answer.as_mut_ptr());
+        assert!(answer.len() >= call.answers());
+        let (room_n, room, answer) = (lent.room, room.as_mut_ptr(), answer.as_mut_ptr());
         let images = &self.images;
         let counters = self.block.pointer();
         let mut either = |part: usize| {
             if part == LINE { (line.as_mut_ptr(), line_n) } else { (reader.as_mut_ptr(), reader_n) }
         };
-        // Every pointer is to the bytes of a live vector at least as long as the length passed with it.
+        // Every pointer is to the bytes of a live vector at least as long as the length passed with it, and `answer` to as many numbers as the answer has.
         unsafe {
             match call {
                 Call::LineStart { part } => {
@@ -432,7 +437,7 @@ impl World {
                 }
                 Call::LineRead { part, piece } => {
                     let (state, n) = either(*part);
-                    oatcastle_line_read(state, n, piece.as_ptr(), piece.len(), answer, answer_n)
+                    oatcastle_line_read(state, n, piece.as_ptr(), piece.len(), answer.cast())
                 }
                 Call::LineData { part, length } => {
                     let (state, n) = either(*part);
@@ -440,10 +445,10 @@ impl World {
                 }
                 Call::LineTail { part } => {
                     let (state, n) = either(*part);
-                    oatcastle_line_tail(state, n, answer, answer_n)
+                    oatcastle_line_tail(state, n, answer.cast())
                 }
                 Call::LineWrite { version, sequence, command, head, rest } => oatcastle_line_write(
-                    *version, *sequence, *command, head.as_ptr(), head.len(), rest.as_ptr(), rest.len(), room, room_n, answer, answer_n,
+                    *version, *sequence, *command, head.as_ptr(), head.len(), rest.as_ptr(), rest.len(), room, room_n, answer.cast(),
                 ),
                 Call::Start { data } => oatcastle_start(
                     data.as_ptr(), reader.as_mut_ptr(), reader_n, outbox.as_mut_ptr(), outbox_n, factory.as_mut_ptr(), factory_n,
@@ -459,30 +464,35 @@ impl World {
                     outbox.as_mut_ptr(), outbox_n, factory.as_ptr(), factory_n, settings.as_mut_ptr(), settings_n,
                     registers.as_mut_ptr(), registers_n,
                 ),
+                Call::Step { image, piece } if self.block.lent => oatcastle_step_counted(
+                    counters, images[image.which].as_ptr(), image.length, piece.as_ptr(), piece.len(), reader.as_mut_ptr(), reader_n,
+                    outbox.as_mut_ptr(), outbox_n, factory.as_ptr(), factory_n, settings.as_mut_ptr(), settings_n,
+                    registers.as_mut_ptr(), registers_n, answer.cast(),
+                ),
                 Call::Step { image, piece } => oatcastle_step(
                     images[image.which].as_ptr(), image.length, piece.as_ptr(), piece.len(), reader.as_mut_ptr(), reader_n,
                     outbox.as_mut_ptr(), outbox_n, factory.as_ptr(), factory_n, settings.as_mut_ptr(), settings_n,
-                    registers.as_mut_ptr(), registers_n, answer, answer_n,
+                    registers.as_mut_ptr(), registers_n, answer.cast(),
                 ),
-                Call::Take => oatcastle_take(outbox.as_mut_ptr(), outbox_n, room, room_n, answer, answer_n),
+                Call::Take => oatcastle_take(outbox.as_mut_ptr(), outbox_n, room, room_n, answer.cast()),
                 Call::Post { action, text } => {
                     oatcastle_post(registers.as_mut_ptr(), registers_n, *action, text.as_ptr(), text.len())
                 }
                 Call::SetOptions { options } => oatcastle_set_options(registers.as_mut_ptr(), registers_n, *options),
                 Call::Lookup { key, most } => oatcastle_lookup(
-                    factory.as_ptr(), factory_n, settings.as_ptr(), settings_n, *key, *most, room, room_n, answer, answer_n,
+                    factory.as_ptr(), factory_n, settings.as_ptr(), settings_n, *key, *most, room, room_n, answer.cast(),
                 ),
                 Call::Edition { key } => {
-                    oatcastle_edition(factory.as_ptr(), factory_n, settings.as_ptr(), settings_n, *key, answer, answer_n)
+                    oatcastle_edition(factory.as_ptr(), factory_n, settings.as_ptr(), settings_n, *key, answer.cast())
                 }
-                Call::Save => oatcastle_save(settings.as_ptr(), settings_n, room, room_n, answer, answer_n),
+                Call::Save => oatcastle_save(settings.as_ptr(), settings_n, room, room_n, answer.cast()),
                 Call::Restore { image } => {
-                    oatcastle_restore(settings.as_mut_ptr(), settings_n, image.as_ptr(), image.len(), answer, answer_n)
+                    oatcastle_restore(settings.as_mut_ptr(), settings_n, image.as_ptr(), image.len(), answer.cast())
                 }
-                Call::Signal => oatcastle_signal(registers.as_ptr(), registers_n, answer, answer_n),
-                Call::Flags => oatcastle_flags(registers.as_ptr(), registers_n, answer, answer_n),
-                Call::BootFailure => oatcastle_boot_failure(registers.as_ptr(), registers_n, room, room_n, answer, answer_n),
-                Call::Panic => oatcastle_panic(registers.as_ptr(), registers_n, room, room_n, answer, answer_n),
+                Call::Signal => oatcastle_signal(registers.as_ptr(), registers_n, answer.cast()),
+                Call::Flags => oatcastle_flags(registers.as_ptr(), registers_n, answer.cast()),
+                Call::BootFailure => oatcastle_boot_failure_record(registers.as_ptr(), registers_n, room, room_n, answer.cast()),
+                Call::Panic => oatcastle_panic_record(registers.as_ptr(), registers_n, room, room_n, answer.cast()),
                 Call::Addresses { plan } => oatcastle_addresses(plan.base.as_ptr(), plan.count, plan.stride, room, room_n),
                 Call::PlanFits { plan } => oatcastle_plan(plan.base.as_ptr(), plan.count, plan.stride),
             }
@@ -504,21 +514,23 @@ impl World {
 
     /// One call on both sides.
     pub fn call(&mut self, call: &Call, lent: &Lent) -> Result<Outcome, String> {
-        if self.trace {
-            println!("call {}: {call}; lent {lent:?}", self.tally.calls + 1);
+        let fed = matches!(call, Call::Receive { .. } | Call::Step { .. });
+        if fed {
+            self.block.prepare(&mut self.random, self.counting);
         }
-        self.compare(call, lent).map_err(|difference| format!("call {}: {call}\n  lent {lent:?}\n  {difference}", self.tally.calls))
+        let block = if fed && self.block.lent { " and the counter block" } else { "" };
+        if self.trace {
+            println!("call {}: {call}; lent {lent:?}{block}", self.tally.calls + 1);
+        }
+        self.compare(call, lent).map_err(|difference| format!("call {}: {call}\n  lent {lent:?}{block}\n  {difference}", self.tally.calls))
     }
 
     fn compare(&mut self, call: &Call, lent: &Lent) -> Result<Outcome, String> {
         let mut room = vec![0; lent.room + GUARD];
         self.random.fill(&mut room);
-        let mut answer: Vec<u64> = (0..lent.answer + GUARD / 8).map(|_| self.random.next()).collect();
+        let mut answer = pattern(&mut self.random, call.answers() + GUARD / 8);
         for (before, part) in self.before.iter_mut().zip(&self.parts) {
             before.copy_from_slice(part);
-        }
-        if matches!(call, Call::Receive { .. }) {
-            self.block.prepare(&mut self.random, self.counting);
         }
         let mut room_expected = room.clone();
         let mut answer_expected = answer.clone();
@@ -526,9 +538,15 @@ impl World {
         // Empty for a refusal, but where a restore tells a fault's offset.
         room_expected[..expected.room.len()].copy_from_slice(&expected.room);
         answer_expected[..expected.answer.len()].copy_from_slice(&expected.answer);
+        if broken(Fault::RefusedAnswers) && expected.code != 0 {
+            answer_expected[..call.answers()].fill(0);
+        }
         // The library gets its own copy of what it may only read.
         let given = call.clone();
         let code = self.library(&given, lent, &mut room, &mut answer);
+        if let Some(kind) = [matches!(call, Call::Receive { .. }), matches!(call, Call::Step { .. })].iter().position(|&fed| fed && code == 0) {
+            self.tally.counted[kind][usize::from(self.block.lent)] += 1;
+        }
         self.tally.calls += 1;
         self.tally.said += 4;
         if code != 0 {

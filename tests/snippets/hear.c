@@ -20,14 +20,14 @@ static void keep(const uint8_t *bytes, size_t count)
     wired += count;
 }
 
-static void say(const uint64_t *numbers, const uint8_t *data)
+static void say(const oatcastle_requester_receive_answer *what, const uint8_t *data)
 {
-    if (numbers[1] == OATCASTLE_ANSWER)
-        printf("answer %02x ", (unsigned)numbers[5]);
-    if (numbers[1] == OATCASTLE_ALERT)
+    if (what->kind == OATCASTLE_ANSWER)
+        printf("answer %02x ", (unsigned)what->command);
+    if (what->kind == OATCASTLE_ALERT)
         printf("alert ");
-    if (numbers[1] != OATCASTLE_STATUS) {
-        print(data, numbers[6]);
+    if (what->kind != OATCASTLE_STATUS) {
+        print(data, what->length);
         printf(" ");
     }
 }
@@ -45,12 +45,12 @@ static uint32_t heard(oatcastle_main_end *end, const char *word)
 static uint32_t interrupted(oatcastle_main_end *end)
 {
     static uint8_t out[OATCASTLE_LONGEST_FRAME];
-    uint64_t put[OATCASTLE_REQUESTER_SEND_NUMBERS];
+    oatcastle_requester_send_answer put;
     uint32_t refusal = oatcastle_main_end_interrupt(end);
     if (refusal == OATCASTLE_DONE)
-        refusal = oatcastle_main_end_send(end, out, sizeof out, put);
+        refusal = oatcastle_main_end_send(end, out, sizeof out, &put);
     if (refusal == OATCASTLE_DONE)
-        keep(out, put[0]);
+        keep(out, put.length);
     return refusal;
 }
 
@@ -58,13 +58,13 @@ static uint32_t asked(oatcastle_main_end *end)
 {
     static const uint8_t lookup[] = {OATCASTLE_KEY_PING, 4, 0};
     static uint8_t out[OATCASTLE_LONGEST_FRAME];
-    uint64_t put[OATCASTLE_REQUESTER_REQUEST_NUMBERS];
+    oatcastle_requester_request_answer put;
     uint32_t refusal = oatcastle_main_end_start(end);
     if (refusal == OATCASTLE_DONE)
-        refusal = oatcastle_main_end_request(end, OATCASTLE_COMMAND_KEY_LOOKUP, lookup, sizeof lookup, out, sizeof out, put);
+        refusal = oatcastle_main_end_request(end, OATCASTLE_COMMAND_KEY_LOOKUP, lookup, sizeof lookup, out, sizeof out, &put);
     wired = 0;
     if (refusal == OATCASTLE_DONE)
-        keep(out, put[0]);
+        keep(out, put.length);
     return refusal;
 }
 

@@ -21,7 +21,13 @@
 //! that a promise rules out, as from a library of another version, the call panics.
 #![no_std]
 #![deny(unsafe_op_in_unsafe_fn, missing_docs, missing_debug_implementations)]
-#![warn(clippy::undocumented_unsafe_blocks, clippy::missing_errors_doc, clippy::missing_panics_doc, clippy::must_use_candidate, clippy::return_self_not_must_use)]
+#![warn(
+    clippy::undocumented_unsafe_blocks,
+    clippy::missing_errors_doc,
+    clippy::missing_panics_doc,
+    clippy::must_use_candidate,
+    clippy::return_self_not_must_use
+)]
 
 mod cell;
 mod limits;
@@ -29,25 +35,35 @@ mod line;
 mod numbers;
 mod plan;
 mod probes;
-#[allow(dead_code)] // data, values and records are handed out as they lie in the parts; the calls that copy them out are there for the tests
+// Data, values and records are handed out as they lie in the parts; the calls that copy them out are there for the tests.
+#[allow(dead_code)]
 mod raw;
+mod reply;
+mod request;
 pub mod requester;
 pub mod rot;
+mod serve;
 mod start;
 mod supervisor;
+mod wire;
 
-pub use cell::StaticCell;
+pub use cell::{Critical, StaticCell};
 pub use limits::{
-    ADDRESS_LENGTH, ADDRESS_ROWS, LONGEST_ALERT, LONGEST_DATA, LONGEST_FRAME, LONGEST_IMAGE, LONGEST_IMAGE_ID, LONGEST_ITEM_DATA,
-    LONGEST_PASSPHRASE, LONGEST_VALUE, MOST_ALERTS, MOST_ITEMS, MOST_KEPT, MOST_PENDING, SHORTEST_PASSPHRASE,
+    ADDRESS_LENGTH, ADDRESS_ROWS, LONGEST_ALERT, LONGEST_BLOCK, LONGEST_DATA, LONGEST_FRAME, LONGEST_IMAGE, LONGEST_IMAGE_ID,
+    LONGEST_ITEM_DATA, LONGEST_PASSPHRASE, LONGEST_VALUE, MOST_ALERTS, MOST_ITEMS, MOST_KEPT, MOST_PENDING, PASSPHRASE_EDITION,
+    PASSPHRASE_LENGTH, PASSPHRASE_RECORD, PASSPHRASE_VALUE, SETTINGS_LENGTH, SHORTEST_PASSPHRASE,
 };
 pub use line::{checksum, write_frame, Failure, LineReader, Message, Read, ReadEnd, ReaderStorage, Tail};
 pub use numbers::{Fault, NotFound, Reason, Refusal};
 pub use plan::AddressPlan;
 pub use probes::update_probes;
 pub use raw::{Counters, Probe};
+pub use reply::{Alert, BadReply, Identity, Reply, Status, Value};
+pub use request::Request;
+pub use serve::{AskError, Uart, Waited};
 pub use start::{Bsu, Item, ItemResult, StartData};
-pub use supervisor::{Flags, Found, ImageFault, Options, Record, Step, StepEnd, Supervisor, SupervisorStorage};
+pub use supervisor::{Carried, Flags, Found, ImageFault, KeySet, Options, Record, Step, StepEnd, Supervisor, SupervisorStorage};
+pub use wire::{Command, Key, NotSet, OptionBit, ReplyCommand, StatusBit};
 
 use raw::Length;
 

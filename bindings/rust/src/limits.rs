@@ -6,7 +6,8 @@
 pub(crate) const READER_LENGTH: usize = 4142;
 pub(crate) const OUTBOX_LENGTH: usize = 4147;
 pub(crate) const FACTORY_LENGTH: usize = 6481;
-pub(crate) const SETTINGS_LENGTH: usize = 8539;
+/// The settings store has so many bytes.
+pub const SETTINGS_LENGTH: usize = 8539;
 pub(crate) const REGISTERS_LENGTH: usize = 3393;
 pub(crate) const REQUESTER_LENGTH: usize = 4118;
 
@@ -30,6 +31,8 @@ pub const MOST_ITEMS: usize = 64;
 pub const LONGEST_IMAGE: usize = 8483;
 /// An item has at most so many bytes of data.
 pub const LONGEST_ITEM_DATA: usize = 64;
+/// A reply has at most so many bytes of the image.
+pub const LONGEST_BLOCK: usize = 4096;
 /// An image ID has at most so many bytes.
 pub const LONGEST_IMAGE_ID: usize = 64;
 /// An address has so many bytes.
@@ -52,28 +55,7 @@ pub const ROT_LONGEST_PAYLOAD: usize = 512;
 /// A message has at most so many bytes.
 pub const ROT_LONGEST_MESSAGE: usize = 520;
 
-// ---- How many numbers each call answers
-
-pub(crate) const LINE_READ_NUMBERS: usize = 7;
-pub(crate) const LINE_TAIL_NUMBERS: usize = 2;
-pub(crate) const LINE_WRITE_NUMBERS: usize = 1;
-pub(crate) const LINE_CHECKSUM_NUMBERS: usize = 1;
-pub(crate) const STEP_NUMBERS: usize = 3;
-pub(crate) const TAKE_NUMBERS: usize = 1;
-pub(crate) const LOOKUP_NUMBERS: usize = 2;
-pub(crate) const EDITION_NUMBERS: usize = 2;
-pub(crate) const SAVE_NUMBERS: usize = 1;
-pub(crate) const RESTORE_NUMBERS: usize = 1;
-pub(crate) const SIGNAL_NUMBERS: usize = 1;
-pub(crate) const FLAGS_NUMBERS: usize = 2;
-pub(crate) const REQUESTER_REQUEST_NUMBERS: usize = 1;
-pub(crate) const REQUESTER_SEND_NUMBERS: usize = 1;
-pub(crate) const REQUESTER_RECEIVE_NUMBERS: usize = 7;
-pub(crate) const ROT_READ_NUMBERS: usize = 3;
-pub(crate) const ROT_WRITE_NUMBERS: usize = 1;
-pub(crate) const ROT_CRC_NUMBERS: usize = 1;
-
-// ---- Kinds in these answers
+// ---- Kinds in the answers
 
 pub(crate) const MORE: u64 = 0;
 pub(crate) const EMPTY: u64 = 1;
@@ -83,6 +65,11 @@ pub(crate) const NOTHING: u64 = 0;
 pub(crate) const ANSWER: u64 = 1;
 pub(crate) const STATUS: u64 = 2;
 pub(crate) const ALERT: u64 = 3;
+pub(crate) const IDLE: u64 = 0;
+pub(crate) const WAITING: u64 = 1;
+pub(crate) const RECOVERY_STATUS: u64 = 2;
+pub(crate) const RECOVERY_ACKNOWLEDGE: u64 = 3;
+pub(crate) const RECOVERY_ALERT: u64 = 4;
 pub(crate) const ROT_NOTHING: u64 = 0;
 pub(crate) const ROT_MESSAGE: u64 = 1;
 pub(crate) const ROT_ECHOED: u64 = 2;
@@ -118,6 +105,14 @@ pub(crate) const MESSAGE_DATA_OFFSET: usize = 19;
 pub(crate) const SETTING_EDITION_OFFSET: usize = 1;
 pub(crate) const SETTING_LENGTH_OFFSET: usize = 5;
 pub(crate) const SETTING_VALUE_OFFSET: usize = 7;
+/// The wireless passphrase's record in the settings store, for the radio's driver: 1 byte, 1 if a value is held, else 0.
+pub const PASSPHRASE_RECORD: usize = 8469;
+/// The passphrase's edition in the settings store: 4 bytes, little-endian.
+pub const PASSPHRASE_EDITION: usize = 8470;
+/// The passphrase's length in the settings store: 2 bytes, little-endian.
+pub const PASSPHRASE_LENGTH: usize = 8474;
+/// The passphrase in the settings store: `LONGEST_PASSPHRASE` bytes, of which as many as its length says count.
+pub const PASSPHRASE_VALUE: usize = 8476;
 /// In the registers.
 pub(crate) const BOOT_FAILURE_OFFSET: usize = 18;
 pub(crate) const PANIC_OFFSET: usize = 535;
@@ -149,4 +144,11 @@ pub(crate) const fn setting_offset(key: usize) -> usize {
 }
 
 const _: () = assert!(setting_offset(usize::MAX) == SETTINGS_LENGTH, "the settings store has one setting behind the other");
+const _: () = assert!(
+    setting_offset(FIRST_SETTING + LONGEST_SETTINGS.len() - 1) == PASSPHRASE_RECORD
+        && PASSPHRASE_VALUE + LONGEST_PASSPHRASE == SETTINGS_LENGTH
+);
+const _: () = assert!(
+    PASSPHRASE_EDITION == PASSPHRASE_RECORD + SETTING_EDITION_OFFSET && PASSPHRASE_LENGTH == PASSPHRASE_RECORD + SETTING_LENGTH_OFFSET
+);
 const _: () = assert!(START_ITEMS + MOST_ITEMS * ITEM_LENGTH == START_ITEM_COUNT, "the start data have one item behind the other");

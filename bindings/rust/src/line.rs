@@ -1,10 +1,7 @@
 //! Defines the line layer's reader and writer.
 //! Assumes the C functions of `raw`, and `docs/STATE.md` for where a message's data lie.
 
-use crate::limits::{
-    EMPTY, FAILURE, LINE_CHECKSUM_NUMBERS, LINE_READ_NUMBERS, LINE_TAIL_NUMBERS, LINE_WRITE_NUMBERS, MESSAGE, MESSAGE_DATA_OFFSET, MORE,
-    READER_LENGTH,
-};
+use crate::limits::{EMPTY, FAILURE, MESSAGE, MESSAGE_DATA_OFFSET, MORE, READER_LENGTH};
 use crate::{checked, done, first, lent, lent_mut, part, raw, ruled_out, Reason, Refusal};
 use core::fmt;
 
@@ -41,7 +38,7 @@ impl fmt::Debug for ReaderStorage {
 /// A line reader in storage that it is lent: it exists only started, and only its own calls write the storage.
 ///
 /// ```
-/// use oatcastle::{write_frame, LineReader, Message, ReadEnd, ReaderStorage, LONGEST_FRAME};
+/// use oatcastle::{write_frame, LineReader, ReadEnd, ReaderStorage, LONGEST_FRAME};
 ///
 /// let mut room = [0; LONGEST_FRAME];
 /// let frame = write_frame(1, 9, 0x55, b"da", b"ta", &mut room)?;
@@ -49,8 +46,8 @@ impl fmt::Debug for ReaderStorage {
 /// let mut storage = ReaderStorage::new();
 /// let mut reader = LineReader::start_in(&mut storage);
 /// assert_eq!(reader.read(&frame[..5]).end, ReadEnd::More);
-/// let read = reader.read(&frame[5..]);
-/// assert_eq!(read.end, ReadEnd::Message(Message { version: 1, sequence: 9, command: 0x55, data: b"data" }));
+/// let ReadEnd::Message(message) = reader.read(&frame[5..]).end else { panic!("no message") };
+/// assert_eq!((message.version, message.sequence, message.command, message.data), (1, 9, 0x55, &b"data"[..]));
 /// # Ok::<(), oatcastle::Refusal>(())
 /// ```
 /// A message is a part of the storage and is gone with the next read; to hold both does not compile:
@@ -80,6 +77,7 @@ impl fmt::Debug for LineReader<'_> {
 
 /// How far a read came.
 #[derive(Clone, Copy, Debug, PartialEq, Eq)]
+#[non_exhaustive]
 #[must_use = "bytes past `used` go in with the next call"]
 pub struct Read<'r> {
     /// How many bytes of the piece were read; the rest goes in with the next read.
@@ -90,6 +88,7 @@ pub struct Read<'r> {
 
 /// What ended a read.
 #[derive(Clone, Copy, Debug, PartialEq, Eq)]
+#[non_exhaustive]
 #[must_use]
 pub enum ReadEnd<'r> {
     /// The frame is not finished.
@@ -104,6 +103,7 @@ pub enum ReadEnd<'r> {
 
 /// A frame that failed.
 #[derive(Clone, Copy, Debug, PartialEq, Eq)]
+#[non_exhaustive]
 #[must_use]
 pub struct Failure {
     /// Why, by the line layer's tests: 1 to 4.
@@ -114,6 +114,7 @@ pub struct Failure {
 
 /// A message; its data are a part of the reader's storage.
 #[derive(Clone, Copy, Debug, PartialEq, Eq)]
+#[non_exhaustive]
 #[must_use]
 pub struct Message<'r> {
     /// Any version.
@@ -128,6 +129,7 @@ pub struct Message<'r> {
 
 /// The bytes of an unfinished frame.
 #[derive(Clone, Copy, Debug, PartialEq, Eq)]
+#[non_exhaustive]
 #[must_use]
 pub enum Tail {
     /// So many have come.
@@ -154,34 +156,36 @@ impl<'s> LineReader<'s> {
 
     /// Reads the piece up to its end or its first 00.
     pub fn read(&mut self, piece: &[u8]) -> Read<'_> {
-        let mut answer = [0; LINE_READ_NUMBERS];
-        let (state, piece, answers) = (lent_mut(&mut self.storage.state), lent(piece), lent_mut(&mut answer));
+        let mut answer = raw::LineReadAnswer::default();
+        let (state, piece) = (lent_mut(&mut self.storage.state), lent(piece));
         // SAFETY: each pointer is valid for the length behind it, and what is written overlaps nothing else.
-        done(unsafe { raw::oatcastle_line_read(state.0, state.1, piece.0, piece.1, answers.0, answers.1) });
-        let [used, kind, reason, version, sequence, command, length] = answer;
-        let end = match kind {
+        done(unsafe { raw::oatcastle_line_read(state.0, state.1, piece.0, piece.1, &mut answer) });
+        let end = match answer.kind {
             MORE => ReadEnd::More,
             EMPTY => ReadEnd::Empty,
             MESSAGE => ReadEnd::Message(Message {
-                version: version as u32,
-                sequence,
-                command: command as u8,
-                data: self.storage.message_data(length),
+                version: answer.version as u32,
+                sequence: answer.sequence,
+                command: answer.command as u8,
+                data: self.storage.message_data(answer.length),
             }),
-            FAILURE => ReadEnd::Failure(failure(reason, sequence)),
+            FAILURE => ReadEnd::Failure(failure(answer.reason, answer.sequence)),
             _ => ruled_out(),
         };
-        Read { used: used as usize, end }
+        Read { used: answer.used as usize, end }
     }
 
     /// What has come of a frame since the last 00.
     pub fn tail(&self) -> Tail {
-        let mut answer = [0; LINE_TAIL_NUMBERS];
-        let (state, answers) = (lent(&self.storage.state), lent_mut(&mut answer));
-        // SAFETY: each pointer is valid for the length behind it, and what is written overlaps nothing else.
-        done(unsafe { raw::oatcastle_line_tail(state.0, state.1, answers.0, answers.1) });
-        let [longer, bytes] = answer;
-        if longer == 0 { Tail::Bytes(bytes as usize) } else { Tail::TooLong }
+        let mut answer = raw::LineTailAnswer::default();
+        let state = lent(&self.storage.state);
+        // SAFETY: the pointer is valid for the length behind it, and the answer overlaps nothing else.
+        done(unsafe { raw::oatcastle_line_tail(state.0, state.1, &mut answer) });
+        if answer.longer == 0 {
+            Tail::Bytes(answer.length as usize)
+        } else {
+            Tail::TooLong
+        }
     }
 }
 
@@ -206,18 +210,12 @@ fn failure(reason: u64, sequence: u64) -> Failure {
 /// assert_eq!(write_frame(1, 1, 8, &[], &[], &mut room[..20]), Err(Refusal::NoRoom));
 /// # Ok::<(), Refusal>(())
 /// ```
-pub fn write_frame<'o>(
-    version: u32, sequence: u64, command: u8, head: &[u8], rest: &[u8], out: &'o mut [u8],
-) -> Result<&'o [u8], Refusal> {
-    let mut answer = [0; LINE_WRITE_NUMBERS];
-    let (head, rest, room, answers) = (lent(head), lent(rest), lent_mut(out), lent_mut(&mut answer));
+pub fn write_frame<'o>(version: u32, sequence: u64, command: u8, head: &[u8], rest: &[u8], out: &'o mut [u8]) -> Result<&'o [u8], Refusal> {
+    let mut answer = raw::LineWriteAnswer::default();
+    let (head, rest, room) = (lent(head), lent(rest), lent_mut(out));
     // SAFETY: each pointer is valid for the length behind it, and what is written overlaps nothing else.
-    checked(unsafe {
-        raw::oatcastle_line_write(
-            version, sequence, command, head.0, head.1, rest.0, rest.1, room.0, room.1, answers.0, answers.1,
-        )
-    })?;
-    Ok(first(out, answer[0]))
+    checked(unsafe { raw::oatcastle_line_write(version, sequence, command, head.0, head.1, rest.0, rest.1, room.0, room.1, &mut answer) })?;
+    Ok(first(out, answer.length))
 }
 
 /// The checksum of a message's body.
@@ -227,9 +225,9 @@ pub fn write_frame<'o>(
 /// ```
 #[must_use]
 pub fn checksum(body: &[u8]) -> u16 {
-    let mut answer = [0; LINE_CHECKSUM_NUMBERS];
-    let (body, answers) = (lent(body), lent_mut(&mut answer));
-    // SAFETY: each pointer is valid for the length behind it, and what is written overlaps nothing else.
-    done(unsafe { raw::oatcastle_line_checksum(body.0, body.1, answers.0, answers.1) });
-    answer[0] as u16
+    let mut answer = raw::LineChecksumAnswer::default();
+    let body = lent(body);
+    // SAFETY: the pointer is valid for the length behind it, and the answer overlaps nothing else.
+    done(unsafe { raw::oatcastle_line_checksum(body.0, body.1, &mut answer) });
+    answer.checksum as u16
 }

@@ -2,22 +2,24 @@
 //! Assumes the C functions of `raw`, and `docs/STATE.md` for where a reply's data lie.
 
 use crate::limits::{
-    ALERT, ANSWER, NOTHING, REQUESTER_LENGTH, REQUESTER_RECEIVE_NUMBERS, REQUESTER_REQUEST_NUMBERS, REQUESTER_SEND_NUMBERS, STATUS,
+    ALERT, ANSWER, IDLE, LONGEST_DATA, NOTHING, RECOVERY_ACKNOWLEDGE, RECOVERY_ALERT, RECOVERY_STATUS, REQUESTER_LENGTH, STATUS, WAITING,
 };
-use crate::{checked, done, first, lent, lent_mut, raw, ruled_out, ReaderStorage, Refusal};
+use crate::{checked, done, first, lent, lent_mut, raw, ruled_out, Message, ReaderStorage, Refusal, Request, Status};
 use core::fmt;
 
-/// Storage for one main processor's end: a reader's part and its own, which may be a `static`.
+/// Storage for one main processor's end: a reader's part, its own, and room to put a request's data together; it may be a `static`. The data of a request,
+/// a passphrase too, stay there until others overwrite them.
 pub struct RequesterStorage {
-    reader: ReaderStorage,
+    pub(crate) reader: ReaderStorage,
     requester: [u8; REQUESTER_LENGTH],
+    data: [u8; LONGEST_DATA],
 }
 
 impl RequesterStorage {
     /// Storage in which nothing has started.
     #[must_use]
     pub const fn new() -> RequesterStorage {
-        RequesterStorage { reader: ReaderStorage::new(), requester: [0; REQUESTER_LENGTH] }
+        RequesterStorage { reader: ReaderStorage::new(), requester: [0; REQUESTER_LENGTH], data: [0; LONGEST_DATA] }
     }
 }
 
@@ -36,26 +38,29 @@ impl fmt::Debug for RequesterStorage {
 /// The main processor's end in storage that it is lent: it exists only started, and only its own calls write the storage.
 ///
 /// ```
-/// use oatcastle::requester::{Handed, Requester, RequesterStorage};
-/// use oatcastle::{Bsu, StartData, Supervisor, SupervisorStorage, LONGEST_FRAME, MOST_PENDING};
+/// use oatcastle::requester::{Handed, Requester, RequesterStorage, State};
+/// use oatcastle::{Bsu, Key, Reply, Request, StartData, Supervisor, SupervisorStorage, LONGEST_FRAME, MOST_PENDING};
 ///
 /// let (mut near, mut far) = (RequesterStorage::new(), SupervisorStorage::new());
 /// let mut main = Requester::start_in(&mut near);
 /// let mut supervisor = Supervisor::start_in(&mut far, &StartData::new(Bsu::A));
 ///
 /// let mut room = [0; LONGEST_FRAME];
-/// supervisor.receive(&[], main.request(0x0e, &[0, 4, 0], &mut room)?);    // a lookup of key 0
+/// supervisor.receive(&[], main.request(&Request::lookup(Key::Ping, 4), &mut room)?);
 /// let mut room = [0; MOST_PENDING];
-/// let (mut piece, mut answer) = (supervisor.take(&mut room), None);
+/// let (mut piece, mut found) = (supervisor.take(&mut room), None);
 /// while !piece.is_empty() {
 ///     let received = main.receive(piece);                                 // up to a frame's end
 ///     piece = &piece[received.used..];
-///     if let Handed::Answer(reply) = received.handed {
-///         answer = Some((reply.command, reply.data.to_vec()));
+///     if let Handed::Answer(message) = received.handed {
+///         if let Reply::KeyLookup(Ok(value)) = message.reply()? {
+///             found = Some(value.value.to_vec());
+///         }
 ///     }
 /// }
-/// assert_eq!(answer, Some((0x0a, b"\0pong".to_vec())));
-/// # Ok::<(), oatcastle::Refusal>(())
+/// assert_eq!(found, Some(b"pong".to_vec()));
+/// assert_eq!(main.state(), State::Idle);
+/// # Ok::<(), Box<dyn std::error::Error>>(())
 /// ```
 /// What a piece brought is not to be dropped; where warnings are errors, this does not compile:
 /// ```compile_fail
@@ -73,7 +78,7 @@ impl fmt::Debug for RequesterStorage {
 /// # }
 /// ```
 pub struct Requester<'s> {
-    storage: &'s mut RequesterStorage,
+    pub(crate) storage: &'s mut RequesterStorage,
 }
 
 impl fmt::Debug for Requester<'_> {
@@ -84,6 +89,7 @@ impl fmt::Debug for Requester<'_> {
 
 /// What came of a piece.
 #[derive(Clone, Copy, Debug, PartialEq, Eq)]
+#[non_exhaustive]
 #[must_use = "bytes past `used` go in with the next call, and what is handed out is gone with it"]
 pub struct Received<'r> {
     /// How many bytes of the piece were read; the rest goes in with the next call.
@@ -98,40 +104,57 @@ pub struct Received<'r> {
 
 /// What is handed out.
 #[derive(Clone, Copy, Debug, PartialEq, Eq)]
+#[non_exhaustive]
 #[must_use]
 pub enum Handed<'r> {
     /// Nothing.
     Nothing,
-    /// The answer to the outstanding request, which is settled.
-    Answer(Reply<'r>),
+    /// The answer to the outstanding request, which is settled: a message of version 1 under the request's number with the top bit set, with any command but 0x02.
+    Answer(Message<'r>),
     /// What a recovery's fetch read.
     Status(Status),
-    /// The answer to a recovery's 0x0a.
-    Alert(Reply<'r>),
+    /// The answer to a recovery's 0x0a, of which the same holds.
+    Alert(Message<'r>),
 }
 
-/// What a recovery's fetch read.
+/// What the main processor's end is doing.
 #[derive(Clone, Copy, Debug, PartialEq, Eq)]
+#[non_exhaustive]
 #[must_use]
-pub struct Status {
-    /// The supervisor's status.
-    pub status: u64,
-    /// Its startup options.
-    pub options: u64,
-    /// How many bits of the status are set.
-    pub set_bits: u32,
+pub enum State {
+    /// Nothing is outstanding: no request is refused as `Outstanding`.
+    Idle,
+    /// The caller's request is outstanding.
+    Waiting(Outstanding),
+    /// A recovery's status request, 0x08, is outstanding.
+    RecoveryStatus(Outstanding),
+    /// A recovery's start acknowledged, 0x09, is outstanding.
+    RecoveryAcknowledge(Outstanding),
+    /// A recovery's alert request, 0x0a, is outstanding.
+    RecoveryAlert(Outstanding),
 }
 
-/// A reply; its data are a part of the storage.
+impl State {
+    /// Whether a recovery is under way.
+    #[must_use]
+    pub const fn recovering(&self) -> bool {
+        matches!(self, State::RecoveryStatus(_) | State::RecoveryAcknowledge(_) | State::RecoveryAlert(_))
+    }
+}
+
+/// The request that is outstanding.
 #[derive(Clone, Copy, Debug, PartialEq, Eq)]
+#[non_exhaustive]
 #[must_use]
-pub struct Reply<'r> {
-    /// The request's number with the top bit set.
-    pub sequence: u64,
-    /// Any command but 0x02.
+pub struct Outstanding {
+    /// Its command.
     pub command: u8,
-    /// At most `LONGEST_DATA` bytes.
-    pub data: &'r [u8],
+    /// Its sequence.
+    pub number: u64,
+    /// Its frame is to go out by `send`.
+    pub unsent: bool,
+    /// In a recovery: a request that was cut off goes out anew behind it.
+    pub original: bool,
 }
 
 impl<'s> Requester<'s> {
@@ -158,17 +181,15 @@ impl<'s> Requester<'s> {
     ///
     /// `TooLong` where there are more than `LONGEST_DATA` bytes of data, `Outstanding` where a request is outstanding or a recovery under way,
     /// `NoNumber` where no number is left, `NoRoom` where `out` is shorter than the frame. A refused request takes no number.
-    pub fn request<'o>(&mut self, command: u8, data: &[u8], out: &'o mut [u8]) -> Result<&'o [u8], Refusal> {
-        let mut answer = [0; REQUESTER_REQUEST_NUMBERS];
-        let (requester, data) = (lent_mut(&mut self.storage.requester), lent(data));
-        let (room, answers) = (lent_mut(out), lent_mut(&mut answer));
+    pub fn request<'o>(&mut self, request: &Request<'_>, out: &'o mut [u8]) -> Result<&'o [u8], Refusal> {
+        let mut answer = raw::RequesterRequestAnswer::default();
+        let RequesterStorage { requester, data, .. } = &mut *self.storage;
+        let (requester, data, room) = (lent_mut(requester), lent(joined(request, data)?), lent_mut(out));
         // SAFETY: each pointer is valid for the length behind it, and what is written overlaps nothing else.
         checked(unsafe {
-            raw::oatcastle_requester_request(
-                requester.0, requester.1, command, data.0, data.1, room.0, room.1, answers.0, answers.1,
-            )
+            raw::oatcastle_requester_request(requester.0, requester.1, request.command(), data.0, data.1, room.0, room.1, &mut answer)
         })?;
-        Ok(first(out, answer[0]))
+        Ok(first(out, answer.length))
     }
 
     /// Begins a recovery, unless one is under way.
@@ -188,33 +209,68 @@ impl<'s> Requester<'s> {
     ///
     /// `NoRoom` where `out` is shorter than the frame, which is still to go out then.
     pub fn send<'o>(&mut self, out: &'o mut [u8]) -> Result<&'o [u8], Refusal> {
-        let mut answer = [0; REQUESTER_SEND_NUMBERS];
-        let (requester, room, answers) = (lent_mut(&mut self.storage.requester), lent_mut(out), lent_mut(&mut answer));
+        let mut answer = raw::RequesterSendAnswer::default();
+        let (requester, room) = (lent_mut(&mut self.storage.requester), lent_mut(out));
         // SAFETY: each pointer is valid for the length behind it, and no two runs overlap.
-        checked(unsafe { raw::oatcastle_requester_send(requester.0, requester.1, room.0, room.1, answers.0, answers.1) })?;
-        Ok(first(out, answer[0]))
+        checked(unsafe { raw::oatcastle_requester_send(requester.0, requester.1, room.0, room.1, &mut answer) })?;
+        Ok(first(out, answer.length))
     }
 
     /// Reads a piece up to its first 00, a frame's 4,141st byte, or its end.
     pub fn receive(&mut self, piece: &[u8]) -> Received<'_> {
-        let mut answer = [0; REQUESTER_RECEIVE_NUMBERS];
+        let mut answer = raw::RequesterReceiveAnswer::default();
         let (piece, reader) = (lent(piece), lent_mut(&mut self.storage.reader.state));
-        let (requester, answers) = (lent_mut(&mut self.storage.requester), lent_mut(&mut answer));
+        let requester = lent_mut(&mut self.storage.requester);
         // SAFETY: each pointer is valid for the length behind it, and what is written overlaps nothing else.
-        done(unsafe {
-            raw::oatcastle_requester_receive(
-                piece.0, piece.1, reader.0, reader.1, requester.0, requester.1, answers.0, answers.1,
-            )
-        });
-        let [used, kind, ended, unsent, number, second, third] = answer;
-        let reply = || Reply { sequence: number, command: second as u8, data: self.storage.reader.message_data(third) };
-        let handed = match kind {
+        done(unsafe { raw::oatcastle_requester_receive(piece.0, piece.1, reader.0, reader.1, requester.0, requester.1, &mut answer) });
+        let message = || Message {
+            version: 1,
+            sequence: answer.sequence,
+            command: answer.command as u8,
+            data: self.storage.reader.message_data(answer.length),
+        };
+        let handed = match answer.kind {
             NOTHING => Handed::Nothing,
-            ANSWER => Handed::Answer(reply()),
-            STATUS => Handed::Status(Status { status: number, options: second, set_bits: third as u32 }),
-            ALERT => Handed::Alert(reply()),
+            ANSWER => Handed::Answer(message()),
+            STATUS => Handed::Status(Status { status: answer.status, options: answer.options, set_bits: answer.set_bits as u32 }),
+            ALERT => Handed::Alert(message()),
             _ => ruled_out(),
         };
-        Received { used: used as usize, handed, ended: ended == 1, unsent: unsent == 1 }
+        Received { used: answer.used as usize, handed, ended: answer.ended == 1, unsent: answer.unsent == 1 }
     }
+
+    /// What is outstanding.
+    pub fn state(&self) -> State {
+        let mut answer = raw::RequesterStateAnswer::default();
+        let requester = lent(&self.storage.requester);
+        // SAFETY: the pointer is valid for the length behind it, and the answer overlaps nothing else.
+        done(unsafe { raw::oatcastle_requester_state(requester.0, requester.1, &mut answer) });
+        let outstanding = Outstanding {
+            command: answer.command as u8,
+            number: answer.number,
+            unsent: answer.unsent == 1,
+            original: answer.original == 1,
+        };
+        match answer.state {
+            IDLE => State::Idle,
+            WAITING => State::Waiting(outstanding),
+            RECOVERY_STATUS => State::RecoveryStatus(outstanding),
+            RECOVERY_ACKNOWLEDGE => State::RecoveryAcknowledge(outstanding),
+            RECOVERY_ALERT => State::RecoveryAlert(outstanding),
+            _ => ruled_out(),
+        }
+    }
+}
+
+/// A request's data in one run: its rest or its head where the other is empty, else both, put together in the room.
+fn joined<'r>(request: &'r Request<'_>, room: &'r mut [u8; LONGEST_DATA]) -> Result<&'r [u8], Refusal> {
+    let (head, rest) = (request.head(), request.rest());
+    if head.is_empty() || rest.is_empty() {
+        return Ok(if head.is_empty() { rest } else { head });
+    }
+    let data = room.get_mut(..head.len() + rest.len()).ok_or(Refusal::TooLong)?;
+    let (front, back) = data.split_at_mut(head.len());
+    front.copy_from_slice(head);
+    back.copy_from_slice(rest);
+    Ok(data)
 }

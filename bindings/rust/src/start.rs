@@ -2,33 +2,27 @@
 //! Assumes that layout.
 
 use crate::limits::{
-    ITEM_DATA, ITEM_DATA_LENGTH, ITEM_LENGTH, ITEM_NAME, ITEM_RESULT, ITEM_TYPE, LONGEST_IMAGE_ID, LONGEST_ITEM_DATA, MOST_ITEMS, START_BSU,
-    START_IMAGE_HASH, START_IMAGE_ID, START_IMAGE_ID_LENGTH, START_ITEMS, START_ITEM_COUNT, START_LENGTH, START_MAC_BASE, START_MAC_COUNT,
-    START_MAC_STRIDE, START_MODEL, START_REVISION, START_SERIAL,
+    ITEM_DATA, ITEM_DATA_LENGTH, ITEM_LENGTH, ITEM_NAME, ITEM_RESULT, ITEM_TYPE, LONGEST_IMAGE_ID, LONGEST_ITEM_DATA, MOST_ITEMS,
+    START_BSU, START_IMAGE_HASH, START_IMAGE_ID, START_IMAGE_ID_LENGTH, START_ITEMS, START_ITEM_COUNT, START_LENGTH, START_MAC_BASE,
+    START_MAC_COUNT, START_MAC_STRIDE, START_MODEL, START_REVISION, START_SERIAL,
 };
+use crate::numbers::numbered;
 use crate::{AddressPlan, Refusal};
 use core::fmt;
 
-/// The boot storage unit.
-#[derive(Clone, Copy, Debug, PartialEq, Eq)]
-#[repr(u8)]
-pub enum Bsu {
-    /// 0x41.
-    A = 0x41,
-    /// 0x42.
-    B = 0x42,
+numbered! {
+    /// The boot storage unit.
+    Bsu as u8, "boot storage unit":
+    A = 0x41, "the first boot storage unit";
+    B = 0x42, "the second";
 }
 
-/// What asking for an inventory item gives.
-#[derive(Clone, Copy, Debug, PartialEq, Eq)]
-#[repr(u8)]
-pub enum ItemResult {
-    /// Result 0: name, type and data.
-    Found = 0,
-    /// Result 2: name and type alone.
-    Absent = 2,
-    /// Result 3: name and type alone.
-    Failed = 3,
+numbered! {
+    /// What asking for an inventory item gives, where there is one; the number is the one on the wire, where 1 is no such item.
+    ItemResult as u8, "inventory result":
+    Found = 0, "name, type and data follow";
+    Absent = 2, "the part seems absent";
+    Failed = 3, "the part failed otherwise";
 }
 
 /// An inventory item.
@@ -40,7 +34,7 @@ pub struct Item<'d> {
     pub name: [u8; 32],
     /// Its type.
     pub kind: u8,
-    /// At most `LONGEST_ITEM_DATA` bytes.
+    /// At most `LONGEST_ITEM_DATA` bytes; a reply has them where the result is `Found` alone.
     pub data: &'d [u8],
 }
 

@@ -2,13 +2,17 @@
 //! Assumes the C functions of `raw`, and `docs/STATE.md` for where the values lie that are handed out.
 
 use crate::limits::{
-    setting_offset, ALL_OPTIONS, BOOT_FAILURE_OFFSET, EDITION_NUMBERS, EMPTY, FACTORY_LENGTH, FAILURE, FLAGS_NUMBERS, LOOKUP_NUMBERS, MESSAGE, MORE,
-    MOST_KEPT, OUTBOX_LENGTH, PANIC_OFFSET, PONG_OFFSET, READER_LENGTH, RECORD_CODE_OFFSET, RECORD_KEPT_OFFSET, RECORD_WHOLE_OFFSET,
-    REGISTERS_LENGTH, RESTORE_NUMBERS, SAVE_NUMBERS, SETTINGS_LENGTH, SETTING_EDITION_OFFSET, SETTING_LENGTH_OFFSET, SETTING_VALUE_OFFSET, SIGNAL_NUMBERS, START_IMAGE_ID,
-    START_IMAGE_ID_LENGTH, START_ITEM_COUNT, STEP_NUMBERS, TAKE_NUMBERS,
+    setting_offset, ALL_OPTIONS, BOOT_FAILURE_OFFSET, EMPTY, FACTORY_LENGTH, FAILURE, MESSAGE, MORE, MOST_KEPT, OUTBOX_LENGTH,
+    PANIC_OFFSET, PONG_OFFSET, READER_LENGTH, RECORD_CODE_OFFSET, RECORD_KEPT_OFFSET, RECORD_WHOLE_OFFSET, REGISTERS_LENGTH,
+    SETTINGS_LENGTH, SETTING_EDITION_OFFSET, SETTING_LENGTH_OFFSET, SETTING_VALUE_OFFSET, START_IMAGE_ID, START_IMAGE_ID_LENGTH,
+    START_ITEM_COUNT,
 };
 use crate::raw::Length;
-use crate::{checked, done, first, lent, lent_mut, part, raw, ruled_out, Counters, Fault, NotFound, Reason, Refusal, StartData};
+use crate::wire::set_result;
+use crate::{
+    checked, done, first, lent, lent_mut, part, raw, ruled_out, Command, Counters, Fault, Key, NotFound, NotSet, OptionBit, Reason,
+    Refusal, StartData,
+};
 use core::fmt;
 use core::num::NonZeroU8;
 
@@ -86,14 +90,12 @@ impl fmt::Debug for SupervisorStorage {
 /// Startup options: bits 0 to 8.
 ///
 /// ```
-/// use oatcastle::Options;
+/// use oatcastle::{OptionBit, Options, Refusal};
 ///
-/// const OPTIONS: Options = Options::NONE.with::<8>().with::<0>();
-/// assert_eq!(OPTIONS.bits(), 257);
-/// ```
-/// A higher bit does not compile:
-/// ```compile_fail,E0080
-/// let options = oatcastle::Options::NONE.with::<9>();
+/// const OPTIONS: Options = Options::NONE.with(OptionBit::Recovery).with(OptionBit::Verbose);
+/// assert_eq!(OPTIONS.bits(), 0x101);
+/// assert!(OPTIONS.has(OptionBit::Verbose) && !OPTIONS.has(OptionBit::Kmdb));
+/// assert_eq!(Options::of(0x200), Err(Refusal::BadValue));
 /// ```
 #[derive(Clone, Copy, Debug, Default, PartialEq, Eq)]
 pub struct Options(u64);
@@ -104,9 +106,14 @@ impl Options {
 
     /// With this bit set.
     #[must_use]
-    pub const fn with<const BIT: u32>(self) -> Options {
-        const { assert!(1 << BIT & ALL_OPTIONS != 0, "the highest option bit is 8") }
-        Options(self.0 | 1 << BIT)
+    pub const fn with(self, bit: OptionBit) -> Options {
+        Options(self.0 | bit.number())
+    }
+
+    /// Whether this bit is set.
+    #[must_use]
+    pub const fn has(self, bit: OptionBit) -> bool {
+        self.0 & bit.number() != 0
     }
 
     /// The options as a number.
@@ -121,12 +128,17 @@ impl Options {
     ///
     /// `BadValue` where a bit above 8 is set.
     pub const fn of(bits: u64) -> Result<Options, Refusal> {
-        if bits & !ALL_OPTIONS == 0 { Ok(Options(bits)) } else { Err(Refusal::BadValue) }
+        if bits & !ALL_OPTIONS == 0 {
+            Ok(Options(bits))
+        } else {
+            Err(Refusal::BadValue)
+        }
     }
 }
 
 /// How far a step came.
 #[derive(Clone, Copy, Debug, PartialEq, Eq)]
+#[non_exhaustive]
 #[must_use = "bytes past `used` go in with the next call"]
 pub struct Step {
     /// How many bytes of the piece were read; the rest goes in with the next step.
@@ -137,16 +149,50 @@ pub struct Step {
 
 /// What ended a step.
 #[derive(Clone, Copy, Debug, PartialEq, Eq)]
+#[non_exhaustive]
 #[must_use]
 pub enum StepEnd {
     /// The frame is not finished.
     More,
     /// An empty frame.
     Empty,
-    /// A request was done.
-    Request,
+    /// A request was carried out.
+    Request(Carried),
     /// A frame failed and was answered with this reason.
     Failure(Reason),
+}
+
+impl StepEnd {
+    /// The key whose value this step has replaced.
+    #[must_use]
+    pub fn stored(&self) -> Option<Key> {
+        match self {
+            StepEnd::Request(Carried { set: Some(KeySet { key, result: Ok(()) }), .. }) => Key::from_number(*key),
+            _ => None,
+        }
+    }
+}
+
+/// A request that was carried out.
+#[derive(Clone, Copy, Debug, PartialEq, Eq)]
+#[non_exhaustive]
+#[must_use]
+pub struct Carried {
+    /// Its command.
+    pub command: Command,
+    /// Of a key set, its key and its result.
+    pub set: Option<KeySet>,
+}
+
+/// A key set that was carried out.
+#[derive(Clone, Copy, Debug, PartialEq, Eq)]
+#[non_exhaustive]
+#[must_use]
+pub struct KeySet {
+    /// The key as the request has it, which may be none of the supervisor's.
+    pub key: u8,
+    /// Whether the value is stored; the reply says the same.
+    pub result: Result<(), NotSet>,
 }
 
 /// What a lookup found.
@@ -180,6 +226,7 @@ impl core::error::Error for ImageFault {}
 
 /// What the other processor has asked for since the start.
 #[derive(Clone, Copy, Debug, Default, PartialEq, Eq)]
+#[non_exhaustive]
 #[must_use]
 pub struct Flags {
     /// A reboot.
@@ -190,6 +237,7 @@ pub struct Flags {
 
 /// A recorded boot failure or panic.
 #[derive(Clone, Copy, Debug, PartialEq, Eq)]
+#[non_exhaustive]
 #[must_use]
 pub struct Record<'s> {
     /// The reason or the cause.
@@ -217,17 +265,19 @@ impl Counters {
 /// A supervisor in storage that it is lent: it exists only started, and only its own calls write the storage.
 ///
 /// ```
-/// use oatcastle::{write_frame, Bsu, NotFound, StartData, Supervisor, SupervisorStorage, LONGEST_FRAME, LONGEST_VALUE, MOST_PENDING};
+/// use oatcastle::{Bsu, Key, NotFound, Request, StartData, Supervisor, SupervisorStorage, LONGEST_FRAME, MOST_PENDING};
 ///
 /// let mut storage = SupervisorStorage::new();
 /// let mut supervisor = Supervisor::start_in(&mut storage, &StartData::new(Bsu::A));
-/// assert_eq!(supervisor.lookup(3, 256), Err(NotFound::NoValue));
+/// assert_eq!(supervisor.lookup(Key::EtcSystem, 256), Err(NotFound::NoValue));
 ///
 /// let mut room = [0; LONGEST_FRAME];
-/// supervisor.receive(&[], write_frame(1, 1, 0x10, &[3], b"value", &mut room)?);
-/// assert_eq!(supervisor.lookup(3, 256)?.value, b"value");
-/// assert_eq!(supervisor.edition(3), Ok(1));
-/// assert_eq!(supervisor.lookup(3, 4), Err(NotFound::TooLong));
+/// let frame = Request::key_set(Key::EtcSystem, b"value")?.write_frame(1, 1, &mut room)?;
+/// let step = supervisor.step(&[], frame);
+/// assert_eq!((step.used, step.end.stored()), (frame.len(), Some(Key::EtcSystem)));
+/// assert_eq!(supervisor.lookup(Key::EtcSystem, 256)?.value, b"value");
+/// assert_eq!(supervisor.edition(Key::EtcSystem), Ok(1));
+/// assert_eq!(supervisor.lookup(Key::EtcSystem, 4), Err(NotFound::TooLong));
 /// let mut room = [0; MOST_PENDING];
 /// assert_eq!(supervisor.take(&mut room).last(), Some(&0));
 /// # Ok::<(), Box<dyn std::error::Error>>(())
@@ -235,7 +285,7 @@ impl Counters {
 /// A value is a part of the storage: to hold it while the supervisor receives does not compile, nor to let it live longer than the storage.
 /// ```compile_fail,E0502
 /// # fn two(supervisor: &mut oatcastle::Supervisor<'_>) {
-/// let found = supervisor.lookup(3, 256);
+/// let found = supervisor.lookup(oatcastle::Key::EtcSystem, 256);
 /// supervisor.receive(&[], &[0]);
 /// let _ = found.is_ok();
 /// # }
@@ -284,8 +334,17 @@ impl<'s> Supervisor<'s> {
         // SAFETY: the start data have their one length; each other pointer is valid for the length behind it, and no two runs overlap.
         done(unsafe {
             raw::oatcastle_start(
-                data.bytes().as_ptr(), reader.0, reader.1, outbox.0, outbox.1, factory.0, factory.1, settings.0, settings.1,
-                registers.0, registers.1,
+                data.bytes().as_ptr(),
+                reader.0,
+                reader.1,
+                outbox.0,
+                outbox.1,
+                factory.0,
+                factory.1,
+                settings.0,
+                settings.1,
+                registers.0,
+                registers.1,
             )
         });
     }
@@ -297,56 +356,115 @@ impl<'s> Supervisor<'s> {
         // SAFETY: each pointer is valid for the length behind it, and what is written overlaps nothing else.
         done(unsafe {
             raw::oatcastle_receive(
-                image.0, image.1, piece.0, piece.1, reader.0, reader.1, outbox.0, outbox.1, factory.0, factory.1,
-                settings.0, settings.1, registers.0, registers.1,
+                image.0,
+                image.1,
+                piece.0,
+                piece.1,
+                reader.0,
+                reader.1,
+                outbox.0,
+                outbox.1,
+                factory.0,
+                factory.1,
+                settings.0,
+                settings.1,
+                registers.0,
+                registers.1,
             )
         });
     }
 
-    /// Receives the whole piece, and counts every frame whose 00 it brings in the block. Frames that `receive` or `step` read are not counted.
+    /// Receives the whole piece, and counts every frame whose 00 it brings in the block. Frames that calls without a block read are not counted.
     pub fn receive_counted(&mut self, counters: &mut Counters, image: &[u8], piece: &[u8]) {
         let (image, piece) = (lent(image), lent(piece));
         let Parts { reader, outbox, factory, settings, registers } = self.storage.parts();
         // SAFETY: the block is one; each other pointer is valid for the length behind it, and what is written overlaps nothing else.
         done(unsafe {
             raw::oatcastle_receive_counted(
-                counters, image.0, image.1, piece.0, piece.1, reader.0, reader.1, outbox.0, outbox.1, factory.0, factory.1,
-                settings.0, settings.1, registers.0, registers.1,
+                counters,
+                image.0,
+                image.1,
+                piece.0,
+                piece.1,
+                reader.0,
+                reader.1,
+                outbox.0,
+                outbox.1,
+                factory.0,
+                factory.1,
+                settings.0,
+                settings.1,
+                registers.0,
+                registers.1,
             )
         });
     }
 
     /// Receives the piece up to its end or its first 00.
     pub fn step(&mut self, image: &[u8], piece: &[u8]) -> Step {
-        let mut answer = [0; STEP_NUMBERS];
-        let (image, piece, answers) = (lent(image), lent(piece), lent_mut(&mut answer));
+        let mut answer = raw::StepAnswer::default();
+        let (image, piece) = (lent(image), lent(piece));
         let Parts { reader, outbox, factory, settings, registers } = self.storage.parts();
         // SAFETY: each pointer is valid for the length behind it, and what is written overlaps nothing else.
         done(unsafe {
             raw::oatcastle_step(
-                image.0, image.1, piece.0, piece.1, reader.0, reader.1, outbox.0, outbox.1, factory.0, factory.1,
-                settings.0, settings.1, registers.0, registers.1, answers.0, answers.1,
+                image.0,
+                image.1,
+                piece.0,
+                piece.1,
+                reader.0,
+                reader.1,
+                outbox.0,
+                outbox.1,
+                factory.0,
+                factory.1,
+                settings.0,
+                settings.1,
+                registers.0,
+                registers.1,
+                &mut answer,
             )
         });
-        let [used, kind, reason] = answer;
-        let end = match kind {
-            MORE => StepEnd::More,
-            EMPTY => StepEnd::Empty,
-            MESSAGE => StepEnd::Request,
-            FAILURE => StepEnd::Failure(Reason::of(reason).unwrap_or_else(|| ruled_out())),
-            _ => ruled_out(),
-        };
-        Step { used: used as usize, end }
+        stepped(&answer)
+    }
+
+    /// Receives the piece up to its end or its first 00, and counts in the block the frame that it ends. Frames that calls without a block read are not counted.
+    pub fn step_counted(&mut self, counters: &mut Counters, image: &[u8], piece: &[u8]) -> Step {
+        let mut answer = raw::StepAnswer::default();
+        let (image, piece) = (lent(image), lent(piece));
+        let Parts { reader, outbox, factory, settings, registers } = self.storage.parts();
+        // SAFETY: the block is one; each other pointer is valid for the length behind it, and what is written overlaps nothing else.
+        done(unsafe {
+            raw::oatcastle_step_counted(
+                counters,
+                image.0,
+                image.1,
+                piece.0,
+                piece.1,
+                reader.0,
+                reader.1,
+                outbox.0,
+                outbox.1,
+                factory.0,
+                factory.1,
+                settings.0,
+                settings.1,
+                registers.0,
+                registers.1,
+                &mut answer,
+            )
+        });
+        stepped(&answer)
     }
 
     /// Takes as many pending bytes as the room has; gives those taken, at the room's start. A room of `MOST_PENDING` takes all at once.
     #[must_use = "bytes that were taken are no longer pending"]
     pub fn take<'r>(&mut self, room: &'r mut [u8]) -> &'r [u8] {
-        let mut answer = [0; TAKE_NUMBERS];
-        let (outbox, to, answers) = (lent_mut(&mut self.storage.outbox), lent_mut(room), lent_mut(&mut answer));
+        let mut answer = raw::TakeAnswer::default();
+        let (outbox, to) = (lent_mut(&mut self.storage.outbox), lent_mut(room));
         // SAFETY: each pointer is valid for the length behind it, and no two runs overlap.
-        done(unsafe { raw::oatcastle_take(outbox.0, outbox.1, to.0, to.1, answers.0, answers.1) });
-        first(room, answer[0])
+        done(unsafe { raw::oatcastle_take(outbox.0, outbox.1, to.0, to.1, &mut answer) });
+        first(room, answer.moved)
     }
 
     /// Posts an alert.
@@ -380,41 +498,36 @@ impl<'s> Supervisor<'s> {
     ///
     /// # Errors
     ///
-    /// The result of a lookup on the wire, where it is not 0.
-    pub fn lookup(&self, key: u8, maxresponse: u16) -> Result<Found<'_>, NotFound> {
-        let mut answer = [0; LOOKUP_NUMBERS];
-        let (factory, settings) = (lent(&self.storage.factory), lent(&self.storage.settings));
-        let (room, answers) = (lent_mut(&mut []), lent_mut(&mut answer));
+    /// The result of a lookup on the wire, where it is not 0: `NoValue`, `TooLong` or `SetOnly`.
+    pub fn lookup(&self, key: Key, maxresponse: u16) -> Result<Found<'_>, NotFound> {
+        let mut answer = raw::LookupAnswer::default();
+        let (factory, settings, room) = (lent(&self.storage.factory), lent(&self.storage.settings), lent_mut(&mut []));
         // SAFETY: each pointer is valid for the length behind it, and what is written overlaps nothing else.
         let number = unsafe {
-            raw::oatcastle_lookup(
-                factory.0, factory.1, settings.0, settings.1, key, maxresponse, room.0, room.1, answers.0, answers.1,
-            )
+            raw::oatcastle_lookup(factory.0, factory.1, settings.0, settings.1, key.number(), maxresponse, room.0, room.1, &mut answer)
         };
         // No room is lent, so that nothing is copied: a value that has bytes is refused as 8, and the answer stays 0, which is found.
         if number != Refusal::NoRoom.number() {
             done(number);
         }
-        match answer[0] {
-            0 => Ok(self.held(key)),
-            result => Err(NotFound::of(result).unwrap_or_else(|| ruled_out())),
-        }
+        found(answer.result).map(|()| self.held(key))
     }
 
     /// The edition and the value of a key that has one, as they lie in its store.
-    fn held(&self, key: u8) -> Found<'_> {
+    fn held(&self, key: Key) -> Found<'_> {
         let SupervisorStorage { factory, settings, .. } = &*self.storage;
         let of_factory = |offset, length| Found { edition: 0, value: part(factory, offset, length) };
         match key {
-            0 => of_factory(PONG_OFFSET, 4),
-            1 => of_factory(START_IMAGE_ID, factory[START_IMAGE_ID_LENGTH].into()),
-            2 => of_factory(START_ITEM_COUNT, 8),
-            _ => {
-                let setting = setting_offset(key.into());
+            Key::Ping => of_factory(PONG_OFFSET, 4),
+            Key::ImageId => of_factory(START_IMAGE_ID, factory[START_IMAGE_ID_LENGTH].into()),
+            Key::Inventory => of_factory(START_ITEM_COUNT, 8),
+            Key::EtcSystem | Key::DtraceConf | Key::WithdrawnKeys => {
+                let setting = setting_offset(key as usize);
                 let length = number_at(settings, setting + SETTING_LENGTH_OFFSET).into();
                 let edition = u32::from_le_bytes(bytes_at(settings, setting + SETTING_EDITION_OFFSET));
                 Found { edition, value: part(settings, setting + SETTING_VALUE_OFFSET, length) }
             }
+            Key::Passphrase => ruled_out(),
         }
     }
 
@@ -422,16 +535,46 @@ impl<'s> Supervisor<'s> {
     ///
     /// # Errors
     ///
-    /// `BadKey`, `NoValue` or `SetOnly`, as from a lookup.
-    pub fn edition(&self, key: u8) -> Result<u32, NotFound> {
-        let mut answer = [0; EDITION_NUMBERS];
-        let (factory, settings, answers) = (lent(&self.storage.factory), lent(&self.storage.settings), lent_mut(&mut answer));
+    /// `NoValue` or `SetOnly`, as from a lookup.
+    pub fn edition(&self, key: Key) -> Result<u32, NotFound> {
+        let mut answer = raw::EditionAnswer::default();
+        let (factory, settings) = (lent(&self.storage.factory), lent(&self.storage.settings));
         // SAFETY: each pointer is valid for the length behind it, and what is written overlaps nothing else.
-        done(unsafe { raw::oatcastle_edition(factory.0, factory.1, settings.0, settings.1, key, answers.0, answers.1) });
-        match answer[0] {
-            0 => Ok(u32::try_from(answer[1]).unwrap_or_else(|_| ruled_out())),
-            result => Err(NotFound::of(result).filter(|&result| result != NotFound::TooLong).unwrap_or_else(|| ruled_out())),
+        done(unsafe { raw::oatcastle_edition(factory.0, factory.1, settings.0, settings.1, key.number(), &mut answer) });
+        match found(answer.result) {
+            Err(NotFound::TooLong) => ruled_out(),
+            result => result.map(|()| u32::try_from(answer.edition).unwrap_or_else(|_| ruled_out())),
         }
+    }
+
+    /// The settings store as it lies in the storage, for the radio's driver: the wireless passphrase is in it in the clear, at `PASSPHRASE_VALUE`. No
+    /// other call hands out anything that depends on it. `docs/STATE.md` has every field.
+    ///
+    /// ```
+    /// use oatcastle::{Supervisor, LONGEST_PASSPHRASE, PASSPHRASE_LENGTH, PASSPHRASE_RECORD, PASSPHRASE_VALUE};
+    ///
+    /// fn passphrase<'s>(supervisor: &'s Supervisor) -> Option<&'s [u8]> {
+    ///     let store = supervisor.settings_store();
+    ///     let length = u16::from_le_bytes([store[PASSPHRASE_LENGTH], store[PASSPHRASE_LENGTH + 1]]);
+    ///     (store[PASSPHRASE_RECORD] == 1).then(|| &store[PASSPHRASE_VALUE..][..usize::from(length)])
+    /// }
+    /// # use oatcastle::{Bsu, Key, Request, StartData, SupervisorStorage, LONGEST_FRAME};
+    /// # let mut storage = SupervisorStorage::new();
+    /// # let mut supervisor = Supervisor::start_in(&mut storage, &StartData::new(Bsu::A));
+    /// # assert_eq!(passphrase(&supervisor), None);
+    /// # let mut room = [0; LONGEST_FRAME];
+    /// # for length in [8, 20, LONGEST_PASSPHRASE, 9] {
+    /// #     let value = &[b'p'; LONGEST_PASSPHRASE][..length];
+    /// #     supervisor.receive(&[], Request::key_set(Key::Passphrase, value)?.write_frame(1, 1, &mut room)?);
+    /// #     assert_eq!(passphrase(&supervisor), Some(value));
+    /// # }
+    /// # supervisor.restart(&StartData::new(Bsu::A));
+    /// # assert_eq!(passphrase(&supervisor), None);
+    /// # Ok::<(), Box<dyn std::error::Error>>(())
+    /// ```
+    #[must_use]
+    pub fn settings_store(&self) -> &[u8; SETTINGS_LENGTH] {
+        &self.storage.settings
     }
 
     /// Writes the settings of keys 3, 4 and 5 that have a value, with their editions, as an image to the room's start; gives the image. A room of `LONGEST_IMAGE` takes any.
@@ -448,11 +591,11 @@ impl<'s> Supervisor<'s> {
     /// assert_eq!(image, b"KE");
     /// ```
     pub fn save<'r>(&self, room: &'r mut [u8]) -> Result<&'r [u8], Refusal> {
-        let mut answer = [0; SAVE_NUMBERS];
-        let (settings, to, answers) = (lent(&self.storage.settings), lent_mut(room), lent_mut(&mut answer));
+        let mut answer = raw::SaveAnswer::default();
+        let (settings, to) = (lent(&self.storage.settings), lent_mut(room));
         // SAFETY: each pointer is valid for the length behind it, and what is written overlaps nothing else.
-        checked(unsafe { raw::oatcastle_save(settings.0, settings.1, to.0, to.1, answers.0, answers.1) })?;
-        Ok(first(room, answer[0]))
+        checked(unsafe { raw::oatcastle_save(settings.0, settings.1, to.0, to.1, &mut answer) })?;
+        Ok(first(room, answer.length))
     }
 
     /// Replaces the settings of keys 3, 4 and 5, values and editions, by those of an image, behind a start, which forgets every setting; one that the image lacks has no value and edition 0. Nothing else changes.
@@ -467,16 +610,16 @@ impl<'s> Supervisor<'s> {
     /// assert_eq!(supervisor.restore(b"KE"), Ok(()));
     /// let fault = supervisor.restore(b"KV\x02KE").unwrap_err();
     /// assert_eq!((fault.fault, fault.offset), (Fault::BadKey, 2));
-    /// assert_eq!(fault.to_string(), "image fault 31: a key that is not a saved setting's, or not above the one before, at offset 2");
+    /// assert_eq!(fault.to_string(), "image fault 31: the key is not in an image, or not above the one before, at offset 2");
     /// ```
     pub fn restore(&mut self, image: &[u8]) -> Result<(), ImageFault> {
-        let mut answer = [0; RESTORE_NUMBERS];
-        let (settings, from, answers) = (lent_mut(&mut self.storage.settings), lent(image), lent_mut(&mut answer));
+        let mut answer = raw::RestoreAnswer::default();
+        let (settings, from) = (lent_mut(&mut self.storage.settings), lent(image));
         // SAFETY: each pointer is valid for the length behind it, and what is written overlaps nothing else.
-        let number = unsafe { raw::oatcastle_restore(settings.0, settings.1, from.0, from.1, answers.0, answers.1) };
+        let number = unsafe { raw::oatcastle_restore(settings.0, settings.1, from.0, from.1, &mut answer) };
         match (number, Fault::of(number.into())) {
             (0, _) => Ok(()),
-            (_, Some(fault)) => Err(ImageFault { fault, offset: answer[0] as usize }),
+            (_, Some(fault)) => Err(ImageFault { fault, offset: answer.offset as usize }),
             (_, None) => ruled_out(),
         }
     }
@@ -484,20 +627,20 @@ impl<'s> Supervisor<'s> {
     /// Whether the line signal is asserted.
     #[must_use]
     pub fn signal(&self) -> bool {
-        let mut answer = [0; SIGNAL_NUMBERS];
-        let (registers, answers) = (lent(&self.storage.registers), lent_mut(&mut answer));
-        // SAFETY: each pointer is valid for the length behind it, and what is written overlaps nothing else.
-        done(unsafe { raw::oatcastle_signal(registers.0, registers.1, answers.0, answers.1) });
-        answer[0] == 1
+        let mut answer = raw::SignalAnswer::default();
+        let registers = lent(&self.storage.registers);
+        // SAFETY: the pointer is valid for the length behind it, and the answer overlaps nothing else.
+        done(unsafe { raw::oatcastle_signal(registers.0, registers.1, &mut answer) });
+        answer.asserted == 1
     }
 
     /// What the other processor has asked for.
     pub fn flags(&self) -> Flags {
-        let mut answer = [0; FLAGS_NUMBERS];
-        let (registers, answers) = (lent(&self.storage.registers), lent_mut(&mut answer));
-        // SAFETY: each pointer is valid for the length behind it, and what is written overlaps nothing else.
-        done(unsafe { raw::oatcastle_flags(registers.0, registers.1, answers.0, answers.1) });
-        Flags { reboot: answer[0] == 1, power_off: answer[1] == 1 }
+        let mut answer = raw::FlagsAnswer::default();
+        let registers = lent(&self.storage.registers);
+        // SAFETY: the pointer is valid for the length behind it, and the answer overlaps nothing else.
+        done(unsafe { raw::oatcastle_flags(registers.0, registers.1, &mut answer) });
+        Flags { reboot: answer.reboot == 1, power_off: answer.power_off == 1 }
     }
 
     /// The last boot failure.
@@ -520,6 +663,36 @@ impl<'s> Supervisor<'s> {
             let kept = part(registers, offset + RECORD_KEPT_OFFSET, MOST_KEPT.min(length));
             Record { code: number_at(registers, offset + RECORD_CODE_OFFSET), length, kept }
         })
+    }
+}
+
+/// How far a step came, by its answer.
+fn stepped(answer: &raw::StepAnswer) -> Step {
+    let end = match answer.kind {
+        MORE => StepEnd::More,
+        EMPTY => StepEnd::Empty,
+        MESSAGE => StepEnd::Request(carried(answer)),
+        FAILURE => StepEnd::Failure(Reason::of(answer.reason).unwrap_or_else(|| ruled_out())),
+        _ => ruled_out(),
+    };
+    Step { used: answer.used as usize, end }
+}
+
+fn carried(answer: &raw::StepAnswer) -> Carried {
+    let command = Command::of(answer.command).unwrap_or_else(|| ruled_out());
+    let set = || KeySet {
+        key: u8::try_from(answer.key).unwrap_or_else(|_| ruled_out()),
+        result: set_result(answer.result).unwrap_or_else(|| ruled_out()),
+    };
+    Carried { command, set: (command == Command::KeySet).then(set) }
+}
+
+/// The result of a lookup of a key that the supervisor has, by its number.
+fn found(result: u64) -> Result<(), NotFound> {
+    match (result, NotFound::of(result)) {
+        (0, _) => Ok(()),
+        (_, None | Some(NotFound::BadKey)) => ruled_out(),
+        (_, Some(result)) => Err(result),
     }
 }
 

@@ -9,12 +9,13 @@ mod limits;
 mod raw;
 
 use limits::{FACTORY_LENGTH, FIRST_SETTING, LONGEST_SETTINGS, OUTBOX_LENGTH, READER_LENGTH, REGISTERS_LENGTH, SETTINGS_LENGTH};
-use oatcastle::requester::{Handed, Received, Reply, Requester, RequesterStorage, Status};
+use oatcastle::requester::{Handed, Outstanding, Received, Requester, RequesterStorage, State};
 use oatcastle::{
-    checksum, update_probes, write_frame, AddressPlan, Bsu, Counters, Failure, Fault, Flags, Item, ItemResult, LineReader, Message, NotFound, Options,
-    Probe, ReadEnd, ReaderStorage, Reason, Record, Refusal, StartData, StaticCell, Step, StepEnd, Supervisor, SupervisorStorage, Tail,
-    LONGEST_ALERT, LONGEST_DATA, LONGEST_FRAME, LONGEST_IMAGE, LONGEST_IMAGE_ID, LONGEST_ITEM_DATA, LONGEST_PASSPHRASE, LONGEST_VALUE, MOST_ALERTS,
-    MOST_ITEMS, MOST_KEPT, MOST_PENDING, SHORTEST_PASSPHRASE,
+    checksum, update_probes, write_frame, AddressPlan, Bsu, Command, Counters, Failure, Fault, Item, ItemResult, Key, LineReader, Message,
+    NotFound, NotSet, OptionBit, Options, Probe, ReadEnd, ReaderStorage, Reason, Record, Refusal, Request, StartData, StaticCell, Status,
+    Step, StepEnd, Supervisor, SupervisorStorage, Tail, LONGEST_ALERT, LONGEST_DATA, LONGEST_FRAME, LONGEST_IMAGE, LONGEST_IMAGE_ID,
+    LONGEST_ITEM_DATA, LONGEST_PASSPHRASE, LONGEST_VALUE, MOST_ALERTS, MOST_ITEMS, MOST_KEPT, MOST_PENDING, PASSPHRASE_EDITION,
+    PASSPHRASE_LENGTH, PASSPHRASE_RECORD, PASSPHRASE_VALUE, SHORTEST_PASSPHRASE,
 };
 use std::num::NonZeroU8;
 
@@ -30,7 +31,7 @@ fn message(bytes: &[u8]) -> (u32, u64, u8, Vec<u8>) {
     let mut reader = LineReader::start_in(&mut storage);
     let read = reader.read(bytes);
     assert_eq!(read.used, bytes.len());
-    let ReadEnd::Message(Message { version, sequence, command, data }) = read.end else { panic!("no message") };
+    let ReadEnd::Message(Message { version, sequence, command, data, .. }) = read.end else { panic!("no message") };
     (version, sequence, command, data.to_vec())
 }
 
@@ -43,8 +44,24 @@ fn reply(supervisor: &mut Supervisor, image: &[u8], frame: &[u8]) -> (u8, Vec<u8
 }
 
 /// What a lookup gives, by its value or its result.
-fn found<'s>(supervisor: &'s Supervisor, key: u8, maxresponse: u16) -> Result<&'s [u8], NotFound> {
+fn found<'s>(supervisor: &'s Supervisor, key: Key, maxresponse: u16) -> Result<&'s [u8], NotFound> {
     supervisor.lookup(key, maxresponse).map(|found| found.value)
+}
+
+/// The key of a setting by its place among them.
+fn setting(index: usize) -> Key {
+    Key::from_number((FIRST_SETTING + index) as u8).expect("a key")
+}
+
+/// Reason and sequence of a frame that failed.
+fn failed(end: ReadEnd) -> (Reason, Option<u64>) {
+    let ReadEnd::Failure(Failure { reason, sequence, .. }) = end else { panic!("{end:?} is no failure") };
+    (reason, sequence)
+}
+
+/// Code, length and kept bytes of a record.
+fn recorded(record: Option<Record<'_>>) -> Option<(u16, usize, &[u8])> {
+    record.map(|record| (record.code, record.length, record.kept))
 }
 
 static UNIT: StartData = StartData::new(Bsu::B)
@@ -68,8 +85,8 @@ fn start_data_come_back() {
     assert_eq!(reply(&mut supervisor, &[], &request(5, 0x0f, &[1, 0, 0, 0])), (0x0b, item));
     let asked = [&[5; 32][..], &4u64.to_le_bytes()].concat();
     assert_eq!(reply(&mut supervisor, b"an image", &request(6, 0x0d, &asked)), (9, b"mage".to_vec()));
-    assert_eq!(found(&supervisor, 1, 64), Ok(&b"image"[..]));
-    assert_eq!(found(&supervisor, 2, 8), Ok(&[2, 0, 0, 0, 0, 0, 0, 0][..]));
+    assert_eq!(found(&supervisor, Key::ImageId, 64), Ok(&b"image"[..]));
+    assert_eq!(found(&supervisor, Key::Inventory, 8), Ok(&[2, 0, 0, 0, 0, 0, 0, 0][..]));
 }
 
 #[test]
@@ -89,11 +106,11 @@ fn start_data_have_bounds() {
     assert_eq!(data, before);
     let mut storage = SupervisorStorage::new();
     let supervisor = Supervisor::start_in(&mut storage, &data);
-    assert_eq!(found(&supervisor, 1, 64), Ok(&[1; LONGEST_IMAGE_ID][..]));
+    assert_eq!(found(&supervisor, Key::ImageId, 64), Ok(&[1; LONGEST_IMAGE_ID][..]));
     data.set_image_id(b"id").unwrap();
     let supervisor = Supervisor::start_in(&mut storage, &data);
-    assert_eq!(found(&supervisor, 1, 64), Ok(&b"id"[..]));
-    assert_eq!(found(&supervisor, 2, 8), Ok(&[MOST_ITEMS as u8, 0, 0, 0, 0, 0, 0, 0][..]));
+    assert_eq!(found(&supervisor, Key::ImageId, 64), Ok(&b"id"[..]));
+    assert_eq!(found(&supervisor, Key::Inventory, 8), Ok(&[MOST_ITEMS as u8, 0, 0, 0, 0, 0, 0, 0][..]));
 }
 
 #[test]
@@ -101,27 +118,26 @@ fn local_calls() {
     let mut storage = SupervisorStorage::new();
     let mut supervisor = Supervisor::start_in(&mut storage, &StartData::new(Bsu::A));
     assert!(supervisor.signal());
-    assert_eq!(supervisor.flags(), Flags { reboot: false, power_off: false });
+    let flags = |supervisor: &Supervisor| (supervisor.flags().reboot, supervisor.flags().power_off);
+    assert_eq!(flags(&supervisor), (false, false));
     assert_eq!(supervisor.boot_failure_record(), None);
     assert_eq!(supervisor.panic_record(), None);
-    assert_eq!(found(&supervisor, 0, 3), Err(NotFound::TooLong));
-    assert_eq!(found(&supervisor, 0, 4), Ok(&b"pong"[..]));
-    assert_eq!(found(&supervisor, 1, 0), Ok(&[][..]));
-    assert_eq!(found(&supervisor, 3, 4), Err(NotFound::NoValue));
-    let bad_keys = (FIRST_SETTING + LONGEST_SETTINGS.len()) as u8..=255;
-    assert!(bad_keys.clone().all(|key| found(&supervisor, key, 4) == Err(NotFound::BadKey)), "{bad_keys:?}");
+    assert_eq!(found(&supervisor, Key::Ping, 3), Err(NotFound::TooLong));
+    assert_eq!(found(&supervisor, Key::Ping, 4), Ok(&b"pong"[..]));
+    assert_eq!(found(&supervisor, Key::ImageId, 0), Ok(&[][..]));
+    assert_eq!(found(&supervisor, Key::EtcSystem, 4), Err(NotFound::NoValue));
     supervisor.receive(&[], &request(1, 1, &[]));
     supervisor.receive(&[], &request(1, 6, b"\x09why"));
     supervisor.receive(&[], &request(1, 7, b"\x34\x12how"));
-    assert_eq!(supervisor.flags(), Flags { reboot: true, power_off: false });
-    assert_eq!(supervisor.boot_failure_record(), Some(Record { code: 9, length: 3, kept: b"why" }));
-    assert_eq!(supervisor.panic_record(), Some(Record { code: 0x1234, length: 3, kept: b"how" }));
+    assert_eq!(flags(&supervisor), (true, false));
+    assert_eq!(recorded(supervisor.boot_failure_record()), Some((9, 3, &b"why"[..])));
+    assert_eq!(recorded(supervisor.panic_record()), Some((0x1234, 3, &b"how"[..])));
     assert_eq!(Options::of(512), Err(Refusal::BadValue));
     assert_eq!(Options::of(511).map(Options::bits), Ok(511));
-    supervisor.set_options(Options::NONE.with::<8>().with::<0>());
+    supervisor.set_options(Options::NONE.with(OptionBit::Verbose).with(OptionBit::Recovery));
     assert_eq!(reply(&mut supervisor, &[], &request(2, 8, &[])), (6, [&1u64.to_le_bytes()[..], &257u64.to_le_bytes()].concat()));
     supervisor.receive(&[], &request(3, 2, &[]));
-    assert_eq!(supervisor.flags(), Flags { reboot: true, power_off: true });
+    assert_eq!(flags(&supervisor), (true, true));
     supervisor.receive(&[], &request(4, 9, &[]));
     assert!(!supervisor.signal());
     supervisor.restart(&StartData::new(Bsu::A));
@@ -133,17 +149,18 @@ fn local_calls() {
 fn editions() {
     let mut storage = SupervisorStorage::new();
     let mut supervisor = Supervisor::start_in(&mut storage, &UNIT);
-    assert_eq!([0, 1, 2, 5, 7, 255].map(|key| supervisor.edition(key)), [Ok(0), Ok(0), Ok(0), Err(NotFound::NoValue), Err(NotFound::BadKey), Err(NotFound::BadKey)]);
+    let editions = [Key::Ping, Key::ImageId, Key::Inventory, Key::WithdrawnKeys, Key::Passphrase].map(|key| supervisor.edition(key));
+    assert_eq!(editions, [Ok(0), Ok(0), Ok(0), Err(NotFound::NoValue), Err(NotFound::SetOnly)]);
     for edition in 1..=3 {
         assert_eq!(reply(&mut supervisor, &[], &request(edition, 0x10, b"\x05list")), (0x0c, vec![0]));
-        assert_eq!(supervisor.lookup(5, 4).map(|found| (found.edition, found.value)), Ok((edition as u32, &b"list"[..])));
+        assert_eq!(supervisor.lookup(Key::WithdrawnKeys, 4).map(|found| (found.edition, found.value)), Ok((edition as u32, &b"list"[..])));
     }
     let mut room = [0; LONGEST_FRAME];
     supervisor.receive(&[], write_frame(2, 4, 0x0e, &[5], &[4, 0], &mut room).unwrap());
     let (version, _, command, data) = message(supervisor.take(&mut [0; MOST_PENDING]));
     assert_eq!((version, command, data), (2, 0x0a, b"\0\x03\0\0\0list".to_vec()));
     supervisor.restart(&UNIT);
-    assert_eq!(supervisor.edition(5), Err(NotFound::NoValue));
+    assert_eq!(supervisor.edition(Key::WithdrawnKeys), Err(NotFound::NoValue));
 }
 
 #[test]
@@ -151,17 +168,43 @@ fn passphrase() {
     let mut storage = SupervisorStorage::new();
     let mut supervisor = Supervisor::start_in(&mut storage, &UNIT);
     let mut set_only = |length: usize, result: u8| {
-        assert_eq!(reply(&mut supervisor, &[], &request(1, 0x10, &[&[6][..], &bytes(length)].concat())), (0x0c, vec![result]), "{length} bytes");
+        assert_eq!(
+            reply(&mut supervisor, &[], &request(1, 0x10, &[&[6][..], &bytes(length)].concat())),
+            (0x0c, vec![result]),
+            "{length} bytes"
+        );
         for maxresponse in [0, 1, LONGEST_PASSPHRASE as u16, u16::MAX] {
-            assert_eq!(supervisor.lookup(6, maxresponse), Err(NotFound::SetOnly));
+            assert_eq!(supervisor.lookup(Key::Passphrase, maxresponse), Err(NotFound::SetOnly));
             assert_eq!(reply(&mut supervisor, &[], &request(2, 0x0e, &[&[6][..], &maxresponse.to_le_bytes()].concat())), (0x0a, vec![4]));
         }
-        assert_eq!(supervisor.edition(6), Err(NotFound::SetOnly));
+        assert_eq!(supervisor.edition(Key::Passphrase), Err(NotFound::SetOnly));
     };
     for (length, result) in [(SHORTEST_PASSPHRASE - 1, 3), (LONGEST_PASSPHRASE + 1, 3), (SHORTEST_PASSPHRASE, 0), (LONGEST_PASSPHRASE, 0)] {
         set_only(length, result);
     }
-    assert_eq!(NotFound::SetOnly.to_string(), "lookup result 4: the key is set and never read back");
+    assert_eq!(NotFound::SetOnly.to_string(), "lookup result 4: nobody may read the key, whether or not it has a value");
+}
+
+/// The passphrase's fields in the settings store, where the radio's driver reads them.
+#[test]
+fn the_settings_store_has_the_passphrase() {
+    let fields = |supervisor: &Supervisor| {
+        let store = supervisor.settings_store();
+        let length = u16::from_le_bytes([store[PASSPHRASE_LENGTH], store[PASSPHRASE_LENGTH + 1]]).into();
+        let edition = u32::from_le_bytes(store[PASSPHRASE_EDITION..][..4].try_into().unwrap());
+        (store[PASSPHRASE_RECORD], edition, store[PASSPHRASE_VALUE..][..length].to_vec())
+    };
+    let mut storage = SupervisorStorage::new();
+    let mut supervisor = Supervisor::start_in(&mut storage, &UNIT);
+    assert_eq!(fields(&supervisor), (0, 0, vec![]));
+    for (edition, length) in [(1, SHORTEST_PASSPHRASE), (2, LONGEST_PASSPHRASE), (3, 20)] {
+        assert_eq!(reply(&mut supervisor, &[], &request(1, 0x10, &[&[6][..], &bytes(length)].concat())), (0x0c, vec![0]));
+        assert_eq!(fields(&supervisor), (1, edition, bytes(length)));
+    }
+    assert_eq!(reply(&mut supervisor, &[], &request(1, 0x10, &[&[6][..], &bytes(LONGEST_PASSPHRASE + 1)].concat())), (0x0c, vec![3]));
+    assert_eq!(fields(&supervisor), (1, 3, bytes(20)));
+    supervisor.restart(&UNIT);
+    assert_eq!(fields(&supervisor), (0, 0, vec![]));
 }
 
 /// The supervisor's parts, started and lent to the C functions themselves, and a supervisor in storage of the wrapper.
@@ -177,8 +220,17 @@ impl Both<'_> {
         // SAFETY: each pointer is valid for the length behind it, and no two runs overlap.
         let number = unsafe {
             raw::oatcastle_start(
-                data.bytes().as_ptr(), reader.0, reader.1, outbox.0, outbox.1, factory.0, factory.1, settings.0, settings.1,
-                registers.0, registers.1,
+                data.bytes().as_ptr(),
+                reader.0,
+                reader.1,
+                outbox.0,
+                outbox.1,
+                factory.0,
+                factory.1,
+                settings.0,
+                settings.1,
+                registers.0,
+                registers.1,
             )
         };
         assert_eq!(number, 0);
@@ -190,8 +242,20 @@ impl Both<'_> {
         // SAFETY: each pointer is valid for the length behind it, and no two runs overlap.
         let number = unsafe {
             raw::oatcastle_receive(
-                [].as_ptr(), 0, piece.as_ptr(), piece.len(), reader.0, reader.1, outbox.0, outbox.1, factory.0, factory.1,
-                settings.0, settings.1, registers.0, registers.1,
+                [].as_ptr(),
+                0,
+                piece.as_ptr(),
+                piece.len(),
+                reader.0,
+                reader.1,
+                outbox.0,
+                outbox.1,
+                factory.0,
+                factory.1,
+                settings.0,
+                settings.1,
+                registers.0,
+                registers.1,
             )
         };
         assert_eq!(number, 0);
@@ -201,43 +265,50 @@ impl Both<'_> {
     /// Every lookup, edition and both records, as the library copies them out and as the wrapper hands them out.
     fn compare(&self) {
         let [_, _, factory, settings, registers] = &self.parts;
-        for (key, maxresponse) in (0..=255).flat_map(|key| [0, 3, 4, 5, 8, 64, 256, 1000, 4095, u16::MAX].map(|most| (key, most))) {
-            let (mut room, mut answer) = ([0; LONGEST_VALUE], [0; 2]);
+        let keys = || (0..=u8::MAX).filter_map(Key::from_number);
+        assert_eq!(keys().count(), FIRST_SETTING + LONGEST_SETTINGS.len());
+        for (key, maxresponse) in keys().flat_map(|key| [0, 3, 4, 5, 8, 64, 256, 1000, 4095, u16::MAX].map(|most| (key, most))) {
+            let (mut room, mut answer) = ([0; LONGEST_VALUE], raw::LookupAnswer::default());
             // SAFETY: each pointer is valid for the length behind it, and what is written overlaps nothing else.
             let number = unsafe {
                 raw::oatcastle_lookup(
-                    factory.as_ptr(), factory.len(), settings.as_ptr(), settings.len(), key, maxresponse, room.as_mut_ptr(), room.len(),
-                    answer.as_mut_ptr(), answer.len(),
+                    factory.as_ptr(),
+                    factory.len(),
+                    settings.as_ptr(),
+                    settings.len(),
+                    key.number(),
+                    maxresponse,
+                    room.as_mut_ptr(),
+                    room.len(),
+                    &mut answer,
                 )
             };
             assert_eq!(number, 0);
             match found(&self.supervisor, key, maxresponse) {
-                Ok(value) => assert_eq!((value, 0), (&room[..answer[1] as usize], answer[0]), "key {key}, {maxresponse}"),
-                Err(result) => assert_eq!(u64::from(result.number()), answer[0], "key {key}, {maxresponse}"),
+                Ok(value) => assert_eq!((value, 0), (&room[..answer.length as usize], answer.result), "{key}, {maxresponse}"),
+                Err(result) => assert_eq!(u64::from(result.number()), answer.result, "{key}, {maxresponse}"),
             }
         }
-        for key in 0..=255 {
-            let mut answer = [0; 2];
+        for key in keys() {
+            let mut answer = raw::EditionAnswer::default();
             // SAFETY: each pointer is valid for the length behind it, and what is written overlaps nothing else.
             let number = unsafe {
-                raw::oatcastle_edition(
-                    factory.as_ptr(), factory.len(), settings.as_ptr(), settings.len(), key, answer.as_mut_ptr(), answer.len(),
-                )
+                raw::oatcastle_edition(factory.as_ptr(), factory.len(), settings.as_ptr(), settings.len(), key.number(), &mut answer)
             };
             assert_eq!(number, 0);
             let answered = self.supervisor.edition(key);
-            assert_eq!(answered, self.supervisor.lookup(key, u16::MAX).map(|found| found.edition), "key {key}");
-            assert_eq!(answered.map_or_else(|result| [result.number().into(), 0], |edition| [0, edition.into()]), answer, "key {key}");
+            assert_eq!(answered, self.supervisor.lookup(key, u16::MAX).map(|found| found.edition), "{key}");
+            let wanted = answered.map_or_else(|result| [result.number().into(), 0], |edition| [0, edition.into()]);
+            assert_eq!([answer.result, answer.edition], wanted, "{key}");
         }
-        let copies = [raw::oatcastle_boot_failure, raw::oatcastle_panic];
+        let copies = [raw::oatcastle_boot_failure_record, raw::oatcastle_panic_record];
         for (copy, record) in copies.into_iter().zip([self.supervisor.boot_failure_record(), self.supervisor.panic_record()]) {
-            let (mut room, mut answer) = ([0; MOST_KEPT], [0; 4]);
+            let (mut room, mut answer) = ([0; MOST_KEPT], raw::RecordAnswer::default());
             // SAFETY: each pointer is valid for the length behind it, and what is written overlaps nothing else.
-            let number = unsafe { copy(registers.as_ptr(), registers.len(), room.as_mut_ptr(), room.len(), answer.as_mut_ptr(), answer.len()) };
+            let number = unsafe { copy(registers.as_ptr(), registers.len(), room.as_mut_ptr(), room.len(), &mut answer) };
             assert_eq!(number, 0);
-            let [held, code, length, kept] = answer;
-            let wanted = Record { code: code as u16, length: length as usize, kept: &room[..kept as usize] };
-            assert_eq!(record, (held == 1).then_some(wanted));
+            let wanted = (answer.code as u16, answer.length as usize, &room[..answer.kept as usize]);
+            assert_eq!(recorded(record), (answer.present == 1).then_some(wanted));
         }
     }
 }
@@ -279,15 +350,15 @@ fn message_data_are_those_that_the_library_copies_out() {
     let mut reader = LineReader::start_in(&mut storage);
     for length in [0, 1, 253, 254, 255, 2000, LONGEST_DATA] {
         let frame = request(7, 0x55, &bytes(length));
-        let (mut answer, mut room) = ([0; 7], [0; LONGEST_DATA]);
+        let (mut answer, mut room) = (raw::LineReadAnswer::default(), [0; LONGEST_DATA]);
         // SAFETY: each pointer is valid for the length behind it, and what is written overlaps nothing else.
         let numbers = unsafe {
             [
-                raw::oatcastle_line_read(state.as_mut_ptr(), state.len(), frame.as_ptr(), frame.len(), answer.as_mut_ptr(), answer.len()),
-                raw::oatcastle_line_data(state.as_ptr(), state.len(), answer[6], room.as_mut_ptr(), room.len()),
+                raw::oatcastle_line_read(state.as_mut_ptr(), state.len(), frame.as_ptr(), frame.len(), &mut answer),
+                raw::oatcastle_line_data(state.as_ptr(), state.len(), answer.length, room.as_mut_ptr(), room.len()),
             ]
         };
-        assert_eq!((numbers, answer[6]), ([0, 0], length as u64));
+        assert_eq!((numbers, answer.length), ([0, 0], length as u64));
         let ReadEnd::Message(message) = reader.read(&frame).end else { panic!("no message") };
         assert_eq!(message.data, &room[..length]);
     }
@@ -311,12 +382,11 @@ fn settings_are_saved_and_restored() {
     assert_eq!(restored.restore(&image), Ok(()));
     // keys 3, 4 and 5; the passphrase behind them is not saved
     for (index, longest) in LONGEST_SETTINGS.into_iter().take(3).enumerate() {
-        let key = (FIRST_SETTING + index) as u8;
-        assert_eq!(restored.lookup(key, u16::MAX).map(|found| (found.edition, found.value)), Ok((1, &bytes(longest)[..])));
+        assert_eq!(restored.lookup(setting(index), u16::MAX).map(|found| (found.edition, found.value)), Ok((1, &bytes(longest)[..])));
     }
     assert_eq!(restored.save(&mut room), Ok(&image[..]));
     assert_eq!(restored.restore(b"KE"), Ok(()));
-    assert_eq!(found(&restored, 3, 256), Err(NotFound::NoValue));
+    assert_eq!(found(&restored, Key::EtcSystem, 256), Err(NotFound::NoValue));
 }
 
 #[test]
@@ -343,7 +413,7 @@ fn image_faults_have_offsets() {
     for (image, fault, offset) in faults {
         let answered = supervisor.restore(&image).unwrap_err();
         assert_eq!((answered.fault, answered.offset), (fault, offset));
-        assert_eq!(found(&supervisor, 3, 256), Ok(&b"a"[..]));
+        assert_eq!(found(&supervisor, Key::EtcSystem, 256), Ok(&b"a"[..]));
     }
 }
 
@@ -353,7 +423,7 @@ fn storage_in_a_static() {
     let mut supervisor: Supervisor<'static> = Supervisor::start_in(STORAGE.take().unwrap(), &UNIT);
     assert!(STORAGE.take().is_none());
     assert_eq!(reply(&mut supervisor, &[], &request(1, 3, &[])), (3, vec![0x42]));
-    let moved = std::thread::spawn(move || found(&supervisor, 1, 64).map(<[u8]>::to_vec));
+    let moved = std::thread::spawn(move || found(&supervisor, Key::ImageId, 64).map(<[u8]>::to_vec));
     assert_eq!(moved.join().unwrap(), Ok(b"image".to_vec()));
 }
 
@@ -372,7 +442,7 @@ fn a_start_forgets_what_the_storage_held() {
     supervisor.receive(&[], &request(1, 0x10, b"\x03value"));
     supervisor.receive(&[], &[5, 5]);
     let mut supervisor = Supervisor::start_in(&mut storage, &UNIT);
-    assert_eq!(found(&supervisor, 3, 256), Err(NotFound::NoValue));
+    assert_eq!(found(&supervisor, Key::EtcSystem, 256), Err(NotFound::NoValue));
     assert_eq!(supervisor.take(&mut [0; 64]), []);
     assert_eq!(reply(&mut supervisor, &[], &request(1, 3, &[])), (3, vec![0x42]));
 }
@@ -396,10 +466,14 @@ fn refusals_are_errors() {
         Box::new(NotFound::NoValue),
     ];
     let texts = refusals.map(|refusal| refusal.to_string());
-    assert_eq!(texts, [
-        "refused as 8: the room is too short for the whole output", "refused as 13: an option bit above the highest",
-        "lookup result 2: the key has no value",
-    ]);
+    assert_eq!(
+        texts,
+        [
+            "refused as 8: the room is too short for the whole output",
+            "refused as 13: an option bit above the highest",
+            "lookup result 2: the key has no value",
+        ]
+    );
     assert_eq!(Reason::Magic.to_string(), "reason 4: the magic differs");
     assert_eq!(oatcastle::rot::Type::SinkRequest.to_string(), "type 8: sink request");
 }
@@ -428,15 +502,62 @@ fn alerts() {
     assert_eq!(reply(&mut supervisor, &[], &request(2, 0x0a, &[])), (7, vec![1, 1]));
 }
 
+/// What a step answers: the bytes read, the command of a request that it carried out, and of a key set the key and the result.
+type Carried = (usize, Command, Option<(u8, Result<(), NotSet>)>);
+
+fn carried(step: Step) -> Carried {
+    let StepEnd::Request(carried) = step.end else { panic!("{step:?} carried nothing out") };
+    (step.used, carried.command, carried.set.map(|set| (set.key, set.result)))
+}
+
 #[test]
 fn steps() {
     let mut storage = SupervisorStorage::new();
     let mut supervisor = Supervisor::start_in(&mut storage, &StartData::new(Bsu::A));
-    assert_eq!(supervisor.step(&[], &[2]), Step { used: 1, end: StepEnd::More });
-    assert_eq!(supervisor.step(&[], &[0, 0]), Step { used: 1, end: StepEnd::Failure(Reason::Form) });
-    assert_eq!(supervisor.step(&[], &[0]), Step { used: 1, end: StepEnd::Empty });
-    let frame = request(1, 8, &[]);
-    assert_eq!(supervisor.step(&[], &frame), Step { used: frame.len(), end: StepEnd::Request });
+    let mut step = |piece: &[u8]| {
+        let step = supervisor.step(&[], piece);
+        (step.used, step.end)
+    };
+    assert_eq!(step(&[2]), (1, StepEnd::More));
+    assert_eq!(step(&[0, 0]), (1, StepEnd::Failure(Reason::Form)));
+    assert_eq!(step(&[0]), (1, StepEnd::Empty));
+}
+
+/// Every command, and of a key set every result that a fresh supervisor gives, by a step and by one that counts.
+#[test]
+fn steps_tell_what_they_carried_out() {
+    let data = |command| match command {
+        Command::BootFailure => 1,
+        Command::Panic => 2,
+        Command::ImageBlock => 40,
+        Command::KeyLookup => 3,
+        Command::Inventory => 4,
+        _ => 0,
+    };
+    let commands = (0..=u8::MAX).filter_map(Command::from_number).filter(|&command| command != Command::KeySet);
+    let mut frames: Vec<(Vec<u8>, Command, Option<(u8, Result<(), NotSet>)>)> =
+        commands.map(|command| (request(1, command.number(), &vec![0; data(command)]), command, None)).collect();
+    for key in 0..=u8::MAX {
+        for length in [0, 8, 64, 257, 4097] {
+            let result = match Key::from_number(key).map(Key::set_lengths) {
+                None => Err(NotSet::BadKey),
+                Some(None) => Err(NotSet::ReadOnly),
+                Some(Some(lengths)) if lengths.contains(&length) => Ok(()),
+                Some(Some(_)) => Err(NotSet::TooLong),
+            };
+            frames.push((request(1, 0x10, &[&[key][..], &bytes(length)].concat()), Command::KeySet, Some((key, result))));
+        }
+    }
+    let (mut one, mut other, mut counters) = (SupervisorStorage::new(), SupervisorStorage::new(), Counters::new());
+    let (mut plain, mut counted) = (Supervisor::start_in(&mut one, &UNIT), Supervisor::start_in(&mut other, &UNIT));
+    for (frame, command, set) in &frames {
+        let stored = set.filter(|(_, result)| result.is_ok()).and_then(|(key, _)| Key::from_number(key));
+        for step in [plain.step(&[], frame), counted.step_counted(&mut counters, &[], frame)] {
+            assert_eq!(step.end.stored(), stored);
+            assert_eq!(carried(step), (frame.len(), *command, *set));
+        }
+    }
+    assert_eq!(counters, Counters { good: frames.len() as u32, ..Counters::new() });
 }
 
 #[test]
@@ -449,11 +570,11 @@ fn line() {
     assert_eq!(reader.tail(), Tail::Bytes(40));
     assert_eq!(reader.read(&[1; 4200]).end, ReadEnd::More);
     assert_eq!(reader.tail(), Tail::TooLong);
-    assert_eq!(reader.read(&[0]).end, ReadEnd::Failure(Failure { reason: Reason::Form, sequence: None }));
+    assert_eq!(failed(reader.read(&[0]).end), (Reason::Form, None));
     assert_eq!(reader.read(&[0, 0]).end, ReadEnd::Empty);
     let mut damaged = request(9, 0x55, &[3; 5]);
     damaged[18] ^= 1;
-    assert_eq!(reader.read(&damaged).end, ReadEnd::Failure(Failure { reason: Reason::Checksum, sequence: Some(9) }));
+    assert_eq!(failed(reader.read(&damaged).end), (Reason::Checksum, Some(9)));
     assert_eq!(write_frame(1, 1, 1, &[0; 4000], &[0; 105], &mut [0; LONGEST_FRAME]), Err(Refusal::TooLong));
     assert_eq!(write_frame(1, 1, 1, &[], &[], &mut [0; 20]), Err(Refusal::NoRoom));
     assert_eq!([checksum(b"abcde"), checksum(b"abcdef"), checksum(b"abcdefgh"), checksum(&[])], [0xc8f0, 0x2057, 0x0627, 0]);
@@ -514,6 +635,10 @@ fn probe_lists() {
 #[test]
 fn root_of_trust() {
     use oatcastle::rot::{copy_payload, crc, read, write, Received, Type, LONGEST_MESSAGE, LONGEST_PAYLOAD};
+    let message = |input: &[u8]| match read(input, &mut []) {
+        Ok(Received::Message(message)) => (message.kind, message.payload.to_vec()),
+        other => panic!("{other:?} is no message"),
+    };
     let asked = [1, 2, 1, 0, 35, 236, 249, 41, 9];
     let answered = [0x01, 0x03, 0x01, 0x00, 0x94, 0x76, 0x94, 0xf5, 0x09];
     assert_eq!(crc(&[1, 2, 1, 0, 9]), 0x29f9ec23);
@@ -522,7 +647,7 @@ fn root_of_trust() {
     assert_eq!(read(&asked, &mut out), Ok(Received::Echoed(&answered)));
     assert_eq!(read(&asked, &mut [0; 8]), Err(Refusal::NoRoom));
     let longer = [&answered[..], &[0, 7]].concat();
-    assert_eq!(read(&longer, &mut []), Ok(Received::Message { kind: Type::EchoResponse, payload: &[9] }));
+    assert_eq!(message(&longer), (Type::EchoResponse, vec![9]));
     let mut room = [0; 2];
     assert_eq!(copy_payload(&longer, &mut room), Ok(()));
     assert_eq!(room, [9, 0]);
@@ -530,7 +655,7 @@ fn root_of_trust() {
     assert_eq!(read(&[0, 5], &mut []), Ok(Received::Nothing));
     assert_eq!(write(Type::SinkRequest, &[0; LONGEST_PAYLOAD + 1], &mut out), Err(Refusal::PayloadTooLong));
     let longest = write(Type::SinkRequest, &[7; LONGEST_PAYLOAD], &mut out).unwrap().to_vec();
-    assert_eq!(read(&longest, &mut []), Ok(Received::Message { kind: Type::SinkRequest, payload: &[7; LONGEST_PAYLOAD] }));
+    assert_eq!(message(&longest), (Type::SinkRequest, vec![7; LONGEST_PAYLOAD]));
     assert_eq!(read(&longest[..519], &mut []), Err(Refusal::CutShort));
     assert_eq!(read(&[], &mut []), Err(Refusal::NoInput));
     assert_eq!(read(&[5], &mut []), Err(Refusal::BadProtocol));
@@ -556,39 +681,86 @@ fn frames_are_counted() {
     supervisor.restart(&StartData::new(Bsu::A));
     supervisor.receive_counted(&mut counters, &[], &[0]);
     assert_eq!(counters, Counters { empty: 1, ..Counters::default() });
+    let _ = supervisor.step(&[], &[0]);
+    assert_eq!(supervisor.step_counted(&mut counters, &[], &[2]).end, StepEnd::More);
+    assert_eq!(counters, Counters { empty: 1, ..Counters::default() });
+    assert_eq!(supervisor.step_counted(&mut counters, &[], &[0, 0]).end, StepEnd::Failure(Reason::Form));
+    assert_eq!(supervisor.step_counted(&mut counters, &[], &[0]).end, StepEnd::Empty);
+    assert_eq!(counters, Counters { empty: 2, reason1: 1, ..Counters::default() });
 }
+
+/// Bytes read, whether a recovery ended for want of a number, and whether a frame is to go out, where nothing is handed out.
+fn nothing(received: Received) -> (usize, bool, bool) {
+    assert_eq!(received.handed, Handed::Nothing);
+    (received.used, received.ended, received.unsent)
+}
+
+fn fetched(handed: Handed) -> (u64, u64, u32) {
+    let Handed::Status(Status { status, options, set_bits, .. }) = handed else { panic!("{handed:?} is no status") };
+    (status, options, set_bits)
+}
+
+/// Version, sequence, command and data of what is handed out as an answer or as an alert.
+fn answered(handed: Handed, alert: bool) -> (u32, u64, u8, Vec<u8>) {
+    let (Handed::Answer(message) | Handed::Alert(message)) = handed else { panic!("{handed:?} is no message") };
+    assert_eq!(matches!(handed, Handed::Alert(_)), alert);
+    (message.version, message.sequence, message.command, message.data.to_vec())
+}
+
+/// Command, number, and whether it is unsent and an original stands behind it, of what is outstanding; `kind` says in which state.
+fn outstanding(state: State, kind: fn(Outstanding) -> State) -> (u8, u64, bool, bool) {
+    let (State::Waiting(held) | State::RecoveryStatus(held) | State::RecoveryAcknowledge(held) | State::RecoveryAlert(held)) = state else {
+        panic!("{state:?} has nothing outstanding")
+    };
+    assert_eq!(kind(held), state);
+    assert_eq!(state.recovering(), !matches!(state, State::Waiting(_)));
+    (held.command, held.number, held.unsent, held.original)
+}
+
+const LOOKUP: Request = Request::lookup(Key::Ping, 4);
 
 #[test]
 fn main_processor() {
-    let reply = |number: u64, command: u8, data: &[u8]| write_frame(1, number | 1 << 63, command, data, &[], &mut [0; LONGEST_FRAME]).unwrap().to_vec();
+    let reply = |number: u64, command: u8, data: &[u8]| {
+        write_frame(1, number | 1 << 63, command, data, &[], &mut [0; LONGEST_FRAME]).unwrap().to_vec()
+    };
     let status = |number: u64, value: u64| reply(number, 6, &[value.to_le_bytes(), 5u64.to_le_bytes()].concat());
     let mut storage = RequesterStorage::new();
     let mut main = Requester::start_in(&mut storage);
     let mut out = [0; LONGEST_FRAME];
-    assert_eq!(main.request(0x0e, &[0, 4, 0], &mut [0; 20]), Err(Refusal::NoRoom));
-    assert_eq!(main.request(0x0e, &[0, 4, 0], &mut out), Ok(&request(1, 0x0e, &[0, 4, 0])[..]));
-    assert_eq!(main.request(0x0e, &[0; 4105], &mut out), Err(Refusal::TooLong));
-    assert_eq!(main.request(0x08, &[], &mut out), Err(Refusal::Outstanding));
+    assert_eq!(main.state(), State::Idle);
+    assert_eq!(main.request(&LOOKUP, &mut [0; 20]), Err(Refusal::NoRoom));
+    assert_eq!(main.state(), State::Idle);
+    assert_eq!(main.request(&LOOKUP, &mut out), Ok(&request(1, 0x0e, &[0, 4, 0])[..]));
+    assert_eq!(outstanding(main.state(), State::Waiting), (0x0e, 1, false, false));
+    assert_eq!(main.request(&Request::raw(0x0e, &[0; 4105]), &mut out), Err(Refusal::TooLong));
+    assert_eq!(main.request(&Request::status(), &mut out), Err(Refusal::Outstanding));
     assert_eq!(main.send(&mut out), Ok(&[][..]));
     let other = reply(2, 0x0b, b"late");
-    assert_eq!(main.receive(&other), Received { used: other.len(), handed: Handed::Nothing, ended: false, unsent: false });
-    assert_eq!(main.receive(&[2, 0, 1]), Received { used: 2, handed: Handed::Nothing, ended: false, unsent: true });
+    assert_eq!(nothing(main.receive(&other)), (other.len(), false, false));
+    assert_eq!(nothing(main.receive(&[2, 0, 1])), (2, false, true));
+    assert_eq!(outstanding(main.state(), State::Waiting), (0x0e, 1, true, false));
     assert_eq!(main.send(&mut out), Ok(&request(1, 0x0e, &[0, 4, 0])[..]));
     main.interrupt().unwrap();
+    assert_eq!(outstanding(main.state(), State::RecoveryStatus), (0x08, 2, true, true));
     assert_eq!(main.send(&mut out), Ok(&request(2, 0x08, &[])[..]));
-    assert_eq!(main.receive(&status(2, 7)).handed, Handed::Status(Status { status: 7, options: 5, set_bits: 3 }));
+    assert_eq!(outstanding(main.state(), State::RecoveryStatus), (0x08, 2, false, true));
+    assert_eq!(fetched(main.receive(&status(2, 7)).handed), (7, 5, 3));
+    assert_eq!(outstanding(main.state(), State::RecoveryAcknowledge), (0x09, 3, true, true));
     assert_eq!(main.send(&mut out), Ok(&request(3, 0x09, &[])[..]));
     assert_eq!(main.receive(&reply(3, 1, &[])).handed, Handed::Nothing);
     assert_eq!(main.send(&mut out), Ok(&request(4, 0x08, &[])[..]));
-    assert_eq!(main.receive(&status(4, 2)).handed, Handed::Status(Status { status: 2, options: 5, set_bits: 1 }));
+    assert_eq!(fetched(main.receive(&status(4, 2)).handed), (2, 5, 1));
+    assert_eq!(outstanding(main.state(), State::RecoveryAlert), (0x0a, 5, true, true));
     assert_eq!(main.send(&mut out), Ok(&request(5, 0x0a, &[])[..]));
-    let answered = reply(5, 7, &[1, 9]);
-    assert_eq!(main.receive(&answered).handed, Handed::Alert(Reply { sequence: 5 | 1 << 63, command: 7, data: &[1, 9] }));
+    assert_eq!(answered(main.receive(&reply(5, 7, &[1, 9])).handed, true), (1, 5 | 1 << 63, 7, vec![1, 9]));
     assert_eq!(main.send(&mut out), Ok(&request(6, 0x08, &[])[..]));
     assert!(main.receive(&status(6, 4)).unsent);
+    assert_eq!(outstanding(main.state(), State::Waiting), (0x0e, 7, true, false));
     assert_eq!(main.send(&mut out), Ok(&request(7, 0x0e, &[0, 4, 0])[..]));
-    let answered = reply(7, 0x0b, b"\0pong");
-    assert_eq!(main.receive(&answered).handed, Handed::Answer(Reply { sequence: 7 | 1 << 63, command: 0x0b, data: b"\0pong" }));
-    assert_eq!(main.request(0x01, &[], &mut out), Ok(&request(8, 0x01, &[])[..]));
-    assert_eq!(main.request(0x08, &[], &mut out), Ok(&request(9, 0x08, &[])[..]));
+    assert_eq!(answered(main.receive(&reply(7, 0x0b, b"\0pong")).handed, false), (1, 7 | 1 << 63, 0x0b, b"\0pong".to_vec()));
+    assert_eq!(main.state(), State::Idle);
+    assert_eq!(main.request(&Request::reboot(), &mut out), Ok(&request(8, 0x01, &[])[..]));
+    assert_eq!(main.state(), State::Idle);
+    assert_eq!(main.request(&Request::status(), &mut out), Ok(&request(9, 0x08, &[])[..]));
 }

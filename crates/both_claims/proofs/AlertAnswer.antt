@@ -19,7 +19,6 @@ use Rattle.requester_claims.specs.Numbers.{Frame}
 use Rattle.supervisor.specs.State.{Alert, Retained, State, fresh}
 use Rattle.responder.specs.Requests.{ReplyContent, replyOf, oldest}
 use Rattle.supervisor_claims.specs.View.{view, factoryOf}
-use Rattle.supervisor_claims.specs.Sound.{Sound}
 use Rattle.supervisor_claims.specs.Histories as Supervisor
 use Rattle.supervisor_claims.specs.FrameHistory as Received
 use Rattle.supervisor_claims.specs.FrameHistory.{frameCarried}
@@ -33,17 +32,18 @@ use Rattle.both_claims.specs.Ends
 use Rattle.both_claims.specs.Ends.{Any, Handled, Log, CarriedOut, Fresh, AlertTaken, AlertNotRetained, CallOf, retainedUnder}
 use Rattle.both_claims.specs.Ends.{replyMessage}
 use Rattle.both_claims.specs.Ends.{asMessage}
-use Rattle.both_claims.specs.Ends.{MainGoesOn, AlertAgainst, endsAfterAll, handledBy, originBy, Wire}
+use Rattle.both_claims.specs.Ends.{MainGoesOn, AlertAgainst, endsAfterAll, handledBy, originBy, RequestUnder, WireUnder, UnderNumber}
 use Rattle.both_claims.specs.Ends.{EndCallTyped, endsAfter, BothStarts, endsBegun, Begun, mainLogged, supervisorLogged, brought}
 use Rattle.both_claims.specs.Ends.{clearedBy, imageLent}
 use Rattle.both_claims.proofs.laws.Lists.{Front, none-some, any-or, each-then, each-any}
-use Rattle.both_claims.proofs.laws.Kept.{Known, Kept, not-asked-by}
+use Rattle.both_claims.proofs.laws.Kept.{KnownFrom, known-from, AllFromMain, Kept, not-asked-by}
 use Rattle.both_claims.proofs.laws.ThatRequest.{answered}
 use Rattle.both_claims.proofs.laws.SupervisorFrames.{made-field, made-started}
 use Rattle.both_claims.proofs.laws.RetainedSince.{alertAnswer, sends-again, takes-alert, Takes, RetainedBy, retained-later, under-is}
 use Rattle.both_claims.proofs.laws.RetainedSince.{frames-kept}
-use Rattle.both_claims.proofs.FreshAnswer.{answer-fresh}
-use Rattle.both_claims.proofs.laws.BothCalls.{Both, each-call, each-given, after-calls, begun-both, begun-else}
+use Rattle.both_claims.proofs.FreshAnswer.{FromMainUnder, keeps-from-main, answer-fresh}
+use Rattle.both_claims.proofs.laws.FromMain.{begun-from-main}
+use Rattle.both_claims.proofs.laws.BothCalls.{Both, each-call, after-calls, always-and, begun-both, begun-else}
 use Rattle.both_claims.specs.BothEnds.{AlertAnswer, AlertSince}
 
 -- ---- what holds of the supervisor's state
@@ -112,8 +112,8 @@ reply-data n a r e = cc
 replied : (k : ℕ) {n : ℕ} → k ≡ n → (o : Option ReplyContent) (z : ReplyContent) → o ≡ some z → replyOf k o ≡ replyOf n (some z)
 replied k e o z f = rw (e, f)
 
-module _ (s : MainState) (l : Log) (kept : Kept s l) (x : State) (retains : Retains x l) (r : Message) (q : Request)
-    (waiting : outstanding s ≡ some q) (alert : q .command ≡ 0x0a) where
+module _ (s : MainState) (l : Log) (kept : Kept s l) (from : AllFromMain (RequestUnder (s .newest)) l) (x : State) (retains : Retains x l)
+    (r : Message) (q : Request) (waiting : outstanding s ≡ some q) (alert : q .command ≡ 0x0a) where
   abbrev n : ℕ
   n = s .newest
 
@@ -121,7 +121,7 @@ module _ (s : MainState) (l : Log) (kept : Kept s l) (x : State) (retains : Reta
   Replies v a = replyMessage (replyOf n (some (alertAnswer v a))) ≡ some r
 
   -- a request that took the alert of the retained reply
-  took : (t : Retained) → t .sequence ≡ n → Replies (t .version) (t .alert) → (h : Handled) → Known s h → Takes t h → AlertTaken n q r h
+  took : (t : Retained) → t .sequence ≡ n → Replies (t .version) (t .alert) → (h : Handled) → KnownFrom s h → Takes t h → AlertTaken n q r h
   took t e f h k z =
       let m = z .request in
       let i : m .sequence ≡ n = z .number ∙ e in
@@ -129,7 +129,8 @@ module _ (s : MainState) (l : Log) (kept : Kept s l) (x : State) (retains : Reta
       let a = takes-alert (h .image) (h .state) m (z .alert) u .1 in
       let g : Replies (m .version) (oldest (h .state .waiting)) = rw (z .oldest-waiting, ← z .version) at f in
       record {
-        carried-out = answered s (kept .ranged) q waiting r h k m (z .passed) i (ap replyMessage (replied (m .sequence) i _ _ a) ∙ g);
+        carried-out =
+            answered s (kept .ranged) q waiting r h (k .0) (k .1) m (z .passed) i (ap replyMessage (replied (m .sequence) i _ _ a) ∙ g);
         none-retained = rw (← e) (z .none-retained);
         oldest-waiting = reply-data n _ r g;
       }
@@ -146,11 +147,11 @@ module _ (s : MainState) (l : Log) (kept : Kept s l) (x : State) (retains : Reta
     again k e =
         let u = under-is n (h .state .retained) e in
         let a = sends-again (h .image) (h .state) (asMessage n q) alert (u .0) (u .1) (u .2) .1 in
-        each-any (Known s) (Takes (u .0)) (AlertTaken n q r) (took (u .0) (u .2) (rw a at (c .reply))) (l .handled) (kept .handled)
-        (k (u .0) (u .1))
+        each-any (KnownFrom s) (Takes (u .0)) (AlertTaken n q r) (took (u .0) (u .2) (rw a at (c .reply))) (l .handled)
+        (known-from s l kept from) (k (u .0) (u .1))
 
-    from : RetainedBy (l .handled) (h .state .retained) → AlertTaken n q r h ⊎ Any (AlertTaken n q r) (l .handled)
-    from k = by (retainedUnder n (h .state .retained)) refl
+    taken-from : RetainedBy (l .handled) (h .state .retained) → AlertTaken n q r h ⊎ Any (AlertTaken n q r) (l .handled)
+    taken-from k = by (retainedUnder n (h .state .retained)) refl
       where
         by : (b : Bool) → retainedUnder n (h .state .retained) ≡ b → AlertTaken n q r h ⊎ Any (AlertTaken n q r) (l .handled)
         by true e = inr (again k e)
@@ -159,7 +160,8 @@ module _ (s : MainState) (l : Log) (kept : Kept s l) (x : State) (retains : Reta
   alert-taken : Any (λ (h : Handled). CarriedOut n q r h × (h .cleared ≡ true)) (l .handled) → Any (AlertTaken n q r) (l .handled)
   alert-taken a =
       either (any-or (AlertTaken n q r) (l .handled)
-      (each-any (λ (h : Handled). h .cleared ≡ true → RetainedBy (l .handled) (h .state .retained)) _ _ (λ h k c. from h (c .0) (k (c .1)))
+      (each-any (λ (h : Handled). h .cleared ≡ true → RetainedBy (l .handled) (h .state .retained)) _ _
+      (λ h k c. taken-from h (c .0) (k (c .1)))
       (l .handled) (retains .each) a))
     where
       either : {A : Type 0} → A ⊎ A → A
@@ -168,26 +170,30 @@ module _ (s : MainState) (l : Log) (kept : Kept s l) (x : State) (retains : Reta
 
 -- ---- the claim
 
-abbrev RetainsIn : Ends.Ends → Type 0
+abbrev pub RetainsIn : Ends.Ends → Type 0
 RetainsIn e = Retains (view (e .supervisor)) (e .log)
 
-call-retains : (e : Ends.Ends) → Sound (e .supervisor) → RetainsIn e → (t : Ends.EndCall) → EndCallTyped t → RetainsIn (endsAfter e t)
+pub call-retains : (e : Ends.Ends) → Both e → RetainsIn e → (t : Ends.EndCall) → EndCallTyped t → RetainsIn (endsAfter e t)
 unfolding endsAfter
-call-retains e s r (Ends.main m) typed = main-retains (view (e .supervisor)) (e .log) r (m .call) _ _ _
-call-retains e s r (Ends.supervisor m) typed =
-    let k = SupervisorHistory.one-call (e .supervisor) m s typed .leaves .0 in
+call-retains e both r (Ends.main m) typed = main-retains (view (e .supervisor)) (e .log) r (m .call) _ _ _
+call-retains e both r (Ends.supervisor m) typed =
+    let k = SupervisorHistory.one-call (e .supervisor) m (both .supervisor) typed .leaves .0 in
     rw k (supervisor-retains (view (e .supervisor)) (e .log) r m _)
 
-call-alert : (e : Ends.Ends) → Both e → RetainsIn e → (t : Ends.EndCall) → EndCallTyped t → Wire (endsAfter e t .log)
-    → CallOf AlertNotRetained e t × RetainsIn (endsAfter e t)
-call-alert e both r t typed w = (by t, call-retains e (both .supervisor) r t typed)
-  where
-    by : (t : Ends.EndCall) → CallOf AlertNotRetained e t
-    by (Ends.main m) =
-        λ x o q waiting alert. alert-taken (mainView (e .main)) (e .log) (both .kept) (view (e .supervisor)) r x q waiting alert
-    by (Ends.supervisor m) = tt
+-- under the number n
+abbrev RetainsUnder : ℕ → Ends.Ends → Type 0
+RetainsUnder n e = RetainsIn e × FromMainUnder n e
 
-together-retains : (s : BothStarts) → RetainsIn (endsBegun s)
+call-alert : (n : ℕ) (e : Ends.Ends) → Both e → RetainsUnder n e → (t : Ends.EndCall) → EndCallTyped t → WireUnder n e t
+    → UnderNumber n (CallOf AlertNotRetained) e t × RetainsUnder n (endsAfter e t)
+call-alert n e both (r, from) t typed w = (λ z. by z t, (call-retains e both r t typed, keeps-from-main n e from t w))
+  where
+    by : mainView (e .main) .newest ≡ n → (t : Ends.EndCall) → CallOf AlertNotRetained e t
+    by z (Ends.main m) =
+        λ x o. alert-taken (mainView (e .main)) (e .log) (both .kept) (rw (← z) at from) (view (e .supervisor)) r x
+    by z (Ends.supervisor m) = tt
+
+pub together-retains : (s : BothStarts) → RetainsIn (endsBegun s)
 unfolding Received.receivedSinceAll Supervisor.leftMeant fresh
 together-retains s =
     let k =
@@ -195,11 +201,11 @@ together-retains s =
     (s .supervisor-accepted) .0 in
     rw k (record { since = by-frames (factoryOf (s .start-data)) [] .2; kept = λ e t f. absurd (none-some f); each = tt })
 
-begun-retains : (e : Ends.Ends) → Begun e → RetainsIn e
-begun-retains = begun-else RetainsIn together-retains call-retains
+begun-retains : (n : ℕ) (e : Ends.Ends) → Begun e → RetainsUnder n e
+begun-retains n e b = (begun-else RetainsIn together-retains call-retains e b, begun-from-main (RequestUnder n) e b)
 
 pub alert-answer : AlertAnswer
-alert-answer e b ts t w = each-call RetainsIn (CallOf AlertNotRetained) call-alert e (begun-both e b) (begun-retains e b) ts t w
+alert-answer n e b ts t w = each-call (RetainsUnder n) (WireUnder n) _ (call-alert n) e (begun-both e b) (begun-retains n e b) ts t w
 
 -- ---- against an earlier moment
 
@@ -252,23 +258,24 @@ module _ (e₀ : Ends.Ends) where
       later h (inl b) o = (o, b)
       later h (inr front) o = absurd (not-asked-by e₀ (s .newest) new h front _ (o .put-out))
 
-  abbrev Keeps : Ends.Ends → Type 0
-  Keeps e = RetainsIn e × Cleared (e .log)
+  abbrev Keeps : ℕ → Ends.Ends → Type 0
+  Keeps n e = RetainsUnder n e × Cleared (e .log)
 
-  call-since : (e : Ends.Ends) → Both e → Keeps e → (t : Ends.EndCall) → EndCallTyped t → Wire (endsAfter e t .log) → MainGoesOn e t
-      → CallOf (AlertAgainst e₀) e t × Keeps (endsAfter e t)
-  call-since e both k t typed w g =
-      let a = call-alert e both (k .0) t typed w in
-      (by t typed w (a .0), (a .1, call-clears e t g (k .1)))
+  call-since : (n : ℕ) (e : Ends.Ends) → Both e → Keeps n e → (t : Ends.EndCall) → EndCallTyped t → WireUnder n e t × MainGoesOn e t
+      → UnderNumber n (CallOf (AlertAgainst e₀)) e t × Keeps n (endsAfter e t)
+  call-since n e both (k, c) t typed (w, g) =
+      let a = call-alert n e both k t typed w in
+      (λ z. by t (answer-fresh n e both (k .1) t typed w z) (a .0 z), (a .1, call-clears e t g c))
     where
-      by : (t : Ends.EndCall) → EndCallTyped t → Wire (endsAfter e t .log) → CallOf AlertNotRetained e t → CallOf (AlertAgainst e₀) e t
-      by (Ends.main m) typed w a = λ r o. since (mainView (e .main)) (e .log) (k .1) r (answer-fresh e both m typed w r o) (a r o)
-      by (Ends.supervisor m) typed w a = tt
+      by : (t : Ends.EndCall) → CallOf Fresh e t → CallOf AlertNotRetained e t → CallOf (AlertAgainst e₀) e t
+      by (Ends.main m) f a = λ r o. since (mainView (e .main)) (e .log) c r (f r o) (a r o)
+      by (Ends.supervisor m) f a = tt
 
 pub alert-since : AlertSince
-alert-since b begins ts us t u w c g v =
+alert-since n b begins ts us t u w c g v =
     let e = endsAfterAll b ts in
-    let k = after-calls RetainsIn (CallOf AlertNotRetained) call-alert b (begun-both b begins) (begun-retains b begins) ts t w in
+    let k = after-calls (RetainsUnder n) (WireUnder n) _ (call-alert n) b (begun-both b begins) (begun-retains n b begins) ts t w in
     let before : Cleared e (e .log) =
     record { now = c; each = each-then _ _ (λ (h : Handled) f. inr f) (e .log .handled) (k .0 .kept .before) } in
-    each-given (Keeps e) MainGoesOn (CallOf (AlertAgainst e)) (call-since e) e (k .0) (k .1, before) us u v g
+    each-call (Keeps e n) (λ x y. WireUnder n x y × MainGoesOn x y) _ (call-since e n) e (k .0) (k .1, before) us u
+    (always-and (WireUnder n) MainGoesOn e us v g)

@@ -38,7 +38,8 @@ use Rattle.supervisor_claims.proofs.claims.History as SupervisorHistory
 use Rattle.both_claims.specs.Ends
 use Rattle.both_claims.specs.Ends.{over, InOrderAfter, GoesOn, replyToRequest, asMessage, BothStarts, endsBegun, together, endsAfter}
 use Rattle.both_claims.specs.Ends.{endsAfterAll, Always, EndCallTyped}
-use Rattle.both_claims.proofs.RoundTrip.{allLent, lent-enough, next-number}
+use Rattle.both_claims.proofs.RoundTrip.{lent-enough, next-number}
+use Rattle.both_claims.specs.Witness.{allLent}
 use Rattle.both_claims.proofs.laws.Table.{table-passes}
 use Rattle.both_claims.proofs.laws.Held.{held-parts, reply-in-range}
 use Rattle.both_claims.proofs.laws.Ranges.{ranged-message}
@@ -48,7 +49,7 @@ use Rattle.both_claims.specs.Exchanges.{requestsExchanged, repliesOf, Cl
 use Rattle.both_claims.proofs.laws.OneExchange.{AtRest}
 use Rattle.both_claims.proofs.laws.OneExchange.{exchange-goes-on, exchange-number, exchange-typed, exchange-in-order}
 use Rattle.both_claims.proofs.laws.OneExchange.{exchange-handed, exchange-rest}
-use Rattle.both_claims.specs.Exchanges.{Served, ExchangesOf}
+use Rattle.both_claims.specs.Exchanges.{RepliedRequest, ExchangesOf}
 use Rattle.both_claims.specs.BothEnds.{CleanExchange, LookupServed, SetServed, ServedExchanges}
 
 -- ---- the claim
@@ -150,7 +151,7 @@ idle-puts s e low q h =
     rw (le-ltb longest-data (length (q .payload)) h, i, lt-leb last-number (s .newest) low, le-ltb (length f) (length f) (omega arith))
 
 -- from rest, as long as there is a next number
-module _ (e : Ends.Ends) (rest : AtRest e) (low : mainView (e .main) .newest < last-number) (q : Request) (served : Served q) where
+module _ (e : Ends.Ends) (rest : AtRest e) (low : mainView (e .main) .newest < last-number) (q : Request) (served : RepliedRequest q) where
   abbrev n : ℕ
   n = suc (mainView (e .main) .newest)
 
@@ -223,7 +224,8 @@ made-next x q qs h k = record {
 }
 
 -- as many as there are numbers
-served-from : (e : Ends.Ends) → AtRest e → (qs : List Request) → Each Served qs → mainView (e .main) .newest + length qs ≤ last-number
+served-from : (e : Ends.Ends) → AtRest e → (qs : List Request) → Each RepliedRequest qs
+    → mainView (e .main) .newest + length qs ≤ last-number
     → ExchangesOf e qs
 unfolding requestsExchanged
 served-from e rest [] served low = record { calls = []; exchanges = finished; requests = refl }

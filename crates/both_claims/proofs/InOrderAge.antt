@@ -1,5 +1,5 @@
--- How old a list can be where the wire keeps the order of frames:
--- no request older than those that had been read by an earlier moment sets a lookup's answer.
+-- How old a list can be where the sets of its key are read in order:
+-- no set older than those that had been read by an earlier moment sets a lookup's answer.
 -- Assumes nothing.
 use mathlib.Core.Path.{_≡_, refl, sym, _∙_}
 use mathlib.Core.Bool.{Bool, true, false}
@@ -14,7 +14,6 @@ use borrow.Author.Tests.{ltb-true, ltb-false}
 use Rattle.octets.specs.Bytes.{Each}
 use Rattle.line.specs.Message.{Message, InRange}
 use Rattle.line.specs.Frame.{frame, split, nonEmpty, closedBehind}
-use Rattle.line.specs.Judge.{judge}
 use Rattle.line.proofs.Pieces.{nonEmpty-append, closed-join}
 use Rattle.line_claims.specs.Calls.{gathered, goodOf, goodMessages}
 use Rattle.line_claims.proofs.ReaderClaim.{gathered-append}
@@ -24,24 +23,24 @@ use Rattle.requester_claims.specs.Numbers.{Frame, OnePerNumber}
 use Rattle.supervisor.specs.Limits.{last-edition}
 use Rattle.supervisor.specs.State.{Setting, State}
 use Rattle.supervisor.specs.Local.{entryOf}
-use Rattle.responder.specs.Requests.{Verdict, failure, good, verdict}
 use Rattle.supervisor_claims.specs.View.{view}
 use Rattle.supervisor_claims.specs.Histories as Supervisor
 use Rattle.supervisor_claims.specs.FrameHistory as Received
-use Rattle.supervisor_claims.specs.LastSet.{requestAhead, requestsIn, setBy, listedIf, setsOf, successful, lastOr, setAfter, sinceMore}
+use Rattle.supervisor_claims.specs.LastSet.{requestsIn, setBy, listedIf, setsOf, successful, lastOr, setAfter, sinceMore}
 use Rattle.supervisor_claims.proofs.claims.LastSetLaws.{requests-append}
 use Rattle.both_claims.specs.Ends
-use Rattle.both_claims.specs.Ends.{Any, Handled, Log, Among, over, lost, came, InOrder, endsAfterAll, Always, EndCallTyped, endsAfter}
-use Rattle.both_claims.specs.Ends.{WireAfter, mainLogged, supervisorLogged}
-use Rattle.both_claims.specs.Ends.{handledFrames, Stays, CallStays, GoesOn, InOrderAfter, NotOlder, ValueAgainst, ValueNotOlder}
-use Rattle.both_claims.specs.Ends.{asMessage}
-use Rattle.both_claims.proofs.FreshAnswer.{in-order-wire}
+use Rattle.both_claims.specs.Ends.{Any, Handled, Log, setsAmong, InTurn, empty, past, read, SetsInOrder, SetsInOrderAfter}
+use Rattle.both_claims.specs.Ends.{endsAfterAll, Always, EndCallTyped, endsAfter, mainLogged, supervisorLogged, handledFrames}
+use Rattle.both_claims.specs.Ends.{Stays, CallStays, GoesOn}
+use Rattle.both_claims.specs.Ends.{setsReadBy, NotOlder, ValueAgainst, ValueNotOlder, asMessage}
 use Rattle.both_claims.proofs.ListAge.{more-none, stays-since, KnownOf, ValueKnown, against}
 use Rattle.both_claims.proofs.laws.Lists.{any-so, any-or, any-then, each-left, each-right, each-then, each-and, each-any}
-use Rattle.both_claims.proofs.laws.Table.{frame-same, passes}
+use Rattle.both_claims.proofs.laws.Lists.{turn-each, turn-images}
+use Rattle.both_claims.proofs.laws.Table.{frame-same}
+use Rattle.both_claims.proofs.laws.SetsAmong.{sets-append, sets-each, sets-requests, set-after-only}
 use Rattle.both_claims.proofs.laws.Ranges.{RangedFrame}
 use Rattle.both_claims.proofs.laws.Kept.{PutOut, Kept}
-use Rattle.both_claims.proofs.laws.BothCalls.{Both, keeps-both, always-so, after-calls, begun-both}
+use Rattle.both_claims.proofs.laws.BothCalls.{Both, keeps-both, always-so, any-calls, begun-both}
 use Rattle.both_claims.specs.BothEnds.{ListNotOlder}
 
 -- ---- lists in order
@@ -51,18 +50,14 @@ abbrev pub Pairs : {A : Type 0} → (A → A → Type 0) → List A → Type 0
 Pairs R [] = Unit {0}
 Pairs R (x ∷ xs) = Each (R x) xs × Pairs R xs
 
-among-keeps : {A : Type 0} (P : A → Type 0) {xs ys : List A} → Among A xs ys → Each P ys → Each P xs
-among-keeps P over h = tt
-among-keeps P (lost a) h = among-keeps P a (h .1)
-among-keeps P (came a) h = (h .0, among-keeps P a (h .1))
-
-among-pairs : {A : Type 0} (R : A → A → Type 0) {xs ys : List A} → Among A xs ys → Pairs R ys → Pairs R xs
-among-pairs R over h = tt
-among-pairs R (lost a) h = among-pairs R a (h .1)
-among-pairs R (came {x = x} a) h = (among-keeps (R x) a (h .0), among-pairs R a (h .1))
+-- one that comes again behind itself
+turn-pairs : {A : Type 0} (R : A → A → Type 0) → ((x : A) → R x x) → {xs ys : List A} → InTurn A xs ys → Pairs R ys → Pairs R xs
+turn-pairs R same empty h = tt
+turn-pairs R same (past a) h = turn-pairs R same a (h .1)
+turn-pairs R same (read {x = x} a) h = (turn-each (R x) a (same x, h .0), turn-pairs R same a h)
 
 -- the elements of a second part are behind all of the first
-pairs-across : {A : Type 0} (R : A → A → Type 0) (xs ys : List A) → Pairs R (xs ++ ys) → Each (λ (y : A). Each (λ (x : A). R x y) xs) ys
+pub pairs-across : {A : Type 0} (R : A → A → Type 0) (xs ys : List A) → Pairs R (xs ++ ys) → Each (λ (y : A). Each (λ (x : A). R x y) xs) ys
 pairs-across {A} R [] ys h = all ys
   where
     all : (ys : List A) → Each (λ (y : A). Unit {0}) ys
@@ -80,11 +75,11 @@ pairs-map {A} f R (x ∷ xs) h = (each xs (h .0), pairs-map f R xs (h .1))
     each [] k = tt
     each (y ∷ ys) k = (k .0, each ys (k .1))
 
-same-rest : {A : Type 0} (xs ys zs : List A) → xs ++ ys ≡ xs ++ zs → ys ≡ zs
+pub same-rest : {A : Type 0} (xs ys zs : List A) → xs ++ ys ≡ xs ++ zs → ys ≡ zs
 same-rest [] ys zs e = e
 same-rest (x ∷ xs) ys zs e = same-rest xs ys zs (let z : xs ++ ys ≡ xs ++ zs = cc in z)
 
--- ---- the messages that the supervisor has read
+-- ---- the sets of a key that the supervisor has read
 
 -- the second has a higher number, or they are one message
 abbrev pub Ordered : Message → Message → Type 0
@@ -116,65 +111,44 @@ asked-pairs : (xs : List Frame) → Each RangedFrame xs → OnePerNumber xs → 
 asked-pairs [] r h = tt
 asked-pairs (x ∷ xs) r h = (each-and RangedFrame _ _ (λ z q k. asked-ordered x z (r .0) q k) xs (r .1) (h .0), asked-pairs xs (r .1) (h .1))
 
-heard-pairs : (ms : List Message) → Each InRange ms → Pairs FramesOrdered (map frame ms) → Pairs Ordered ms
-heard-pairs [] r h = tt
-heard-pairs (y ∷ ms) r h = (each ms (r .1) (h .0), heard-pairs ms (r .1) (h .1))
+ordered-messages : (ms : List Message) → Each InRange ms → Pairs FramesOrdered (map frame ms) → Pairs Ordered ms
+ordered-messages [] r h = tt
+ordered-messages (y ∷ ms) r h = (each ms (r .1) (h .0), ordered-messages ms (r .1) (h .1))
   where
     each : (ks : List Message) → Each InRange ks → Each (FramesOrdered (frame y)) (map frame ks) → Each (Ordered y) ks
     each [] i k = tt
     each (m ∷ ks) i k = (k .0 y m (r .0) (i .0) refl refl, each ks (i .1) (k .1))
 
--- numbers never fall, and what comes again under one number is the same message
-pub heard-ordered : (s : MainState) (l : Log) → Kept s l → InOrder l → Pairs Ordered (l .heard)
-heard-ordered s l kept o =
+frames-same : (b : List ℕ) → FramesOrdered b b
+frames-same b y m i j e f = inr (frame-same i j (e ∙ sym f))
+
+-- of what is read in the order put out: numbers never fall, and what comes again under one number is the same message
+pub turn-ordered : (s : MainState) (l : Log) → Kept s l → (ms : List Message) → Each InRange ms
+    → InTurn (List ℕ) (map frame ms) (map (λ (x : Frame). x .bytes) (l .asked)) → Pairs Ordered ms
+turn-ordered s l kept ms range o =
     let ranged = each-then (PutOut s) RangedFrame (λ x w. w .ranged) (l .asked) (kept .asked) in
-    heard-pairs (l .heard) (kept .heard)
-    (among-pairs FramesOrdered (o .to-supervisor)
+    ordered-messages ms range
+    (turn-pairs FramesOrdered frames-same o
     (pairs-map (λ (x : Frame). x .bytes) FramesOrdered (l .asked) (asked-pairs (l .asked) ranged (kept .ordered))))
 
--- requests that the whole table passes are good messages
-pub requests-good : (P : Message → Type 0) (fs : List (List ℕ)) → Each P (goodMessages fs) → Each P (requestsIn fs)
-unfolding gathered requestsIn
-requests-good P [] h = tt
-requests-good P (f ∷ fs) h = by (verdict f) refl (requests-good P fs (each-right P (goodOf (judge f)) (goodMessages fs) h))
-  where
-    by : (v : Verdict) → verdict f ≡ v → Each P (requestsIn fs) → Each P (requestAhead v (requestsIn fs))
-    by (failure reason version sequence) e others = others
-    by (good m) e others = ((rw (passes f m e .judged) at h) .0, others)
+pub sets-ordered : (k : ℕ) (s : MainState) (l : Log) → Kept s l → SetsInOrder k l → Pairs Ordered (setsAmong k (l .heard))
+sets-ordered k s l kept o =
+    turn-ordered s l kept (setsAmong k (l .heard)) (sets-each k InRange (l .heard) (kept .heard)) o
 
--- of fewer frames
-pub requests-fewer : (P : Message → Type 0) (fs gs : List (List ℕ)) → Each P (requestsIn (fs ++ gs)) → Each P (requestsIn fs)
-requests-fewer P fs gs h = each-left P (requestsIn fs) (requestsIn gs) (rw (requests-append fs gs) at h)
+-- each was put out
+pub sets-from-main : (k : ℕ) (l : Log) → SetsInOrder k l
+    → Each (λ (m : Message). Any (λ (x : Frame). x .bytes ≡ frame m) (l .asked)) (setsAmong k (l .heard))
+sets-from-main k l o = turn-images frame (λ (x : Frame). x .bytes) (setsAmong k (l .heard)) (l .asked) o
 
--- ---- since a moment
+-- ---- what is read since a moment
 
 module _ (e₀ : Ends.Ends) where
-  abbrev NotOlderIn : List (List ℕ) → Type 0
-  NotOlderIn fs = Each (NotOlder e₀) (requestsIn fs)
-
-  not-older-fewer : (fs gs : List (List ℕ)) → NotOlderIn (fs ++ gs) → NotOlderIn fs
-  not-older-fewer = requests-fewer (NotOlder e₀)
-
   -- the frames and the messages read since, and where the keys' values come from
   pub record ReadSince (l : Log) : Type 0 where
     pub later : List (List ℕ)
-    frames : nonEmpty (split (l .received) .closed) ≡ handledFrames e₀ ++ later
+    pub frames : nonEmpty (split (l .received) .closed) ≡ handledFrames e₀ ++ later
     pub heard : l .heard ≡ e₀ .log .heard ++ goodMessages later
     pub origin : (k : ℕ) → l .origin k ≡ sinceMore (e₀ .log .origin k) (requestsIn later)
-
-  -- what holds of the messages read since
-  pub read-known : (P : Message → Type 0) (l : Log) (r : ReadSince l) → Each P (goodMessages (r .later))
-      → (fs : List (List ℕ)) → nonEmpty (split (l .received) .closed) ≡ handledFrames e₀ ++ fs → Each P (requestsIn fs)
-  read-known P l r h fs e =
-      let z : r .later ≡ fs = same-rest (handledFrames e₀) (r .later) fs (sym (r .frames) ∙ e) in
-      rw (← z) (requests-good P (r .later) h)
-
-  pub read-not-older : (s : MainState) (l : Log) → Kept s l → InOrder l → (r : ReadSince l) → Each (NotOlder e₀) (goodMessages (r .later))
-  read-not-older s l kept o r =
-      pairs-across Ordered (e₀ .log .heard) (goodMessages (r .later)) (rw (r .heard) at (heard-ordered s l kept o))
-
-  not-older-known : (s : MainState) (l : Log) → Kept s l → InOrder l → ReadSince l → KnownOf e₀ NotOlderIn not-older-fewer l
-  not-older-known s l kept o r = read-known (NotOlder e₀) l r (read-not-older s l kept o r)
 
   supervisor-reads : (x : State) (l : Log) (m : Supervisor.Made) (waiting : List ℕ) → Stays m → ReadSince l
       → ReadSince (supervisorLogged l x m waiting)
@@ -199,14 +173,46 @@ module _ (e₀ : Ends.Ends) where
   call-reads e (Ends.main m) g r = rw g (record { later = r .later; frames = r .frames; heard = r .heard; origin = r .origin })
   call-reads e (Ends.supervisor m) g r = supervisor-reads _ (e .log) m _ g r
 
-  known-calls : (e : Ends.Ends) → Both e → ReadSince (e .log) → (ts : List Ends.EndCall) → Each EndCallTyped ts → Always GoesOn e ts
-      → Always InOrderAfter e ts → Always (λ x t. KnownOf e₀ NotOlderIn not-older-fewer (endsAfter x t .log)) e ts
+-- ---- its sets of key k
+
+module _ (k : ℕ) where
+  -- of each set of key k among frames
+  abbrev pub EachSet : (Message → Type 0) → List (List ℕ) → Type 0
+  EachSet P fs = Each P (setsAmong k (requestsIn fs))
+
+  pub sets-fewer : (P : Message → Type 0) (fs gs : List (List ℕ)) → EachSet P (fs ++ gs) → EachSet P fs
+  sets-fewer P fs gs h =
+      each-left P (setsAmong k (requestsIn fs)) (setsAmong k (requestsIn gs))
+      (rw (requests-append fs gs, sets-append k (requestsIn fs) (requestsIn gs)) at h)
+
+  pub no-set : (P : Message → Type 0) → EachSet P []
+  unfolding requestsIn setsAmong
+  no-set P = tt
+
+module _ (k : ℕ) (e₀ : Ends.Ends) where
+  -- what holds of the sets read since
+  pub read-known : (P : Message → Type 0) (l : Log) (r : ReadSince e₀ l) → Each P (setsAmong k (goodMessages (r .later)))
+      → KnownOf e₀ (EachSet k P) (sets-fewer k P) l
+  read-known P l r h fs e =
+      let z : r .later ≡ fs = same-rest (handledFrames e₀) (r .later) fs (sym (r .frames) ∙ e) in
+      rw (← z, sets-requests k (r .later)) h
+
+  pub read-not-older : (s : MainState) (l : Log) → Kept s l → SetsInOrder k l → (r : ReadSince e₀ l)
+      → Each (NotOlder k e₀) (setsAmong k (goodMessages (r .later)))
+  read-not-older s l kept o r =
+      pairs-across Ordered (setsReadBy k e₀) (setsAmong k (goodMessages (r .later)))
+      (rw (r .heard, sets-append k (e₀ .log .heard) (goodMessages (r .later))) at (sets-ordered k s l kept o))
+
+  known-calls : (e : Ends.Ends) → Both e → ReadSince e₀ (e .log) → (ts : List Ends.EndCall) → Each EndCallTyped ts → Always GoesOn e ts
+      → Always (SetsInOrderAfter k) e ts
+      → Always (λ x t. KnownOf e₀ (EachSet k (NotOlder k e₀)) (sets-fewer k (NotOlder k e₀)) (endsAfter x t .log)) e ts
   known-calls e both r [] typed g o = tt
   known-calls e both r (t ∷ ts) typed g o =
-      let b = keeps-both e both t (typed .0) (in-order-wire (endsAfter e t .log) (o .0)) in
-      let k = call-reads e t (g .0) r in (
-        not-older-known (mainView (endsAfter e t .main)) (endsAfter e t .log) (b .kept) (o .0) k,
-        known-calls (endsAfter e t) b k ts (typed .1) (g .1) (o .1),
+      let b = keeps-both e both t (typed .0) in
+      let h = call-reads e₀ e t (g .0) r in
+      let l = endsAfter e t .log in (
+        read-known (NotOlder k e₀) l h (read-not-older (mainView (endsAfter e t .main)) l (b .kept) (o .0) h),
+        known-calls (endsAfter e t) b h ts (typed .1) (g .1) (o .1),
       )
 
 -- ---- the value
@@ -243,10 +249,6 @@ set-by k o (m ∷ ms) h = by (setBy k m) refl (set-by k o ms) h
 
 -- ---- the claim
 
-pub wires : (e : Ends.Ends) (ts : List Ends.EndCall) → Always InOrderAfter e ts → Always WireAfter e ts
-wires e [] o = tt
-wires e (t ∷ ts) o = (in-order-wire (endsAfter e t .log) (o .0), wires (endsAfter e t) ts (o .1))
-
 pub first-read : (e : Ends.Ends) → ReadSince e (e .log)
 unfolding gathered requestsIn
 first-read e = record {
@@ -255,10 +257,6 @@ first-read e = record {
   heard = sym (append-nil (e .log .heard));
   origin = λ k. sym (more-none (e .log .origin k));
 }
-
-none-not-older : (e : Ends.Ends) → NotOlderIn e []
-unfolding requestsIn
-none-not-older e = tt
 
 pub stays-of : (e : Ends.Ends) (ts : List Ends.EndCall) → Always GoesOn e ts → Each CallStays ts
 stays-of e [] g = tt
@@ -303,24 +301,38 @@ value-from N k x ms each = by (last-from (x .value) (successful (x .edition) k m
         (set-by k o ms (any-take _ n (setsOf k ms) a)))))
         (take n (setsOf k ms)) a
 
-value-not-older : (e : Ends.Ends) (n k most : ℕ) (r : Message) (h : Handled) → ValueKnown e (NotOlderIn e) (not-older-fewer e) n k most r h
-    → ValueNotOlder e n k most r h
-value-not-older e n k most r h (v, newer) = record {
-  value-since = v;
-  not-older = newer;
-  from =
-      let ms = requestsIn (v .later) in
-      rw (v .last-since)
-      (value-from (NotOlder e) k (entryOf (view (e .supervisor)) k) ms (each-then (NotOlder e) _ (λ m n w s l. inl n) ms newer));
-}
+-- none of them sets another value
+pub value-stays : (k : ℕ) (x : Setting) (ms : List Message)
+    → Each (λ (m : Message). (v : List ℕ) → setBy k m ≡ some v → x .edition < last-edition → ⊥ ⊎ (x .value ≡ some v)) ms
+    → setAfter k x ms .value ≡ x .value
+value-stays k x ms each = by (value-from (λ (m : Message). ⊥) k x ms each)
+  where
+    v : Option (List ℕ)
+    v = setAfter k x ms .value
+
+    by : (v ≡ x .value) ⊎ Any (λ (m : Message). (setBy k m ≡ v) × ⊥) ms → v ≡ x .value
+    by (inl f) = f
+    by (inr a) = absurd (any-so (λ (m : Message). (setBy k m ≡ v) × ⊥) (λ m z. z .1) ms a)
+
+module _ (k : ℕ) (e : Ends.Ends) where
+  value-not-older : (n most : ℕ) (r : Message) (h : Handled)
+      → ValueKnown e (EachSet k (NotOlder k e)) (sets-fewer k (NotOlder k e)) n k most r h → ValueNotOlder e n k most r h
+  value-not-older n most r h (v, newer) = record {
+    value-since = v;
+    not-older = newer;
+    from =
+        let ss = setsAmong k (requestsIn (v .later)) in
+        let had = entryOf (view (e .supervisor)) k in
+        rw (v .last-since, ← set-after-only k had (v .later))
+        (value-from (NotOlder k e) k had ss (each-then (NotOlder k e) _ (λ m n w s l. inl n) ss newer));
+  }
 
 pub list-not-older : ListNotOlder
-list-not-older b begins ts us t u w (g, o) =
+list-not-older n k b begins ts us t u w on =
     let e = endsAfterAll b ts in
-    let both = after-calls (λ x. Unit {0}) (λ x y. Unit {0}) (λ x b i y typed v. (tt, tt)) b (begun-both b begins) tt ts t w .0 in
-    let first : ReadSince e (e .log) = first-read e in
-    always-so _ (ValueAgainst e (ValueNotOlder e))
-    (λ x l r a k most key i q new. any-then _ _ (λ h v. value-not-older e (x .newest) k most r h v) (l .handled) (a k most key i q new)) e
-    us
-    (against e (NotOlderIn e) (not-older-fewer e) b begins ts refl (none-not-older e) t w us u (stays-of e us g) (wires e us o)
-    (known-calls e e both first us u g o))
+    let P = NotOlder k e in
+    let both = any-calls (λ x. Unit {0}) (λ x b i y typed. tt) b (begun-both b begins) tt ts t .0 in
+    always-so _ (ValueAgainst e k (ValueNotOlder e)) n
+    (λ x l r a most key i q new. any-then _ _ (λ h v. value-not-older k e (x .newest) most r h v) (l .handled) (a most key i q new)) e us
+    (against e (EachSet k P) (sets-fewer k P) n k b begins ts refl (no-set k P) t w us u (stays-of e us (on .goes-on)) (on .wire)
+    (known-calls k e e both (first-read e) us u (on .goes-on) (on .sets)))

@@ -1,13 +1,20 @@
 -- The proofs of the claims over both ends: `Proved` has one element of each record of statements in specs/; laws/ has the laws behind them.
 -- Assumes nothing.
 pub mod AlertAnswer
+pub mod AlertsInOrder
+pub mod AlertsPosted
 pub mod CleanExchange
 pub mod FreshAnswer
 pub mod InOrderAge
 pub mod ListAge
 pub mod NeverReplaced
+pub mod OlderFirst
 pub mod PendingBytes
 pub mod Proved
+pub mod RecoveryServed
 pub mod RoundTrip
+pub mod SetThenGot
+pub mod SomeStarts
 pub mod ValueAsked
+pub mod Witness
 pub mod laws

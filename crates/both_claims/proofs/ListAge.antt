@@ -1,10 +1,10 @@
 -- An answer to a lookup of a settings key is the value of its last successful set, or what a later restore left, at a moment after the
 -- lookup was put out. Key 5 is the withdrawn-key list. Assumes nothing.
 use mathlib.Core.Path.{_≡_, refl, sym, ap, _∙_}
-use mathlib.Core.Bool.{Bool, true, false, _||_, false≢true}
+use mathlib.Core.Bool.{Bool, _||_}
 use mathlib.Core.List.{List, [], _∷_, _++_, append-assoc, append-nil}
 use mathlib.Core.Logic.{_⊎_, inl, inr}
-use mathlib.Core.Option.{Option, none, some}
+use mathlib.Core.Option.{Option, some}
 use Prim.Native.Nat.{ℕ, _≤_, _<_}
 use native.Mathlib.Omega.{arith}
 use lib.Seq.{append-snoc}
@@ -14,46 +14,47 @@ use Rattle.octets.proofs.Each.{each-append}
 use Rattle.line.specs.Message.{Message}
 use Rattle.line.specs.Frame.{split, nonEmpty, closedBehind}
 use Rattle.line.proofs.Pieces.{nonEmpty-append, closed-join}
-use Rattle.requester.specs.State.{isSome, MainState}
+use Rattle.requester.specs.State.{MainState}
 use Rattle.requester.specs.Requester.{replySequence}
 use Rattle.requester_claims.specs.View.{mainView}
 use Rattle.requester_claims.specs.Histories.{MainAnswer, MainCall}
 use Rattle.requester_claims.specs.Numbers.{Frame}
 use Rattle.supervisor.specs.Limits.{SettingsKey, last-edition}
-use Rattle.supervisor.specs.State.{Setting, State}
+use Rattle.supervisor.specs.State.{State}
 use Rattle.supervisor.specs.Local
-use Rattle.saving.specs.Saving.{SavedEntry}
 use Rattle.responder.specs.Requests.{ReplyContent, carryOut, effect, replyOf}
 use Rattle.responder.specs.Commands.{commandNumber, withNumber, commandOfNumber}
 use Rattle.supervisor.specs.Number.{topSet}
 use Rattle.supervisor_claims.specs.View.{view, factoryOf}
-use Rattle.supervisor_claims.specs.Sound.{Sound}
 use Rattle.supervisor_claims.specs.Histories as Supervisor
 use Rattle.supervisor_claims.specs.FrameHistory as Received
 use Rattle.supervisor_claims.specs.FrameHistory.{frameCarried, framesCarried}
-use Rattle.supervisor_claims.specs.LastSet.{requestsIn, setBy, setAfter, recordsRestored, Origin, sinceRestore, sinceMore, sinceCall}
+use Rattle.supervisor_claims.specs.LastSet.{requestsIn, setAfter, Origin, sinceMore}
 use Rattle.supervisor_claims.specs.LastSet.{sinceMade, sinceAll}
 use Rattle.supervisor_claims.proofs.claims.WithdrawnKeys.{lookup-data, found-value}
 use Rattle.supervisor_claims.specs.LastSet.{fittedOf, ReadBack}
 use Rattle.supervisor_claims.proofs.laws.Progress.{Since}
 use Rattle.supervisor_claims.proofs.claims.FramesClaim.{made-carried, by-frames}
-use Rattle.supervisor_claims.proofs.claims.LastSetLaws.{afterSets, after-append, after-sets, onto, onto-low, entry-held, requests-append}
+use Rattle.supervisor_claims.proofs.claims.LastSetLaws.{afterSets, after-append, after-sets, entry-held, requests-append}
 use Rattle.supervisor_claims.proofs.claims.LastSetLaws.{frames-have, Holds, fresh-holds, made-holds, since-keeps, in-low, read-low}
+use Rattle.supervisor_claims.proofs.claims.LastSetLaws.{sets-low}
+pub use Rattle.supervisor_claims.proofs.claims.StaysLaws.{more-none, stays-since}
 use Rattle.supervisor_claims.proofs.claims.History as SupervisorHistory
 use Rattle.requester_claims.specs.CameAs.{restarts}
 use Rattle.both_claims.specs.Ends
 use Rattle.both_claims.specs.Ends.{Any, Handled, Log, CarriedOut, Fresh, replyMessage, asMessage, drops, originBy, handledBy}
 use Rattle.both_claims.specs.Ends.{imageLent, brought, supervisorLogged, mainLogged}
-use Rattle.both_claims.specs.Ends.{endsAfterAll, handledFrames, isRestore, acceptsRestore, Stays, CallStays, NotAsked, ValueSince}
+use Rattle.both_claims.specs.Ends.{endsAfterAll, handledFrames, Stays, CallStays, NotAsked, ValueSince}
 use Rattle.both_claims.specs.Ends.{ValueAgainst}
-use Rattle.both_claims.specs.Ends.{EndCallTyped, endsAfter, BothStarts, endsBegun, Begun, Always, Wire, WireAfter, CallOf}
+use Rattle.both_claims.specs.Ends.{EndCallTyped, endsAfter, BothStarts, endsBegun, Begun, Always, RequestUnder, WireUnder}
+use Rattle.both_claims.specs.Ends.{UnderNumber, CallOf}
 use Rattle.both_claims.specs.Ends.{lookupRequest, ValueThen, FreshValue}
 use Rattle.both_claims.proofs.laws.Lists.{Front, any-so, any-then, each-then, each-and, each-any}
 use Rattle.both_claims.proofs.laws.Table.{top-set}
-use Rattle.both_claims.proofs.laws.SupervisorFrames.{frames-none}
 use Rattle.both_claims.proofs.laws.Kept.{Kept, not-asked-by}
-use Rattle.both_claims.proofs.FreshAnswer.{answer-fresh}
-use Rattle.both_claims.proofs.laws.BothCalls.{Both, keeps-both, each-call, after-calls, begun-both, begun-else, always-so}
+use Rattle.both_claims.proofs.FreshAnswer.{FromMainUnder, keeps-from-main, answer-fresh}
+use Rattle.both_claims.proofs.laws.FromMain.{begun-from-main}
+use Rattle.both_claims.proofs.laws.BothCalls.{Both, keeps-both, each-call, after-calls, begun-both, begun-else, call-so, always-so}
 use Rattle.both_claims.specs.BothEnds.{ListAge, NotReplaced}
 
 -- ---- what holds of the supervisor's settings
@@ -63,7 +64,7 @@ pub record SetKey (k : ℕ) (o : Origin) (x : State) : Type 0 where
   pub holds : Holds k o x
   low : o .setting .edition ≤ last-edition
 
-abbrev Set : (ℕ → Origin) → State → Type 0
+abbrev pub Set : (ℕ → Origin) → State → Type 0
 Set o x = (k : ℕ) → SettingsKey k → SetKey k (o k) x
 
 set-frame : (image : List ℕ) (x : State) (o : ℕ → Origin) (b : ℕ) (bs : List ℕ) → Set o x
@@ -92,7 +93,7 @@ module _ (asked : List Frame) (image : List ℕ) where
 pub record Aged (x : State) (l : Log) : Type 0 where
   since : Since (split (l .received) .rest) x
   pub set : Set (l .origin) x
-  each : Each (λ (h : Handled). Set (h .origin) (h .state)) (l .handled)
+  pub each : Each (λ (h : Handled). Set (h .origin) (h .state)) (l .handled)
 
 -- a call of the supervisor
 module _ (x : State) (l : Log) (a : Aged x l) (m : Supervisor.Made) (typed : Supervisor.Typed (m .call)) (waiting : List ℕ) where
@@ -187,21 +188,28 @@ value-fresh s l kept x aged r f k most key i e =
 abbrev pub AgedIn : Ends.Ends → Type 0
 AgedIn e = Aged (view (e .supervisor)) (e .log)
 
-call-ages : (e : Ends.Ends) → Sound (e .supervisor) → AgedIn e → (t : Ends.EndCall) → EndCallTyped t → AgedIn (endsAfter e t)
+pub call-ages : (e : Ends.Ends) → Both e → AgedIn e → (t : Ends.EndCall) → EndCallTyped t → AgedIn (endsAfter e t)
 unfolding endsAfter
-call-ages e s a (Ends.main m) typed = main-ages (view (e .supervisor)) (e .log) a (m .call) _ _ _
-call-ages e s a (Ends.supervisor m) typed =
-    let k = SupervisorHistory.one-call (e .supervisor) m s typed .leaves .0 in
+call-ages e both a (Ends.main m) typed = main-ages (view (e .supervisor)) (e .log) a (m .call) _ _ _
+call-ages e both a (Ends.supervisor m) typed =
+    let k = SupervisorHistory.one-call (e .supervisor) m (both .supervisor) typed .leaves .0 in
     rw k (supervisor-ages (view (e .supervisor)) (e .log) a m typed _)
 
-pub call-aged : (e : Ends.Ends) → Both e → AgedIn e → (t : Ends.EndCall) → EndCallTyped t → Wire (endsAfter e t .log)
-    → CallOf FreshValue e t × AgedIn (endsAfter e t)
-call-aged e both a t typed w = (by t typed w, call-ages e (both .supervisor) a t typed)
-  where
-    by : (t : Ends.EndCall) → EndCallTyped t → Wire (endsAfter e t .log) → CallOf FreshValue e t
-    by (Ends.main m) typed w =
-        λ r o. value-fresh (mainView (e .main)) (e .log) (both .kept) (view (e .supervisor)) a r (answer-fresh e both m typed w r o)
-    by (Ends.supervisor m) typed w = tt
+-- under the number n
+abbrev AgedUnder : ℕ → Ends.Ends → Type 0
+AgedUnder n e = AgedIn e × FromMainUnder n e
+
+keeps-aged : (n : ℕ) (e : Ends.Ends) → Both e → AgedUnder n e → (t : Ends.EndCall) → EndCallTyped t → WireUnder n e t
+    → AgedUnder n (endsAfter e t)
+keeps-aged n e both (a, from) t typed w = (call-ages e both a t typed, keeps-from-main n e from t w)
+
+call-aged : (n : ℕ) (e : Ends.Ends) → Both e → AgedUnder n e → (t : Ends.EndCall) → EndCallTyped t → WireUnder n e t
+    → UnderNumber n (CallOf FreshValue) e t × AgedUnder n (endsAfter e t)
+call-aged n e both (a, from) t typed w = (
+  λ z. call-so Fresh FreshValue e (value-fresh (mainView (e .main)) (e .log) (both .kept) (view (e .supervisor)) a) t
+      (answer-fresh n e both from t typed w z),
+  keeps-aged n e both (a, from) t typed w,
+)
 
 together-aged : (s : BothStarts) → AgedIn (endsBegun s)
 unfolding Received.receivedSinceAll Supervisor.leftMeant
@@ -215,56 +223,21 @@ together-aged s =
 pub begun-aged : (e : Ends.Ends) → Begun e → AgedIn e
 begun-aged = begun-else AgedIn together-aged call-ages
 
+begun-aged-under : (n : ℕ) (e : Ends.Ends) → Begun e → AgedUnder n e
+begun-aged-under n e b = (begun-aged e b, begun-from-main (RequestUnder n) e b)
+
 pub list-age : ListAge
-list-age e b ts t w = each-call AgedIn (CallOf FreshValue) call-aged e (begun-both e b) (begun-aged e b) ts t w
+list-age n e b ts t w = each-call (AgedUnder n) (WireUnder n) _ (call-aged n) e (begun-both e b) (begun-aged-under n e b) ts t w
 
 -- ---- against an earlier moment
-
-sets-low : (k : ℕ) (x : Setting) (ms : List Message) → x .edition ≤ last-edition → afterSets k x ms .edition ≤ last-edition
-unfolding afterSets
-sets-low k x [] h = h
-sets-low k x (m ∷ ms) h = sets-low k (onto x (setBy k m)) ms (onto-low x (setBy k m) h)
-
--- no request more
-pub more-none : (x : Origin) → sinceMore x [] ≡ x
-more-none x = rw append-nil
-
--- a call that is neither an accepted start nor an accepted restore: the requests that it brings, and nothing else
-module _ (k : ℕ) (w : List ℕ) (x : Origin) where
-  abbrev Adds : Origin → List ℕ → Type 0
-  Adds o bs = o ≡ sinceMore x (requestsIn (Received.framesClosedBy w bs))
-
-  adds-none : Adds x []
-  unfolding requestsIn
-  adds-none = rw (frames-none w) (sym (more-none x))
-
-  call-stays : (c : Supervisor.Call) → Received.isAcceptedStart c ≡ false → isRestore c ≡ false
-      → Adds (sinceCall k w x c) (Received.pieceRead c)
-  unfolding sinceCall Received.pieceRead
-  call-stays (Supervisor.start d) e f = rw e adds-none
-  call-stays (Supervisor.receive image piece) e f = refl
-  call-stays (Supervisor.step image piece) e f = refl
-  call-stays (Supervisor.local c) e f = by (recordsRestored c) f
-    where
-      by : (o : Option (List SavedEntry)) → isSome o ≡ false → Adds (sinceRestore k x o) []
-      by none f = adds-none
-      by (some es) f = absurd (false≢true (sym f))
-
-  pub stays-since : (m : Supervisor.Made) → Stays m → Adds (sinceMade k w x m) (Received.bytesReceivedBy m)
-  unfolding sinceMade Received.bytesReceivedBy Received.startsAnew acceptsRestore
-  stays-since m n = by (Supervisor.enough (m .call) (m .lent)) refl
-    where
-      by : (t : Bool) → Supervisor.enough (m .call) (m .lent) ≡ t → Adds (sinceMade k w x m) (Received.bytesReceivedBy m)
-      by true f = rw f (call-stays (m .call) (rw f at (n .no-start)) (rw f at (n .no-restore)))
-      by false f = rw f adds-none
 
 -- with what is known of the frames since then, and so of the first of them
 module _ (e₀ : Ends.Ends) (Is : List (List ℕ) → Type 0) (fewer : (fs gs : List (List ℕ)) → Is (fs ++ gs) → Is fs) where
   -- frames since then, and where the keys' values come from behind them
-  record Behind (fs : List (List ℕ)) (o : ℕ → Origin) : Type 0 where
-    later : List (List ℕ)
-    frames : fs ≡ handledFrames e₀ ++ later
-    origin : (k : ℕ) → o k ≡ sinceMore (e₀ .log .origin k) (requestsIn later)
+  pub record Behind (fs : List (List ℕ)) (o : ℕ → Origin) : Type 0 where
+    pub later : List (List ℕ)
+    pub frames : fs ≡ handledFrames e₀ ++ later
+    pub origin : (k : ℕ) → o k ≡ sinceMore (e₀ .log .origin k) (requestsIn later)
     known : Is later
 
   behind-more : (fs gs : List (List ℕ)) (o p : ℕ → Origin) → ((k : ℕ) → p k ≡ sinceMore (o k) (requestsIn gs)) → (b : Behind fs o)
@@ -277,12 +250,12 @@ module _ (e₀ : Ends.Ends) (Is : List (List ℕ) → Type 0) (fewer : (fs gs : 
   }
 
   -- what was handled since then came behind those frames; what was handled before came when no more had been put out
-  abbrev Placed : Handled → Type 0
+  abbrev pub Placed : Handled → Type 0
   Placed h = Behind (h .earlier) (h .origin) ⊎ Front (h .asked) (e₀ .log .asked)
 
-  record Later (l : Log) : Type 0 where
+  pub record Later (l : Log) : Type 0 where
     received : Behind (nonEmpty (split (l .received) .closed)) (l .origin)
-    each : Each Placed (l .handled)
+    pub each : Each Placed (l .handled)
 
   frames-placed : (asked : List Frame) (image : List ℕ) (fs : List (List ℕ)) (cleared : Bool) (x : State) (o : ℕ → Origin)
       (earlier : List (List ℕ)) (b : Behind earlier o)
@@ -321,13 +294,14 @@ module _ (e₀ : Ends.Ends) (Is : List (List ℕ) → Type 0) (fewer : (fs gs : 
       cond-by Later (restarts c a) _ _ (λ _. record { received = h .received; each = tt })
       (λ _. record { received = h .received; each = h .each })
 
-  call-later : (e : Ends.Ends) (t : Ends.EndCall) → CallStays t → Later (e .log) → KnownOf (endsAfter e t .log) → Later (endsAfter e t .log)
+  pub call-later : (e : Ends.Ends) (t : Ends.EndCall) → CallStays t → Later (e .log) → KnownOf (endsAfter e t .log)
+      → Later (endsAfter e t .log)
   unfolding endsAfter
   call-later e (Ends.main m) n h known = main-later (e .log) h (m .call) _ _ _
   call-later e (Ends.supervisor m) n h known = supervisor-later _ (e .log) m _ n h known
 
   -- at the moment itself
-  moment-later : Both e₀ → Is [] → Later (e₀ .log)
+  pub moment-later : Both e₀ → Is [] → Later (e₀ .log)
   unfolding requestsIn
   moment-later both i = record {
     received =
@@ -372,40 +346,42 @@ module _ (e₀ : Ends.Ends) (Is : List (List ℕ) → Type 0) (fewer : (fs gs : 
         each-any _ Carried _ since-at (l .handled)
         (each-and (λ (h : Handled). Set (h .origin) (h .state)) Placed _ (λ h y z. (y, z)) (l .handled) (aged .each) (later .each)) a
 
-  abbrev pub Against : MainState → Log → Message → Type 0
-  Against = ValueAgainst e₀ ValueKnown
+  abbrev pub Against : ℕ → MainState → Log → Message → Type 0
+  Against k = ValueAgainst e₀ k ValueKnown
 
-  against-fresh : AgedIn e₀ → (s : MainState) (l : Log) → Kept s l → (x : State) → Aged x l → Later l → (r : Message) → Fresh s l r
-      → Against s l r
-  against-fresh a₀ s l kept x aged later r f k most key i e new =
+  against-fresh : (k : ℕ) → AgedIn e₀ → (s : MainState) (l : Log) → Kept s l → (x : State) → Aged x l → Later l → (r : Message)
+      → Fresh s l r → Against k s l r
+  against-fresh k a₀ s l kept x aged later r f most key i e new =
       let q : f .request ≡ lookupRequest k most = (let w = f .waiting in cc) in
       value-since a₀ s l kept x aged later r k most key i new (rw q at (f .made))
 
-  call-since : AgedIn e₀ → (e : Ends.Ends) → Both e → AgedIn e → Later (e .log) → (t : Ends.EndCall) → EndCallTyped t
-      → Wire (endsAfter e t .log) → CallOf Against e t
-  call-since a₀ e both a h (Ends.main m) typed w =
-      λ r o. against-fresh a₀ (mainView (e .main)) (e .log) (both .kept) (view (e .supervisor)) a h r (answer-fresh e both m typed w r o)
-  call-since a₀ e both a h (Ends.supervisor m) typed w = tt
+  module _ (n k : ℕ) where
+    call-since : AgedIn e₀ → (e : Ends.Ends) → Both e → AgedUnder n e → Later (e .log) → (t : Ends.EndCall) → EndCallTyped t
+        → WireUnder n e t → UnderNumber n (CallOf (Against k)) e t
+    call-since a₀ e both (a, from) h t typed w z =
+        call-so Fresh (Against k) e (against-fresh k a₀ (mainView (e .main)) (e .log) (both .kept) (view (e .supervisor)) a h) t
+        (answer-fresh n e both from t typed w z)
 
-  -- calls after that moment
-  since-calls : AgedIn e₀ → (e : Ends.Ends) → Both e → AgedIn e → Later (e .log) → (ts : List Ends.EndCall) → Each EndCallTyped ts
-      → Each CallStays ts → Always WireAfter e ts → Always (λ x t. KnownOf (endsAfter x t .log)) e ts → Always (CallOf Against) e ts
-  since-calls a₀ e both a h [] typed n w known = tt
-  since-calls a₀ e both a h (t ∷ ts) typed n w known =
-      let k = call-aged e both a t (typed .0) (w .0) in (
-        call-since a₀ e both a h t (typed .0) (w .0),
-        since-calls a₀ (endsAfter e t) (keeps-both e both t (typed .0) (w .0)) (k .1) (call-later e t (n .0) h (known .0)) ts (typed .1)
-            (n .1) (w .1) (known .1),
-      )
+    -- calls after that moment
+    since-calls : AgedIn e₀ → (e : Ends.Ends) → Both e → AgedUnder n e → Later (e .log) → (ts : List Ends.EndCall) → Each EndCallTyped ts
+        → Each CallStays ts → Always (WireUnder n) e ts → Always (λ x t. KnownOf (endsAfter x t .log)) e ts
+        → Always (UnderNumber n (CallOf (Against k))) e ts
+    since-calls a₀ e both a h [] typed stays w known = tt
+    since-calls a₀ e both a h (t ∷ ts) typed stays w known = (
+      call-since a₀ e both a h t (typed .0) (w .0),
+      since-calls a₀ (endsAfter e t) (keeps-both e both t (typed .0)) (keeps-aged n e both a t (typed .0) (w .0))
+          (call-later e t (stays .0) h (known .0)) ts (typed .1) (stays .1) (w .1) (known .1),
+    )
 
-  -- from a start of the main processor's end on
-  pub against : (b : Ends.Ends) → Begun b → (ts : List Ends.EndCall) → e₀ ≡ endsAfterAll b ts → Is [] → Each EndCallTyped ts
-      → Always WireAfter b ts
-      → (us : List Ends.EndCall) → Each EndCallTyped us → Each CallStays us → Always WireAfter e₀ us
-      → Always (λ x t. KnownOf (endsAfter x t .log)) e₀ us → Always (CallOf Against) e₀ us
-  against b begins ts e i t w us u n v known =
-      let k = rw (← e) at (after-calls AgedIn (CallOf FreshValue) call-aged b (begun-both b begins) (begun-aged b begins) ts t w) in
-      since-calls (k .1) e₀ (k .0) (k .1) (moment-later (k .0) i) us u n v known
+    -- from a start of the main processor's end on
+    pub against : (b : Ends.Ends) → Begun b → (ts : List Ends.EndCall) → e₀ ≡ endsAfterAll b ts → Is [] → Each EndCallTyped ts
+        → Always (WireUnder n) b ts
+        → (us : List Ends.EndCall) → Each EndCallTyped us → Each CallStays us → Always (WireUnder n) e₀ us
+        → Always (λ x t. KnownOf (endsAfter x t .log)) e₀ us → Always (UnderNumber n (CallOf (Against k))) e₀ us
+    against b begins ts e i t w us u stays v known =
+        let first = begun-aged-under n b begins in
+        let h = rw (← e) at (after-calls (AgedUnder n) (WireUnder n) _ (call-aged n) b (begun-both b begins) first ts t w) in
+        since-calls (h .1 .0) e₀ (h .0) (h .1) (moment-later (h .0) i) us u stays v known
 
 -- nothing is asked of the frames
 nothing-known : (e₀ e : Ends.Ends) (ts : List Ends.EndCall)
@@ -414,8 +390,8 @@ nothing-known e₀ e [] = tt
 nothing-known e₀ e (t ∷ ts) = (λ fs f. tt, nothing-known e₀ (endsAfter e t) ts)
 
 pub not-replaced : NotReplaced
-not-replaced b begins ts us t u w n v =
+not-replaced n k b begins ts us t u w stays v =
     let e = endsAfterAll b ts in
-    always-so _ (ValueAgainst e (ValueSince e))
-    (λ x l r a k most key i o new. any-then _ _ (λ h v. v .0) (l .handled) (a k most key i o new)) e us
-    (against e (λ fs. Unit {0}) (λ fs gs i. tt) b begins ts refl tt t w us u n v (nothing-known e e us))
+    always-so _ (ValueAgainst e k (ValueSince e)) n
+    (λ x l r a most key i o new. any-then _ _ (λ h v. v .0) (l .handled) (a most key i o new)) e us
+    (against e (λ fs. Unit {0}) (λ fs gs i. tt) n k b begins ts refl tt t w us u stays v (nothing-known e e us))

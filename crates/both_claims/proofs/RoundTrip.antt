@@ -19,9 +19,10 @@ use Rattle.line.specs.Message.{Message, InRange, message}
 use Rattle.requester.specs.Limits.{last-number}
 use Rattle.requester.specs.State.{Request, requestFrame, outstanding, isSome, MainState, mainState}
 use Rattle.requester.specs.Requester
-use Rattle.requester.specs.Requester.{staysOut, replySequence}
+use Rattle.requester.specs.Requester.{staysOut, replySequence, answer, afterHeard, mainWithReceived, mainMovedTo}
 use Rattle.requester_claims.specs.Histories.{MainLent, MainMade, MainMeans, mainEnough, mainLeft, mainMade, mainMeant, mainMeantMade}
 use Rattle.requester_claims.specs.Histories as Main
+use Rattle.requester_claims.specs.Histories.{handedData}
 use Rattle.line.specs.Cobs.{cobs}
 use Rattle.line.specs.Frame.{frame, form}
 use Rattle.line_claims.proofs.CobsClaims.{above-zero, no-zero, form-fits}
@@ -37,12 +38,10 @@ use Rattle.supervisor_claims.specs.FrameHistory.{frameCarried}
 use Rattle.supervisor_claims.specs.Replies.{takenBytes}
 use Rattle.supervisor_claims.proofs.claims.History.{history, follows, one-call}
 use Rattle.supervisor_claims.proofs.claims.WithdrawnKeys.{framed-pending}
-use Rattle.line.specs.Reader as LineReader
-use Rattle.line_claims.specs.Loans.{first, enoughPart}
+use Rattle.line_claims.specs.Loans.{enoughPart}
 use Rattle.line_claims.proofs.JudgeClaim.{judge-of-message}
 use Rattle.requester.specs.Layout
-use Rattle.requester.specs.Calls as MainCalls
-use Rattle.requester.specs.Calls.{MainPartsValid, MainParts}
+use Rattle.requester.specs.Calls.{MainPartsValid, MainParts, handedReportOf}
 use Rattle.requester_claims.specs.View.{mainView}
 use Rattle.requester_claims.specs.Cuts.{handedEvents, MainRead, Listener, listening, afterMainRead, afterMainReads}
 use Rattle.requester_claims.proofs.Cuts.{cut}
@@ -53,12 +52,14 @@ use Rattle.line_claims.proofs.SpellingClaim.{good-form}
 use Rattle.both_claims.proofs.laws.Table.{passes, top-set}
 use Rattle.both_claims.proofs.laws.ReplyRange.{reply-of}
 use Rattle.both_claims.proofs.laws.Held.{held-parts, reply-in-range}
-use Rattle.both_claims.proofs.laws.FrameHeard.{frame-heard, heard-answer, answers-kept, one-read}
+use Rattle.both_claims.proofs.laws.FrameHeard.{frame-heard, heard-answer, one-read}
 use Rattle.both_claims.proofs.laws.Lists.{none-some, snoc-same}
-use Rattle.both_claims.specs.RoundTrip.{allReceived, Delivery, deliveredTo, Taking, takenOf, handedOut, Trip}
+use Rattle.both_claims.specs.RoundTrip.{allReceived, Delivery, deliveredTo, Taking, takenOf, answerTaken, TakenAs, Answered, Trip}
+use Rattle.both_claims.proofs.laws.AnswerTaken.{taken-as}
 use Rattle.both_claims.proofs.laws.Delivered.{delivered, all-moved}
 use Rattle.both_claims.proofs.laws.Ranges.{ranged-message}
-use Rattle.both_claims.specs.BothEnds.{RoundTrip, RoundTripAgain}
+use Rattle.both_claims.specs.BothEnds.{RoundTrip, Progress}
+use Rattle.both_claims.specs.Witness.{allLent}
 
 -- ---- the request
 
@@ -95,8 +96,7 @@ module _ (s : MainState) (q : Request) (room : List ℕ) (count : ℕ) where
 -- what the parts then are
 pub record Waiting (p : MainParts) (q : Request) (frame : List ℕ) : Type 0 where
   pub valid : MainPartsValid p
-  pub kept : mainView p .kept ≡ some q
-  pub calm : mainView p .recovery ≡ none
+  pub waits : outstanding (mainView p) ≡ some q
   pub between : mainView p .received ≡ some []
   pub newest : Layout.newestNumber (p .requester) ≡ mainView p .newest
   pub put : frame ≡ requestFrame (Layout.newestNumber (p .requester)) q
@@ -124,6 +124,10 @@ module _ (p : MainParts) (v : MainPartsValid p) (j : MainLent) (command : ℕ) (
       → Layout.newestNumber (mainMade p asking .parts .requester) ≡ suc (mainView p .newest)
   next-number put = newest-after p v asking ∙ ap (λ (y : MainState). y .newest) (made-puts put .state)
 
+  -- outside a recovery
+  pub asked-calm : mainMade p asking .answer ≡ Main.put count → mainView (mainMade p asking .parts) .recovery ≡ none
+  asked-calm put = ap (λ (y : MainState). y .recovery) (MainHistory.one-call p asking v .state ∙ made-puts put .state)
+
   module _ (between : mainView p .received ≡ some []) (byte : command < 256) (bytes : Each Byte d) (stays : staysOut command ≡ true) where
     pub waiting : mainMade p asking .answer ≡ Main.put count → Waiting (mainMade p asking .parts) q (take count (mainMade p asking .out))
     waiting put =
@@ -133,8 +137,7 @@ module _ (p : MainParts) (v : MainPartsValid p) (j : MainLent) (command : ℕ) (
         let n = next-number put in
         record {
           valid = k .valid;
-          kept = ap (λ (y : MainState). y .kept) e ∙ rw stays;
-          calm = ap (λ (y : MainState). y .recovery) e;
+          waits = ap outstanding e ∙ rw stays;
           between = ap (λ (y : MainState). y .received) e ∙ between;
           newest = n ∙ sym (ap (λ (y : MainState). y .newest) e);
           put = ap (take count) (k .out) ∙ x .frame ∙ rw n;
@@ -162,8 +165,7 @@ module _ (s : MainState) (q : Request) (room : List ℕ) (count : ℕ) where
       (λ _ e. let z : _≡_ {A = ℕ} 0 (suc count) = cc in absurd (omega arith)))
 
 module _ (p : MainParts) (v : MainPartsValid p) (j : MainLent) (q : Request) (room : List ℕ) (count : ℕ)
-    (between : mainView p .received ≡ some [])
-    (calm : mainView p .recovery ≡ none) (kept : mainView p .kept ≡ some q) (bytes : Each Byte (q .payload)) where
+    (between : mainView p .received ≡ some []) (waits : outstanding (mainView p) ≡ some q) (bytes : Each Byte (q .payload)) where
   abbrev sending : MainMade
   sending = record { lent = j; call = Main.send room }
 
@@ -173,7 +175,7 @@ module _ (p : MainParts) (v : MainPartsValid p) (j : MainLent) (q : Request) (ro
   meant-puts-again =
       cond-by (λ (x : MainMeans). x .answer ≡ Main.put (suc count) → PutAgain (mainView p) q (suc count) x) (mainEnough (Main.send room) j)
       _ _
-      (λ _. send-puts (mainView p) q room count (outstanding (mainView p)) (rw (calm, kept))) (λ _ e. absurd (never-put _ _ e))
+      (λ _. send-puts (mainView p) q room count (outstanding (mainView p)) waits) (λ _ e. absurd (never-put _ _ e))
 
   waiting-again : mainMade p sending .answer ≡ Main.put (suc count)
       → let x = mainMade p sending in let m = asMessage (Layout.newestNumber (x .parts .requester)) q in
@@ -186,8 +188,7 @@ module _ (p : MainParts) (v : MainPartsValid p) (j : MainLent) (q : Request) (ro
       let m = asMessage (Layout.newestNumber (mainMade p sending .parts .requester)) q in
       record {
         valid = k .valid;
-        kept = ap (λ (y : MainState). y .kept) e ∙ kept;
-        calm = ap (λ (y : MainState). y .recovery) e ∙ calm;
+        waits = ap outstanding e ∙ waits;
         between = ap (λ (y : MainState). y .received) e ∙ between;
         newest = n ∙ sym (ap (λ (y : MainState). y .newest) e);
         put = ap (take (suc count)) (k .out) ∙ x .frame ∙ rw n;
@@ -248,10 +249,6 @@ module _ (q : Parts) (s : Sound q) (idle : view q .received ≡ some []) (image 
 
 -- ---- the main processor's side
 
--- all that a call takes is lent
-abbrev pub allLent : MainLent
-allLent = record { reader = first LineReader.reader-length; requester = first Layout.requester-length }
-
 pub lent-enough : (piece : List ℕ) → mainEnough (Main.receive piece) allLent ≡ true
 unfolding mainEnough enoughPart
 lent-enough piece = refl
@@ -269,20 +266,19 @@ owed-read true s e =
     ap (λ (x : Option (List ℕ)). Requester.mainReceived 1 (Requester.mainClosed x (Requester.mainWithReceived s (some [])))) e
     ∙ ap (λ (x : Option (List ℕ)). Requester.mainReceived 1 (Requester.dropped (Requester.mainWithReceived s x))) (sym e)
 
-module _ (p : MainParts) (v : MainPartsValid p) (q : Request) (kept : mainView p .kept ≡ some q) (calm : mainView p .recovery ≡ none)
-    (between : mainView p .received ≡ some []) (r : Message) (range : InRange r) (version : r .version ≡ 1)
-    (sequence : r .sequence ≡ replySequence (mainView p .newest)) (command : r .command ≡ 0x02 → ⊥) where
+module _ (p : MainParts) (v : MainPartsValid p) (between : mainView p .received ≡ some []) (r : Message) (range : InRange r)
+    (version : r .version ≡ 1) (sequence : r .sequence ≡ replySequence (mainView p .newest)) (command : r .command ≡ 0x02 → ⊥) where
   abbrev s : MainState
   s = mainView p
 
   -- the frame, whole
-  pub reply-heard : Requester.receive s (frame r) ≡ Requester.mainReceived (length (frame r))
-      (Requester.mainResult (Requester.answered r) (Requester.mainMoved none (mainState (s .newest) none none false (some []))))
+  pub reply-heard : Requester.receive s (frame r) ≡ Requester.mainReceived (length (frame r)) (afterHeard (answer r) s)
   unfolding frame
   reply-heard =
       let h = heard-answer (s .newest) r version sequence command in
+      let same : mainWithReceived s (some []) ≡ s = ap (mainWithReceived s) (sym between) in
       frame-heard (form r) [] s (above-zero (message r)) between (form-some (message r)) (form-fits r range)
-      ∙ rw (judge-of-message r range, h, answers-kept s q r (some []) calm kept)
+      ∙ rw (judge-of-message r range, h, same)
 
   -- the 00 that may be owed, and the frame, each in a piece
   abbrev owedRead : Bool → MainRead
@@ -291,14 +287,15 @@ module _ (p : MainParts) (v : MainPartsValid p) (q : Request) (kept : mainView p
   abbrev frameRead : MainRead
   frameRead = record { lent = allLent; piece = frame r }
 
-  abbrev Answered : List ℕ → Listener → Type 0
-  Answered bs x =
-      (x .handed ≡ handedOut r ∷ [])
+  abbrev Hears : List ℕ → Listener → Type 0
+  Hears bs x =
+      let z = afterHeard (answer r) s in
+      (x .handed ≡ handedEvents (handedReportOf (z .handed)) (handedData (z .handed)) (z .ended))
       × (x .bytes ≡ bs)
-      × (mainView (x .parts) ≡ mainState (s .newest) none none false (some []))
+      × (mainView (x .parts) ≡ z .state)
 
-  in-two : (b : Bool) → Answered (owed b ++ frame r) (afterMainReads (listening p) (owedRead b ∷ (frameRead ∷ [])))
-  unfolding afterMainReads handedEvents MainCalls.handedReportOf Main.handedData
+  in-two : (b : Bool) → Hears (owed b ++ frame r) (afterMainReads (listening p) (owedRead b ∷ (frameRead ∷ [])))
+  unfolding afterMainReads handedEvents handedReportOf handedData
   in-two b =
       let x = afterMainRead (listening p) (owedRead b) in
       let k = one-read (listening p) (owedRead b) v (lent-enough (owed b)) in
@@ -314,7 +311,7 @@ module _ (p : MainParts) (v : MainPartsValid p) (q : Request) (kept : mainView p
 
   -- in any cuts
   in-any : (b : Bool) (cs : List MainRead) → afterMainReads (listening p) cs .bytes ≡ owed b ++ frame r
-      → Answered (owed b ++ frame r) (afterMainReads (listening p) cs)
+      → Hears (owed b ++ frame r) (afterMainReads (listening p) cs)
   in-any b cs e =
       let t = in-two b in
       rw (cut p v cs (owedRead b ∷ (frameRead ∷ [])) (e ∙ sym (t .1))) t
@@ -341,7 +338,7 @@ module _ (q : Parts) (s : Sound q) (idle : view q .received ≡ some []) (p : Ma
         t .no-failure,
       )
 
-  answered : Trip q p a fr
+  answered : Trip (TakenAs (mainView p)) q p a fr
   unfolding requestFrame
   answered image each passed r earns version b t cs read =
       let f : Delivery image (frame m) = record {
@@ -357,9 +354,17 @@ module _ (q : Parts) (s : Sound q) (idle : view q .received ≡ some []) (p : Ma
       } in
       let e : takenOf t ≡ waits q s idle image m passed r earns = reply-taken q s idle image m passed r earns f t in
       let g = whole-heard image each passed r earns in
-      let z =
-      in-any p (w .valid) a (w .kept) (w .calm) (w .between) r (g .0) version (g .1) (g .2) (view q .terminator-owed) cs (read ∙ e) in
-      (z .0, z .2 ∙ rw (w .newest))
+      let z = in-any p (w .valid) (w .between) r (g .0) version (g .1) (g .2) (view q .terminator-owed) cs (read ∙ e) in
+      let o = taken-as image (view q) n a r earns (mainView p .recovery) (mainView p .kept) (w .waits) in
+      (rw o at (z .0), rw o at (z .2))
+
+  -- outside a recovery
+  calm-answered : mainView p .recovery ≡ none → (r : Message) (x : Listener) → TakenAs (mainView p) r x → Answered n r x
+  unfolding answerTaken handedEvents handedReportOf handedData mainMovedTo
+  calm-answered calm r x z =
+      let h = rw calm at (z .0) in
+      let s = rw calm at (z .1) in
+      (h, s ∙ rw (w .newest, w .between))
 
 -- each end after any calls from its start
 module _ (starts : BothStarts) (mains : List MainMade) (sups : List Supervisor.Made) (sups-typed : Supervisor.AllTyped sups) where
@@ -378,13 +383,17 @@ round-trip starts mains sups typed between idle j command d room byte bytes coun
     let w =
     waiting p (main-valid starts mains sups typed) j command d room count between byte bytes (replied-stays image (view q) _ r earns) put in
     let asked = mainMade p (record { lent = j; call = Main.request command d room }) .parts in
-    answered q (supervisor-sound starts mains sups typed) idle asked (record { command = command; payload = d }) _ w image each passed r
-    earns version
+    let a : Request = record { command = command; payload = d } in
+    let s = supervisor-sound starts mains sups typed in
+    let calm = asked-calm p (main-valid starts mains sups typed) j command d room count put in
+    λ b t cs read.
+    calm-answered q s idle asked a _ w calm r (afterMainReads (listening asked) cs)
+    (answered q s idle asked a _ w image each passed r earns version b t cs read)
 
-pub round-trip-again : RoundTripAgain
-round-trip-again starts mains sups typed between idle j a room calm kept bytes count put image each passed =
+pub progress : Progress
+progress starts mains sups typed between idle j a room waits bytes count put image each passed =
     let p = mainLeft (endsBegun starts .main) mains in
     let q = Supervisor.left (endsBegun starts .supervisor) sups in
-    let w = waiting-again p (main-valid starts mains sups typed) j a room count between calm kept bytes put passed in
+    let w = waiting-again p (main-valid starts mains sups typed) j a room count between waits bytes put passed in
     let sent = mainMade p (record { lent = j; call = Main.send room }) .parts in
     answered q (supervisor-sound starts mains sups typed) idle sent a _ w image each passed

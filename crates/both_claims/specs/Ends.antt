@@ -13,7 +13,7 @@ use Rattle.octets.specs.Bytes.{Each, Byte, bytes}
 use Rattle.line.specs.Numbers.{status-length, first-version, command-reboot, command-power-off, command-alert, command-key-lookup}
 use Rattle.line.specs.Numbers.{reply-status, reply-key-lookup}
 use Rattle.line.specs.Message.{Message}
-use Rattle.line.specs.Frame.{frame, split, nonEmpty}
+use Rattle.line.specs.Frame.{frame, split, nonEmpty, closedBehind}
 use Rattle.line_claims.specs.Calls.{goodMessages}
 use Rattle.requester.specs.State as RequesterState
 use Rattle.requester.specs.State.{isSome, Request, outstanding, requestFrame, MainState}
@@ -29,13 +29,14 @@ use Rattle.requester_claims.specs.CameAs.{bytesReadBy, restarts}
 use Rattle.supervisor.specs.State.{Retained, State}
 use Rattle.supervisor.specs.Local.{entryOf}
 use Rattle.supervisor.specs.Calls as SupervisorCalls
-use Rattle.responder.specs.Requests.{Verdict, failure, good, Reply, verdict, carryOut, replyOf, alertData, oldest}
+use Rattle.responder.specs.Requests.{Verdict, failure, good, Reply, versionServed, tested, verdict, carryOut, replyOf, alertData, oldest}
 use Rattle.supervisor_claims.specs.View.{view}
 use Rattle.supervisor_claims.specs.Sound.{Bytes}
 use Rattle.supervisor_claims.specs.Histories as Supervisor
 use Rattle.supervisor_claims.specs.FrameHistory as Received
 use Rattle.supervisor_claims.specs.FrameHistory.{frameCarried}
-use Rattle.supervisor_claims.specs.LastSet.{requestsIn, setBy, setAfter, recordsRestored, Origin, sinceStart, sinceMore, sinceMade}
+use Rattle.supervisor_claims.specs.LastSet.{requestsIn, setBy, setAfter, Origin, sinceStart, sinceMore, sinceMade}
+pub use Rattle.supervisor_claims.specs.LastSet.{Stays}
 use Rattle.supervisor_claims.specs.LastSet.{setSince, fittedOf, ReadBack}
 use Rattle.supervisor_claims.specs.Replies.{replyBy}
 
@@ -58,6 +59,7 @@ MainTyped (Main.request command d room) = (command < 256) × Each Byte d
 MainTyped Main.interrupt = Unit {0}
 MainTyped (Main.send room) = Unit {0}
 MainTyped (Main.receive piece) = Each Byte piece
+MainTyped Main.state = Unit {0}
 
 abbrev pub EndCallTyped : EndCall → Type 0
 EndCallTyped (main m) = MainTyped (m .call)
@@ -284,29 +286,111 @@ abbrev pub Always : (Ends → EndCall → Type 0) → Ends → List EndCall → 
 Always C e [] = Unit {0}
 Always C e (t ∷ ts) = C e t × Always C (endsAfter e t) ts
 
+-- a claim about one of the calls
+abbrev pub Ever : (Ends → EndCall → Type 0) → Ends → List EndCall → Type 0
+Ever C e [] = ⊥
+Ever C e (t ∷ ts) = C e t ⊎ Ever C (endsAfter e t) ts
+
 -- ---- The wire
 
--- each good message that an end has read since the main processor's end was last started is that of a whole frame that the other has put
--- out since. Bytes may be lost, delayed, cut and damaged; frames may come late, twice and in another order. But each good message read is,
--- byte for byte, that of a frame put out since that start and, if a reply, made since
-pub record Wire (l : Log) : Type 0 where
-  pub to-supervisor : Each (λ (m : Message). Any (λ (x : Frame). x .bytes ≡ frame m) (l .asked)) (l .heard)
-  pub to-main : Each (λ (r : Message). Any (λ (y : Message). frame y ≡ frame r) (l .sent)) (got l)
+-- a request of either version under the number n
+abbrev pub RequestUnder : ℕ → Message → Type 0
+RequestUnder n m = (m .sequence ≡ n) × (versionServed (m .version) ≡ true)
 
--- a list whose elements stand in another, in order: some were lost
+-- each good message of which P holds that the supervisor has read since the main processor's end was last started is, byte for byte, a
+-- frame that that end has put out since
+abbrev pub FromMain : (Message → Type 0) → Log → Type 0
+FromMain P l = Each (λ (m : Message). P m → Any (λ (x : Frame). x .bytes ≡ frame m) (l .asked)) (l .heard)
+
+-- whether an answer, a status or an alert's answer is handed out
+abbrev pub handsReport : MainCalls.HandedReport → Bool
+handsReport (MainCalls.HandedReport.refused n) = false
+handsReport MainCalls.nothing = false
+handsReport (MainCalls.answered v q c n) = true
+handsReport (MainCalls.status x o k) = true
+handsReport (MainCalls.alerted v q c n) = true
+
+abbrev pub handsOut : MainAnswer → Bool
+handsOut (Main.refused n) = false
+handsOut Main.done = false
+handsOut (Main.put n) = false
+handsOut (Main.received used t e u) = handsReport t
+handsOut (Main.stands x) = false
+
+-- the good messages that a call of the main processor's end reads and takes as an answer, behind the bytes w: where it hands out an answer,
+-- a status or an alert's answer, those whose 00 it reads, which is one at most; else none
+abbrev pub takenBehind : List ℕ → MainCall → MainAnswer → List Message
+takenBehind w c a = cond (handsOut a) (goodMessages (nonEmpty (closedBehind w (bytesReadBy c a)))) []
+
+abbrev pub takenAsAnswer : Ends → EndCall → List Message
+takenAsAnswer e (main m) = takenBehind (e .log .read) (m .call) (mainMade (e .main) m .answer)
+takenAsAnswer e (supervisor m) = []
+
+-- a message that is, byte for byte, a reply that the supervisor has put out since that start
+abbrev pub FromSupervisor : Log → Message → Type 0
+FromSupervisor l r = Any (λ (y : Message). frame y ≡ frame r) (l .sent)
+
+-- where n is the newest number: so is what is taken as the answer
+abbrev pub ToMain : ℕ → Ends → EndCall → Type 0
+ToMain n e t = mainView (e .main) .newest ≡ n → Each (FromSupervisor (e .log)) (takenAsAnswer e t)
+
+-- The wire as far as the number n goes, at a call. Bytes may be lost, delayed, cut and damaged. Frames may come late, twice and in another
+-- order. Other programs may put frames out under other numbers. A reply that is not taken as an answer may come from anywhere.
+pub record WireUnder (n : ℕ) (e : Ends) (t : EndCall) : Type 0 where
+  -- a request under n that the supervisor has read is one that the main processor's end has put out
+  pub to-supervisor : FromMain (RequestUnder n) (endsAfter e t .log)
+  -- a reply that is taken as the answer under n is one that the supervisor has put out
+  pub to-main : ToMain n e t
+
+-- a claim about a call, where n is the newest number
+abbrev pub UnderNumber : ℕ → (Ends → EndCall → Type 0) → Ends → EndCall → Type 0
+UnderNumber n C e t = mainView (e .main) .newest ≡ n → C e t
+
+-- ---- The order of the sets of a key
+
+abbrev pub passesTable : Verdict → Bool
+passesTable (failure reason version sequence) = false
+passesTable (good m) = true
+
+-- whether a message is a set of key k: the whole table passes it, and key k takes a value of its length
+unfoldable pub isSetOf : ℕ → Message → Bool
+isSetOf k m = passesTable (tested m) && isSome (setBy k m)
+
+-- the sets of key k among messages
+unfoldable pub setsAmong : ℕ → List Message → List Message
+setsAmong k [] = []
+setsAmong k (m ∷ ms) = cond (isSetOf k m) (m ∷ setsAmong k ms) (setsAmong k ms)
+
+-- a list whose elements stand in another, in order: some were lost, and one may come again, but not behind a later one
+pub data InTurn (A : Type 0) : List A → List A → Type 0 where
+  empty : InTurn A [] []
+  past : {y : A} {xs ys : List A} → InTurn A xs ys → InTurn A xs (y ∷ ys)
+  read : {x : A} {xs ys : List A} → InTurn A xs (x ∷ ys) → InTurn A (x ∷ xs) (x ∷ ys)
+
+-- the sets of key k that the supervisor has read since that start are, byte for byte, frames that the main processor's end has put out
+-- since, in the order in which they were put out; one may be read again before a later one is
+abbrev pub SetsInOrder : ℕ → Log → Type 0
+SetsInOrder k l = InTurn (List ℕ) (map frame (setsAmong k (l .heard))) (map (λ (x : Frame). x .bytes) (l .asked))
+
+abbrev pub SetsInOrderAfter : ℕ → Ends → EndCall → Type 0
+SetsInOrderAfter k e t = SetsInOrder k (endsAfter e t .log)
+
+-- ---- A plain wire
+
+-- a list whose elements stand in another, in order and each once at most: some were lost
 pub data Among (A : Type 0) : List A → List A → Type 0 where
   over : Among A [] []
   lost : {y : A} {xs ys : List A} → Among A xs ys → Among A xs (y ∷ ys)
   came : {x : A} {xs ys : List A} → Among A xs ys → Among A (x ∷ xs) (x ∷ ys)
 
--- the same with the order kept, and each frame read once at most: `Wire` follows (`in-order-wire`)
+-- each good message that an end has read since that start is, byte for byte, a frame that the other has put out since; the order is kept,
+-- and each frame is read once at most
 pub record InOrder (l : Log) : Type 0 where
   pub to-supervisor : Among (List ℕ) (map frame (l .heard)) (map (λ (x : Frame). x .bytes) (l .asked))
   pub to-main : Among (List ℕ) (map frame (got l)) (map frame (l .sent))
 
--- at every moment
-abbrev pub WireAfter : Ends → EndCall → Type 0
-WireAfter e t = Wire (endsAfter e t .log)
+abbrev pub InOrderAfter : Ends → EndCall → Type 0
+InOrderAfter e t = InOrder (endsAfter e t .log)
 
 -- ---- What an answer comes from
 
@@ -351,6 +435,7 @@ FreshBy s l (Main.refused n) d = Unit {0}
 FreshBy s l Main.done d = Unit {0}
 FreshBy s l (Main.put n) d = Unit {0}
 FreshBy s l (Main.received used t e u) d = FreshReport s l t d
+FreshBy s l (Main.stands x) d = Unit {0}
 
 -- of each call, with what was put out and read before it
 abbrev pub CallFresh : Ends → EndCall → Type 0
@@ -391,6 +476,7 @@ messageHanded (Main.refused n) d = none
 messageHanded Main.done d = none
 messageHanded (Main.put n) d = none
 messageHanded (Main.received used t e u) d = messageReported t d
+messageHanded (Main.stands x) d = none
 
 -- of each message that a call hands out so, with both ends as it found them
 abbrev pub CallOf : (MainState → Log → Message → Type 0) → Ends → EndCall → Type 0
@@ -425,22 +511,6 @@ FreshValue s l r =
 abbrev pub handledFrames : Ends → List (List ℕ)
 handledFrames e = nonEmpty (split (e .log .received) .closed)
 
--- whether a call restores an image that is good
-abbrev pub isRestore : Supervisor.Call → Bool
-isRestore (Supervisor.start d) = false
-isRestore (Supervisor.receive image piece) = false
-isRestore (Supervisor.step image piece) = false
-isRestore (Supervisor.local c) = isSome (recordsRestored c)
-
--- whether it is a restore that is accepted: one that is lent too little is not
-unfoldable pub acceptsRestore : Supervisor.Made → Bool
-acceptsRestore m = Supervisor.enough (m .call) (m .lent) && isRestore (m .call)
-
--- a call of the supervisor that is neither an accepted start nor an accepted restore: a restore can bring an older value back
-pub record Stays (m : Supervisor.Made) : Type 0 where
-  pub no-start : Received.startsAnew m ≡ false
-  pub no-restore : acceptsRestore m ≡ false
-
 abbrev pub CallStays : EndCall → Type 0
 CallStays (main m) = Unit {0}
 CallStays (supervisor m) = Stays m
@@ -458,11 +528,11 @@ pub record ValueSince (e : Ends) (n k most : ℕ) (r : Message) (h : Handled) : 
   -- the value is that of the last successful set since then, or else the one that key k had then
   pub last-since : entryOf (h .state) k ≡ setAfter k (entryOf (view (e .supervisor)) k) (requestsIn later)
 
--- of a lookup that is outstanding under a number under which nothing had been put out by the moment e:
+-- of a lookup of key k that is outstanding under a number under which nothing had been put out by the moment e:
 -- P holds of a moment at which it was carried out
-abbrev pub ValueAgainst : Ends → (ℕ → ℕ → ℕ → Message → Handled → Type 0) → MainState → Log → Message → Type 0
-ValueAgainst e P s l r =
-    (k most : ℕ) → ReadBack k → most < 65536 → outstanding s ≡ some (lookupRequest k most) → NotAsked e (s .newest)
+abbrev pub ValueAgainst : Ends → ℕ → (ℕ → ℕ → ℕ → Message → Handled → Type 0) → MainState → Log → Message → Type 0
+ValueAgainst e k P s l r =
+    (most : ℕ) → ReadBack k → most < 65536 → outstanding s ≡ some (lookupRequest k most) → NotAsked e (s .newest)
     → Any (P (s .newest) k most r) (l .handled)
 
 -- ---- What an alert's answer comes from, against an earlier moment
@@ -485,32 +555,32 @@ abbrev pub GoesOn : Ends → EndCall → Type 0
 GoesOn e (main m) = MainGoesOn e (main m)
 GoesOn e (supervisor m) = Stays m
 
-abbrev pub InOrderAfter : Ends → EndCall → Type 0
-InOrderAfter e t = InOrder (endsAfter e t .log)
+-- the sets of key k that the supervisor had read by an earlier moment, since the main processor's last accepted start
+abbrev pub setsReadBy : ℕ → Ends → List Message
+setsReadBy k e = setsAmong k (e .log .heard)
 
--- a request with a higher number than all that the supervisor had read by an earlier moment, since the main processor's last accepted
--- start; or the newest of those once more
-abbrev pub NotOlder : Ends → Message → Type 0
-NotOlder e m = Each (λ (y : Message). (y .sequence < m .sequence) ⊎ (y ≡ m)) (e .log .heard)
+-- a set of key k with a higher number than all of those; or the newest of them once more
+abbrev pub NotOlder : ℕ → Ends → Message → Type 0
+NotOlder k e m = Each (λ (y : Message). (y .sequence < m .sequence) ⊎ (y ≡ m)) (setsReadBy k e)
 
--- against that moment: no request carried out since is older
+-- against that moment: no set of key k carried out since is older
 pub record ValueNotOlder (e : Ends) (n k most : ℕ) (r : Message) (h : Handled) : Type 0 where
   pub value-since : ValueSince e n k most r h
-  pub not-older : Each (NotOlder e) (requestsIn (value-since .later))
-  -- so the value is the one that key k had then, or was set since by such a request
+  pub not-older : Each (NotOlder k e) (setsAmong k (requestsIn (value-since .later)))
+  -- so the value is the one that key k had then, or was set since by such a set
   pub from : let v = entryOf (h .state) k .value in
       (v ≡ entryOf (view (e .supervisor)) k .value)
-      ⊎ Any (λ (m : Message). (setBy k m ≡ v) × NotOlder e m) (requestsIn (value-since .later))
+      ⊎ Any (λ (m : Message). (setBy k m ≡ v) × NotOlder k e m) (setsAmong k (requestsIn (value-since .later)))
 
 -- the same with higher numbers only
 pub record ValueNewer (e : Ends) (n k most : ℕ) (r : Message) (h : Handled) : Type 0 where
   pub value-since : ValueSince e n k most r h
-  -- the value is the one that key k had then, or was set since by a request with a higher number
-  -- than all that the supervisor had read by then
+  -- the value is the one that key k had then, or was set since by a set with a higher number than all sets of key k that the supervisor
+  -- had read by then
   pub from : let v = entryOf (h .state) k .value in
       (v ≡ entryOf (view (e .supervisor)) k .value)
-      ⊎ Any (λ (m : Message). (setBy k m ≡ v) × Each (λ (y : Message). y .sequence < m .sequence) (e .log .heard))
-      (requestsIn (value-since .later))
+      ⊎ Any (λ (m : Message). (setBy k m ≡ v) × Each (λ (y : Message). y .sequence < m .sequence) (setsReadBy k e))
+      (setsAmong k (requestsIn (value-since .later)))
 
 -- ---- What a lookup's answer is where nothing more is put out
 
@@ -521,6 +591,7 @@ requestOf (Main.request command d room) = some (record { command = command; payl
 requestOf Main.interrupt = none
 requestOf (Main.send room) = none
 requestOf (Main.receive piece) = none
+requestOf Main.state = none
 
 -- whether it is one that was put out: a refused one changes nothing
 abbrev pub putsRequest : MainCall → MainAnswer → Bool
@@ -528,6 +599,13 @@ putsRequest c (Main.refused n) = false
 putsRequest c Main.done = false
 putsRequest c (Main.put n) = isSome (requestOf c)
 putsRequest c (Main.received used t e u) = false
+putsRequest c (Main.stands x) = false
+
+-- a set of key k is outstanding under the number i: put out, or to be put out
+abbrev pub SetOutstanding : ℕ → ℕ → Ends → EndCall → Type 0
+SetOutstanding k i e t =
+    let s = mainView (e .main) in
+    (s .newest ≡ i) × (q : Request) × (outstanding s ≡ some q) × (isSetOf k (asMessage i q) ≡ true)
 
 -- a call that puts no new request of the caller's out
 abbrev pub NoRequest : Ends → EndCall → Type 0

@@ -86,7 +86,7 @@ exchangeCalls x =
 
 -- ---- the messages that calls hand out as an answer or an alert's answer, one after the other
 
-abbrev asList : Option Message → List Message
+abbrev pub asList : Option Message → List Message
 asList none = []
 asList (some m) = m ∷ []
 
@@ -135,7 +135,7 @@ pub record RangedRequest (q : Request) : Type 0 where
   pub fits : length (q .payload) ≤ longest-data
 
 -- a request that the whole table passes, and that earns a reply of version 1 in any state
-pub record Served (q : Request) : Type 0 where
+pub record RepliedRequest (q : Request) : Type 0 where
   pub ranged : RangedRequest q
   pub listed : known (q .command) ≡ true
   pub length-right : lengthAllowed (q .command) (length (q .payload)) ≡ true

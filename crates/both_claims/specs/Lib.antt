@@ -4,4 +4,7 @@ pub mod Ends
 pub mod Pending
 pub mod RoundTrip
 pub mod Exchanges
+pub mod AlertsTaken
+pub mod SetThenGot
+pub mod Witness
 pub mod BothEnds

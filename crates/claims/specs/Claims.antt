@@ -153,7 +153,7 @@ pub record Item14 : Type 0 where
 
 -- ---- Both ends together
 
--- What holds of an answer where both ends are this repository's; no paper asks for it. Each end reads only messages that the other put out.
--- The wire may lose, delay and repeat them, but where a claim says that it keeps their order (`InOrder`) or loses nothing (`NothingLost`).
+-- What holds of an answer where both ends are this repository's; no paper asks for it. The wire may lose, delay, damage and repeat frames,
+-- and others may use it. A claim asks of it what `WireUnder` says of the number in question, and more where its record says so.
 pub record BothEnds : Type 0 where
   pub both-ends : OverBothEnds

@@ -1,23 +1,15 @@
--- The counter block (document 02, item 8): how a frame ended, which counter that bumps, and the number of frames of each kind.
+-- The counter block (document 02, item 8): which counter a frame's end bumps, and the number of frames of each kind.
 -- Assumes nothing: these are definitions.
 use mathlib.Core.Bool.{Bool, true, false, cond}
 use mathlib.Core.List.{List, [], _∷_}
 use Prim.Native.Nat.{ℕ, _+_, min}
 use lib.Dec.{ltb, eqb}
-use Rattle.responder.specs.Requests.{verdict}
-use Rattle.responder.specs.Receive.{Ended, endedByVerdict}
+use Rattle.counters.specs.Ended.{Ended}
 use Rattle.counters.specs.declared.Counters.{Counters}
 
 -- the largest number of a counter
 abbrev pub most-counted : ℕ
 most-counted = 4294967295
-
--- ---- Frames
-
--- how a frame ended, by the bytes before its 00: an empty one, a request that the whole table passes, or a failure by the table's reason
-unfoldable pub endedByFrame : List ℕ → Ended
-endedByFrame [] = Ended.empty
-endedByFrame (b ∷ bs) = endedByVerdict (verdict (b ∷ bs))
 
 -- ---- Which counter a frame bumps
 

@@ -1,4 +1,4 @@
--- Definitions of the counter block, and of what the calls count that are lent one.
+-- Definitions of how a frame ended, and of the counter block.
 -- Assumes nothing.
+pub mod Ended
 pub mod Count
-pub mod Counting

@@ -1,15 +1,12 @@
-// The field counters: a block of nine counters, lent by the caller, which a call that receives changes in place.
+// How a frame ended, and the block of nine counters that counts such ends; the caller owns the block.
 // Assumes nothing: no function has a `requires`, and no block is refused.
-use responder::outcome::Outcome;
-use responder::receive::Received;
-use responder::receive::Stepped;
+pub mod outcome;
+
+use crate::outcome::Outcome;
 ghost use mathlib.Core.Path.{_≡_};
-ghost use mathlib.Core.Bool.{not};
-ghost use Rattle.supervisor.specs.Calls.{parts};
-ghost use Rattle.responder.specs.Receive.{stepReport, validParts, stepOutcome, stepPromise, receiveOutcome, receivePromise};
-ghost use Rattle.responder.specs.declared.outcome.Outcome.the-variants as report;
+ghost use Rattle.counters.specs.Ended.{stepReport};
 ghost use Rattle.counters.specs.Count.{oneMore, clearedCounters, bumpedFor};
-ghost use Rattle.counters.specs.Counting.{countPromise};
+ghost use Rattle.counters.specs.declared.outcome.Outcome.the-variants as report;
 
 // The largest number of a counter.
 const MOST_COUNTED: u32 = 4294967295;
@@ -26,12 +23,6 @@ pub struct Counters {
     pub reason5: u32,
     pub reason6: u32,
     pub reason7: u32,
-}
-
-// What a receive that counts by value says, and the counters that it leaves.
-pub struct Tallied {
-    pub answer: Received,
-    pub counters: Counters,
 }
 
 // A block in which nothing is counted.
@@ -51,13 +42,6 @@ pub fn cleared() -> Counters
     }
 }
 
-// Clears a block.
-pub fn clear(block: &mut Counters)
-    ensures { λ _. ⌜ now (block .exit) ≡ clearedCounters ⌝ }
-{
-    *block = cleared();
-}
-
 // The counters after a frame that ended so; as they are where none ended.
 pub fn bumped(counters: Counters, outcome: Outcome) -> Counters
     ensures { λ r. ⌜ r ≡ bumpedFor counters (stepReport outcome) ⌝ }
@@ -70,7 +54,11 @@ pub fn bumped(counters: Counters, outcome: Outcome) -> Counters
             bumped.empty = one_more(bumped.empty);
             bumped
         }
-        Outcome::Request => {
+        Outcome::Request(_) => {
+            bumped.good = one_more(bumped.good);
+            bumped
+        }
+        Outcome::KeySet(_, _) => {
             bumped.good = one_more(bumped.good);
             bumped
         }
@@ -128,144 +116,4 @@ pub fn bump(block: &mut Counters, outcome: Outcome)
     ensures { λ _. ⌜ now (block .exit) ≡ bumpedFor (now (block .entry)) (stepReport outcome) ⌝ }
 {
     *block = bumped(*block, outcome);
-}
-
-// `step` with a block lent: the same, and the frame that ended is counted.
-pub fn step_counted(
-    block: &mut Counters,
-    image: &[u8],
-    piece: &[u8],
-    reader: &mut [u8],
-    outbox: &mut [u8],
-    factory: &[u8],
-    settings: &mut [u8],
-    registers: &mut [u8],
-) -> Stepped
-    ensures { λ r. ⌜ (stepOutcome r
-        (parts (now (reader .exit)) (now (outbox .exit)) (now (factory .entry)) (now (settings .exit)) (now (registers .exit)))
-        ≡ stepPromise (now (image .entry))
-        (parts (now (reader .entry)) (now (outbox .entry)) (now (factory .entry)) (now (settings .entry)) (now (registers .entry)))
-        (now (piece .entry)))
-        × (now (block .exit) ≡ bumpedFor (now (block .entry)) (stepReport (r .outcome))) ⌝ }
-{
-    let done = responder::receive::step(image, piece, reader, outbox, factory, settings, registers);
-    bump(block, done.outcome);
-    done
-}
-
-// `receive` with the counters by value: the same, and every frame of the piece is counted.
-pub fn receive_tallied(
-    counters: Counters,
-    image: &[u8],
-    piece: &[u8],
-    reader: &mut [u8],
-    outbox: &mut [u8],
-    factory: &[u8],
-    settings: &mut [u8],
-    registers: &mut [u8],
-) -> Tallied
-    ensures { λ r. ⌜ (receiveOutcome (r .answer)
-        (parts (now (reader .exit)) (now (outbox .exit)) (now (factory .entry)) (now (settings .exit)) (now (registers .exit)))
-        ≡ receivePromise (now (image .entry))
-        (parts (now (reader .entry)) (now (outbox .entry)) (now (factory .entry)) (now (settings .entry)) (now (registers .entry)))
-        (now (piece .entry)))
-        × (r .counters
-        ≡ countPromise counters
-        (parts (now (reader .entry)) (now (outbox .entry)) (now (factory .entry)) (now (settings .entry)) (now (registers .entry)))
-        (now (piece .entry))) ⌝ }
-{
-    let mut tally = counters;
-    if are_refused(image, piece, reader, outbox, factory, settings, registers) {
-        let answer = Received::Refused;
-        return Tallied {
-            answer,
-            counters: tally,
-        };
-    }
-    let mut at = 0;
-    while at < piece.len() {
-        let done = responder::receive::step(
-            image,
-            &piece[at..],
-            reader,
-            outbox,
-            factory,
-            settings,
-            registers,
-        );
-        let outcome = done.outcome;
-        tally = bumped(tally, outcome);
-        let used = done.used;
-        at += used;
-    }
-    let answer = Received::Done;
-    Tallied {
-        answer,
-        counters: tally,
-    }
-}
-
-// Whether the parts are refused as 12: an empty piece is received, which changes nothing.
-fn are_refused(
-    image: &[u8],
-    piece: &[u8],
-    reader: &mut [u8],
-    outbox: &mut [u8],
-    factory: &[u8],
-    settings: &mut [u8],
-    registers: &mut [u8],
-) -> bool
-    ensures { λ r. ⌜ (parts (now (reader .exit)) (now (outbox .exit)) (now (factory .entry)) (now (settings .exit)) (now (registers .exit))
-        ≡ parts (now (reader .entry)) (now (outbox .entry)) (now (factory .entry)) (now (settings .entry)) (now (registers .entry)))
-        × (r ≡ not (validParts
-        (parts (now (reader .entry)) (now (outbox .entry)) (now (factory .entry)) (now (settings .entry)) (now (registers .entry))))) ⌝ }
-{
-    let received = responder::receive::receive(
-        image,
-        &piece[0..0],
-        reader,
-        outbox,
-        factory,
-        settings,
-        registers,
-    );
-    match received {
-        Received::Done => false,
-        Received::Refused => true,
-    }
-}
-
-// `receive` with a block lent: the same, and every frame of the piece is counted in place.
-pub fn receive_counted(
-    block: &mut Counters,
-    image: &[u8],
-    piece: &[u8],
-    reader: &mut [u8],
-    outbox: &mut [u8],
-    factory: &[u8],
-    settings: &mut [u8],
-    registers: &mut [u8],
-) -> Received
-    ensures { λ r. ⌜ (receiveOutcome r
-        (parts (now (reader .exit)) (now (outbox .exit)) (now (factory .entry)) (now (settings .exit)) (now (registers .exit)))
-        ≡ receivePromise (now (image .entry))
-        (parts (now (reader .entry)) (now (outbox .entry)) (now (factory .entry)) (now (settings .entry)) (now (registers .entry)))
-        (now (piece .entry)))
-        × (now (block .exit)
-        ≡ countPromise (now (block .entry))
-        (parts (now (reader .entry)) (now (outbox .entry)) (now (factory .entry)) (now (settings .entry)) (now (registers .entry)))
-        (now (piece .entry))) ⌝ }
-{
-    let tallied = receive_tallied(
-        *block,
-        image,
-        piece,
-        reader,
-        outbox,
-        factory,
-        settings,
-        registers,
-    );
-    *block = tallied.counters;
-    tallied.answer
 }

@@ -19,14 +19,15 @@ use Rattle.supervisor.specs.State.{State}
 use Rattle.supervisor.specs.Calls.{Parts}
 use Rattle.responder.specs.Requests.{verdictSince}
 use Rattle.responder.specs.Receive as Receive
+use Rattle.responder.specs.Counting.{endings, countPromise}
 use Rattle.counters.specs.declared.Counters.{Counters}
-use Rattle.counters.specs.Count.{endedByFrame, bumpedFor, bumpedForAll}
-use Rattle.counters.specs.Counting.{endings, countPromise}
+use Rattle.counters.specs.Ended.{Ended}
+use Rattle.counters.specs.Count.{bumpedFor, bumpedForAll}
 use Rattle.supervisor_claims.specs.View.{view}
 use Rattle.supervisor_claims.specs.Histories
-use Rattle.supervisor_claims.specs.Histories.{Call, Answer, refused, Did, did, upTo, endedMeant, endedInPiece, Lent, lentOf, enough, Made}
+use Rattle.supervisor_claims.specs.Histories.{Call, Answer, refused, Did, did, upTo, endedMeant, saidInPiece, Lent, lentOf, enough, Made}
 use Rattle.supervisor_claims.specs.Histories.{made}
-use Rattle.supervisor_claims.specs.FrameHistory.{pieceRead, bytesReceivedBy, endedByFrames}
+use Rattle.supervisor_claims.specs.FrameHistory.{pieceRead, bytesReceivedBy}
 use Rattle.line.specs.Judge.{progressOf}
 use Rattle.supervisor_claims.specs.Sound.{Sound}
 use Rattle.supervisor_claims.proofs.Sound.{valid-long}
@@ -34,25 +35,25 @@ use Rattle.supervisor_claims.proofs.laws.Locality.{EnoughOfAll, lent-sound, len
 use Rattle.supervisor_claims.proofs.laws.Progress.{Since}
 use Rattle.supervisor_claims.proofs.calls.StepClaim.{step-ends, valid-step-stepped}
 use Rattle.line.proofs.Judged.{tail-within, more-tail}
-use Rattle.supervisor_claims.proofs.claims.FramesClaim.{closed-ends}
+use Rattle.supervisor_claims.proofs.claims.FramesClaim.{closed-verdict}
 use Rattle.supervisor_claims.proofs.calls.RowLaws.{WhereRefused}
 use Rattle.supervisor_claims.proofs.claims.LentCalls.{valid-parts, made-12, widened-enough}
 use Rattle.supervisor_claims.specs.LocalCalls.{IsRefusal}
-use Rattle.counters_claims.specs.CountHistory.{didCounted, madeCounted, endedAll}
+use Rattle.counters_claims.specs.CountHistory.{didCounted, madeCounted, endedByFrame, endedAll}
 use Rattle.counters_claims.proofs.FrameLaws.{closed-none}
 
 -- ---- the frames of a piece
 
 -- the 00 behind the bytes p
 frame-ends : (p : List ℕ) → endedMeant (verdictSince (progressOf p)) ≡ endedByFrame p
-unfolding endedByFrame endedByFrames
-frame-ends [] = closed-ends [] []
-frame-ends (b ∷ bs) = closed-ends (b ∷ bs) []
+unfolding endedByFrame
+frame-ends [] = ap endedMeant (closed-verdict [])
+frame-ends (b ∷ bs) = ap endedMeant (closed-verdict (b ∷ bs))
 
 -- the reader's part s holds the bytes p since the last 00
 finish-ends : (s p : List ℕ) → LineReader.validReader s ≡ true → receivedOf s ≡ progressOf p
     → Receive.endedByReader (LineReader.finish s .state) (LineReader.finish s .answer) ≡ endedByFrame p
-unfolding LineReader.readPiece endedInPiece
+unfolding LineReader.readPiece saidInPiece
 finish-ends s p v e = step-ends (0 ∷ []) s v ∙ rw e (frame-ends p)
 
 endings-frames : (bs s p : List ℕ) → LineReader.validReader s ≡ true → receivedOf s ≡ progressOf p → Each (λ b. 1 ≤ b) p
@@ -119,7 +120,7 @@ module _ (image piece : List ℕ) (l : Lent) (p : Parts) where
 
 -- ---- a call that is refused counts nothing
 
-none-refused : (n : ℕ) (c : Counters) → bumpedFor c (Receive.Ended.refused n) ≡ c
+none-refused : (n : ℕ) (c : Counters) → bumpedFor c (Ended.refused n) ≡ c
 unfolding bumpedFor
 none-refused n c = refl
 

@@ -9,7 +9,7 @@ use native.Mathlib.Omega.{arith}
 use Rattle.line.specs.Frame.{split}
 use Rattle.supervisor.specs.Calls.{Parts}
 use Rattle.counters.specs.declared.Counters.{Counters}
-use Rattle.counters.specs.Count.{endedByFrame, clearedCounters, bumpedForAll}
+use Rattle.counters.specs.Count.{clearedCounters, bumpedForAll}
 use Rattle.supervisor_claims.specs.View.{factoryOf, view}
 use Rattle.supervisor_claims.specs.Histories
 use Rattle.supervisor_claims.specs.Histories.{Call, Did, Made, made, outputs, left, AllTyped, startWith, OfStart}
@@ -26,7 +26,7 @@ use Rattle.octets.specs.Bytes.{Each}
 use Rattle.line.specs.Judge.{progressOf}
 use Rattle.counters_claims.specs.CountHistory.{didCounted, madeCounted, Lending, didLending, outputsLending, leftLending, unlent}
 use Rattle.counters_claims.specs.CountHistory.{CountEvent, plain, counted, clear, Held, afterEvent, afterEvents, callsOfEvents}
-use Rattle.counters_claims.specs.CountHistory.{allCounted, RefusedEvent, AllRefusedEvents, endedAll}
+use Rattle.counters_claims.specs.CountHistory.{allCounted, RefusedEvent, AllRefusedEvents, endedByFrame, endedAll}
 use Rattle.counters_claims.specs.CountHistory.{MixedEvent, lentBlock, withoutBlock, afterMixedEvents, TypedEvent, framesCounted}
 use Rattle.counters_claims.specs.Item8.{CountersCount, CountersFromStart, MixedCount, OverlongOnce, BlocksAlone}
 use Rattle.counters_claims.proofs.FrameLaws.{ended-append, closedSince, frames-since}

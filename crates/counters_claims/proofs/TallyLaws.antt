@@ -17,11 +17,12 @@ use Rattle.line.specs.Message.{Message}
 use Rattle.line.specs.Judge as Line
 use Rattle.line.specs.Judge.{sequenceOf, fields, decoded, wrongLength, wrongChecksum, wrongMagic, judgeForm, judge}
 use Rattle.responder.specs.Requests.{Verdict, failure, good, versionServed, known, lengthAllowed, tested, testedWhere, verdict}
-use Rattle.responder.specs.Receive.{Ended, endedByVerdict}
+use Rattle.responder.specs.Receive.{endedByVerdict}
 use Rattle.counters.specs.declared.Counters.{Counters}
-use Rattle.counters.specs.Count.{most-counted, endedByFrame, oneMore, raised, isGood, isEmpty, isReason, clearedCounters, bumpedFor}
+use Rattle.counters.specs.Ended.{Ended}
+use Rattle.counters.specs.Count.{most-counted, oneMore, raised, isGood, isEmpty, isReason, clearedCounters, bumpedFor}
 use Rattle.counters.specs.Count.{bumpedForAll, howMany, tallyOf}
-use Rattle.counters_claims.specs.CountHistory.{endedAll}
+use Rattle.counters_claims.specs.CountHistory.{endedByFrame, endedAll}
 use Rattle.counters_claims.specs.Item8.{nine, EachCountedOnce}
 
 -- ---- one counter

@@ -7,10 +7,12 @@ use Prim.Native.Nat.{ℕ}
 use lib.ListN.{length, drop}
 use Rattle.line.specs.Frame.{split, closedBehind}
 use Rattle.supervisor.specs.Calls.{Parts}
-use Rattle.responder.specs.Receive.{Ended, receivePromise, stepPromise}
 use Rattle.counters.specs.declared.Counters.{Counters}
-use Rattle.counters.specs.Count.{endedByFrame, clearedCounters, bumpedFor}
-use Rattle.counters.specs.Counting.{countPromise}
+use Rattle.counters.specs.Ended.{Ended}
+use Rattle.counters.specs.Count.{clearedCounters, bumpedFor}
+use Rattle.responder.specs.Requests.{verdict}
+use Rattle.responder.specs.Receive.{endedByVerdict, receivePromise, stepPromise}
+use Rattle.responder.specs.Counting.{countPromise}
 use Rattle.supervisor_claims.specs.LocalCalls.{IsRefusal}
 use Rattle.supervisor_claims.specs.Histories
 use Rattle.supervisor_claims.specs.Histories.{Call, Did, didBy, refusal, stepAnswer, did, lentOf, givenBack, Made, made, Output}
@@ -25,14 +27,14 @@ pub record DidCounted : Type 0 where
   pub did : Did
   pub block : Counters
 
--- by the promises of `receive_counted` and `step_counted`; any other call takes no block
+-- by the promise of `receive_tallied`, and by those of `step` and of `bump` for how it ended; any other call takes no block
 unfoldable pub didCounted : Counters → Parts → Call → DidCounted
 didCounted c p (Histories.start d) = record { did = did p (Histories.start d); block = c }
 didCounted c p (Histories.receive image piece) =
     let r = receivePromise image p piece in record { did = didBy (refusal (r .refusal)) [] (r .parts); block = countPromise c p piece }
 didCounted c p (Histories.step image piece) =
     let r = stepPromise image p piece in
-    record { did = didBy (stepAnswer (r .used) (r .ended)) [] (r .parts); block = bumpedFor c (r .ended) }
+    record { did = didBy (stepAnswer (r .used) (r .ended) (r .served)) [] (r .parts); block = bumpedFor c (r .ended) }
 didCounted c p (Histories.local k) = record { did = did p (Histories.local k); block = c }
 
 -- lent some of the parts' bytes
@@ -159,6 +161,11 @@ framesOfStretches (w ∷ ws) = split w .closed ++ framesOfStretches ws
 -- those whose 00 the calls received: all but those that were closed in w
 unfoldable pub framesSince : List ℕ → List Made → List (List ℕ)
 framesSince w ms = drop (length (split w .closed)) (framesOfStretches (stretches w ms))
+
+-- how a frame ended, by the bytes before its 00: an empty one, a request that the whole table passes, or a failure by the table's reason
+unfoldable pub endedByFrame : List ℕ → Ended
+endedByFrame [] = Ended.empty
+endedByFrame (b ∷ bs) = endedByVerdict (verdict (b ∷ bs))
 
 -- how each ended
 unfoldable pub endedAll : List (List ℕ) → List Ended

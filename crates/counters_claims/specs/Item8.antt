@@ -8,12 +8,12 @@ use lib.ListN.{length}
 use Rattle.octets.specs.Bytes.{Each}
 use Rattle.line.specs.Limits.{longest-form}
 use Rattle.supervisor.specs.Calls.{Parts}
-use Rattle.responder.specs.Receive.{Ended}
 use Rattle.counters.specs.declared.Counters.{Counters}
-use Rattle.counters.specs.Count.{endedByFrame, clearedCounters, bumpedForAll, isGood, isEmpty, isReason, howMany, tallyOf}
+use Rattle.counters.specs.Ended.{Ended}
+use Rattle.counters.specs.Count.{clearedCounters, bumpedForAll, isGood, isEmpty, isReason, howMany, tallyOf}
 use Rattle.supervisor_claims.specs.Histories.{Lent, Made, made, AllTyped, startWith, OfStart}
 use Rattle.supervisor_claims.specs.FrameHistory.{receivedSinceAll}
-use Rattle.counters_claims.specs.CountHistory.{Lending, outputsLending, leftLending, unlent}
+use Rattle.counters_claims.specs.CountHistory.{Lending, outputsLending, leftLending, unlent, endedByFrame}
 use Rattle.counters_claims.specs.CountHistory.{CountEvent, plain, clear, afterEvents, callsOfEvents, allCounted, framesSince}
 use Rattle.counters_claims.specs.CountHistory.{AllRefusedEvents, MixedEvent, afterMixedEvents, TypedEvent, framesCounted, endedAll}
 

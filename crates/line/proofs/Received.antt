@@ -13,7 +13,7 @@ use lib.Seq.{length-take-le}
 use borrow.Author.Tests.{lt-leb, ltb-true, ltb-false, le-ltb}
 use Rattle.octets.specs.Bytes.{Byte, Each, bytes, run, overlay}
 use Rattle.octets.proofs.Conditions.{cond-by}
-use Rattle.octets.proofs.Each.{each-take, each-drop, each-run}
+use Rattle.octets.proofs.Each.{each-take, each-drop}
 use Rattle.octets.proofs.Numbers.{bytes-each}
 use Rattle.octets.proofs.Overlay.{run-more, length-run, length-overlay, overlay-before, overlay-getD-inside, overlay-each}
 use Rattle.line.specs.Limits.{longest-data, longest-form}
@@ -244,14 +244,6 @@ data-short s n =
   where
     Short : Option ℕ → Type 0
     Short x = length (partOf x (run data-offset n s)) ≤ longest-data
-
-pub data-each : (s : List ℕ) (n : ℕ) → Each Byte s → Each Byte (dataPromise s n)
-unfolding dataPromise partOf
-data-each s n h = by (dataGivenPromise s n)
-  where
-    by : (x : Option ℕ) → Each Byte (partOf x (run data-offset n s))
-    by none = each-run data-offset n s h
-    by (some x) = tt
 
 -- ---- states that begin alike
 

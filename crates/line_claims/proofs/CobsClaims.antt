@@ -1,6 +1,6 @@
 -- What COBS keeps of a list: reading its form gives it back, the form has no zero byte, and its length is bounded.
 -- Assumes nothing.
-use mathlib.Core.Path.{_≡_, refl}
+use mathlib.Core.Path.{_≡_, refl, sym, ap, _∙_}
 use mathlib.Core.Bool.{Bool, true, false, _&&_}
 use mathlib.Core.Option.{some}
 use mathlib.Core.List.{List, [], _∷_}
@@ -15,7 +15,9 @@ use Rattle.octets.specs.Bytes.{Byte, Each, equal}
 use Rattle.line.specs.Limits.{longest-group}
 use Rattle.line.specs.Cobs.{full-code, places-left, coded, groups, cobs, lastOneAfterFull, groupBytes, uncobs}
 use Rattle.line.proofs.FrameLength
-use Rattle.line.specs.Frame.{NonZero}
+use Rattle.line.specs.Message.{Message, message}
+use Rattle.line.specs.Frame.{NonZero, frame, Pieces, split}
+use Rattle.line.proofs.Pieces.{split-at}
 use Rattle.line_claims.specs.Demand3.{LineRoundTrip, NoZero, FormFits, FrameFits}
 
 -- ---- no last 01 is written after a full group
@@ -95,6 +97,18 @@ above-zero xs = cobs-each (λ b. 1 ≤ b) (λ b. Unit {0}) (λ n h. omega arith)
     any : (ys : List ℕ) → Each (λ b. Unit {0}) ys
     any [] = tt
     any (y ∷ ys) = (tt, any ys)
+
+-- two messages with one frame have the same bytes, whatever their fields are
+pub message-same : (m n : Message) → frame m ≡ frame n → message m ≡ message n
+unfolding frame
+message-same m n e =
+    let a = split-at (cobs (message m)) [] (above-zero (message m)) in
+    let b = split-at (cobs (message n)) [] (above-zero (message n)) in
+    let c = ap (λ (x : Pieces). x .closed) (sym a ∙ ap split e ∙ b) in
+    let f : cobs (message m) ≡ cobs (message n) = cc in
+    let g = round-trip (message m) in
+    let h = round-trip (message n) in
+    cc
 
 -- ---- length
 

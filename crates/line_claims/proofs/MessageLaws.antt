@@ -47,6 +47,11 @@ pub magic-read : (m : Message) → magicOf (message m) ≡ magic
 unfolding message body number bytes
 magic-read m = refl
 
+-- whatever its fields are
+pub payload-read : (m : Message) → payloadOf (message m) ≡ m .payload
+unfolding body bytes
+payload-read m = rw (body-read m)
+
 pub fields-read : (m : Message) → InRange m → fields (message m) ≡ m
 unfolding fields message body bytes
 fields-read m r =

@@ -3,12 +3,12 @@
 use mathlib.Core.List.{List, flatten}
 use Prim.Native.Nat.{ℕ}
 use Rattle.addresses.specs.Addresses.{addressesPromise, planPromise}
-use Rattle.oatcastle.specs.Answers.{CallOutcome, callNumber, given, writingAnswer}
+use Rattle.oatcastle.specs.Answers.{CallOutcome, callNumber, given, filling}
 
 -- ---- The eight rows, one after the other, to a room
 
 unfoldable pub addressesCall : List ℕ → ℕ → ℕ → List ℕ → CallOutcome (List ℕ)
-addressesCall base count stride room = writingAnswer (given (flatten (addressesPromise base count stride))) room
+addressesCall base count stride room = filling (given (flatten (addressesPromise base count stride))) room
 
 -- ---- Whether the plan passes
 

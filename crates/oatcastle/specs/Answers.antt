@@ -1,4 +1,5 @@
--- What a call of the C interface returns and leaves: 0 or the table's number (document 01, "When a call says no"), and what it was lent.
+-- What a call of the C interface returns and leaves: 0 or the number of document 01's table
+-- ("When a call says no") or of document 02, and what it was lent.
 -- Assumes nothing: these are definitions.
 use mathlib.Core.Bool.{Bool, cond}
 use mathlib.Core.List.{List}
@@ -7,10 +8,6 @@ use Prim.Native.Nat.{ℕ}
 use lib.Dec.{ltb}
 use lib.ListN.{length}
 use Rattle.octets.specs.Bytes.{overlay}
-
--- the most numbers that a call answers
-abbrev pub most-numbers : ℕ
-most-numbers = 7
 
 -- the number that a call returns, and what it leaves of what it was lent
 pub record CallOutcome (A : Type 0) : Type 0 where
@@ -39,19 +36,23 @@ unfoldable pub partGiven : Option ℕ → List ℕ → CallReport
 partGiven none bs = given bs
 partGiven (some n) bs = refused n
 
--- what is handed out stands at the start of a lent list, or 8 where that is shorter; a refused call leaves the list
-unfoldable pub writingAnswer : CallReport → List ℕ → CallOutcome (List ℕ)
-writingAnswer (refused n) lent = callOutcome n lent
-writingAnswer (given xs) lent = cond (ltb (length lent) (length xs)) (callOutcome 8 lent) (callOutcome 0 (overlay 0 xs lent))
+-- numbers are the whole answer; a refused call leaves the answer as it was
+unfoldable pub answering : CallReport → List ℕ → CallOutcome (List ℕ)
+answering (refused n) answer = callOutcome n answer
+answering (given ns) answer = callOutcome 0 ns
 
--- numbers to an answer, where a call changes what else it was lent; a refused call leaves that too
-unfoldable pub writingAfter : {A : Type 0} → CallReport → A → A → List ℕ → CallOutcome (A × List ℕ)
-writingAfter (refused n) before after answer = callOutcome n (before, answer)
-writingAfter (given ns) before after answer =
-    cond (ltb (length answer) (length ns)) (callOutcome 8 (before, answer)) (callOutcome 0 (after, overlay 0 ns answer))
+-- the same of a call that is lent more to change: what its promise leaves of that, and the answer
+unfoldable pub answeringWith : {A : Type 0} → A → CallReport → List ℕ → CallOutcome (A × List ℕ)
+answeringWith left (refused n) answer = callOutcome n (left, answer)
+answeringWith left (given ns) answer = callOutcome 0 (left, ns)
 
--- bytes to a room and numbers to an answer
-unfoldable pub writingBoth : CallReport → List ℕ → List ℕ → List ℕ → CallOutcome (List ℕ × List ℕ)
-writingBoth (refused n) bs room answer = callOutcome n (room, answer)
-writingBoth (given ns) bs room answer =
-    cond (ltb (length room) (length bs)) (callOutcome 8 (room, answer)) (writingAfter (given ns) room (overlay 0 bs room) answer)
+-- bytes stand at the start of a room, or 8 where that is shorter; a refused call leaves the room
+unfoldable pub filling : CallReport → List ℕ → CallOutcome (List ℕ)
+filling (refused n) room = callOutcome n room
+filling (given bs) room = cond (ltb (length room) (length bs)) (callOutcome 8 room) (callOutcome 0 (overlay 0 bs room))
+
+-- bytes to a room and numbers to an answer; a refused call leaves both
+unfoldable pub fillingAndAnswering : CallReport → List ℕ → List ℕ → List ℕ → CallOutcome (List ℕ × List ℕ)
+fillingAndAnswering (refused n) bs room answer = callOutcome n (room, answer)
+fillingAndAnswering (given ns) bs room answer =
+    cond (ltb (length room) (length bs)) (callOutcome 8 (room, answer)) (callOutcome 0 (overlay 0 bs room, ns))

@@ -7,8 +7,8 @@ use Rattle.line.specs.Checksum.{checksum}
 use Rattle.line.specs.Message.{Message}
 use Rattle.line.specs.Reader as LineReader
 use Rattle.line.specs.Writer as LineWriter
-use Rattle.oatcastle.specs.Answers.{CallOutcome, callOutcome, callNumber, CallReport, refused, given, partGiven, writingAnswer}
-use Rattle.oatcastle.specs.Answers.{writingAfter}
+use Rattle.oatcastle.specs.Answers.{CallOutcome, callOutcome, callNumber, CallReport, refused, given, partGiven, answering}
+use Rattle.oatcastle.specs.Answers.{answeringWith, filling}
 
 -- ---- Start
 
@@ -31,16 +31,16 @@ readGiven used (LineReader.message version sequence command n) = given (used ∷
 readGiven used (LineReader.failed reason none) = given (used ∷ 3 ∷ reason ∷ 0 ∷ 0 ∷ 0 ∷ 0 ∷ [])
 readGiven used (LineReader.failed reason (some sequence)) = given (used ∷ 3 ∷ reason ∷ 0 ∷ sequence ∷ 0 ∷ 0 ∷ [])
 
-abbrev pub readCallOutcome : LineReader.ReadOutcome → List ℕ → List ℕ → CallOutcome (List ℕ × List ℕ)
-readCallOutcome o s answer = writingAfter (readGiven (o .used) (o .answer)) s (o .state) answer
+abbrev pub readCallOutcome : LineReader.ReadOutcome → List ℕ → CallOutcome (List ℕ × List ℕ)
+readCallOutcome o answer = answeringWith (o .state) (readGiven (o .used) (o .answer)) answer
 
 unfoldable pub lineReadCall : List ℕ → List ℕ → List ℕ → CallOutcome (List ℕ × List ℕ)
-lineReadCall s piece answer = readCallOutcome (LineReader.readPromise s piece) s answer
+lineReadCall s piece answer = readCallOutcome (LineReader.readPromise s piece) answer
 
 -- ---- The data of the message just handed out, to a room
 
 unfoldable pub lineDataCall : List ℕ → ℕ → List ℕ → CallOutcome (List ℕ)
-lineDataCall s n room = writingAnswer (partGiven (LineReader.dataGivenPromise s n) (LineReader.dataPromise s n)) room
+lineDataCall s n room = filling (partGiven (LineReader.dataGivenPromise s n) (LineReader.dataPromise s n)) room
 
 -- ---- An unfinished frame: 1 if longer than any form, and how many bytes of it have come
 
@@ -50,7 +50,7 @@ tailGiven (LineReader.unfinished n) = given (0 ∷ n ∷ [])
 tailGiven LineReader.longer = given (1 ∷ 0 ∷ [])
 
 unfoldable pub lineTailCall : List ℕ → List ℕ → CallOutcome (List ℕ)
-lineTailCall s answer = writingAnswer (tailGiven (LineReader.tailPromise s)) answer
+lineTailCall s answer = answering (tailGiven (LineReader.tailPromise s)) answer
 
 -- ---- Write: the frame's length
 
@@ -58,13 +58,13 @@ unfoldable pub writeGiven : LineWriter.WriteReport → CallReport
 writeGiven (LineWriter.wrote n) = given (n ∷ [])
 writeGiven (LineWriter.refused n) = refused n
 
-abbrev pub writeCallOutcome : LineWriter.WriteOutcome → List ℕ → List ℕ → CallOutcome (List ℕ × List ℕ)
-writeCallOutcome o out answer = writingAfter (writeGiven (o .answer)) out (o .out) answer
+abbrev pub writeCallOutcome : LineWriter.WriteOutcome → List ℕ → CallOutcome (List ℕ × List ℕ)
+writeCallOutcome o answer = answeringWith (o .out) (writeGiven (o .answer)) answer
 
 unfoldable pub lineWriteCall : Message → List ℕ → List ℕ → CallOutcome (List ℕ × List ℕ)
-lineWriteCall m out answer = writeCallOutcome (LineWriter.writePromise m out) out answer
+lineWriteCall m out answer = writeCallOutcome (LineWriter.writePromise m out) answer
 
 -- ---- The checksum of a message's body
 
 unfoldable pub lineChecksumCall : List ℕ → List ℕ → CallOutcome (List ℕ)
-lineChecksumCall body answer = writingAnswer (given (checksum body ∷ [])) answer
+lineChecksumCall body answer = answering (given (checksum body ∷ [])) answer

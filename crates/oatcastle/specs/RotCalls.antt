@@ -7,14 +7,7 @@ use Rattle.rot.specs.Message.{RotMessage}
 use Rattle.rot.specs.Answers as RotAnswers
 use Rattle.rot.specs.Reading.{rotReadPromise, payloadGivenPromise, payloadPromise}
 use Rattle.rot.specs.Writing.{rotWritePromise}
-use Rattle.oatcastle.specs.Answers.{CallOutcome, CallReport, refused, given, partGiven, writingAnswer, writingAfter}
-
--- the number of a call with too short an answer: a refusal's own, else 8
-unfoldable pub rotShortNumber : RotAnswers.RotReport → ℕ
-rotShortNumber (RotAnswers.refused n) = n
-rotShortNumber RotAnswers.nothing = 8
-rotShortNumber (RotAnswers.handed type n) = 8
-rotShortNumber (RotAnswers.wrote n) = 8
+use Rattle.oatcastle.specs.Answers.{CallOutcome, CallReport, refused, given, partGiven, answering, answeringWith, filling}
 
 -- ---- Read: kind, type, length
 -- kind 0: nothing was sent; 1: a message, with its type and its payload's length;
@@ -27,16 +20,16 @@ rotReadGiven (RotAnswers.handed type n) = given (1 ∷ type ∷ n ∷ [])
 rotReadGiven (RotAnswers.wrote n) = given (2 ∷ 0 ∷ n ∷ [])
 
 -- by what the link's call answers and leaves, here and below
-abbrev pub rotReadCallOutcome : RotAnswers.RotOutcome → List ℕ → List ℕ → CallOutcome (List ℕ × List ℕ)
-rotReadCallOutcome o out answer = writingAfter (rotReadGiven (o .answer)) out (o .out) answer
+abbrev pub rotReadCallOutcome : RotAnswers.RotOutcome → List ℕ → CallOutcome (List ℕ × List ℕ)
+rotReadCallOutcome o answer = answeringWith (o .out) (rotReadGiven (o .answer)) answer
 
 unfoldable pub rotReadCall : List ℕ → List ℕ → List ℕ → CallOutcome (List ℕ × List ℕ)
-rotReadCall input out answer = rotReadCallOutcome (rotReadPromise input out) out answer
+rotReadCall input out answer = rotReadCallOutcome (rotReadPromise input out) answer
 
 -- ---- The payload of the message that is handed out, to a room; nothing where none is, and a refusal where a read refuses the input
 
 unfoldable pub rotPayloadCall : List ℕ → List ℕ → CallOutcome (List ℕ)
-rotPayloadCall input room = writingAnswer (partGiven (payloadGivenPromise input) (payloadPromise input)) room
+rotPayloadCall input room = filling (partGiven (payloadGivenPromise input) (payloadPromise input)) room
 
 -- ---- Write: the message's length
 
@@ -44,16 +37,16 @@ unfoldable pub rotWriteGiven : RotAnswers.RotReport → CallReport
 rotWriteGiven (RotAnswers.refused n) = refused n
 rotWriteGiven (RotAnswers.wrote n) = given (n ∷ [])
 -- the writer says neither of these
-rotWriteGiven RotAnswers.nothing = given []
-rotWriteGiven (RotAnswers.handed type n) = given []
+rotWriteGiven RotAnswers.nothing = given (0 ∷ [])
+rotWriteGiven (RotAnswers.handed type n) = given (0 ∷ [])
 
-abbrev pub rotWriteCallOutcome : RotAnswers.RotOutcome → List ℕ → List ℕ → CallOutcome (List ℕ × List ℕ)
-rotWriteCallOutcome o out answer = writingAfter (rotWriteGiven (o .answer)) out (o .out) answer
+abbrev pub rotWriteCallOutcome : RotAnswers.RotOutcome → List ℕ → CallOutcome (List ℕ × List ℕ)
+rotWriteCallOutcome o answer = answeringWith (o .out) (rotWriteGiven (o .answer)) answer
 
 unfoldable pub rotWriteCall : RotMessage → List ℕ → List ℕ → CallOutcome (List ℕ × List ℕ)
-rotWriteCall m out answer = rotWriteCallOutcome (rotWritePromise m out) out answer
+rotWriteCall m out answer = rotWriteCallOutcome (rotWritePromise m out) answer
 
 -- ---- The CRC of some bytes
 
 unfoldable pub rotCrcCall : List ℕ → List ℕ → CallOutcome (List ℕ)
-rotCrcCall bs answer = writingAnswer (given (crc bs ∷ [])) answer
+rotCrcCall bs answer = answering (given (crc bs ∷ [])) answer

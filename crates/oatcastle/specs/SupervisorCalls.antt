@@ -6,8 +6,8 @@ use mathlib.Core.Option.{Option, none, some}
 use Prim.Native.Nat.{ℕ}
 use Rattle.supervisor.specs.Calls
 use Rattle.supervisor.specs.declared.registers.Kind.{Kind}
-use Rattle.oatcastle.specs.Answers.{CallOutcome, callOutcome, callNumber, CallReport, refused, given, writingAnswer, writingAfter}
-use Rattle.oatcastle.specs.Answers.{writingBoth, flag}
+use Rattle.oatcastle.specs.Answers.{CallOutcome, callOutcome, callNumber, CallReport, refused, given, answering, answeringWith}
+use Rattle.oatcastle.specs.Answers.{fillingAndAnswering, flag}
 
 -- ---- Start
 
@@ -23,11 +23,11 @@ unfoldable pub takeGiven : Calls.TakeReport → CallReport
 takeGiven (Calls.moved n) = given (n ∷ [])
 takeGiven (Calls.TakeReport.refused n) = refused n
 
-abbrev pub takeCallOutcome : Calls.TakeOutcome → List ℕ → List ℕ → List ℕ → CallOutcome ((List ℕ × List ℕ) × List ℕ)
-takeCallOutcome t outbox room answer = writingAfter (takeGiven (t .report)) (outbox, room) (t .outbox, t .room) answer
+abbrev pub takeCallOutcome : Calls.TakeOutcome → List ℕ → CallOutcome ((List ℕ × List ℕ) × List ℕ)
+takeCallOutcome t answer = answeringWith (t .outbox, t .room) (takeGiven (t .report)) answer
 
 unfoldable pub takeCall : List ℕ → List ℕ → List ℕ → CallOutcome ((List ℕ × List ℕ) × List ℕ)
-takeCall outbox room answer = takeCallOutcome (Calls.takePromise outbox room) outbox room answer
+takeCall outbox room answer = takeCallOutcome (Calls.takePromise outbox room) answer
 
 -- ---- Post an alert, set options
 
@@ -48,8 +48,8 @@ lookupGiven (Calls.LookupReport.refused n) = refused n
 
 unfoldable pub lookupCall : List ℕ → List ℕ → ℕ → ℕ → List ℕ → List ℕ → CallOutcome (List ℕ × List ℕ)
 lookupCall factory settings key most room answer =
-    writingBoth (lookupGiven (Calls.lookupResultPromise factory settings key most)) (Calls.lookupPromise factory settings key most) room
-    answer
+    fillingAndAnswering (lookupGiven (Calls.lookupResultPromise factory settings key most))
+    (Calls.lookupPromise factory settings key most) room answer
 
 -- ---- The edition of a key: the result, and the edition
 
@@ -58,7 +58,7 @@ editionGiven (Calls.EditionReport.result n edition) = given (n ∷ edition ∷ [
 editionGiven (Calls.EditionReport.refused n) = refused n
 
 unfoldable pub editionCall : List ℕ → List ℕ → ℕ → List ℕ → CallOutcome (List ℕ)
-editionCall factory settings key answer = writingAnswer (editionGiven (Calls.editionPromise factory settings key)) answer
+editionCall factory settings key answer = answering (editionGiven (Calls.editionPromise factory settings key)) answer
 
 -- ---- Read the line signal, the two flags, a record
 
@@ -67,7 +67,7 @@ signalGiven (Calls.is on) = given (flag on ∷ [])
 signalGiven (Calls.RegisterReport.refused n) = refused n
 
 unfoldable pub signalCall : List ℕ → List ℕ → CallOutcome (List ℕ)
-signalCall registers answer = writingAnswer (signalGiven (Calls.signalPromise registers)) answer
+signalCall registers answer = answering (signalGiven (Calls.signalPromise registers)) answer
 
 -- reboot asked for, power off asked for
 unfoldable pub flagsGiven : Calls.RegisterReport (Bool × Bool) → CallReport
@@ -75,7 +75,7 @@ flagsGiven (Calls.is f) = given (flag (f .0) ∷ flag (f .1) ∷ [])
 flagsGiven (Calls.RegisterReport.refused n) = refused n
 
 unfoldable pub flagsCall : List ℕ → List ℕ → CallOutcome (List ℕ)
-flagsCall registers answer = writingAnswer (flagsGiven (Calls.flagsPromise registers)) answer
+flagsCall registers answer = answering (flagsGiven (Calls.flagsPromise registers)) answer
 
 -- whether there is one, its code, the whole length of its rest, and how many bytes of the rest are kept, which go to a room
 unfoldable pub recordGiven : Calls.RegisterReport (Option Calls.RecordRead) → CallReport
@@ -85,4 +85,4 @@ recordGiven (Calls.RegisterReport.refused n) = refused n
 
 unfoldable pub recordCall : List ℕ → Kind → List ℕ → List ℕ → CallOutcome (List ℕ × List ℕ)
 recordCall registers kind room answer =
-    writingBoth (recordGiven (Calls.recordPromise registers kind)) (Calls.recordBytesPromise registers kind) room answer
+    fillingAndAnswering (recordGiven (Calls.recordPromise registers kind)) (Calls.recordBytesPromise registers kind) room answer

@@ -1,15 +1,16 @@
-// The supervisor's call that receives with a counter block lent, and clearing a block.
+// The supervisor's calls that receive with a counter block lent, and clearing a block.
 // Assumes nothing: no exported function has a `requires`, and no block is refused.
+use crate::receiving::step_told;
 use crate::refusals;
 use counters::Counters;
 use responder::receive::Received;
 ghost use mathlib.Core.Path.{_≡_};
 ghost use Rattle.supervisor.specs.Calls.{parts};
 ghost use Rattle.responder.specs.Receive.{receiveReport};
+ghost use Rattle.responder.specs.Counting.{countPromise};
 ghost use Rattle.counters.specs.Count.{clearedCounters};
-ghost use Rattle.counters.specs.Counting.{countPromise};
 ghost use Rattle.oatcastle.specs.Answers.{callOutcome, callNumber};
-ghost use Rattle.oatcastle.specs.ReceiveCalls.{receiveCall};
+ghost use Rattle.oatcastle.specs.ReceiveCalls.{receiveCall, stepCall, stepCount};
 
 // The number that a receive with counters by value returns, and the counters that it leaves.
 struct Numbered {
@@ -62,6 +63,44 @@ pub extern "C" fn oatcastle_receive_counted(
     numbered.answer
 }
 
+// `oatcastle_step` with a counter block lent: the same, and the frame that it ended is counted.
+#[no_mangle]
+pub extern "C" fn oatcastle_step_counted(
+    counters: &mut Counters,
+    image: &[u8],
+    piece: &[u8],
+    reader: &mut [u8],
+    outbox: &mut [u8],
+    factory: &[u8],
+    settings: &mut [u8],
+    registers: &mut [u8],
+    answer: &mut [u64; 6],
+) -> u32
+    ensures { λ r. ⌜ (callOutcome r (
+      parts (now (reader .exit)) (now (outbox .exit)) (now (factory .entry)) (now (settings .exit)) (now (registers .exit)),
+      now (answer .exit),
+    ) ≡ stepCall (now (image .entry))
+        (parts (now (reader .entry)) (now (outbox .entry)) (now (factory .entry)) (now (settings .entry)) (now (registers .entry)))
+        (now (piece .entry)) (now (answer .entry)))
+        × (now (counters .exit)
+        ≡ stepCount (now (counters .entry)) (now (image .entry))
+        (parts (now (reader .entry)) (now (outbox .entry)) (now (factory .entry)) (now (settings .entry)) (now (registers .entry)))
+        (now (piece .entry))) ⌝ }
+{
+    let told = step_told(
+        image,
+        piece,
+        reader,
+        outbox,
+        factory,
+        settings,
+        registers,
+        answer,
+    );
+    counters::bump(counters, told.outcome);
+    told.answer
+}
+
 // A receive with the counters by value, and its number.
 fn receive_numbered(
     counters: Counters,
@@ -83,7 +122,7 @@ fn receive_numbered(
         (parts (now (reader .entry)) (now (outbox .entry)) (now (factory .entry)) (now (settings .entry)) (now (registers .entry)))
         (now (piece .entry))) ⌝ }
 {
-    let tallied = counters::receive_tallied(
+    let tallied = responder::counting::receive_tallied(
         counters,
         image,
         piece,

@@ -1,6 +1,5 @@
 // The line layer's calls: the reader, the writer and the checksum.
 // Assumes nothing: no exported function has a `requires`.
-use crate::answer_writing::write_answer;
 use crate::answer_writing::write_bytes;
 use crate::kinds::CHECKSUM;
 use crate::kinds::EMPTY;
@@ -11,7 +10,6 @@ use crate::kinds::MAGIC;
 use crate::kinds::MESSAGE;
 use crate::kinds::MORE;
 use crate::refusals;
-use line::limits;
 use line::reader::Answer;
 use line::reader::Handed;
 use line::reader::Started;
@@ -19,14 +17,10 @@ use line::reader::Unfinished;
 use line::writer::Written;
 ghost use mathlib.Core.Path.{_≡_};
 ghost use Rattle.line.specs.Reader.{readReport};
-ghost use Rattle.line.specs.Writer as LineWriter;
 ghost use Rattle.line.specs.Writer.{messageOfParts};
-ghost use Rattle.oatcastle.specs.Answers.{callOutcome, writingAnswer};
-ghost use Rattle.oatcastle.specs.LineCalls.{lineStartCall, readGiven, lineReadCall, lineDataCall, lineTailCall, writeGiven};
-ghost use Rattle.oatcastle.specs.LineCalls.{lineWriteCall, lineChecksumCall};
-
-// How many numbers `oatcastle_line_read` answers.
-const READ_NUMBERS: usize = 7;
+ghost use Rattle.oatcastle.specs.Answers.{callOutcome, answering};
+ghost use Rattle.oatcastle.specs.LineCalls.{lineStartCall, readGiven, lineReadCall, lineDataCall, lineTailCall, lineWriteCall};
+ghost use Rattle.oatcastle.specs.LineCalls.{lineChecksumCall};
 
 // Begins a fresh reader in a state of any contents.
 #[no_mangle]
@@ -42,58 +36,52 @@ pub extern "C" fn oatcastle_line_start(state: &mut [u8]) -> u32
 
 // Reads a piece to its end, or up to and with its first 00.
 #[no_mangle]
-pub extern "C" fn oatcastle_line_read(state: &mut [u8], piece: &[u8], answer: &mut [u64]) -> u32
+pub extern "C" fn oatcastle_line_read(state: &mut [u8], piece: &[u8], answer: &mut [u64; 7]) -> u32
     ensures { λ r. ⌜ callOutcome r (now (state .exit), now (answer .exit))
         ≡ lineReadCall (now (state .entry)) (now (piece .entry)) (now (answer .entry)) ⌝ }
 {
-    if !line::reader::is_valid(state) {
-        return refusals::BAD_STATE;
-    }
-    if answer.len() < READ_NUMBERS {
-        return refusals::NO_ROOM;
-    }
     let read = line::reader::read(state, piece);
     let report = read.answer;
     answer_reading(answer, read.used as u64, report)
 }
 
 // The numbers of the reader's answer.
-fn answer_reading(answer: &mut [u64], used: u64, read: Answer) -> u32
-    ensures { λ r. ⌜ callOutcome r (now (answer .exit)) ≡ writingAnswer (readGiven used (readReport read)) (now (answer .entry)) ⌝ }
+fn answer_reading(answer: &mut [u64; 7], used: u64, read: Answer) -> u32
+    ensures { λ r. ⌜ callOutcome r (now (answer .exit)) ≡ answering (readGiven used (readReport read)) (now (answer .entry)) ⌝ }
 {
     match read {
         Answer::Refused => refusals::BAD_STATE,
-        Answer::More => write_answer(answer, [used, MORE, 0, 0, 0, 0, 0], READ_NUMBERS),
-        Answer::Empty => write_answer(answer, [used, EMPTY, 0, 0, 0, 0, 0], READ_NUMBERS),
-        Answer::Message(h) => write_answer(
-            answer,
-            [
-                used,
-                MESSAGE,
-                0,
-                h.version as u64,
-                h.sequence,
-                h.command as u64,
-                h.length as u64,
-            ],
-            READ_NUMBERS,
-        ),
-        Answer::BadForm => write_answer(answer, [used, FAILURE, FORM, 0, 0, 0, 0], READ_NUMBERS),
-        Answer::BadLength => write_answer(
-            answer,
-            [used, FAILURE, LENGTH, 0, 0, 0, 0],
-            READ_NUMBERS,
-        ),
-        Answer::BadChecksum(sequence) => write_answer(
-            answer,
-            [used, FAILURE, CHECKSUM, 0, sequence, 0, 0],
-            READ_NUMBERS,
-        ),
-        Answer::BadMagic(sequence) => write_answer(
-            answer,
-            [used, FAILURE, MAGIC, 0, sequence, 0, 0],
-            READ_NUMBERS,
-        ),
+        Answer::More => {
+            *answer = [used, MORE, 0, 0, 0, 0, 0];
+            refusals::DONE
+        }
+        Answer::Empty => {
+            *answer = [used, EMPTY, 0, 0, 0, 0, 0];
+            refusals::DONE
+        }
+        Answer::Message(h) => {
+            let version = h.version as u64;
+            let command = h.command as u64;
+            let length = h.length as u64;
+            *answer = [used, MESSAGE, 0, version, h.sequence, command, length];
+            refusals::DONE
+        }
+        Answer::BadForm => {
+            *answer = [used, FAILURE, FORM, 0, 0, 0, 0];
+            refusals::DONE
+        }
+        Answer::BadLength => {
+            *answer = [used, FAILURE, LENGTH, 0, 0, 0, 0];
+            refusals::DONE
+        }
+        Answer::BadChecksum(sequence) => {
+            *answer = [used, FAILURE, CHECKSUM, 0, sequence, 0, 0];
+            refusals::DONE
+        }
+        Answer::BadMagic(sequence) => {
+            *answer = [used, FAILURE, MAGIC, 0, sequence, 0, 0];
+            refusals::DONE
+        }
     }
 }
 
@@ -112,14 +100,20 @@ pub extern "C" fn oatcastle_line_data(state: &[u8], length: u64, room: &mut [u8]
 
 // How many bytes of an unfinished frame have come.
 #[no_mangle]
-pub extern "C" fn oatcastle_line_tail(state: &[u8], answer: &mut [u64]) -> u32
+pub extern "C" fn oatcastle_line_tail(state: &[u8], answer: &mut [u64; 2]) -> u32
     ensures { λ r. ⌜ callOutcome r (now (answer .exit)) ≡ lineTailCall (now (state .entry)) (now (answer .entry)) ⌝ }
 {
     let tail = line::reader::tail(state);
     match tail {
         Unfinished::Refused => refusals::BAD_STATE,
-        Unfinished::Bytes(n) => write_answer(answer, [0, n as u64, 0, 0, 0, 0, 0], 2),
-        Unfinished::Longer => write_answer(answer, [1, 0, 0, 0, 0, 0, 0], 2),
+        Unfinished::Bytes(n) => {
+            *answer = [0, n as u64];
+            refusals::DONE
+        }
+        Unfinished::Longer => {
+            *answer = [1, 0];
+            refusals::DONE
+        }
     }
 }
 
@@ -132,32 +126,18 @@ pub extern "C" fn oatcastle_line_write(
     head: &[u8],
     rest: &[u8],
     out: &mut [u8],
-    answer: &mut [u64],
+    answer: &mut [u64; 1],
 ) -> u32
     ensures { λ r. ⌜ callOutcome r (now (out .exit), now (answer .exit))
         ≡ lineWriteCall (messageOfParts version sequence command (now (head .entry)) (now (rest .entry))) (now (out .entry))
         (now (answer .entry)) ⌝ }
 {
-    if limits::LONGEST_DATA < head.len() {
-        return refusals::TOO_LONG;
-    }
-    if limits::LONGEST_DATA - head.len() < rest.len() {
-        return refusals::TOO_LONG;
-    }
-    if answer.len() < 1 {
-        return refusals::NO_ROOM;
-    }
     let written = line::writer::write(version, sequence, command, head, rest, out);
-    answer_written(answer, written)
-}
-
-// The number of the writer's answer.
-fn answer_written(answer: &mut [u64], written: Written) -> u32
-    ensures { λ r. ⌜ callOutcome r (now (answer .exit))
-        ≡ writingAnswer (writeGiven (LineWriter.writeReport written)) (now (answer .entry)) ⌝ }
-{
     match written {
-        Written::Done(n) => write_answer(answer, [n as u64, 0, 0, 0, 0, 0, 0], 1),
+        Written::Done(n) => {
+            *answer = [n as u64];
+            refusals::DONE
+        }
         Written::NoRoom => refusals::NO_ROOM,
         Written::TooLong => refusals::TOO_LONG,
     }
@@ -165,9 +145,10 @@ fn answer_written(answer: &mut [u64], written: Written) -> u32
 
 // The checksum of a message's body.
 #[no_mangle]
-pub extern "C" fn oatcastle_line_checksum(body: &[u8], answer: &mut [u64]) -> u32
+pub extern "C" fn oatcastle_line_checksum(body: &[u8], answer: &mut [u64; 1]) -> u32
     ensures { λ r. ⌜ callOutcome r (now (answer .exit)) ≡ lineChecksumCall (now (body .entry)) (now (answer .entry)) ⌝ }
 {
     let sum = line::sums::checksum(body) as u64;
-    write_answer(answer, [sum, 0, 0, 0, 0, 0, 0], 1)
+    *answer = [sum];
+    refusals::DONE
 }

@@ -1,7 +1,7 @@
 // The supervisor's calls that read: a key's value, the line signal, the two flags, the two records.
 // Assumes nothing: no exported function has a `requires`.
-use crate::answer_writing::write_answer;
-use crate::answer_writing::write_both;
+use crate::answer_writing::write_record;
+use crate::answer_writing::write_value;
 use crate::refusals;
 use supervisor::keys;
 use supervisor::keys::EditionFound;
@@ -13,7 +13,7 @@ use supervisor::registers::SignalRead;
 ghost use mathlib.Core.Path.{_≡_};
 ghost use Rattle.supervisor.specs.Calls.{lookupReport, recordReport};
 ghost use Rattle.supervisor.specs.declared.registers.Kind.the-variants.{BootFailure, Panic};
-ghost use Rattle.oatcastle.specs.Answers.{callOutcome, writingBoth};
+ghost use Rattle.oatcastle.specs.Answers.{callOutcome, fillingAndAnswering};
 ghost use Rattle.oatcastle.specs.SupervisorCalls.{lookupGiven, lookupCall, editionCall, signalCall, flagsCall, recordGiven};
 ghost use Rattle.oatcastle.specs.SupervisorCalls.{recordCall};
 
@@ -25,7 +25,7 @@ pub extern "C" fn oatcastle_lookup<'a>(
     key: u8,
     maxresponse: u16,
     room: &mut [u8],
-    answer: &mut [u64],
+    answer: &mut [u64; 2],
 ) -> u32
     ensures { λ r. ⌜ callOutcome r (now (room .exit), now (answer .exit))
         ≡ lookupCall (now (factory .entry)) (now (settings .entry)) key maxresponse (now (room .entry)) (now (answer .entry)) ⌝ }
@@ -36,17 +36,17 @@ pub extern "C" fn oatcastle_lookup<'a>(
 }
 
 // A value, and the numbers of a lookup's answer.
-fn answer_value(value: &[u8], found: Found, room: &mut [u8], answer: &mut [u64]) -> u32
+fn answer_value(value: &[u8], found: Found, room: &mut [u8], answer: &mut [u64; 2]) -> u32
     ensures { λ r. ⌜ callOutcome r (now (room .exit), now (answer .exit))
-        ≡ writingBoth (lookupGiven (lookupReport found)) (now (value .entry)) (now (room .entry)) (now (answer .entry)) ⌝ }
+        ≡ fillingAndAnswering (lookupGiven (lookupReport found)) (now (value .entry)) (now (room .entry)) (now (answer .entry)) ⌝ }
 {
     match found {
         Found::Refused => refusals::BAD_STATE,
-        Found::Value(n) => write_both(value, room, [0, n as u64, 0, 0, 0, 0, 0], 2, answer),
-        Found::BadKey => write_both(value, room, [1, 0, 0, 0, 0, 0, 0], 2, answer),
-        Found::NoValue => write_both(value, room, [2, 0, 0, 0, 0, 0, 0], 2, answer),
-        Found::TooLong => write_both(value, room, [3, 0, 0, 0, 0, 0, 0], 2, answer),
-        Found::SetOnly => write_both(value, room, [4, 0, 0, 0, 0, 0, 0], 2, answer),
+        Found::Value(n) => write_value(value, room, [0, n as u64], answer),
+        Found::BadKey => write_value(value, room, [1, 0], answer),
+        Found::NoValue => write_value(value, room, [2, 0], answer),
+        Found::TooLong => write_value(value, room, [3, 0], answer),
+        Found::SetOnly => write_value(value, room, [4, 0], answer),
     }
 }
 
@@ -56,7 +56,7 @@ pub extern "C" fn oatcastle_edition(
     factory: &[u8],
     settings: &[u8],
     key: u8,
-    answer: &mut [u64],
+    answer: &mut [u64; 2],
 ) -> u32
     ensures { λ r. ⌜ callOutcome r (now (answer .exit))
         ≡ editionCall (now (factory .entry)) (now (settings .entry)) key (now (answer .entry)) ⌝ }
@@ -64,48 +64,65 @@ pub extern "C" fn oatcastle_edition(
     let found = keys::edition(factory, settings, key);
     match found {
         EditionFound::Refused => refusals::BAD_STATE,
-        EditionFound::Edition(n) => write_answer(answer, [0, n as u64, 0, 0, 0, 0, 0], 2),
-        EditionFound::BadKey => write_answer(answer, [1, 0, 0, 0, 0, 0, 0], 2),
-        EditionFound::NoValue => write_answer(answer, [2, 0, 0, 0, 0, 0, 0], 2),
-        EditionFound::SetOnly => write_answer(answer, [4, 0, 0, 0, 0, 0, 0], 2),
+        EditionFound::Edition(n) => {
+            *answer = [0, n as u64];
+            refusals::DONE
+        }
+        EditionFound::BadKey => {
+            *answer = [1, 0];
+            refusals::DONE
+        }
+        EditionFound::NoValue => {
+            *answer = [2, 0];
+            refusals::DONE
+        }
+        EditionFound::SetOnly => {
+            *answer = [4, 0];
+            refusals::DONE
+        }
     }
 }
 
 // The line signal.
 #[no_mangle]
-pub extern "C" fn oatcastle_signal(registers: &[u8], answer: &mut [u64]) -> u32
+pub extern "C" fn oatcastle_signal(registers: &[u8], answer: &mut [u64; 1]) -> u32
     ensures { λ r. ⌜ callOutcome r (now (answer .exit)) ≡ signalCall (now (registers .entry)) (now (answer .entry)) ⌝ }
 {
     let read = supervisor::registers::signal(registers);
     match read {
         SignalRead::Refused => refusals::BAD_STATE,
-        SignalRead::Asserted => write_answer(answer, [1, 0, 0, 0, 0, 0, 0], 1),
-        SignalRead::Clear => write_answer(answer, [0, 0, 0, 0, 0, 0, 0], 1),
+        SignalRead::Asserted => {
+            *answer = [1];
+            refusals::DONE
+        }
+        SignalRead::Clear => {
+            *answer = [0];
+            refusals::DONE
+        }
     }
 }
 
 // Whether a reboot and power off were asked for.
 #[no_mangle]
-pub extern "C" fn oatcastle_flags(registers: &[u8], answer: &mut [u64]) -> u32
+pub extern "C" fn oatcastle_flags(registers: &[u8], answer: &mut [u64; 2]) -> u32
     ensures { λ r. ⌜ callOutcome r (now (answer .exit)) ≡ flagsCall (now (registers .entry)) (now (answer .entry)) ⌝ }
 {
     let read = supervisor::registers::flags(registers);
     match read {
         FlagsRead::Refused => refusals::BAD_STATE,
-        FlagsRead::Read(asked) => write_answer(
-            answer,
-            [asked.reboot as u64, asked.power_off as u64, 0, 0, 0, 0, 0],
-            2,
-        ),
+        FlagsRead::Read(asked) => {
+            *answer = [asked.reboot as u64, asked.power_off as u64];
+            refusals::DONE
+        }
     }
 }
 
 // The record of a boot failure, and its kept bytes.
 #[no_mangle]
-pub extern "C" fn oatcastle_boot_failure(
+pub extern "C" fn oatcastle_boot_failure_record(
     registers: &[u8],
     room: &mut [u8],
-    answer: &mut [u64],
+    answer: &mut [u64; 4],
 ) -> u32
     ensures { λ r. ⌜ callOutcome r (now (room .exit), now (answer .exit))
         ≡ recordCall (now (registers .entry)) BootFailure (now (room .entry)) (now (answer .entry)) ⌝ }
@@ -115,14 +132,18 @@ pub extern "C" fn oatcastle_boot_failure(
 
 // The record of a panic, and its kept bytes.
 #[no_mangle]
-pub extern "C" fn oatcastle_panic(registers: &[u8], room: &mut [u8], answer: &mut [u64]) -> u32
+pub extern "C" fn oatcastle_panic_record(
+    registers: &[u8],
+    room: &mut [u8],
+    answer: &mut [u64; 4],
+) -> u32
     ensures { λ r. ⌜ callOutcome r (now (room .exit), now (answer .exit))
         ≡ recordCall (now (registers .entry)) Panic (now (room .entry)) (now (answer .entry)) ⌝ }
 {
     read_record(registers, Kind::Panic, room, answer)
 }
 
-fn read_record(registers: &[u8], kind: Kind, room: &mut [u8], answer: &mut [u64]) -> u32
+fn read_record(registers: &[u8], kind: Kind, room: &mut [u8], answer: &mut [u64; 4]) -> u32
     ensures { λ r. ⌜ callOutcome r (now (room .exit), now (answer .exit))
         ≡ recordCall (now (registers .entry)) kind (now (room .entry)) (now (answer .entry)) ⌝ }
 {
@@ -132,18 +153,17 @@ fn read_record(registers: &[u8], kind: Kind, room: &mut [u8], answer: &mut [u64]
 }
 
 // Kept bytes, and the numbers of a record.
-fn answer_record(kept: &[u8], found: Recorded, room: &mut [u8], answer: &mut [u64]) -> u32
+fn answer_record(kept: &[u8], found: Recorded, room: &mut [u8], answer: &mut [u64; 4]) -> u32
     ensures { λ r. ⌜ callOutcome r (now (room .exit), now (answer .exit))
-        ≡ writingBoth (recordGiven (recordReport found)) (now (kept .entry)) (now (room .entry)) (now (answer .entry)) ⌝ }
+        ≡ fillingAndAnswering (recordGiven (recordReport found)) (now (kept .entry)) (now (room .entry)) (now (answer .entry)) ⌝ }
 {
     match found {
         Recorded::Refused => refusals::BAD_STATE,
-        Recorded::Nothing => write_both(kept, room, [0, 0, 0, 0, 0, 0, 0], 4, answer),
-        Recorded::Found(e) => write_both(
+        Recorded::Nothing => write_record(kept, room, [0, 0, 0, 0], answer),
+        Recorded::Found(e) => write_record(
             kept,
             room,
-            [1, e.code as u64, e.whole as u64, e.kept as u64, 0, 0, 0],
-            4,
+            [1, e.code as u64, e.whole as u64, e.kept as u64],
             answer,
         ),
     }

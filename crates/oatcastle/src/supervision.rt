@@ -1,6 +1,5 @@
 // The supervisor's calls that change what they are lent: start, take, post an alert, set options.
 // Assumes nothing: no exported function has a `requires`.
-use crate::answer_writing::write_answer;
 use crate::refusals;
 use supervisor::alerts::Posted;
 use supervisor::layout;
@@ -8,9 +7,9 @@ use supervisor::options::OptionsSet;
 use supervisor::outbox::Taken;
 use supervisor::start::Started;
 ghost use mathlib.Core.Path.{_≡_};
-ghost use Rattle.supervisor.specs.Calls.{parts, startReport, takeReport};
-ghost use Rattle.oatcastle.specs.Answers.{callOutcome, callNumber, writingAnswer};
-ghost use Rattle.oatcastle.specs.SupervisorCalls.{startCall, takeGiven, takeCall, postCall, optionsCall};
+ghost use Rattle.supervisor.specs.Calls.{parts, startReport};
+ghost use Rattle.oatcastle.specs.Answers.{callOutcome, callNumber};
+ghost use Rattle.oatcastle.specs.SupervisorCalls.{startCall, takeCall, postCall, optionsCall};
 
 // Begins the supervisor with start data.
 #[no_mangle]
@@ -43,26 +42,16 @@ fn start_number(started: Started) -> u32
 
 // Moves the smaller of the room and the bytes pending.
 #[no_mangle]
-pub extern "C" fn oatcastle_take(outbox: &mut [u8], room: &mut [u8], answer: &mut [u64]) -> u32
+pub extern "C" fn oatcastle_take(outbox: &mut [u8], room: &mut [u8], answer: &mut [u64; 1]) -> u32
     ensures { λ r. ⌜ callOutcome r ((now (outbox .exit), now (room .exit)), now (answer .exit))
         ≡ takeCall (now (outbox .entry)) (now (room .entry)) (now (answer .entry)) ⌝ }
 {
-    if !supervisor::valid::outbox_is_valid(outbox) {
-        return refusals::BAD_STATE;
-    }
-    if answer.len() < 1 {
-        return refusals::NO_ROOM;
-    }
     let taken = supervisor::outbox::take(outbox, room);
-    answer_taken(answer, taken)
-}
-
-// The number of a take's answer.
-fn answer_taken(answer: &mut [u64], taken: Taken) -> u32
-    ensures { λ r. ⌜ callOutcome r (now (answer .exit)) ≡ writingAnswer (takeGiven (takeReport taken)) (now (answer .entry)) ⌝ }
-{
     match taken {
-        Taken::Moved(n) => write_answer(answer, [n as u64, 0, 0, 0, 0, 0, 0], 1),
+        Taken::Moved(n) => {
+            *answer = [n as u64];
+            refusals::DONE
+        }
         Taken::Refused => refusals::BAD_STATE,
     }
 }

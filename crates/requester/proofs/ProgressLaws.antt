@@ -1,16 +1,18 @@
 -- Laws of the part's first fields: how they are stored, and the numbers of a recovery's steps.
 -- Assumes nothing.
 use mathlib.Core.Path.{_≡_, refl}
+use mathlib.Core.Bool.{Bool, true, false, cond, not}
 use mathlib.Core.List.{List, [], _∷_, _++_}
 use mathlib.Core.Option.{Option, none, some}
 use Prim.Native.Nat.{ℕ, zero, suc, _≤_}
 use native.Mathlib.Omega.{arith}
+use lib.Dec.{eqb}
 use lib.ListN.{length, set, replicate}
 use lib.Seq.{take-length}
 use Rattle.octets.specs.Bytes.{bytes, overlay, put, copied}
 use Rattle.octets.proofs.Overlay.{length-overlay, overlay-one, overlay-more, overlay-next, put-fits, copied-fits}
 use Rattle.line.specs.Limits.{longest-data}
-use Rattle.requester.specs.State.{RecoveryStep, fetch, acknowledge, alert}
+use Rattle.requester.specs.State.{RecoveryStep, fetch, acknowledge, alert, isSome}
 use Rattle.requester.specs.Layout
 use Rattle.requester.specs.Calls.{progressed}
 
@@ -87,3 +89,14 @@ step-at none = refl
 step-at (some fetch) = refl
 step-at (some acknowledge) = refl
 step-at (some alert) = refl
+
+-- a step is none exactly where its number is 0
+pub step-none : (t : ℕ) → isSome (Layout.stepAt t) ≡ not (eqb t 0)
+unfolding Layout.stepAt
+step-none t = by (eqb t 0) (eqb t 1) (eqb t 2)
+  where
+    by : (a b c : Bool) → isSome (cond a none (cond b (some fetch) (cond c (some acknowledge) (some alert)))) ≡ not a
+    by true b c = refl
+    by false true c = refl
+    by false false true = refl
+    by false false false = refl

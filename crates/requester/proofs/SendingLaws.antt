@@ -3,19 +3,21 @@
 use mathlib.Core.Path.{_≡_, refl, ap}
 use mathlib.Core.Bool.{Bool, true, false, cond}
 use mathlib.Core.List.{List, [], _++_, append-nil}
-use Prim.Native.Nat.{ℕ, zero, suc, _+_, _-_, _≤_, _<_}
+use mathlib.Core.Option.{Option}
+use Prim.Native.Nat.{ℕ, _+_, _-_, _≤_, _<_}
 use native.Mathlib.Nat.{add-sub-cancel-left}
 use native.Mathlib.Numerals.{add-one}
 use native.Mathlib.Omega.{arith}
-use lib.Dec.{ltb}
+use lib.Dec.{ltb, eqb}
 use lib.ListN.{length, take, drop, set, length-take}
-use borrow.Author.Tests.{le-ltb, lt-ltb, le-leb, lt-leb}
+use borrow.Author.Tests.{le-ltb, lt-ltb, le-leb, lt-leb, ne-eqb}
 use Rattle.octets.specs.Bytes.{overlay, run}
+use Rattle.octets.proofs.Conditions.{cond-both}
 use Rattle.octets.proofs.Overlay.{overlay-one}
 use Rattle.line.specs.Limits.{longest-data}
 use Rattle.line.specs.Writer
 use Rattle.requester.specs.Limits.{last-number}
-use Rattle.requester.specs.State.{Request, stepRequest, requestFrame}
+use Rattle.requester.specs.State.{Request, RecoveryStep, stepRequest, requestFrame}
 use Rattle.requester.specs.Layout
 use Rattle.requester.specs.Valid.{validRequester}
 use Rattle.requester.specs.Calls
@@ -120,14 +122,14 @@ module _ (r : List ℕ) (command : ℕ) (d out : List ℕ) where
 
 -- ---- the one outstanding
 
-pub step-request : (n : ℕ) (q : Request) → (n ≡ 0 → ⊥) → n ≤ 3
+pub step-request : (n : ℕ) (q : Request) → (n ≡ 0 → ⊥)
     → Layout.requestIn (Layout.stepAt n) q ≡ record { command = stepCommand n; payload = [] }
 unfolding Layout.stepAt stepCommand stepRequest
-step-request zero q h l = absurd (h refl)
-step-request (suc zero) q h l = refl
-step-request (suc (suc zero)) q h l = refl
-step-request (suc (suc (suc zero))) q h l = refl
-step-request (suc (suc (suc (suc n)))) q h l = absurd (omega arith)
+step-request n q h =
+    rw (ne-eqb n 0 h) (cond-both Asks (eqb n 1) (λ _. refl) (λ _. cond-both Asks (eqb n 2) (λ _. refl) (λ _. refl)))
+  where
+    Asks : Option RecoveryStep → ℕ → Type 0
+    Asks t command = Layout.requestIn t q ≡ record { command = command; payload = [] }
 
 module _ (r out : List ℕ) (v : RequesterValid r) {n t : ℕ} (e : n ≡ Layout.newestNumber r) (f : t ≡ Layout.recoveryOf r)
     {o : Writer.WriteOutcome} where
@@ -148,7 +150,7 @@ module _ (r out : List ℕ) (v : RequesterValid r) {n t : ℕ} (e : n ≡ Layout
       → o ≡ Writer.writeInto (requestFrame (Layout.newestNumber r) (Layout.outRequest r)) out
   unfolding Layout.outRequest
   step-written {command} z p w =
-      rw (← e, ← f, step-request t (Layout.keptRequest r) z (omega (arith, v)), ← p)
+      rw (← e, ← f, step-request t (Layout.keptRequest r) z, ← p)
       (written n (record { command = command; payload = [] }) out [] [] (omega arith) refl w)
 
 -- ---- a call of send

@@ -11,7 +11,8 @@ use Rattle.line.specs.Limits.{longest-data, longest-form}
 use Rattle.line.specs.Judge.{failure, good}
 use Rattle.line.specs.Reader as LineReader
 use Rattle.requester.specs.Limits.{last-number}
-use Rattle.requester.specs.State.{fetch, requestFrame}
+use Rattle.requester.specs.State
+use Rattle.requester.specs.State.{fetch, acknowledge, alert, isSome, requestFrame}
 use Rattle.requester.specs.Requester
 use Rattle.requester.specs.Requester.{Heard, ground, HeardOutcome, staysOut, hear, settle}
 use Rattle.requester.specs.Layout
@@ -27,6 +28,11 @@ use Rattle.requester.specs.declared.recovery.Interrupted.the-variants as
 use Rattle.requester.specs.declared.outcome.Handed.{Handed}
 use Rattle.requester.specs.declared.outcome.Handed.the-variants as handed
 use Rattle.requester.specs.declared.receive.Received.{Received}
+use Rattle.requester.specs.declared.state.Stage.{Stage}
+use Rattle.requester.specs.declared.state.Stage.the-variants as stage
+use Rattle.requester.specs.declared.state.Standing.{Standing}
+use Rattle.requester.specs.declared.state.Stated.{Stated}
+use Rattle.requester.specs.declared.state.Stated.the-variants as stated
 use mathlib.Core.Path.{_≡_}
 use Prim.Native.Nat.{_≤_}
 
@@ -277,6 +283,50 @@ unfoldable pub mainReceivePromise : MainParts → List ℕ → MainReceiveOutcom
 mainReceivePromise p piece =
     cond (mainValidParts p) (mainReceiveValid p piece)
     (record { used = 0; report = HandedReport.refused 12; ended = none; unsent = false; parts = p })
+
+-- ---- State
+
+-- what is outstanding, or the table's number
+pub data StateReport : Type 0 where
+  refused : ℕ → StateReport
+  stands : State.Standing → StateReport
+
+unfoldable pub stageReport : Stage → State.Stage
+stageReport stage.Idle = State.idle
+stageReport stage.Waiting = State.waiting
+stageReport stage.Fetch = State.recovering fetch
+stageReport stage.Acknowledge = State.recovering acknowledge
+stageReport stage.Alert = State.recovering alert
+
+unfoldable pub standingReport : Standing → State.Standing
+standingReport s = record {
+  stage = stageReport (s .stage);
+  command = s .command;
+  number = s .number;
+  unsent = s .unsent;
+  original = s .original;
+}
+
+unfoldable pub stateReport : Stated → StateReport
+stateReport stated.Refused = StateReport.refused 12
+stateReport (stated.Done s) = stands (standingReport s)
+
+-- the one outstanding
+unfoldable pub partStanding : List ℕ → State.Standing
+partStanding r = record {
+  stage = State.stageIn (Layout.recoveryStep r);
+  command = Layout.outRequest r .command;
+  number = Layout.newestNumber r;
+  unsent = eqb (Layout.unsentOf r) 1;
+  original = isSome (Layout.recoveryStep r) && Layout.isKept r;
+}
+
+-- tests 12; changes nothing
+unfoldable pub statePromise : List ℕ → StateReport
+statePromise r =
+    cond (validRequester r) (stands (cond (Layout.isOutstanding r) (partStanding r) State.idleStanding)) (StateReport.refused 12)
+
+-- ---- What the parts are
 
 -- both parts are as 12 requires
 pub record MainPartsValid (p : MainParts) : Type 0 where

@@ -1,6 +1,6 @@
 -- The main processor's state in document 02's words (item 2): the request outstanding, a recovery, and the receive progress.
 -- Assumes nothing: these are definitions.
-use mathlib.Core.Bool.{Bool, true, false}
+use mathlib.Core.Bool.{Bool, true, false, _&&_}
 use mathlib.Core.List.{List, []}
 use mathlib.Core.Option.{Option, none, some}
 use Prim.Native.Nat.{ℕ}
@@ -58,3 +58,42 @@ outstanding s = outstandingOf (s .recovery) (s .kept)
 -- a request's frame: version 1
 unfoldable pub requestFrame : ℕ → Request → List ℕ
 requestFrame n q = frame (record { version = first-version; sequence = n; command = q .command; payload = q .payload })
+
+-- ---- What the caller is told
+
+-- nothing is outstanding; the caller's request is; or a step of a recovery
+pub data Stage : Type 0 where
+  idle : Stage
+  waiting : Stage
+  recovering : RecoveryStep → Stage
+
+pub record Standing : Type 0 where
+  pub stage : Stage
+  -- of the one outstanding; 0 where there is none
+  pub command : ℕ
+  pub number : ℕ
+  -- whether its frame is to go out
+  pub unsent : Bool
+  -- in a recovery: whether a request that was cut off goes out anew behind it
+  pub original : Bool
+
+abbrev pub idleStanding : Standing
+idleStanding = record { stage = idle; command = 0; number = 0; unsent = false; original = false }
+
+-- with one outstanding
+abbrev pub stageIn : Option RecoveryStep → Stage
+stageIn none = waiting
+stageIn (some t) = recovering t
+
+abbrev pub standingOf : Option Request → MainState → Standing
+standingOf none s = idleStanding
+standingOf (some q) s = record {
+  stage = stageIn (s .recovery);
+  command = q .command;
+  number = s .newest;
+  unsent = s .unsent;
+  original = isSome (s .recovery) && isSome (s .kept);
+}
+
+unfoldable pub standing : MainState → Standing
+standing s = standingOf (outstanding s) s

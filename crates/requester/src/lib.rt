@@ -9,4 +9,5 @@ pub mod receive;
 pub mod recovery;
 pub mod sending;
 pub mod start;
+pub mod state;
 pub mod valid;

@@ -141,7 +141,7 @@ fn write_outstanding(requester: &[u8], out: &mut [u8]) -> Written
 }
 
 // The command of a recovery's step.
-fn step_command(step: u8) -> u8
+pub(crate) fn step_command(step: u8) -> u8
     ensures { λ r. ⌜ r ≡ stepCommand step ⌝ }
 {
     if step == layout::FETCH {

@@ -8,6 +8,9 @@ use requester::recovery::Interrupted;
 use requester::sending::Requested;
 use requester::sending::Sent;
 use requester::start::Started;
+use requester::state::Stage;
+use requester::state::Standing;
+use requester::state::Stated;
 use text_lines::streams;
 
 const NO_ROOM: u64 = 8;
@@ -116,6 +119,33 @@ fn status(s: Status) {
     streams::hex(s.status, 16);
     streams::hex(s.options, 16);
     streams::number(s.set_bits as u64);
+}
+
+pub(crate) fn stating(a: Stated) {
+    match a {
+        Stated::Refused => streams::refused(REFUSED),
+        Stated::Done(s) => standing(s),
+    }
+}
+
+// What is outstanding: its stage, command and number, and two flags.
+fn standing(s: Standing) {
+    let kind = s.stage;
+    stage(kind);
+    streams::hex(s.command as u64, 2);
+    streams::hex(s.number, 16);
+    word_if(s.unsent, b" out");
+    word_if(s.original, b" original");
+}
+
+fn stage(kind: Stage) {
+    match kind {
+        Stage::Idle => streams::word(b" idle"),
+        Stage::Waiting => streams::word(b" waiting"),
+        Stage::Fetch => streams::word(b" fetch"),
+        Stage::Acknowledge => streams::word(b" acknowledge"),
+        Stage::Alert => streams::word(b" alert"),
+    }
 }
 
 fn word_if(is_so: bool, word: &[u8]) {

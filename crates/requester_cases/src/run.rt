@@ -6,6 +6,7 @@ use requester::receive;
 use requester::recovery;
 use requester::sending;
 use requester::start;
+use requester::state;
 use text_lines::digest::digest_on;
 use text_lines::fields;
 use text_lines::pieces;
@@ -225,6 +226,9 @@ fn listen(line: &[u8], key: u8, piece: &[u8], reader: &mut [u8], requester: &mut
     }
     if key == b'c' {
         return receive_cut(line, piece, reader, requester);
+    }
+    if key == b't' {
+        return print::stating(state::state(requester));
     }
     receive_by(piece, fields::count(line, 1), reader, requester);
 }

@@ -25,8 +25,8 @@ use Rattle.requester.specs.Calls
 use Rattle.requester.specs.Calls.{HandedReport}
 use Rattle.requester_claims.specs.View.{mainView}
 use Rattle.requester_claims.specs.Histories
-use Rattle.requester_claims.specs.Histories.{MainCall, MainAnswer, refused, done, put, received, MainMeans, mainMeant, MainMade}
-use Rattle.requester_claims.specs.Histories.{mainMade, mainMeantMade, mainEnough, mainLeft, mainLeftMeant}
+use Rattle.requester_claims.specs.Histories.{MainCall, MainAnswer, refused, done, put, received, stands, MainMeans, mainMeant}
+use Rattle.requester_claims.specs.Histories.{MainMade, mainMade, mainMeantMade, mainEnough, mainLeft, mainLeftMeant}
 use Rattle.requester_claims.proofs.MeaningLaws.{positive}
 use Rattle.requester_claims.proofs.History.{history}
 use Rattle.requester_claims.specs.Histories.{mainStarted, OfMainStart}
@@ -124,6 +124,7 @@ module _ (s : MainState) where
   meant-since (Histories.send room) h w =
       rw (put-keeps (Requester.sentOf (length room) (outstanding s) s) room, send-keeps (length room) (outstanding s)) w
   meant-since (Histories.receive piece) h w = receive-since piece s h w
+  meant-since Histories.state h w = w
 
   pub made-since : (m : MainMade) → PieceTyped (m .call) → Since (s .received) → Since (mainMeantMade s m .state .received)
   unfolding mainMeantMade
@@ -178,6 +179,7 @@ module _ (P Q : ℕ → Message → Type 0) (f : (used : ℕ) (m : Message) → 
   answer-then done d c = tt
   answer-then (put n) d c = tt
   answer-then (received used t e u) d c = report-then used t d c
+  answer-then (stands x) d c = tt
 
 pub answer-frame : OfMainStart AnswerFrame
 answer-frame p l h ms t k piece b =

@@ -65,6 +65,7 @@ module _ (s : MainState) where
   meant-matches Histories.interrupt = done-matches (Requester.interrupt s .refusal) s
   meant-matches (Histories.send room) = put-matches room (Requester.send (length room) s)
   meant-matches (Histories.receive piece) = receive-matches piece s
+  meant-matches Histories.state = tt
 
   made-matches : (m : MainMade) → MeansMatches (mainMeantMade s m)
   unfolding mainMeantMade
@@ -215,6 +216,7 @@ module _ (s : MainState) where
   meant-balanced Histories.interrupt = interrupt-balanced (s .recovery)
   meant-balanced (Histories.send room) = send-balanced room (outstanding s)
   meant-balanced (Histories.receive piece) = rw zero-add (receive-balanced piece s)
+  meant-balanced Histories.state = omega arith
 
   made-balanced : (m : MainMade) → MeansBalanced (m .call) (mainMeantMade s m)
   unfolding mainMeantMade

@@ -19,7 +19,7 @@ use Rattle.line.specs.Reader as LineReader
 use Rattle.line.proofs.Received.{valid-long, fresh-received, fresh-stays}
 use Rattle.requester.specs.Limits.{last-number}
 use Rattle.requester.specs.State.{Request, RecoveryStep, fetch, acknowledge, alert, MainState, mainState, mainFresh, isSome, outstandingOf}
-use Rattle.requester.specs.State.{requestFrame}
+use Rattle.requester.specs.State.{requestFrame, idleStanding, standingOf, standing}
 use Rattle.requester.specs.Requester
 use Rattle.requester.specs.Requester.{staysOut}
 use Rattle.requester.specs.Layout
@@ -30,11 +30,12 @@ use Rattle.requester_claims.specs.View.{keptRequestOf, held, mainView}
 use Rattle.requester_claims.specs.Histories
 use Rattle.requester_claims.specs.Histories.{MainCall, MainAnswer, mainDidBy, mainDid, mainRefusal, withRequester, putDid, mainMeans}
 use Rattle.requester_claims.specs.Histories.{putMeans, mainMeant}
-use Rattle.requester_claims.specs.Histories.{receiptDid, receiveAnswer}
+use Rattle.requester_claims.specs.Histories.{receiptDid, receiveAnswer, stateAnswer}
 use Rattle.requester_claims.proofs.FieldLaws.{progressed-held, progressed-valid, progressed-long, progressed-number}
 use Rattle.requester_claims.proofs.FieldLaws.{progressed-recovery, progressed-unsent, progressed-kept}
 use Rattle.requester_claims.proofs.FieldLaws.{flagged-held, flagged-valid, flagged-long, asked-held, asked-valid, asked-long}
 use Rattle.requester_claims.specs.Demand1.{MainMeets}
+use Rattle.requester_claims.proofs.NextClaim.{kept-some}
 use Rattle.requester_claims.proofs.ByteClaim.{lengths-same, walk-follows, received-walk}
 use Rattle.requester_claims.proofs.OneByte.{walk}
 
@@ -292,6 +293,22 @@ module _ (p : MainParts) (v : MainPartsValid p) where
         lengths = x .lengths;
       })
 
+  -- ---- state
+
+  standing-is : cond (Layout.isOutstanding r) (Calls.partStanding r) idleStanding ≡ standing (mainView p)
+  unfolding Calls.partStanding standing mainView
+  standing-is = rw (outstanding-is r) (by (Layout.isOutstanding r))
+    where
+      by : (b : Bool)
+          → cond b (Calls.partStanding r) idleStanding ≡ standingOf (cond b (some (Layout.outRequest r)) none) (mainView p)
+      by true = rw (kept-some r)
+      by false = refl
+
+  state-meets : MainMeets p (mainDidBy (stateAnswer (Calls.statePromise r)) [] p)
+      (mainMeans (Histories.stands (standing (mainView p))) [] (mainView p))
+  unfolding Calls.statePromise
+  state-meets = rw (v .requester, standing-is) (unchanged p v (Histories.stands (standing (mainView p))) [])
+
   -- ---- any call
 
   pub call-meets : (c : MainCall) → MainMeets p (mainDid p c) (mainMeant (mainView p) c)
@@ -302,3 +319,4 @@ module _ (p : MainParts) (v : MainPartsValid p) where
   call-meets Histories.interrupt = interrupt-meets
   call-meets (Histories.send room) = send-meets room
   call-meets (Histories.receive piece) = receive-meets piece
+  call-meets Histories.state = state-meets

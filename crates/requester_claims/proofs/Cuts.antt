@@ -12,8 +12,8 @@ use Rattle.requester.specs.Calls
 use Rattle.requester.specs.Calls.{MainParts, handedReportOf, MainPartsValid}
 use Rattle.requester.proofs.ValidLaws.{valid-parts}
 use Rattle.requester_claims.specs.Histories
-use Rattle.requester_claims.specs.Histories.{MainCall, MainAnswer, refused, done, put, received, MainDid, mainDid, handedDataIn}
-use Rattle.requester_claims.specs.Histories.{receiptDid, mainEnough, MainMade, mainMade}
+use Rattle.requester_claims.specs.Histories.{MainCall, MainAnswer, refused, done, put, received, stands, MainDid, mainDid}
+use Rattle.requester_claims.specs.Histories.{handedDataIn, receiptDid, mainEnough, MainMade, mainMade}
 use Rattle.requester_claims.proofs.OneByte.{Fed, feed, stopsAt, Walked, walked, walk}
 use Rattle.requester_claims.proofs.ByteClaim.{feed-follows, feed-quiet, received-walk}
 use Rattle.requester_claims.proofs.CallClaims.{report-received}
@@ -91,6 +91,7 @@ usedOf (refused n) = 0
 usedOf done = 0
 usedOf (put n) = 0
 usedOf (received used t e u) = used
+usedOf (stands x) = 0
 
 -- the bytes that a call reads
 abbrev pub bytesRead : Listener → MainRead → List ℕ
@@ -140,6 +141,7 @@ call-valid x c v =
     by done d w = w
     by (put n) d w = w
     by (received used t e u) d w = w
+    by (stands y) d w = w
 
 reads-valid : (x : Listener) (cs : List MainRead) → MainPartsValid (x .parts) → MainPartsValid (afterMainReads x cs .parts)
 unfolding afterMainReads

@@ -127,6 +127,7 @@ module _ (s : MainState) (w : List ℕ) (h : SinceLast (s .received) w) where
       put-last (Histories.send room) (λ a. refl) room (Requester.sentOf (length room) (outstanding s) s)
       (send-keeps s (length room) (outstanding s))
   meant-last (Histories.receive piece) = receive-last piece s w h
+  meant-last Histories.state = kept-last refl
 
   refused-last : (c : MainCall) → SinceLast (s .received) (w ++ bytesReadBy c (refused 12))
   refused-last Histories.start = kept-last refl
@@ -134,6 +135,7 @@ module _ (s : MainState) (w : List ℕ) (h : SinceLast (s .received) w) where
   refused-last Histories.interrupt = kept-last refl
   refused-last (Histories.send room) = kept-last refl
   refused-last (Histories.receive piece) = kept-last refl
+  refused-last Histories.state = kept-last refl
 
   made-last : (m : MainMade) → MeansLast (m .call) (mainMeantMade s m)
   unfolding mainMeantMade
@@ -221,6 +223,7 @@ module _ (s : MainState) (w : List ℕ) (since : Since (s .received)) (last : Si
       let x = Requester.send (length room) s in put-framed (Histories.send room) (x .refusal) room (x .out) (x .state)
   meant-framed (Histories.receive piece) h =
       let r = Requester.receive s piece in hands-framed piece h (r .used) (r .result .handed) (receive-hands piece s)
+  meant-framed Histories.state h = tt
 
   made-framed : (m : MainMade) → PieceTyped (m .call) → MeansFramed (m .call) (mainMeantMade s m)
   unfolding mainMeantMade

@@ -24,13 +24,13 @@ use Rattle.requester.proofs.ValidLaws.{requester-valid, is-long-enough}
 use Rattle.line.proofs.Received.{valid-long}
 use Rattle.requester_claims.specs.View.{mainView}
 use Rattle.requester_claims.specs.Histories
-use Rattle.requester_claims.specs.Histories.{MainCall, MainAnswer, refused, done, put, received, MainDid, mainDidBy, mainDid, putDid}
-use Rattle.requester_claims.specs.Histories.{mainRefusal, receiptDid, handedDataIn}
+use Rattle.requester_claims.specs.Histories.{MainCall, MainAnswer, refused, done, put, received, stands, MainDid, mainDidBy, mainDid}
+use Rattle.requester_claims.specs.Histories.{putDid, mainRefusal, receiptDid, handedDataIn}
 use Rattle.requester_claims.specs.Histories.{mainMeans, putMeans, mainDoneMeans, mainMeant, MainLent, mainLentOf, mainEnough}
 use Rattle.requester_claims.specs.Histories.{MainMade, mainUntouched, mainMade, mainMeantMade}
 use Rattle.requester_claims.specs.Histories.{mainOutputs, mainLeft, mainOutputsMeant, mainLeftMeant, mainStartCall, Accepted}
 use Rattle.requester_claims.specs.Histories.{OfReached, OfValid}
-use Rattle.requester_claims.specs.Item2.{MainFollow, MainCallsMeant, MainNo12, MainRefusedHolds, MainRefusedMade}
+use Rattle.requester_claims.specs.Item2.{MainFollow, MainCallsMeant, MainNo12, MainRefusedHolds, MainRefusedMade, StateHolds}
 use Rattle.requester_claims.proofs.ByteClaim.{lengths-same, lengths-then}
 use Rattle.requester_claims.specs.Demand1.{MainMeets, CallAsMeant}
 use Rattle.requester_claims.proofs.CallClaims.{report-received, start-meets, call-meets}
@@ -43,6 +43,7 @@ WhereRefused (refused n) P = P n
 WhereRefused done P = Unit {0}
 WhereRefused (put n) P = Unit {0}
 WhereRefused (received used t e u) P = Unit {0}
+WhereRefused (stands x) P = Unit {0}
 
 module _ (p : MainParts) where
   abbrev Held : MainCall → MainDid → Type 0
@@ -50,7 +51,7 @@ module _ (p : MainParts) where
 
   held : (c : MainCall) → Held c (mainDid p c)
   unfolding mainDid Calls.mainStartPromise Calls.requestPromise Calls.putInto Calls.interruptPromise Calls.sendPromise
-      Calls.mainReceivePromise Calls.mainReceiveValid receiptDid handedDataIn
+      Calls.mainReceivePromise Calls.mainReceiveValid Calls.statePromise receiptDid handedDataIn
   held Histories.start = cond-by P (Calls.mainLongEnough p) _ _ (λ _. tt) (λ _. (refl, refl))
     where
       P : Calls.MainStartOutcome → Type 0
@@ -85,6 +86,10 @@ module _ (p : MainParts) where
     where
       P : Calls.MainReceiveOutcome → Type 0
       P x = Held (Histories.receive piece) (receiptDid x)
+  held Histories.state = cond-by P (validRequester (p .requester)) _ _ (λ _. tt) (λ _. (refl, refl))
+    where
+      P : Calls.StateReport → Type 0
+      P t = Held Histories.state (mainDidBy (Histories.stateAnswer t) [] p)
 
 pub refused-holds : MainRefusedHolds
 refused-holds p c n e = rw e at (held p c)
@@ -94,6 +99,10 @@ unfolding mainMade
 refused-made p m n e =
     let h = refused-holds (mainLentOf (m .lent) p) (m .call) n e in
     (rw (h .0) (simp back-same), h .1)
+
+pub state-holds : StateHolds
+unfolding mainMade mainDid
+state-holds l p = simp back-same
 
 -- ---- 12 only where too little is lent
 
@@ -128,6 +137,7 @@ module _ (s : MainState) where
   meant-12 Histories.interrupt = interrupted-12 (s .recovery)
   meant-12 (Histories.send room) = sent-12 room (outstanding s)
   meant-12 (Histories.receive piece) = tt
+  meant-12 Histories.state = tt
 
 pub never-12 : (s : MainState) (m : MainMade) → mainEnough (m .call) (m .lent) ≡ true → mainMeantMade s m .answer ≡ refused 12 → ⊥
 unfolding mainMeantMade

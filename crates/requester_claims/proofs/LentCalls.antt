@@ -86,6 +86,12 @@ module _ (l : MainLent) (p : MainParts) (room : MainLongEnough p) where
           f .back (Calls.interruptPromise (q .requester) .requester),
         )
 
+    state-whole : AsWhole Histories.state
+    unfolding mainMade mainDid
+    state-whole =
+        let f = requester-front in
+        rw (rw (f .whole) at (Locality.stating-behind (q .requester) (f .rest) requester-long)) (simp back-same)
+
     module _ (g : enoughReader l ≡ true) where
       reader-front : Front LineReader.reader-length (l .reader) (p .reader)
       reader-front = front LineReader.reader-length (l .reader) (p .reader) g
@@ -124,6 +130,7 @@ whole l p room (Histories.request command d out) e = request-whole l p room e co
 whole l p room Histories.interrupt e = interrupt-whole l p room e
 whole l p room (Histories.send out) e = send-whole l p room e out
 whole l p room (Histories.receive piece) e = let b = and-eq-true-iff _ _ .0 e in receive-whole l p room (b .1) (b .0) piece
+whole l p room Histories.state e = state-whole l p room e
 
 -- ---- too little
 
@@ -153,9 +160,10 @@ module _ (l : MainLent) (p : MainParts) where
 
 pub too-little : TooLittle
 unfolding mainEnough mainMade mainDid Calls.mainStartPromise Calls.requestPromise Calls.interruptPromise Calls.sendPromise
-    Calls.mainReceivePromise receiptDid handedDataIn
+    Calls.mainReceivePromise Calls.statePromise receiptDid handedDataIn
 too-little l p Histories.start e = rw (fails _ _ e (room-enough l p)) (simp back-same)
 too-little l p (Histories.request command d out) e = rw (fails _ _ e (requester-enough l p)) (simp back-same)
 too-little l p Histories.interrupt e = rw (fails _ _ e (requester-enough l p)) (simp back-same)
 too-little l p (Histories.send out) e = rw (fails _ _ e (requester-enough l p)) (simp back-same)
 too-little l p (Histories.receive piece) e = rw (fails _ _ e (parts-enough l p)) (simp back-same)
+too-little l p Histories.state e = rw (fails _ _ e (requester-enough l p)) (simp back-same)

@@ -137,6 +137,23 @@ module _ (t u : List ℕ) (long : Layout.requester-length ≤ length t) where
       (λ _. refl))
       (λ _. refl))
 
+  standing-behind : Layout.keptLength t ≤ longest-data → Calls.partStanding (t ++ u) ≡ Calls.partStanding t
+  unfolding Calls.partStanding
+  standing-behind h =
+      rw (
+        request-behind h,
+        number-behind 8 Layout.number-offset (omega arith),
+        number-behind 1 Layout.recovery-offset (omega arith),
+        number-behind 1 Layout.unsent-offset (omega arith),
+        number-behind 1 Layout.kept-offset (omega arith),
+      )
+
+  pub stating-behind : Calls.statePromise (t ++ u) ≡ Calls.statePromise t
+  unfolding Calls.statePromise
+  stating-behind =
+      rw (valid-behind, outstanding-behind)
+      (cond-map (λ x. x) (validRequester t) (λ v. rw (standing-behind (requester-valid t v .size))) (λ _. refl))
+
   outcome-behind : (h : Option Heard) → heardOutcomeOf (t ++ u) h ≡ heardOutcomeOf t h
   unfolding heardOutcomeOf
   outcome-behind none = refl

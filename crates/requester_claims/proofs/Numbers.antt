@@ -170,6 +170,7 @@ module _ (s : MainState) where
   meant-goes Histories.interrupt h = interrupt-goes (s .recovery)
   meant-goes (Histories.send room) h = send-goes room (outstanding s) refl
   meant-goes (Histories.receive piece) h = receive-goes piece s
+  meant-goes Histories.state h = nothing-goes s
 
   not-start : (m : MainMade) → NoMainStart m → mainEnough (m .call) (m .lent) ≡ true → isStart (m .call) ≡ false
   not-start m h e = by (isStart (m .call)) refl
@@ -325,6 +326,7 @@ start-none s l (Histories.request command d room) e = absurd (false≢true e)
 start-none s l Histories.interrupt e = absurd (false≢true e)
 start-none s l (Histories.send room) e = absurd (false≢true e)
 start-none s l (Histories.receive piece) e = absurd (false≢true e)
+start-none s l Histories.state e = absurd (false≢true e)
 
 module _ (p : MainParts) (v : MainPartsValid p) where
   newest-numbered : isSome (outstanding (mainView p)) ≡ true → 1 ≤ mainView p .newest

@@ -4,7 +4,7 @@ use Rattle.requester_claims.specs.Demand1.{MainNumberDue, MainAsItWas}
 use Rattle.requester_claims.specs.Item2.{MainItem2}
 use Rattle.requester_claims.specs.Item6.{MainItem6}
 use Rattle.requester_claims.proofs.LentCalls.{too-little, whole}
-use Rattle.requester_claims.proofs.History.{call-as-meant, history, no-12, refused-holds, refused-made}
+use Rattle.requester_claims.proofs.History.{call-as-meant, history, no-12, refused-holds, refused-made, state-holds}
 use Rattle.requester_claims.proofs.TableNumber.{main-refused-exactly, main-start-accepted}
 use Rattle.requester_claims.proofs.Cuts.{cut, cut-between, cut-between-started}
 use Rattle.requester_claims.proofs.Numbers.{one-number, one-number-started, numbers-in-range}
@@ -35,6 +35,7 @@ item-2 = record {
   no-12 = no-12;
   refused-holds = refused-holds;
   refused-made = refused-made;
+  state-holds = state-holds;
   too-little = too-little;
   whole = whole;
   cut = cut;

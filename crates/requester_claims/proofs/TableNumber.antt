@@ -1,6 +1,6 @@
 -- Each call's number, on any parts whatever, is that of its first test that fails; a start is accepted where the parts are long enough.
 -- Assumes nothing.
-use mathlib.Core.Path.{_≡_, refl}
+use mathlib.Core.Path.{_≡_}
 use mathlib.Core.Bool.{Bool, true, false, cond, not, _&&_}
 use mathlib.Core.List.{List, []}
 use mathlib.Core.Logic.{_↔_}
@@ -14,11 +14,12 @@ use Rattle.octets.proofs.Conditions.{cond-by, cond-both, cond-not, zero-one}
 use Rattle.line.specs.Limits.{longest-data}
 use Rattle.octets.specs.TableTests.{firstFailing}
 use Rattle.requester.specs.Limits.{last-number}
-use Rattle.requester.specs.State.{Request, RecoveryStep, fetch, acknowledge, alert, isSome, requestFrame}
+use Rattle.requester.specs.State.{Request, Standing, requestFrame}
 use Rattle.requester.specs.Layout
 use Rattle.requester.specs.Valid.{validRequester}
 use Rattle.requester.specs.Calls
 use Rattle.requester.specs.Calls.{MainParts, MainLongEnough}
+use Rattle.requester.proofs.ProgressLaws.{step-none}
 use Rattle.requester.proofs.ValidLaws.{is-long-enough, long-enough-is}
 use Rattle.requester_claims.specs.View.{mainView}
 use Rattle.requester_claims.specs.Histories
@@ -42,6 +43,9 @@ module _ (n : ℕ) where
   none-received : (used : ℕ) (t : Calls.HandedReport) (e : Option ℕ) (u : Bool) → Numbered (Histories.received used t e u) none
   none-received used t e u = (λ f. absurd (zero-one cc), λ f. absurd (zero-one cc))
 
+  none-stands : (x : Standing) → Numbered (Histories.stands x) none
+  none-stands x = (λ e. absurd (zero-one cc), λ e. absurd (zero-one cc))
+
   abbrev PutBy : Calls.PutOutcome → Option ℕ → Type 0
   PutBy t k = Numbered (Histories.putAnswer (t .report)) k
 
@@ -54,20 +58,8 @@ module _ (n : ℕ) where
   abbrev ReceiptBy : Calls.MainReceiveOutcome → Option ℕ → Type 0
   ReceiptBy x k = Numbered (receiptDid x .answer) k
 
--- a step is none exactly where its number is 0
-step-none : (t : ℕ) → isSome (Layout.stepAt t) ≡ not (eqb t 0)
-unfolding Layout.stepAt
-step-none t = by (eqb t 0)
-  where
-    Some : Option RecoveryStep → Type 0
-    Some x = isSome x ≡ true
-
-    later : Option RecoveryStep
-    later = cond (eqb t 1) (some fetch) (cond (eqb t 2) (some acknowledge) (some alert))
-
-    by : (b : Bool) → isSome (cond b none later) ≡ not b
-    by true = refl
-    by false = cond-by Some (eqb t 1) _ _ (λ _. refl) (λ _. cond-by Some (eqb t 2) _ _ (λ _. refl) (λ _. refl))
+  abbrev StateBy : Calls.StateReport → Option ℕ → Type 0
+  StateBy t k = Numbered (Histories.stateAnswer t) k
 
 -- 14 where no recovery runs and there is no number
 interrupt-number : (n : ℕ) (r t : List ℕ) (b c : Bool)
@@ -95,7 +87,7 @@ receive-number n p piece = cond-not (ReceiptBy n) (Calls.mainValidParts p) (rw r
 
 pub main-refused-exactly : MainRefusedExactly
 unfolding mainDid mainTests firstFailing mainView Calls.mainStartPromise Calls.requestPromise Calls.putInto Calls.interruptPromise
-    Calls.sendPromise Layout.isUnsent
+    Calls.sendPromise Calls.statePromise Layout.isUnsent
 main-refused-exactly p Histories.start n = cond-not (StartBy n) (Calls.mainLongEnough p) (none-done n) (same n 12)
 main-refused-exactly p (Histories.request command d room) n =
     let r = p .requester in
@@ -117,6 +109,7 @@ main-refused-exactly p (Histories.send room) n =
     (cond-not (PutBy n) (validRequester r)
     (send-number n room r _ (Layout.newestNumber r) (Layout.outRequest r) (Layout.isOutstanding r) (eqb (Layout.unsentOf r) 1)) (same n 12))
 main-refused-exactly p (Histories.receive piece) n = receive-number n p piece
+main-refused-exactly p Histories.state n = cond-not (StateBy n) (validRequester (p .requester)) (none-stands n _) (same n 12)
 
 pub main-start-accepted : MainStartAccepted
 unfolding mainDid Calls.mainStartPromise

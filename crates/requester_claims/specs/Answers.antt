@@ -15,7 +15,7 @@ use Rattle.requester.specs.Layout
 use Rattle.requester.specs.Calls
 use Rattle.requester.specs.Calls.{MainParts, HandedReport}
 use Rattle.requester_claims.specs.Histories
-use Rattle.requester_claims.specs.Histories.{MainCall, MainAnswer, refused, done, put, received, MainMade, mainMade}
+use Rattle.requester_claims.specs.Histories.{MainCall, MainAnswer, refused, done, put, received, stands, MainMade, mainMade}
 
 -- version 1, the reply sequence of this number, no decode failure
 pub record Matching (n version sequence command : ℕ) : Type 0 where
@@ -52,6 +52,7 @@ OfAnswer P (refused k) d = Unit {0}
 OfAnswer P done d = Unit {0}
 OfAnswer P (put k) d = Unit {0}
 OfAnswer P (received used t e u) d = OfReport (P used) t d
+OfAnswer P (stands x) d = Unit {0}
 
 abbrev pub MessageMatching : ℕ → Message → Type 0
 MessageMatching n m = Matching n (m .version) (m .sequence) (m .command)
@@ -75,6 +76,7 @@ answersIn (refused k) = 0
 answersIn done = 0
 answersIn (put k) = 0
 answersIn (received used t e u) = answersReported t
+answersIn (stands x) = 0
 
 -- how many requests it puts out that stay outstanding
 abbrev pub requestsAsked : ℕ → MainAnswer → ℕ
@@ -82,6 +84,7 @@ requestsAsked command (refused k) = 0
 requestsAsked command done = 0
 requestsAsked command (put k) = cond (staysOut command) 1 0
 requestsAsked command (received used t e u) = 0
+requestsAsked command (stands x) = 0
 
 abbrev pub requestsByCall : MainCall → MainAnswer → ℕ
 requestsByCall Histories.start a = 0
@@ -89,6 +92,7 @@ requestsByCall (Histories.request command d room) a = requestsAsked command a
 requestsByCall Histories.interrupt a = 0
 requestsByCall (Histories.send room) a = 0
 requestsByCall (Histories.receive piece) a = 0
+requestsByCall Histories.state a = 0
 
 unfoldable pub answersCounted : MainParts → List MainMade → ℕ
 answersCounted p [] = 0

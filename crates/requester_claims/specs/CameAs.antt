@@ -13,7 +13,7 @@ use Rattle.requester.specs.Layout
 use Rattle.requester.specs.Calls
 use Rattle.requester.specs.Calls.{MainParts, HandedReport}
 use Rattle.requester_claims.specs.Histories
-use Rattle.requester_claims.specs.Histories.{MainCall, MainAnswer, refused, done, put, received, MainMade, mainMade}
+use Rattle.requester_claims.specs.Histories.{MainCall, MainAnswer, refused, done, put, received, stands, MainMade, mainMade}
 use Rattle.requester_claims.specs.Numbers.{isStart}
 
 -- ---- The bytes read
@@ -24,6 +24,7 @@ usedBy piece (refused n) = []
 usedBy piece done = []
 usedBy piece (put n) = []
 usedBy piece (received used t e u) = take used piece
+usedBy piece (stands x) = []
 
 abbrev pub bytesReadBy : MainCall → MainAnswer → List ℕ
 bytesReadBy Histories.start a = []
@@ -31,6 +32,7 @@ bytesReadBy (Histories.request command d room) a = []
 bytesReadBy Histories.interrupt a = []
 bytesReadBy (Histories.send room) a = []
 bytesReadBy (Histories.receive piece) a = usedBy piece a
+bytesReadBy Histories.state a = []
 
 -- whether a call is a start that was accepted
 abbrev pub restarts : MainCall → MainAnswer → Bool
@@ -38,6 +40,7 @@ restarts c (refused n) = false
 restarts c done = isStart c
 restarts c (put n) = false
 restarts c (received used t e u) = false
+restarts c (stands x) = false
 
 -- the bytes read since the last accepted start, once a call is made behind w
 abbrev pub readSince : List ℕ → MainCall → MainAnswer → List ℕ
@@ -63,6 +66,7 @@ mainMessagesHanded n (refused k) d = []
 mainMessagesHanded n done d = []
 mainMessagesHanded n (put k) d = []
 mainMessagesHanded n (received used t e u) d = messagesReported n t d
+mainMessagesHanded n (stands x) d = []
 
 -- ---- Over lists of calls
 

@@ -8,7 +8,8 @@ use lib.ListN.{take}
 use Rattle.requester.specs.Calls
 use Rattle.requester.specs.Calls.{MainParts, HandedReport}
 use Rattle.requester_claims.specs.Histories
-use Rattle.requester_claims.specs.Histories.{MainAnswer, refused, done, put, received, MainLent, MainMade, mainMade, MainOutput}
+use Rattle.requester_claims.specs.Histories.{MainAnswer, refused, done, put, received, stands, MainLent, MainMade, mainMade}
+use Rattle.requester_claims.specs.Histories.{MainOutput}
 
 -- what a call hands out, with its data, and the table's number with which a recovery ended
 pub record HandedEvent : Type 0 where
@@ -46,6 +47,7 @@ answeredBy x c done d p = record { handed = x .handed; bytes = x .bytes; parts =
 answeredBy x c (put n) d p = record { handed = x .handed; bytes = x .bytes; parts = p }
 answeredBy x c (received used t e u) d p =
     record { handed = x .handed ++ handedEvents t d e; bytes = x .bytes ++ take used (c .piece); parts = p }
+answeredBy x c (stands y) d p = record { handed = x .handed; bytes = x .bytes; parts = p }
 
 unfoldable pub afterMainRead : Listener → MainRead → Listener
 afterMainRead x c =

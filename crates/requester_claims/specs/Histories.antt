@@ -9,7 +9,7 @@ use lib.ListN.{length}
 use Rattle.octets.specs.Bytes.{overlay}
 use Rattle.line.specs.Reader as LineReader
 use Rattle.line_claims.specs.Loans.{Loan, lentPart, backPart, enoughPart}
-use Rattle.requester.specs.State.{MainState, mainFresh}
+use Rattle.requester.specs.State.{MainState, mainFresh, Standing, standing}
 use Rattle.requester.specs.Requester
 use Rattle.requester.specs.Layout
 use Rattle.requester.specs.Calls
@@ -27,6 +27,7 @@ pub data MainCall : Type 0 where
   send : List ℕ → MainCall
   -- a piece of the received stream
   receive : List ℕ → MainCall
+  state : MainCall
 
 pub data MainAnswer : Type 0 where
   -- the table's number
@@ -36,6 +37,8 @@ pub data MainAnswer : Type 0 where
   put : ℕ → MainAnswer
   -- how many bytes were read, what is handed out, the table's number with which a recovery ended, whether a frame is to go out
   received : ℕ → HandedReport → Option ℕ → Bool → MainAnswer
+  -- what is outstanding
+  stands : Standing → MainAnswer
 
 -- ---- By the promises
 
@@ -81,6 +84,10 @@ unfoldable pub receiptDid : Calls.MainReceiveOutcome → MainDid
 receiptDid r =
     mainDidBy (receiveAnswer (r .used) (r .report) (r .ended) (r .unsent)) (handedDataIn (r .report) (r .parts .reader)) (r .parts)
 
+abbrev pub stateAnswer : Calls.StateReport → MainAnswer
+stateAnswer (Calls.StateReport.refused n) = refused n
+stateAnswer (Calls.stands x) = stands x
+
 unfoldable pub mainDid : MainParts → MainCall → MainDid
 mainDid p start = let t = Calls.mainStartPromise p in mainDidBy (mainRefusal (t .refusal)) [] (t .parts)
 mainDid p (request command d room) = putDid p (Calls.requestPromise (p .requester) command d room)
@@ -88,6 +95,7 @@ mainDid p interrupt =
     let t = Calls.interruptPromise (p .requester) in mainDidBy (mainRefusal (t .refusal)) [] (withRequester p (t .requester))
 mainDid p (send room) = putDid p (Calls.sendPromise (p .requester) room)
 mainDid p (receive piece) = receiptDid (Calls.mainReceivePromise p piece)
+mainDid p state = mainDidBy (stateAnswer (Calls.statePromise (p .requester))) [] p
 
 -- ---- By document 02
 
@@ -128,6 +136,7 @@ mainMeant s (request command d room) =
 mainMeant s interrupt = let t = Requester.interrupt s in mainDoneMeans (t .refusal) (t .state)
 mainMeant s (send room) = let t = Requester.send (length room) s in putMeans (t .refusal) room (t .out) (t .state)
 mainMeant s (receive piece) = receiveMeans (Requester.receive s piece)
+mainMeant s state = mainMeans (stands (standing s)) [] s
 
 -- ---- Calls that are lent some of the parts' bytes
 
@@ -161,6 +170,7 @@ mainEnough (request command d room) l = enoughRequester l
 mainEnough interrupt l = enoughRequester l
 mainEnough (send room) l = enoughRequester l
 mainEnough (receive piece) l = enoughReader l && enoughRequester l
+mainEnough state l = enoughRequester l
 
 pub record MainMade : Type 0 where
   pub lent : MainLent
@@ -173,6 +183,7 @@ mainUntouched (request command d room) = room
 mainUntouched interrupt = []
 mainUntouched (send room) = room
 mainUntouched (receive piece) = []
+mainUntouched state = []
 
 unfoldable pub mainMade : MainParts → MainMade → MainDid
 mainMade p m = let d = mainDid (mainLentOf (m .lent) p) (m .call) in mainDidBy (d .answer) (d .out) (mainGivenBack (m .lent) p (d .parts))

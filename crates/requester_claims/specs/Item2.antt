@@ -63,6 +63,7 @@ mainTests p Histories.interrupt =
     partTest p ∷ tableTest 14 (not (isSome (mainView p .recovery)) && leb last-number (mainView p .newest)) ∷ []
 mainTests p (Histories.send room) = partTest p ∷ tableTest 8 (ltb (length room) (length (toPutOut (mainView p)))) ∷ []
 mainTests p (Histories.receive piece) = tableTest 12 (not (Calls.mainValidParts p)) ∷ []
+mainTests p Histories.state = partTest p ∷ []
 
 abbrev pub MainRefusedExactly : Type 0
 MainRefusedExactly = (p : MainParts) (c : MainCall) (n : ℕ) → (mainDid p c .answer ≡ refused n) ↔ (firstFailing (mainTests p c) ≡ some n)
@@ -77,6 +78,9 @@ MainRefusedHolds = (p : MainParts) (c : MainCall) (n : ℕ) → mainDid p c .ans
 abbrev pub MainRefusedMade : Type 0
 MainRefusedMade = (p : MainParts) (m : MainMade) (n : ℕ) → mainMade p m .answer ≡ refused n
     → (mainMade p m .parts ≡ p) × (mainMade p m .out ≡ mainUntouched (m .call))
+
+abbrev pub StateHolds : Type 0
+StateHolds = (l : MainLent) (p : MainParts) → mainMade p (record { lent = l; call = Histories.state }) .parts ≡ p
 
 abbrev pub TooLittle : Type 0
 TooLittle = (l : MainLent) (p : MainParts) (c : MainCall) → mainEnough c l ≡ false
@@ -127,6 +131,8 @@ pub record MainItem2 : Type 0 where
   pub refused-holds : MainRefusedHolds
   -- and whatever of them is lent
   pub refused-made : MainRefusedMade
+  -- a call that tells what is outstanding changes nothing, on any parts, whatever of them is lent
+  pub state-holds : StateHolds
   -- too little lent of a part that the call takes is 12, on any parts
   pub too-little : TooLittle
   -- enough lent of each such part does what the whole parts do

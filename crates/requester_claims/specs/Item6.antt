@@ -49,6 +49,7 @@ PieceTyped (Histories.request command d room) = Unit {0}
 PieceTyped Histories.interrupt = Unit {0}
 PieceTyped (Histories.send room) = Unit {0}
 PieceTyped (Histories.receive piece) = Each Byte piece
+PieceTyped Histories.state = Unit {0}
 
 abbrev pub AllPiecesTyped : List MainMade → Type 0
 AllPiecesTyped = Each (λ (m : MainMade). PieceTyped (m .call))

@@ -12,7 +12,8 @@ use Rattle.requester.specs.State.{Request, requestFrame}
 use Rattle.requester.specs.Layout
 use Rattle.requester.specs.Calls.{MainParts}
 use Rattle.requester_claims.specs.Histories
-use Rattle.requester_claims.specs.Histories.{MainCall, MainAnswer, refused, done, put, received, MainMade, mainMade, mainEnough}
+use Rattle.requester_claims.specs.Histories.{MainCall, MainAnswer, refused, done, put, received, stands, MainMade, mainMade}
+use Rattle.requester_claims.specs.Histories.{mainEnough}
 
 -- bytes put out under a number
 pub record Frame : Type 0 where
@@ -26,6 +27,7 @@ framesPutOut done room n = []
 framesPutOut (put zero) room n = []
 framesPutOut (put (suc k)) room n = record { number = n; bytes = take (suc k) room } ∷ []
 framesPutOut (received used t e u) room n = []
+framesPutOut (stands x) room n = []
 
 unfoldable pub frames : MainParts → List MainMade → List Frame
 frames p [] = []
@@ -40,6 +42,7 @@ isStart (Histories.request command d room) = false
 isStart Histories.interrupt = false
 isStart (Histories.send room) = false
 isStart (Histories.receive piece) = false
+isStart Histories.state = false
 
 -- not a start that is accepted: one that is lent too little is refused
 abbrev pub NoMainStart : MainMade → Type 0

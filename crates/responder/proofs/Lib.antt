@@ -7,3 +7,4 @@ pub mod TakenLaws
 pub mod ReceiveLaws
 pub mod KeptLaws
 pub mod StepLaws
+pub mod CountLaws

@@ -18,10 +18,14 @@ use Rattle.line.specs.Reader as LineReader
 use Rattle.line.proofs.Received.{read-stays}
 use Rattle.supervisor.specs.Valid.{validFactory}
 use Rattle.supervisor.specs.Calls.{Parts, parts}
+use Rattle.counters.specs.declared.outcome.Outcome.{Outcome}
+use Rattle.counters.specs.declared.outcome.Outcome.the-variants as outcome
+use Rattle.counters.specs.Ended.{Ended, Served, stepReport, servedReport}
 use Rattle.responder.specs.Requests.{Verdict, failure, good, versionServed, known, lengthAllowed, tested}
-use Rattle.responder.specs.Commands.{Command, commandOfNumber}
+use Rattle.responder.specs.Commands.{Command, commandNumber, commandOfNumber}
 use Rattle.responder.specs.Receive
 use Rattle.responder.specs.declared.receive.Received.the-variants as received
+use Rattle.responder.proofs.CommandLaws.{of-number}
 use Rattle.responder.proofs.KeptLaws.{answering-valid, carried-valid}
 
 -- ---- valid parts
@@ -50,7 +54,7 @@ record Read (piece : List ℕ) (o : LineReader.ReadOutcome) : Type 0 where
   reads-one : 0 < length piece → 1 ≤ o .used
 
 module _ (s : List ℕ) (b : ℕ) (bs : List ℕ) where
-  read-next : LineReader.readPiece s (suc b ∷ bs) ≡ LineReader.oneByteLater (LineReader.readPiece (LineReader.pushed s (suc b)) bs)
+  pub read-next : LineReader.readPiece s (suc b ∷ bs) ≡ LineReader.oneByteLater (LineReader.readPiece (LineReader.pushed s (suc b)) bs)
   unfolding LineReader.readPiece
   read-next = rw (ne-eqb (suc b) 0 (λ e. omega arith))
 
@@ -108,30 +112,27 @@ served-small version e = by (eqb version first-version) refl
     by true f = omega (arith, eqb-true version first-version f)
     by false f = omega (arith, eqb-true version second-version (rw f at e))
 
--- what a frame's verdict comes to: how the frame ended, the parts that may change, and that they are valid
-abbrev pub Judged : List ℕ → List ℕ → Receive.Inner → Verdict → Receive.Ended → Receive.Inner → Type 0
-Judged image f i v g j = (g ≡ Receive.endedByVerdict v) × ((j ≡ Receive.innerBy image f i v) × (Receive.validInner j ≡ true))
+-- what a frame's verdict comes to: what is answered of it, the parts that may change, and that they are valid
+abbrev pub Judged : List ℕ → List ℕ → Receive.Inner → Verdict → Ended → Served → Receive.Inner → Type 0
+Judged image f i v g w j =
+    (g ≡ Receive.endedByVerdict v)
+    × ((w ≡ Receive.servedByVerdict (i .settings) v) × ((j ≡ Receive.innerBy image f i v) × (Receive.validInner j ≡ true)))
 
--- by a call of `fail`
-pub judged-failure : (image f o s r : List ℕ) (reason version : ℕ) (sequence : Option ℕ) {v : Verdict} {h : Receive.Head}
-    {g : Receive.Ended} {o' : List ℕ}
+-- what a call of `fail` answers, and the outbox that it leaves
+abbrev pub Failed : ℕ → Receive.Head → List ℕ → Ended → Served → List ℕ → Type 0
+Failed reason h o g w o' =
+    (g ≡ Ended.failed reason) × ((w ≡ Served.nothing) × (o' ≡ Receive.sentBox (Receive.replyBytes h 0x02 (bytes 1 reason)) o))
+
+pub judged-failure : (image f o s r : List ℕ) (reason version : ℕ) (sequence : Option ℕ) {v : Verdict} {h : Receive.Head} {g : Ended}
+    {u : Served} {o' : List ℕ}
     → Receive.validInner (Receive.inner o s r) ≡ true → v ≡ failure reason version sequence → h ≡ Receive.failureHead version sequence
-    → (g ≡ Receive.Ended.failed reason) × (o' ≡ Receive.sentBox (Receive.replyBytes h 0x02 (bytes 1 reason)) o)
-    → Judged image f (Receive.inner o s r) v g (Receive.inner o' s r)
-unfolding Receive.innerBy Receive.replyAlone
+    → Failed reason h o g u o' → Judged image f (Receive.inner o s r) v g u (Receive.inner o' s r)
+unfolding Receive.innerBy Receive.replyAlone Receive.servedByVerdict
 judged-failure image f o s r reason version sequence valid e n w =
     let k =
     answering-valid (Receive.inner o s r) (Receive.failureHead version sequence) 0x02 (bytes 1 reason) valid
     (rw (length-bytes 1 reason) (omega arith)) in
-    rw (e, w .1, n) (w .0, (refl, k))
-
--- by a call of `carry`
-pub judged-good : (image f : List ℕ) (i : Receive.Inner) (version sequence command : ℕ) (d : List ℕ) {v : Verdict} {j : Receive.Inner}
-    → v ≡ good (Receive.messageWith version sequence command d)
-    → (j ≡ Receive.carriedInner image f i version sequence command d) × (Receive.validInner j ≡ true)
-    → Judged image f i v Receive.Ended.request j
-unfolding Receive.innerBy
-judged-good image f i version sequence command d e w = rw e (refl, w)
+    rw (e, w .1 .1, n) (w .0, (w .1 .0, (refl, k)))
 
 -- a request without a reply
 pub unanswered-by : (i : Receive.Inner) {o r : List ℕ} (registers : List ℕ) → (o ≡ Receive.sentBox [] (i .outbox)) × (r ≡ registers)
@@ -172,29 +173,57 @@ carried-both image f i version sequence command d t v w h b o c e =
     let k = carried-valid image f i version sequence d (served-small version t) v w h (rw (b .0) at (b .1)) command in
     rw (c, e) (refl, rw c at k)
 
+-- ---- a valid request that is carried out
+
+module _ (image f o s t : List ℕ) (version sequence command : ℕ) (d : List ℕ) where
+  abbrev Carried : Outcome → Receive.Inner → Type 0
+  Carried r = Judged image f (Receive.inner o s t) (good (Receive.messageWith version sequence command d)) (stepReport r) (servedReport r)
+
+  -- a key set, by a call of `set_key`
+  pub judged-set : {key result : ℕ} {h : Receive.Head} {o' s' : List ℕ} → command ≡ 0x10 → versionServed version ≡ true
+      → validFactory f ≡ true → Receive.validInner (Receive.inner o s t) ≡ true → length d ≤ longest-data
+      → (key ≡ numberAt 1 d 0) × (key < 256) → h ≡ Receive.replyHead version sequence
+      → Receive.keySetParts result o' s' ≡ Receive.keySetAnswered o s h d
+      → Carried (outcome.KeySet key result) (Receive.inner o' s' t)
+  unfolding stepReport servedReport Receive.servedByVerdict Receive.innerBy Receive.keySetAnswered Receive.commandLeaves commandNumber
+  judged-set {key} {result} c a g w l b n e =
+      let k = ap (λ (x : Receive.KeySet). Receive.inner (x .outbox) (x .settings) t) (rw n at e) in
+      let m : commandOfNumber command ≡ some Command.key-set = rw c (of-number Command.key-set) in
+      let q = carried-both image f (Receive.inner o s t) version sequence command d a g w l b (some Command.key-set) m k in
+      let z : result ≡ Receive.storeBytes s (numberAt 1 d 0) (drop 1 d) .result = ap (λ (x : Receive.KeySet). x .result) e in
+      (refl, (rw (c, b .0, z), q))
+
+  -- any other, by a call of `carry`
+  pub judged-other : {j : Receive.Inner} → eqb command 0x10 ≡ false
+      → (j ≡ Receive.carriedInner image f (Receive.inner o s t) version sequence command d) × (Receive.validInner j ≡ true)
+      → Carried (outcome.Request command) j
+  unfolding stepReport servedReport Receive.servedByVerdict Receive.innerBy
+  judged-other n w = (refl, (rw n, w))
+
 -- ---- an answer of the reader
 
 -- what comes of an answer: the same, and nothing where no frame ended that is not empty
-abbrev pub Settled : List ℕ → List ℕ → Receive.Inner → List ℕ → LineReader.ReadReport → Receive.Ended → Receive.Inner → Type 0
-Settled image f i reader a g j =
-    (g ≡ Receive.endedByReader reader a) × ((j ≡ Receive.innerAfter image f i (Receive.verdictOf reader a)) × (Receive.validInner j ≡ true))
+abbrev pub Settled : List ℕ → List ℕ → Receive.Inner → List ℕ → LineReader.ReadReport → Ended → Served → Receive.Inner → Type 0
+Settled image f i reader a g w j =
+    (g ≡ Receive.endedByReader reader a)
+    × ((w ≡ Receive.servedAfter (i .settings) (Receive.verdictOf reader a))
+    × ((j ≡ Receive.innerAfter image f i (Receive.verdictOf reader a)) × (Receive.validInner j ≡ true)))
 
 -- by a call of `fail`
 pub settled-failure : (image f o s r reader : List ℕ) (reason : ℕ) (sequence : Option ℕ) {a : LineReader.ReadReport} {h : Receive.Head}
-    {g : Receive.Ended} {o' : List ℕ}
+    {g : Ended} {u : Served} {o' : List ℕ}
     → Receive.validInner (Receive.inner o s r) ≡ true → a ≡ LineReader.failed reason sequence
     → h ≡ Receive.failureHead first-version sequence
-    → (g ≡ Receive.Ended.failed reason) × (o' ≡ Receive.sentBox (Receive.replyBytes h 0x02 (bytes 1 reason)) o)
-    → Settled image f (Receive.inner o s r) reader a g (Receive.inner o' s r)
-unfolding Receive.endedByReader Receive.innerAfter Receive.verdictOf
+    → Failed reason h o g u o' → Settled image f (Receive.inner o s r) reader a g u (Receive.inner o' s r)
+unfolding Receive.endedByReader Receive.innerAfter Receive.servedAfter Receive.verdictOf
 settled-failure image f o s r reader reason sequence v e n w = rw e (judged-failure image f o s r reason first-version sequence v refl n w)
 
 -- by a call of `request`
 pub settled-message : (image f : List ℕ) (i : Receive.Inner) (reader : List ℕ) (version sequence command n : ℕ)
-    {a : LineReader.ReadReport} {g : Receive.Ended} {j : Receive.Inner} {d : List ℕ} → a ≡ LineReader.message version sequence command n
-    → d ≡ LineReader.dataPromise reader n
-    → Judged image f i (tested (Receive.messageWith version sequence command d)) g j → Settled image f i reader a g j
-unfolding Receive.endedByReader Receive.innerAfter Receive.verdictOf
+    {a : LineReader.ReadReport} {g : Ended} {u : Served} {j : Receive.Inner} {d : List ℕ}
+    → a ≡ LineReader.message version sequence command n → d ≡ LineReader.dataPromise reader n
+    → Judged image f i (tested (Receive.messageWith version sequence command d)) g u j → Settled image f i reader a g u j
+unfolding Receive.endedByReader Receive.innerAfter Receive.servedAfter Receive.verdictOf
 settled-message image f i reader version sequence command n e h w = rw e (rw h at w)
 
 -- ---- an iteration
@@ -216,21 +245,21 @@ module _ (image piece : List ℕ) (p : Parts) (v : Receive.validParts p ≡ true
   read = LineReader.readPiece (p .reader) piece
 
   -- by what the reader answered and left, and what came of it
-  pub valid-step-by : {n : ℕ} {a : LineReader.ReadReport} {g : Receive.Ended} {reader o s t : List ℕ}
+  pub valid-step-by : {n : ℕ} {a : LineReader.ReadReport} {g : Ended} {u : Served} {reader o s t : List ℕ}
       → record { used = n; answer = a; state = reader } ≡ LineReader.readPromise (p .reader) piece
-      → Settled image (p .factory) (Receive.innerOf p) reader a g (Receive.inner o s t)
-      → (record { used = n; ended = g; parts = parts reader o (p .factory) s t } ≡ Receive.validStep image p piece)
+      → Settled image (p .factory) (Receive.innerOf p) reader a g u (Receive.inner o s t)
+      → (record { used = n; ended = g; served = u; parts = parts reader o (p .factory) s t } ≡ Receive.validStep image p piece)
       × (Receive.validParts (parts reader o (p .factory) s t) ≡ true)
   unfolding Receive.validStep Receive.afterAnswer
-  valid-step-by {n} {a} {g} {reader} {o} {s} {t} e w =
+  valid-step-by {n} {a} {g} {u} {reader} {o} {s} {t} e w =
       let h = parts-valid p v in
       let q = e ∙ accepted (p .reader) piece (h .reader) in
       let st : reader ≡ read .state = ap (λ (y : LineReader.ReadOutcome). y .state) q in
       let an : a ≡ read .answer = ap (λ (y : LineReader.ReadOutcome). y .answer) q in
       let us : n ≡ read .used = ap (λ (y : LineReader.ReadOutcome). y .used) q in
       let k : LineReader.validReader reader ≡ true = rw st (read-valid (p .reader) piece (h .reader)) in (
-        rw (← us, ← st, ← an, w .0, ← w .1 .0),
-        valid-parts (parts reader o (p .factory) s t) (record { reader = k; factory = h .factory; inner = w .1 .1 }),
+        rw (← us, ← st, ← an, w .0, w .1 .0, ← w .1 .1 .0),
+        valid-parts (parts reader o (p .factory) s t) (record { reader = k; factory = h .factory; inner = w .1 .1 .1 }),
       )
 
 -- ---- the loop over a piece
@@ -264,30 +293,30 @@ unfolding Receive.receiveReport Receive.feedBytes
 over {piece = piece} h l = rw (h .same, drop-of-length-le piece l)
 
 -- an iteration at an offset of the piece
-module _ {image piece : List ℕ} {p₀ p p' : Parts} {at : ℕ} {n : ℕ} {g : Receive.Ended} (h : Held image piece p₀ p at)
-    (l : at < length piece)
-    (e : record { used = n; ended = g; parts = p' } ≡ Receive.validStep image p (take (length piece - at) (drop at piece))) where
+module _ {image piece : List ℕ} {p₀ p : Parts} {at : ℕ} {o : Receive.StepOutcome} (h : Held image piece p₀ p at) (l : at < length piece)
+    (e : o ≡ Receive.validStep image p (take (length piece - at) (drop at piece))) where
   abbrev left : List ℕ
   left = drop at piece
 
-  by-left : record { used = n; ended = g; parts = p' } ≡ Receive.validStep image p left
+  pub by-left : o ≡ Receive.validStep image p left
   by-left = let k : length left ≤ length piece - at = rw length-drop (omega arith) in rw (take-all _ _ k) at e
 
-  pub valid-step-used : (1 ≤ n) × (at + n ≤ length piece)
+  pub valid-step-used : (1 ≤ o .used) × (at + o .used ≤ length piece)
   unfolding Receive.validStep
   valid-step-used =
       let w = read-used left (p .reader) in
-      let u : n ≡ LineReader.readPiece (p .reader) left .used = ap (λ (d : Receive.StepOutcome). d .used) by-left in
+      let u : o .used ≡ LineReader.readPiece (p .reader) left .used = ap (λ (d : Receive.StepOutcome). d .used) by-left in
       let k : length left ≡ length piece - at = length-drop at piece in
       let m = w .most in
-      let o = w .reads-one (omega arith) in
+      let i = w .reads-one (omega arith) in
       (omega arith, omega arith)
 
-  pub went : Receive.validParts p' ≡ true → length (p' .reader) ≡ length (p .reader) → length (p' .outbox) ≡ length (p .outbox)
-      → length (p' .settings) ≡ length (p .settings) → length (p' .registers) ≡ length (p .registers) → Held image piece p₀ p' (at + n)
+  pub went : Receive.validParts (o .parts) ≡ true → length (o .parts .reader) ≡ length (p .reader)
+      → length (o .parts .outbox) ≡ length (p .outbox) → length (o .parts .settings) ≡ length (p .settings)
+      → length (o .parts .registers) ≡ length (p .registers) → Held image piece p₀ (o .parts) (at + o .used)
   unfolding Receive.validStep
   went v a b c d =
-      let u : n ≡ LineReader.readPiece (p .reader) left .used = ap (λ (x : Receive.StepOutcome). x .used) by-left in
+      let u : o .used ≡ LineReader.readPiece (p .reader) left .used = ap (λ (x : Receive.StepOutcome). x .used) by-left in
       let q = ap (λ (x : Receive.StepOutcome). x .parts) by-left in
       record {
         within = valid-step-used .1;

@@ -17,13 +17,12 @@ use Rattle.supervisor.specs.Limits
 use Rattle.supervisor.specs.Layout
 use Rattle.supervisor.specs.Number.{topSet}
 use Rattle.supervisor.specs.Valid.{validOutbox, validFactory, validSettings, validRegisters}
+use Rattle.counters.specs.Ended.{Ended, stepReport, Served, servedReport}
 use Rattle.responder.specs.Commands.{Command, commandOfNumber}
 use Rattle.responder.specs.Requests
 use Rattle.responder.specs.Requests.{Verdict, failure, good}
 use Rattle.supervisor.specs.Calls.{Parts, resultNumber, lookupResultPromise, lookupPromise, editionNumber, editionPromise}
 use Rattle.responder.specs.declared.head.ReplyHead.{ReplyHead}
-use Rattle.responder.specs.declared.outcome.Outcome.{Outcome}
-use Rattle.responder.specs.declared.outcome.Outcome.the-variants as outcome
 use Rattle.responder.specs.declared.receive.Stepped.{Stepped}
 use Rattle.responder.specs.declared.receive.Received.{Received}
 use Rattle.responder.specs.declared.receive.Received.the-variants as received
@@ -181,16 +180,17 @@ storeBytes s key v =
     (storeBytesAt s (Layout.setting-offset key) (Limits.shortest-setting key) (Limits.longest-setting key) v))
 
 pub record KeySet : Type 0 where
+  pub result : ℕ
   pub outbox : List ℕ
   pub settings : List ℕ
 
-abbrev pub keySetParts : List ℕ → List ℕ → KeySet
-keySetParts o s = record { outbox = o; settings = s }
+abbrev pub keySetParts : ℕ → List ℕ → List ℕ → KeySet
+keySetParts n o s = record { result = n; outbox = o; settings = s }
 
 unfoldable pub keySetAnswered : List ℕ → List ℕ → Head → List ℕ → KeySet
 keySetAnswered o s reply d =
     let t = storeBytes s (numberAt 1 d 0) (drop 1 d) in
-    keySetParts (sentBox (replyBytes reply reply-key-set (bytes 1 (t .result))) o) (t .settings)
+    keySetParts (t .result) (sentBox (replyBytes reply reply-key-set (bytes 1 (t .result))) o) (t .settings)
 
 -- ---- A valid request: its command, version, sequence and data
 
@@ -285,24 +285,10 @@ validInner i = validOutbox (i .outbox) && (validSettings (i .settings) && validR
 unfoldable pub validParts : Parts → Bool
 validParts p = LineReader.validReader (p .reader) && (validFactory (p .factory) && validInner (innerOf p))
 
--- what a call of `step` says: no 00 came, an empty frame, a valid request, a failure by its reason, or the table's number
-pub data Ended : Type 0 where
-  refused : ℕ → Ended
-  more : Ended
-  empty : Ended
-  request : Ended
-  failed : ℕ → Ended
-
-unfoldable pub stepReport : Outcome → Ended
-stepReport outcome.Refused = Ended.refused 12
-stepReport outcome.More = Ended.more
-stepReport outcome.Empty = Ended.empty
-stepReport outcome.Request = request
-stepReport (outcome.Failure reason) = Ended.failed reason
-
+-- how a frame ended, by the table's verdict on it and by the line reader's answer
 abbrev pub endedByVerdict : Verdict → Ended
 endedByVerdict (failure reason version sequence) = Ended.failed reason
-endedByVerdict (good m) = request
+endedByVerdict (good m) = Ended.request
 
 unfoldable pub endedByReader : List ℕ → LineReader.ReadReport → Ended
 endedByReader reader (LineReader.refused n) = Ended.refused n
@@ -312,22 +298,38 @@ endedByReader reader (LineReader.failed reason sequence) = Ended.failed reason
 endedByReader reader (LineReader.message version sequence command n) =
     endedByVerdict (Requests.tested (messageWith version sequence command (LineReader.dataPromise reader n)))
 
+-- what is told of a frame, by the settings' bytes as it ends: nothing where none ended that is not empty
+unfoldable pub servedByVerdict : List ℕ → Verdict → Served
+servedByVerdict s (failure reason version sequence) = Served.nothing
+servedByVerdict s (good m) = Requests.servedOf m (storeBytes s (numberAt 1 (m .payload) 0) (drop 1 (m .payload)) .result)
+
+unfoldable pub servedAfter : List ℕ → Option Verdict → Served
+servedAfter s none = Served.nothing
+servedAfter s (some v) = servedByVerdict s v
+
 -- a call of `step` reads its piece to the end, or up to and with its first 00
 pub record StepOutcome : Type 0 where
   pub used : ℕ
   pub ended : Ended
+  pub served : Served
   pub parts : Parts
 
 abbrev pub stepOutcome : Stepped → Parts → StepOutcome
-stepOutcome r p = record { used = r .used; ended = stepReport (r .outcome); parts = p }
+stepOutcome r p = record { used = r .used; ended = stepReport (r .outcome); served = servedReport (r .outcome); parts = p }
 
 unfoldable pub validStep : List ℕ → Parts → List ℕ → StepOutcome
 validStep image p piece =
     let o = LineReader.readPiece (p .reader) piece in
-    record { used = o .used; ended = endedByReader (o .state) (o .answer); parts = afterAnswer image p (o .state) (o .answer) }
+    record {
+      used = o .used;
+      ended = endedByReader (o .state) (o .answer);
+      served = servedAfter (p .settings) (verdictOf (o .state) (o .answer));
+      parts = afterAnswer image p (o .state) (o .answer);
+    }
 
 unfoldable pub stepPromise : List ℕ → Parts → List ℕ → StepOutcome
-stepPromise image p piece = cond (validParts p) (validStep image p piece) (record { used = 0; ended = Ended.refused 12; parts = p })
+stepPromise image p piece =
+    cond (validParts p) (validStep image p piece) (record { used = 0; ended = Ended.refused 12; served = Served.nothing; parts = p })
 
 -- a call of `receive` reads its whole piece; the table's number of a refusal, none where it is carried out
 pub record ReceiveOutcome : Type 0 where

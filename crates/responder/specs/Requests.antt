@@ -9,7 +9,7 @@ use lib.ListN.{length, take, drop, replicate}
 use Rattle.octets.specs.Bytes.{bytes, numberAt, equal, run, bit}
 use Rattle.line.specs.Numbers.{first-version, second-version, top-bit, all-ones, reply-acknowledged, reply-decode-failure, reply-bsu}
 use Rattle.line.specs.Numbers.{reply-identity, reply-mac, reply-status, reply-alert, reply-image-block, reply-key-lookup, reply-inventory}
-use Rattle.line.specs.Numbers.{reply-key-set, reason-form, reason-length, reason-version, reason-sequence, reason-data}
+use Rattle.line.specs.Numbers.{command-key-set, reply-key-set, reason-form, reason-length, reason-version, reason-sequence, reason-data}
 use Rattle.line.specs.Message.{Message}
 use Rattle.line.specs.Frame.{frame}
 use Rattle.line.specs.Judge as Line
@@ -21,6 +21,7 @@ use Rattle.supervisor.specs.State.{withStatus, withReboot, withPowerOff, withBo
 use Rattle.supervisor.specs.State.{withRetained, withReceived, withPending}
 use Rattle.supervisor.specs.Number.{topSet}
 use Rattle.supervisor.specs.Local.{Found, lookup}
+use Rattle.counters.specs.Ended.{Served}
 use Rattle.responder.specs.Commands.{Command, commandOfNumber, isListed, mayHave}
 
 -- ---- Versions (document 02, item 5)
@@ -222,6 +223,19 @@ carryOutBy (some x) image s m = effect x image s m
 
 unfoldable pub carryOut : List ℕ → State → Message → Carried
 carryOut image s m = carryOutBy (commandOfNumber (m .command)) image s m
+
+-- ---- What is told of a frame
+
+-- a valid request, by the result of the set where it is a key set: then its key, the first byte of the data, and that result;
+-- else its command
+abbrev pub servedOf : Message → ℕ → Served
+servedOf m result =
+    cond (eqb (m .command) command-key-set) (Served.keySet (numberAt 1 (m .payload) 0) result) (Served.request (m .command))
+
+-- by the table's verdict, where these settings are held as the frame ends; nothing of a failure
+unfoldable pub servedBy : Settings → Verdict → Served
+servedBy s (failure reason version sequence) = Served.nothing
+servedBy s (good m) = servedOf m (storeValue s (numberAt 1 (m .payload) 0) (drop 1 (m .payload)) .result)
 
 -- ---- Sending: what is unsent is discarded; a 00 goes first where one is owed, or alone where there is no reply
 

@@ -10,8 +10,11 @@ ghost use mathlib.Core.Path.{_≡_};
 ghost use mathlib.Core.Bool.{true, cond};
 ghost use Prim.Native.Nat.{_≤_, _<_};
 ghost use lib.ListN.{length};
-ghost use Rattle.line.specs.Numbers.{reply-image-block, reply-key-lookup, reply-inventory};
-ghost use Rattle.supervisor.specs.Layout.{outbox-length};
+ghost use Rattle.octets.specs.Bytes.{run};
+ghost use Rattle.line.specs.Numbers.{status-length, reply-bsu, reply-identity, reply-mac, reply-status, reply-image-block};
+ghost use Rattle.line.specs.Numbers.{reply-key-lookup, reply-inventory};
+ghost use Rattle.supervisor.specs.Layout.{outbox-length, factory-length, bsu-offset, identity-offset, identity-length, mac-offset};
+ghost use Rattle.supervisor.specs.Layout.{mac-length, registers-length, status-offset};
 ghost use Rattle.supervisor.specs.Valid.{validFactory, validSettings};
 ghost use Rattle.responder.specs.Receive.{itemDataLength, itemBytes, blockBytes, carriesEdition, valueBytes, sentBox, replyBytes};
 
@@ -19,6 +22,74 @@ ghost use Rattle.responder.specs.Receive.{itemDataLength, itemBytes, blo
 const BAD_INDEX: u8 = 1;
 
 const NAME_AND_TYPE: usize = 33;
+
+// The boot setting.
+pub(crate) fn send_bsu(outbox: &mut [u8], reply: ReplyHead, factory: &[u8])
+    requires { ⌜ outbox-length ≤ length (now outbox) ⌝ }
+    requires { ⌜ factory-length ≤ length (now factory) ⌝ }
+    ensures { λ _. ⌜ now (outbox .exit)
+        ≡ sentBox (replyBytes reply reply-bsu (run bsu-offset 1 (now (factory .entry)))) (now (outbox .entry)) ⌝ }
+{
+    send_part(
+        outbox,
+        reply,
+        numbers::REPLY_BSU,
+        factory,
+        layout::BSU_OFFSET,
+        1,
+    );
+}
+
+// Model, revision and serial.
+pub(crate) fn send_identity(outbox: &mut [u8], reply: ReplyHead, factory: &[u8])
+    requires { ⌜ outbox-length ≤ length (now outbox) ⌝ }
+    requires { ⌜ factory-length ≤ length (now factory) ⌝ }
+    ensures { λ _. ⌜ now (outbox .exit)
+        ≡ sentBox (replyBytes reply reply-identity (run identity-offset identity-length (now (factory .entry)))) (now (outbox .entry)) ⌝ }
+{
+    send_part(
+        outbox,
+        reply,
+        numbers::REPLY_IDENTITY,
+        factory,
+        layout::IDENTITY_OFFSET,
+        layout::IDENTITY_LENGTH,
+    );
+}
+
+// The address base, count and stride.
+pub(crate) fn send_mac(outbox: &mut [u8], reply: ReplyHead, factory: &[u8])
+    requires { ⌜ outbox-length ≤ length (now outbox) ⌝ }
+    requires { ⌜ factory-length ≤ length (now factory) ⌝ }
+    ensures { λ _. ⌜ now (outbox .exit)
+        ≡ sentBox (replyBytes reply reply-mac (run mac-offset mac-length (now (factory .entry)))) (now (outbox .entry)) ⌝ }
+{
+    send_part(
+        outbox,
+        reply,
+        numbers::REPLY_MAC,
+        factory,
+        layout::MAC_OFFSET,
+        layout::MAC_LENGTH,
+    );
+}
+
+// Status and options.
+pub(crate) fn send_status(outbox: &mut [u8], reply: ReplyHead, registers: &[u8])
+    requires { ⌜ outbox-length ≤ length (now outbox) ⌝ }
+    requires { ⌜ registers-length ≤ length (now registers) ⌝ }
+    ensures { λ _. ⌜ now (outbox .exit)
+        ≡ sentBox (replyBytes reply reply-status (run status-offset status-length (now (registers .entry)))) (now (outbox .entry)) ⌝ }
+{
+    send_part(
+        outbox,
+        reply,
+        numbers::REPLY_STATUS,
+        registers,
+        layout::STATUS_OFFSET,
+        numbers::STATUS_LENGTH,
+    );
+}
 
 // A block of the image: hash[32], offset u64.
 pub(crate) fn send_block(

@@ -1,9 +1,9 @@
 // Receiving: a piece of the received stream, frame by frame.
 // Assumes nothing: no public function here has a `requires`.
 use crate::head;
-use crate::outcome::Outcome;
 use crate::requests;
 use crate::sending::fail;
+use counters::outcome::Outcome;
 use line::numbers;
 use line::reader::Answer;
 use supervisor::number::RequestNumber;
@@ -16,7 +16,8 @@ ghost use Rattle.line.specs.Reader.{readReport};
 ghost use Rattle.supervisor.specs.Layout.{outbox-length};
 ghost use Rattle.supervisor.specs.Valid.{validFactory};
 ghost use Rattle.supervisor.specs.Calls.{parts};
-ghost use Rattle.responder.specs.Receive.{inner, validInner, innerAfter, verdictOf, endedByReader, stepReport, validParts};
+ghost use Rattle.counters.specs.Ended.{stepReport, servedReport};
+ghost use Rattle.responder.specs.Receive.{inner, validInner, innerAfter, verdictOf, endedByReader, servedAfter, validParts};
 ghost use Rattle.responder.specs.Receive.{stepOutcome, stepPromise, validStep, receiveOutcome, receivePromise};
 
 // How many bytes of the piece a call of `step` read, and how the frame ended.
@@ -93,7 +94,7 @@ pub fn receive(
 }
 
 // Whether all parts pass the tests for 12.
-fn are_valid(
+pub(crate) fn are_valid(
     reader: &[u8],
     outbox: &[u8],
     factory: &[u8],
@@ -120,7 +121,7 @@ fn are_valid(
 }
 
 // One step of valid parts: what the line reader reads of a piece, and what comes of the frame that it ends.
-fn valid_step(
+pub(crate) fn valid_step(
     image: &[u8],
     piece: &[u8],
     reader: &mut [u8],
@@ -160,6 +161,7 @@ fn answer_frame(
     requires { ⌜ validFactory (now factory) ≡ true ⌝ }
     requires { ⌜ validInner (inner (now outbox) (now settings) (now registers)) ≡ true ⌝ }
     ensures { λ r. ⌜ stepReport r ≡ endedByReader (now (reader .entry)) (readReport answer) ⌝ }
+    ensures { λ r. ⌜ servedReport r ≡ servedAfter (now (settings .entry)) (verdictOf (now (reader .entry)) (readReport answer)) ⌝ }
     ensures { λ _. ⌜ inner (now (outbox .exit)) (now (settings .exit)) (now (registers .exit))
         ≡ innerAfter (now (image .entry)) (now (factory .entry))
         (inner (now (outbox .entry)) (now (settings .entry)) (now (registers .entry)))

@@ -2,29 +2,35 @@
 // Assumes valid parts, as each `requires` states.
 use crate::alert::alert;
 use crate::answers::send_block;
+use crate::answers::send_bsu;
+use crate::answers::send_identity;
 use crate::answers::send_item;
+use crate::answers::send_mac;
+use crate::answers::send_status;
 use crate::answers::send_value;
 use crate::head;
-use crate::outcome::Outcome;
 use crate::records::ask_for;
 use crate::records::boot_failure;
 use crate::records::panic;
 use crate::records::start_acknowledged;
 use crate::sending::fail;
-use crate::sending::send_part;
 use crate::settings::set_key;
+use counters::outcome::Outcome;
 use line::numbers;
 use supervisor::layout;
 use supervisor::number::RequestNumber;
 ghost use mathlib.Core.Path.{_≡_};
-ghost use mathlib.Core.Bool.{true};
+ghost use mathlib.Core.Bool.{true, false};
 ghost use Prim.Native.Nat.{_≤_};
+ghost use lib.Dec.{eqb};
 ghost use lib.ListN.{length};
 ghost use Rattle.line.specs.Limits.{longest-data};
+ghost use Rattle.line.specs.Numbers.{command-key-set};
 ghost use Rattle.supervisor.specs.Layout.{outbox-length};
 ghost use Rattle.supervisor.specs.Valid.{validFactory};
-ghost use Rattle.responder.specs.Requests.{versionServed, tested, known, lengthAllowed};
-ghost use Rattle.responder.specs.Receive.{inner, validInner, carriedInner, innerBy, messageWith, endedByVerdict, stepReport};
+ghost use Rattle.counters.specs.Ended.{stepReport, servedReport};
+ghost use Rattle.responder.specs.Requests.{versionServed, good, tested, known, lengthAllowed};
+ghost use Rattle.responder.specs.Receive.{inner, validInner, carriedInner, innerBy, messageWith, endedByVerdict, servedByVerdict};
 
 // The data of three requests: hash[32], offset u64; key u8, maxresponse u16; index u32.
 const IMAGE_BLOCK_LENGTH: usize = 40;
@@ -50,6 +56,8 @@ pub(crate) fn request(
     requires { ⌜ validInner (inner (now outbox) (now settings) (now registers)) ≡ true ⌝ }
     requires { ⌜ length (now «data») ≤ longest-data ⌝ }
     ensures { λ r. ⌜ stepReport r ≡ endedByVerdict (tested (messageWith version (number .0) command (now («data» .entry)))) ⌝ }
+    ensures { λ r. ⌜ servedReport r
+        ≡ servedByVerdict (now (settings .entry)) (tested (messageWith version (number .0) command (now («data» .entry)))) ⌝ }
     ensures { λ _. ⌜ inner (now (outbox .exit)) (now (settings .exit)) (now (registers .exit))
         ≡ innerBy (now (image .entry)) (now (factory .entry)) (inner (now (outbox .entry)) (now (settings .entry)) (now (registers .entry)))
         (tested (messageWith version (number .0) command (now («data» .entry)))) ⌝ }
@@ -70,7 +78,7 @@ pub(crate) fn request(
     if !length_is_allowed(command, data.len()) {
         return fail(outbox, reply, numbers::REASON_DATA);
     }
-    carry(
+    serve(
         image,
         factory,
         data,
@@ -80,8 +88,7 @@ pub(crate) fn request(
         outbox,
         settings,
         registers,
-    );
-    Outcome::Request
+    )
 }
 
 fn is_served(version: u32) -> bool
@@ -131,7 +138,53 @@ fn length_is_allowed(command: u8, n: usize) -> bool
     }
 }
 
-// What a valid request does.
+// What a valid request does, and what is told of it.
+fn serve(
+    image: &[u8],
+    factory: &[u8],
+    data: &[u8],
+    version: u32,
+    number: RequestNumber,
+    command: u8,
+    outbox: &mut [u8],
+    settings: &mut [u8],
+    registers: &mut [u8],
+) -> Outcome
+    requires { ⌜ outbox-length ≤ length (now outbox) ⌝ }
+    requires { ⌜ validFactory (now factory) ≡ true ⌝ }
+    requires { ⌜ validInner (inner (now outbox) (now settings) (now registers)) ≡ true ⌝ }
+    requires { ⌜ length (now «data») ≤ longest-data ⌝ }
+    requires { ⌜ lengthAllowed command (length (now «data»)) ≡ true ⌝ }
+    requires { ⌜ versionServed version ≡ true ⌝ }
+    ensures { λ r. ⌜ stepReport r ≡ endedByVerdict (good (messageWith version (number .0) command (now («data» .entry)))) ⌝ }
+    ensures { λ r. ⌜ servedReport r
+        ≡ servedByVerdict (now (settings .entry)) (good (messageWith version (number .0) command (now («data» .entry)))) ⌝ }
+    ensures { λ _. ⌜ inner (now (outbox .exit)) (now (settings .exit)) (now (registers .exit))
+        ≡ innerBy (now (image .entry)) (now (factory .entry)) (inner (now (outbox .entry)) (now (settings .entry)) (now (registers .entry)))
+        (good (messageWith version (number .0) command (now («data» .entry)))) ⌝ }
+    ensures { λ _. ⌜ validInner (inner (now (outbox .exit)) (now (settings .exit)) (now (registers .exit))) ≡ true ⌝ }
+{
+    if command == numbers::COMMAND_KEY_SET {
+        let key = octets::read_u8(data, 0);
+        let reply = head::head_to(version, number);
+        let result = set_key(outbox, settings, reply, data);
+        return Outcome::KeySet(key, result);
+    }
+    carry(
+        image,
+        factory,
+        data,
+        version,
+        number,
+        command,
+        outbox,
+        settings,
+        registers,
+    );
+    Outcome::Request(command)
+}
+
+// What a valid request other than a key set does.
 fn carry(
     image: &[u8],
     factory: &[u8],
@@ -149,6 +202,7 @@ fn carry(
     requires { ⌜ length (now «data») ≤ longest-data ⌝ }
     requires { ⌜ lengthAllowed command (length (now «data»)) ≡ true ⌝ }
     requires { ⌜ versionServed version ≡ true ⌝ }
+    requires { ⌜ eqb command command-key-set ≡ false ⌝ }
     ensures { λ _. ⌜ inner (now (outbox .exit)) (now (settings .exit)) (now (registers .exit))
         ≡ carriedInner (now (image .entry)) (now (factory .entry))
         (inner (now (outbox .entry)) (now (settings .entry)) (now (registers .entry))) version (number .0) command (now («data» .entry)) ⌝ }
@@ -159,40 +213,12 @@ fn carry(
     match command {
         numbers::COMMAND_REBOOT => ask_for(outbox, registers, layout::REBOOT_OFFSET),
         numbers::COMMAND_POWER_OFF => ask_for(outbox, registers, layout::POWER_OFF_OFFSET),
-        numbers::COMMAND_BSU => send_part(
-            outbox,
-            reply,
-            numbers::REPLY_BSU,
-            factory,
-            layout::BSU_OFFSET,
-            1,
-        ),
-        numbers::COMMAND_IDENTITY => send_part(
-            outbox,
-            reply,
-            numbers::REPLY_IDENTITY,
-            factory,
-            layout::IDENTITY_OFFSET,
-            layout::IDENTITY_LENGTH,
-        ),
-        numbers::COMMAND_MAC => send_part(
-            outbox,
-            reply,
-            numbers::REPLY_MAC,
-            factory,
-            layout::MAC_OFFSET,
-            layout::MAC_LENGTH,
-        ),
+        numbers::COMMAND_BSU => send_bsu(outbox, reply, factory),
+        numbers::COMMAND_IDENTITY => send_identity(outbox, reply, factory),
+        numbers::COMMAND_MAC => send_mac(outbox, reply, factory),
         numbers::COMMAND_BOOT_FAILURE => boot_failure(outbox, registers, reason as u16, data),
         numbers::COMMAND_PANIC => panic(outbox, registers, reply, data),
-        numbers::COMMAND_STATUS => send_part(
-            outbox,
-            reply,
-            numbers::REPLY_STATUS,
-            registers,
-            layout::STATUS_OFFSET,
-            numbers::STATUS_LENGTH,
-        ),
+        numbers::COMMAND_STATUS => send_status(outbox, reply, registers),
         numbers::COMMAND_START_ACKNOWLEDGED => start_acknowledged(outbox, registers, reply),
         numbers::COMMAND_ALERT => alert(outbox, registers, version, number),
         numbers::COMMAND_IMAGE_BLOCK => send_block(outbox, reply, factory, image, data),
@@ -203,8 +229,7 @@ fn carry(
             factory,
             octets::read_u32(data, 0) as usize,
         ),
-        numbers::COMMAND_KEY_SET => set_key(outbox, settings, reply, data),
-        // The tests let no other number through.
+        // The tests let no other number through but a key set's, which `serve` takes.
         _ => {}
     }
 }

@@ -1,7 +1,7 @@
 // Sending: a reply, or none, takes the place of what is unsent.
 // Assumes that the outbox has its published length and that the data fit a message, as each `requires` states.
 use crate::head::ReplyHead;
-use crate::outcome::Outcome;
+use counters::outcome::Outcome;
 use line::numbers;
 use line::writer::Written;
 use supervisor::layout;
@@ -15,7 +15,8 @@ ghost use Rattle.octets.specs.Bytes.{bytes, run, overlay};
 ghost use Rattle.line.specs.Limits.{longest-data, longest-form};
 ghost use Rattle.line.specs.Numbers.{reply-acknowledged, reply-decode-failure};
 ghost use Rattle.supervisor.specs.Layout.{outbox-length, outbox-from-offset, outbox-bytes-offset, outboxTerminatorOwed};
-ghost use Rattle.responder.specs.Receive.{sentBox, replyBytes, failed, stepReport};
+ghost use Rattle.counters.specs.Ended.{failed, stepReport, nothing, servedReport};
+ghost use Rattle.responder.specs.Receive.{sentBox, replyBytes};
 
 // A reply whose data are head and then rest.
 pub(crate) fn send(outbox: &mut [u8], reply: ReplyHead, command: u8, head: &[u8], rest: &[u8])
@@ -121,6 +122,7 @@ pub(crate) fn acknowledge(outbox: &mut [u8], reply: ReplyHead)
 pub(crate) fn fail(outbox: &mut [u8], reply: ReplyHead, reason: u8) -> Outcome
     requires { ⌜ outbox-length ≤ length (now outbox) ⌝ }
     ensures { λ r. ⌜ stepReport r ≡ failed reason ⌝ }
+    ensures { λ r. ⌜ servedReport r ≡ nothing ⌝ }
     ensures { λ _. ⌜ now (outbox .exit) ≡ sentBox (replyBytes reply reply-decode-failure (bytes 1 reason)) (now (outbox .entry)) ⌝ }
 {
     send_byte(outbox, reply, numbers::REPLY_DECODE_FAILURE, reason);

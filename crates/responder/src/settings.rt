@@ -10,16 +10,17 @@ ghost use lib.ListN.{length, drop};
 ghost use Rattle.supervisor.specs.Layout.{outbox-length, settings-length, setting-value-offset};
 ghost use Rattle.responder.specs.Receive.{keyStored, storeBytes, storeBytesAt, keySetParts, keySetAnswered};
 
-// A key set: key u8, rest the value.
-pub(crate) fn set_key(outbox: &mut [u8], settings: &mut [u8], reply: ReplyHead, data: &[u8])
+// A key set: key u8, rest the value. It answers the result.
+pub(crate) fn set_key(outbox: &mut [u8], settings: &mut [u8], reply: ReplyHead, data: &[u8]) -> u8
     requires { ⌜ outbox-length ≤ length (now outbox) ⌝ }
     requires { ⌜ settings-length ≤ length (now settings) ⌝ }
     requires { ⌜ 1 ≤ length (now «data») ⌝ }
-    ensures { λ _. ⌜ keySetParts (now (outbox .exit)) (now (settings .exit))
+    ensures { λ r. ⌜ keySetParts r (now (outbox .exit)) (now (settings .exit))
         ≡ keySetAnswered (now (outbox .entry)) (now (settings .entry)) reply (now («data» .entry)) ⌝ }
 {
     let result = store(settings, octets::read_u8(data, 0), data);
     send_byte(outbox, reply, numbers::REPLY_KEY_SET, result);
+    result
 }
 
 // Stores the data behind the key, and answers the result.

@@ -1,6 +1,6 @@
 // Prints answers, each with one space in front; failures and refusals go by the numbers of document 01.
 // Assumes nothing: output that cannot be written is lost.
-use responder::outcome::Outcome;
+use counters::outcome::Outcome;
 use responder::receive::Received;
 use saving::restore::Restored;
 use saving::save::Saved;
@@ -49,16 +49,28 @@ pub(crate) fn received(a: Received, printed: bool) {
     }
 }
 
-// How many bytes a step used, and how it ended.
+// How many bytes a step used, how it ended, and what it tells of a request: its command, or a set's key and result.
 pub(crate) fn stepped(used: usize, outcome: Outcome) {
     number(used as u64);
     match outcome {
         Outcome::Refused => refused(REFUSED),
         Outcome::More => word(b" more"),
         Outcome::Empty => word(b" empty"),
-        Outcome::Request => word(b" request"),
+        Outcome::Request(command) => served(command),
+        Outcome::KeySet(key, result) => set(key, result),
         Outcome::Failure(reason) => failed(reason),
     }
+}
+
+fn served(command: u8) {
+    word(b" request");
+    number(command as u64);
+}
+
+fn set(key: u8, result: u8) {
+    word(b" set");
+    number(key as u64);
+    number(result as u64);
 }
 
 fn failed(reason: u8) {

@@ -24,6 +24,7 @@ use Rattle.supervisor_claims.proofs.claims.Replies.{replies-in-order, r
 use Rattle.supervisor_claims.proofs.claims.SetResults.{more-items-11, up-to-64-items, value-lengths, stores-nothing}
 use Rattle.supervisor_claims.proofs.claims.SetResults.{factory-edition, reply-version, failure-version}
 use Rattle.supervisor_claims.proofs.claims.LastSetLaws.{set-successful, successful-exactly, replaced-other}
+use Rattle.supervisor_claims.proofs.claims.SameEdition.{same-edition, same-edition-same-list, reads-leave}
 use Rattle.supervisor_claims.proofs.claims.WithdrawnKeys.{value-last-set, last-set, withdrawn-list-answered, lookup-last-set}
 use Rattle.supervisor_claims.proofs.claims.WithdrawnKeys.{set-answered, list-edition-answered}
 use Rattle.supervisor_claims.proofs.claims.WithdrawnKeys.{passphrase-unread, passphrase-unread-locally}
@@ -130,6 +131,9 @@ item-5 = record {
   value-last-set = value-last-set;
   successful-exactly = successful-exactly;
   list-edition-answered = list-edition-answered;
+  same-edition = same-edition;
+  same-edition-same-list = same-edition-same-list;
+  reads-leave = reads-leave;
   edition-meant = edition-meant;
 }
 

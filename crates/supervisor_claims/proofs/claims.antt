@@ -11,7 +11,9 @@ pub mod Cuts
 pub mod Replies
 pub mod SetResults
 pub mod LastSetLaws
+pub mod StaysLaws
 pub mod WithdrawnKeys
+pub mod SameEdition
 pub mod RetainedClaim
 pub mod AlertClaim
 pub mod SavedClaim

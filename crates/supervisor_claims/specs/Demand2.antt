@@ -150,7 +150,8 @@ pub record RequestsCarriedOut : Type 0 where
   -- A receive or step takes, in order, those frames of the joined bytes that are not empty and whose 00 it brings. It carries out each
   -- valid request, with the image lent to it, and answers every other with its numbered failure. A local call does what document 01 has of
   -- it. A call that is lent too little is refused as 12 and does nothing. Every answer, all that is written outside the
-  -- state, and the state that is left are those got so.
+  -- state, and the state that is left are those got so. A step answers how its frame ended, and the command that it carried out,
+  -- of a key set its key and result (`servedByFrames`).
   -- The frames so taken since the last accepted start are all of them, each exactly once and in order.
   pub history-frames : HistoryFrames
   -- the same byte by byte: every answer, all that is written outside the state, and the state that is left are document 01's

@@ -4,23 +4,22 @@
 use mathlib.Core.Path.{_≡_}
 use mathlib.Core.Bool.{Bool, true, false, cond, not, _&&_}
 use mathlib.Core.List.{List, [], _∷_, _++_}
-use mathlib.Core.Option.{some}
+use mathlib.Core.Option.{Option, none, some}
 use Prim.Native.Nat.{ℕ}
 use lib.ListN as ListN
 use lib.ListN.{length}
 use Rattle.line.specs.Judge.{progressOf}
 use Rattle.line.specs.Message.{Message}
 use Rattle.line.specs.Frame.{split, nonEmpty, closedBehind}
-use Rattle.supervisor.specs.State.{State, withReceived, withPending}
+use Rattle.supervisor.specs.State.{Settings, State, withReceived, withPending}
 use Rattle.supervisor.specs.Local
 use Rattle.supervisor.specs.Calls.{Parts}
-use Rattle.responder.specs.Requests.{good, verdict, Reply, afterVerdict, owed, replyFrame}
-use Rattle.responder.specs.Receive
-use Rattle.responder.specs.Receive.{Ended}
+use Rattle.responder.specs.Requests.{Verdict, good, verdict, Reply, afterVerdict, owed, replyFrame}
+use Rattle.counters.specs.Ended.{Ended, Served}
 use Rattle.supervisor_claims.specs.View.{factoryOf, view}
 use Rattle.supervisor_claims.specs.Histories
-use Rattle.supervisor_claims.specs.Histories.{Call, Typed, refused, done, stepped, Did, Means, means, upTo, meant}
-use Rattle.supervisor_claims.specs.Histories.{Lent, Made, enough, untouched, Output, receiveWith}
+use Rattle.supervisor_claims.specs.Histories.{Call, Typed, refused, done, stepped, Did, Means, means, upTo, endedMeant, servedMeant}
+use Rattle.supervisor_claims.specs.Histories.{meant, Lent, Made, enough, untouched, Output, receiveWith}
 
 -- ---- The received bytes
 
@@ -78,11 +77,21 @@ carriedOut image w s bs = withReceived (framesCarried image s (framesClosedBy w 
 abbrev pub afterAllFrames : List ℕ → State → List ℕ → State
 afterAllFrames image s bs = withReceived (framesCarried image s (split bs .closed)) (progressOf (split bs .rest))
 
--- how the frame ended whose 00 a step read: there is one at most
-unfoldable pub endedByFrames : List (List ℕ) → Ended
-endedByFrames [] = Ended.more
-endedByFrames ([] ∷ fs) = Ended.empty
-endedByFrames ((b ∷ bs) ∷ fs) = Receive.endedByVerdict (verdict (b ∷ bs))
+-- the verdict on a frame; none on an empty one
+abbrev pub frameVerdict : List ℕ → Option Verdict
+frameVerdict [] = none
+frameVerdict (b ∷ bs) = some (verdict (b ∷ bs))
+
+-- what is said of the frame whose 00 a step read: there is one at most
+unfoldable pub saidByFrames : {A : Type 0} → A → (Option Verdict → A) → List (List ℕ) → A
+saidByFrames more closed [] = more
+saidByFrames more closed (f ∷ fs) = closed (frameVerdict f)
+
+abbrev pub endedByFrames : List (List ℕ) → Ended
+endedByFrames fs = saidByFrames Ended.more endedMeant fs
+
+abbrev pub servedByFrames : Settings → List (List ℕ) → Served
+servedByFrames z fs = saidByFrames Served.nothing (servedMeant z) fs
 
 -- ---- One call
 
@@ -92,7 +101,8 @@ carriedCall w s (Histories.start d) = meant s (Histories.start d)
 carriedCall w s (Histories.receive image piece) = means done [] (carriedOut image w s piece)
 carriedCall w s (Histories.step image piece) =
     let bs = pieceRead (Histories.step image piece) in
-    means (stepped (length bs) (endedByFrames (closedBehind w bs))) [] (carriedOut image w s bs)
+    let fs = closedBehind w bs in
+    means (stepped (length bs) (endedByFrames fs) (servedByFrames (s .settings) fs)) [] (carriedOut image w s bs)
 carriedCall w s (Histories.local c) = meant s (Histories.local c)
 
 -- 12, and nothing changes, where too little is lent

@@ -13,14 +13,14 @@ use Rattle.octets.specs.Bytes.{Each, Byte}
 use Rattle.line_claims.specs.Loans.{Loan, lentPart, backPart, enoughPart}
 use Rattle.line.specs.Judge.{moreReceived}
 use Rattle.supervisor.specs.Layout
-use Rattle.supervisor.specs.State.{State}
+use Rattle.supervisor.specs.State.{Settings, State}
 use Rattle.supervisor.specs.Local
 use Rattle.supervisor.specs.Calls
 use Rattle.supervisor.specs.Calls.{Parts}
 use Rattle.responder.specs.Requests
 use Rattle.responder.specs.Requests.{Verdict}
 use Rattle.responder.specs.Receive
-use Rattle.responder.specs.Receive.{Ended}
+use Rattle.counters.specs.Ended.{Ended, Served}
 use Rattle.supervisor_claims.specs.ByPart.{Part, published, part, partsBy, everyPart}
 use Rattle.supervisor_claims.specs.View.{factoryOf}
 use Rattle.supervisor_claims.specs.Sound.{Bytes, withOutbox, withSettingsPart, withRegisters}
@@ -58,12 +58,12 @@ pub record Did : Type 0 where
 abbrev pub didBy : Answer → List ℕ → Parts → Did
 didBy a bs p = record { answer = a; out = bs; parts = p }
 
-abbrev pub stepAnswer : ℕ → Ended → Answer
-stepAnswer used (Ended.refused n) = refused n
-stepAnswer used Ended.more = stepped used Ended.more
-stepAnswer used Ended.empty = stepped used Ended.empty
-stepAnswer used Ended.request = stepped used Ended.request
-stepAnswer used (Ended.failed reason) = stepped used (Ended.failed reason)
+abbrev pub stepAnswer : ℕ → Ended → Served → Answer
+stepAnswer used (Ended.refused n) served = refused n
+stepAnswer used Ended.more served = stepped used Ended.more served
+stepAnswer used Ended.empty served = stepped used Ended.empty served
+stepAnswer used Ended.request served = stepped used Ended.request served
+stepAnswer used (Ended.failed reason) served = stepped used (Ended.failed reason) served
 
 -- the parts with other bytes in the one that a local call may change
 abbrev pub leftIn : Change → Parts → List ℕ → Parts
@@ -75,7 +75,7 @@ leftIn (Change.settings image) p s = withSettingsPart p s
 unfoldable pub did : Parts → Call → Did
 did p (start d) = let t = Calls.startPromise d p in didBy (refusal (t .refusal)) [] (t .parts)
 did p (receive image piece) = let r = Receive.receivePromise image p piece in didBy (refusal (r .refusal)) [] (r .parts)
-did p (step image piece) = let r = Receive.stepPromise image p piece in didBy (stepAnswer (r .used) (r .ended)) [] (r .parts)
+did p (step image piece) = let r = Receive.stepPromise image p piece in didBy (stepAnswer (r .used) (r .ended) (r .served)) [] (r .parts)
 did p (local c) =
     let d = localRow c .promise p in
     didBy (d .answer) (d .out) (leftIn (localRow c .change) p (d .left))
@@ -87,21 +87,33 @@ unfoldable pub upTo : List ℕ → ℕ
 upTo [] = 0
 upTo (b ∷ bs) = cond (eqb b 0) 1 (suc (upTo bs))
 
+-- how a frame ends, and what is told of it where these settings are held: none where it is empty
 abbrev pub endedMeant : Option Verdict → Ended
 endedMeant none = Ended.empty
 endedMeant (some v) = Receive.endedByVerdict v
 
--- how the frame ends that began with these bytes
-unfoldable pub endedInPiece : Option (List ℕ) → List ℕ → Ended
-endedInPiece received [] = Ended.more
-endedInPiece received (b ∷ bs) =
-    cond (eqb b 0) (endedMeant (Requests.verdictSince received)) (endedInPiece (moreReceived received b) bs)
+abbrev pub servedMeant : Settings → Option Verdict → Served
+servedMeant z none = Served.nothing
+servedMeant z (some v) = Requests.servedBy z v
+
+-- what is said of the frame that began with these bytes: by the verdict on it where the piece has its 00
+unfoldable pub saidInPiece : {A : Type 0} → A → (Option Verdict → A) → Option (List ℕ) → List ℕ → A
+saidInPiece more closed received [] = more
+saidInPiece more closed received (b ∷ bs) =
+    cond (eqb b 0) (closed (Requests.verdictSince received)) (saidInPiece more closed (moreReceived received b) bs)
+
+abbrev pub endedInPiece : Option (List ℕ) → List ℕ → Ended
+endedInPiece received piece = saidInPiece Ended.more endedMeant received piece
+
+abbrev pub servedInPiece : Settings → Option (List ℕ) → List ℕ → Served
+servedInPiece z received piece = saidInPiece Served.nothing (servedMeant z) received piece
 
 unfoldable pub meant : State → Call → Means
 meant s (start d) = doneMeans s (Local.start (factoryOf d))
 meant s (receive image piece) = means done [] (Requests.receiveStream image s piece)
 meant s (step image piece) =
-    means (stepped (upTo piece) (endedInPiece (s .received) piece)) [] (Requests.receiveStream image s (ListN.take (upTo piece) piece))
+    means (stepped (upTo piece) (endedInPiece (s .received) piece) (servedInPiece (s .settings) (s .received) piece)) []
+    (Requests.receiveStream image s (ListN.take (upTo piece) piece))
 meant s (local c) = localRow c .meaning s
 
 -- ---- Calls that are lent some of the parts' bytes

@@ -7,13 +7,10 @@ use mathlib.Core.Logic.{_⊎_}
 use mathlib.Core.Option.{Option, some}
 use Prim.Native.Nat.{ℕ, _+_, _≤_, _<_}
 use lib.ListN.{length}
-use Rattle.octets.specs.Bytes.{bytes}
-use Rattle.line.specs.Numbers.{second-version, reply-key-lookup}
+use Rattle.line.specs.Numbers.{second-version}
 use Rattle.line.specs.Message.{Message}
-use Rattle.line.specs.Frame.{frame}
 use Rattle.line.specs.Judge as Line
 use Rattle.line.specs.Judge.{judge}
-use Rattle.supervisor.specs.Number.{topSet}
 use Rattle.supervisor.specs.State.{Settings, Retained, State}
 use Rattle.supervisor.specs.Local
 use Rattle.supervisor.specs.Calls
@@ -21,15 +18,11 @@ use Rattle.supervisor.specs.Calls.{Parts}
 use Rattle.responder.specs.Requests.{failure, verdict, ReplyContent, storeValue, carryOut}
 use Rattle.supervisor_claims.specs.View.{view}
 use Rattle.supervisor_claims.specs.Sound.{Valid}
-use Rattle.supervisor_claims.specs.Histories.{Made, made, AfterCalls}
+use Rattle.supervisor_claims.specs.Histories.{Made, made, FromStart, AfterCalls}
 use Rattle.supervisor_claims.specs.FrameHistory.{RepliedWith, OnRequest}
 use Rattle.supervisor_claims.specs.LastSet.{successful, originBehind, lookupMessage, SetAnswered}
+use Rattle.supervisor_claims.specs.SameEdition.{editionReply, SameEdition, SameEditionSameList, ReadsLeave}
 use Rattle.supervisor_claims.specs.Demand2.{ValueLastSet, SuccessfulExactly}
-
--- the reply in version 2 that hands out an edition and a value
-unfoldable pub editionReply : ℕ → ℕ → List ℕ → List ℕ
-editionReply n edition v =
-    frame (record { version = second-version; sequence = topSet n; command = reply-key-lookup; payload = 0 ∷ (bytes 4 edition ++ v) })
 
 abbrev pub ListEditionAnswered : List Made → Parts → Type 0
 ListEditionAnswered ms q = (n most : ℕ) → most < 65536
@@ -70,6 +63,14 @@ pub record SupervisorItem5 : Type 0 where
   -- A version 2 lookup of the withdrawn-key list, where v is the value of the last of these sets and the others are vs: the edition before
   -- the value is the number of these sets, on top of the restored edition. The value is v.
   pub list-edition-answered : AfterCalls ListEditionAnswered
+  -- A settings key at two moments with no accepted start and no accepted restore between: with the same edition it has the same value,
+  -- at the last edition too.
+  pub same-edition : FromStart (λ p d q. SameEdition q)
+  -- Two lookups of a settings key but the passphrase, each over the wire in version 2 or by the local calls: both have result 0 and the
+  -- same edition, and no accepted start and no accepted restore came between. Then the value is the same, at the last edition too.
+  pub same-edition-same-list : FromStart (λ p d q. SameEditionSameList q)
+  -- a local call that only reads, as those do, leaves every byte of the parts, whatever it is lent
+  pub reads-leave : ReadsLeave
   -- a set at edition 4,294,967,295 answers 4, in both versions, where results 1 to 3 don't apply
   pub set-answered : AfterCalls SetAnswered
   -- and stores nothing, as every set whose result is not 0

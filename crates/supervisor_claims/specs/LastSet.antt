@@ -1,7 +1,7 @@
 -- The successful sets of a settings key among the requests of received bytes, how many and the last; a set and a lookup over the wire with
 -- their replies. Assumes nothing: these are definitions, and the statement that items 4, 5 and 14 share.
 use mathlib.Core.Path.{_≡_}
-use mathlib.Core.Bool.{cond, _||_}
+use mathlib.Core.Bool.{Bool, true, false, cond, _&&_, _||_}
 use mathlib.Core.List.{List, [], _∷_, _++_}
 use mathlib.Core.Option.{Option, none, some}
 use Prim.Native.Nat.{ℕ, _+_, _-_, _<_}
@@ -24,9 +24,8 @@ use Rattle.responder.specs.Requests.{Verdict, failure, good, verdict, wrongValu
 use Rattle.supervisor_claims.specs.LocalCalls.{Change, localRow}
 use Rattle.supervisor_claims.specs.Histories
 use Rattle.supervisor_claims.specs.Histories.{LocalCall, Call, Made, enough, made}
-use Rattle.supervisor_claims.specs.FrameHistory.{pieceRead, isAcceptedStart, receivedSince, receivedSinceAll, framesClosedBy}
-use Rattle.supervisor_claims.specs.FrameHistory.{RepliedWith}
-use Rattle.supervisor_claims.specs.FrameHistory.{OnRequest}
+use Rattle.supervisor_claims.specs.FrameHistory.{pieceRead, isAcceptedStart, startsAnew, receivedSince, receivedSinceAll}
+use Rattle.supervisor_claims.specs.FrameHistory.{framesClosedBy, RepliedWith, OnRequest}
 
 -- ---- Requests
 
@@ -100,6 +99,26 @@ recordsBy (Change.settings image) = recordsOf (Saving.readImage image)
 
 unfoldable pub recordsRestored : LocalCall → Option (List SavedEntry)
 recordsRestored c = recordsBy (localRow c .change)
+
+abbrev pub someRecords : Option (List SavedEntry) → Bool
+someRecords none = false
+someRecords (some es) = true
+
+-- whether a call restores an image that is good
+abbrev pub isRestore : Call → Bool
+isRestore (Histories.start d) = false
+isRestore (Histories.receive image piece) = false
+isRestore (Histories.step image piece) = false
+isRestore (Histories.local c) = someRecords (recordsRestored c)
+
+-- whether it is a restore that is accepted: one that is lent too little is not
+unfoldable pub acceptsRestore : Made → Bool
+acceptsRestore m = enough (m .call) (m .lent) && isRestore (m .call)
+
+-- a call that is neither an accepted start nor an accepted restore: a restore can bring an older value back
+pub record Stays (m : Made) : Type 0 where
+  pub no-start : startsAnew m ≡ false
+  pub no-restore : acceptsRestore m ≡ false
 
 -- Where a settings key's value and edition come from: what it had after the last accepted start or, of a saved key,
 -- after the last accepted restore behind it, and the valid requests since

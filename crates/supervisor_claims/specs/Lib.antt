@@ -9,6 +9,7 @@ pub mod Histories
 pub mod FrameHistory
 pub mod MixedCalls
 pub mod LastSet
+pub mod SameEdition
 pub mod Alerts
 pub mod Replies
 pub mod TwoRuns

@@ -17,7 +17,7 @@ use Rattle.supervisor.specs.declared.registers.Kind.{Kind}
 use Rattle.supervisor.specs.declared.registers.Kind.the-variants as kind
 use Rattle.saving.specs.Saving
 use Rattle.saving.specs.Calls as SavingCalls
-use Rattle.responder.specs.Receive.{Ended}
+use Rattle.counters.specs.Ended.{Ended, Served}
 use Rattle.supervisor_claims.specs.ByPart.{Part, is}
 
 -- ---- Calls and answers
@@ -45,8 +45,8 @@ pub data Answer : Type 0 where
   -- the table's number
   refused : ℕ → Answer
   done : Answer
-  -- how many bytes were read, and how the frame ended
-  stepped : ℕ → Ended → Answer
+  -- how many bytes were read, how the frame ended, and what is told of a request that was carried out
+  stepped : ℕ → Ended → Served → Answer
   -- how many bytes were moved
   moved : ℕ → Answer
   -- the result, and how many bytes were found
@@ -76,7 +76,7 @@ pub data AnswerKind : Type 0 where
 abbrev pub kindOf : Answer → AnswerKind
 kindOf (refused n) = AnswerKind.number n
 kindOf done = AnswerKind.carried-out
-kindOf (stepped used ended) = AnswerKind.other
+kindOf (stepped used ended served) = AnswerKind.other
 kindOf (moved n) = AnswerKind.taken n
 kindOf (found n k) = AnswerKind.other
 kindOf (foundEdition n k) = AnswerKind.other

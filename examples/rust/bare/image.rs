@@ -6,18 +6,19 @@
 use core::arch::{asm, global_asm};
 use core::fmt::{self, Write};
 use core::panic::PanicInfo;
-use oatcastle::requester::{Handed, Requester, RequesterStorage};
-use oatcastle::{checksum, rot, update_probes, AddressPlan, Bsu, NotFound, Probe, Refusal, StartData, StaticCell, Supervisor, SupervisorStorage};
-use oatcastle::{LONGEST_FRAME, MOST_PENDING};
+use oatcastle::requester::{Handed, Requester, RequesterStorage, State};
+use oatcastle::{
+    checksum, rot, update_probes, AddressPlan, Bsu, Key, NotFound, Probe, Refusal, Reply, Request, StartData, StaticCell, Supervisor,
+    SupervisorStorage, LONGEST_FRAME, MOST_PENDING,
+};
 
 static STORAGE: StaticCell<SupervisorStorage> = StaticCell::new(SupervisorStorage::new());
 static REQUESTER: StaticCell<RequesterStorage> = StaticCell::new(RequesterStorage::new());
 static DATA: StartData = StartData::new(Bsu::A).with_image_id(b"image");
 
 /// The status request with sequence 1.
-const STATUS: [u8; 21] = [
-    0x06, 0xcc, 0x19, 0xde, 0x01, 0x01, 0x01, 0x01, 0x02, 0x01, 0x01, 0x01, 0x01, 0x01, 0x01, 0x01, 0x04, 0x08, 0xcf, 0x66, 0x00,
-];
+const STATUS: [u8; 21] =
+    [0x06, 0xcc, 0x19, 0xde, 0x01, 0x01, 0x01, 0x01, 0x02, 0x01, 0x01, 0x01, 0x01, 0x01, 0x01, 0x01, 0x04, 0x08, 0xcf, 0x66, 0x00];
 
 // The vector table's first two words, and what runs first: memory that begins as zero is made so, then `run` is called.
 global_asm!(
@@ -77,19 +78,17 @@ fn print(bytes: &[u8]) -> fmt::Result {
     writeln!(Console)
 }
 
-/// A request of the main processor over a wire that loses nothing, and what its reply has behind the result.
-fn ask(main: &mut Requester, supervisor: &mut Supervisor, command: u8, data: &[u8]) -> Result<(u8, [u8; 8]), Refusal> {
+/// A request of the main processor over a wire that loses nothing, and what is made of its reply.
+fn ask<T>(main: &mut Requester, supervisor: &mut Supervisor, request: &Request, made: impl Fn(Reply) -> T) -> Result<T, Refusal> {
     let mut room = [0; LONGEST_FRAME];
-    supervisor.receive(&[], main.request(command, data, &mut room)?);
+    supervisor.receive(&[], main.request(request, &mut room)?);
     let mut room = [0; MOST_PENDING];
     let mut piece = supervisor.take(&mut room);
     while !piece.is_empty() {
         let received = main.receive(piece);
         piece = &piece[received.used..];
-        if let Handed::Answer(reply) = received.handed {
-            let mut value = [0; 8];
-            value[..reply.data.len() - 1].copy_from_slice(&reply.data[1..]);
-            return Ok((reply.data[0], value));
+        if let Handed::Answer(message) = received.handed {
+            return Ok(made(message.reply().expect("a reply")));
         }
     }
     panic!("no answer")
@@ -98,12 +97,15 @@ fn ask(main: &mut Requester, supervisor: &mut Supervisor, command: u8, data: &[u
 /// The calls whose lengths, lists or numbers have 64 bits where this processor has 32.
 fn calls(supervisor: &mut Supervisor) -> Result<(), Refusal> {
     let mut main = Requester::start_in(REQUESTER.take().expect("taken once"));
-    assert_eq!(ask(&mut main, supervisor, 0x10, b"\x03value")?, (0, [0; 8]));
-    assert_eq!(supervisor.lookup(3, 256).map(|found| found.value), Ok(&b"value"[..]));
-    assert_eq!(supervisor.edition(3), Ok(1));
-    assert_eq!(supervisor.lookup(3, 4), Err(NotFound::TooLong));
-    assert_eq!(supervisor.lookup(1, 64).map(|found| found.value), Ok(&b"image"[..]));
-    assert_eq!(ask(&mut main, supervisor, 0x0e, &[3, 5, 0])?, (0, *b"value\0\0\0"));
+    let set = Request::key_set(Key::EtcSystem, b"value").expect("5 bytes are allowed");
+    assert!(ask(&mut main, supervisor, &set, |reply| reply == Reply::KeySet(Ok(())))?);
+    assert_eq!(main.state(), State::Idle);
+    assert_eq!(supervisor.lookup(Key::EtcSystem, 256).map(|found| found.value), Ok(&b"value"[..]));
+    assert_eq!(supervisor.edition(Key::EtcSystem), Ok(1));
+    assert_eq!(supervisor.lookup(Key::EtcSystem, 4), Err(NotFound::TooLong));
+    assert_eq!(supervisor.lookup(Key::ImageId, 64).map(|found| found.value), Ok(&b"image"[..]));
+    let lookup = Request::lookup(Key::EtcSystem, 5);
+    assert!(ask(&mut main, supervisor, &lookup, |reply| matches!(reply, Reply::KeyLookup(Ok(found)) if found.value == b"value"))?);
     let mut list = [Probe { address: 0x50, result: 9 }; 3];
     update_probes(&mut list, &[2, 0], &[3, 2])?;
     assert_eq!(list.map(|probe| probe.result), [2, 9, 3]);

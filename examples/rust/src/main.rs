@@ -1,7 +1,8 @@
 // Defines an example: a wire that exists only in memory brings a status request byte by byte, and the reply is printed in hex.
 // Assumes the static library; the unit has zero options, BSU A, every other start number zero, no items and no image.
 
-use oatcastle::{Bsu, StartData, StaticCell, Supervisor, SupervisorStorage};
+use oatcastle::{Bsu, StartData, StaticCell, Supervisor, SupervisorStorage, Uart};
+use std::convert::Infallible;
 
 /// The supervisor's parts, laid out when the program is linked.
 static STORAGE: StaticCell<SupervisorStorage> = StaticCell::new(SupervisorStorage::new());
@@ -10,9 +11,8 @@ static STORAGE: StaticCell<SupervisorStorage> = StaticCell::new(SupervisorStorag
 static DATA: StartData = StartData::new(Bsu::A);
 
 /// The status request with sequence 1.
-const STATUS: [u8; 21] = [
-    0x06, 0xcc, 0x19, 0xde, 0x01, 0x01, 0x01, 0x01, 0x02, 0x01, 0x01, 0x01, 0x01, 0x01, 0x01, 0x01, 0x04, 0x08, 0xcf, 0x66, 0x00,
-];
+const STATUS: [u8; 21] =
+    [0x06, 0xcc, 0x19, 0xde, 0x01, 0x01, 0x01, 0x01, 0x02, 0x01, 0x01, 0x01, 0x01, 0x01, 0x01, 0x01, 0x04, 0x08, 0xcf, 0x66, 0x00];
 
 /// Both directions of a serial wire.
 struct Wire {
@@ -20,32 +20,28 @@ struct Wire {
     outgoing: Vec<u8>,
 }
 
-impl Wire {
-    fn receive(&mut self) -> Option<u8> {
-        self.incoming.next()
+impl Uart for Wire {
+    type Error = Infallible;
+
+    fn read(&mut self, room: &mut [u8]) -> Result<usize, Infallible> {
+        Ok(self.incoming.next().map_or(0, |byte| {
+            room[0] = byte;
+            1
+        }))
     }
 
-    fn send(&mut self, byte: u8) {
-        self.outgoing.push(byte);
-    }
-}
-
-fn serve(supervisor: &mut Supervisor, wire: &mut Wire) {
-    let image = [];
-    while let Some(byte) = wire.receive() {
-        supervisor.receive(&image, &[byte]);
-        let mut room = [0];
-        while let &[byte] = supervisor.take(&mut room) {
-            wire.send(byte);
-        }
+    fn write(&mut self, bytes: &[u8]) -> Result<(), Infallible> {
+        self.outgoing.extend_from_slice(bytes);
+        Ok(())
     }
 }
 
-fn main() {
+fn main() -> Result<(), Infallible> {
     let mut wire = Wire { incoming: STATUS.to_vec().into_iter(), outgoing: Vec::new() };
     let storage = STORAGE.take().expect("taken once");
     let mut supervisor = Supervisor::start_in(storage, &DATA);
-    serve(&mut supervisor, &mut wire);
+    supervisor.serve(&[], &mut wire, |_, _| ())?; // no image to hand out
     let hex: Vec<String> = wire.outgoing.iter().map(|byte| format!("{byte:02x}")).collect();
     println!("{}", hex.join(" "));
+    Ok(())
 }

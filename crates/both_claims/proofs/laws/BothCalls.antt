@@ -2,11 +2,10 @@
 -- what holds of the parts of both and of what was put out and read, from two starts on, and claims about each call.
 -- Assumes nothing.
 use mathlib.Core.Path.{_≡_, refl}
-use mathlib.Core.Bool.{Bool, true, false}
-use mathlib.Core.List.{List, [], _∷_}
+use mathlib.Core.Bool.{Bool, true}
+use mathlib.Core.List.{List, [], _∷_, _++_}
 use Prim.Native.Nat.{ℕ}
 use Rattle.octets.specs.Bytes.{Each, Byte}
-use Rattle.octets.proofs.Conditions.{cond-by}
 use Rattle.line.specs.Message.{Message}
 use Rattle.line.specs.Frame.{split}
 use Rattle.requester.specs.State.{MainState, mainFresh}
@@ -15,7 +14,7 @@ use Rattle.requester.specs.Calls.{MainPartsValid}
 use Rattle.requester_claims.specs.View.{mainView}
 use Rattle.requester_claims.proofs.History as MainHistory
 use Rattle.requester_claims.specs.Histories as Main
-use Rattle.requester_claims.specs.Histories.{mainMeantMade, MainAnswer, MainLent, MainMade, MainMeans, mainMade}
+use Rattle.requester_claims.specs.Histories.{mainMeantMade, MainAnswer, MainMade, MainMeans, mainMade}
 use Rattle.requester_claims.proofs.Numbers.{newest-after}
 use Rattle.supervisor_claims.specs.View.{view}
 use Rattle.supervisor_claims.specs.Sound.{Sound}
@@ -23,16 +22,15 @@ use Rattle.supervisor_claims.specs.Histories as Supervisor
 use Rattle.supervisor_claims.proofs.claims.History as SupervisorHistory
 use Rattle.line.specs.Judge.{progressOf}
 use Rattle.supervisor_claims.specs.LastSet.{Origin}
-use Rattle.requester_claims.specs.CameAs.{restarts}
 use Rattle.both_claims.specs.Ends
-use Rattle.both_claims.specs.Ends.{Log, emptyLog, CallOf, supervisorLogged, BothStarts, endsBegun, Begun, together}
-use Rattle.both_claims.specs.Ends.{MainTyped, EndCallTyped, endsAfter, Wire, endsAfterAll, Always, WireAfter, mainLogged}
+use Rattle.both_claims.specs.Ends.{Log, emptyLog, CallOf, BothStarts, endsBegun, Begun, together}
+use Rattle.both_claims.specs.Ends.{MainTyped, EndCallTyped, endsAfter, endsAfterAll, Always, UnderNumber, mainLogged}
 use Rattle.both_claims.proofs.laws.Ranges.{fresh-ranged}
 use Rattle.both_claims.proofs.laws.Held.{held-parts}
 use Rattle.both_claims.proofs.laws.Lists.{none-some}
 use Rattle.both_claims.proofs.laws.Kept.{Kept}
 use Rattle.both_claims.proofs.laws.MainCalls.{main-kept}
-use Rattle.both_claims.proofs.laws.SupervisorCalls.{supervisor-kept, joined-bytes}
+use Rattle.both_claims.proofs.laws.SupervisorCalls.{supervisor-kept}
 
 -- ---- what holds
 
@@ -67,93 +65,75 @@ module _ (e : Ends.Ends) (both : Both e) where
         kept = rw (k .state, main-log m) (main-kept (mainView (e .main)) (e .log) (both .kept) m typed);
       }
 
-  supervisor-call : (m : Supervisor.Made) → Supervisor.Typed (m .call) → Wire (endsAfter e (Ends.supervisor m) .log)
-      → Both (endsAfter e (Ends.supervisor m))
+  supervisor-call : (m : Supervisor.Made) → Supervisor.Typed (m .call) → Both (endsAfter e (Ends.supervisor m))
   unfolding endsAfter
-  supervisor-call m typed w = record {
+  supervisor-call m typed = record {
     main = both .main;
     supervisor = SupervisorHistory.one-call (e .supervisor) m (both .supervisor) typed .leaves .1;
     kept =
         supervisor-kept (mainView (e .main)) (e .log) (both .kept) (view (e .supervisor)) (held-parts (e .supervisor) (both .supervisor)) m
-        typed _ w;
+        typed _;
   }
 
-  pub keeps-both : (t : Ends.EndCall) → EndCallTyped t → Wire (endsAfter e t .log) → Both (endsAfter e t)
-  keeps-both (Ends.main m) typed w = main-call m typed
-  keeps-both (Ends.supervisor m) typed w = supervisor-call m typed w
+  pub keeps-both : (t : Ends.EndCall) → EndCallTyped t → Both (endsAfter e t)
+  keeps-both (Ends.main m) typed = main-call m typed
+  keeps-both (Ends.supervisor m) typed = supervisor-call m typed
 
 -- ---- claims about each call
 
--- with what is given of each call
+-- with what is given of each call, and what else each call keeps
 module _ (Else : Ends.Ends → Type 0) (Given C : Ends.Ends → Ends.EndCall → Type 0)
-    (of-call : (e : Ends.Ends) → Both e → Else e → (t : Ends.EndCall) → EndCallTyped t → Wire (endsAfter e t .log) → Given e t
-    → C e t × Else (endsAfter e t)) where
-  pub each-given : (e : Ends.Ends) → Both e → Else e → (ts : List Ends.EndCall) → Each EndCallTyped ts → Always WireAfter e ts
-      → Always Given e ts → Always C e ts
-  each-given e both other [] typed w g = tt
-  each-given e both other (t ∷ ts) typed w g =
-      let k = of-call e both other t (typed .0) (w .0) (g .0) in
-      (k .0, each-given (endsAfter e t) (keeps-both e both t (typed .0) (w .0)) (k .1) ts (typed .1) (w .1) (g .1))
-
--- with what else each call keeps
-module _ (Else : Ends.Ends → Type 0) (C : Ends.Ends → Ends.EndCall → Type 0)
-    (of-call : (e : Ends.Ends) → Both e → Else e → (t : Ends.EndCall) → EndCallTyped t → Wire (endsAfter e t .log)
-    → C e t × Else (endsAfter e t)) where
-  pub each-call : (e : Ends.Ends) → Both e → Else e → (ts : List Ends.EndCall) → Each EndCallTyped ts → Always WireAfter e ts
-      → Always C e ts
-  each-call e both other ts typed w =
-      each-given Else WireAfter C (λ e both other t typed w g. of-call e both other t typed w) e both other ts typed w w
+    (of-call : (e : Ends.Ends) → Both e → Else e → (t : Ends.EndCall) → EndCallTyped t → Given e t → C e t × Else (endsAfter e t)) where
+  pub each-call : (e : Ends.Ends) → Both e → Else e → (ts : List Ends.EndCall) → Each EndCallTyped ts → Always Given e ts → Always C e ts
+  each-call e both other [] typed g = tt
+  each-call e both other (t ∷ ts) typed g =
+      let k = of-call e both other t (typed .0) (g .0) in
+      (k .0, each-call (endsAfter e t) (keeps-both e both t (typed .0)) (k .1) ts (typed .1) (g .1))
 
   -- what holds after calls
-  pub after-calls : (e : Ends.Ends) → Both e → Else e → (ts : List Ends.EndCall) → Each EndCallTyped ts → Always WireAfter e ts
+  pub after-calls : (e : Ends.Ends) → Both e → Else e → (ts : List Ends.EndCall) → Each EndCallTyped ts → Always Given e ts
       → Both (endsAfterAll e ts) × Else (endsAfterAll e ts)
   unfolding endsAfterAll
-  after-calls e both other [] typed w = (both, other)
-  after-calls e both other (t ∷ ts) typed w =
-      let k = of-call e both other t (typed .0) (w .0) in
-      after-calls (endsAfter e t) (keeps-both e both t (typed .0) (w .0)) (k .1) ts (typed .1) (w .1)
+  after-calls e both other [] typed g = (both, other)
+  after-calls e both other (t ∷ ts) typed g =
+      let k = of-call e both other t (typed .0) (g .0) in
+      after-calls (endsAfter e t) (keeps-both e both t (typed .0)) (k .1) ts (typed .1) (g .1)
+
+-- two things that are given of each call
+pub always-and : (C D : Ends.Ends → Ends.EndCall → Type 0) (e : Ends.Ends) (ts : List Ends.EndCall) → Always C e ts → Always D e ts
+    → Always (λ x t. C x t × D x t) e ts
+always-and C D e [] c d = tt
+always-and C D e (t ∷ ts) c d = ((c .0, d .0), always-and C D (endsAfter e t) ts (c .1) (d .1))
+
+pub always-second : (C D : Ends.Ends → Ends.EndCall → Type 0) (e : Ends.Ends) (ts : List Ends.EndCall) → Always (λ x t. C x t × D x t) e ts
+    → Always D e ts
+always-second C D e [] h = tt
+always-second C D e (t ∷ ts) h = (h .0 .1, always-second C D (endsAfter e t) ts (h .1))
+
+pub always-then : (C D : Ends.Ends → Ends.EndCall → Type 0) → ((x : Ends.Ends) (t : Ends.EndCall) → C x t → D x t) → (e : Ends.Ends)
+    (ts : List Ends.EndCall) → Always C e ts → Always D e ts
+always-then C D so e [] h = tt
+always-then C D so e (t ∷ ts) h = (so e t (h .0), always-then C D so (endsAfter e t) ts (h .1))
+
+-- the first calls and those behind them
+pub always-split : (C : Ends.Ends → Ends.EndCall → Type 0) (e : Ends.Ends) (xs ys : List Ends.EndCall) → Always C e (xs ++ ys)
+    → Always C e xs × Always C (endsAfterAll e xs) ys
+unfolding endsAfterAll
+always-split C e [] ys h = (tt, h)
+always-split C e (x ∷ xs) ys h = let k = always-split C (endsAfter e x) xs ys (h .1) in ((h .0, k .0), k .1)
 
 -- what follows from a claim
-module _ (P Q : MainState → Log → Message → Type 0) (so : (s : MainState) (l : Log) (r : Message) → P s l r → Q s l r) where
-  call-so : (e : Ends.Ends) (t : Ends.EndCall) → CallOf P e t → CallOf Q e t
-  call-so e (Ends.main m) h = λ r o. so (mainView (e .main)) (e .log) r (h r o)
-  call-so e (Ends.supervisor m) h = tt
+module _ (P Q : MainState → Log → Message → Type 0) where
+  pub call-so : (e : Ends.Ends) → ((r : Message) → P (mainView (e .main)) (e .log) r → Q (mainView (e .main)) (e .log) r)
+      → (t : Ends.EndCall) → CallOf P e t → CallOf Q e t
+  call-so e so (Ends.main m) h = λ r o. so r (h r o)
+  call-so e so (Ends.supervisor m) h = tt
 
-  pub always-so : (e : Ends.Ends) (ts : List Ends.EndCall) → Always (CallOf P) e ts → Always (CallOf Q) e ts
-  always-so e [] h = tt
-  always-so e (t ∷ ts) h = (call-so e t (h .0), always-so (endsAfter e t) ts (h .1))
-
--- ---- over any wire
-
-pub record Plain (e : Ends.Ends) : Type 0 where
-  pub main : MainPartsValid (e .main)
-  pub supervisor : Sound (e .supervisor)
-  pub bytes : Each Byte (e .log .received)
-
-plain-call : (e : Ends.Ends) → Plain e → (t : Ends.EndCall) → EndCallTyped t → Plain (endsAfter e t)
-unfolding endsAfter mainLogged supervisorLogged
-plain-call e p (Ends.main m) typed = record {
-  main = MainHistory.one-call (e .main) m (p .main) .valid;
-  supervisor = p .supervisor;
-  bytes =
-      cond-by (λ (l : Log). Each Byte (l .received)) (restarts (m .call) (mainMade (e .main) m .answer)) _ _ (λ _. p .bytes)
-      (λ _. p .bytes);
-}
-plain-call e p (Ends.supervisor m) typed = record {
-  main = p .main;
-  supervisor = SupervisorHistory.one-call (e .supervisor) m (p .supervisor) typed .leaves .1;
-  bytes = joined-bytes (e .log .received) m (p .bytes) typed;
-}
-
--- with what else each call keeps
-module _ (Else : Ends.Ends → Type 0)
-    (of-call : (e : Ends.Ends) → Plain e → Else e → (t : Ends.EndCall) → EndCallTyped t → Else (endsAfter e t)) where
-  any-calls : (e : Ends.Ends) → Plain e → Else e → (ts : List Ends.EndCall) → Each EndCallTyped ts
-      → Plain (endsAfterAll e ts) × Else (endsAfterAll e ts)
-  unfolding endsAfterAll
-  any-calls e p other [] typed = (p, other)
-  any-calls e p other (t ∷ ts) typed =
-      any-calls (endsAfter e t) (plain-call e p t (typed .0)) (of-call e p other t (typed .0)) ts (typed .1)
+  pub always-so : (n : ℕ) → ((s : MainState) (l : Log) (r : Message) → P s l r → Q s l r) → (e : Ends.Ends) (ts : List Ends.EndCall)
+      → Always (UnderNumber n (CallOf P)) e ts → Always (UnderNumber n (CallOf Q)) e ts
+  always-so n so e [] h = tt
+  always-so n so e (t ∷ ts) h =
+      (λ z. call-so e (so (mainView (e .main)) (e .log)) t (h .0 z), always-so n so (endsAfter e t) ts (h .1))
 
 -- ---- the main processor's end just started
 
@@ -184,30 +164,33 @@ together-both s =
       kept = rw (x .state) (started-kept true [] _ tt);
     }
 
-together-plain : (s : BothStarts) → Plain (endsBegun s)
-together-plain s = let b = together-both s in record { main = b .main; supervisor = b .supervisor; bytes = tt }
+-- calls of which nothing is given
+pub any-calls : (Else : Ends.Ends → Type 0)
+    → ((e : Ends.Ends) → Both e → Else e → (t : Ends.EndCall) → EndCallTyped t → Else (endsAfter e t))
+    → (e : Ends.Ends) → Both e → Else e → (ts : List Ends.EndCall) → Each EndCallTyped ts
+    → Both (endsAfterAll e ts) × Else (endsAfterAll e ts)
+any-calls Else of-call e both other ts typed =
+    after-calls Else Nothing Nothing (λ e both other t typed g. (tt, of-call e both other t typed)) e both other ts typed (all e ts)
+  where
+    Nothing : Ends.Ends → Ends.EndCall → Type 0
+    Nothing e t = Unit {0}
 
-again-both : (e : Ends.Ends) → Plain e → (l : MainLent) → mainMade (e .main) (record { lent = l; call = Main.start }) .answer ≡ Main.done
-    → Both (endsAfter e (Ends.main (record { lent = l; call = Main.start })))
-unfolding endsAfter mainLogged
-again-both e p l a =
-    let x = MainHistory.started (e .main) l a in
-    record {
-      main = x .valid;
-      supervisor = p .supervisor;
-      kept = rw (x .state, a) (started-kept false (e .log .received) (e .log .origin) (p .bytes));
-    }
-
-pub begun-both : (e : Ends.Ends) → Begun e → Both e
-begun-both e (together s) = together-both s
-begun-both e (Ends.later s ts t l a) =
-    again-both (endsAfterAll (endsBegun s) ts) (any-calls (λ x. Unit {0}) (λ x p u y typed. tt) (endsBegun s) (together-plain s) tt ts t .0)
-    l a
+    all : (e : Ends.Ends) (ts : List Ends.EndCall) → Always Nothing e ts
+    all e [] = tt
+    all e (t ∷ ts) = (tt, all (endsAfter e t) ts)
 
 module _ (Else : Ends.Ends → Type 0) (first : (s : BothStarts) → Else (endsBegun s))
-    (of-call : (e : Ends.Ends) → Sound (e .supervisor) → Else e → (t : Ends.EndCall) → EndCallTyped t → Else (endsAfter e t)) where
+    (of-call : (e : Ends.Ends) → Both e → Else e → (t : Ends.EndCall) → EndCallTyped t → Else (endsAfter e t)) where
+  begun : (e : Ends.Ends) → Begun e → Both e × Else e
+  begun e (together s) = (together-both s, first s)
+  begun e (Ends.later s ts t l a) =
+      let x = endsAfterAll (endsBegun s) ts in
+      let k = any-calls Else of-call (endsBegun s) (together-both s) (first s) ts t in
+      let c = Ends.main (record { lent = l; call = Main.start }) in
+      (keeps-both x (k .0) c tt, of-call x (k .0) (k .1) c tt)
+
   pub begun-else : (e : Ends.Ends) → Begun e → Else e
-  begun-else e (together s) = first s
-  begun-else e (Ends.later s ts t l a) =
-      let k = any-calls Else (λ x p u y typed. of-call x (p .supervisor) u y typed) (endsBegun s) (together-plain s) (first s) ts t in
-      of-call (endsAfterAll (endsBegun s) ts) (k .0 .supervisor) (k .1) (Ends.main (record { lent = l; call = Main.start })) tt
+  begun-else e b = begun e b .1
+
+pub begun-both : (e : Ends.Ends) → Begun e → Both e
+begun-both e b = begun (λ x. Unit {0}) (λ s. tt) (λ x both u t typed. tt) e b .0

@@ -16,7 +16,7 @@ use Rattle.line.specs.Message.{Message}
 use Rattle.line.specs.Judge.{good, judge}
 use Rattle.line.specs.Judge.{moreReceived}
 use Rattle.line.proofs.Judged.{more-room}
-use Rattle.requester.specs.State.{Request, MainState, mainState}
+use Rattle.requester.specs.State.{Request, MainState, mainState, outstanding}
 use Rattle.requester.specs.Requester
 use Rattle.requester.specs.Requester.{mainReceived, hear, answer, afterHeard, mainWithReceived, replySequence}
 use Rattle.requester.specs.Calls.{handedReportOf, MainPartsValid}
@@ -72,12 +72,14 @@ heard-answer n r v q c =
       eq-eqb (r .sequence) (replySequence n) q,
     )
 
--- the request kept is answered, and nothing is outstanding
-pub answers-kept : (s : MainState) (q : Request) (r : Message) (x : Option (List ℕ)) → s .recovery ≡ none → s .kept ≡ some q
-    → afterHeard (answer r) (mainWithReceived s x)
-    ≡ Requester.mainResult (Requester.answered r) (Requester.mainMoved none (mainState (s .newest) none none false x))
+-- outside a recovery the request outstanding is answered, and then none is outstanding
+pub answers-kept : (s : MainState) (q : Request) (r : Message) → s .recovery ≡ none → outstanding s ≡ some q → s .received ≡ some []
+    → afterHeard (answer r) s
+    ≡ Requester.mainResult (Requester.answered r) (Requester.mainMoved none (mainState (s .newest) none none false (some [])))
 unfolding Requester.settle Requester.mainMovedTo
-answers-kept s q r x t k = rw (t, k)
+answers-kept s q r calm waits between =
+    let kept : s .kept ≡ some q = rw calm at waits in
+    rw (calm, kept, between)
 
 -- ---- receives
 

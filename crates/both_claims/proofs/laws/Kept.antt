@@ -15,8 +15,8 @@ use Rattle.requester_claims.proofs.Numbers.{Agrees}
 use Rattle.responder.specs.Requests.{good, verdict}
 use Rattle.line.specs.Judge.{progressOf}
 use Rattle.both_claims.specs.Ends
-use Rattle.both_claims.specs.Ends.{replyToRequest, Any, Handled, Log, replyMade, NotAsked}
-use Rattle.both_claims.proofs.laws.Lists.{Front, any-so, each-any, each-front}
+use Rattle.both_claims.specs.Ends.{replyToRequest, Any, Handled, Log, replyMade, RequestUnder, NotAsked}
+use Rattle.both_claims.proofs.laws.Lists.{Front, any-so, each-and, each-any, each-front}
 use Rattle.both_claims.proofs.laws.Ranges.{Ranged, RangedFrame}
 
 -- a frame that was put out, in this state
@@ -24,13 +24,20 @@ pub record PutOut (s : MainState) (x : Frame) : Type 0 where
   pub agrees : Agrees x s
   pub ranged : RangedFrame x
 
--- a frame that the supervisor handled: where it is a good message, it had been put out
+-- a frame that the supervisor handled
 pub record Known (s : MainState) (h : Handled) : Type 0 where
   pub nonzero : Each NonZero (h .form)
   pub asked : Each (PutOut s) (h .asked)
-  pub put-out : (m : Message) → judge (h .form) ≡ Line.good m → Any (λ (x : Frame). x .bytes ≡ frame m) (h .asked)
   -- the reply to a request is in range
   pub reply : (m : Message) → verdict (h .form) ≡ good m → (r : Message) → replyToRequest (h .image) (h .state) m ≡ some r → InRange r
+
+-- where it is a good message of which P holds, it had been put out
+abbrev pub HandledFromMain : (Message → Type 0) → Handled → Type 0
+HandledFromMain P h = (m : Message) → judge (h .form) ≡ Line.good m → P m → Any (λ (x : Frame). x .bytes ≡ frame m) (h .asked)
+
+-- all of them
+abbrev pub AllFromMain : (Message → Type 0) → Log → Type 0
+AllFromMain P l = Each (HandledFromMain P) (l .handled)
 
 -- a reply that was made to one of these
 abbrev pub MadeTo : List Handled → Message → Type 0
@@ -50,6 +57,13 @@ pub record Kept (s : MainState) (l : Log) : Type 0 where
   pub before : Each (λ (h : Handled). Front (h .asked) (l .asked)) (l .handled)
   pub pending : (r : Message) → l .pending ≡ some r → MadeTo (l .handled) r
   pub sent : Each (MadeTo (l .handled)) (l .sent)
+
+-- of each frame that was handled, where the requests under the newest number are the main processor's own
+abbrev pub KnownFrom : MainState → Handled → Type 0
+KnownFrom s h = Known s h × HandledFromMain (RequestUnder (s .newest)) h
+
+pub known-from : (s : MainState) (l : Log) → Kept s l → AllFromMain (RequestUnder (s .newest)) l → Each (KnownFrom s) (l .handled)
+known-from s l kept from = each-and (Known s) _ _ (λ h a b. (a, b)) (l .handled) (kept .handled) from
 
 -- what was handled when no more had been put out than at an earlier moment
 pub not-asked-by : (e : Ends.Ends) (n : ℕ) → NotAsked e n → (h : Handled) → Front (h .asked) (e .log .asked) → (P : Frame → Type 0)

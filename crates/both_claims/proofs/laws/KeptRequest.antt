@@ -9,7 +9,7 @@ use Prim.Native.Nat.{ℕ, suc, _≤_, _<_}
 use native.Mathlib.Omega.{arith}
 use lib.Dec.{leb, ltb, eqb}
 use lib.ListN.{length}
-use borrow.Author.Tests.{leb-true, leb-false}
+use borrow.Author.Tests.{leb-true, leb-false, ltb-false}
 use Rattle.octets.specs.Bytes.{bit}
 use Rattle.octets.proofs.Conditions.{cond-by}
 use Rattle.line.specs.Limits.{longest-data}
@@ -31,10 +31,10 @@ use Rattle.both_claims.proofs.laws.MainReads.{Came, quiet, hearing}
 
 -- ---- what is heard
 
--- it stays, or ends with the answer that is handed out, or with 14
+-- it stays, or ends with the answer that is handed out, outside a recovery, or with 14
 pub data KeptAfter (s : MainState) (h : Handed) (t : MainState) : Type 0 where
   same : t .kept ≡ s .kept → s .newest ≤ t .newest → KeptAfter s h t
-  answered : (r : Message) → h ≡ Requester.answered r → t .kept ≡ none → t .newest ≡ s .newest → KeptAfter s h t
+  answered : s .recovery ≡ none → (r : Message) → h ≡ Requester.answered r → t .kept ≡ none → t .newest ≡ s .newest → KeptAfter s h t
   ended : last-number ≤ s .newest → t .kept ≡ none → t .newest ≡ s .newest → KeptAfter s h t
 
 module _ (s : MainState) (h : Handed) where
@@ -77,28 +77,29 @@ module _ (s : MainState) where
       cond-by Outcome (eqb (m .command) 0x06 && eqb (length (m .payload)) status-length) _ _
       (λ _. served-after s _ k e (Requester.messageStatus m)) (λ _. again-after s _)
 
-  settled-after : (t : Option RecoveryStep) (k : Option Request) → s .kept ≡ k → (h : Heard) → Outcome (settle t (isSome k) h)
+  settled-after : (t : Option RecoveryStep) (k : Option Request) → s .recovery ≡ t → s .kept ≡ k → (h : Heard)
+      → Outcome (settle t (isSome k) h)
   unfolding settle Requester.mainMovedTo
-  settled-after none none e h = same refl (omega arith)
-  settled-after none (some q) e ground = same refl (omega arith)
-  settled-after none (some q) e other = same refl (omega arith)
-  settled-after none (some q) e (answer m) = answered m refl refl refl
-  settled-after (some t) k e ground = same refl (omega arith)
-  settled-after (some t) k e other = same refl (omega arith)
-  settled-after (some fetch) k e (answer m) = fetched-after k e m
-  settled-after (some acknowledge) k e (answer m) = anew-after s _ (some fetch)
-  settled-after (some alert) k e (answer m) = anew-after s _ (some fetch)
+  settled-after none none i e h = same refl (omega arith)
+  settled-after none (some q) i e ground = same refl (omega arith)
+  settled-after none (some q) i e other = same refl (omega arith)
+  settled-after none (some q) i e (answer m) = answered i m refl refl refl
+  settled-after (some t) k i e ground = same refl (omega arith)
+  settled-after (some t) k i e other = same refl (omega arith)
+  settled-after (some fetch) k i e (answer m) = fetched-after k e m
+  settled-after (some acknowledge) k i e (answer m) = anew-after s _ (some fetch)
+  settled-after (some alert) k i e (answer m) = anew-after s _ (some fetch)
 
 -- the receive progress does not matter
 progress-after : (s : MainState) (bs : Option (List ℕ)) {h : Handed} {t : MainState} → KeptAfter (mainWithReceived s bs) h t
     → KeptAfter s h t
 progress-after s bs (same e n) = same e n
-progress-after s bs (answered r e k n) = answered r e k n
+progress-after s bs (answered i r e k n) = answered i r e k n
 progress-after s bs (ended l k n) = ended l k n
 
 pub came-after : {ms : List Message} (s : MainState) (x : MainResult) → Came s ms x → KeptAfter s (x .handed) (x .state)
 came-after s x (quiet bs e) = rw e (same refl (omega arith))
-came-after s x (hearing bs h e f) = rw e (progress-after s bs (settled-after (mainWithReceived s bs) (s .recovery) (s .kept) refl h))
+came-after s x (hearing bs h e f) = rw e (progress-after s bs (settled-after (mainWithReceived s bs) (s .recovery) (s .kept) refl refl h))
 
 -- ---- calls
 
@@ -106,14 +107,15 @@ came-after s x (hearing bs h e f) = rw e (progress-after s bs (settled-after (ma
 pub data NoNew (s : MainState) (x : MainMeans) : Type 0 where
   keeps : x .state .kept ≡ s .kept → s .newest ≤ x .state .newest
       → (framesOf x ≡ []) ⊎ ((q : Request) × (outstanding s ≡ some q) × (framesOf x ≡ framed (s .newest) q)) → NoNew s x
-  answers : (r : Message) → messageHanded (x .answer) (x .out) ≡ some r → x .state .kept ≡ none → x .state .newest ≡ s .newest
-      → framesOf x ≡ [] → NoNew s x
+  answers : s .recovery ≡ none → (r : Message) → messageHanded (x .answer) (x .out) ≡ some r → x .state .kept ≡ none
+      → x .state .newest ≡ s .newest → framesOf x ≡ [] → NoNew s x
   ends : last-number ≤ s .newest → x .state .kept ≡ none → x .state .newest ≡ s .newest → framesOf x ≡ [] → NoNew s x
 
 -- a new one, under the next number
 pub record PutsNew (s : MainState) (c : MainCall) (x : MainMeans) : Type 0 where
   pub request : Request
   pub called : requestOf c ≡ some request
+  pub fits : length (request .payload) ≤ longest-data
   pub none-out : outstanding s ≡ none
   pub not-last : s .newest < last-number
   pub kept : x .state .kept ≡ Requester.keep request
@@ -131,7 +133,7 @@ after-receive : (s : MainState) (used : ℕ) (x : MainResult) → KeptAfter s (x
     → NoNew s (Main.receiveMeans (Requester.mainReceived used x))
 unfolding framesPutOut handedReportOf Main.handedData
 after-receive s used x (same e n) = keeps e n (inl refl)
-after-receive s used x (answered r e k n) = answers r (rw e refl) k n refl
+after-receive s used x (answered i r e k n) = answers i r (rw e refl) k n refl
 after-receive s used x (ended l k n) = ends l k n refl
 
 module _ (s : MainState) where
@@ -149,7 +151,7 @@ module _ (s : MainState) where
       let q : Request = record { command = command; payload = d } in
       let n = suc (s .newest) in
       let c = Main.request command d room in
-      cond-by (PutBy c room) (ltb longest-data (length d)) _ _ (λ _. refused-by c 9 room) (λ _.
+      cond-by (PutBy c room) (ltb longest-data (length d)) _ _ (λ _. refused-by c 9 room) (λ f.
       cond-by (PutBy c room) (isSome (outstanding s)) _ _ (λ _. refused-by c 17 room) (λ o.
       cond-by (PutBy c room) (leb last-number (s .newest)) _ _ (λ _. refused-by c 14 room) (λ l.
       cond-by (PutBy c room) (ltb (length room) (length (requestFrame n q))) _ _ (λ _. refused-by c 8 room) (λ _.
@@ -158,6 +160,7 @@ module _ (s : MainState) where
         record {
           request = q;
           called = refl;
+          fits = ltb-false longest-data (length d) f;
           none-out = not-some (outstanding s) o;
           not-last = leb-false last-number (s .newest) l;
           kept = refl;
@@ -189,12 +192,13 @@ module _ (s : MainState) where
   -- a receive by what came of it
   module _ (came : (piece : List ℕ) → let x = Requester.receive s piece .result in KeptAfter s (x .handed) (x .state)) where
     meant-by : (c : MainCall) → restarts c (mainMeant s c .answer) ≡ false → RequestBy s c (mainMeant s c)
-    unfolding mainMeant Requester.interrupt Requester.send
+    unfolding mainMeant Requester.interrupt Requester.send framesPutOut
     meant-by Main.start n = absurd (false≢true (sym n))
     meant-by (Main.request command d room) n = request-by command d room
     meant-by Main.interrupt n = interrupt-by (s .recovery)
     meant-by (Main.send room) n = send-by room (outstanding s) refl
     meant-by (Main.receive piece) n = let x = Requester.receive s piece in inr (refl, after-receive s (x .used) (x .result) (came piece))
+    meant-by Main.state n = inr (refl, keeps refl (omega arith) (inl refl))
 
     pub made-by : (m : MainMade) → restarts (m .call) (mainMeantMade s m .answer) ≡ false → RequestBy s (m .call) (mainMeantMade s m)
     unfolding mainMeantMade

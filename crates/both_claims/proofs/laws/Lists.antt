@@ -7,7 +7,7 @@ use mathlib.Core.List.{List, [], _∷_, _++_, map, append-assoc, map-append}
 use mathlib.Core.Option.{none, some}
 use mathlib.Core.Logic.{_⊎_, inl, inr}
 use Rattle.octets.specs.Bytes.{Each}
-use Rattle.both_claims.specs.Ends.{Any, Among, over, lost, came}
+use Rattle.both_claims.specs.Ends.{Any, InTurn, empty, past, read, Among, over, lost, came}
 
 pub none-some : {A : Type 0} {x : A} → none ≡ some x → ⊥
 none-some e = let z : _≡_ {A = ℕ} 0 1 = cc in omega arith
@@ -98,22 +98,72 @@ module _ {A : Type 0} (P Q R : A → Type 0) where
   each-any f (x ∷ xs) h (inl k) = inl (f x (h .0) k)
   each-any f (x ∷ xs) h (inr k) = inr (each-any f xs (h .1) k)
 
--- a list whose elements stand in another, in order: the other grows, or both do
-module _ {A : Type 0} where
-  among-more : {xs ys : List A} → Among A xs ys → (z : A) → Among A xs (ys ++ (z ∷ []))
-  among-more over z = lost over
-  among-more (lost a) z = lost (among-more a z)
-  among-more (came a) z = came (among-more a z)
+-- what follows from a property of all and one that an element has
+pub each-so : {A B : Type 0} (P Q : A → Type 0) → ((x : A) → P x → Q x → B) → (xs : List A) → Each P xs → Any Q xs → B
+each-so P Q f [] h k = absurd k
+each-so P Q f (x ∷ xs) h (inl k) = f x (h .0) k
+each-so P Q f (x ∷ xs) h (inr k) = each-so P Q f xs (h .1) k
 
-  among-both : {xs ys : List A} → Among A xs ys → (z : A) → Among A (xs ++ (z ∷ [])) (ys ++ (z ∷ []))
-  among-both over z = came over
-  among-both (lost a) z = lost (among-both a z)
-  among-both (came a) z = came (among-both a z)
+-- of the elements' images
+any-map : {A B : Type 0} (f : A → B) (b : B) (xs : List A) → Any (λ (y : B). y ≡ b) (map f xs) → Any (λ (x : A). f x ≡ b) xs
+any-map f b [] h = h
+any-map f b (x ∷ xs) (inl h) = inl h
+any-map f b (x ∷ xs) (inr h) = inr (any-map f b xs h)
+
+each-map : {A B : Type 0} (f : A → B) (P : B → Type 0) (xs : List A) → Each P (map f xs) → Each (λ (x : A). P (f x)) xs
+each-map f P [] h = tt
+each-map f P (x ∷ xs) h = (h .0, each-map f P xs (h .1))
+
+-- a list whose elements stand in another, in order
+module _ {A : Type 0} where
+  pub among-turn : {xs ys : List A} → Among A xs ys → InTurn A xs ys
+  among-turn over = empty
+  among-turn (lost a) = past (among-turn a)
+  among-turn (came a) = read (past (among-turn a))
+
+  pub turn-each : (P : A → Type 0) {xs ys : List A} → InTurn A xs ys → Each P ys → Each P xs
+  turn-each P empty h = tt
+  turn-each P (past a) h = turn-each P a (h .1)
+  turn-each P (read a) h = (h .0, turn-each P a h)
+
+-- each is the image of an element of the other
+pub turn-images : {A B C : Type 0} (f : A → C) (g : B → C) (xs : List A) (ys : List B) → InTurn C (map f xs) (map g ys)
+    → Each (λ (x : A). Any (λ (y : B). g y ≡ f x) ys) xs
+turn-images {A} {B} {C} f g xs ys a =
+    let In : C → Type 0 = λ c. Any (λ (z : C). z ≡ c) (map g ys) in
+    each-then (λ (x : A). In (f x)) _ (λ x h. any-map g (f x) ys h) xs (each-map f In xs (turn-each In a (each-in (map g ys))))
+
+-- in order, some lost
+module _ {A : Type 0} where
+  pub among-none : (ys : List A) → Among A [] ys
+  among-none [] = over
+  among-none (y ∷ ys) = lost (among-none ys)
+
+  pub among-same : (xs : List A) → Among A xs xs
+  among-same [] = over
+  among-same (x ∷ xs) = came (among-same xs)
+
+  -- the other grows, or both do
+  pub among-behind : {xs ys : List A} (zs : List A) → Among A xs ys → Among A xs (ys ++ zs)
+  among-behind zs over = among-none zs
+  among-behind zs (lost a) = lost (among-behind zs a)
+  among-behind zs (came a) = came (among-behind zs a)
+
+  pub among-among : {xs ys zs : List A} → Among A xs ys → Among A ys zs → Among A xs zs
+  among-among a over = a
+  among-among a (lost b) = lost (among-among a b)
+  among-among (lost a) (came b) = lost (among-among a b)
+  among-among (came a) (came b) = came (among-among a b)
+
+  pub among-append : {xs ys vs ws : List A} → Among A xs ys → Among A vs ws → Among A (xs ++ vs) (ys ++ ws)
+  among-append over b = b
+  among-append (lost a) b = lost (among-append a b)
+  among-append (came a) b = came (among-append a b)
 
 -- of the elements' images
 module _ {A B C : Type 0} (f : A → C) (g : B → C) (xs : List A) (ys : List B) (a : Among C (map f xs) (map g ys)) where
   pub more-among : (y : B) → Among C (map f xs) (map g (ys ++ (y ∷ [])))
-  more-among y = rw (map-append g ys) (among-more a (g y))
+  more-among y = rw (map-append g ys) (among-behind (g y ∷ []) a)
 
   pub both-among : (x : A) (y : B) → g y ≡ f x → Among C (map f (xs ++ (x ∷ []))) (map g (ys ++ (y ∷ [])))
-  both-among x y e = rw (map-append f xs, map-append g ys, e) (among-both a (f x))
+  both-among x y e = rw (map-append f xs, map-append g ys, e) (among-append a (among-same (f x ∷ [])))

@@ -1,35 +1,21 @@
--- A call of the main processor's end keeps what holds of both, and what it hands out was made by the
--- supervisor in carrying out the request outstanding.
+-- A call of the main processor's end keeps what holds of both.
 -- Assumes nothing.
 use mathlib.Core.Path.{_≡_, refl, sym, ap, _∙_}
-use mathlib.Core.Bool.{Bool, true, false, _&&_, false≢true, and-eq-true-iff}
+use mathlib.Core.Bool.{Bool, true, false, false≢true}
 use mathlib.Core.List.{List, [], _++_, append-nil}
-use mathlib.Core.Option.{Option, none, some}
 use Prim.Native.Nat.{ℕ}
-use native.Mathlib.Omega.{arith}
-use lib.Dec.{eqb}
 use lib.ListN.{length, take}
-use borrow.Author.Tests.{eqb-true}
 use Rattle.octets.specs.Bytes.{Each, Byte}
-use Rattle.octets.proofs.Conditions.{cond-by}
 use Rattle.octets.proofs.Each.{each-append, each-take}
-use Rattle.line.specs.Numbers.{status-length}
-use Rattle.line.specs.Message.{Message, InRange}
-use Rattle.line.specs.Frame.{frame, split, nonEmpty}
-use Rattle.line.specs.Judge.{good}
-use Rattle.line.proofs.Pieces.{split-join, closed-rest, closed-join, nonEmpty-append}
-use Rattle.line_claims.specs.Calls.{goodOf, goodMessages}
-use Rattle.line_claims.proofs.ReaderClaim.{gathered-append}
-use Rattle.requester.specs.State.{Request, RecoveryStep, fetch, acknowledge, alert, outstanding, outstandingOf, isSome, MainState}
+use Rattle.line.specs.Frame.{split}
+use Rattle.line.proofs.Pieces.{split-join}
+use Rattle.requester.specs.State.{Request, outstanding, MainState}
 use Rattle.requester.specs.State.{mainFresh}
 use Rattle.requester.specs.Requester
-use Rattle.requester.specs.Requester.{Heard, ground, other, answer, hear, settle}
-use Rattle.requester.specs.Calls.{handedReportOf}
+use Rattle.requester.specs.Requester.{answer}
 use Rattle.requester_claims.specs.Histories as Main
-use Rattle.requester_claims.specs.Histories.{mainMeant, mainMeantMade, mainEnough, MainAnswer, MainCall, MainMade, MainMeans, mainDoneMeans}
+use Rattle.requester_claims.specs.Histories.{mainMeant, mainMeantMade, mainEnough, MainAnswer, MainCall, MainMade, MainMeans}
 use Rattle.requester_claims.specs.Histories.{mainMeans, mainUntouched}
-use Rattle.requester_claims.specs.Answers.{Matching}
-use Rattle.requester_claims.proofs.AnswerBytes.{heard-matches}
 use Rattle.requester_claims.proofs.AnswerFrame.{request-keeps, interrupt-keeps, send-keeps, put-keeps}
 use Rattle.requester_claims.specs.Numbers.{Frame, isStart}
 use Rattle.requester_claims.proofs.Numbers.{framesOf, Goes, Agrees, agrees-goes, put-goes, joined, call-goes}
@@ -37,14 +23,11 @@ use Rattle.line.specs.Judge.{progressOf}
 use Rattle.supervisor_claims.proofs.laws.Progress.{rest-nonzero}
 use Rattle.requester_claims.specs.CameAs.{bytesReadBy, restarts}
 use Rattle.both_claims.specs.Ends
-use Rattle.both_claims.specs.Ends.{MainTyped, Wire, FreshBy, mainLogged, Any, Handled, Log, replyMade, Fresh}
-use Rattle.both_claims.specs.Ends.{FreshReport}
-use Rattle.both_claims.proofs.laws.Lists.{front-more, none-some, any-so, each-right, each-then, each-and, each-any}
-use Rattle.both_claims.proofs.laws.GoodFrames.{closed-nonzero, good-range}
-use Rattle.both_claims.proofs.laws.MainReads.{HeardFrom, Came, quiet, hearing, Reads, piece-reads}
+use Rattle.both_claims.specs.Ends.{MainTyped, mainLogged, Handled, Log}
+use Rattle.both_claims.proofs.laws.Lists.{front-more, none-some, each-then, each-and}
+use Rattle.both_claims.proofs.laws.MainReads.{Reads, piece-reads}
 use Rattle.both_claims.proofs.laws.Ranges.{Ranged, RangedFrame, fresh-ranged, made-ranged, reads-ranged}
-use Rattle.both_claims.proofs.laws.ThatRequest.{carried-out}
-use Rattle.both_claims.proofs.laws.Kept.{PutOut, Known, MadeTo, Kept}
+use Rattle.both_claims.proofs.laws.Kept.{PutOut, Known, Kept}
 
 -- a call that is refused reads nothing
 read-refused : (c : MainCall) → bytesReadBy c (Main.refused 12) ≡ []
@@ -53,6 +36,7 @@ read-refused (Main.request command d room) = refl
 read-refused Main.interrupt = refl
 read-refused (Main.send room) = refl
 read-refused (Main.receive piece) = refl
+read-refused Main.state = refl
 
 read-bytes : (c : MainCall) → MainTyped c → (a : MainAnswer) → Each Byte (bytesReadBy c a)
 read-bytes Main.start t a = tt
@@ -63,6 +47,8 @@ read-bytes (Main.receive piece) t (Main.refused n) = tt
 read-bytes (Main.receive piece) t Main.done = tt
 read-bytes (Main.receive piece) t (Main.put n) = tt
 read-bytes (Main.receive piece) t (Main.received used x e u) = each-take Byte used piece t
+read-bytes (Main.receive piece) t (Main.stands x) = tt
+read-bytes Main.state t a = tt
 
 start-is : (c : MainCall) → isStart c ≡ true → c ≡ Main.start
 start-is Main.start e = refl
@@ -70,70 +56,16 @@ start-is (Main.request command d room) e = absurd (false≢true e)
 start-is Main.interrupt e = absurd (false≢true e)
 start-is (Main.send room) e = absurd (false≢true e)
 start-is (Main.receive piece) e = absurd (false≢true e)
+start-is Main.state e = absurd (false≢true e)
 
 pub no-restart : (c : MainCall) → isStart c ≡ false → (a : MainAnswer) → restarts c a ≡ false
 no-restart c e (Main.refused n) = refl
 no-restart c e Main.done = e
 no-restart c e (Main.put n) = refl
 no-restart c e (Main.received used t x u) = refl
+no-restart c e (Main.stands x) = refl
 
 module _ (s : MainState) (l : Log) (kept : Kept s l) where
-  -- a message that was sent, and is heard as the answer
-  abbrev Sent : Message → Type 0
-  Sent r = Any (λ (y : Message). frame y ≡ frame r) (l .sent)
-
-  -- of the replies that were sent, one that has this frame
-  sent-made : (r : Message) → Sent r → Any (λ (y : Message). MadeTo (l .handled) y × (frame y ≡ frame r)) (l .sent)
-  sent-made r i = each-any (MadeTo (l .handled)) (λ (y : Message). frame y ≡ frame r) _ (λ y a b. (a, b)) (l .sent) (kept .sent) i
-
-  fresh-sent : (r : Message) → InRange r → hear (s .newest) (good r) ≡ answer r → Sent r → (q : Request) → outstanding s ≡ some q
-      → Fresh s l r
-  fresh-sent r range e i q w =
-      let match : Matching (s .newest) (r .version) (r .sequence) (r .command) = rw e at (heard-matches (s .newest) (good r)) in
-      record {
-        request = q;
-        waiting = w;
-        made = any-so (λ (y : Message). MadeTo (l .handled) y × (frame y ≡ frame r)) (λ y a.
-            each-any (Known s) (λ (h : Handled). replyMade h ≡ some y) _
-            (λ h k m. carried-out s (kept .ranged) q w r h k match range y (a .1) m) (l .handled) (kept .handled) (a .0))
-            (l .sent) (sent-made r i);
-      }
-
-  -- by what is outstanding
-  settled-fresh : (t : Option RecoveryStep) (k : Option Request) (r : Message) → s .recovery ≡ t
-      → ((q : Request) → outstandingOf t k ≡ some q → Fresh s l r)
-      → let o = settle t (isSome k) (answer r) in FreshReport s l (handedReportOf (o .handed)) (Main.handedData (o .handed))
-  unfolding settle handedReportOf Main.handedData Requester.fetched
-  settled-fresh none none r i f = tt
-  settled-fresh none (some q) r i f = (i, f q refl)
-  settled-fresh (some fetch) k r i f =
-      cond-by (λ (o : Requester.HeardOutcome). FreshReport s l (handedReportOf (o .handed)) (Main.handedData (o .handed)))
-      (eqb (r .command) 0x06 && eqb (length (r .payload)) status-length) _ _
-      (λ e. let b = and-eq-true-iff _ _ .0 e in (i, r, f _ refl, refl, refl, refl, eqb-true _ _ (b .0), eqb-true _ _ (b .1))) (λ _. tt)
-  settled-fresh (some acknowledge) k r i f = tt
-  settled-fresh (some alert) k r i f = (i, f _ refl)
-
-  -- nothing is handed out
-  silent : (t : Option RecoveryStep) (k : Bool) (h : Heard) → HeardFrom 0 [] h
-      → let o = settle t k h in FreshReport s l (handedReportOf (o .handed)) (Main.handedData (o .handed))
-  unfolding settle handedReportOf
-  silent t k (answer m) f = let z : _≡_ {A = ℕ} 0 1 = (let e = f .1 in cc) in absurd (omega arith)
-  silent none false ground f = tt
-  silent none true ground f = tt
-  silent (some t) k ground f = tt
-  silent none false other f = tt
-  silent none true other f = tt
-  silent (some t) k other f = tt
-
-  came-fresh : (ms : List Message) (x : Requester.MainResult) → Came s ms x → Each InRange ms → Each Sent ms
-      → FreshReport s l (handedReportOf (x .handed)) (Main.handedData (x .handed))
-  unfolding handedReportOf
-  came-fresh ms x (quiet bs e) g i = rw e tt
-  came-fresh ms x (hearing bs ground e f) g i = rw e (silent (s .recovery) (isSome (s .kept)) ground tt)
-  came-fresh ms x (hearing bs other e f) g i = rw e (silent (s .recovery) (isSome (s .kept)) other tt)
-  came-fresh ms x (hearing bs (answer r) e f) g i =
-      rw e (settled-fresh (s .recovery) (s .kept) r refl (fresh-sent r ((rw (f .1) at g) .0) (f .0) ((rw (f .1) at i) .0)))
-
   -- ---- a call of the main processor's end
 
   abbrev tail : List ℕ
@@ -156,6 +88,7 @@ module _ (s : MainState) (l : Log) (kept : Kept s l) where
       ap (λ (x : MainState). x .received) (put-keeps s (Requester.sentOf (length room) (outstanding s) s) room)
       ∙ send-keeps s (length room) (outstanding s) ∙ rw append-nil (kept .progress)
   call-progress (Main.receive piece) h = rw (split-join (l .read) (take (Requester.receive s piece .used) piece)) (reads-of piece .progress)
+  call-progress Main.state h = rw append-nil (kept .progress)
 
   -- ---- the state that it leaves
 
@@ -195,7 +128,6 @@ module _ (s : MainState) (l : Log) (kept : Kept s l) where
               record {
                 nonzero = k .nonzero;
                 asked = each-then (PutOut s) _ still (h .asked) (k .asked);
-                put-out = k .put-out;
                 reply = k .reply;
               }) (l .handled) (kept .handled);
           pending = kept .pending;
@@ -246,62 +178,3 @@ module _ (s : MainState) (l : Log) (kept : Kept s l) where
         by true false e i =
             goes-kept (call-goes s m (λ f. absurd (false≢true (sym i ∙ f)))) (rw (whole e) (call-progress (m .call) i))
             (no-restart (m .call) i (does .answer))
-
-  -- ---- what it hands out
-
-  put-fresh : (room : List ℕ) (x : Requester.MainDone)
-      → let y = Main.putMeans (x .refusal) room (x .out) (x .state) in FreshBy s l (y .answer) (y .out)
-  put-fresh room x = by (x .refusal)
-    where
-      by : (k : Option ℕ) → let y = Main.putMeans k room (x .out) (x .state) in FreshBy s l (y .answer) (y .out)
-      by none = tt
-      by (some k) = tt
-
-  done-fresh : (k : Option ℕ) (t : MainState) → let y = mainDoneMeans k t in FreshBy s l (y .answer) (y .out)
-  done-fresh none t = tt
-  done-fresh (some k) t = tt
-
-  -- the messages that it reads were sent
-  call-fresh : (c : MainCall) → MainTyped c
-      → Each Sent (goodMessages (nonEmpty (split (tail ++ bytesReadBy c (mainMeant s c .answer)) .closed)))
-      → FreshBy s l (mainMeant s c .answer) (mainMeant s c .out)
-  unfolding mainMeant
-  call-fresh Main.start t i = tt
-  call-fresh (Main.request command d room) t i =
-      put-fresh room (Requester.request (length room) (record { command = command; payload = d }) s)
-  call-fresh Main.interrupt t i = done-fresh (Requester.interrupt s .refusal) (Requester.interrupt s .state)
-  call-fresh (Main.send room) t i = put-fresh room (Requester.send (length room) s)
-  call-fresh (Main.receive piece) t i =
-      let bs = take (Requester.receive s piece .used) piece in
-      came-fresh _ (Requester.receive s piece .result) (reads-of piece .came)
-      (good-range _ (closed-nonzero (l .read) bs (kept .read) (each-take Byte (Requester.receive s piece .used) piece t))) i
-
-  module _ (m : MainMade) (typed : MainTyped (m .call)) where
-    -- of all good messages that were read, those that this call reads
-    last-read : (a : MainAnswer) (out : List ℕ) (n : ℕ) → restarts (m .call) a ≡ false → Wire (mainLogged l (m .call) a out n)
-        → Each Sent (goodMessages (nonEmpty (split (tail ++ bytesReadBy (m .call) a) .closed)))
-    unfolding mainLogged
-    last-read a out n r w =
-        let bs = bytesReadBy (m .call) a in
-        let x : Each Sent (goodMessages (nonEmpty (split (l .read ++ bs) .closed))) = (rw r at w) .to-main in
-        let fs = split (l .read) .closed in
-        let e : goodMessages (nonEmpty (split (l .read ++ bs) .closed))
-        ≡ goodMessages (nonEmpty fs) ++ goodMessages (nonEmpty (split (tail ++ bs) .closed)) =
-        rw (closed-join (l .read) bs, closed-rest (l .read) bs, nonEmpty-append fs _, gathered-append goodOf (nonEmpty fs) _) in
-        each-right Sent (goodMessages (nonEmpty fs)) _ (rw e at x)
-
-    pub main-fresh : let x = mainMeantMade s m in
-        Wire (mainLogged l (m .call) (x .answer) (x .out) (x .state .newest)) → FreshBy s l (x .answer) (x .out)
-    unfolding mainMeantMade mainMeant
-    main-fresh w = by (mainEnough (m .call) (m .lent)) refl
-      where
-        by : (t : Bool) → mainEnough (m .call) (m .lent) ≡ t → let x = mainMeantMade s m in FreshBy s l (x .answer) (x .out)
-        by false e = rw e tt
-        by true e = rw e (by-start (isStart (m .call)) refl (rw e at w))
-          where
-            by-start : (u : Bool) → isStart (m .call) ≡ u → let x = mainMeant s (m .call) in
-                Wire (mainLogged l (m .call) (x .answer) (x .out) (x .state .newest)) → FreshBy s l (x .answer) (x .out)
-            by-start true i v = rw (start-is (m .call) i) tt
-            by-start false i v =
-                let x = mainMeant s (m .call) in
-                call-fresh (m .call) typed (last-read (x .answer) (x .out) (x .state .newest) (no-restart (m .call) i (x .answer)) v)

@@ -31,7 +31,7 @@ use Rattle.responder.specs.Requests.{verdict, replyOf}
 use Rattle.supervisor_claims.specs.View.{view}
 use Rattle.supervisor_claims.specs.Sound.{Sound}
 use Rattle.supervisor_claims.specs.Histories as Supervisor
-use Rattle.supervisor_claims.specs.LastSet.{recordsRestored}
+use Rattle.supervisor_claims.specs.LastSet.{acceptsRestore, recordsRestored}
 use Rattle.supervisor_claims.specs.FrameHistory as Received
 use Rattle.supervisor_claims.specs.FrameHistory.{framesCarried}
 use Rattle.line.specs.Judge.{progressOf}
@@ -43,12 +43,12 @@ use Rattle.supervisor_claims.specs.Replies.{replyBy, takenBytes}
 use Rattle.supervisor_claims.proofs.claims.LastSetLaws.{frames-owed}
 use Rattle.supervisor_claims.proofs.laws.TakenAll.{Quiet, larger-room, after-all, frame-last}
 use Rattle.both_claims.specs.Ends
-use Rattle.both_claims.specs.Ends.{GoesOn, acceptsRestore, got, over, InOrderAfter, replyMessage, newestReply, brought, asMessage}
+use Rattle.both_claims.specs.Ends.{GoesOn, got, over, InOrderAfter, replyMessage, newestReply, brought, asMessage}
 use Rattle.both_claims.specs.Ends.{endsAfter, endsAfterAll, Always, EndCallTyped}
-use Rattle.both_claims.proofs.RoundTrip.{Waiting, next-number, waiting, replied-stays, reply-heard, whole-heard, delivered-parts}
-use Rattle.both_claims.proofs.RoundTrip.{reply-waits, reply-taken}
+use Rattle.both_claims.proofs.laws.FrameHeard.{answers-kept}
+use Rattle.both_claims.proofs.RoundTrip.{Waiting, next-number, asked-calm, waiting, replied-stays, reply-heard, whole-heard}
+use Rattle.both_claims.proofs.RoundTrip.{delivered-parts, reply-waits, reply-taken}
 use Rattle.both_claims.specs.RoundTrip.{Delivery, Taking, allReceived}
-use Rattle.both_claims.proofs.FreshAnswer.{in-order-wire}
 use Rattle.both_claims.proofs.laws.Lists.{none-some, more-among, both-among}
 use Rattle.both_claims.proofs.laws.Table.{frame-some}
 use Rattle.both_claims.proofs.laws.MainCalls.{no-restart}
@@ -80,12 +80,10 @@ tail-none bs e = by (ltb longest-form (length bs)) refl
     by true k = absurd (none-some (sym (tail-over bs (ltb-true _ _ k)) ∙ e))
     by false k = let f : some bs ≡ some [] = sym (tail-within bs (ltb-false _ _ k)) ∙ e in cc
 
-both-after : (e : Ends.Ends) → Both e → (ts : List Ends.EndCall) → Each EndCallTyped ts → Always InOrderAfter e ts
-    → Both (endsAfterAll e ts)
+both-after : (e : Ends.Ends) → Both e → (ts : List Ends.EndCall) → Each EndCallTyped ts → Both (endsAfterAll e ts)
 unfolding endsAfterAll
-both-after e both [] typed o = both
-both-after e both (t ∷ ts) typed o =
-    both-after (endsAfter e t) (keeps-both e both t (typed .0) (in-order-wire _ (o .0))) ts (typed .1) (o .1)
+both-after e both [] typed = both
+both-after e both (t ∷ ts) typed = both-after (endsAfter e t) (keeps-both e both t (typed .0)) ts (typed .1)
 
 module _ (e : Ends.Ends) (rest : AtRest e) (x : Exchange e) where
   abbrev q : Request
@@ -277,8 +275,11 @@ module _ (e : Ends.Ends) (rest : AtRest e) (x : Exchange e) where
   answered =
       let w = waits-for in
       let enough : mainEnough (Main.receive (replyBytesTaken x)) (x .reply-lent) ≡ true = rw taken-whole (x .reply-enough) in
-      let f = reply-heard (asks .parts) (w .valid) q (w .kept) (w .calm) (w .between) r (answers .0) (x .first) (answers .1) (answers .2) in
-      let h = ap (Requester.receive (mainView (asks .parts))) taken-whole ∙ f in
+      let f = reply-heard (asks .parts) (w .valid) (w .between) r (answers .0) (x .first) (answers .1) (answers .2) in
+      let calm =
+      asked-calm (e .main) (rest .both .main) (x .request-lent) (q .command) (q .payload) (x .room) (x .count) (x .put) in
+      let z = answers-kept (mainView (asks .parts)) q r calm (w .waits) (w .between) in
+      let h = ap (Requester.receive (mainView (asks .parts))) taken-whole ∙ f ∙ ap (Requester.mainReceived (length (frame r))) z in
       let k = MainHistory.one-call (asks .parts) (exchangeAnswer x) (w .valid) in
       record { answer = rw (enough, h) at (k .answer); out = rw (enough, h) at (k .out); state = rw (enough, h) at (k .state) }
 
@@ -322,7 +323,7 @@ module _ (e : Ends.Ends) (rest : AtRest e) (x : Exchange e) where
   pub exchange-rest : AtRest (endsAfterAll e (exchangeCalls x))
   unfolding endsAfterAll endsAfter
   exchange-rest = record {
-    both = both-after e (rest .both) (exchangeCalls x) exchange-typed exchange-in-order;
+    both = both-after e (rest .both) (exchangeCalls x) exchange-typed;
     idle = rw (answered .state);
     between = ap (λ (s : State). s .received) all-taken;
     whole = rw (fourth-log .receives) (rest-whole (e .log .received) (rest .whole) m);

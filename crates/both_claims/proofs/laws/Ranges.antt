@@ -47,7 +47,7 @@ ranged-message n q h r = record {
   fits = r .fits;
 }
 
-step-ranged : (t : RecoveryStep) → RangedRequest (stepRequest t)
+pub step-ranged : (t : RecoveryStep) → RangedRequest (stepRequest t)
 unfolding stepRequest
 step-ranged fetch = record { command = omega arith; bytes = tt; fits = omega arith }
 step-ranged acknowledge = record { command = omega arith; bytes = tt; fits = omega arith }
@@ -147,6 +147,7 @@ module _ (s : MainState) (r : Ranged s) where
   meant-ranged Main.interrupt h i = interrupt-ranged (s .recovery)
   meant-ranged (Main.send room) h i = send-ranged room (outstanding s) refl
   meant-ranged (Main.receive piece) h i = (i piece, tt)
+  meant-ranged Main.state h i = (r, tt)
 
   pub made-ranged : (m : MainMade) → MainTyped (m .call) → ((piece : List ℕ) → Ranged (Requester.receive s piece .result .state))
       → Ranged (mainMeantMade s m .state) × Each RangedFrame (framesOf (mainMeantMade s m))

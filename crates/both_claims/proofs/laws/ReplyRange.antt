@@ -1,6 +1,6 @@
 -- The reply to a request that passes the whole table is in range, and is no decode failure.
 -- Assumes nothing.
-use mathlib.Core.Path.{_≡_, refl}
+use mathlib.Core.Path.{_≡_, refl, sym, subst}
 use mathlib.Core.List.{List}
 use mathlib.Core.Logic.{_⊎_, inl, inr}
 use mathlib.Core.Option.{Option, none, some}
@@ -14,7 +14,8 @@ use Rattle.line.specs.Frame.{frame}
 use Rattle.supervisor.specs.Number.{topSet}
 use Rattle.supervisor.specs.State.{Retained, State}
 use Rattle.supervisor.specs.Calls.{Parts}
-use Rattle.responder.specs.Commands.{Command, commandOfNumber}
+use Rattle.responder.specs.Commands.{Command, commandNumber, commandOfNumber}
+use Rattle.responder.proofs.CommandLaws.{number-is}
 use Rattle.responder.specs.Requests
 use Rattle.responder.specs.Requests.{Carried, carryOut, carryOutBy, effect, replyOf, replyFrame}
 use Rattle.supervisor_claims.specs.View.{view}
@@ -29,43 +30,46 @@ use Rattle.both_claims.proofs.laws.Lists.{none-some}
 abbrev pub Versioned : State → Message → ℕ → Type 0
 Versioned s m version = (version ≡ m .version) ⊎ ((t : Retained) × (s .retained ≡ some t) × (version ≡ t .version))
 
--- its command is a byte, and not that of a decode failure
-abbrev AnswerRange : State → Message → Option Requests.ReplyContent → Type 0
-AnswerRange s m none = Unit {0}
-AnswerRange s m (some r) = (r .command < 256) × (r .command ≡ 0x02 → ⊥) × Versioned s m (r .version)
+-- its command is a byte, not that of a decode failure, and that of an alert only in reply to an alert request; c is the request's command
+abbrev AnswerRange : State → Message → ℕ → Option Requests.ReplyContent → Type 0
+AnswerRange s m c none = Unit {0}
+AnswerRange s m c (some r) =
+    (r .command < 256) × (r .command ≡ 0x02 → ⊥) × (r .command ≡ 0x07 → c ≡ 0x0a) × Versioned s m (r .version)
 
 module _ (image : List ℕ) (s : State) (m : Message) where
-  alert-range : (r : Option Retained) → s .retained ≡ r → AnswerRange s m (Requests.alertAsked (m .version) s (m .sequence) r .reply)
+  alert-range : (r : Option Retained) → s .retained ≡ r → AnswerRange s m 0x0a (Requests.alertAsked (m .version) s (m .sequence) r .reply)
   unfolding Requests.alertAsked Requests.alertTaken
-  alert-range none f = (omega arith, λ e. omega (arith, e), inl refl)
+  alert-range none f = (omega arith, λ e. omega (arith, e), λ e. refl, inl refl)
   alert-range (some r) f =
-      cond-by (λ (x : Carried). AnswerRange s m (x .reply)) (eqb (r .sequence) (m .sequence)) _ _
-      (λ _. (omega arith, λ e. omega (arith, e), inr (r, f, refl))) (λ _. (omega arith, λ e. omega (arith, e), inl refl))
+      cond-by (λ (x : Carried). AnswerRange s m 0x0a (x .reply)) (eqb (r .sequence) (m .sequence)) _ _
+      (λ _. (omega arith, λ e. omega (arith, e), λ e. refl, inr (r, f, refl)))
+      (λ _. (omega arith, λ e. omega (arith, e), λ e. refl, inl refl))
 
-  effect-range : (x : Command) → AnswerRange s m (effect x image s m .reply)
-  unfolding effect Requests.reboot Requests.powerOff Requests.bootFailure Requests.panicked Requests.startAcknowledged Requests.keySet
+  effect-range : (x : Command) → AnswerRange s m (commandNumber x) (effect x image s m .reply)
+  unfolding effect commandNumber Requests.reboot Requests.powerOff Requests.bootFailure Requests.panicked Requests.startAcknowledged
+      Requests.keySet
   effect-range Command.reboot = tt
   effect-range Command.power-off = tt
-  effect-range Command.bsu = (omega arith, λ e. omega (arith, e), inl refl)
-  effect-range Command.identity = (omega arith, λ e. omega (arith, e), inl refl)
-  effect-range Command.mac = (omega arith, λ e. omega (arith, e), inl refl)
+  effect-range Command.bsu = (omega arith, λ e. omega (arith, e), λ e. absurd (omega (arith, e)), inl refl)
+  effect-range Command.identity = (omega arith, λ e. omega (arith, e), λ e. absurd (omega (arith, e)), inl refl)
+  effect-range Command.mac = (omega arith, λ e. omega (arith, e), λ e. absurd (omega (arith, e)), inl refl)
   effect-range Command.boot-failure = tt
-  effect-range Command.panic = (omega arith, λ e. omega (arith, e), inl refl)
-  effect-range Command.status = (omega arith, λ e. omega (arith, e), inl refl)
-  effect-range Command.start-acknowledged = (omega arith, λ e. omega (arith, e), inl refl)
+  effect-range Command.panic = (omega arith, λ e. omega (arith, e), λ e. absurd (omega (arith, e)), inl refl)
+  effect-range Command.status = (omega arith, λ e. omega (arith, e), λ e. absurd (omega (arith, e)), inl refl)
+  effect-range Command.start-acknowledged = (omega arith, λ e. omega (arith, e), λ e. absurd (omega (arith, e)), inl refl)
   effect-range Command.alert = alert-range (s .retained) refl
-  effect-range Command.image-block = (omega arith, λ e. omega (arith, e), inl refl)
-  effect-range Command.key-lookup = (omega arith, λ e. omega (arith, e), inl refl)
-  effect-range Command.inventory = (omega arith, λ e. omega (arith, e), inl refl)
-  effect-range Command.key-set = (omega arith, λ e. omega (arith, e), inl refl)
+  effect-range Command.image-block = (omega arith, λ e. omega (arith, e), λ e. absurd (omega (arith, e)), inl refl)
+  effect-range Command.key-lookup = (omega arith, λ e. omega (arith, e), λ e. absurd (omega (arith, e)), inl refl)
+  effect-range Command.inventory = (omega arith, λ e. omega (arith, e), λ e. absurd (omega (arith, e)), inl refl)
+  effect-range Command.key-set = (omega arith, λ e. omega (arith, e), λ e. absurd (omega (arith, e)), inl refl)
 
-  carried-range : AnswerRange s m (carryOut image s m .reply)
+  carried-range : AnswerRange s m (m .command) (carryOut image s m .reply)
   unfolding carryOut
-  carried-range = by (commandOfNumber (m .command))
+  carried-range = by (commandOfNumber (m .command)) refl
     where
-      by : (o : Option Command) → AnswerRange s m (carryOutBy o image s m .reply)
-      by none = tt
-      by (some x) = effect-range x
+      by : (o : Option Command) → commandOfNumber (m .command) ≡ o → AnswerRange s m (m .command) (carryOutBy o image s m .reply)
+      by none e = tt
+      by (some x) e = subst (λ c. AnswerRange s m c (effect x image s m .reply)) (sym (number-is (m .command) e)) (effect-range x)
 
 carried-sendable : (p : Parts) → Sound p → (image : List ℕ) → Each Byte image → (m : Message) → Requestable m
     → SendableReply (carryOut image (view p) m .reply)
@@ -82,18 +86,19 @@ pub record ReplyOf (image : List ℕ) (s : State) (m r : Message) : Type 0 where
   pub sequence : r .sequence ≡ topSet (m .sequence)
   pub command : r .command < 256
   pub no-failure : r .command ≡ 0x02 → ⊥
+  pub alert : r .command ≡ 0x07 → m .command ≡ 0x0a
   pub framed : replyFrame (replyOf (m .sequence) (carryOut image s m .reply)) ≡ frame r
 
 pub reply-of : (image : List ℕ) (s : State) (m r : Message) → replyToRequest image s m ≡ some r → ReplyOf image s m r
 unfolding replyOf replyFrame
 reply-of image s m r e = by (carryOut image s m .reply) refl (carried-range image s m) e
   where
-    by : (o : Option Requests.ReplyContent) → carryOut image s m .reply ≡ o → AnswerRange s m o
+    by : (o : Option Requests.ReplyContent) → carryOut image s m .reply ≡ o → AnswerRange s m (m .command) o
         → replyMessage (replyOf (m .sequence) o) ≡ some r → ReplyOf image s m r
     by none f t g = absurd (none-some g)
     by (some z) f t g =
         let y : record { version = z .version; sequence = topSet (m .sequence); command = z .command; payload = z .payload } ≡ r = cc in
-        rw (← y) (record { version = t .2; sequence = refl; command = t .0; no-failure = t .1; framed = rw f })
+        rw (← y) (record { version = t .3; sequence = refl; command = t .0; no-failure = t .1; alert = t .2; framed = rw f })
 
 -- its data can be sent
 pub reply-sendable : (p : Parts) → Sound p → (image : List ℕ) → Each Byte image → (m : Message) → Requestable m → (r : Message)

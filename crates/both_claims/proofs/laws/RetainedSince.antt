@@ -16,7 +16,7 @@ use Rattle.supervisor.specs.State.{Alert, Retained, State}
 use Rattle.responder.specs.Commands.{commandNumber, withNumber, commandOfNumber}
 use Rattle.responder.specs.Requests
 use Rattle.responder.specs.Requests.{Verdict, failure, good, ReplyContent, Carried, verdict, carryOut, effect, afterVerdict, sent, oldest}
-use Rattle.responder.specs.Requests.{alertData}
+use Rattle.responder.specs.Requests.{alertData, others}
 use Rattle.supervisor_claims.specs.FrameHistory.{frameCarried, framesCarried}
 use Rattle.supervisor_claims.specs.LastSet.{Origin}
 use Rattle.supervisor_claims.proofs.claims.RetainedClaim.{retained-stays, reboot-forgets, power-off-forgets}
@@ -51,17 +51,19 @@ module _ (image : List ℕ) (s : State) (m : Message) (alert : m .command ≡ 0x
 
   pub sends-again : (t : Retained) → s .retained ≡ some t → t .sequence ≡ m .sequence
       → (carryOut image s m .state .retained ≡ s .retained) × (carryOut image s m .reply ≡ some (alertAnswer (t .version) (t .alert)))
+      × (carryOut image s m .state .waiting ≡ s .waiting)
   sends-again t e f =
       let c = carried-alert ∙ ap (Requests.alertAsked (m .version) s (m .sequence)) e ∙ asked-again (m .version) s (m .sequence) t f in
-      (ap (λ (x : Carried). x .state .retained) c, ap (λ (x : Carried). x .reply) c)
+      (ap (λ (x : Carried). x .state .retained) c, ap (λ (x : Carried). x .reply) c, ap (λ (x : Carried). x .state .waiting) c)
 
   pub takes-alert : retainedUnder (m .sequence) (s .retained) ≡ false
       → (carryOut image s m .state .retained ≡ some (record { version = m .version; sequence = m .sequence; alert = oldest (s .waiting) }))
       × (carryOut image s m .reply ≡ some (alertAnswer (m .version) (oldest (s .waiting))))
+      × (carryOut image s m .state .waiting ≡ others (s .waiting))
   unfolding Requests.alertTaken
   takes-alert e =
       let c = carried-alert ∙ asked-anew (m .version) s (m .sequence) (s .retained) e in
-      (ap (λ (x : Carried). x .state .retained) c, ap (λ (x : Carried). x .reply) c)
+      (ap (λ (x : Carried). x .state .retained) c, ap (λ (x : Carried). x .reply) c, ap (λ (x : Carried). x .state .waiting) c)
 
 -- ---- the retained reply
 

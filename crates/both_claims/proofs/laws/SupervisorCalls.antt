@@ -11,10 +11,8 @@ use Rattle.octets.specs.Bytes.{Each, Byte}
 use Rattle.octets.proofs.Conditions.{cond-by}
 use Rattle.octets.proofs.Each.{each-append, each-take}
 use Rattle.line.specs.Message.{Message, InRange}
-use Rattle.line.specs.Frame.{frame, NonZero}
-use Rattle.line.specs.Judge.{LineVerdict, failure, good, judge}
-use Rattle.line_claims.specs.Calls.{gathered, goodOf, goodMessages}
-use Rattle.line.proofs.Judged.{never}
+use Rattle.line.specs.Frame.{NonZero}
+use Rattle.line_claims.specs.Calls.{goodMessages}
 use Rattle.requester.specs.State.{MainState}
 use Rattle.requester_claims.specs.Numbers.{Frame}
 use Rattle.supervisor.specs.State.{State}
@@ -22,10 +20,10 @@ use Rattle.supervisor_claims.specs.Histories as Supervisor
 use Rattle.supervisor_claims.specs.FrameHistory as Received
 use Rattle.supervisor_claims.specs.FrameHistory.{frameCarried}
 use Rattle.supervisor_claims.specs.LastSet.{Origin}
-use Rattle.both_claims.specs.Ends.{Wire, imageLent, originBy, handledBy, newestReply, stillPending, takenBy, drops, brought}
+use Rattle.both_claims.specs.Ends.{imageLent, originBy, handledBy, newestReply, stillPending, takenBy, drops, brought}
 use Rattle.both_claims.specs.Ends.{supervisorLogged}
-use Rattle.both_claims.specs.Ends.{Any, Handled, Log, replyMade}
-use Rattle.both_claims.proofs.laws.Lists.{Front, none-some, any-left, any-right, each-right, each-then}
+use Rattle.both_claims.specs.Ends.{Handled, Log, replyMade}
+use Rattle.both_claims.proofs.laws.Lists.{Front, none-some, any-left, any-right, each-then}
 use Rattle.both_claims.proofs.laws.GoodFrames.{frames-nonzero, good-range}
 use Rattle.both_claims.proofs.laws.Held.{Held, held-frame, reply-in-range}
 use Rattle.both_claims.proofs.laws.Kept.{PutOut, Known, MadeTo, Kept}
@@ -55,28 +53,16 @@ unfolding Received.receivedSince
 joined-bytes w m h t =
     cond-by (Each Byte) (Received.startsAnew m) _ _ (λ _. tt) (λ _. each-append Byte w (Received.bytesReceivedBy m) h (made-bytes m t))
 
--- the first of frames, and the others
-pub good-first : (P : Message → Type 0) (f : List ℕ) (ms : List Message) → Each P (goodOf (judge f) ++ ms)
-    → ((m : Message) → judge f ≡ good m → P m) × Each P ms
-good-first P f ms h = by (judge f) h
-  where
-    by : (v : LineVerdict) → Each P (goodOf v ++ ms) → ((m : Message) → v ≡ good m → P m) × Each P ms
-    by (failure reason sequence) h = (λ m e. never e, h)
-    by (good k) h = (λ m e. let z : k ≡ m = cc in rw (← z) (h .0), h .1)
-
 module _ (s : MainState) (asked : List Frame) (put-out : Each (PutOut s) asked) (image : List ℕ) (each : Each Byte image) where
   handled-known : (fs : List (List ℕ)) (cleared : Bool) (x : State) (o : ℕ → Origin) (earlier : List (List ℕ)) → Held x
-      → Each (Each NonZero) fs
-      → Each (λ (m : Message). Any (λ (y : Frame). y .bytes ≡ frame m) asked) (goodMessages fs)
-      → Each (Known s) (handledBy asked image cleared x o earlier fs)
-  unfolding handledBy gathered
-  handled-known [] cleared x o earlier held n h = tt
-  handled-known (f ∷ fs) cleared x o earlier held n h =
-      let g = good-first _ f (goodMessages fs) h in (
-        record { nonzero = n .0; asked = put-out; put-out = g .0; reply = reply-in-range image each x f (n .0) held },
-        handled-known fs (cleared || drops f) (frameCarried image x f) (originBy o f) (earlier ++ (f ∷ []))
-            (held-frame image each x f (n .0) held) (n .1) (g .1),
-      )
+      → Each (Each NonZero) fs → Each (Known s) (handledBy asked image cleared x o earlier fs)
+  unfolding handledBy
+  handled-known [] cleared x o earlier held n = tt
+  handled-known (f ∷ fs) cleared x o earlier held n = (
+    record { nonzero = n .0; asked = put-out; reply = reply-in-range image each x f (n .0) held },
+    handled-known fs (cleared || drops f) (frameCarried image x f) (originBy o f) (earlier ++ (f ∷ []))
+        (held-frame image each x f (n .0) held) (n .1),
+  )
 
 handled-front : (asked : List Frame) (image : List ℕ) (fs : List (List ℕ)) (cleared : Bool) (x : State) (o : ℕ → Origin)
     (earlier : List (List ℕ))
@@ -118,9 +104,9 @@ module _ (s : MainState) (l : Log) (kept : Kept s l) (x : State) (held : Held x)
   pending-made (b ∷ (c ∷ bs)) none h = (h, tt)
   pending-made (b ∷ (c ∷ bs)) (some r) h = (h, tt)
 
-  pub supervisor-kept : Wire (supervisorLogged l x m waiting) → Kept s (supervisorLogged l x m waiting)
+  pub supervisor-kept : Kept s (supervisorLogged l x m waiting)
   unfolding supervisorLogged brought
-  supervisor-kept w =
+  supervisor-kept =
       let p = pending-made waiting newest reply-made in
       let fs = Received.framesClosedBy (l .received) (Received.bytesReceivedBy m) in
       let nonzero = frames-nonzero (l .received) (Received.bytesReceivedBy m) (kept .bytes) (made-bytes m typed) in
@@ -134,8 +120,8 @@ module _ (s : MainState) (l : Log) (kept : Kept s l) (x : State) (held : Held x)
         heard = each-append InRange (l .heard) (goodMessages fs) (kept .heard) (good-range fs nonzero);
         before = each-append _ (l .handled) _ (kept .before) (handled-front (l .asked) (imageLent (m .call)) fs (l .cleared) x _ _);
         handled = each-append (Known s) (l .handled) _ (kept .handled)
-            (handled-known s (l .asked) (kept .asked) (imageLent (m .call)) (image-bytes (m .call) typed) fs (l .cleared) x _ _ held nonzero
-            (each-right _ (l .heard) (goodMessages fs) (w .to-supervisor)));
+            (handled-known s (l .asked) (kept .asked) (imageLent (m .call)) (image-bytes (m .call) typed) fs (l .cleared) x _ _ held
+            nonzero);
         pending = p .0;
         sent = each-append (MadeTo (l .handled ++ hs)) (l .sent) _
             (each-then (MadeTo (l .handled)) _ (λ r a. any-left _ (l .handled) hs a) (l .sent) (kept .sent)) (p .1);

@@ -2,12 +2,9 @@
 -- Assumes nothing.
 use mathlib.Core.Path.{_≡_, refl, sym, _∙_}
 use mathlib.Core.Bool.{Bool, true, false, cond, not, false≢true, and-eq-true-iff}
-use mathlib.Core.List.{List, [], append-nil}
+use mathlib.Core.List.{List, []}
 use mathlib.Core.Option.{Option}
 use Prim.Native.Nat.{ℕ}
-use native.Mathlib.Omega.{arith}
-use lib.ListN.{length, drop-of-length-le}
-use Rattle.line.specs.Frame.{split, nonEmpty, closedBehind}
 use Rattle.supervisor.specs.State.{Factory, State, fresh, withReceived}
 use Rattle.supervisor.specs.Local
 use Rattle.supervisor_claims.specs.View.{factoryOf}
@@ -15,12 +12,8 @@ use Rattle.supervisor_claims.specs.Histories
 use Rattle.supervisor_claims.specs.Histories.{LocalCall, Call, Made, doneMeans, meant, enough}
 use Rattle.supervisor_claims.specs.FrameHistory.{pieceRead, isAcceptedStart, bytesReceivedBy, startsAnew, framesClosedBy, framesCarried}
 use Rattle.supervisor_claims.specs.FrameHistory.{carriedOut, carriedCall, carriedMade}
+pub use Rattle.supervisor_claims.proofs.claims.StaysLaws.{frames-none}
 use Rattle.both_claims.specs.Ends.{imageLent}
-
--- no bytes bring no frames
-pub frames-none : (w : List ℕ) → framesClosedBy w [] ≡ []
-unfolding framesClosedBy closedBehind nonEmpty
-frames-none w = rw (append-nil, drop-of-length-le (split w .closed) {i = length (split w .closed)} (omega arith))
 
 -- a local call leaves this field
 abbrev pub LocallyKept : {A : Type 0} → (State → A) → State → Call → Type 0

@@ -12,11 +12,11 @@ use Rattle.requester.specs.State.{Request, outstanding, requestFrame, MainState
 use Rattle.requester_claims.specs.Answers.{Matching}
 use Rattle.requester_claims.specs.Numbers.{Frame}
 use Rattle.responder.specs.Requests.{good, verdict}
-use Rattle.both_claims.specs.Ends.{replyToRequest, Any, Handled, replyMade, CarriedOut, asMessage}
+use Rattle.both_claims.specs.Ends.{replyToRequest, Any, Handled, replyMade, RequestUnder, CarriedOut, asMessage}
 use Rattle.both_claims.proofs.laws.Lists.{any-so, any-then, each-any}
 use Rattle.both_claims.proofs.laws.Ranges.{Ranged, outstanding-ranged, ranged-message}
 use Rattle.both_claims.proofs.laws.Table.{frame-same, command-same, passes, replied, number-back}
-use Rattle.both_claims.proofs.laws.Kept.{PutOut, Known}
+use Rattle.both_claims.proofs.laws.Kept.{PutOut, Known, HandledFromMain}
 
 module _ (s : MainState) (ranged : Ranged s) (q : Request) (waiting : outstanding s ≡ some q) where
   -- the frame of a message in range that was put out under the newest number is that of the request outstanding
@@ -47,7 +47,7 @@ module _ (s : MainState) (ranged : Ranged s) (q : Request) (waiting : outstandin
       }
 
   -- a message under the newest number that passes the whole table
-  module _ (r : Message) (h : Handled) (k : Known s h) where
+  module _ (r : Message) (h : Handled) (k : Known s h) (from : HandledFromMain (RequestUnder (s .newest)) h) where
     pub answered : (m : Message) → verdict (h .form) ≡ good m → m .sequence ≡ s .newest
         → replyToRequest (h .image) (h .state) m ≡ some r → CarriedOut (s .newest) q r h
     answered m v n e =
@@ -55,7 +55,7 @@ module _ (s : MainState) (ranged : Ranged s) (q : Request) (waiting : outstandin
         let i = good-form (h .form) m (k .nonzero) (p .judged) .1 in
         carried-as r h k m v (p .judged) e
         (each-any (PutOut s) (λ (x : Frame). x .bytes ≡ frame m) (ThatFrame m)
-        (λ x w f. let g = same-request m i n x w f in (g .0, f, g .1)) (h .asked) (k .asked) (k .put-out m (p .judged)))
+        (λ x w f. let g = same-request m i n x w f in (g .0, f, g .1)) (h .asked) (k .asked) (from m (p .judged) (n, p .served)))
 
     -- a reply whose frame is heard as the answer
     pub carried-out : Matching (s .newest) (r .version) (r .sequence) (r .command) → InRange r → (y : Message) → frame y ≡ frame r

@@ -39,12 +39,12 @@ use denote.Triple.Table.{entered, cited}
 use denote.Triple.Walked.{says, Stays, stay-ref, stay-none, walkOf, AllGo, goes-none, goes-ref, Walks, ends-at, walked, walk-meets}
 use denote.Triple.Clauses.{ensured, lasts}
 use denote.Exit.{yes}
-use Rattle.responder.specs.Receive.{stepReport}
-use Rattle.responder.specs.declared.outcome.Outcome.{Outcome}
+use Rattle.counters.specs.Ended.{stepReport}
+use Rattle.counters.specs.declared.outcome.Outcome.{Outcome}
 use Rattle.counters.specs.Count.{bumpedFor}
 use Rattle.counters.specs.declared.Counters.{Counters}
-use Rattle.responder.proofs.outcome.Outcome as E
-use Rattle.responder.proofs.outcome.Outcome.Laws as E′
+use Rattle.counters.proofs.outcome.Outcome as E
+use Rattle.counters.proofs.outcome.Outcome.Laws as E′
 use Rattle.counters.proofs.Counters as T
 use Rattle.counters.proofs.Counters.Laws as T′
 use Rattle.counters.proofs.bumped as g

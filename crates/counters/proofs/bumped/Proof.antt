@@ -1,7 +1,7 @@
 -- `counters::bumped` meets its contract: by the outcome.
 -- Assumes nothing.
 use borrow.Author.Needs.{needs}
-use Rattle.responder.specs.Receive.{stepReport}
+use Rattle.counters.specs.Ended.{stepReport}
 use Rattle.counters.specs.Count.{bumpedFor}
 use Rattle.counters.proofs.bumped.Statement.{statement}
 use Rattle.counters.proofs.bumped.Tie as tie
@@ -23,7 +23,11 @@ unfolding bumpedFor stepReport
 returns-4 c = rw (c .before .enum-told4 .given .1, c .one-more2 .ensures)
 
 returns-5 : tie.Need-returns-5
-returns-5 c =
+unfolding bumpedFor stepReport
+returns-5 c = rw (c .before .enum-told5 .given .1, c .one-more3 .ensures)
+
+returns-6 : tie.Need-returns-6
+returns-6 c =
     let at-outcome = c .before .before in
     rw (at-outcome .outcome .given .1) (c .failed .ensures)
 
@@ -32,4 +36,5 @@ bumped-spec =
     tie.close
     (tie.spec
     (λ c. search needs) (λ c. search needs) (λ c. search needs) (λ c κs. search needs) (λ c. search needs)
-    (λ c κs. search needs) (λ c. search needs) (λ c κs. search needs) returns returns-2 returns-3 returns-4 returns-5)
+    (λ c κs. search needs) (λ c. search needs) (λ c κs. search needs) (λ c. search needs) (λ c κs. search needs)
+    returns returns-2 returns-3 returns-4 returns-5 returns-6)

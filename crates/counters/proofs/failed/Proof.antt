@@ -1,8 +1,8 @@
 -- `counters::failed` meets its contract: the counter of the reason, by the tests of the code.
 -- Assumes nothing.
 use borrow.Author.Needs.{needs}
-use Rattle.supervisor.proofs.Cases.{cases}
-use Rattle.responder.specs.Receive.{stepReport}
+use borrow.Author.Tests.{ne-eqb}
+use Rattle.counters.specs.Ended.{stepReport}
 use Rattle.counters.specs.Count.{bumpedFor}
 use Rattle.counters.proofs.failed.Statement.{statement}
 use Rattle.counters.proofs.failed.Tie as tie
@@ -37,7 +37,7 @@ returns-7 c = rw (c .before .if7 .taken, c .one-more7 .ensures)
 
 returns-8 : tie.Need-returns-8
 unfolding bumpedFor stepReport
-returns-8 c = search cases
+returns-8 c = search (ne-eqb)
 
 pub failed-spec : {M : Type 1} → statement M
 failed-spec =

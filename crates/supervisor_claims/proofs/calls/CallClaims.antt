@@ -27,7 +27,7 @@ use Rattle.supervisor_claims.specs.View.{factoryOf, view}
 use Rattle.supervisor_claims.specs.Sound.{Bytes, Sound, Lengths, Leaves}
 use Rattle.supervisor_claims.specs.Histories
 use Rattle.supervisor_claims.specs.Histories.{Call, Typed, didBy, did, refusal, doneMeans, meant, upTo}
-use Rattle.supervisor_claims.specs.Histories.{endedInPiece}
+use Rattle.supervisor_claims.specs.Histories.{endedInPiece, servedInPiece}
 use Rattle.supervisor_claims.specs.Demand1.{Meets}
 use Rattle.supervisor_claims.specs.Demand2.{Starts}
 use Rattle.supervisor_claims.proofs.Sound.{lengths-same, valid-room}
@@ -36,7 +36,7 @@ use Rattle.supervisor_claims.proofs.calls.RowLaws.{KeepsPart, same-meet
 use Rattle.supervisor_claims.proofs.calls.LocalLaws.{row-laws}
 use Rattle.supervisor_claims.proofs.calls.StartClaim.{start-fresh, start-meant}
 use Rattle.supervisor_claims.proofs.calls.ReceiveClaim.{fed-leaves}
-use Rattle.supervisor_claims.proofs.calls.StepClaim.{step-used, step-fed, step-ends, valid-step-stepped}
+use Rattle.supervisor_claims.proofs.calls.StepClaim.{step-used, step-fed, step-ends, step-serves, valid-step-stepped}
 use Rattle.supervisor_claims.proofs.claims.LentCalls.{valid-parts}
 
 -- ---- start
@@ -135,6 +135,10 @@ module _ (p : Parts) (s : Sound p) where
     unfolding Receive.validStep view
     valid-step-ended = step-ends piece (p .reader) (s .valid .reader)
 
+    valid-step-served : Receive.validStep image p piece .served ≡ servedInPiece (view p .settings) (view p .received) piece
+    unfolding Receive.validStep view
+    valid-step-served = step-serves piece (p .reader) (p .settings) (s .valid .reader)
+
     valid-step-parts : Receive.validStep image p piece .parts ≡ Receive.feedBytes image p (ListN.take (upTo piece) piece)
     unfolding Receive.validStep
     valid-step-parts = step-fed image piece p
@@ -143,7 +147,14 @@ module _ (p : Parts) (s : Sound p) where
     unfolding did meant Receive.stepPromise
     step-meets =
         let n = upTo piece in
-        rw (valid-parts p (s .valid), valid-step-stepped image p piece, valid-step-used, valid-step-ended, valid-step-parts)
+        rw (
+          valid-parts p (s .valid),
+          valid-step-stepped image p piece,
+          valid-step-used,
+          valid-step-ended,
+          valid-step-served,
+          valid-step-parts,
+        )
         (record {
           answer = refl;
           out = refl;

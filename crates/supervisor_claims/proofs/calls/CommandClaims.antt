@@ -22,7 +22,7 @@ use Rattle.responder.proofs.KeptLaws.{alert-data-short}
 use Rattle.supervisor_claims.specs.View.{view}
 use Rattle.supervisor_claims.specs.Sound.{withRegisters, Sound}
 use Rattle.supervisor_claims.proofs.laws.PartLaws.{Like, like-itself}
-use Rattle.supervisor_claims.proofs.laws.SettingLaws.{storing-stored}
+use Rattle.supervisor_claims.proofs.laws.SettingLaws.{storing-stored, stored-result}
 use Rattle.supervisor_claims.proofs.laws.RecordLaws.{reboot-view, power-off-view, asked-like, boot-failure-view, panic-view}
 use Rattle.supervisor_claims.proofs.laws.RecordLaws.{record-like, acknowledged-view, acknowledged-like}
 use Rattle.supervisor_claims.proofs.laws.TakenLaws.{alert-asked, alert-reply}
@@ -136,12 +136,13 @@ module _ (p : Parts) (s : Sound p) (image : List ℕ) (each : Each Byte image) (
       let k =
       storing-stored (p .settings) (drop 1 d) (settings-valid (p .settings) (s .valid .settings)) (s .bytes .settings)
       (each-drop Byte 1 d (q .payload)) (numberAt 1 d 0) in
+      let r = stored-result (p .settings) (drop 1 d) (numberAt 1 d 0) in
       record {
         state = rw (k .settings);
-        outbox = rw (one-byte _ (k .small), k .result);
+        outbox = rw (one-byte _ (k .small), r);
         settings = k .like;
         registers = like-itself (p .registers);
-        payload = (omega arith, (rw (← k .result) (k .small), tt));
+        payload = (omega arith, (rw (← r) (k .small), tt));
       }
 
   pub command-does : (x : Command) → Does x

@@ -1,4 +1,5 @@
--- A call of step: how many bytes it reads, how the frame ends, and that the parts are left as those bytes leave them, one by one.
+-- A call of step: how many bytes it reads, how the frame ends, what is told of it, and that the parts are left as those bytes leave them,
+-- one by one.
 -- Assumes nothing.
 use mathlib.Core.Path.{_≡_, refl, sym, ap, _∙_}
 use mathlib.Core.Bool.{true}
@@ -7,6 +8,7 @@ use mathlib.Core.Option.{Option, none, some}
 use Prim.Native.Nat.{ℕ, zero, suc}
 use lib.Dec.{eqb·suc-zero}
 use lib.ListN as ListN
+use Rattle.octets.specs.Bytes.{numberAt}
 use Rattle.line.specs.Reader.{receivedOf}
 use Rattle.line.specs.Judge as Line
 use Rattle.line.specs.Reader as LineReader
@@ -14,7 +16,11 @@ use Rattle.line.proofs.Received.{pushed-received, pushed-stays}
 use Rattle.supervisor.specs.Calls.{Parts}
 use Rattle.responder.specs.Requests
 use Rattle.responder.specs.Receive
-use Rattle.supervisor_claims.specs.Histories.{upTo, endedMeant, endedInPiece, stepped, stepAnswer}
+use Rattle.counters.specs.Ended.{Served}
+use Rattle.supervisor_claims.specs.View.{settingsOf}
+use Rattle.supervisor_claims.specs.Histories.{upTo, endedMeant, servedMeant, saidInPiece, endedInPiece, servedInPiece, stepped}
+use Rattle.supervisor_claims.specs.Histories.{stepAnswer}
+use Rattle.supervisor_claims.proofs.laws.SettingLaws.{stored-result}
 use Rattle.supervisor_claims.proofs.calls.ReceivedClaim.{finished-verdict}
 
 -- ---- the bytes read
@@ -78,11 +84,28 @@ ended-verdict reader (LineReader.failed reason sequence) h = refl
 
 pub step-ends : (piece s : List ℕ) → LineReader.validReader s ≡ true → let o = LineReader.readPiece s piece in
     Receive.endedByReader (o .state) (o .answer) ≡ endedInPiece (receivedOf s) piece
-unfolding LineReader.readPiece LineReader.oneByteLater endedInPiece Receive.endedByReader
+unfolding LineReader.readPiece LineReader.oneByteLater saidInPiece Receive.endedByReader
 step-ends [] s v = refl
 step-ends (zero ∷ bs) s v = ended-verdict _ _ (finish-ends s) ∙ ap endedMeant (finished-verdict s v)
 step-ends (suc b ∷ bs) s v =
     rw (eqb·suc-zero, ← pushed-received s (suc b) v) (step-ends bs (LineReader.pushed s (suc b)) (pushed-stays s (suc b) v .valid))
+
+-- ---- what is told of it
+
+verdict-served : (z : List ℕ) (o : Option Requests.Verdict) → Receive.servedAfter z o ≡ servedMeant (settingsOf z) o
+unfolding Receive.servedAfter Receive.servedByVerdict Requests.servedBy
+verdict-served z none = refl
+verdict-served z (some (Requests.failure reason version sequence)) = refl
+verdict-served z (some (Requests.good m)) =
+    ap (Requests.servedOf m) (stored-result z (ListN.drop 1 (m .payload)) (numberAt 1 (m .payload) 0))
+
+pub step-serves : (piece s z : List ℕ) → LineReader.validReader s ≡ true → let o = LineReader.readPiece s piece in
+    Receive.servedAfter z (Receive.verdictOf (o .state) (o .answer)) ≡ servedInPiece (settingsOf z) (receivedOf s) piece
+unfolding LineReader.readPiece LineReader.oneByteLater saidInPiece Receive.verdictOf Receive.servedAfter
+step-serves [] s z v = refl
+step-serves (zero ∷ bs) s z v = ap (Receive.servedAfter z) (finished-verdict s v) ∙ verdict-served z (Requests.verdictSince (receivedOf s))
+step-serves (suc b ∷ bs) s z v =
+    rw (eqb·suc-zero, ← pushed-received s (suc b) v) (step-serves bs (LineReader.pushed s (suc b)) z (pushed-stays s (suc b) v .valid))
 
 -- ---- no refusal
 
@@ -106,24 +129,25 @@ accepts [] s = tt
 accepts (zero ∷ bs) s = ends-accepts (LineReader.finish s .answer) (finish-ends s)
 accepts (suc b ∷ bs) s = rw eqb·suc-zero (accepts bs (LineReader.pushed s (suc b)))
 
-verdict-stepped : (used : ℕ) (v : Requests.Verdict) → stepAnswer used (Receive.endedByVerdict v) ≡ stepped used (Receive.endedByVerdict v)
-verdict-stepped used (Requests.failure reason version sequence) = refl
-verdict-stepped used (Requests.good m) = refl
+verdict-stepped : (used : ℕ) (w : Served) (v : Requests.Verdict)
+    → stepAnswer used (Receive.endedByVerdict v) w ≡ stepped used (Receive.endedByVerdict v) w
+verdict-stepped used w (Requests.failure reason version sequence) = refl
+verdict-stepped used w (Requests.good m) = refl
 
-report-stepped : (used : ℕ) (reader : List ℕ) (a : LineReader.ReadReport) → Accepts a
-    → stepAnswer used (Receive.endedByReader reader a) ≡ stepped used (Receive.endedByReader reader a)
+report-stepped : (used : ℕ) (w : Served) (reader : List ℕ) (a : LineReader.ReadReport) → Accepts a
+    → stepAnswer used (Receive.endedByReader reader a) w ≡ stepped used (Receive.endedByReader reader a) w
 unfolding Receive.endedByReader
-report-stepped used reader (LineReader.refused n) h = absurd h
-report-stepped used reader LineReader.more h = refl
-report-stepped used reader LineReader.empty h = refl
-report-stepped used reader (LineReader.message version sequence command n) h =
-    verdict-stepped used (Requests.tested (Receive.messageWith version sequence command (LineReader.dataPromise reader n)))
-report-stepped used reader (LineReader.failed reason sequence) h = refl
+report-stepped used w reader (LineReader.refused n) h = absurd h
+report-stepped used w reader LineReader.more h = refl
+report-stepped used w reader LineReader.empty h = refl
+report-stepped used w reader (LineReader.message version sequence command n) h =
+    verdict-stepped used w (Requests.tested (Receive.messageWith version sequence command (LineReader.dataPromise reader n)))
+report-stepped used w reader (LineReader.failed reason sequence) h = refl
 
 -- on parts of any kind
 pub valid-step-stepped : (image : List ℕ) (p : Parts) (piece : List ℕ) → let t = Receive.validStep image p piece in
-    stepAnswer (t .used) (t .ended) ≡ stepped (t .used) (t .ended)
+    stepAnswer (t .used) (t .ended) (t .served) ≡ stepped (t .used) (t .ended) (t .served)
 unfolding Receive.validStep
 valid-step-stepped image p piece =
     let o = LineReader.readPiece (p .reader) piece in
-    report-stepped (o .used) (o .state) (o .answer) (accepts piece (p .reader))
+    report-stepped (o .used) _ (o .state) (o .answer) (accepts piece (p .reader))

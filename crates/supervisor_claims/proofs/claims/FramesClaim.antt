@@ -4,7 +4,7 @@
 use mathlib.Core.Path.{_≡_, refl, ap, sym, _∙_}
 use mathlib.Core.Bool.{Bool, true, false, cond}
 use mathlib.Core.List.{List, [], _∷_, _++_, append-nil}
-use mathlib.Core.Option.{some}
+use mathlib.Core.Option.{Option, some}
 use Prim.Native.Nat.{ℕ, zero, suc, _≤_}
 use native.Mathlib.Omega.{arith}
 use lib.Dec.{ltb, eqb·suc-zero}
@@ -18,13 +18,14 @@ use Rattle.line.specs.Limits.{longest-form}
 use Rattle.line.specs.Frame.{split, nonEmpty, closedBehind}
 use Rattle.line.proofs.Pieces.{split-at, split-none, nonEmpty-append, split-join, closed-rest, closed-join}
 use Rattle.supervisor.specs.State.{Factory, State, fresh, withReceived}
-use Rattle.responder.specs.Requests.{receiveByte, receiveStream, verdictSince}
+use Rattle.counters.specs.Ended.{Ended, Served}
+use Rattle.responder.specs.Requests.{Verdict, receiveByte, receiveStream, verdictSince}
 use Rattle.supervisor_claims.specs.View.{factoryOf}
 use Rattle.supervisor_claims.specs.Histories
-use Rattle.supervisor_claims.specs.Histories.{Call, upTo, endedMeant, endedInPiece, meant, Made, enough, meantMade, outputsMeant}
-use Rattle.supervisor_claims.specs.Histories.{leftMeant}
+use Rattle.supervisor_claims.specs.Histories.{Call, upTo, endedMeant, servedMeant, saidInPiece, meant, Made, enough, meantMade}
+use Rattle.supervisor_claims.specs.Histories.{outputsMeant, leftMeant}
 use Rattle.supervisor_claims.specs.FrameHistory.{pieceRead, bytesReceivedBy, startsAnew, receivedSince, receivedSinceAll}
-use Rattle.supervisor_claims.specs.FrameHistory.{framesClosedBy, endedByFrames, frameCarried, framesCarried}
+use Rattle.supervisor_claims.specs.FrameHistory.{framesClosedBy, frameVerdict, saidByFrames, frameCarried, framesCarried}
 use Rattle.line.specs.Judge.{progressOf}
 use Rattle.supervisor_claims.specs.FrameHistory.{carriedOut, carriedCall, carriedMade, outputsByFrames, leftByFrames, carriedFrames}
 use Rattle.supervisor_claims.specs.Demand2.{HistoryFrames, EachOnce, ReceivedSince, FramesInOrderAfter}
@@ -43,27 +44,25 @@ length-upTo (zero ∷ bs) = refl
 length-upTo (suc b ∷ bs) = rw eqb·suc-zero (ap suc (length-upTo bs))
 
 -- the 00 behind bytes
-pub closed-ends : (p : List ℕ) (fs : List (List ℕ)) → endedMeant (verdictSince (progressOf p)) ≡ endedByFrames (p ∷ fs)
-unfolding endedByFrames
-closed-ends [] fs = rw (tail-within [] (omega arith))
-closed-ends (b ∷ bs) fs = by (ltb longest-form (length (b ∷ bs))) refl
+pub closed-verdict : (p : List ℕ) → verdictSince (progressOf p) ≡ frameVerdict p
+closed-verdict [] = rw (tail-within [] (omega arith))
+closed-verdict (b ∷ bs) = by (ltb longest-form (length (b ∷ bs))) refl
   where
-    by : (over : Bool) → ltb longest-form (length (b ∷ bs)) ≡ over
-        → endedMeant (verdictSince (progressOf (b ∷ bs))) ≡ endedByFrames ((b ∷ bs) ∷ fs)
+    by : (over : Bool) → ltb longest-form (length (b ∷ bs)) ≡ over → verdictSince (progressOf (b ∷ bs)) ≡ frameVerdict (b ∷ bs)
     by true e =
         let h = ltb-true longest-form (length (b ∷ bs)) e in
         rw (tail-over (b ∷ bs) h, verdict-over (b ∷ bs) h)
     by false e = rw (tail-within (b ∷ bs) (ltb-false _ _ e))
 
--- the frame that began with the bytes p
-ends-frame : (p piece : List ℕ) → Each (λ b. 1 ≤ b) p
-    → endedInPiece (progressOf p) piece ≡ endedByFrames (split (p ++ ListN.take (upTo piece) piece) .closed)
-unfolding endedInPiece upTo endedByFrames split
-ends-frame p [] h = rw (append-nil, split-none p h)
-ends-frame p (zero ∷ bs) h = rw (split-at p [] h) (closed-ends p [])
-ends-frame p (suc b ∷ bs) h =
+-- what is said of the frame that began with the bytes p
+said-frame : {A : Type 0} (more : A) (f : Option Verdict → A) (p piece : List ℕ) → Each (λ b. 1 ≤ b) p
+    → saidInPiece more f (progressOf p) piece ≡ saidByFrames more f (split (p ++ ListN.take (upTo piece) piece) .closed)
+unfolding saidInPiece upTo saidByFrames split
+said-frame more f p [] h = rw (append-nil, split-none p h)
+said-frame more f p (zero ∷ bs) h = rw (split-at p [] h) (ap f (closed-verdict p))
+said-frame more f p (suc b ∷ bs) h =
     rw (eqb·suc-zero, more-tail p (suc b), ← append-snoc p (suc b) (ListN.take (upTo bs) bs))
-    (ends-frame (p ++ (suc b ∷ [])) bs (each-append (λ b. 1 ≤ b) p (suc b ∷ []) h (omega arith, tt)))
+    (said-frame more f (p ++ (suc b ∷ [])) bs (each-append (λ b. 1 ≤ b) p (suc b ∷ []) h (omega arith, tt)))
 
 -- ---- one call on a state whose receive progress is what stands behind the last 00 of w
 
@@ -89,7 +88,14 @@ module _ (w : List ℕ) (s : State) (h : Since (split w .rest) s) where
   call-carried (Histories.receive image piece) = rw (stream-carried image piece)
   call-carried (Histories.step image piece) =
       let bs = ListN.take (upTo piece) piece in
-      rw (stream-carried image bs, length-upTo piece, closed-rest w bs, h .received, ends-frame (split w .rest) piece (h .nonzero))
+      rw (
+        stream-carried image bs,
+        length-upTo piece,
+        closed-rest w bs,
+        h .received,
+        said-frame Ended.more endedMeant (split w .rest) piece (h .nonzero),
+        said-frame Served.nothing (servedMeant (s .settings)) (split w .rest) piece (h .nonzero),
+      )
   call-carried (Histories.local c) = refl
 
 -- whatever is lent

@@ -72,6 +72,12 @@ onto-low x (some v) h =
     cond-by (λ (y : Setting). y .edition ≤ Limits.last-edition) (eqb (x .edition) Limits.last-edition) _ _ (λ e. h) (λ e.
     omega (arith, eqb-false (x .edition) Limits.last-edition e))
 
+pub sets-low : (k : ℕ) (x : Setting) (ms : List Message) → x .edition ≤ Limits.last-edition
+    → afterSets k x ms .edition ≤ Limits.last-edition
+unfolding afterSets
+sets-low k x [] h = h
+sets-low k x (m ∷ ms) h = sets-low k (onto x (setBy k m)) ms (onto-low x (setBy k m) h)
+
 -- the last edition stays, and any other counts on
 at-last : (k : ℕ) (x : Setting) (ms : List Message) → x .edition ≡ Limits.last-edition → setAfter k x ms ≡ x
 unfolding setAfter successful lastOr

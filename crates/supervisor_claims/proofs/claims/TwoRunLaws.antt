@@ -31,13 +31,14 @@ use Rattle.saving.specs.Saving
 use Rattle.responder.specs.Commands.{Command, commandNumber, commandOfNumber}
 use Rattle.responder.specs.Requests
 use Rattle.responder.specs.Requests.{Verdict, failure, good, verdict, Carried, effect, carryOutBy, carryOut, wrongValueLength, Stored}
-use Rattle.responder.specs.Requests.{storeValue, afterVerdict, sent}
+use Rattle.responder.specs.Requests.{storeValue, servedOf, servedBy, afterVerdict, sent}
 use Rattle.responder.proofs.CommandLaws.{number-is}
 use Rattle.supervisor_claims.specs.View.{factoryOf, settingOf, settingsOf}
 use Rattle.supervisor_claims.specs.Histories
-use Rattle.supervisor_claims.specs.Histories.{LocalCall, Call, Means, doneMeans, meant, Made, enough}
+use Rattle.supervisor_claims.specs.Histories.{LocalCall, Call, Means, doneMeans, upTo, meant, Made, enough}
 use Rattle.supervisor_claims.specs.FrameHistory.{pieceRead, isAcceptedStart, bytesReceivedBy, startsAnew, framesClosedBy}
-use Rattle.supervisor_claims.specs.FrameHistory.{frameCarried, framesCarried, carriedOut, carriedCall, carriedMade}
+use Rattle.supervisor_claims.specs.FrameHistory.{saidByFrames, servedByFrames, frameCarried, framesCarried, carriedOut, carriedCall}
+use Rattle.supervisor_claims.specs.FrameHistory.{carriedMade}
 use Rattle.supervisor_claims.specs.LastSet.{requestAhead, requestsIn, valueFor, setBy, listedIf, setsOf, recordsRestored}
 use Rattle.supervisor_claims.proofs.laws.ViewLaws.{length-listed, listed-set}
 use Rattle.supervisor_claims.proofs.laws.SettingLaws.{setting-is, setting-same}
@@ -212,6 +213,12 @@ sets-raise k x [] = omega arith
 sets-raise k x (m ∷ ms) =
     omega (arith, sets-raise k (onto x (setBy k m)) ms, onto-raise x (setBy k m), length-append (listedIf (setBy k m)) (setsOf k ms))
 
+-- a frame's, and then those of others
+count-ahead : (v : Verdict) (r : List Message) → setCount (requestAhead v r) ≡ setCount (requestAhead v []) + setCount r
+count-ahead v r =
+    let k = Limits.passphrase-key in
+    rw (request-append v [] r, sets-append k (requestAhead v []) r) (length-append (setsOf k (requestAhead v [])) (setsOf k r))
+
 module _ (image : List ℕ) where
   judged-room : (v : Verdict) (n : ℕ) (s : State) → Room (setCount (requestAhead v []) + n) (s .settings)
       → Room n (afterVerdict image s v .settings)
@@ -243,9 +250,7 @@ module _ (image : List ℕ) where
   frames-pair ((b ∷ bs) ∷ fs) n s t p =
       let v = verdict (b ∷ bs) in
       let r = requestsIn (nonEmpty fs) in
-      let k = Limits.passphrase-key in
-      let e : setCount (requestAhead v r) ≡ setCount (requestAhead v []) + setCount r =
-      rw (request-append v [] r, sets-append k (requestAhead v []) r) (length-append (setsOf k (requestAhead v [])) (setsOf k r)) in
+      let e = count-ahead v r in
       frames-pair fs n (afterVerdict image s v) (afterVerdict image t v) (judged-pair v (setCount r + n) s t (pair-less (omega arith) p))
 
   -- bytes that came behind w
@@ -255,6 +260,32 @@ module _ (image : List ℕ) where
   bytes-pair w bs n s t p =
       let q = frames-pair (closedBehind w bs) n s t p in
       record { like = received-like _ (q .like); left = q .left; right = q .right }
+
+-- ---- what is told of a frame
+
+served-same : (v : Verdict) {s t : State} → Pair (setCount (requestAhead v [])) s t → servedBy (s .settings) v ≡ servedBy (t .settings) v
+unfolding servedBy setsOf setBy commandNumber
+served-same (failure reason version sequence) p = refl
+served-same (good m) {s} {t} p = by (eqb (m .command) (commandNumber Command.key-set)) refl
+  where
+    by : (b : Bool) → eqb (m .command) (commandNumber Command.key-set) ≡ b
+        → servedBy (s .settings) (good m) ≡ servedBy (t .settings) (good m)
+    by true f =
+        let n = length-append (listedIf (setBy Limits.passphrase-key m)) [] in
+        let e = eqb-true (m .command) (commandNumber Command.key-set) f in
+        let a : Room (length (listedIf (setBy Limits.passphrase-key m))) (s .settings) = room-less (omega arith) (p .left) in
+        let b : Room (length (listedIf (setBy Limits.passphrase-key m))) (t .settings) = room-less (omega arith) (p .right) in
+        ap (servedOf m) (data-alike (s .settings) (t .settings) (p .like .settings) (m .payload) (rw e at a) (rw e at b) .0)
+    by false f = rw f
+
+-- the first of the frames that calls bring
+frames-served : (fs : List (List ℕ)) (n : ℕ) (s t : State) → Pair (setCount (requestsIn (nonEmpty fs)) + n) s t
+    → servedByFrames (s .settings) fs ≡ servedByFrames (t .settings) fs
+unfolding saidByFrames nonEmpty requestsIn
+frames-served [] n s t p = refl
+frames-served ([] ∷ fs) n s t p = refl
+frames-served ((b ∷ bs) ∷ fs) n s t p =
+    let e = count-ahead (verdict (b ∷ bs)) (requestsIn (nonEmpty fs)) in served-same (verdict (b ∷ bs)) (pair-less (omega arith) p)
 
 -- ---- saving and restoring: the passphrase is not among the saved settings
 
@@ -333,6 +364,11 @@ start-same w s t (Histories.receive image piece) e = absurd (false≢true e)
 start-same w s t (Histories.step image piece) e = absurd (false≢true e)
 start-same w s t (Histories.local c) e = absurd (false≢true e)
 
+step-told : (w bs : List ℕ) (n : ℕ) (s t : State) → Pair (setCount (requestsIn (framesClosedBy w bs)) + n) s t
+    → servedByFrames (s .settings) (closedBehind w bs) ≡ servedByFrames (t .settings) (closedBehind w bs)
+unfolding framesClosedBy
+step-told w bs n s t p = frames-served (closedBehind w bs) n s t p
+
 -- any other call, by the bytes that it reads behind w
 call-same : (w : List ℕ) (n : ℕ) (s t : State) (c : Call) → isAcceptedStart c ≡ false
     → Pair (setCount (requestsIn (framesClosedBy w (pieceRead c))) + n) s t → Same n (carriedCall w s c) (carriedCall w t c)
@@ -340,7 +376,9 @@ unfolding isAcceptedStart pieceRead carriedCall meant Local.start
 call-same w n s t (Histories.start d) e p =
     rw (not-false (Local.badStart (factoryOf d)) e) (record { answer = refl; out = refl; pair = pair-less (omega arith) p })
 call-same w n s t (Histories.receive image piece) e p = record { answer = refl; out = refl; pair = bytes-pair image w piece n s t p }
-call-same w n s t (Histories.step image piece) e p = record { answer = refl; out = refl; pair = bytes-pair image w _ n s t p }
+call-same w n s t (Histories.step image piece) e p =
+    let bs = take (upTo piece) piece in
+    record { answer = rw (step-told w bs n s t p); out = refl; pair = bytes-pair image w bs n s t p }
 call-same w n s t (Histories.local c) e p = local-same c n s t (pair-less (omega arith) p)
 
 -- whatever is lent

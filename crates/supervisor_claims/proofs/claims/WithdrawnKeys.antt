@@ -34,7 +34,8 @@ use Rattle.supervisor_claims.specs.LastSet.{successful, lastOr, setAfter
 use Rattle.supervisor_claims.specs.LastSet.{lookupReply, requestsIn}
 use Rattle.supervisor_claims.specs.LastSet.{fittedOf, ReadBack, origin, originBehind, setMessage, setReply, SetAnswered}
 use Rattle.supervisor_claims.specs.Demand2.{ValueLastSet, LastSet, WithdrawnListAnswered, LookupLastSet}
-use Rattle.supervisor_claims.specs.Item5.{editionReply, ListEditionAnswered}
+use Rattle.supervisor_claims.specs.SameEdition.{editionReply}
+use Rattle.supervisor_claims.specs.Item5.{ListEditionAnswered}
 use Rattle.supervisor_claims.specs.Item14.{passphraseReply, PassphraseUnread, PassphraseUnreadLocally}
 use Rattle.supervisor_claims.proofs.laws.Progress.{Since}
 use Rattle.supervisor_claims.proofs.claims.History.{history, one-call}

@@ -73,7 +73,6 @@ module _ (s v : List ℕ) (at : ℕ) (room : at + (Layout.setting-value-offset +
 
 pub record Stores (s : List ℕ) (k : Receive.KeyStored) (t : Requests.Stored) : Type 0 where
   pub settings : settingsOf (k .settings) ≡ t .settings
-  pub result : k .result ≡ t .result
   pub small : k .result < 256
   pub like : Like s (k .settings)
 
@@ -83,7 +82,7 @@ module _ (s v : List ℕ) (w : SettingsValid s) (held : Each Byte s) (each : Eac
 
   -- nothing is stored
   unstored : (n : ℕ) → n < 256 → Stores s (Receive.keyStored n s) (storedWith n (settingsOf s))
-  unstored n h = record { settings = refl; result = refl; small = h; like = like-itself s }
+  unstored n h = record { settings = refl; small = h; like = like-itself s }
 
   -- at the offset of a key
   stored-at : (at shortest longest : ℕ) (x : Settings) → at + (Layout.setting-value-offset + longest) ≤ Layout.settings-length
@@ -100,7 +99,6 @@ module _ (s v : List ℕ) (w : SettingsValid s) (held : Each Byte s) (each : Eac
       let n = suc (Layout.settingEdition s at) in
       record {
         settings = e l (omega (arith, low, eqb-false (Layout.settingEdition s at) Limits.last-edition g));
-        result = refl;
         small = omega arith;
         like = like-put at (Layout.settingBytes n v) s (omega (arith, length-setting n v))
             (λ _. each-number 1 1 _ (each-number 4 n _ (each-number 2 (length v) v each)));
@@ -137,3 +135,16 @@ module _ (s v : List ℕ) (w : SettingsValid s) (held : Each Byte s) (each : Eac
       let h : Limits.SettingsKey key =
       record { lower = ltb-false key Limits.first-setting f; upper = ltb-false Limits.highest-key key e } in
       rw (setting-is s key h) (stored-at _ _ _ _ (offset-within key h) (settings-put key h))))
+
+-- the result of a set, whatever the bytes of the store and of the value
+pub stored-result : (s v : List ℕ) (key : ℕ) → Receive.storeBytes s key v .result ≡ Requests.storeValue (settingsOf s) key v .result
+unfolding Receive.storeBytes Receive.storeBytesAt Requests.storeValue settingOf
+stored-result s v key =
+    cond-both SameResult (ltb Limits.highest-key key) (λ e. refl) (λ e.
+    cond-both SameResult (ltb key Limits.first-setting) (λ f. refl) (λ f.
+    let h : Limits.SettingsKey key = record { lower = ltb-false key Limits.first-setting f; upper = ltb-false Limits.highest-key key e } in
+    rw (setting-is s key h) (cond-both SameResult (Requests.wrongValueLength key (length v)) (λ g. refl) (λ g.
+    cond-both SameResult (eqb (Layout.settingEdition s (Layout.setting-offset key)) Limits.last-edition) (λ i. refl) (λ i. refl)))))
+  where
+    SameResult : Receive.KeyStored → Requests.Stored → Type 0
+    SameResult a b = a .result ≡ b .result

@@ -2,8 +2,11 @@
 // Assumes the static library. Ends with 1 if an answer handed out is not one that the supervisor gave to that request.
 // usage: bad_wire [SEED [REQUESTS]]
 
-use oatcastle::requester::{Handed, Requester, RequesterStorage};
-use oatcastle::{Bsu, LineReader, ReadEnd, ReaderStorage, Refusal, StartData, Supervisor, SupervisorStorage, LONGEST_FRAME};
+use oatcastle::requester::{Handed, Requester, RequesterStorage, State};
+use oatcastle::{
+    Bsu, Command, Key, LineReader, Message, ReadEnd, ReaderStorage, Refusal, Request, StartData, Supervisor, SupervisorStorage,
+    LONGEST_FRAME,
+};
 use std::collections::{HashMap, VecDeque};
 use std::num::NonZeroU8;
 
@@ -33,6 +36,12 @@ struct Sent {
     sequence: u64,
     command: u8,
     data: Vec<u8>,
+}
+
+impl Sent {
+    fn of(message: &Message) -> Sent {
+        Sent { sequence: message.sequence, command: message.command, data: message.data.to_vec() }
+    }
 }
 
 /// One direction of the wire, and a reader of what is put on it before anything happens to it.
@@ -73,7 +82,7 @@ impl<'s> Line<'s> {
 
     fn heard(&mut self, tick: u64, byte: u8) -> Option<Sent> {
         let ReadEnd::Message(message) = self.clean.read(&[byte]).end else { return None };
-        let sent = Sent { sequence: message.sequence, command: message.command, data: message.data.to_vec() };
+        let sent = Sent::of(&message);
         println!("{tick:7} {}: {:016x} command {:02x}, {} bytes of data", self.name, sent.sequence, sent.command, sent.data.len());
         Some(sent)
     }
@@ -91,9 +100,8 @@ impl<'s> Line<'s> {
 struct Main<'s> {
     requester: Requester<'s>,
     out: VecDeque<u8>,
-    /// The request that is outstanding.
-    waiting: Option<(u8, Vec<u8>)>,
-    recovering: bool,
+    /// Command and data of the request that was made last.
+    made: (u8, Vec<u8>),
     quiet: u64,
     answers: u64,
     alerts: u64,
@@ -127,8 +135,7 @@ impl<'s> World<'s> {
         let main = Main {
             requester: Requester::start_in(&mut storage.main),
             out: VecDeque::new(),
-            waiting: None,
-            recovering: false,
+            made: (0, Vec::new()),
             quiet: 0,
             answers: 0,
             alerts: 0,
@@ -184,40 +191,37 @@ impl<'s> World<'s> {
     /// One received byte; whether what it hands out is right.
     fn hear(&mut self, tick: u64, byte: u8) -> Result<bool, Refusal> {
         let received = self.main.requester.receive(&[byte]);
-        let (ended, unsent) = (received.ended, received.unsent);
-        let mut right = true;
-        match received.handed {
-            Handed::Nothing => (),
+        let (unsent, handed) = (received.unsent, received.handed);
+        let right = match handed {
             Handed::Status(status) => {
                 println!("{tick:7} main: status {:x}, options {:x}, {} bits set", status.status, status.options, status.set_bits);
                 self.main.statuses += 1;
-                self.main.recovering = status.status & 3 != 0;
+                true
             }
-            Handed::Answer(reply) | Handed::Alert(reply) => {
-                let sent = Sent { sequence: reply.sequence, command: reply.command, data: reply.data.to_vec() };
-                right = self.settle(tick, &sent);
+            Handed::Answer(message) => {
+                let (sent, made) = (Sent::of(&message), self.main.made.clone());
+                self.main.answers += 1;
+                self.settle(tick, &sent, |asked| (asked.command, &asked.data) == (made.0, &made.1))
             }
-        }
-        self.main.recovering &= !ended;
+            Handed::Alert(message) => {
+                let sent = Sent::of(&message);
+                self.main.alerts += 1;
+                self.settle(tick, &sent, |asked| asked.command == Command::Alert.number())
+            }
+            _ => true,
+        };
         if unsent {
             self.send()?;
         }
         Ok(right)
     }
 
-    /// An answer handed out: the supervisor gave it under this number, and under this number the request was asked.
-    fn settle(&mut self, tick: u64, sent: &Sent) -> bool {
+    /// An answer handed out: the supervisor gave it under this number, and what was asked under this number is what is wanted.
+    fn settle(&self, tick: u64, sent: &Sent, wanted: impl Fn(&Sent) -> bool) -> bool {
         let text = String::from_utf8_lossy(&sent.data);
         println!("{tick:7} main: answer {:016x} command {:02x} \"{}\"", sent.sequence, sent.command, text.escape_debug());
         let given = self.given.get(&sent.sequence).is_some_and(|all| all.contains(sent));
-        let Some(asked) = self.asked.get(&(sent.sequence & !TOP_BIT)) else { return false };
-        if self.main.recovering {
-            self.main.alerts += 1;
-            return given && asked.command == 0x0a;
-        }
-        self.main.answers += 1;
-        let waited = self.main.waiting.take();
-        given && waited.is_some_and(|(command, data)| command == asked.command && data == asked.data)
+        given && self.asked.get(&(sent.sequence & !TOP_BIT)).is_some_and(wanted)
     }
 
     /// The frame that is to go out, behind those that are on their way.
@@ -230,23 +234,22 @@ impl<'s> World<'s> {
 
     fn interrupt(&mut self) -> Result<(), Refusal> {
         self.main.requester.interrupt()?;
-        self.main.recovering = true;
         self.send()
     }
 
     fn ask(&mut self) -> Result<(), Refusal> {
         let value = self.random.next().to_le_bytes();
-        let (command, data) = match self.random.below(5) {
-            0 => (0x03, vec![]),
-            1 => (0x0e, vec![0, 255, 255]),
-            2 => (0x0e, vec![3, 255, 255]),
-            3 => (0x08, vec![]),
-            _ => (0x10, [&[3][..], &value].concat()),
+        let request = match self.random.below(5) {
+            0 => Request::bsu(),
+            1 => Request::lookup(Key::Ping, u16::MAX),
+            2 => Request::lookup(Key::EtcSystem, u16::MAX),
+            3 => Request::status(),
+            _ => Request::key_set(Key::EtcSystem, &value).expect("8 bytes are allowed"),
         };
         let mut room = [0; LONGEST_FRAME];
-        let frame = self.main.requester.request(command, &data, &mut room)?;
+        let frame = self.main.requester.request(&request, &mut room)?;
         self.main.out.extend(frame);
-        self.main.waiting = Some((command, data));
+        self.main.made = (request.command(), [request.head(), request.rest()].concat());
         Ok(())
     }
 
@@ -263,8 +266,6 @@ impl<'s> World<'s> {
         self.main.out.clear();
         self.main.requester.restart();
         self.main.starts += 1;
-        self.main.waiting = None;
-        self.main.recovering = false;
     }
 
     /// What the main processor does of its own: an interrupt at the line signal or for want of an answer, a start, the next request.
@@ -273,20 +274,20 @@ impl<'s> World<'s> {
             return Ok(());
         }
         let late = self.main.quiet > PATIENCE;
-        match (self.main.recovering, self.main.waiting.is_some()) {
-            (true, _) if late => {
-                self.start(tick);
-                Ok(())
-            }
-            (false, true) if late => {
-                println!("{tick:7} main: no answer; interrupts");
-                self.interrupt()
-            }
-            (false, false) if self.supervisor.signal() => {
+        match self.main.requester.state() {
+            State::Idle if self.supervisor.signal() => {
                 println!("{tick:7} main: the line signal; interrupts");
                 self.interrupt()
             }
-            (false, false) => self.ask(),
+            State::Idle => self.ask(),
+            State::Waiting(_) if late => {
+                println!("{tick:7} main: no answer; interrupts");
+                self.interrupt()
+            }
+            state if late && state.recovering() => {
+                self.start(tick);
+                Ok(())
+            }
             _ => Ok(()),
         }
     }

@@ -1,12 +1,11 @@
 // Defines an example: after a restart the supervisor restores its settings from a file; a key set comes over the wire, and the settings are saved to the file.
 // Assumes the static library, and a folder for the file in which the program may make another beside it.
 
-use oatcastle::{write_frame, Bsu, StartData, Supervisor, SupervisorStorage, LONGEST_FRAME, LONGEST_IMAGE};
+use oatcastle::{Bsu, Key, Request, StartData, Supervisor, SupervisorStorage, LONGEST_FRAME, LONGEST_IMAGE};
 use std::path::{Path, PathBuf};
 use std::{env, fs, io};
 
-const KEY_SET: u8 = 0x10;
-const KEY: u8 = 4;
+const KEY: Key = Key::DtraceConf;
 
 /// Restores the settings. Without a file, or with one that has a fault, they stay as a start leaves them: without values.
 fn restore(supervisor: &mut Supervisor, file: &Path) -> io::Result<()> {
@@ -35,15 +34,15 @@ fn save(supervisor: &Supervisor, file: &Path) -> io::Result<()> {
 /// The key set request of the main processor.
 fn key_set(supervisor: &mut Supervisor, value: &str) -> io::Result<()> {
     let mut room = [0; LONGEST_FRAME];
-    let frame = write_frame(1, 1, KEY_SET, &[KEY], value.as_bytes(), &mut room).map_err(io::Error::other)?;
-    supervisor.receive(&[], frame);
+    let request = Request::key_set(KEY, value.as_bytes()).map_err(io::Error::other)?;
+    supervisor.receive(&[], request.write_frame(1, 1, &mut room).map_err(io::Error::other)?);
     Ok(())
 }
 
 fn print(supervisor: &Supervisor) {
     match supervisor.lookup(KEY, u16::MAX) {
-        Ok(found) => println!("key {KEY}, edition {}: {}", found.edition, String::from_utf8_lossy(found.value)),
-        Err(result) => println!("key {KEY}: {result}"),
+        Ok(found) => println!("key {}, edition {}: {}", KEY.number(), found.edition, String::from_utf8_lossy(found.value)),
+        Err(result) => println!("key {}: {result}", KEY.number()),
     }
 }
 

@@ -2,19 +2,19 @@
 -- Assumes nothing.
 use borrow.Author.Needs.{needs}
 use Rattle.line.specs.Reader.{dataReport}
-use Rattle.oatcastle.specs.Answers.{partGiven, writingAnswer}
+use Rattle.oatcastle.specs.Answers.{partGiven, filling}
 use Rattle.oatcastle.specs.LineCalls.{lineDataCall}
 use Rattle.oatcastle.proofs.frames.oatcastle_line_data.Statement.{statement}
 use Rattle.oatcastle.proofs.frames.oatcastle_line_data.Tie as tie
 
 returns : tie.Need-returns
-unfolding lineDataCall partGiven dataReport writingAnswer
+unfolding lineDataCall partGiven dataReport filling
 returns c =
     let at-message-data-given = c .before .before in
     rw (← at-message-data-given .message-data-given .ensures, c .enum-told .given .1)
 
 returns-2 : tie.Need-returns-2
-unfolding lineDataCall partGiven dataReport writingAnswer
+unfolding lineDataCall partGiven dataReport filling
 returns-2 c =
     let at-message-data-given = c .before .before in
     rw (← at-message-data-given .message-data-given .ensures, c .enum-told2 .given .1)

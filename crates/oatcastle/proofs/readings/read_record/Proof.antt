@@ -8,7 +8,7 @@ use Rattle.oatcastle.proofs.readings.read_record.Tie as tie
 returns : tie.Need-returns
 unfolding recordCall
 returns c =
-    let handed = c .before .before .before .before in
+    let handed = c .before .before in
     let found = handed .before .before .before in
     let kept = found .before in
     rw (← found .«record» .ensures, ← kept .record-bytes .ensures .0) (handed .answer-record .ensures)
@@ -17,4 +17,4 @@ pub read-record-spec : {M : Type 1} → statement M
 read-record-spec =
     tie.close
     (tie.spec
-    (λ c κs. search needs) (λ c κs. search needs) (λ c κs. search needs) (λ c. search needs) (λ c. search needs) returns)
+    (λ c κs. search needs) (λ c κs. search needs) (λ c κs. search needs) (λ c. search needs) returns)

@@ -2,13 +2,13 @@
 -- Assumes nothing.
 use borrow.Author.Needs.{needs}
 use Rattle.rot.specs.Reading.{payloadGivenReport}
-use Rattle.oatcastle.specs.Answers.{partGiven, writingAnswer}
+use Rattle.oatcastle.specs.Answers.{partGiven, filling}
 use Rattle.oatcastle.specs.RotCalls.{rotPayloadCall}
 use Rattle.oatcastle.proofs.rot_link.oatcastle_rot_payload.Statement.{statement}
 use Rattle.oatcastle.proofs.rot_link.oatcastle_rot_payload.Tie as tie
 
 returns : tie.Need-returns
-unfolding rotPayloadCall partGiven payloadGivenReport writingAnswer
+unfolding rotPayloadCall partGiven payloadGivenReport filling
 returns c =
     let arm = c .before .before in
     let at-given = arm .before .before in

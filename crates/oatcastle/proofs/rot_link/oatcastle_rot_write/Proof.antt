@@ -1,28 +1,27 @@
 -- `oatcastle::rot_link::oatcastle_rot_write` meets its contract.
 -- Assumes nothing.
 use borrow.Author.Needs.{needs}
-use native.Mathlib.Omega.{arith}
-use mathlib.Core.List.{[], _∷_}
-use Rattle.oatcastle.proofs.RotLaws.{write-short, write-given}
+use Rattle.rot.specs.Writing.{rotWriteReport}
+use Rattle.oatcastle.specs.Answers.{answeringWith}
+use Rattle.oatcastle.specs.RotCalls.{rotWriteGiven, rotWriteCall}
 use Rattle.oatcastle.proofs.rot_link.oatcastle_rot_write.Statement.{statement}
 use Rattle.oatcastle.proofs.rot_link.oatcastle_rot_write.Tie as tie
 
 returns : tie.Need-returns
+unfolding rotWriteCall rotWriteGiven rotWriteReport answeringWith
 returns c =
-    let written = c .before .before in
-    let then1 = written .before .before in
-    write-short _ _ _ _ (0 ∷ []) (omega arith) (then1 .if1 .taken) (written .write .ensures) (c .short-written .ensures)
+    let asked = c .before .before .before .before .before .before in
+    rw (← asked .write .ensures, c .before .before .written .given .1)
 
 returns-2 : tie.Need-returns-2
+unfolding rotWriteCall rotWriteGiven rotWriteReport answeringWith
 returns-2 c =
-    let called = c .before .before in
-    let written = called .before .before .before .before in
-    let else1 = written .before .before in
-    write-given _ _ _ _ (else1 .if1 .left) (written .write2 .ensures) (called .answer-sent .ensures)
+    let asked = c .before .before .before .before .before .before in
+    rw (← asked .write .ensures, c .before .before .written2 .given .1, c .number .ensures)
 
 pub oatcastle-rot-write-spec : {M : Type 1} → statement M
 oatcastle-rot-write-spec =
     tie.close
     (tie.spec
-    (λ c. search needs) (λ c κs. search needs) (λ c κs. search needs) returns (λ c κs. search needs) (λ c κs. search needs)
-    (λ c. search needs) (λ c. search needs) returns-2)
+    (λ c κs. search needs) (λ c. search needs) (λ c. search needs) (λ c κs. search needs) (λ c. search needs) returns
+    (λ c. search needs) returns-2)

@@ -6,14 +6,13 @@ use mathlib.Core.Option.{Option, none, some}
 use Prim.Native.Nat.{ℕ}
 use borrow.Author.Needs.{needs}
 use denote.Ref.{now}
-use Rattle.octets.specs.Bytes.{bytes}
 use Rattle.line.specs.Numbers.{first-version}
 use Rattle.line.specs.Reader.{ReadReport, readReport}
 use Rattle.line.specs.Reader as LineReader
 use Rattle.line.proofs.Received.{data-short}
-use Rattle.responder.specs.Receive.{Ended, sentBox, Head, failureHead, replyBytes, inner, innerAfter, verdictOf, endedByReader}
-use Rattle.responder.specs.Receive.{stepReport}
-use Rattle.responder.proofs.StepLaws.{Settled, settled-failure, settled-message}
+use Rattle.counters.specs.Ended.{Ended, Served, stepReport, servedReport}
+use Rattle.responder.specs.Receive.{Head, failureHead, inner, innerAfter, verdictOf, endedByReader, servedAfter}
+use Rattle.responder.proofs.StepLaws.{Failed, Settled, settled-failure, settled-message}
 use Rattle.responder.proofs.receive.answer_frame.Statement.{statement}
 use Rattle.responder.proofs.receive.answer_frame.Tie as tie
 
@@ -24,11 +23,10 @@ message-data-of c = c .before .before .before
 abbrev start : tie.After-slice-known3 → tie.Start
 start c = c .before .before .before .before .before .before
 
-by-fail : (c : tie.Start) (reason : ℕ) (sequence : Option ℕ) {t : ReadReport} {h : Head} {g : Ended} {o : List ℕ}
-    → t ≡ LineReader.failed reason sequence → h ≡ failureHead first-version sequence
-    → (g ≡ Ended.failed reason) × (o ≡ sentBox (replyBytes h 0x02 (bytes 1 reason)) (now (c .args .outbox)))
+by-fail : (c : tie.Start) (reason : ℕ) (sequence : Option ℕ) {t : ReadReport} {h : Head} {g : Ended} {u : Served} {o : List ℕ}
+    → t ≡ LineReader.failed reason sequence → h ≡ failureHead first-version sequence → Failed reason h (now (c .args .outbox)) g u o
     → Settled (now (c .args .image)) (now (c .args .factory))
-    (inner (now (c .args .outbox)) (now (c .args .settings)) (now (c .args .registers))) (now (c .args .reader)) t g
+    (inner (now (c .args .outbox)) (now (c .args .settings)) (now (c .args .registers))) (now (c .args .reader)) t g u
     (inner o (now (c .args .settings)) (now (c .args .registers)))
 by-fail c reason sequence =
     let a = c .args in
@@ -36,22 +34,22 @@ by-fail c reason sequence =
     sequence (c .pre .1 .1)
 
 returns : tie.Need-returns
-unfolding stepReport endedByReader innerAfter verdictOf readReport
+unfolding stepReport servedReport endedByReader innerAfter servedAfter verdictOf readReport
 returns c =
     let at-match = c .before .before in
-    rw (c .enum-told .given .1) (refl, (refl, start at-match .pre .1 .1))
+    rw (c .enum-told .given .1) (refl, (refl, (refl, start at-match .pre .1 .1)))
 
 returns-2 : tie.Need-returns-2
-unfolding stepReport endedByReader innerAfter verdictOf readReport
+unfolding stepReport servedReport endedByReader innerAfter servedAfter verdictOf readReport
 returns-2 c =
     let at-match = c .before .before in
-    rw (c .enum-told2 .given .1) (refl, (refl, start at-match .pre .1 .1))
+    rw (c .enum-told2 .given .1) (refl, (refl, (refl, start at-match .pre .1 .1)))
 
 returns-3 : tie.Need-returns-3
-unfolding stepReport endedByReader innerAfter verdictOf readReport
+unfolding stepReport servedReport endedByReader innerAfter servedAfter verdictOf readReport
 returns-3 c =
     let at-match = c .before .before in
-    rw (c .enum-told3 .given .1) (refl, (refl, start at-match .pre .1 .1))
+    rw (c .enum-told3 .given .1) (refl, (refl, (refl, start at-match .pre .1 .1)))
 
 request-requires : tie.Need-request-requires
 request-requires c κs =

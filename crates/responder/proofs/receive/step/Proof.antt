@@ -3,7 +3,8 @@
 use borrow.Author.Needs.{needs}
 use Rattle.supervisor.proofs.Cases.{refused}
 use Rattle.supervisor.proofs.ValidLaws.{passed}
-use Rattle.responder.specs.Receive.{stepReport, stepPromise}
+use Rattle.counters.specs.Ended.{stepReport, servedReport}
+use Rattle.responder.specs.Receive.{stepPromise}
 use Rattle.responder.proofs.receive.step.Statement.{statement}
 use Rattle.responder.proofs.receive.step.Tie as tie
 
@@ -12,7 +13,7 @@ abbrev else1-of : tie.After-valid-step-arg4 → tie.Else1
 else1-of c = c .before .before .before .before
 
 returns : tie.Need-returns
-unfolding stepPromise stepReport
+unfolding stepPromise stepReport servedReport
 returns c = rw (refused _ _ (c .before .are-valid .ensures) (c .if1 .taken))
 
 valid-step-requires : tie.Need-valid-step-requires

@@ -8,12 +8,13 @@ use native.Mathlib.Omega.{arith}
 use denote.Ref.{now}
 use lib.ListN.{length}
 use borrow.Author.Needs.{needs}
+use borrow.Author.Tests.{eqb-false}
 use Rattle.supervisor.specs.Layout.{factory-length, registers-length}
-use Rattle.supervisor.proofs.ValidLaws.{factory-valid, settings-valid, registers-valid}
+use Rattle.supervisor.proofs.ValidLaws.{factory-valid, registers-valid}
 use Rattle.responder.specs.Commands.{Command, commandNumber, commandOfNumber}
-use Rattle.responder.specs.Receive.{KeySet, AlertParts, Inner, inner, commandLeaves, commandLeavesWhere, carriedInner, validInner}
+use Rattle.responder.specs.Receive.{AlertParts, Inner, inner, commandLeaves, commandLeavesWhere, carriedInner, validInner}
 use Rattle.responder.proofs.CommandLaws.{unlisted, of-number}
-use Rattle.responder.proofs.ReceiveLaws.{boot-failure-long, panic-long, key-set-long}
+use Rattle.responder.proofs.ReceiveLaws.{boot-failure-long, panic-long}
 use Rattle.responder.proofs.KeptLaws.{InnerValid, inner-valid}
 use Rattle.responder.proofs.StepLaws.{unanswered-by, answered-by, looked-by, acknowledged-by, served-small, carried-both}
 use Rattle.responder.proofs.requests.carry.Statement.{statement}
@@ -25,9 +26,6 @@ at-keys6 c = c .before .before
 
 abbrev at-keys7 : tie.After-panic-arg2 → tie.At-match-keys7
 at-keys7 c = c .before .before
-
-abbrev at-keys14 : tie.After-set-key-arg2 → tie.At-match-keys14
-at-keys14 c = c .before .before
 
 abbrev start : tie.After-head-to → tie.Start
 start h = h .before .before .before .before .before .before .before .before
@@ -60,8 +58,8 @@ both : (h : tie.After-head-to) (o : Option Command) {j : Inner} → commandOfNum
 both h o =
     let a = start h .args in
     let p = start h .pre in
-    carried-both (now (a .image)) (now (a .factory)) (lent h) (a .version) (a .number .0) (a .command) (now (a .«data»)) (p .1 .1 .1 .1 .1)
-    (p .1 .0) (p .1 .1 .0) (p .1 .1 .1 .0) (h .before .byte-at .ensures) o
+    carried-both (now (a .image)) (now (a .factory)) (lent h) (a .version) (a .number .0) (a .command) (now (a .«data»))
+    (p .1 .1 .1 .1 .1 .0) (p .1 .0) (p .1 .1 .0) (p .1 .1 .1 .0) (h .before .byte-at .ensures) o
 
 does : (h : tie.After-head-to) (x : Command) {j : Inner} → start h .args .command ≡ commandNumber x → Leaves h (some x) j → Carried h j
 does h x e = both h (some x) (rw e (of-number x))
@@ -79,12 +77,6 @@ panic-requires c κs =
     let h = arm .before in
     let p = start h .pre in
     (p .0, (registers-long h, (panic-long _ _ (p .1 .1 .1 .1 .0) (arm .match .keys7), p .1 .1 .1 .0)))
-
-set-key-requires : tie.Need-set-key-requires
-set-key-requires c κs =
-    let arm = at-keys14 c in
-    let h = arm .before in
-    (start h .pre .0, (settings-valid _ (valid h .settings) .long, key-set-long _ _ (start h .pre .1 .1 .1 .1 .0) (arm .match .keys14)))
 
 returns : tie.Need-returns
 unfolding commandNumber commandLeaves
@@ -105,26 +97,27 @@ returns-2 c =
 returns-3 : tie.Need-returns-3
 unfolding commandNumber commandLeaves
 returns-3 c =
-    let at-send-part = c .before .before in
-    let arm = at-send-part .before .before in
+    let at-send-bsu = c .before .before in
+    let arm = at-send-bsu .before .before in
     let h = arm .before in
-    does h Command.bsu (arm .match .keys3) (answered-by (lent h) _ _ _ _ (h .head-to .ensures) (at-send-part .send-part .ensures))
+    does h Command.bsu (arm .match .keys3) (answered-by (lent h) _ _ _ _ (h .head-to .ensures) (at-send-bsu .send-bsu .ensures))
 
 returns-4 : tie.Need-returns-4
 unfolding commandNumber commandLeaves
 returns-4 c =
-    let at-send-part2 = c .before .before in
-    let arm = at-send-part2 .before .before in
+    let at-send-identity = c .before .before in
+    let arm = at-send-identity .before .before in
     let h = arm .before in
-    does h Command.identity (arm .match .keys4) (answered-by (lent h) _ _ _ _ (h .head-to .ensures) (at-send-part2 .send-part2 .ensures))
+    does h Command.identity (arm .match .keys4)
+    (answered-by (lent h) _ _ _ _ (h .head-to .ensures) (at-send-identity .send-identity .ensures))
 
 returns-5 : tie.Need-returns-5
 unfolding commandNumber commandLeaves
 returns-5 c =
-    let at-send-part3 = c .before .before in
-    let arm = at-send-part3 .before .before in
+    let at-send-mac = c .before .before in
+    let arm = at-send-mac .before .before in
     let h = arm .before in
-    does h Command.mac (arm .match .keys5) (answered-by (lent h) _ _ _ _ (h .head-to .ensures) (at-send-part3 .send-part3 .ensures))
+    does h Command.mac (arm .match .keys5) (answered-by (lent h) _ _ _ _ (h .head-to .ensures) (at-send-mac .send-mac .ensures))
 
 returns-6 : tie.Need-returns-6
 unfolding commandNumber commandLeaves
@@ -146,10 +139,10 @@ returns-7 c =
 returns-8 : tie.Need-returns-8
 unfolding commandNumber commandLeaves
 returns-8 c =
-    let at-send-part4 = c .before .before in
-    let arm = at-send-part4 .before .before .before in
+    let at-send-status = c .before .before in
+    let arm = at-send-status .before .before .before in
     let h = arm .before in
-    does h Command.status (arm .match .keys8) (answered-by (lent h) _ _ _ _ (h .head-to .ensures) (at-send-part4 .send-part4 .ensures))
+    does h Command.status (arm .match .keys8) (answered-by (lent h) _ _ _ _ (h .head-to .ensures) (at-send-status .send-status .ensures))
 
 returns-9 : tie.Need-returns-9
 unfolding commandNumber commandLeaves
@@ -197,17 +190,10 @@ returns-13 c =
     (rw (← at-read-u32 .read-u32 .ensures) (answered-by (lent h) _ _ _ _ (h .head-to .ensures) (at-send-item .send-item .ensures)))
 
 returns-14 : tie.Need-returns-14
-unfolding commandNumber commandLeaves
-returns-14 c =
-    let at-set-key = c .before .before .before .before in
-    let arm = at-keys14 (at-set-key .before) in
-    let h = arm .before in
-    does h Command.key-set (arm .match .keys14) (rw (← h .head-to .ensures)
-    (ap (λ (k : KeySet). inner (k .outbox) (k .settings) (now (start h .args .registers))) (at-set-key .set-key .ensures)))
-
-returns-15 : tie.Need-returns-15
 unfolding commandNumber
-returns-15 c = both (c .before) none (unlisted _ (c .match .rest)) refl
+returns-14 c =
+    let h = c .before in
+    both h none (unlisted _ (c .match .rest, eqb-false _ _ (start h .pre .1 .1 .1 .1 .1 .1))) refl
 
 pub carry-spec : {M : Type 1} → statement M
 carry-spec =
@@ -218,16 +204,16 @@ carry-spec =
     (start h .pre .0, (omega arith, registers-long h)))
     (λ c κs. let h = c .before .before .before in
     (start h .pre .0, (omega arith, registers-long h)))
-    (λ c κs. let h = c .before .before in (start h .pre .0, (omega (arith, factory-long h), omega arith)))
-    (λ c κs. let h = c .before .before in (start h .pre .0, (omega (arith, factory-long h), omega arith)))
-    (λ c κs. let h = c .before .before in (start h .pre .0, (omega (arith, factory-long h), omega arith)))
+    (λ c κs. let h = c .before .before in (start h .pre .0, factory-long h))
+    (λ c κs. let h = c .before .before in (start h .pre .0, factory-long h))
+    (λ c κs. let h = c .before .before in (start h .pre .0, factory-long h))
     (λ c. search needs) boot-failure-requires panic-requires
-    (λ c κs. let h = c .before .before .before in
-    (start h .pre .0, (omega (arith, registers-long h), omega arith)))
     (λ c κs. let h = c .before .before .before in
     (start h .pre .0, registers-long h))
     (λ c κs. let h = c .before .before .before in
-    (start h .pre .0, (valid h .registers, omega (arith, served-small (start h .args .version) (start h .pre .1 .1 .1 .1 .1)))))
+    (start h .pre .0, registers-long h))
+    (λ c κs. let h = c .before .before .before in
+    (start h .pre .0, (valid h .registers, omega (arith, served-small (start h .args .version) (start h .pre .1 .1 .1 .1 .1 .0)))))
     (λ c κs. let h = c .before .before in (start h .pre .0, start h .pre .1 .0))
     (λ c κs. let h = c .before .before .before in
     (start h .pre .0, (start h .pre .1 .0, valid h .settings)))
@@ -235,7 +221,6 @@ carry-spec =
     (λ c. search needs)
     (λ c κs. let h = c .before .before .before in
     (start h .pre .0, start h .pre .1 .0))
-    set-key-requires
     (λ c. search needs) (λ c. search needs) returns
     (λ c. search needs) (λ c. search needs) returns-2
     (λ c. search needs) returns-3
@@ -249,5 +234,4 @@ carry-spec =
     (λ c. search needs) returns-11
     (λ c. search needs) (λ c. search needs) returns-12
     (λ c. search needs) returns-13
-    (λ c. search needs) (λ c. search needs) returns-14
-    returns-15)
+    returns-14)

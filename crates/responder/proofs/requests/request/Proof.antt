@@ -6,14 +6,14 @@ use mathlib.Core.Option.{Option, none, some}
 use Prim.Native.Nat.{ℕ}
 use borrow.Author.Needs.{needs}
 use denote.Ref.{now}
-use Rattle.octets.specs.Bytes.{bytes}
 use Rattle.line.specs.Numbers.{first-version}
+use Rattle.counters.specs.Ended.{Ended, Served}
 use Rattle.responder.specs.Requests.{Verdict, failure}
 use Rattle.supervisor.proofs.Cases.{refused}
 use Rattle.supervisor.proofs.ValidLaws.{passed}
-use Rattle.responder.specs.Receive.{Ended, sentBox, Head, failureHead, replyBytes, inner, stepReport}
-use Rattle.responder.proofs.StepLaws.{Judged, other-version, top-bit-set, command-unknown, length-wrong, passed-all, judged-failure}
-use Rattle.responder.proofs.StepLaws.{judged-good}
+use Rattle.responder.specs.Receive.{Head, failureHead, inner}
+use Rattle.responder.proofs.StepLaws.{Failed, Judged, other-version, top-bit-set, command-unknown, length-wrong, passed-all}
+use Rattle.responder.proofs.StepLaws.{judged-failure}
 use Rattle.responder.proofs.requests.request.Statement.{statement}
 use Rattle.responder.proofs.requests.request.Tie as tie
 
@@ -24,17 +24,16 @@ at-head-to c = c .before .before
 abbrev else2 : tie.Else3 → tie.Else2
 else2 c = c .before .before
 
-abbrev else4-of : tie.After-carry-arg3 → tie.Else4
+abbrev else4-of : tie.After-serve-arg3 → tie.Else4
 else4-of c = c .before .before .before
 
 abbrev else1 : tie.Else2 → tie.Else1
 else1 c = c .before .before .before
 
-by-fail : (c : tie.Start) (reason version : ℕ) (sequence : Option ℕ) {v : Verdict} {h : Head} {g : Ended} {o : List ℕ}
-    → v ≡ failure reason version sequence → h ≡ failureHead version sequence
-    → (g ≡ Ended.failed reason) × (o ≡ sentBox (replyBytes h 0x02 (bytes 1 reason)) (now (c .args .outbox)))
+by-fail : (c : tie.Start) (reason version : ℕ) (sequence : Option ℕ) {v : Verdict} {h : Head} {g : Ended} {u : Served} {o : List ℕ}
+    → v ≡ failure reason version sequence → h ≡ failureHead version sequence → Failed reason h (now (c .args .outbox)) g u o
     → Judged (now (c .args .image)) (now (c .args .factory))
-    (inner (now (c .args .outbox)) (now (c .args .settings)) (now (c .args .registers))) v g
+    (inner (now (c .args .outbox)) (now (c .args .settings)) (now (c .args .registers))) v g u
     (inner o (now (c .args .settings)) (now (c .args .registers)))
 by-fail c reason version sequence =
     let a = c .args in
@@ -89,8 +88,8 @@ returns-4 c =
     (refused _ _ (then4 .before .length-is-allowed .ensures) (then4 .if4 .taken)))
     (reply .head-to2 .ensures) (at-fail4 .fail4 .ensures)
 
-carry-requires : tie.Need-carry-requires
-carry-requires c κs =
+serve-requires : tie.Need-serve-requires
+serve-requires c κs =
     let else4 = else4-of c in
     let first = else4 .before .before .before .before .before .before .before in
     let p = start (at-head-to first) .pre in (
@@ -111,20 +110,16 @@ carry-requires c κs =
     )
 
 returns-5 : tie.Need-returns-5
-unfolding stepReport
 returns-5 c =
     let called = c .before .before .before .before .before .before in
     let else4 = else4-of (called .before) in
     let third = else4 .before .before in
     let second = else2 third in
     let first = else1 second in
-    let a = start (at-head-to first) .args in
-    judged-good (now (a .image)) (now (a .factory)) (inner (now (a .outbox)) (now (a .settings)) (now (a .registers))) (a .version)
-    (a .number .0) (a .command) (now (a .«data»))
-    (passed-all _ _ _ _ (passed _ _ (first .before .is-served .ensures) (first .if1 .left)) (second .if2 .left)
+    rw (passed-all _ _ _ _ (passed _ _ (first .before .is-served .ensures) (first .if1 .left)) (second .if2 .left)
     (passed _ _ (third .before .is-known .ensures) (third .if3 .left))
     (passed _ _ (else4 .before .length-is-allowed .ensures) (else4 .if4 .left)))
-    (called .carry .ensures)
+    (called .serve .ensures)
 
 pub request-spec : {M : Type 1} → statement M
 request-spec =
@@ -134,4 +129,4 @@ request-spec =
     (λ c κs. search needs) (λ c κs. search needs) (λ c. search needs) returns-2
     (λ c κs. search needs) (λ c κs. search needs) (λ c κs. search needs) (λ c. search needs) returns-3
     (λ c κs. search needs) (λ c κs. search needs) (λ c. search needs) returns-4
-    carry-requires (λ c. search needs) (λ c. search needs) (λ c. search needs) returns-5)
+    serve-requires (λ c. search needs) (λ c. search needs) (λ c. search needs) returns-5)

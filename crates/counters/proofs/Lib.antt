@@ -1,3 +1,0 @@
--- Laws that the proofs of counters cite.
--- Assumes nothing.
-pub mod CountLaws
