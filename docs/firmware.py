@@ -126,6 +126,14 @@ def header_with(lines):
     return front + MARKS[0] + lines + MARKS[1] + behind.split(MARKS[1])[1]
 
 
+def left():
+    """What calls leave of a passphrase below the stack pointer."""
+    form = r'^(oatcastle_\w+)(.*): (\d+) places below the stack pointer, the deepest at (\d+)$'
+    small, fast = (re.findall(form, log(f'left-{target}'), re.M) for target in ('thumbv7em-Os', 'thumbv7em-O2'))
+    said = lambda places, depth: f'{places} of 60, from {number(depth)} bytes below on' if int(places) > 0 else '0'
+    return table(('Behind', '-Os', '-O2'), [(f'`{name}`{what}', said(*one), said(*other)) for (name, what, *one), (_, _, *other) in zip(small, fast)])
+
+
 def replays():
     lines = [name for name in (*WORDS, 'bare-thumbv7em-Os', 'bare-thumbv6m-Os')]
     made = {name: re.search(r'^calls made again: (\d+)$', log(name), re.M).group(1) for name in lines}
@@ -142,7 +150,8 @@ def replays():
 def document():
     """The document in blocks: its text, and whether it depends on the trace's length."""
     return [(TOP, False), (replays(), True), (SIZES + sizes() + '\n' + firmware_size(), False), (RAM + parts(), False), (STACK + stack_bounds(), False),
-            (MEASURED + stack_measured(), True), (INSTRUCTIONS + instructions(), False), (CALLS + call_instructions(), False)]
+            (MEASURED + stack_measured(), True), (INSTRUCTIONS + instructions(), False), (CALLS + call_instructions(), False),
+            (LEFT + left(), False)]
 
 
 TOP = '''# On the firmware's processor
@@ -194,6 +203,15 @@ By qemu's instruction count (`tests/cross/count.c`), memcpy and memset byte by b
 '''
 CALLS = '''
 Each call by itself, with short and with long bytes where it depends on them. `include/oatcastle.h` has these figures and the stack in one table.
+
+'''
+LEFT = '''
+## What is left of a passphrase below the stack pointer
+
+Looked at, not promised: a passphrase of 63 bytes on a bare Cortex-M4 (`tests/cross/left.c`). After each call the 8,192 bytes below the caller's stack pointer are searched for any four bytes of it in a row, which begin at
+60 places of it. "Behind it": what the calls before left is not painted over. The calls that receive leave none. Those that write a frame put the message together on the stack, and leave it there:
+`oatcastle_requester_request` and `oatcastle_requester_send`, on the processor that has the passphrase, and `oatcastle_line_write`. A shorter message written later overwrites its own length alone. Another compiler, level or processor
+may leave other bytes. Registers and interrupts are not looked at.
 
 '''
 

@@ -330,7 +330,22 @@ static inline const char *oatcastle_refusal_text(uint32_t number)
 /* ---- The wireless passphrase in the settings store, for the radio's driver: offsets in bytes.
  *
  * No call of the supervisor hands out anything that depends on it: the driver reads it here.
- * oatcastle_step tells when it was set. */
+ * oatcastle_step tells when it was set. Where the passphrase lies, and for how long:
+ *
+ *   - In its record, from a set with result 0 on. The next such set clears all 63 bytes of the
+ *     value first, and a start clears the whole store.
+ *   - In the reader's part, from the first byte of a set's frame to its 00. There the call that
+ *     receives clears the whole part if the frame is good, also where the set is refused.
+ *   - In the reader's part, where the frame came damaged or oatcastle_line_read brings its 00:
+ *     until later frames overwrite it, or a good set of key 6 or a start clears it.
+ *   - In the outbox, eight bytes at most: the reply to a damaged frame has what stands in the
+ *     sequence's place, which may be bytes of the value. Until the next reply or a start.
+ *   - In the main processor's part, from oatcastle_requester_request on. The answer leaves it:
+ *     until data of later requests overwrite it, or oatcastle_requester_start clears it.
+ *
+ * What this library cannot clear: the caller's buffers (piece, data, frame), a driver's queue, DMA
+ * memory, registers, and the stack below a call: one that writes a frame leaves the message there
+ * (docs/FIRMWARE.md). Nothing is said of the time that a call takes. */
 
 #define OATCASTLE_PASSPHRASE_RECORD 8469    /**< 1 byte: 1 if a value is held, else 0 */
 #define OATCASTLE_PASSPHRASE_EDITION 8470   /**< 4 bytes: how often it was set since the start */
@@ -433,7 +448,8 @@ static inline const char *oatcastle_refusal_text(uint32_t number)
 /* ==== The line layer: frames of messages. `state` is a reader's part, OATCASTLE_READER_LENGTH
  * bytes. */
 
-/** Begins a fresh reader in a state of any contents.
+/** Begins a fresh reader in a state of any contents, and leaves nothing of what the state's
+ * published length held.
  * @return 0; 12: the state is too short. */
 uint32_t oatcastle_line_start(uint8_t *state, oatcastle_length state_length);
 
@@ -510,10 +526,11 @@ uint32_t oatcastle_line_checksum(const uint8_t *body, oatcastle_length body_leng
 
 /* ==== The supervisor: five lent parts. */
 
-/** Begins the supervisor in parts of any contents, with start data of OATCASTLE_START_LENGTH bytes.
- * A further start begins anew, and forgets also whether a 00 is owed on the wire: where bytes were
- * taken before it and the last of them was not 00, the caller sends one 00 itself ahead of what it
- * takes after it, or the other side reads both as one frame.
+/** Begins the supervisor in parts of any contents, with start data of OATCASTLE_START_LENGTH bytes,
+ * and leaves nothing of what their published lengths held. A further start begins anew, and forgets
+ * also whether a 00 is owed on the wire: where bytes were taken before it and the last of them was
+ * not 00, the caller sends one 00 itself ahead of what it takes after it, or the other side reads
+ * both as one frame.
  * @return 0; 12: a part is too short; 11: over 64 items, an item's data over 64 bytes, a result not
  * 0, 2 or 3, an image ID over 64 bytes, or a BSU that is not 0x41 or 0x42. */
 uint32_t oatcastle_start(const uint8_t data[OATCASTLE_START_LENGTH],
@@ -767,7 +784,8 @@ uint32_t oatcastle_panic_record(const uint8_t *registers, oatcastle_length regis
  *   - A frame whose transmission has begun is finished, or ended by one 00, before the bytes of a
  *     newer one. */
 
-/** Begins the main processor's end in parts of any contents: no number used, nothing outstanding.
+/** Begins the main processor's end in parts of any contents: no number used, nothing outstanding,
+ * and nothing left of what the parts' published lengths held.
  * @return 0; 12: a part is too short. */
 uint32_t oatcastle_requester_start(uint8_t *reader, oatcastle_length reader_length,
                                    uint8_t *requester, oatcastle_length requester_length);
@@ -955,68 +973,72 @@ uint32_t oatcastle_rot_crc(const uint8_t *bytes, oatcastle_length bytes_length,
  *
  * ---- Table by docs/firmware.py
  *                                x86-64     M4     M0   RV32  Instructions, M4          -Os     -O2
- * oatcastle_line_start              136      0      8      0                             16      16
- * oatcastle_line_read               424    560    608    480  no data                 1,449   1,267
- *                                                             4,104 bytes           104,480 104,948
- * oatcastle_line_data               136     16     32      0  no data                    44      44
+ * oatcastle_line_start              144      8      8     16                         12,452  12,452
+ * oatcastle_line_read               424    560    608    480  no data                 1,448   1,267
+ *                                                             4,104 bytes           104,479 104,948
+ * oatcastle_line_data               136     16     32      0  no data                    44      43
  *                                                             4,104 bytes            16,481  16,481
  * oatcastle_line_tail               136      0     16      0                             26      26
- * oatcastle_line_write            4,584  4,936  5,024  4,912  no data                 1,300   1,294
- *                                                             4,104 bytes           120,283 119,924
- * oatcastle_line_checksum           216    320    352    288  no byte                    42      39
- *                                                             4,104 bytes            32,701  32,344
- * oatcastle_start                   160    108    156    112                         75,916  75,851
- * oatcastle_receive               5,032  5,696  6,152  5,920  a byte                  1,044     563
- *                                                             a status request        4,502   3,759
- *                                                             a set of 4,096 bytes  128,447 128,361
- * oatcastle_step                  5,160  5,872  6,416  6,240  a byte                  1,223     761
- *                                                             a status request        4,557   3,833
- *                                                             a set of 4,096 bytes  128,456 128,424
- * oatcastle_clear_counters          136      8      8     16                            124     124
- * oatcastle_receive_counted       5,064  5,824  6,280  6,032  a byte                  1,681     588
- *                                                             a status request        5,143   3,788
- *                                                             a set of 4,096 bytes  129,041 128,378
- * oatcastle_step_counted          5,176  5,960  6,504  6,320  a byte                  1,554     774
- *                                                             a status request        4,893   3,851
- *                                                             a set of 4,096 bytes  128,793 128,443
+ * oatcastle_line_write            4,584  4,936  5,024  4,912  no data                 1,299   1,294
+ *                                                             4,104 bytes           120,283 119,925
+ * oatcastle_line_checksum           216    320    352    288  no byte                    43      41
+ *                                                             4,104 bytes            32,699  32,344
+ * oatcastle_start                   176    116    156    112                         88,351  88,286
+ * oatcastle_receive               5,080  5,712  6,144  5,920  a byte                  1,046     563
+ *                                                             a status request        4,528   3,778
+ *                                                             a set of 4,096 bytes  128,500 128,408
+ *                                                             a set of key 6         18,438  17,753
+ * oatcastle_step                  5,208  5,888  6,408  6,240  a byte                  1,224     759
+ *                                                             a status request        4,583   3,851
+ *                                                             a set of 4,096 bytes  128,511 128,473
+ *                                                             a set of key 6         18,451  17,816
+ * oatcastle_clear_counters          136      8      8     16                            124     123
+ * oatcastle_receive_counted       5,112  5,840  6,272  6,032  a byte                  1,683     586
+ *                                                             a status request        5,169   3,805
+ *                                                             a set of 4,096 bytes  129,094 128,426
+ *                                                             a set of key 6         19,036  17,769
+ * oatcastle_step_counted          5,224  5,976  6,496  6,320  a byte                  1,556     773
+ *                                                             a status request        4,919   3,868
+ *                                                             a set of 4,096 bytes  128,846 128,491
+ *                                                             a set of key 6         18,788  17,834
  * oatcastle_take                    152     40     56      0  37 bytes                  258     258
  *                                                             an image block         20,714  20,714
- * oatcastle_post                    200    196    284    160  no text                   432     139
- *                                                             256 bytes               1,764   1,470
+ * oatcastle_post                    200    196    284    160  no text                   431     139
+ *                                                             256 bytes               1,764   1,471
  * oatcastle_set_options             184    148    204    128                            356     158
- * oatcastle_lookup                  360    316    380    368  key 0                     788     396
- *                                                             4,096 bytes            18,239  17,849
- * oatcastle_edition                 296    252    292    320                            444     226
+ * oatcastle_lookup                  360    316    380    368  key 0                     788     397
+ *                                                             4,096 bytes            18,238  17,846
+ * oatcastle_edition                 296    252    292    320                            444     227
  * oatcastle_save                    344    416    480    384  no setting                371     216
  *                                                             8,483 bytes           119,045 118,204
  * oatcastle_restore                 296    384    464    368  no setting                349     194
- *                                                             8,483 bytes           119,058 118,225
+ *                                                             8,483 bytes           119,058 118,224
  * oatcastle_signal                  184    148    180     96                            454     196
- * oatcastle_flags                   184    148    180    112                            369     171
- * oatcastle_boot_failure_record     248    220    308    224  none                      756     358
+ * oatcastle_flags                   184    148    180    112                            370     171
+ * oatcastle_boot_failure_record     248    220    308    224  none                      757     359
  *                                                             512 bytes               2,868   2,470
- * oatcastle_panic_record            248    220    308    224  none                      756     358
- *                                                             512 bytes               2,868   2,471
- * oatcastle_requester_start         136      0     16     16                             28      28
+ * oatcastle_panic_record            248    220    308    224  none                      755     358
+ *                                                             512 bytes               2,868   2,469
+ * oatcastle_requester_start         160     16     16     16                         24,822  24,821
  * oatcastle_requester_request     4,568  4,984  5,136  5,008  no data                 1,631   1,419
  *                                                             4,104 bytes           140,871 140,308
- * oatcastle_requester_interrupt     200    156    212    176                            308     108
- * oatcastle_requester_send        4,616  4,960  5,088  4,976  no data                 1,702   1,388
+ * oatcastle_requester_interrupt     200    156    212    176                            309     108
+ * oatcastle_requester_send        4,616  4,960  5,088  4,976  no data                 1,699   1,386
  *                                                             4,104 bytes           120,404 119,738
- * oatcastle_requester_receive       488    712    792    672  37 bytes                2,380   1,798
- *                                                             4,104 bytes           104,929 104,994
+ * oatcastle_requester_receive       488    712    792    672  37 bytes                2,381   1,798
+ *                                                             4,104 bytes           104,929 104,993
  * oatcastle_requester_state         216    164    212    160                            428     118
- * oatcastle_addresses               280    160    256    160                            646     636
+ * oatcastle_addresses               280    160    256    160                            647     636
  * oatcastle_plan                    136     16     40     16                             31      23
  * oatcastle_probe_update            144     40     56      0  1 part                     64      64
- *                                                             64 parts                1,862   1,861
- * oatcastle_rot_read              1,168  1,252  1,300  1,312  no payload              1,869   1,796
- *                                                             512 bytes              10,357  10,285
- * oatcastle_rot_payload           1,152  1,188  1,228  1,232  512 bytes               9,994   9,912
+ *                                                             64 parts                1,861   1,861
+ * oatcastle_rot_read              1,168  1,252  1,300  1,312  no payload              1,869   1,795
+ *                                                             512 bytes              10,358  10,286
+ * oatcastle_rot_payload           1,152  1,188  1,228  1,232  512 bytes               9,993   9,912
  * oatcastle_rot_write             1,152  1,212  1,260  1,264  no payload                918     892
  *                                                             512 bytes               6,444   6,419
- * oatcastle_rot_crc               1,040  1,056  1,096  1,088  no byte                   785     785
- *                                                             512 bytes               3,739   3,739
+ * oatcastle_rot_crc               1,040  1,056  1,096  1,088  no byte                   784     784
+ *                                                             512 bytes               3,739   3,740
  * ---- End of the table
  */
 

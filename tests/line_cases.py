@@ -375,8 +375,8 @@ def cases():
     yield from run_cases()
     yield Case('no room').write(1, 1, 8, 0, 0)
     yield Case('4105 bytes and no room').add(nonzero(4105)).write(1, 1, 8, 0, 0)
-    # refusals leave the state as it was: 0, 0 and then a5, or what was stored
-    fresh = digest(b'\0\0' + b'\xa5' * 4140)
+    # a start leaves zeros in the published length; refusals leave the state as it was
+    fresh = digest(b'\0' * 4142)
     c = Case('read with too little state').add(L12).tell('g', f'{fresh}')
     for lent in (0, 1, 2, 4141):
         c.tell(f'l {lent}', 'refused 12')
@@ -390,12 +390,12 @@ def cases():
     c.tail = b''
     yield c.unfinished().add(L12).read()
     for count in (4141, 4142, 65535):
-        stored = digest(count.to_bytes(2, 'little') + b'\xa5' * 4140)
+        stored = digest(count.to_bytes(2, 'little') + b'\0' * 4140)
         c = Case(f'stored count {count}').tell(f'i {count}').tell('g', f'{stored}')
         ok = count <= 4141
         yield c.tell('t', 'tail longer' if ok else 'refused 12').tell('d 0', 'data 0' if ok else 'refused 12').add(b'\0').tell('l 4142', 'fail 1' if ok else 'refused 12').tell('g', f'{fresh if ok else stored}')
     m = message(1, 2, 3, b'\0abc\0')
-    yield Case('data of a message').add(stuffed(m) + b'\0').read().tell('d 5', f"data {digest(m[17:-2])}").tell('d 4104', f"data {digest(m[17:] + stuffed(m)[len(m):] + bytes([0xa5]) * (4104 - len(stuffed(m)) + 17))}").tell('d 4105', 'refused 9')
+    yield Case('data of a message').add(stuffed(m) + b'\0').read().tell('d 5', f"data {digest(m[17:-2])}").tell('d 4104', f"data {digest(m[17:] + stuffed(m)[len(m):] + bytes(4104 - len(stuffed(m)) + 17))}").tell('d 4105', 'refused 9')
 
 
 def texts():

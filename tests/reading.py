@@ -32,7 +32,7 @@ SEVERAL = {
     'value-last-set': '',
     'too-little': '',
     'parts-fit': '',
-    'main-processor': 'claims.AsItWas claims.Item2 claims.Item6 claims.NumberDue',
+    'main-processor': 'claims.AsItWas claims.Item14 claims.Item2 claims.Item6 claims.NumberDue',
 }
 
 

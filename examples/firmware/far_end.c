@@ -62,7 +62,7 @@ struct step {
 static const struct step polite[] = {{SEND, ALL(l10)}, {AWAIT, ALL(reason1)}, {SEND, ALL(l12)}, {AWAIT, ALL(status)}, {END, 500, 0}};
 
 /* Asks, and is silent until the reply is there. */
-static const struct step asking[] = {{SEND, ALL(l12)}, {AWAIT, ALL(status)}, {AGAIN, 3000, 0}, {END, 500, 0}};
+static const struct step asking[] = {{SEND, ALL(l12)}, {AWAIT, ALL(status)}, {AGAIN, 10000, 0}, {END, 500, 0}};
 
 /* Bytes are lost while it babbles, and a 00 right behind them may be too: it is quiet first. */
 static const struct step babbling[] = {

@@ -93,6 +93,12 @@ static void requests(void)
     request("status request", OATCASTLE_COMMAND_STATUS, 0);
     request("image block request", OATCASTLE_COMMAND_IMAGE_BLOCK, 40);
     fill(data, sizeof data);
+    data[0] = OATCASTLE_KEY_ETC_SYSTEM;
+    request("key set of 8 bytes", OATCASTLE_COMMAND_KEY_SET, 9);
+    request("key set of 63 bytes", OATCASTLE_COMMAND_KEY_SET, 64);
+    data[0] = OATCASTLE_KEY_PASSPHRASE;
+    request("key set of a passphrase of 8 bytes", OATCASTLE_COMMAND_KEY_SET, 9);
+    request("key set of a passphrase of 63 bytes", OATCASTLE_COMMAND_KEY_SET, 64);
     data[0] = OATCASTLE_KEY_DTRACE_CONF;
     request("key set of 4,096 bytes", OATCASTLE_COMMAND_KEY_SET, 4097);
     for (uint32_t i = 1; i < sizeof data; i++)
@@ -140,6 +146,9 @@ static void receive_calls(void)
     static const char *const status[] = {
         "oatcastle_receive, a status request", "oatcastle_step, a status request", "oatcastle_receive_counted, a status request", "oatcastle_step_counted, a status request",
     };
+    static const char *const passphrase[] = {
+        "oatcastle_receive, a set of key 6", "oatcastle_step, a set of key 6", "oatcastle_receive_counted, a set of key 6", "oatcastle_step_counted, a set of key 6",
+    };
     static const char *const set[] = {
         "oatcastle_receive, a set of 4,096 bytes", "oatcastle_step, a set of 4,096 bytes", "oatcastle_receive_counted, a set of 4,096 bytes", "oatcastle_step_counted, a set of 4,096 bytes",
     };
@@ -158,6 +167,8 @@ static void receive_calls(void)
     fill(data, sizeof data);
     data[0] = OATCASTLE_KEY_DTRACE_CONF;
     receipts(set, frame(3, OATCASTLE_COMMAND_KEY_SET, 4097));
+    data[0] = OATCASTLE_KEY_PASSPHRASE;
+    receipts(passphrase, frame(4, OATCASTLE_COMMAND_KEY_SET, 1 + OATCASTLE_LONGEST_PASSPHRASE));
 }
 
 static void register_calls(void)

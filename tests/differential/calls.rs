@@ -171,8 +171,8 @@ pub struct Outcome {
     pub room: Vec<u8>,
     /// Parts that may differ afterwards; their meaning is compared, the bytes of all others.
     pub changed: [bool; 6],
-    /// The published bytes of a part, where they are settled one by one.
-    pub exact: Vec<(usize, Vec<u8>)>,
+    /// The bytes of a part from an offset to its published length, where they are settled one by one.
+    pub exact: Vec<(usize, usize, Vec<u8>)>,
 }
 
 pub fn refused(code: u32) -> Outcome {

@@ -1,6 +1,7 @@
 // Defines the differential test's program: random histories of calls on the static library and on the model, compared call by call.
 // Assumes the C functions of include/oatcastle.h, docs/STATE.md for the lent bytes and documents 01 and 02 for everything else.
 
+mod apart;
 mod calls;
 mod counters;
 mod history;
@@ -14,6 +15,7 @@ mod probes;
 mod random;
 mod requester;
 mod state;
+mod traces;
 mod traffic;
 mod twins;
 mod world;
@@ -155,16 +157,15 @@ fn faults(numbers: &[usize], seed: u64, count: u64) -> ExitCode {
     if missed == 0 { ExitCode::SUCCESS } else { ExitCode::FAILURE }
 }
 
-/// Two supervisors that differ only in key 6's setting.
-fn two(seed: u64, count: u64) -> ExitCode {
-    let result = twins::compare(seed, count);
+/// Two supervisors that differ only in key 6's setting, or a scan of all parts for the bytes of a passphrase.
+fn passphrases(result: Result<String, String>, seed: u64) -> ExitCode {
     let (Ok(said) | Err(said)) = &result;
     println!("seed {seed}: {}; {said}", if result.is_ok() { "no difference" } else { "a difference" });
     if result.is_ok() { ExitCode::SUCCESS } else { ExitCode::FAILURE }
 }
 
 fn usage() -> ExitCode {
-    eprintln!("usage: run [--trace] SEED COUNT, run --broken NUMBER|all [SEED COUNT], run --twins SEED COUNT, run --faults");
+    eprintln!("usage: run [--trace] SEED COUNT, run --broken NUMBER|all [SEED COUNT], run --twins SEED COUNT, run --traces SEED COUNT, run --faults");
     ExitCode::from(2)
 }
 
@@ -196,7 +197,8 @@ fn main() -> ExitCode {
             };
             limits.map_or_else(usage, |(seed, count)| faults(&chosen, seed, count))
         }
-        ["--twins", seed, count] => numbers(seed, count).map_or_else(usage, |(seed, count)| two(seed, count)),
+        ["--twins", seed, count] => numbers(seed, count).map_or_else(usage, |(seed, count)| passphrases(twins::compare(seed, count), seed)),
+        ["--traces", seed, count] => numbers(seed, count).map_or_else(usage, |(seed, count)| passphrases(traces::compare(seed, count), seed)),
         [seed, count] => numbers(seed, count).map_or_else(usage, |(seed, count)| plain(seed, count, trace)),
         _ => usage(),
     }

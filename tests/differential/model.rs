@@ -86,6 +86,22 @@ faults! {
     LengthNotHeld: "12 lets a length stand where no value is held",
     EditionNotHeld: "12 lets an edition stand where no value is held",
     Key7Found: "key 7 is looked up as key 6 is",
+    WipeForgotten: "the reader's part is not wiped behind a set of key 6",
+    WipeOneShort: "the wipe leaves the last byte of the reader's part",
+    WipeFrameOnly: "the wipe reaches as far as the frame alone",
+    WipeOnResult0: "the reader's part is wiped behind a set of key 6 with result 0 alone",
+    WipeOnRequest: "a set of key 6 that fails by version or sequence leaves the reader's part",
+    WipeKey5: "the reader's part is wiped behind a set of key 5 too",
+    WipeLookup: "the reader's part is wiped behind a lookup of key 6 too",
+    WipeLineRead: "a line read wipes behind a set of key 6",
+    WipeMain: "the main processor's end wipes its reader's part behind an answer",
+    PassphraseRest: "a set of key 6 leaves the rest of a longer value before it",
+    OtherRest: "a set of any key clears the rest of a longer value before it",
+    StartKeepsReader: "a start of the supervisor leaves the reader's bytes",
+    LineStartKeeps: "a start of the line layer leaves its bytes",
+    MainStartKeepsReader: "a start of the main processor's end leaves the reader's bytes",
+    MainStartKeepsData: "a start of the main processor's end leaves a request's data",
+    MainAnswerClears: "an answer clears the data of its request",
     ItemDataKept: "an item with result 2 carries its data",
     ItemIndexLast: "the index equal to the count gives the last item",
     OptionBit9: "option bit 9 is let through",
@@ -325,6 +341,11 @@ pub fn judge(form: &[u8], long: bool) -> Result<Message, Failure> {
     })
 }
 
+/// Whether a message that the line layer finds good is a set of this key, whatever else is wrong with it.
+pub fn sets(message: &Message, key: u8) -> bool {
+    message.command == 0x10 && message.data.first() == Some(&key)
+}
+
 /// The bytes since the last 00, or that they are more than 4,140.
 #[derive(Clone, Debug, PartialEq, Eq, Default)]
 pub struct Reader {
@@ -339,7 +360,18 @@ pub enum Ended {
     Failure(Failure),
 }
 
+/// How many bytes of frames a read has written at most that began with so many held and has read so many of a piece.
+pub fn reach(held: usize, piece: &[u8], used: usize) -> usize {
+    let new = piece[..used].iter().filter(|&&byte| byte != 0).count();
+    LONGEST_FORM.min(held + new)
+}
+
 impl Reader {
+    /// How many bytes of the frame are held.
+    pub fn reach(&self) -> usize {
+        if self.long { LONGEST_FORM } else { LONGEST_FORM.min(self.bytes.len()) }
+    }
+
     /// Reads up to the piece's end or its first 00; gives how many bytes were read.
     pub fn read(&mut self, piece: &[u8]) -> (usize, Ended) {
         let stop = piece.iter().position(|&byte| byte == 0);
@@ -635,12 +667,24 @@ struct Reply {
     data: Vec<u8>,
 }
 
+/// A key, and the edition and the value that a set has stored.
+pub struct Stored {
+    pub key: u8,
+    pub edition: u32,
+    pub value: Vec<u8>,
+}
+
 /// What the frames of a call may have changed, how often each reason, each command in each version and each result of a set came, and kind and reason
 /// of each step.
 pub struct Touched {
     pub outbox: bool,
     pub settings: bool,
     pub registers: bool,
+    /// How many frame bytes of the reader's part the frames may have written: up to the last wipe, if there was one, and since then.
+    pub wiped: Option<usize>,
+    pub reach: usize,
+    /// The sets with result 0.
+    pub stored: Vec<Stored>,
     pub reasons: [u64; 8],
     pub commands: [[u64; 17]; 2],
     pub sets: [u64; 5],
@@ -649,7 +693,18 @@ pub struct Touched {
 
 impl Touched {
     pub fn none() -> Touched {
-        Touched { outbox: false, settings: false, registers: false, reasons: [0; 8], commands: [[0; 17]; 2], sets: [0; 5], ends: Vec::new() }
+        Touched {
+            outbox: false,
+            settings: false,
+            registers: false,
+            wiped: None,
+            reach: 0,
+            stored: Vec::new(),
+            reasons: [0; 8],
+            commands: [[0; 17]; 2],
+            sets: [0; 5],
+            ends: Vec::new(),
+        }
     }
 }
 
@@ -683,6 +738,17 @@ fn told_of(request: &Message, reply: Option<&Reply>, held: bool) -> Told {
     }
 }
 
+/// Whether the reader's part is wiped behind a good message.
+fn wipes(message: &Message, told: &Told) -> bool {
+    if sets(message, 5) && broken(Fault::WipeKey5) || message.command == 0x0e && message.data.first() == Some(&PASSPHRASE) && broken(Fault::WipeLookup) {
+        return true;
+    }
+    let kept = broken(Fault::WipeForgotten)
+        || broken(Fault::WipeOnResult0) && (told.kind != 2 || told.result != 0)
+        || broken(Fault::WipeOnRequest) && told.kind != 2;
+    sets(message, PASSPHRASE) && !kept
+}
+
 impl Supervisor {
     pub fn start(factory: Factory, before: &Outbox) -> Supervisor {
         Supervisor {
@@ -696,7 +762,9 @@ impl Supervisor {
 
     /// Reads up to the piece's end or its first 00.
     pub fn step(&mut self, image: &[u8], piece: &[u8], touched: &mut Touched) -> Told {
+        let held = self.reader.reach();
         let (used, ended) = self.reader.read(piece);
+        touched.reach = touched.reach.max(reach(held, piece, used));
         let told = Told { used, ..Told::default() };
         match ended {
             Ended::More => told,
@@ -707,7 +775,13 @@ impl Supervisor {
                 }
                 Told { kind: 1, ..told }
             }
-            Ended::Message(message) => Told { used, ..self.message(&message, image, touched) },
+            Ended::Message(message) => {
+                let told = Told { used, ..self.message(&message, image, touched) };
+                if wipes(&message, &told) {
+                    touched.wiped = Some(std::mem::take(&mut touched.reach));
+                }
+                told
+            }
             Ended::Failure(failure) => Told { used, ..self.fail(1, failure, touched) },
         }
     }
@@ -897,6 +971,10 @@ impl Supervisor {
                 let before = self.settings.clone();
                 let result = set_key(&mut self.settings, data[0], &data[1..]);
                 touched.settings |= self.settings != before;
+                if result == 0 {
+                    let edition = self.settings[usize::from(data[0]) - 3].edition;
+                    touched.stored.push(Stored { key: data[0], edition, value: data[1..].to_vec() });
+                }
                 touched.sets[usize::from(result)] += 1;
                 Some((0x0c, vec![result]))
             }

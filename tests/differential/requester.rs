@@ -3,13 +3,15 @@
 
 use crate::calls::{answered, hex, numbers, pattern, same};
 use crate::library::{self, RequesterReceiveAnswer, RequesterRequestAnswer, RequesterSendAnswer, RequesterStateAnswer};
-use crate::model::{broken, frame, judge, Fault, Message, Reader, LONGEST_DATA, LONGEST_FORM, TOP_BIT};
+use crate::model::{broken, frame, judge, reach, Fault, Message, Reader, LONGEST_DATA, LONGEST_FORM, TOP_BIT};
 use crate::random::Random;
-use crate::state::{self, number, put};
+use crate::state::{self, number, put, FORM_OFFSET};
 
 pub const LAST: u64 = 0x7fff_ffff_ffff_fffe;
 const READER_LENGTH: usize = 4142;
 const LENGTH: usize = 4118;
+/// Where the main processor's part has a request's data.
+const DATA_OFFSET: usize = 14;
 /// Bytes behind each part, and numbers behind an answer; the longest answer has ten.
 const TAIL: usize = 9;
 const GUARD: usize = 2;
@@ -423,11 +425,22 @@ impl Pair {
     /// One call on both sides; what it answers, writes and leaves is compared.
     fn call(&mut self, call: &Call, lent: [usize; 2], room: usize) -> Result<Expected, String> {
         let words = words(call, lent, room);
-        let before = self.parts.clone();
+        let mut before = self.parts.clone();
         let old_room = self.random.bytes(room);
         let stood = pattern(&mut self.random, MOST_NUMBERS + GUARD);
         let (mut out, mut answer) = (old_room.clone(), stood.clone());
+        let held = self.reader.reach();
         let outcome = self.model(call, lent, room);
+        let reach = match call {
+            Call::Receive { piece } if outcome.code == 0 => reach(held, piece, answered::<RequesterReceiveAnswer>(&outcome.answer).used as usize),
+            _ => 0,
+        };
+        if outcome.data.is_some() && broken(Fault::MainAnswerClears) {
+            before[1][DATA_OFFSET..LENGTH].fill(0);
+        }
+        if outcome.data.is_some() && broken(Fault::WipeMain) {
+            before[0][FORM_OFFSET..READER_LENGTH].fill(0);
+        }
         let code = self.library(call, lent, &mut out, &mut answer);
         if code != outcome.code {
             return Err(format!("{words}: the model says {}, the library {code}", outcome.code));
@@ -440,7 +453,7 @@ impl Pair {
             return Err(format!("{words}: the model answers {numbers:x?}, the library {answer:x?}"));
         }
         same(&format!("{words}: the room"), &[&outcome.room[..], &old_room[outcome.room.len()..]].concat(), &out)?;
-        self.left(&words, call, code != 0, &before)?;
+        self.left(&words, call, code != 0, &before, reach)?;
         if let Some(data) = &outcome.data {
             self.handed_out(&words, data)?;
         }
@@ -464,14 +477,24 @@ impl Pair {
         }
     }
 
-    /// What a call leaves: all of it where it is refused or asks for the state, else what the parts mean and the bytes past them.
-    fn left(&self, words: &str, call: &Call, refused: bool, before: &[Vec<u8>; 2]) -> Result<(), String> {
-        let kept = if refused || matches!(call, Call::State) { [0, 0] } else { [READER_LENGTH, LENGTH] };
+    /// What a call leaves: all of it where it is refused or asks for the state, else what the parts mean and the bytes that it does not write.
+    fn left(&self, words: &str, call: &Call, refused: bool, before: &[Vec<u8>; 2], reach: usize) -> Result<(), String> {
+        let kept = match call {
+            _ if refused => [0, 0],
+            Call::State => [0, 0],
+            Call::Start => [READER_LENGTH, LENGTH],
+            Call::Request { data, .. } => [0, DATA_OFFSET + data.len()],
+            Call::Interrupt | Call::Send => [0, DATA_OFFSET],
+            Call::Receive { .. } => [FORM_OFFSET + reach, DATA_OFFSET],
+        };
         for part in 0..2 {
-            same(&format!("{words}: part {part}"), &before[part][kept[part]..], &self.parts[part][kept[part]..])?;
+            same(&format!("{words}: part {part} from {}", kept[part]), &before[part][kept[part]..], &self.parts[part][kept[part]..])?;
         }
         if refused {
             return Ok(());
+        }
+        if matches!(call, Call::Start) {
+            self.left_by_start(words, before)?;
         }
         if !matches!(call, Call::Start | Call::Receive { .. }) {
             same(&format!("{words}: the reader"), &before[0], &self.parts[0])?;
@@ -481,6 +504,19 @@ impl Pair {
         let found = meaning(&self.parts[1]);
         if self.requester != found {
             return Err(format!("{words}: the model's state is {:?}, the library's {found:?}", self.requester));
+        }
+        Ok(())
+    }
+
+    /// A start leaves nothing of either part.
+    fn left_by_start(&self, words: &str, before: &[Vec<u8>; 2]) -> Result<(), String> {
+        let keeps = [broken(Fault::MainStartKeepsReader), broken(Fault::MainStartKeepsData)];
+        for (part, (length, from)) in [(READER_LENGTH, FORM_OFFSET), (LENGTH, DATA_OFFSET)].into_iter().enumerate() {
+            let mut nothing = vec![0; length];
+            if keeps[part] {
+                nothing[from..].copy_from_slice(&before[part][from..length]);
+            }
+            same(&format!("{words}: part {part} at a start"), &nothing, &self.parts[part][..length])?;
         }
         Ok(())
     }

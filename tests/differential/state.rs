@@ -30,7 +30,7 @@ const FACTORY_LENGTH: usize = PONG_OFFSET + 4;
 /// Where the setting of each settings key from 3 on stands, and its longest value; a value stands behind a flag, an edition and a length.
 pub const EDITION_OFFSET: usize = 1;
 pub const VALUE_LENGTH_OFFSET: usize = 5;
-const VALUE_OFFSET: usize = 7;
+pub const VALUE_OFFSET: usize = 7;
 pub const KEYS: [(usize, usize); 4] = {
     let second = VALUE_OFFSET + LONGEST[0];
     let third = second + VALUE_OFFSET + LONGEST[1];
@@ -38,6 +38,8 @@ pub const KEYS: [(usize, usize); 4] = {
     [(0, LONGEST[0]), (second, LONGEST[1]), (third, LONGEST[2]), (fourth, LONGEST[3])]
 };
 const SETTINGS_LENGTH: usize = KEYS[3].0 + VALUE_OFFSET + LONGEST[3];
+/// Where a line reader's part has the bytes of a frame.
+pub const FORM_OFFSET: usize = 2;
 /// The setting of key 6 runs from here to the store's end.
 pub const PASSPHRASE_OFFSET: usize = KEYS[3].0;
 

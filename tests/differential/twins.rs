@@ -1,15 +1,17 @@
-// Defines two supervisors that differ only in key 6's setting: the same calls on both, and the comparison of all that they answer, write and leave.
-// Assumes that no call brings either edition to its end; with a fault of the model, what the model says of each stands for what the library does.
+// Defines two supervisors that differ only in key 6's setting: the same calls on both, but for sets of key 6 with values of their own (apart.rs), and the
+// comparison of all that they answer, write and leave. Assumes that no call brings either edition to its end; with a fault of the model in an answer, what
+// the model says of each stands for what the library does.
 
+use crate::apart;
 use crate::calls::{answered, pattern, same, Call, Lent};
 use crate::library::StepAnswer;
-use crate::model::{self, break_rule, Fault, FAULTS, LAST_EDITION, PASSPHRASE, SHORTEST_PASSPHRASE};
+use crate::model::{self, break_rule, Fault, Reader, FAULTS, LAST_EDITION, PASSPHRASE, SHORTEST_PASSPHRASE};
 use crate::random::Random;
-use crate::state::{self, LENGTHS, LINE, NAMES, PASSPHRASE_OFFSET, REGISTERS, SETTINGS, START_LENGTH};
+use crate::state::{self, LENGTHS, LINE, NAMES, PASSPHRASE_OFFSET, READER, REGISTERS, SETTINGS, START_LENGTH};
 use crate::traffic;
 use crate::world::World;
 
-/// In a run of so many calls key 6 must be made to differ, be asked for by a local call, be stored and be told by a step so often at least.
+/// In a run of so many calls each of these must have come up so often at least: `Tally`.
 const DEMANDED: u64 = 10_000;
 const DEMANDED_TIMES: u64 = 50;
 
@@ -31,26 +33,43 @@ fn about_passphrase(random: &mut Random) -> Vec<u8> {
     model::frame(version, sequence, 0x10, &data)
 }
 
-pub struct Twins {
-    random: Random,
-    worlds: [World; 2],
-    /// Whether the models speak, and not the libraries.
-    models: bool,
-    calls: u64,
-    /// Bytes of numbers, answers and rooms, and of parts.
-    said: u64,
-    lent: u64,
-    /// How often the settings were made to differ, key 6 was asked for by a local call, a call has stored it, and a step has told of a set of it.
+/// What one twin answers and writes outside its state: the call's number, the answer and the room.
+pub type Said = (u32, Vec<u64>, Vec<u8>);
+
+/// How often what came up.
+#[derive(Debug, Default)]
+pub struct Tally {
+    /// The settings were made to differ by their bytes.
     planted: u64,
+    /// A local call asked for key 6, a call has stored it, and a step has told of a set of it.
     asked: u64,
     stored: u64,
     told: u64,
+    /// Each twin set a value of its own: stored, and refused.
+    pub set_apart: u64,
+    pub refused_apart: u64,
+    /// A call of the line layer read the reader's part behind such a set, before the next frame.
+    lined: u64,
+}
+
+pub struct Twins {
+    pub random: Random,
+    pub worlds: [World; 2],
+    /// Whether the models speak, and not the libraries.
+    pub models: bool,
+    pub calls: u64,
+    /// Bytes of numbers, answers and rooms, and of parts.
+    said: u64,
+    lent: u64,
+    pub tally: Tally,
+    /// Whether the reader's part has read nothing since the twins set values of their own.
+    pub behind: bool,
 }
 
 impl Twins {
     fn new(seed: u64, models: bool) -> Twins {
         let worlds = [World::new(seed, false), World::new(seed, false)];
-        Twins { random: Random(seed ^ 0x7777), worlds, models, calls: 0, said: 0, lent: 0, planted: 0, asked: 0, stored: 0, told: 0 }
+        Twins { random: Random(seed ^ 0x7777), worlds, models, calls: 0, said: 0, lent: 0, tally: Tally::default(), behind: false }
     }
 
     /// Each twin gets a setting of key 6 of its own: held, of any length and edition far from the end, or not; any bytes stand past it.
@@ -67,7 +86,7 @@ impl Twins {
             state::put(setting, state::VALUE_LENGTH_OFFSET, 2, if held { length as u64 } else { 0 });
             world.supervisor.settings = state::settings(&world.parts[SETTINGS]);
         }
-        self.planted += 1;
+        self.tally.planted += 1;
     }
 
     /// A call and what is lent with it; the first twin's state guides the choice.
@@ -81,6 +100,10 @@ impl Twins {
             first.wires[1].extend(request);
         }
         let call = match first.random.below(400) {
+            _ if self.behind && first.random.percent(30) => {
+                let kind = first.random.below(3);
+                first.make(kind, READER)
+            }
             0 => Call::Start { data: Box::new(traffic::start_data(&mut first.random)) },
             1 => Call::LineStart { part: first.random.below(2) },
             2..=150 => {
@@ -96,14 +119,14 @@ impl Twins {
         (call, lent)
     }
 
-    /// What one twin answers and writes outside its state: the call's number, the answer and the room.
-    fn answered(&mut self, twin: usize, call: &Call, lent: &Lent, seed: u64) -> (u32, Vec<u64>, Vec<u8>) {
+    /// One twin's call, lent the counter block or not, or as chance has it.
+    pub fn answered(&mut self, twin: usize, call: &Call, lent: &Lent, seed: u64, counting: Option<bool>) -> Said {
         let world = &mut self.worlds[twin];
         let mut fill = Random(seed);
         let mut room = vec![0; lent.room];
         fill.fill(&mut room);
         let mut answer = pattern(&mut fill, call.answers());
-        world.block.prepare(&mut fill, None);
+        world.block.prepare(&mut fill, counting);
         if !self.models {
             return (world.library(call, lent, &mut room, &mut answer), answer, room);
         }
@@ -114,10 +137,29 @@ impl Twins {
     }
 
     fn turn(&mut self) -> Result<(), String> {
+        if self.random.percent(20) && self.between_frames() {
+            return apart::set(self);
+        }
         let (call, lent) = self.next();
+        self.same_call(&call, &lent, true)?;
+        if self.random.percent(1) {
+            self.plant();
+        }
+        Ok(())
+    }
+
+    /// Whether the readers stand between frames, and the wire too.
+    fn between_frames(&self) -> bool {
+        let first = &self.worlds[0];
+        let reader = if self.models { first.supervisor.reader.clone() } else { state::reader(&first.parts[READER]) };
+        first.wires[1].is_empty() && reader == Reader::default()
+    }
+
+    /// The same call on both; `whole` tells whether no set of values of their own is partly received.
+    pub fn same_call(&mut self, call: &Call, lent: &Lent, whole: bool) -> Result<(), String> {
         let seed = self.random.next();
         let before = self.worlds[0].parts[SETTINGS][PASSPHRASE_OFFSET..].to_vec();
-        let [first, second] = [0, 1].map(|twin| self.answered(twin, &call, &lent, seed));
+        let [first, second] = [0, 1].map(|twin| self.answered(twin, call, lent, seed, None));
         self.calls += 1;
         self.said += 4 + 8 * first.1.len() as u64 + first.2.len() as u64;
         let difference = |what: String| format!("call {}: {call}\n  lent {lent:?}\n  {what}", self.calls);
@@ -125,22 +167,22 @@ impl Twins {
             return Err(difference(format!("the number and the answer\n  one   {} {:x?}\n  other {} {:x?}", first.0, first.1, second.0, second.1)));
         }
         same("the room", &first.2, &second.2).map_err(difference)?;
-        self.same_state().map_err(|what| format!("call {}: {call}\n  {what}", self.calls))?;
-        self.stored += u64::from(before != self.worlds[0].parts[SETTINGS][PASSPHRASE_OFFSET..] && !call.starts());
-        self.noted(&call, &first);
-        if matches!(call, Call::Start { .. }) && first.0 == 0 || self.random.percent(1) {
-            self.plant();
-        }
+        self.same_state(whole).map_err(|what| format!("call {}: {call}\n  {what}", self.calls))?;
+        self.tally.stored += u64::from(before != self.worlds[0].parts[SETTINGS][PASSPHRASE_OFFSET..] && !call.starts());
+        self.noted(call, &first);
         Ok(())
     }
 
-    /// The state outside key 6's setting, the bytes past the parts and the counter blocks.
-    fn same_state(&mut self) -> Result<(), String> {
+    /// The state outside key 6's setting, the bytes past the parts and the counter blocks; the reader's part where no set of values of their own is
+    /// partly received.
+    pub fn same_state(&mut self, whole: bool) -> Result<(), String> {
         let [first, second] = &self.worlds;
         for part in LINE..=REGISTERS {
             let (one, other) = (&first.parts[part][..], &second.parts[part][..]);
             self.lent += one.len() as u64;
-            if part == SETTINGS {
+            if part == READER && !whole {
+                same("past the reader", &one[LENGTHS[part]..], &other[LENGTHS[part]..])?;
+            } else if part == SETTINGS {
                 same(NAMES[part], &one[..PASSPHRASE_OFFSET], &other[..PASSPHRASE_OFFSET])?;
                 same("past the settings", &one[LENGTHS[part]..], &other[LENGTHS[part]..])?;
             } else {
@@ -151,14 +193,17 @@ impl Twins {
     }
 
     /// The wires move on, and what was asked of key 6 is counted.
-    fn noted(&mut self, call: &Call, said: &(u32, Vec<u64>, Vec<u8>)) {
+    fn noted(&mut self, call: &Call, said: &Said) {
         if said.0 != 0 {
             return;
         }
-        self.worlds[0].advance(call.wire(), call.used(&said.1));
+        let used = call.used(&said.1);
+        self.worlds[0].advance(call.wire(), used);
+        self.tally.lined += u64::from(self.behind && matches!(call, Call::LineData { part: READER, length: 100.. } | Call::LineTail { part: READER }));
+        self.behind &= !(call.parts().contains(&READER) && (used > 0 || call.starts()));
         match call {
-            Call::Lookup { key: PASSPHRASE, .. } | Call::Edition { key: PASSPHRASE } => self.asked += 1,
-            Call::Step { .. } => self.told += u64::from(answered::<StepAnswer>(&said.1).key == PASSPHRASE.into()),
+            Call::Lookup { key: PASSPHRASE, .. } | Call::Edition { key: PASSPHRASE } => self.tally.asked += 1,
+            Call::Step { .. } => self.tally.told += u64::from(answered::<StepAnswer>(&said.1).key == PASSPHRASE.into()),
             _ => {}
         }
     }
@@ -174,7 +219,6 @@ impl Twins {
             }
             world.mean();
         }
-        self.plant();
     }
 
     fn run(&mut self, count: u64) -> Result<(), String> {
@@ -186,27 +230,39 @@ impl Twins {
     }
 }
 
-/// Each leak must show between two models, and nothing between two without one; then nothing between two libraries.
+/// A leak must show: one in an answer between two models, one in what stays of a set's frame between two libraries.
+fn leaked(leak: Fault, models: bool, seed: u64, count: u64) -> Result<(), String> {
+    let place = FAULTS.iter().position(|&(fault, _)| fault == leak).unwrap();
+    break_rule(place + 1);
+    let mut twins = Twins::new(seed, models);
+    let found = twins.run(count).is_err();
+    break_rule(0);
+    if !found {
+        return Err(format!("a leak ({}) is not found in {count} calls", FAULTS[place].1));
+    }
+    println!("two supervisors, a leak ({}): found after {} calls", FAULTS[place].1, twins.calls);
+    Ok(())
+}
+
+/// Each leak must show, and nothing between two models without one; then nothing between two libraries.
 pub fn compare(seed: u64, count: u64) -> Result<String, String> {
     for leak in LEAKS {
-        let place = FAULTS.iter().position(|&(fault, _)| fault == leak).unwrap();
-        break_rule(place + 1);
-        let mut twins = Twins::new(seed, true);
-        let found = twins.run(count).is_err();
-        break_rule(0);
-        if !found {
-            return Err(format!("a leak ({}) is not found in {count} calls", FAULTS[place].1));
-        }
-        println!("two supervisors, a leak ({}): found after {} calls", FAULTS[place].1, twins.calls);
+        leaked(leak, true, seed, count)?;
+    }
+    for leak in apart::LEAKS {
+        leaked(leak, false, seed, count)?;
     }
     Twins::new(seed, true).run(count)?;
     let mut twins = Twins::new(seed, false);
     twins.run(count)?;
-    let Twins { calls, said, lent, planted, asked, stored, told, .. } = twins;
-    if count >= DEMANDED && [planted, asked, stored, told].iter().any(|&times| times < DEMANDED_TIMES) {
-        return Err(format!("key 6 came up too seldom: made to differ {planted} times, asked for {asked}, stored {stored}, told by a step {told}"));
+    let Twins { calls, said, lent, tally, .. } = twins;
+    let Tally { planted, asked, stored, told, set_apart, refused_apart, lined } = tally;
+    let times = format!(
+        "key 6 made to differ {planted} times, asked for {asked}, stored {stored}, told by a step {told}, set to two values {set_apart}, refused as two values {refused_apart}, \
+         the reader's part read behind these {lined}"
+    );
+    if count >= DEMANDED && [planted, asked, stored, told, set_apart, refused_apart, lined].iter().any(|&times| times < DEMANDED_TIMES) {
+        return Err(format!("too seldom: {times}"));
     }
-    Ok(format!(
-        "{calls} calls on two supervisors, {said} bytes of answers and rooms and {lent} of parts compared; key 6 made to differ {planted} times, asked for {asked}, stored {stored}, told by a step {told}"
-    ))
+    Ok(format!("{calls} calls on two supervisors, {said} bytes of answers and rooms and {lent} of parts compared; {times}"))
 }

@@ -5,10 +5,13 @@ use crate::calls::{hex, numbers, pattern, refused, same, step_answer, Call, Lent
 use crate::counters::Block;
 use crate::images;
 use crate::library::*;
-use crate::model::{self, broken, Ended, Failure, Fault, Message, Reader, Record, Supervisor, Told, Touched, COMMANDS, LONGEST_DATA};
+use crate::model::{self, broken, Ended, Failure, Fault, Message, Reader, Record, Stored, Supervisor, Told, Touched, COMMANDS, LONGEST_DATA, PASSPHRASE};
 use crate::plans::ROWS_LENGTH;
 use crate::random::Random;
-use crate::state::{self, DATA_OFFSET, FACTORY, LENGTHS, LINE, NAMES, OUTBOX, READER, REGISTERS, SETTINGS, START_LENGTH};
+use crate::state::{
+    self, DATA_OFFSET, EDITION_OFFSET, FACTORY, FORM_OFFSET, LENGTHS, LINE, NAMES, OUTBOX, PASSPHRASE_OFFSET, READER, REGISTERS, SETTINGS, START_LENGTH,
+    VALUE_LENGTH_OFFSET, VALUE_OFFSET,
+};
 use std::collections::{HashMap, HashSet};
 use std::fmt;
 
@@ -17,6 +20,9 @@ pub const TAIL: usize = 24;
 const GUARD: usize = 16;
 /// The fields of docs/STATE.md with forbidden values: 1 in a line reader's part (two of them), 3, 37, 8 and 28 in the others.
 pub const FIELDS: usize = 2 + 3 + (3 + 2 * model::MOST_ITEMS + 2) + 3 * model::LONGEST.len() + 28;
+
+/// So many calls of a long run must have wiped the reader's part.
+const DEMANDED_WIPES: u64 = 100;
 
 /// Both sides: the library's lent parts, and the model.
 pub struct World {
@@ -61,6 +67,8 @@ pub struct Tally {
     /// Receives and steps, without the block and with it.
     pub counted: [[u64; 2]; 2],
     pub fields: HashSet<(usize, usize)>,
+    /// Receives and steps behind which the reader's part was wiped.
+    pub wiped: u64,
 }
 
 impl Tally {
@@ -99,6 +107,9 @@ impl Tally {
         }
         if self.counted.as_flattened().contains(&0) {
             missing += " receives and steps with the counter block and without";
+        }
+        if self.wiped < DEMANDED_WIPES {
+            missing += &format!(" wipes of the reader's part, {} of {DEMANDED_WIPES}", self.wiped);
         }
         if self.fields.len() < FIELDS {
             missing += &format!(" {} fields", FIELDS - self.fields.len());
@@ -221,11 +232,15 @@ impl World {
                 *self.line_reader(*part) = Reader::default();
                 self.handed[*part] = None;
                 outcome.changed[*part] = true;
-                outcome.exact.push((*part, self.line_started(*part)));
+                outcome.exact.push((*part, 0, self.line_started(*part, broken(Fault::LineStartKeeps))));
             }
             Call::LineRead { part, piece } => {
+                let held = self.line_reader(*part).reach();
                 let (used, ended) = self.line_reader(*part).read(piece);
                 self.handed[*part] = None;
+                let reach = model::reach(held, piece, used);
+                let set = matches!(&ended, Ended::Message(message) if model::sets(message, PASSPHRASE));
+                outcome.exact.push(self.past_frames(*part, reach, Some(reach).filter(|_| set && broken(Fault::WipeLineRead))));
                 let said = LineReadAnswer { used: used as u64, ..LineReadAnswer::default() };
                 outcome.answer = numbers(match ended {
                     Ended::More => said,
@@ -287,11 +302,11 @@ impl World {
                 let mut outbox = vec![0; LENGTHS[OUTBOX]];
                 outbox[4] = u8::from(self.supervisor.outbox.last_non_zero);
                 outcome.exact = vec![
-                    (READER, self.line_started(READER)),
-                    (OUTBOX, outbox),
-                    (FACTORY, factory),
-                    (SETTINGS, vec![0; LENGTHS[SETTINGS]]),
-                    (REGISTERS, registers),
+                    (READER, 0, self.line_started(READER, broken(Fault::StartKeepsReader))),
+                    (OUTBOX, 0, outbox),
+                    (FACTORY, 0, factory),
+                    (SETTINGS, 0, vec![0; LENGTHS[SETTINGS]]),
+                    (REGISTERS, 0, registers),
                 ];
             }
             Call::Receive { image, piece } | Call::Step { image, piece } => {
@@ -316,6 +331,9 @@ impl World {
                 }
                 self.handed[READER] = None;
                 outcome.changed = [false, !piece.is_empty(), touched.outbox, false, touched.settings, touched.registers];
+                self.tally.wiped += u64::from(touched.wiped.is_some());
+                outcome.exact.push(self.past_frames(READER, touched.reach, touched.wiped));
+                outcome.exact.push((SETTINGS, 0, self.settings_after(&touched.stored)));
             }
             Call::Take => {
                 outcome.room = self.supervisor.outbox.take(lent.room);
@@ -335,7 +353,7 @@ impl World {
                 outcome.changed[REGISTERS] = true;
                 let mut registers = self.parts[REGISTERS][..LENGTHS[REGISTERS]].to_vec();
                 state::put(&mut registers, 8, 8, *options);
-                outcome.exact.push((REGISTERS, registers));
+                outcome.exact.push((REGISTERS, 0, registers));
             }
             Call::Lookup { key, most } => {
                 let (result, value) = model::lookup(&self.supervisor.factory, &self.supervisor.settings, *key, *most);
@@ -361,6 +379,7 @@ impl World {
                 let (left, result) = images::restored(&self.supervisor.settings, image);
                 outcome.changed[SETTINGS] = result.is_ok() || left != self.supervisor.settings;
                 self.supervisor.settings = left;
+                outcome.exact.push((SETTINGS, PASSPHRASE_OFFSET, self.parts[SETTINGS][PASSPHRASE_OFFSET..LENGTHS[SETTINGS]].to_vec()));
                 if let Err((code, offset)) = result {
                     outcome.code = code;
                     outcome.answer = numbers(RestoreAnswer { offset: offset as u64 });
@@ -411,10 +430,46 @@ impl World {
         if broken(Fault::StepCommandBefore) && told.kind == 2 { Told { command: before, ..told } } else { told }
     }
 
-    /// A line reader's part just after its start.
-    fn line_started(&self, part: usize) -> Vec<u8> {
-        let mut bytes = self.parts[part][..LENGTHS[part]].to_vec();
-        state::put(&mut bytes, 0, 2, 0);
+    /// A line reader's part just after its start; the fault leaves the bytes of its frames.
+    fn line_started(&self, part: usize, keeps: bool) -> Vec<u8> {
+        let mut bytes = vec![0; LENGTHS[part]];
+        if keeps {
+            bytes[FORM_OFFSET..].copy_from_slice(&self.parts[part][FORM_OFFSET..LENGTHS[part]]);
+        }
+        bytes
+    }
+
+    /// The bytes of a line reader's part past those that frames have written: 0 behind a wipe, else as they were.
+    fn past_frames(&self, part: usize, reach: usize, wiped: Option<usize>) -> (usize, usize, Vec<u8>) {
+        let from = FORM_OFFSET + reach;
+        let mut bytes = self.parts[part][from..LENGTHS[part]].to_vec();
+        if let Some(frame) = wiped {
+            let all = bytes.len();
+            let extent = match () {
+                () if broken(Fault::WipeOneShort) => all.saturating_sub(1),
+                () if broken(Fault::WipeFrameOnly) => all.min(frame.saturating_sub(reach)),
+                () => all,
+            };
+            bytes[..extent].fill(0);
+        }
+        (part, from, bytes)
+    }
+
+    /// The settings store behind these sets: a value stands over the one before, of which only key 6 leaves nothing.
+    fn settings_after(&self, stored: &[Stored]) -> Vec<u8> {
+        let mut bytes = self.parts[SETTINGS][..LENGTHS[SETTINGS]].to_vec();
+        for Stored { key, edition, value } in stored {
+            let (place, longest) = state::KEYS[usize::from(*key) - 3];
+            let held = &mut bytes[place + VALUE_OFFSET..][..longest];
+            if *key == PASSPHRASE && !broken(Fault::PassphraseRest) || broken(Fault::OtherRest) {
+                held.fill(0);
+            }
+            let length = value.len().min(longest);
+            held[..length].copy_from_slice(&value[..length]);
+            state::put(&mut bytes, place, 1, 1);
+            state::put(&mut bytes, place + EDITION_OFFSET, 4, (*edition).into());
+            state::put(&mut bytes, place + VALUE_LENGTH_OFFSET, 2, value.len() as u64);
+        }
         bytes
     }
 
@@ -592,8 +647,8 @@ impl World {
                 _ => self.same_meaning(part, &supervisor.registers.clone(), &state::registers(published))?,
             }
         }
-        for (part, model) in &expected.exact {
-            self.same(NAMES[*part], model, &parts[*part][..LENGTHS[*part]])?;
+        for (part, from, model) in &expected.exact {
+            self.same(&format!("{} from {from}", NAMES[*part]), model, &parts[*part][*from..LENGTHS[*part]])?;
         }
         Ok(())
     }

@@ -8,7 +8,7 @@ use crate::{checked, done, first, lent, lent_mut, raw, ruled_out, Message, Reade
 use core::fmt;
 
 /// Storage for one main processor's end: a reader's part, its own, and room to put a request's data together; it may be a `static`. The data of a request,
-/// a passphrase too, stay there until others overwrite them.
+/// a passphrase too, stay there until others overwrite them: a start clears the two parts, and not that room.
 pub struct RequesterStorage {
     pub(crate) reader: ReaderStorage,
     requester: [u8; REQUESTER_LENGTH],

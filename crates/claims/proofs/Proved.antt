@@ -94,7 +94,7 @@ pub item-13 : Item13
 item-13 = record { plain = Plain.item-13 }
 
 pub item-14 : Item14
-item-14 = record { supervisor = Supervisor.item-14; counters = Counters.item-14 }
+item-14 = record { supervisor = Supervisor.item-14; counters = Counters.item-14; line = Line.item-14; main-processor = Main.item-14 }
 
 pub both-ends : BothEnds
 both-ends = record { both-ends = Both.both-ends }

@@ -7,6 +7,7 @@ use Rattle.line_claims.specs.Demand1.{LineAsItWas, LineNumberDue}
 use Rattle.line_claims.specs.Demand3.{BlindSpots, FreshReader, LineSamples, WireDetermines}
 use Rattle.line_claims.specs.Item6.{LineItem6}
 use Rattle.line_claims.specs.Item12.{LineItem12}
+use Rattle.line_claims.specs.Item14.{LineItem14}
 use Rattle.saving_claims.specs.Item11.{SavingItem11}
 use Rattle.supervisor_claims.specs.Demand1.{SupervisorAsItWas, SupervisorNumberDue}
 use Rattle.supervisor_claims.specs.Demand2.{RequestsCarriedOut, Cuts, MixedLists, NumberedFailures}
@@ -20,6 +21,7 @@ use Rattle.counters_claims.specs.Item14.{CountersItem14}
 use Rattle.requester_claims.specs.Demand1.{MainAsItWas, MainNumberDue}
 use Rattle.requester_claims.specs.Item2.{MainItem2}
 use Rattle.requester_claims.specs.Item6.{MainItem6}
+use Rattle.requester_claims.specs.Item14.{MainItem14}
 use Rattle.both_claims.specs.BothEnds.{OverBothEnds}
 use Rattle.rot_claims.specs.Item7.{RotItem7, LinkRefusedExactly, LinkUntouched, LinkWriterRefusedExactly, LinkWriterUntouched}
 use Rattle.plain_claims.specs.Item13.{PlainItem13}
@@ -150,6 +152,9 @@ pub record Item14 : Type 0 where
   pub supervisor : SupervisorItem14
   -- the same of the calls that are lent a counter block
   pub counters : CountersItem14
+  -- what a start leaves at the line layer and at the main processor's end
+  pub line : LineItem14
+  pub main-processor : MainItem14
 
 -- ---- Both ends together
 

@@ -1,6 +1,6 @@
 -- One call with the block lent: it is bumped for the frames of the joined bytes whose 00 the call received, in order.
 -- Assumes nothing.
-use mathlib.Core.Path.{_≡_, refl, sym, ap, _∙_}
+use mathlib.Core.Path.{_≡_, refl, ap, _∙_}
 use mathlib.Core.Bool.{Bool, true, false, cond}
 use mathlib.Core.List.{List, [], _∷_, _++_, append-nil}
 use Prim.Native.Nat.{ℕ, zero, suc, _≤_}
@@ -12,20 +12,22 @@ use Rattle.line.specs.Reader.{receivedOf}
 use Rattle.octets.specs.Bytes.{Each}
 use Rattle.octets.proofs.Each.{each-append}
 use Rattle.line.specs.Reader as LineReader
-use Rattle.line.proofs.Received.{pushed-received, pushed-stays, finish-received, finish-stays}
+use Rattle.line.proofs.Received.{pushed-received, pushed-stays}
 use Rattle.line.specs.Frame.{split, closedBehind}
 use Rattle.line.proofs.Pieces.{split-at, split-none, closed-rest}
 use Rattle.supervisor.specs.State.{State}
 use Rattle.supervisor.specs.Calls.{Parts}
 use Rattle.responder.specs.Requests.{verdictSince}
 use Rattle.responder.specs.Receive as Receive
+use Rattle.responder.specs.Receive.{endedMeant}
+use Rattle.responder.proofs.VerdictLaws.{finished-ended}
 use Rattle.responder.specs.Counting.{endings, countPromise}
 use Rattle.counters.specs.declared.Counters.{Counters}
 use Rattle.counters.specs.Ended.{Ended}
 use Rattle.counters.specs.Count.{bumpedFor, bumpedForAll}
 use Rattle.supervisor_claims.specs.View.{view}
 use Rattle.supervisor_claims.specs.Histories
-use Rattle.supervisor_claims.specs.Histories.{Call, Answer, refused, Did, did, upTo, endedMeant, saidInPiece, Lent, lentOf, enough, Made}
+use Rattle.supervisor_claims.specs.Histories.{Call, Answer, refused, Did, did, upTo, Lent, lentOf, enough, Made}
 use Rattle.supervisor_claims.specs.Histories.{made}
 use Rattle.supervisor_claims.specs.FrameHistory.{pieceRead, bytesReceivedBy}
 use Rattle.line.specs.Judge.{progressOf}
@@ -33,7 +35,7 @@ use Rattle.supervisor_claims.specs.Sound.{Sound}
 use Rattle.supervisor_claims.proofs.Sound.{valid-long}
 use Rattle.supervisor_claims.proofs.laws.Locality.{EnoughOfAll, lent-sound, lent-view}
 use Rattle.supervisor_claims.proofs.laws.Progress.{Since}
-use Rattle.supervisor_claims.proofs.calls.StepClaim.{step-ends, valid-step-stepped}
+use Rattle.supervisor_claims.proofs.calls.StepClaim.{valid-step-stepped}
 use Rattle.line.proofs.Judged.{tail-within, more-tail}
 use Rattle.supervisor_claims.proofs.claims.FramesClaim.{closed-verdict}
 use Rattle.supervisor_claims.proofs.calls.RowLaws.{WhereRefused}
@@ -45,39 +47,29 @@ use Rattle.counters_claims.proofs.FrameLaws.{closed-none}
 -- ---- the frames of a piece
 
 -- the 00 behind the bytes p
-frame-ends : (p : List ℕ) → endedMeant (verdictSince (progressOf p)) ≡ endedByFrame p
+pub frame-ends : (p : List ℕ) → endedMeant (verdictSince (progressOf p)) ≡ endedByFrame p
 unfolding endedByFrame
 frame-ends [] = ap endedMeant (closed-verdict [])
 frame-ends (b ∷ bs) = ap endedMeant (closed-verdict (b ∷ bs))
 
--- the reader's part s holds the bytes p since the last 00
-finish-ends : (s p : List ℕ) → LineReader.validReader s ≡ true → receivedOf s ≡ progressOf p
-    → Receive.endedByReader (LineReader.finish s .state) (LineReader.finish s .answer) ≡ endedByFrame p
-unfolding LineReader.readPiece saidInPiece
-finish-ends s p v e = step-ends (0 ∷ []) s v ∙ rw e (frame-ends p)
-
-endings-frames : (bs s p : List ℕ) → LineReader.validReader s ≡ true → receivedOf s ≡ progressOf p → Each (λ b. 1 ≤ b) p
-    → endings s bs ≡ endedAll (split (p ++ bs) .closed)
+-- p came of the first before them
+endings-frames : (bs p : List ℕ) → Each (λ b. 1 ≤ b) p → endings (progressOf p) bs ≡ endedAll (split (p ++ bs) .closed)
 unfolding endings endedAll split
-endings-frames [] s p v e h = rw (append-nil, split-none p h)
-endings-frames (zero ∷ bs) s p v e h =
-    let i =
-    endings-frames bs (LineReader.finish s .state) [] (finish-stays s v .valid)
-    (finish-received s v ∙ sym (tail-within [] (omega arith))) tt in
-    rw (split-at p bs h, finish-ends s p v e, i)
-endings-frames (suc b ∷ bs) s p v e h =
-    let w = pushed-stays s (suc b) v .valid in
-    let i = endings-frames bs (LineReader.pushed s (suc b)) (p ++ (suc b ∷ [])) w (pushed-received s (suc b) v ∙ rw e (more-tail p (suc b)))
-    (each-append (λ b. 1 ≤ b) p (suc b ∷ []) h (omega arith, tt)) in
-    rw (eqb·suc-zero, ← append-snoc p (suc b) bs) i
+endings-frames [] p h = rw (append-nil, split-none p h)
+endings-frames (zero ∷ bs) p h = rw (split-at p bs h, frame-ends p, ← endings-frames bs [] tt, tail-within [] (omega arith))
+endings-frames (suc b ∷ bs) p h =
+    let i = endings-frames bs (p ++ (suc b ∷ [])) (each-append (λ b. 1 ≤ b) p (suc b ∷ []) h (omega arith, tt)) in
+    rw (eqb·suc-zero, more-tail p (suc b), ← append-snoc p (suc b) bs) i
 
 -- a step bumps the block for the frame, if any, that ends in the bytes that it reads
-step-endings : (piece s : List ℕ) (c : Counters) → let o = LineReader.readPiece s piece in
-    bumpedFor c (Receive.endedByReader (o .state) (o .answer)) ≡ bumpedForAll c (endings s (ListN.take (upTo piece) piece))
+step-endings : (piece s : List ℕ) (c : Counters) → LineReader.validReader s ≡ true → let o = LineReader.readPiece s piece in
+    bumpedFor c (Receive.endedByReader (o .state) (o .answer)) ≡ bumpedForAll c (endings (receivedOf s) (ListN.take (upTo piece) piece))
 unfolding LineReader.readPiece LineReader.oneByteLater Receive.endedByReader endings upTo bumpedFor bumpedForAll
-step-endings [] s c = refl
-step-endings (zero ∷ bs) s c = refl
-step-endings (suc b ∷ bs) s c = rw (eqb·suc-zero, eqb·suc-zero) (step-endings bs (LineReader.pushed s (suc b)) c)
+step-endings [] s c v = refl
+step-endings (zero ∷ bs) s c v = rw (finished-ended s v)
+step-endings (suc b ∷ bs) s c v =
+    rw (eqb·suc-zero, eqb·suc-zero, ← pushed-received s (suc b) v)
+    (step-endings bs (LineReader.pushed s (suc b)) c (pushed-stays s (suc b) v .valid))
 
 -- ---- the parts as lent
 
@@ -151,10 +143,10 @@ module _ (c : Counters) (p : Parts) (l : Lent) where
 module _ (w : List ℕ) (p : Parts) (s : Sound p) (h : Since (split w .rest) (view p)) (c : Counters) where
   -- lent enough, bytes are read
   read-counts : (l : Lent) (bs : List ℕ) → EnoughOfAll l
-      → bumpedForAll c (endings (lentOf l p .reader) bs) ≡ bumpedForAll c (endedAll (closedBehind w bs))
+      → bumpedForAll c (endings (receivedOf (lentOf l p .reader)) bs) ≡ bumpedForAll c (endedAll (closedBehind w bs))
   read-counts l bs k =
       let v = lent-enough l p s k in
-      rw (closed-rest w bs, endings-frames bs (lentOf l p .reader) (split w .rest) (v .1) (v .2 ∙ h .received) (h .nonzero))
+      rw (closed-rest w bs, v .2 ∙ h .received, endings-frames bs (split w .rest) (h .nonzero))
 
   -- nothing is read
   none-counts : (t : Bool) → c ≡ bumpedForAll c (endedAll (closedBehind w (cond t [] [])))
@@ -178,7 +170,8 @@ module _ (w : List ℕ) (p : Parts) (s : Sound p) (h : Since (split w .rest) (vi
   unfolding didCounted pieceRead Receive.stepPromise Receive.validStep
   step-counts image piece l true e =
       let k = widened-enough l p (valid-long {p = p} (s .valid)) (Histories.step image piece) e in
-      rw (e, lent-enough l p s k .0) (step-endings piece (lentOf l p .reader) c ∙ read-counts l (ListN.take (upTo piece) piece) k)
+      let v = lent-enough l p s k in
+      rw (e, v .0) (step-endings piece (lentOf l p .reader) c (v .1) ∙ read-counts l (ListN.take (upTo piece) piece) k)
   step-counts image piece l false e = rw (e, step-refused image piece l p e) (none-refused 12 c ∙ none-counts true)
 
   any-counts : (l : Lent) (k : Call) → Counts l k

@@ -117,7 +117,7 @@ counters-count p b l d typed e block before t ms u =
 
 -- ---- the line layer's own calls among them
 
-mixed-counts : (es : List MixedEvent) (w : List ℕ) (p : Parts) → Sound p → Since (split w .rest) (view p) → Each TypedEvent es
+pub mixed-counts : (es : List MixedEvent) (w : List ℕ) (p : Parts) → Sound p → Since (split w .rest) (view p) → Each TypedEvent es
     → (c : Counters) → afterMixedEvents (record { parts = p; block = c }) es .block ≡ bumpedForAll c (endedAll (framesCounted w es))
 unfolding afterMixedEvents framesCounted endedAll bumpedForAll
 mixed-counts [] w p s h t c = refl

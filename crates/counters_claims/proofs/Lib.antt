@@ -5,4 +5,5 @@ pub mod FrameLaws
 pub mod CallCounts
 pub mod Item8
 pub mod Item14
+pub mod CountedPassphrases
 pub mod Proved

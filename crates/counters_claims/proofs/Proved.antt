@@ -5,6 +5,7 @@ use Rattle.counters_claims.specs.Item14.{CountersItem14}
 use Rattle.counters_claims.proofs.TallyLaws.{each-counted-once}
 use Rattle.counters_claims.proofs.Item8.{counters-count, counters-from-start, mixed-count, overlong-once, blocks-alone}
 use Rattle.counters_claims.proofs.Item14.{two-counted-states, two-counted-runs}
+use Rattle.counters_claims.proofs.CountedPassphrases.{two-counted-passphrases}
 
 pub item-8 : CountersItem8
 item-8 = record {
@@ -17,4 +18,8 @@ item-8 = record {
 }
 
 pub item-14 : CountersItem14
-item-14 = record { two-counted-states = two-counted-states; two-counted-runs = two-counted-runs }
+item-14 = record {
+  two-counted-states = two-counted-states;
+  two-counted-runs = two-counted-runs;
+  two-counted-passphrases = two-counted-passphrases;
+}

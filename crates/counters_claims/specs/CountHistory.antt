@@ -18,7 +18,8 @@ use Rattle.supervisor_claims.specs.Histories
 use Rattle.supervisor_claims.specs.Histories.{Call, Did, didBy, refusal, stepAnswer, did, lentOf, givenBack, Made, made, Output}
 use Rattle.supervisor_claims.specs.Histories.{Typed}
 use Rattle.supervisor_claims.specs.FrameHistory.{bytesReceivedBy, startsAnew, receivedSince}
-use Rattle.supervisor_claims.specs.MixedCalls.{MixedCall, TypedMixed, madeMixed, mixedSince}
+use Rattle.supervisor_claims.specs.MixedCalls
+use Rattle.supervisor_claims.specs.MixedCalls.{MixedCall, TypedMixed, DidMixed, didMixed, madeMixed, MixedOutput, mixedSince}
 
 -- ---- A call that is lent a block
 
@@ -75,6 +76,43 @@ leftLending p (x ∷ xs) = leftLending (didLending p (x .call) (x .block) .parts
 unfoldable pub unlent : List Lending → List Made
 unlent [] = []
 unlent (x ∷ xs) = x .call ∷ unlent xs
+
+-- ---- The same with calls of the line layer among them
+
+pub data MixedLending : Type 0 where
+  lends : Lending → MixedLending
+  -- a call that is lent no block
+  lendsNone : MixedCall → MixedLending
+
+abbrev pub callLent : MixedLending → MixedCall
+callLent (lends x) = MixedCalls.supervisor (x .call)
+callLent (lendsNone c) = c
+
+abbrev pub didMixedLending : Parts → MixedLending → DidMixed
+didMixedLending p (lends x) =
+    let d = didLending p (x .call) (x .block) in didMixed (MixedCalls.MixedAnswer.supervisor (d .answer)) (d .out) (d .parts)
+didMixedLending p (lendsNone c) = madeMixed p c
+
+abbrev pub blockMixed : Parts → MixedLending → Option Counters
+blockMixed p (lends x) = blockBy p (x .call) (x .block)
+blockMixed p (lendsNone c) = none
+
+unfoldable pub outputsMixedLending : Parts → List MixedLending → List MixedOutput
+outputsMixedLending p [] = []
+outputsMixedLending p (x ∷ xs) =
+    let d = didMixedLending p x in (record { answer = d .answer; out = d .out }) ∷ outputsMixedLending (d .parts) xs
+
+unfoldable pub blocksMixedLending : Parts → List MixedLending → List (Option Counters)
+blocksMixedLending p [] = []
+blocksMixedLending p (x ∷ xs) = blockMixed p x ∷ blocksMixedLending (didMixedLending p x .parts) xs
+
+unfoldable pub leftMixedLending : Parts → List MixedLending → Parts
+leftMixedLending p [] = p
+leftMixedLending p (x ∷ xs) = leftMixedLending (didMixedLending p x .parts) xs
+
+unfoldable pub callsLent : List MixedLending → List MixedCall
+callsLent [] = []
+callsLent (x ∷ xs) = callLent x ∷ callsLent xs
 
 -- ---- A history with one block, which nobody else writes
 

@@ -15,7 +15,7 @@ use Rattle.line.specs.Limits.{header-length, checksum-length, shortest-m
 use Rattle.line.specs.Judge.{wrongLength, payloadOf, judge, judgeReceived, decodedReceived}
 use Rattle.line.specs.Cobs.{groupBytes, uncobs}
 use Rattle.line.specs.ReaderLayout.{frame-offset, overlong, receivedCount, withCount, receivedBytes, unpacked}
-use Rattle.line.specs.Reader.{reader-length, receivedOf, readerFresh, empty, failed, verdictReport, frameOutcome, finishForm}
+use Rattle.line.specs.Reader.{reader-length, receivedOf, empty, failed, verdictReport, frameOutcome, finishForm}
 use Rattle.line.specs.Reader.{closedState, finish, dataGivenPromise, partOf, dataPromise}
 use Rattle.line.proofs.State.{ready-valid, length-counted, count-counted, run-counted}
 use Rattle.line.proofs.Judged.{fit-length}
@@ -51,16 +51,16 @@ positive (suc n) f = omega arith
 
 module _ (s : List ℕ) where
   pub finish-empty : receivedCount s ≡ 0 → frameOutcome empty (withCount 0 s) ≡ finish s
-  unfolding finish closedState readerFresh uncobs groupBytes unpacked
+  unfolding finish closedState uncobs groupBytes unpacked
   finish-empty e = rw (received-nothing s e)
 
   pub finish-over : longest-form < receivedCount s → frameOutcome (failed 1 none) (withCount 0 s) ≡ finish s
-  unfolding finish closedState readerFresh unpacked verdictReport
+  unfolding finish closedState unpacked verdictReport
   finish-over h = rw (received-none s h)
 
   pub finish-form : (receivedCount s ≡ 0 → ⊥) → receivedCount s ≤ longest-form → reader-length ≤ length s
       → finishForm (run frame-offset (receivedCount s) (withCount 0 s)) (withCount 0 s) ≡ finish s
-  unfolding finish closedState finishForm readerFresh receivedBytes
+  unfolding finish closedState finishForm receivedBytes
   finish-form n h l =
       let k = length-kept s l h in
       let m = positive (receivedCount s) n in
@@ -93,7 +93,7 @@ module _ (s : List ℕ) (h : reader-length ≤ length s) where
       (rw (overlay-part frame-offset header-length n xs s (omega arith) (omega arith), run-take header-length n xs, t))
 
 pub finish-leaves : (s : List ℕ) → reader-length ≤ length s → (length (finish s .state) ≡ length s) × (receivedCount (finish s .state) ≡ 0)
-unfolding finish closedState readerFresh
+unfolding finish closedState
 finish-leaves s h =
     let l = length-counted 0 s (omega arith) in
     let c = count-counted 0 s (omega arith) (omega arith) in

@@ -12,6 +12,7 @@ use Rattle.octets.specs.Bytes.{bytes, run}
 use Rattle.octets.proofs.Numbers.{length-bytes}
 use Rattle.octets.proofs.Conditions.{cond-by, cond-both, cond-map}
 use Rattle.octets.proofs.Overlay.{length-overlay, overlay-append, run-append}
+use Rattle.octets.proofs.Zeros.{zeros, length-zeros}
 use Rattle.line.specs.Limits.{longest-data, longest-form}
 use Rattle.line.specs.Judge.{wrongLength, decodedReceived}
 use Rattle.line.specs.ReaderLayout.{frame-offset, overlong, receivedCount, withCount, receivedBytes, unpacked, data-offset}
@@ -46,7 +47,7 @@ module _ (t u : List ℕ) (h : reader-length ≤ length t) where
 
   pub fresh-append : readerFresh (t ++ u) ≡ readerFresh t ++ u
   unfolding readerFresh
-  fresh-append = counted-append 0
+  fresh-append = overlay-append t u 0 (zeros reader-length) (rw (length-zeros reader-length) h)
 
   pub valid-append : validReader (t ++ u) ≡ validReader t
   unfolding validReader
@@ -92,7 +93,7 @@ module _ (t u : List ℕ) (h : reader-length ≤ length t) where
       (λ e. counted-append t u h overlong))
 
   pub finish-append : finish (t ++ u) ≡ behind u (finish t)
-  unfolding finish closedState readerFresh
+  unfolding finish closedState
   finish-append =
       let l : length (withCount 0 t) ≡ length t = length-counted 0 t (omega arith) in
       rw (

@@ -16,6 +16,7 @@ use Rattle.octets.proofs.Conditions.{cond-by}
 use Rattle.octets.proofs.Each.{each-take, each-drop}
 use Rattle.octets.proofs.Numbers.{bytes-each}
 use Rattle.octets.proofs.Overlay.{run-more, length-run, length-overlay, overlay-before, overlay-getD-inside, overlay-each}
+use Rattle.octets.proofs.Zeros.{zeros, length-zeros, zeros-number, zeros-each}
 use Rattle.line.specs.Limits.{longest-data, longest-form}
 use Rattle.line.specs.Message.{Message}
 use Rattle.line.specs.Cobs.{uncobs}
@@ -55,20 +56,24 @@ counted-each n s h = overlay-each Byte 0 (bytes 2 n) s (bytes-each 2 n) h
 -- ---- a start
 
 module _ (s : List ℕ) (h : reader-length ≤ length s) where
-  pub fresh-received : receivedOf (readerFresh s) ≡ some []
+  fresh-long : length (readerFresh s) ≡ length s
   unfolding readerFresh
-  fresh-received = received-nothing (withCount 0 s) (count-counted 0 s (omega arith) (omega arith))
+  fresh-long = length-overlay 0 (zeros reader-length) s (rw (length-zeros reader-length) h)
+
+  fresh-count : receivedCount (readerFresh s) ≡ 0
+  unfolding readerFresh receivedCount
+  fresh-count = zeros-number reader-length 2 s (omega arith)
+
+  pub fresh-received : receivedOf (readerFresh s) ≡ some []
+  fresh-received = received-nothing (readerFresh s) fresh-count
 
   pub fresh-stays : ReaderStays s (readerFresh s)
-  unfolding readerFresh
   fresh-stays =
-      let l = length-counted 0 s (omega arith) in
-      let c = count-counted 0 s (omega arith) (omega arith) in
-      record { valid = ready-valid (withCount 0 s) (omega arith, omega arith); long = l }
+      record { valid = ready-valid (readerFresh s) (omega (arith, fresh-long), omega (arith, fresh-count)); long = fresh-long }
 
 pub fresh-each : (s : List ℕ) → Each Byte s → Each Byte (readerFresh s)
 unfolding readerFresh
-fresh-each s h = counted-each 0 s h
+fresh-each s h = overlay-each Byte 0 (zeros reader-length) s (zeros-each Byte reader-length (omega arith)) h
 
 -- ---- a byte that is not 00
 
@@ -180,7 +185,7 @@ module _ (s : List ℕ) (v : validReader s ≡ true) where
   -- the data of a good message stand in the state
   pub finish-data : (m : Message) → judgeReceived (receivedOf s) ≡ some (good m)
       → dataPromise (finish s .state) (length (m .payload)) ≡ m .payload
-  unfolding finish closedState readerFresh fields
+  unfolding finish closedState fields
   finish-data m e =
       let h = valid-long s v in
       let f = received-good (receivedOf s) m e in
@@ -197,7 +202,7 @@ unpacked-each none s f h = h
 unpacked-each (some xs) s f h = cond-by (Each Byte) (wrongLength xs) _ _ (λ e. h) (λ e. overlay-each Byte frame-offset xs s (f xs refl) h)
 
 pub finish-each : (s : List ℕ) → Each Byte s → Each Byte (finish s .state)
-unfolding finish closedState readerFresh
+unfolding finish closedState
 finish-each s h = unpacked-each (decodedReceived (receivedOf s)) (withCount 0 s) (λ xs. by (receivedOf s) refl xs) (counted-each 0 s h)
   where
     by : (o : Option (List ℕ)) → receivedOf s ≡ o → (xs : List ℕ) → decodedReceived o ≡ some xs → Each Byte xs

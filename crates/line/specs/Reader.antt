@@ -5,9 +5,9 @@ use mathlib.Core.List.{List, [], _∷_}
 use mathlib.Core.Option.{Option, none, some}
 use Prim.Native.Nat.{ℕ, suc}
 use lib.Dec.{leb, ltb, eqb}
-use lib.ListN.{length}
+use lib.ListN.{length, replicate}
 use denote.Ref.{now}
-use Rattle.octets.specs.Bytes.{run}
+use Rattle.octets.specs.Bytes.{run, overlay}
 use Rattle.octets.specs.Places.{LentBytes, Place, placeIn}
 use Rattle.line.specs.Limits.{longest-data, longest-form}
 use Rattle.line.specs.Numbers.{reason-form, reason-checksum, reason-length, reason-magic}
@@ -37,9 +37,9 @@ receivedOf s = cond (ltb longest-form (receivedCount s)) none (some (receivedByt
 unfoldable pub validReader : List ℕ → Bool
 validReader s = leb reader-length (length s) && leb (receivedCount s) overlong
 
--- the state with nothing of a frame, as a start leaves it
+-- the state as a start leaves it: nothing of a frame, and every byte of its published length 0
 unfoldable pub readerFresh : List ℕ → List ℕ
-readerFresh s = withCount 0 s
+readerFresh s = overlay 0 (replicate reader-length 0) s
 
 -- What an answer reports: document 01's numbers and values.
 pub data ReadReport : Type 0 where
@@ -94,7 +94,7 @@ finishForm form s = frameOutcome (verdictReport (judge form)) (unpacked (uncobs 
 
 -- the state behind a 00: nothing of a frame, and a message's bytes where the frame decodes to a message's length
 unfoldable pub closedState : List ℕ → List ℕ
-closedState s = unpacked (decodedReceived (receivedOf s)) (readerFresh s)
+closedState s = unpacked (decodedReceived (receivedOf s)) (withCount 0 s)
 
 -- an empty frame has no reason, and one of more than 4,140 bytes has reason 1
 unfoldable pub finish : List ℕ → FrameOutcome

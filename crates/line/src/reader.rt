@@ -83,7 +83,7 @@ pub fn start(state: &mut [u8]) -> Started
     if state.len() < STATE_LENGTH {
         return Started::Refused;
     }
-    set_count(state, 0); // no frame has begun
+    octets::clear(state, 0, STATE_LENGTH);
     Started::Done
 }
 

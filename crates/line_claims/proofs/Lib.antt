@@ -13,6 +13,7 @@ pub mod DistanceClaim
 pub mod ChecksumClaim
 pub mod WriterClaim
 pub mod LoanLaws
+pub mod StartForgets
 pub mod Streams
 pub mod ReaderClaim
 pub mod FrameClaim

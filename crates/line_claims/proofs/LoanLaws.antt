@@ -10,8 +10,9 @@ use lib.Dec.{leb}
 use lib.ListN.{length, take, drop, length-append, length-take, take-append-drop, drop-of-length-le}
 use lib.Seq.{take-nil, drop-nil, drop-drop, take-take, take-all, take-at, drop-at, take-append-le, length-take-le, length-front}
 use borrow.Author.Tests.{leb-true, leb-false, le-leb}
-use Rattle.octets.specs.Bytes.{Each, run}
+use Rattle.octets.specs.Bytes.{Each, run, overlay}
 use Rattle.octets.proofs.Each.{each-append, each-take, each-drop}
+use Rattle.octets.proofs.Overlay.{length-overlay, overlay-start}
 use Rattle.line_claims.specs.Loans.{Loan, first, within, fewer, lentPart, backPart, enoughPart}
 use Rattle.line_claims.specs.Demand1.{AnyRun}
 
@@ -156,3 +157,13 @@ front published (within at n) s e = absurd (false≢true e)
 pub back-first : (published : ℕ) (s : List ℕ) (l : Loan) (t : List ℕ) → enoughPart published l ≡ true → published ≤ length t
     → take published (backPart published l s t) ≡ take published t
 back-first published s l t e h = let f = front published l s e in rw (f .back t) (take-append-le published t (f .rest) h)
+
+-- bytes that are put over the published length of what was lent come first in the part
+pub put-first : (published : ℕ) (s xs : List ℕ) (l : Loan) → 0 < published → length xs ≡ published
+    → published ≤ length (lentPart published l s)
+    → take published (backPart published l s (overlay 0 xs (lentPart published l s))) ≡ xs
+put-first published s xs l p n h =
+    let t = lentPart published l s in
+    let k = length-overlay 0 xs t (omega arith) in
+    back-first published s l (overlay 0 xs t) (lent-enough published s l p h) (omega arith)
+    ∙ rw (overlay-start xs t) (take-append-le published xs _ (omega arith) ∙ take-all published xs (omega arith))

@@ -3,6 +3,8 @@
 use Rattle.line_claims.specs.Demand3.{LineSamples, WireDetermines, FreshReader, BlindSpots}
 use Rattle.line_claims.specs.Demand1.{LineNumberDue, LineAsItWas}
 use Rattle.line_claims.specs.Item6.{LineItem6}
+use Rattle.line_claims.specs.Item14.{LineItem14}
+use Rattle.line_claims.proofs.StartForgets.{line-start-forgets}
 use Rattle.line_claims.specs.Item12.{LineItem12}
 use Rattle.line_claims.proofs.Samples.{samples-hold}
 use Rattle.line_claims.proofs.LoanLaws.{any-run}
@@ -97,3 +99,6 @@ item-12 = record {
   checksum-distance = checksum-distance;
   checksum-changes = checksum-changes;
 }
+
+pub item-14 : LineItem14
+item-14 = record { line-start-forgets = line-start-forgets }

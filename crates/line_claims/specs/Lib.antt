@@ -8,3 +8,4 @@ pub mod Demand1
 pub mod Demand3
 pub mod Item6
 pub mod Item12
+pub mod Item14

@@ -4,6 +4,7 @@ pub mod Each
 pub mod Equal
 pub mod Numbers
 pub mod Overlay
+pub mod Zeros
 pub mod Parts
 pub mod SameBytes
 pub mod Conditions

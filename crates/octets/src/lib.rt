@@ -2,6 +2,7 @@
 // end reads as 0, and nothing is written where it does not fit.
 ghost use mathlib.Core.Path.{_≡_};
 ghost use Prim.Native.Nat.{_<_, min};
+ghost use lib.ListN.{replicate};
 ghost use Rattle.octets.specs.Bytes.{bytes, run, numberAt, put, copied, movedDown, sameRun};
 ghost use Rattle.octets.specs.Places.{partPlace};
 
@@ -126,6 +127,23 @@ pub fn write_u64(s: &mut [u8], at: usize, v: u64)
     }
     write_u32(s, at, (v % 4294967296) as u32);
     write_u32(s, at + 4, (v / 4294967296) as u32);
+}
+
+// The n bytes from an offset on become 0, where there are so many.
+pub fn clear(s: &mut [u8], at: usize, n: usize)
+    ensures { λ _. ⌜ now (s .exit) ≡ put at (replicate n 0) (now (s .entry)) ⌝ }
+{
+    if s.len() < at {
+        return;
+    }
+    if s.len() - at < n {
+        return;
+    }
+    let mut i = 0;
+    while i < n {
+        s[at + i] = 0;
+        i += 1;
+    }
 }
 
 // Puts n bytes of src, from an offset on, into dst at an offset.

@@ -7,7 +7,7 @@ use mathlib.Core.Option.{Option, none, some}
 use Prim.Native.Nat.{ℕ, zero, suc, _≤_}
 use native.Mathlib.Omega.{arith}
 use lib.Dec.{eqb}
-use lib.ListN.{length, set, replicate}
+use lib.ListN.{length, set}
 use lib.Seq.{take-length}
 use Rattle.octets.specs.Bytes.{bytes, overlay, put, copied}
 use Rattle.octets.proofs.Overlay.{length-overlay, overlay-one, overlay-more, overlay-next, put-fits, copied-fits}
@@ -34,24 +34,6 @@ module _ (r : List ℕ) (long : Layout.requester-length ≤ length r) where
   pub length-progressed : (number recovery unsent kept : ℕ) → length (progressed number recovery unsent kept r) ≡ length r
   unfolding progressed bytes
   length-progressed number recovery unsent kept = length-overlay 0 (bytes 8 number ++ recovery ∷ unsent ∷ kept ∷ []) r (omega arith)
-
-  -- zeros, one field after the other
-  pub fields-cleared : {t u v : List ℕ} → t ≡ put 0 (bytes 8 0) r → u ≡ put 8 (bytes 4 0) t → v ≡ put 12 (bytes 2 0) u
-      → v ≡ overlay 0 (replicate Layout.kept-data-offset 0) r
-  unfolding bytes
-  fields-cleared a b c =
-      let l = length-overlay 0 (bytes 8 0) r (omega arith) in
-      let m = length-overlay 0 (bytes 8 0 ++ bytes 4 0) r (omega arith) in
-      rw (
-        c,
-        b,
-        a,
-        put-fits 0 (bytes 8 0) r (omega arith),
-        put-fits 8 (bytes 4 0) (overlay 0 (bytes 8 0) r) (omega arith),
-        overlay-next 0 (bytes 8 0) (bytes 4 0) r (omega arith),
-        put-fits 12 (bytes 2 0) (overlay 0 (bytes 8 0 ++ bytes 4 0) r) (omega arith),
-        overlay-next 0 (bytes 8 0 ++ bytes 4 0) (bytes 2 0) r (omega arith),
-      )
 
   -- a request behind the first fields
   pub request-kept : (command : ℕ) (d : List ℕ) {t u : List ℕ} → length d ≤ longest-data

@@ -5,9 +5,11 @@ use mathlib.Core.Bool.{Bool, true, and-eq-true-iff}
 use mathlib.Core.List.{List}
 use mathlib.Core.Option.{Option}
 use Prim.Native.Nat.{ℕ, _≤_}
-use lib.ListN.{length, replicate}
+use native.Mathlib.Omega.{arith}
+use lib.ListN.{length}
 use borrow.Author.Tests.{leb-true, le-leb}
-use Rattle.octets.specs.Bytes.{overlay}
+use Rattle.octets.specs.Bytes.{put}
+use Rattle.octets.proofs.Zeros.{zeros, cleared-fits}
 use Rattle.line.specs.Limits.{longest-data}
 use Rattle.line.specs.Reader as LineReader
 use Rattle.requester.specs.Limits.{last-number}
@@ -101,7 +103,13 @@ cramped p f = rw (sym (untrue (mainLongEnough p) (λ e. f (is-long-enough p e)))
 
 pub begun : (p : MainParts) → MainLongEnough p → {a : Option ℕ} {reader requester : List ℕ}
     → record { refusal = a; state = reader } ≡ LineReader.readerStartPromise (p .reader)
-    → requester ≡ overlay 0 (replicate Layout.kept-data-offset 0) (p .requester)
+    → requester ≡ put 0 (zeros Layout.requester-length) (p .requester)
     → mainStartOutcome started.Done (Calls.mainParts reader requester) ≡ mainStartPromise p
 unfolding mainStartPromise Calls.mainStartReport Calls.mainFreshParts
-begun p r e f = rw (long-enough-is p r, f, ap (λ (x : LineReader.ReaderStartOutcome). x .state) e)
+begun p r e f =
+    rw (
+      long-enough-is p r,
+      f,
+      cleared-fits 0 (p .requester) Layout.requester-length (omega (arith, r .requester)),
+      ap (λ (x : LineReader.ReaderStartOutcome). x .state) e,
+    )

@@ -49,10 +49,10 @@ mainParts reader requester = record { reader = reader; requester = requester }
 unfoldable pub mainLongEnough : MainParts → Bool
 mainLongEnough p = leb LineReader.reader-length (length (p .reader)) && leb Layout.requester-length (length (p .requester))
 
--- no number used, nothing kept, no recovery, nothing to go out
+-- no number used, nothing kept, no recovery, nothing to go out: every byte of both parts' published lengths is 0
 unfoldable pub mainFreshParts : MainParts → MainParts
 mainFreshParts p =
-    mainParts (LineReader.readerStartPromise (p .reader) .state) (overlay 0 (replicate Layout.kept-data-offset 0) (p .requester))
+    mainParts (LineReader.readerStartPromise (p .reader) .state) (overlay 0 (replicate Layout.requester-length 0) (p .requester))
 
 -- the table's number of a refusal; none where the call is carried out
 unfoldable pub mainStartReport : Started → Option ℕ

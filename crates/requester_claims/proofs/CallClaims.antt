@@ -99,10 +99,10 @@ to-go-out p = rw (outstanding-some (p .requester))
 
 module _ (p : MainParts) (room : MainLongEnough p) where
   abbrev t : List ℕ
-  t = overlay 0 (replicate Layout.kept-data-offset 0) (p .requester)
+  t = overlay 0 (replicate Layout.requester-length 0) (p .requester)
 
-  zeros : (j k : ℕ) → j + k ≤ Layout.kept-data-offset → run j k t ≡ run j k (replicate Layout.kept-data-offset 0)
-  zeros j k h = rw zero-add at (overlay-part 0 j k (replicate Layout.kept-data-offset 0) (p .requester) (omega arith) (omega arith))
+  zeros : (j k : ℕ) → j + k ≤ Layout.kept-data-offset → run j k t ≡ run j k (replicate Layout.requester-length 0)
+  zeros j k h = rw zero-add at (overlay-part 0 j k (replicate Layout.requester-length 0) (p .requester) (omega arith) (omega arith))
 
   fresh-held : held t (some []) ≡ mainFresh
   unfolding mainFresh keptRequestOf Layout.stepAt number
@@ -113,7 +113,7 @@ module _ (p : MainParts) (room : MainLongEnough p) where
   fresh-valid = record {
     long =
         omega
-        (arith, length-overlay 0 (replicate Layout.kept-data-offset 0) (p .requester) (omega (arith, room .requester)), room .requester);
+        (arith, length-overlay 0 (replicate Layout.requester-length 0) (p .requester) (omega (arith, room .requester)), room .requester);
     number = rw (zeros 0 8 (omega arith)) (omega arith);
     recovery = rw (zeros 8 1 (omega arith)) (omega arith);
     unsent = rw (zeros 9 1 (omega arith)) (omega arith);
@@ -135,7 +135,7 @@ module _ (p : MainParts) (room : MainLongEnough p) where
         valid = record { reader = k .valid; requester = valid-requester t fresh-valid };
         lengths = record {
           reader = k .long;
-          requester = length-overlay 0 (replicate Layout.kept-data-offset 0) (p .requester) (omega (arith, room .requester));
+          requester = length-overlay 0 (replicate Layout.requester-length 0) (p .requester) (omega (arith, room .requester));
         };
       })
 

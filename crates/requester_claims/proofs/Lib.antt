@@ -17,4 +17,5 @@ pub mod Answers
 pub mod AnswerBytes
 pub mod AnswerFrame
 pub mod EqualFrames
+pub mod StartForgets
 pub mod Proved

@@ -7,11 +7,12 @@ use mathlib.Core.Option.{Option, none, some}
 use Prim.Native.Nat.{ℕ, zero, suc, _+_, _≤_}
 use native.Mathlib.Omega.{arith}
 use lib.Dec.{leb, ltb, eqb, eqb·suc-zero}
-use lib.ListN.{length, replicate, length-append}
+use lib.ListN.{length, length-append}
 use borrow.Author.Tests.{le-leb, ltb-false}
 use Rattle.octets.specs.Bytes.{number, bytes, numberAt, overlay}
 use Rattle.octets.proofs.Conditions.{cond-by, cond-map}
 use Rattle.octets.proofs.Overlay.{length-overlay, overlay-append, run-append}
+use Rattle.octets.proofs.Zeros.{zeros, length-zeros}
 use Rattle.line.specs.Limits.{longest-data}
 use Rattle.line.specs.Reader as LineReader
 use Rattle.line.proofs.Lent.{tail-append, fresh-append, valid-append, dataOf-append, pushed-append, finish-append}
@@ -253,5 +254,5 @@ module _ (p : MainParts) (a u : List ℕ) (reader : LineReader.reader-length ≤
         le-leb Layout.requester-length (length (p .requester)) requester,
         le-leb Layout.requester-length (length (p .requester ++ u)) (simp length-append (omega arith)),
         fresh-append (p .reader) a reader,
-        overlay-append (p .requester) u 0 (replicate Layout.kept-data-offset 0) (omega arith),
+        overlay-append (p .requester) u 0 (zeros Layout.requester-length) (rw (length-zeros Layout.requester-length) requester),
       )

@@ -3,6 +3,8 @@
 use Rattle.requester_claims.specs.Demand1.{MainNumberDue, MainAsItWas}
 use Rattle.requester_claims.specs.Item2.{MainItem2}
 use Rattle.requester_claims.specs.Item6.{MainItem6}
+use Rattle.requester_claims.specs.Item14.{MainItem14}
+use Rattle.requester_claims.proofs.StartForgets.{main-start-forgets}
 use Rattle.requester_claims.proofs.LentCalls.{too-little, whole}
 use Rattle.requester_claims.proofs.History.{call-as-meant, history, no-12, refused-holds, refused-made, state-holds}
 use Rattle.requester_claims.proofs.TableNumber.{main-refused-exactly, main-start-accepted}
@@ -57,3 +59,6 @@ item-6 = record {
   equal-frames = equal-frames;
   came-framed = came-framed;
 }
+
+pub item-14 : MainItem14
+item-14 = record { main-start-forgets = main-start-forgets }

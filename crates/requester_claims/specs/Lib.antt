@@ -9,3 +9,4 @@ pub mod CameAs
 pub mod Item2
 pub mod Demand1
 pub mod Item6
+pub mod Item14

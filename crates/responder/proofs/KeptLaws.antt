@@ -16,6 +16,7 @@ use Rattle.octets.specs.Bytes.{bytes, number, run, numberAt, overlay, equal, bi
 use Rattle.octets.proofs.Conditions.{cond-by}
 use Rattle.octets.proofs.Numbers.{length-bytes, number-bytes, one-byte}
 use Rattle.octets.proofs.Overlay.{length-run, length-overlay, overlay-part, run-run}
+use Rattle.octets.proofs.Zeros.{zeros, length-zeros}
 use Rattle.octets.proofs.SameBytes.{Same, same-before, same-after, same-then, same-within, number-same}
 use Rattle.octets.proofs.SameBytes.{stored-long, stored-number, stored-before, stored-after}
 use Rattle.line.specs.Limits.{longest-data, longest-form}
@@ -367,55 +368,78 @@ module _ (r : List ℕ) (version sequence : ℕ) (small : version ≤ 2) (v : va
 pub length-setting : (edition : ℕ) (v : List ℕ) → length (Layout.settingBytes edition v) ≡ Layout.setting-value-offset + length v
 length-setting edition v = simp (length-append, length-bytes) (omega arith)
 
-module _ (s v : List ℕ) (at : ℕ) (room : at + (Layout.setting-value-offset + length v) ≤ length s) where
+-- a value of at most so many bytes, at an offset where they have room, of which so many become 0 first
+module _ (s v : List ℕ) (at longest cleared : ℕ) (room : at + (Layout.setting-value-offset + longest) ≤ length s)
+    (short : length v ≤ longest) (most : cleared ≤ longest) where
   -- one edition on
   abbrev next : ℕ
   next = suc (Layout.settingEdition s at)
 
-  pub setting-long : length (Receive.withValue s at v) ≡ length s
+  abbrev wiped : List ℕ
+  wiped = overlay (at + Layout.setting-value-offset) (zeros cleared) s
+
+  wiped-long : length wiped ≡ length s
+  wiped-long = length-overlay (at + Layout.setting-value-offset) (zeros cleared) s (omega (arith, length-zeros cleared))
+
+  abbrev stored : List ℕ
+  stored = Receive.withValue s at cleared v
+
+  enough : at + length (Layout.settingBytes next v) ≤ length wiped
+  enough = omega (arith, wiped-long, length-setting next v)
+
+  pub setting-long : length stored ≡ length s
   unfolding Receive.withValue
-  setting-long = length-overlay at (Layout.settingBytes next v) s (omega (arith, length-setting next v))
+  setting-long = length-overlay at (Layout.settingBytes next v) wiped enough ∙ wiped-long
 
-  pub setting-before : {from to : ℕ} → to ≤ at → Same from to s (Receive.withValue s at v)
+  pub setting-before : {from to : ℕ} → to ≤ at → Same from to s stored
   unfolding Receive.withValue
-  setting-before h = same-before at (Layout.settingBytes next v) s (omega arith) h
+  setting-before h =
+      same-then (same-before (at + Layout.setting-value-offset) (zeros cleared) s (omega (arith, length-zeros cleared)) (omega arith))
+      (same-before at (Layout.settingBytes next v) wiped (omega (arith, wiped-long)) h)
 
-  pub setting-after : {from to : ℕ} → at + (Layout.setting-value-offset + length v) ≤ from → Same from to s (Receive.withValue s at v)
+  pub setting-after : {from to : ℕ} → at + (Layout.setting-value-offset + longest) ≤ from → Same from to s stored
   unfolding Receive.withValue
-  setting-after h = same-after at (Layout.settingBytes next v) s (omega arith) (omega (arith, length-setting next v))
+  setting-after h =
+      same-then
+      (same-after (at + Layout.setting-value-offset) (zeros cleared) s (omega (arith, length-zeros cleared))
+      (omega (arith, length-zeros cleared)))
+      (same-after at (Layout.settingBytes next v) wiped (omega (arith, wiped-long)) (omega (arith, length-setting next v)))
 
-  pub setting-held : Layout.settingHeld (Receive.withValue s at v) at ≡ 1
-  unfolding Receive.withValue bytes
-  setting-held =
-      ap number (rw add-zero at (overlay-part at 0 1 (Layout.settingBytes next v) s (omega arith) (omega (arith, length-setting next v))))
-      ∙ number-bytes 1 1 (omega arith)
+  part : (from n : ℕ) → from + n ≤ Layout.setting-value-offset + length v
+      → run (at + from) n stored ≡ run from n (Layout.settingBytes next v)
+  unfolding Receive.withValue
+  part from n h = overlay-part at from n (Layout.settingBytes next v) wiped (omega (arith, enough)) (omega (arith, length-setting next v))
 
-  pub setting-edition : Layout.settingEdition s at < Limits.last-edition → Layout.settingEdition (Receive.withValue s at v) at ≡ next
-  unfolding Receive.withValue bytes
-  setting-edition h =
-      ap number
-      (overlay-part at Layout.setting-edition-offset 4 (Layout.settingBytes next v) s (omega arith) (omega (arith, length-setting next v)))
-      ∙ number-bytes 4 next (omega arith)
+  pub setting-held : Layout.settingHeld stored at ≡ 1
+  unfolding bytes
+  setting-held = ap number (rw add-zero at (part 0 1 (omega arith))) ∙ number-bytes 1 1 (omega arith)
 
-  pub setting-size : length v < 65536 → Layout.settingLength (Receive.withValue s at v) at ≡ length v
-  unfolding Receive.withValue bytes
-  setting-size h =
-      ap number
-      (overlay-part at Layout.setting-length-offset 2 (Layout.settingBytes next v) s (omega arith) (omega (arith, length-setting next v)))
-      ∙ number-bytes 2 (length v) h
+  pub setting-edition : Layout.settingEdition s at < Limits.last-edition → Layout.settingEdition stored at ≡ next
+  unfolding bytes
+  setting-edition h = ap number (part Layout.setting-edition-offset 4 (omega arith)) ∙ number-bytes 4 next (omega arith)
 
-  pub setting-value : run (at + Layout.setting-value-offset) (length v) (Receive.withValue s at v) ≡ v
-  unfolding Receive.withValue bytes
-  setting-value =
-      overlay-part at Layout.setting-value-offset (length v) (Layout.settingBytes next v) s (omega arith)
-      (omega (arith, length-setting next v))
-      ∙ take-length v
+  pub setting-size : length v < 65536 → Layout.settingLength stored at ≡ length v
+  unfolding bytes
+  setting-size h = ap number (part Layout.setting-length-offset 2 (omega arith)) ∙ number-bytes 2 (length v) h
+
+  pub setting-value : run (at + Layout.setting-value-offset) (length v) stored ≡ v
+  unfolding bytes
+  setting-value = part Layout.setting-value-offset (length v) (omega arith) ∙ take-length v
+
+-- as many become 0 as the key's value may have at most
+pub cleared-most : (key : ℕ) → Receive.clearedFor key ≤ Limits.longest-setting key
+unfolding Receive.clearedFor
+cleared-most key =
+    cond-by (λ (n : ℕ). n ≤ Limits.longest-setting key) (eqb key Limits.passphrase-key) _ _ (λ _. omega arith) (λ _. omega arith)
 
 module _ (s v : List ℕ) (w : SettingsValid s) (key : ℕ) (h : Limits.SettingsKey key) (short : length v ≤ Limits.longest-setting key) where
   abbrev here : ℕ
   here = Layout.setting-offset key
 
-  pub value-room : Layout.setting-offset key + (Layout.setting-value-offset + length v) ≤ length s
+  abbrev storedHere : List ℕ
+  storedHere = Receive.withValue s here (Receive.clearedFor key) v
+
+  pub value-room : Layout.setting-offset key + (Layout.setting-value-offset + Limits.longest-setting key) ≤ length s
   value-room = omega (arith, offset-within key h, w .long)
 
   pub value-small : length v < 65536
@@ -423,19 +447,19 @@ module _ (s v : List ℕ) (w : SettingsValid s) (key : ℕ) (h : Limits.Settings
 
   module _ (enough : Limits.shortest-setting key ≤ length v) where
     setting-left : (j : ℕ) → Lies j key → SettingValid s (Layout.setting-offset j) (Limits.shortest-setting j) (Limits.longest-setting j)
-        → SettingValid (Receive.withValue s here v) (Layout.setting-offset j) (Limits.shortest-setting j) (Limits.longest-setting j)
-    setting-left j (inl l) g = setting-kept (setting-before s v here value-room (omega arith)) g
+        → SettingValid storedHere (Layout.setting-offset j) (Limits.shortest-setting j) (Limits.longest-setting j)
+    setting-left j (inl l) g = setting-kept (setting-before s v here _ _ value-room short (cleared-most key) (omega arith)) g
     setting-left j (inr (inl e)) g =
-        let held = setting-held s v here value-room in
-        let size = setting-size s v here value-room value-small in
+        let held = setting-held s v here _ _ value-room short (cleared-most key) in
+        let size = setting-size s v here _ _ value-room short (cleared-most key) value-small in
         rw e (record { size = omega arith; held = inl (omega arith, omega arith) })
-    setting-left j (inr (inr l)) g = setting-kept (setting-after s v here value-room (omega arith)) g
+    setting-left j (inr (inr l)) g = setting-kept (setting-after s v here _ _ value-room short (cleared-most key) (omega arith)) g
 
-    settings-left : validSettings (Receive.withValue s here v) ≡ true
+    settings-left : validSettings storedHere ≡ true
     settings-left =
         valid-settings _
         (record {
-          long = omega (arith, setting-long s v here value-room, w .long);
+          long = omega (arith, setting-long s v here _ _ value-room short (cleared-most key), w .long);
           each = λ j i. setting-left j (setting-lies j key i h) (w .each j i);
         })
 
@@ -444,10 +468,11 @@ module _ (s v : List ℕ) (w : validSettings s ≡ true) where
   Left k = validSettings (k .settings) ≡ true
 
   -- a value whose length is right is stored
-  stored-valid : (at shortest longest : ℕ) → (length v ≤ longest → shortest ≤ length v → validSettings (Receive.withValue s at v) ≡ true)
-      → Left (Receive.storeBytesAt s at shortest longest v)
+  stored-valid : (at shortest longest cleared : ℕ)
+      → (length v ≤ longest → shortest ≤ length v → validSettings (Receive.withValue s at cleared v) ≡ true)
+      → Left (Receive.storeBytesAt s at shortest longest cleared v)
   unfolding Receive.storeBytesAt
-  stored-valid at shortest longest f =
+  stored-valid at shortest longest cleared f =
       cond-by Left (ltb (length v) shortest || ltb longest (length v)) _ _ (λ _. w) (λ e.
       let l = length-right shortest longest (length v) e in
       cond-by Left (eqb (Layout.settingEdition s at) Limits.last-edition) _ _ (λ _. w) (λ _. f (l .1) (l .0)))
@@ -458,7 +483,7 @@ module _ (s v : List ℕ) (w : validSettings s ≡ true) where
       let g = settings-valid s w in
       cond-by Left (ltb Limits.highest-key key) _ _ (λ _. w) (λ e.
       cond-by Left (ltb key Limits.first-setting) _ _ (λ _. w) (λ f.
-      stored-valid _ _ _ (settings-left s v g key (record { lower = ltb-false _ _ f; upper = ltb-false _ _ e }))))
+      stored-valid _ _ _ _ (settings-left s v g key (record { lower = ltb-false _ _ f; upper = ltb-false _ _ e }))))
 
 -- ---- the data of a reply
 

@@ -6,5 +6,6 @@ pub mod RecordLaws
 pub mod TakenLaws
 pub mod ReceiveLaws
 pub mod KeptLaws
+pub mod VerdictLaws
 pub mod StepLaws
 pub mod CountLaws

@@ -27,6 +27,7 @@ use Rattle.responder.specs.Receive
 use Rattle.responder.specs.declared.receive.Received.the-variants as received
 use Rattle.responder.proofs.CommandLaws.{of-number}
 use Rattle.responder.proofs.KeptLaws.{answering-valid, carried-valid}
+use Rattle.responder.proofs.VerdictLaws.{behind-stays}
 
 -- ---- valid parts
 
@@ -202,29 +203,35 @@ module _ (image f o s t : List ℕ) (version sequence command : ℕ) (d : List �
 
 -- ---- an answer of the reader
 
--- what comes of an answer: the same, and nothing where no frame ended that is not empty
-abbrev pub Settled : List ℕ → List ℕ → Receive.Inner → List ℕ → LineReader.ReadReport → Ended → Served → Receive.Inner → Type 0
-Settled image f i reader a g w j =
+-- what comes of an answer: the same, and nothing where no frame ended that is not empty; and the reader's part behind it
+abbrev pub Settled : List ℕ → List ℕ → Receive.Inner → List ℕ → LineReader.ReadReport → Ended → Served → Receive.Inner → List ℕ → Type 0
+Settled image f i reader a g w j behind =
     (g ≡ Receive.endedByReader reader a)
     × ((w ≡ Receive.servedAfter (i .settings) (Receive.verdictOf reader a))
-    × ((j ≡ Receive.innerAfter image f i (Receive.verdictOf reader a)) × (Receive.validInner j ≡ true)))
+    × ((j ≡ Receive.innerAfter image f i (Receive.verdictOf reader a))
+    × ((Receive.validInner j ≡ true) × (behind ≡ Receive.readerBehind reader a))))
 
 -- by a call of `fail`
 pub settled-failure : (image f o s r reader : List ℕ) (reason : ℕ) (sequence : Option ℕ) {a : LineReader.ReadReport} {h : Receive.Head}
     {g : Ended} {u : Served} {o' : List ℕ}
     → Receive.validInner (Receive.inner o s r) ≡ true → a ≡ LineReader.failed reason sequence
     → h ≡ Receive.failureHead first-version sequence
-    → Failed reason h o g u o' → Settled image f (Receive.inner o s r) reader a g u (Receive.inner o' s r)
-unfolding Receive.endedByReader Receive.innerAfter Receive.servedAfter Receive.verdictOf
-settled-failure image f o s r reader reason sequence v e n w = rw e (judged-failure image f o s r reason first-version sequence v refl n w)
+    → Failed reason h o g u o' → Settled image f (Receive.inner o s r) reader a g u (Receive.inner o' s r) reader
+unfolding Receive.endedByReader Receive.innerAfter Receive.servedAfter Receive.verdictOf Receive.readerBehind Receive.setsPassphrase
+settled-failure image f o s r reader reason sequence v e n w =
+    let q = judged-failure image f o s r reason first-version sequence v refl n w in
+    rw e (q .0, (q .1 .0, (q .1 .1 .0, (q .1 .1 .1, refl))))
 
--- by a call of `request`
+-- by a call of `request`, and then of `wipe_passphrase`
 pub settled-message : (image f : List ℕ) (i : Receive.Inner) (reader : List ℕ) (version sequence command n : ℕ)
-    {a : LineReader.ReadReport} {g : Ended} {u : Served} {j : Receive.Inner} {d : List ℕ}
+    {a : LineReader.ReadReport} {g : Ended} {u : Served} {j : Receive.Inner} {d behind : List ℕ}
     → a ≡ LineReader.message version sequence command n → d ≡ LineReader.dataPromise reader n
-    → Judged image f i (tested (Receive.messageWith version sequence command d)) g u j → Settled image f i reader a g u j
-unfolding Receive.endedByReader Receive.innerAfter Receive.servedAfter Receive.verdictOf
-settled-message image f i reader version sequence command n e h w = rw e (rw h at w)
+    → Judged image f i (tested (Receive.messageWith version sequence command d)) g u j → behind ≡ Receive.behindMessage reader command n
+    → Settled image f i reader a g u j behind
+unfolding Receive.endedByReader Receive.innerAfter Receive.servedAfter Receive.verdictOf Receive.readerBehind Receive.setsPassphrase
+settled-message image f i reader version sequence command n e h w b =
+    let q = rw h at w in
+    rw e (q .0, (q .1 .0, (q .1 .1 .0, (q .1 .1 .1, b))))
 
 -- ---- an iteration
 
@@ -233,7 +240,7 @@ pub iteration-rest : (image piece : List ℕ) (p : Parts)
     → let o = LineReader.readPiece (p .reader) piece in
     Receive.feedBytes image p piece ≡ Receive.feedBytes image (Receive.afterAnswer image p (o .state) (o .answer)) (drop (o .used) piece)
 unfolding LineReader.readPiece LineReader.oneByteLater Receive.feedBytes Receive.feedByte Receive.afterAnswer Receive.innerAfter
-    Receive.verdictOf
+    Receive.verdictOf Receive.readerBehind Receive.setsPassphrase
 iteration-rest image [] p = refl
 iteration-rest image (zero ∷ bs) p = refl
 iteration-rest image (suc b ∷ bs) p =
@@ -244,22 +251,24 @@ module _ (image piece : List ℕ) (p : Parts) (v : Receive.validParts p ≡ true
   abbrev read : LineReader.ReadOutcome
   read = LineReader.readPiece (p .reader) piece
 
-  -- by what the reader answered and left, and what came of it
-  pub valid-step-by : {n : ℕ} {a : LineReader.ReadReport} {g : Ended} {u : Served} {reader o s t : List ℕ}
+  -- by what the reader answered and left, what came of it, and the reader's part behind it
+  pub valid-step-by : {n : ℕ} {a : LineReader.ReadReport} {g : Ended} {u : Served} {reader behind o s t : List ℕ}
       → record { used = n; answer = a; state = reader } ≡ LineReader.readPromise (p .reader) piece
-      → Settled image (p .factory) (Receive.innerOf p) reader a g u (Receive.inner o s t)
-      → (record { used = n; ended = g; served = u; parts = parts reader o (p .factory) s t } ≡ Receive.validStep image p piece)
-      × (Receive.validParts (parts reader o (p .factory) s t) ≡ true)
+      → Settled image (p .factory) (Receive.innerOf p) reader a g u (Receive.inner o s t) behind
+      → (record { used = n; ended = g; served = u; parts = parts behind o (p .factory) s t } ≡ Receive.validStep image p piece)
+      × (Receive.validParts (parts behind o (p .factory) s t) ≡ true)
   unfolding Receive.validStep Receive.afterAnswer
-  valid-step-by {n} {a} {g} {u} {reader} {o} {s} {t} e w =
+  valid-step-by {n} {a} {g} {u} {reader} {behind} {o} {s} {t} e w =
       let h = parts-valid p v in
+      let b = w .1 .1 .1 .1 in
       let q = e ∙ accepted (p .reader) piece (h .reader) in
       let st : reader ≡ read .state = ap (λ (y : LineReader.ReadOutcome). y .state) q in
       let an : a ≡ read .answer = ap (λ (y : LineReader.ReadOutcome). y .answer) q in
       let us : n ≡ read .used = ap (λ (y : LineReader.ReadOutcome). y .used) q in
-      let k : LineReader.validReader reader ≡ true = rw st (read-valid (p .reader) piece (h .reader)) in (
-        rw (← us, ← st, ← an, w .0, w .1 .0, ← w .1 .1 .0),
-        valid-parts (parts reader o (p .factory) s t) (record { reader = k; factory = h .factory; inner = w .1 .1 .1 }),
+      let k : LineReader.validReader reader ≡ true = rw st (read-valid (p .reader) piece (h .reader)) in
+      let i : LineReader.validReader behind ≡ true = rw b (behind-stays reader a k .valid) in (
+        rw (← us, ← st, ← an, w .0, w .1 .0, ← w .1 .1 .0, b),
+        valid-parts (parts behind o (p .factory) s t) (record { reader = i; factory = h .factory; inner = w .1 .1 .1 .0 }),
       )
 
 -- ---- the loop over a piece

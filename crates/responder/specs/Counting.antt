@@ -2,23 +2,24 @@
 -- Assumes nothing: these are definitions.
 use mathlib.Core.Bool.{cond}
 use mathlib.Core.List.{List, [], _∷_}
+use mathlib.Core.Option.{Option, some}
 use Prim.Native.Nat.{ℕ}
 use lib.Dec.{eqb}
-use Rattle.line.specs.Reader as LineReader
+use Rattle.line.specs.Judge.{moreReceived}
+use Rattle.line.specs.Reader.{receivedOf}
 use Rattle.supervisor.specs.Calls.{Parts}
 use Rattle.counters.specs.declared.Counters.{Counters}
 use Rattle.counters.specs.Ended.{Ended}
 use Rattle.counters.specs.Count.{bumpedForAll}
-use Rattle.responder.specs.Receive.{endedByReader, validParts}
+use Rattle.responder.specs.Requests.{verdictSince}
+use Rattle.responder.specs.Receive.{endedMeant, validParts}
 
--- how each frame ended whose 00 stands in the bytes, by the reader's part, which holds what came of the first before
-unfoldable pub endings : List ℕ → List ℕ → List Ended
-endings reader [] = []
-endings reader (b ∷ bs) =
-    cond (eqb b 0)
-    (endedByReader (LineReader.finish reader .state) (LineReader.finish reader .answer) ∷ endings (LineReader.finish reader .state) bs)
-    (endings (LineReader.pushed reader b) bs)
+-- how each frame ended whose 00 stands in the bytes, by what came of the first before them
+unfoldable pub endings : Option (List ℕ) → List ℕ → List Ended
+endings received [] = []
+endings received (b ∷ bs) =
+    cond (eqb b 0) (endedMeant (verdictSince received) ∷ endings (some []) bs) (endings (moreReceived received b) bs)
 
 -- the block after a receive: a call that is refused as 12 leaves it
 unfoldable pub countPromise : Counters → Parts → List ℕ → Counters
-countPromise c p piece = cond (validParts p) (bumpedForAll c (endings (p .reader) piece)) c
+countPromise c p piece = cond (validParts p) (bumpedForAll c (endings (receivedOf (p .reader)) piece)) c

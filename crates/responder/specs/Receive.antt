@@ -1,6 +1,6 @@
 -- What a received byte does to the lent parts, and what the calls that receive answer and leave.
 -- Assumes nothing: these are definitions.
-use mathlib.Core.Bool.{Bool, cond, not, _&&_, _||_}
+use mathlib.Core.Bool.{Bool, false, cond, not, _&&_, _||_}
 use mathlib.Core.List.{List, [], _∷_, _++_}
 use mathlib.Core.Option.{Option, none, some}
 use Prim.Native.Nat.{ℕ, suc, _+_, _-_, _*_}
@@ -9,7 +9,7 @@ use lib.ListN.{length, take, drop, replicate}
 use Rattle.octets.specs.Bytes.{bytes, run, numberAt, overlay, equal}
 use Rattle.line.specs.Numbers.{status-length, reply-acknowledged, reply-decode-failure, reply-bsu, reply-identity, reply-mac, reply-status}
 use Rattle.line.specs.Numbers.{reply-alert, reply-image-block, reply-key-lookup, reply-inventory, reply-key-set, first-version}
-use Rattle.line.specs.Numbers.{second-version}
+use Rattle.line.specs.Numbers.{second-version, command-key-set}
 use Rattle.line.specs.Message.{Message}
 use Rattle.line.specs.Frame.{frame}
 use Rattle.line.specs.Reader as LineReader
@@ -156,9 +156,15 @@ valueBytes version f s d =
     valueHead version (resultNumber (lookupResultPromise f s key most)) (editionNumber (editionPromise f s key))
     ++ lookupPromise f s key most
 
--- the value of a key in its setting, one edition on
-unfoldable pub withValue : List ℕ → ℕ → List ℕ → List ℕ
-withValue s at v = overlay at (Layout.settingBytes (suc (Layout.settingEdition s at)) v) s
+-- the value of a key in its setting, one edition on, where so many bytes of the value before become 0 first
+unfoldable pub withValue : List ℕ → ℕ → ℕ → List ℕ → List ℕ
+withValue s at cleared v =
+    overlay at (Layout.settingBytes (suc (Layout.settingEdition s at)) v)
+    (overlay (at + Layout.setting-value-offset) (replicate cleared 0) s)
+
+-- all of the passphrase's, so that nothing of a longer one stays; none of any other key's
+unfoldable pub clearedFor : ℕ → ℕ
+clearedFor key = cond (eqb key Limits.passphrase-key) (Limits.longest-setting key) 0
 
 pub record KeyStored : Type 0 where
   pub result : ℕ
@@ -167,17 +173,18 @@ pub record KeyStored : Type 0 where
 abbrev pub keyStored : ℕ → List ℕ → KeyStored
 keyStored n s = record { result = n; settings = s }
 
-unfoldable pub storeBytesAt : List ℕ → ℕ → ℕ → ℕ → List ℕ → KeyStored
-storeBytesAt s at shortest longest v =
+unfoldable pub storeBytesAt : List ℕ → ℕ → ℕ → ℕ → ℕ → List ℕ → KeyStored
+storeBytesAt s at shortest longest cleared v =
     cond (ltb (length v) shortest || ltb longest (length v)) (keyStored 3 s)
     (cond (eqb (Layout.settingEdition s at) Limits.last-edition) (keyStored 4 s)
-    (keyStored 0 (withValue s at v)))
+    (keyStored 0 (withValue s at cleared v)))
 
 unfoldable pub storeBytes : List ℕ → ℕ → List ℕ → KeyStored
 storeBytes s key v =
     cond (ltb Limits.highest-key key) (keyStored 1 s)
     (cond (ltb key Limits.first-setting) (keyStored 2 s)
-    (storeBytesAt s (Layout.setting-offset key) (Limits.shortest-setting key) (Limits.longest-setting key) v))
+    (storeBytesAt s (Layout.setting-offset key) (Limits.shortest-setting key) (Limits.longest-setting key) (clearedFor key)
+    v))
 
 pub record KeySet : Type 0 where
   pub result : ℕ
@@ -252,6 +259,28 @@ unfoldable pub innerAfter : List ℕ → List ℕ → Inner → Option Verdict �
 innerAfter image f i none = i
 innerAfter image f i (some v) = innerBy image f i v
 
+-- ---- The passphrase's frame (document 02, item 14)
+
+-- a key set of the passphrase that the line layer found good, whatever the table says of it
+abbrev pub isPassphraseSet : ℕ → List ℕ → Bool
+isPassphraseSet command d = eqb command command-key-set && eqb (numberAt 1 d 0) Limits.passphrase-key
+
+unfoldable pub setsPassphrase : List ℕ → LineReader.ReadReport → Bool
+setsPassphrase reader (LineReader.refused n) = false
+setsPassphrase reader LineReader.more = false
+setsPassphrase reader LineReader.empty = false
+setsPassphrase reader (LineReader.failed reason sequence) = false
+setsPassphrase reader (LineReader.message version sequence command n) = isPassphraseSet command (LineReader.dataPromise reader n)
+
+-- the reader's part behind a frame: begun anew by the line layer where the frame was such a set, so that nothing of it stays
+unfoldable pub readerBehind : List ℕ → LineReader.ReadReport → List ℕ
+readerBehind reader a = cond (setsPassphrase reader a) (LineReader.readerStartPromise reader .state) reader
+
+-- the same behind a message with so many bytes of data
+abbrev pub behindMessage : List ℕ → ℕ → ℕ → List ℕ
+behindMessage reader command n =
+    cond (isPassphraseSet command (LineReader.dataPromise reader n)) (LineReader.readerStartPromise reader .state) reader
+
 -- ---- One byte
 
 abbrev pub partsWith : Parts → List ℕ → Inner → Parts
@@ -263,7 +292,7 @@ innerOf p = inner (p .outbox) (p .settings) (p .registers)
 
 -- by the line reader's answer and the state that it left
 unfoldable pub afterAnswer : List ℕ → Parts → List ℕ → LineReader.ReadReport → Parts
-afterAnswer image p reader a = partsWith p reader (innerAfter image (p .factory) (innerOf p) (verdictOf reader a))
+afterAnswer image p reader a = partsWith p (readerBehind reader a) (innerAfter image (p .factory) (innerOf p) (verdictOf reader a))
 
 unfoldable pub feedByte : List ℕ → Parts → ℕ → Parts
 feedByte image p b =
@@ -289,6 +318,11 @@ validParts p = LineReader.validReader (p .reader) && (validFactory (p .factory) 
 abbrev pub endedByVerdict : Verdict → Ended
 endedByVerdict (failure reason version sequence) = Ended.failed reason
 endedByVerdict (good m) = Ended.request
+
+-- an empty frame has no verdict
+abbrev pub endedMeant : Option Verdict → Ended
+endedMeant none = Ended.empty
+endedMeant (some v) = endedByVerdict v
 
 unfoldable pub endedByReader : List ℕ → LineReader.ReadReport → Ended
 endedByReader reader (LineReader.refused n) = Ended.refused n

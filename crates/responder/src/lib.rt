@@ -9,3 +9,4 @@ mod records;
 mod requests;
 mod sending;
 mod settings;
+mod wiping;

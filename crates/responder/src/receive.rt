@@ -3,6 +3,7 @@
 use crate::head;
 use crate::requests;
 use crate::sending::fail;
+use crate::wiping::wipe_passphrase;
 use counters::outcome::Outcome;
 use line::numbers;
 use line::reader::Answer;
@@ -18,7 +19,7 @@ ghost use Rattle.supervisor.specs.Valid.{validFactory};
 ghost use Rattle.supervisor.specs.Calls.{parts};
 ghost use Rattle.counters.specs.Ended.{stepReport, servedReport};
 ghost use Rattle.responder.specs.Receive.{inner, validInner, innerAfter, verdictOf, endedByReader, servedAfter, validParts};
-ghost use Rattle.responder.specs.Receive.{stepOutcome, stepPromise, validStep, receiveOutcome, receivePromise};
+ghost use Rattle.responder.specs.Receive.{readerBehind, stepOutcome, stepPromise, validStep, receiveOutcome, receivePromise};
 
 // How many bytes of the piece a call of `step` read, and how the frame ended.
 pub struct Stepped {
@@ -151,7 +152,7 @@ pub(crate) fn valid_step(
 fn answer_frame(
     image: &[u8],
     answer: Answer,
-    reader: &[u8],
+    reader: &mut [u8],
     outbox: &mut [u8],
     factory: &[u8],
     settings: &mut [u8],
@@ -167,24 +168,28 @@ fn answer_frame(
         (inner (now (outbox .entry)) (now (settings .entry)) (now (registers .entry)))
         (verdictOf (now (reader .entry)) (readReport answer)) ⌝ }
     ensures { λ _. ⌜ validInner (inner (now (outbox .exit)) (now (settings .exit)) (now (registers .exit))) ≡ true ⌝ }
+    ensures { λ _. ⌜ now (reader .exit) ≡ readerBehind (now (reader .entry)) (readReport answer) ⌝ }
 {
     match answer {
         Answer::Refused => Outcome::Refused,
         Answer::More => Outcome::More,
         Answer::Empty => Outcome::Empty,
         Answer::Message(head) => {
-            let data = line::reader::message_data(reader, head.length);
-            requests::request(
+            let length = head.length;
+            let command = head.command;
+            let outcome = requests::request(
                 image,
                 factory,
-                data,
+                line::reader::message_data(reader, length),
                 head.version,
                 RequestNumber(head.sequence),
-                head.command,
+                command,
                 outbox,
                 settings,
                 registers,
-            )
+            );
+            wipe_passphrase(reader, command, length);
+            outcome
         }
         Answer::BadForm => fail(outbox, head::unnumbered(), numbers::REASON_FORM),
         Answer::BadLength => fail(outbox, head::unnumbered(), numbers::REASON_LENGTH),

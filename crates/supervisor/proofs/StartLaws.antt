@@ -1,18 +1,18 @@
--- The laws of start: zeros put at the start of a list, the parts that start leaves, and what it answers.
+-- The laws of start: the parts that it leaves, and what it answers.
 -- Assumes nothing.
 use mathlib.Core.Path.{_≡_, refl, sym, ap, _∙_}
 use mathlib.Core.Bool.{true, false, _&&_, and-eq-true-iff}
 use mathlib.Core.List.{List, _++_}
-use Prim.Native.Nat.{ℕ, _+_, _-_, _≤_, _<_}
-use native.Mathlib.Nat.{zero-add}
+use Prim.Native.Nat.{ℕ, _+_, _-_, _≤_}
 use native.Mathlib.Omega.{arith}
 use lib.Dec.{leb}
-use lib.ListN.{length, set, replicate, length-append, length-replicate, replicate-append-replicate}
+use lib.ListN.{length, length-append}
 use lib.Seq.{take-all}
 use borrow.Author.Tests.{leb-true, le-leb}
 use Rattle.octets.specs.Bytes.{bytes, overlay, put, copied}
 use Rattle.octets.proofs.Numbers.{length-bytes}
-use Rattle.octets.proofs.Overlay.{length-overlay, overlay-more, overlay-again, overlay-next, overlay-swap, put-fits, put-not, copied-fits}
+use Rattle.octets.proofs.Overlay.{length-overlay, overlay-again, overlay-next, overlay-swap, put-fits, copied-fits}
+use Rattle.octets.proofs.Zeros.{zeros, zeros-add, length-zeros, cleared-fits}
 use Rattle.line.specs.Reader
 use Rattle.line.specs.declared.reader.Started.{Started as Reader-Started}
 use Rattle.octets.proofs.Conditions.{cond-by}
@@ -22,29 +22,6 @@ use Rattle.supervisor.specs.Valid.{goodStart}
 use Rattle.supervisor.specs.Calls.{Parts, parts, StartOutcome, longEnough, freshParts, startReport, startOutcome, startPromise}
 use Rattle.supervisor.specs.declared.start.Started.{Started}
 use Rattle.supervisor.specs.declared.start.Started.the-variants as answer
-
--- ---- zeros
-
-abbrev pub zeros : ℕ → List ℕ
-zeros n = replicate n 0
-
-zeros-add : (m n : ℕ) → zeros m ++ zeros n ≡ zeros (m + n)
-zeros-add m n = replicate-append-replicate m n 0
-
-length-zeros : (n : ℕ) → length (zeros n) ≡ n
-length-zeros n = length-replicate n 0
-
-pub cleared-more : (i : ℕ) (s : List ℕ) → i < length s → set (overlay 0 (zeros i) s) i 0 ≡ overlay 0 (zeros (i + 1)) s
-cleared-more i s h =
-    let e : 0 + length (zeros i) ≡ i = simp (length-zeros, zero-add) in
-    let m = overlay-more 0 0 (zeros i) s (omega arith) in
-    rw (e, zeros-add i 1) at m
-
-pub cleared-fits : (n : ℕ) (s : List ℕ) → n ≤ length s → put 0 (zeros n) s ≡ overlay 0 (zeros n) s
-cleared-fits n s h = put-fits 0 (zeros n) s (omega (arith, length-zeros n))
-
-pub cleared-not : (n : ℕ) (s : List ℕ) → length s < n → put 0 (zeros n) s ≡ s
-cleared-not n s h = put-not 0 (zeros n) s (omega (arith, length-zeros n))
 
 -- ---- the factory store and the registers
 
@@ -70,7 +47,7 @@ numbered k v n s t u h l p q =
     let o : length (overlay 0 (zeros n) s) ≡ length s = length-overlay 0 (zeros n) s (omega (arith, length-zeros n)) in
     let e : k + (n - k) ≡ n = omega arith in
     let z : zeros k ++ zeros (n - k) ≡ zeros n = rw e at (zeros-add k (n - k)) in
-    rw (q, p, cleared-fits n s l, put-fits 0 (bytes k v) (overlay 0 (zeros n) s) (omega arith), ← z)
+    rw (q, p, cleared-fits 0 s n (omega arith), put-fits 0 (bytes k v) (overlay 0 (zeros n) s) (omega arith), ← z)
     (overlay-first 0 (bytes k v) (zeros k) (zeros (n - k)) s (rw z (omega (arith, length-zeros n))) (b ∙ sym (length-zeros k)))
 
 -- n, k and m bytes, one after the other
@@ -158,6 +135,6 @@ pub begun : (d : List ℕ) (p q : Parts) (a : Reader-Started) → LongEnough p �
 unfolding startPromise startReport freshParts
 begun d p q a r e reader outbox factory settings registers =
     let x = reader-begun (p .reader) (q .reader) a (r .reader) reader in
-    let y = outbox ∙ cleared-fits Layout.outbox-length (p .outbox) (r .outbox) in
-    let z = settings ∙ cleared-fits Layout.settings-length (p .settings) (r .settings) in
+    let y = outbox ∙ cleared-fits 0 (p .outbox) Layout.outbox-length (omega (arith, r .outbox)) in
+    let z = settings ∙ cleared-fits 0 (p .settings) Layout.settings-length (omega (arith, r .settings)) in
     rw (is-long-enough p r, e, x, y, factory, z, registers)

@@ -1,7 +1,6 @@
 // The supervisor of document 01: its lent state in five parts, its stores and the local calls.
 // No public function has a `requires`; each promise settles the result and every byte lent.
 pub mod alerts;
-mod fill;
 pub mod keys;
 pub mod layout;
 pub mod number;

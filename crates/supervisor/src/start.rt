@@ -1,6 +1,5 @@
 // Start: from any bytes of sufficient length to a fresh state.
 // Assumes nothing: no public function here has a `requires`.
-use crate::fill::clear;
 use crate::layout;
 use crate::valid;
 ghost use mathlib.Core.Path.{_≡_};
@@ -51,9 +50,9 @@ pub fn start(
         return Started::BadData;
     }
     line::reader::start(reader);
-    clear(outbox, layout::OUTBOX_LENGTH);
+    octets::clear(outbox, 0, layout::OUTBOX_LENGTH);
     set_factory(data, factory);
-    clear(settings, layout::SETTINGS_LENGTH);
+    octets::clear(settings, 0, layout::SETTINGS_LENGTH);
     set_registers(registers);
     Started::Done
 }
@@ -79,6 +78,6 @@ fn set_registers(registers: &mut [u8])
     requires { ⌜ registers-length ≤ length (now registers) ⌝ }
     ensures { λ _. ⌜ now (registers .exit) ≡ overlay 0 (bytes 8 1 ++ replicate (registers-length - 8) 0) (now (registers .entry)) ⌝ }
 {
-    clear(registers, layout::REGISTERS_LENGTH);
+    octets::clear(registers, 0, layout::REGISTERS_LENGTH);
     octets::write_u64(registers, layout::STATUS_OFFSET, 1);
 }

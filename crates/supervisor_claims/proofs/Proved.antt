@@ -34,7 +34,11 @@ use Rattle.supervisor_claims.proofs.claims.AlertClaim.{fresh-alert-answ
 use Rattle.supervisor_claims.proofs.claims.SavedClaim.{key-savable, save-writes, saved-restores, accepted-exact}
 use Rattle.supervisor_claims.proofs.claims.SavingRefusals.{save-refused-exactly, restore-refused-exactly, restore-fault}
 use Rattle.saving_claims.proofs.Item11.{saved-omits, other-key-31}
-use Rattle.supervisor_claims.proofs.TwoRuns.{two-states, two-runs}
+use Rattle.supervisor_claims.proofs.TwoRuns.{two-states}
+use Rattle.supervisor_claims.proofs.claims.RunsSame.{two-runs}
+use Rattle.supervisor_claims.proofs.claims.StartForgets.{start-forgets}
+use Rattle.supervisor_claims.proofs.claims.SetUnseen.{set-unseen}
+use Rattle.supervisor_claims.proofs.claims.TwoPassphrases.{two-passphrases}
 
 pub number-due : SupervisorNumberDue
 number-due = record {
@@ -161,6 +165,9 @@ item-14 = record {
   passphrase-unread-locally = passphrase-unread-locally;
   two-states = two-states;
   two-runs = two-runs;
+  start-forgets = start-forgets;
+  set-unseen = set-unseen;
+  two-passphrases = two-passphrases;
   saved-omits = saved-omits;
   other-key-31 = other-key-31;
   replaced-other = replaced-other;

@@ -6,8 +6,9 @@ use mathlib.Core.List.{List, [], _∷_}
 use Prim.Native.Nat.{ℕ, _+_, _≤_}
 use native.Mathlib.Omega.{arith}
 use Rattle.line.specs.Frame.{split}
+use Rattle.line.specs.Judge.{progressOf}
 use Rattle.supervisor.specs.Limits
-use Rattle.supervisor.specs.State.{State, unset, withSetting, withSettings}
+use Rattle.supervisor.specs.State.{State, fresh, unset, withSetting, withSettings}
 use Rattle.supervisor.specs.Calls.{Parts}
 use Rattle.supervisor.proofs.ValidLaws.{settings-valid}
 use Rattle.supervisor_claims.specs.View.{factoryOf, view}
@@ -15,11 +16,12 @@ use Rattle.supervisor_claims.specs.Sound.{Sound}
 use Rattle.supervisor_claims.specs.Histories.{Means, Made, left}
 use Rattle.supervisor_claims.specs.FrameHistory.{startsAnew, receivedSince, outputsByFrames, leftByFrames}
 use Rattle.supervisor_claims.specs.TwoRuns.{Run, leftByRun, receivedInRun, record-end, SameButPassphrase}
-use Rattle.supervisor_claims.specs.TwoRuns.{withoutPassphrase, passphraseEdition, setsToCome}
-use Rattle.supervisor_claims.specs.Item14.{TwoStates, TwoRuns}
+use Rattle.supervisor_claims.specs.TwoRuns.{withoutPassphrase, passphraseEdition, setsBrought, setsToCome}
+use Rattle.supervisor_claims.specs.Item14.{TwoStates}
 use Rattle.supervisor_claims.proofs.laws.Progress.{Since}
-use Rattle.supervisor_claims.proofs.claims.History.{follows, history}
-use Rattle.supervisor_claims.proofs.claims.FramesClaim.{frames-follow, by-frames}
+use Rattle.supervisor_claims.proofs.claims.History.{follows, started}
+use Rattle.supervisor_claims.proofs.claims.FramesClaim.{frames-follow}
+use Rattle.supervisor_claims.proofs.claims.MixedClaim.{mixed-since, sound-no-12}
 use Rattle.supervisor_claims.proofs.claims.TwoRunLaws.{Like, Room, Pair, anew-same, made-same, store-alike, store-room}
 
 -- the same comes out, and what is left differs only in the passphrase
@@ -32,7 +34,7 @@ like-without {s} {t} l =
     ap (λ (x : State). withSettings x (withSetting (s .settings) Limits.passphrase-key unset)) (l .rest) ∙ ap (withSettings t) (l .settings)
 
 calls-follow : (ms : List Made) (w : List ℕ) (s t : State) → Pair (setsToCome w ms) s t → Follow w ms s t
-unfolding setsToCome outputsByFrames leftByFrames
+unfolding setsToCome setsBrought outputsByFrames leftByFrames
 calls-follow [] w s t p = (refl, like-without (p .like))
 calls-follow (m ∷ ms) w s t p = by (startsAnew m) refl (calls-follow ms (receivedSince w m))
   where
@@ -46,20 +48,23 @@ calls-follow (m ∷ ms) w s t p = by (startsAnew m) refl (calls-follow ms (recei
         let f = rest _ _ (k .pair) in
         (rw (k .answer, k .out, f .0), f .1)
 
-without-like : (s t : State) → withoutPassphrase s ≡ withoutPassphrase t → Like s t
+pub without-like : (s t : State) → withoutPassphrase s ≡ withoutPassphrase t → Like s t
 without-like s t e = record { rest = ap (λ (x : State). withSettings x (s .settings)) e; settings = ap (λ (x : State). x .settings) e }
 
-view-room : (n : ℕ) (p : Parts) → passphraseEdition p + n ≤ Limits.last-edition → Room n (view p .settings)
+pub view-room : (n : ℕ) (p : Parts) → passphraseEdition p + n ≤ Limits.last-edition → Room n (view p .settings)
 unfolding view
 view-room n p h = store-room n (p .settings) h
 
 pub run-sound : (r : Run) → Sound (leftByRun r)
-run-sound r = history (r .room) (r .bytes) (r .lent) (r .start-data) (r .typed) (r .accepted) (r .calls) (r .all-typed) .2
+run-sound r =
+    sound-no-12 _ (started (r .room) (r .bytes) (r .lent) (r .start-data) (r .typed) (r .accepted) .1) (r .calls) (r .all-typed) .0
 
 pub run-since : (r : Run) → Since (split (receivedInRun r) .rest) (view (leftByRun r))
+unfolding fresh progressOf split
 run-since r =
-    rw (history (r .room) (r .bytes) (r .lent) (r .start-data) (r .typed) (r .accepted) (r .calls) (r .all-typed) .1)
-    (by-frames (factoryOf (r .start-data)) (r .calls) .2)
+    let k = started (r .room) (r .bytes) (r .lent) (r .start-data) (r .typed) (r .accepted) in
+    let z : Since [] (fresh (factoryOf (r .start-data))) = record { received = refl; nonzero = tt } in
+    mixed-since (r .calls) [] _ (k .1) (rw (k .0) z) (r .all-typed)
 
 -- ---- The claim
 
@@ -94,6 +99,3 @@ same-states p q s e =
       e .registers,
       store-alike (p .settings) (q .settings) (settings-valid (p .settings) (s .valid .settings)) (e .ahead) record-end refl (e .behind),
     )
-
-pub two-runs : TwoRuns
-two-runs r s e ms t h k = two-states r s (same-states (leftByRun r) (leftByRun s) (run-sound r) e) ms t h k .0

@@ -19,3 +19,11 @@ pub mod AlertClaim
 pub mod SavedClaim
 pub mod SavingRefusals
 pub mod TwoRunLaws
+pub mod OutsideLaws
+pub mod FedSame
+pub mod CallsSame
+pub mod RunsSame
+pub mod BehindLaws
+pub mod StartForgets
+pub mod SetUnseen
+pub mod TwoPassphrases

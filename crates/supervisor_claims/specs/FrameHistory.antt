@@ -14,12 +14,13 @@ use Rattle.line.specs.Frame.{split, nonEmpty, closedBehind}
 use Rattle.supervisor.specs.State.{Settings, State, withReceived, withPending}
 use Rattle.supervisor.specs.Local
 use Rattle.supervisor.specs.Calls.{Parts}
+use Rattle.responder.specs.Receive.{endedMeant}
 use Rattle.responder.specs.Requests.{Verdict, good, verdict, Reply, afterVerdict, owed, replyFrame}
 use Rattle.counters.specs.Ended.{Ended, Served}
 use Rattle.supervisor_claims.specs.View.{factoryOf, view}
 use Rattle.supervisor_claims.specs.Histories
-use Rattle.supervisor_claims.specs.Histories.{Call, Typed, refused, done, stepped, Did, Means, means, upTo, endedMeant, servedMeant}
-use Rattle.supervisor_claims.specs.Histories.{meant, Lent, Made, enough, untouched, Output, receiveWith}
+use Rattle.supervisor_claims.specs.Histories.{Call, Typed, refused, done, stepped, Did, Means, means, upTo, servedMeant, meant}
+use Rattle.supervisor_claims.specs.Histories.{Lent, Made, enough, untouched, Output, receiveWith}
 
 -- ---- The received bytes
 

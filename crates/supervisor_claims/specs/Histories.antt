@@ -20,6 +20,7 @@ use Rattle.supervisor.specs.Calls.{Parts}
 use Rattle.responder.specs.Requests
 use Rattle.responder.specs.Requests.{Verdict}
 use Rattle.responder.specs.Receive
+use Rattle.responder.specs.Receive.{endedMeant}
 use Rattle.counters.specs.Ended.{Ended, Served}
 use Rattle.supervisor_claims.specs.ByPart.{Part, published, part, partsBy, everyPart}
 use Rattle.supervisor_claims.specs.View.{factoryOf}
@@ -87,11 +88,7 @@ unfoldable pub upTo : List ℕ → ℕ
 upTo [] = 0
 upTo (b ∷ bs) = cond (eqb b 0) 1 (suc (upTo bs))
 
--- how a frame ends, and what is told of it where these settings are held: none where it is empty
-abbrev pub endedMeant : Option Verdict → Ended
-endedMeant none = Ended.empty
-endedMeant (some v) = Receive.endedByVerdict v
-
+-- what is told of a frame where these settings are held: nothing where it is empty
 abbrev pub servedMeant : Settings → Option Verdict → Served
 servedMeant z none = Served.nothing
 servedMeant z (some v) = Requests.servedBy z v

@@ -14,9 +14,12 @@ use Rattle.supervisor_claims.specs.Histories
 use Rattle.supervisor_claims.specs.Histories.{found, foundEdition, Lent, enough, Made, made}
 use Rattle.supervisor_claims.specs.Histories.{outputs, left, AllTyped, locally, AfterCalls}
 use Rattle.supervisor_claims.specs.FrameHistory.{RepliedWith, OnRequest}
+use Rattle.supervisor_claims.specs.MixedCalls.{MixedCall, AllTypedMixed, outputsMixed, leftMixed}
 use Rattle.supervisor_claims.specs.LastSet.{lookupMessage, SetAnswered}
 use Rattle.supervisor_claims.specs.TwoRuns.{Run, leftByRun, receivedInRun, SameButPassphrase, withoutPassphrase, passphraseEdition}
-use Rattle.supervisor_claims.specs.TwoRuns.{setsToCome}
+use Rattle.supervisor_claims.specs.TwoRuns.{setsToCome, mixedSetsToCome}
+use Rattle.supervisor_claims.specs.Forgets.{StartForgets, SetUnseen}
+use Rattle.supervisor_claims.specs.TwoPassphrases.{TwoPassphrases}
 use Rattle.saving_claims.specs.Item11.{SavedOmits, OtherKey31}
 use Rattle.supervisor_claims.specs.Item4.{ValueLengths}
 use Rattle.supervisor_claims.specs.Item5.{StoresNothing}
@@ -38,10 +41,11 @@ PassphraseUnreadLocally ms q = (most : ℕ) → most < 65536 → (j : Lent)
     (r .answer ≡ found 4 0) × (r .out ≡ []) × (f .answer ≡ foundEdition 4 0)
 
 abbrev pub TwoRuns : Type 0
-TwoRuns = (r s : Run) → SameButPassphrase (leftByRun r) (leftByRun s) → (ms : List Made) → AllTyped ms
-    → let n = setsToCome (receivedInRun r) ms in
+TwoRuns = (r s : Run) → SameButPassphrase (leftByRun r) (leftByRun s) → (cs : List MixedCall) → AllTypedMixed cs
+    → let n = mixedSetsToCome (receivedInRun r) cs in
     passphraseEdition (leftByRun r) + n < Limits.last-edition → passphraseEdition (leftByRun s) + n < Limits.last-edition
-    → outputs (leftByRun r) ms ≡ outputs (leftByRun s) ms
+    → (outputsMixed (leftByRun r) cs ≡ outputsMixed (leftByRun s) cs)
+    × SameButPassphrase (leftMixed (leftByRun r) cs) (leftMixed (leftByRun s) cs)
 
 abbrev pub TwoStates : Type 0
 TwoStates = (r s : Run) → withoutPassphrase (view (leftByRun r)) ≡ withoutPassphrase (view (leftByRun s)) → (ms : List Made) → AllTyped ms
@@ -65,8 +69,17 @@ pub record SupervisorItem14 : Type 0 where
   -- Then the same calls in the same order, with equal arguments and loans, return and write outside the state the same.
   -- They leave two such states.
   pub two-states : TwoStates
-  -- so where all bytes of the parts outside the passphrase's record are equal
+  -- So where all bytes of the parts outside the passphrase's record are equal, and then of the line layer's calls on the reader's part too,
+  -- in any order with the supervisor's. All bytes outside the record stay equal.
   pub two-runs : TwoRuns
+  -- an accepted start leaves nothing of what the parts held, within their published lengths
+  pub start-forgets : StartForgets
+  -- the frame of a set of the passphrase, in any cuts, leaves nothing of its value outside the passphrase's record
+  pub set-unseen : SetUnseen
+  -- Two runs from one start with the same calls, but for the frames of sets of the passphrase, with values of allowed lengths of their own,
+  -- each in cuts of its own: all other calls return and write outside the state the same.
+  -- Whenever no such set is partly received, the parts are the same but for the passphrase's record.
+  pub two-passphrases : TwoPassphrases
   -- the saved image omits key 6: it is that of keys 3, 4 and 5 alone
   pub saved-omits : SavedOmits
   -- restore refuses its record as 31, where it stands first

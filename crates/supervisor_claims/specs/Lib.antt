@@ -13,6 +13,8 @@ pub mod SameEdition
 pub mod Alerts
 pub mod Replies
 pub mod TwoRuns
+pub mod Forgets
+pub mod TwoPassphrases
 pub mod Demand1
 pub mod Demand2
 pub mod Item1

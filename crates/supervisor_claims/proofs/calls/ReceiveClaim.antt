@@ -19,7 +19,7 @@ use Rattle.line.specs.Judge as Line
 use Rattle.line.specs.Judge.{decoded, wrongLength, wrongChecksum, wrongMagic, judgeForm, judge}
 use Rattle.line.specs.Judge.{moreReceived}
 use Rattle.line.specs.Reader as LineReader
-use Rattle.line.proofs.Received.{pushed-received, finish-received}
+use Rattle.line.proofs.Received.{pushed-received}
 use Rattle.supervisor.specs.State.{State, withReceived}
 use Rattle.supervisor.specs.Calls.{Parts}
 use Rattle.responder.specs.Commands.{Command, isListed, commandOfNumber}
@@ -27,6 +27,7 @@ use Rattle.responder.specs.Requests
 use Rattle.responder.specs.Requests.{Verdict, failure, good, verdictSince}
 use Rattle.responder.proofs.StepLaws.{served-small}
 use Rattle.responder.specs.Receive
+use Rattle.responder.proofs.VerdictLaws.{finished-verdict, readerClosed, closed-received}
 use Rattle.responder.proofs.KeptLaws.{carried-valid, inner-valid, valid-inner, sent-long, sent-owed, box-valid}
 use Rattle.supervisor_claims.specs.ByPart.{Part, withPart}
 use Rattle.supervisor_claims.specs.View.{view}
@@ -34,8 +35,8 @@ use Rattle.supervisor_claims.specs.Sound.{withReader, withOutbox, Sound,
 use Rattle.supervisor_claims.proofs.Sound.{lengths-same, lengths-then, sound-with}
 use Rattle.supervisor_claims.proofs.calls.SendingClaim.{reply-sendable, sent-pending, sent-bytes}
 use Rattle.supervisor_claims.proofs.calls.CommandClaims.{withStores, SendableReply, Changed, command-does}
-use Rattle.supervisor_claims.proofs.calls.ReceivedClaim.{Requestable, ReaderKept, pushed-kept}
-use Rattle.supervisor_claims.proofs.calls.ReceivedClaim.{finished-kept, finished-verdict, finished-typed}
+use Rattle.supervisor_claims.proofs.calls.ReceivedClaim.{Requestable, ReaderKept, pushed-kept, closed-kept}
+use Rattle.supervisor_claims.proofs.calls.ReceivedClaim.{finished-typed}
 
 -- ---- Sending
 
@@ -179,7 +180,7 @@ module _ (p : Parts) (s : Sound p) where
 
 module _ (image : List ℕ) (each : Each Byte image) (p : Parts) (s : Sound p) where
   abbrev ended : List ℕ
-  ended = LineReader.finish (p .reader) .state
+  ended = readerClosed (p .reader)
 
   judgeable : (v : Verdict) → verdictSince (receivedOf (p .reader)) ≡ some v → Small v → Judgeable v
   judgeable (failure reason version sequence) e h = h .low
@@ -191,7 +192,7 @@ module _ (image : List ℕ) (each : Each Byte image) (p : Parts) (s : Sound p) w
       (Requests.afterVerdict image (withReceived (view p) (some [])) v)
   frame-leaves v j =
       let a =
-      rw (finish-received (p .reader) (s .valid .reader)) at (reader-leaves p s ended (finished-kept (p .reader) (s .valid .reader))) in
+      rw (closed-received (p .reader) (s .valid .reader)) at (reader-leaves p s ended (closed-kept (p .reader) (s .valid .reader))) in
       let b = judged-leaves image each _ (a .1) v j in
       (b .0 ∙ ap (λ x. Requests.afterVerdict image x v) (a .0), b .1, lengths-then (a .2) (b .2))
 
@@ -207,12 +208,12 @@ module _ (image : List ℕ) (each : Each Byte image) (p : Parts) (s : Sound p) w
   closed-leaves none e = frame-leaves (failure 1 first-version none) (omega arith)
   closed-leaves (some []) e =
       let a =
-      rw (finish-received (p .reader) (s .valid .reader)) at (reader-leaves p s ended (finished-kept (p .reader) (s .valid .reader))) in
+      rw (closed-received (p .reader) (s .valid .reader)) at (reader-leaves p s ended (closed-kept (p .reader) (s .valid .reader))) in
       (a .0 ∙ progress-same (view p) (some []) (received-view ∙ e), a .1, a .2)
   closed-leaves (some (b ∷ bs)) e = frame-leaves _ (judgeable _ (rw e) (verdict-small (b ∷ bs)))
 
-  zero-leaves : Leaves p (Receive.afterAnswer image p ended (LineReader.finish (p .reader) .answer))
-      (Requests.closed image (view p) (view p .received))
+  zero-leaves : let o = LineReader.finish (p .reader) in
+      Leaves p (Receive.afterAnswer image p (o .state) (o .answer)) (Requests.closed image (view p) (view p .received))
   unfolding Receive.afterAnswer
   zero-leaves =
       rw (finished-verdict (p .reader) (s .valid .reader) ∙ ap verdictSince (sym received-view))

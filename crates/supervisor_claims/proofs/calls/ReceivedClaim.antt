@@ -1,49 +1,30 @@
 -- The line reader's part of the view: the verdict at a 00 on what has come of the frame, what it asks of a request, and what stays.
 -- Assumes nothing.
-use mathlib.Core.Path.{_≡_, refl, _∙_}
+use mathlib.Core.Path.{_≡_, refl}
 use mathlib.Core.Bool.{Bool, true, false, not}
 use mathlib.Core.List.{List, [], _∷_}
-use mathlib.Core.Option.{Option, none, some, Option·map}
+use mathlib.Core.Option.{Option, none, some}
 use Prim.Native.Nat.{ℕ, _^_, _≤_, _<_}
 use native.Mathlib.Omega.{arith}
 use lib.Dec.{leb}
 use lib.ListN.{length}
-use borrow.Author.Tests.{leb-false}
+use borrow.Author.Tests.{le-leb, leb-false}
 use Rattle.octets.specs.Bytes.{Byte, Each}
 use Rattle.octets.proofs.Conditions.{cond-by}
 use Rattle.line.specs.Limits.{longest-data}
 use Rattle.line.specs.Message.{Message, InRange}
 use Rattle.line.specs.Judge as Line
-use Rattle.line.specs.Judge.{fields, judge, judgeReceived}
+use Rattle.line.specs.Judge.{fields, judge}
 use Rattle.line.specs.Reader.{receivedOf}
 use Rattle.line.specs.Reader as LineReader
 use Rattle.line.proofs.Judged.{fit-length, judge-good, uncobs-each}
 use Rattle.line.proofs.Received.{ReaderStays, fresh-stays, fresh-each, pushed-stays, pushed-each, received-each, finish-stays}
-use Rattle.line.proofs.Received.{finish-each, finish-data, read-stays, read-each}
+use Rattle.line.proofs.Received.{stays-then, valid-long, finish-each, read-stays, read-each}
 use Rattle.line_claims.proofs.MessageLaws.{fields-range}
 use Rattle.responder.specs.Requests.{Verdict, failure, good, versionServed, known, lengthAllowed, tested, testedWhere, verdict}
 use Rattle.responder.specs.Requests.{verdictSince}
-use Rattle.responder.specs.Receive.{verdictOf}
-
--- ---- the verdict at a 00
-
-since-judged : (received : Option (List ℕ)) → Option·map testedWhere (judgeReceived received) ≡ verdictSince received
-unfolding verdict
-since-judged none = refl
-since-judged (some []) = refl
-since-judged (some (b ∷ bs)) = refl
-
--- by the answer of the line reader and the state that it leaves, in which the data of a message stand
-pub finished-verdict : (s : List ℕ) → LineReader.validReader s ≡ true
-    → verdictOf (LineReader.finish s .state) (LineReader.finish s .answer) ≡ verdictSince (receivedOf s)
-unfolding LineReader.finish LineReader.verdictReport verdictOf
-finished-verdict s v = by (judgeReceived (receivedOf s)) refl ∙ since-judged (receivedOf s)
-  where
-    by : (o : Option Line.LineVerdict) → judgeReceived (receivedOf s) ≡ o
-        → verdictOf (LineReader.finish s .state) (LineReader.closedReport o) ≡ Option·map testedWhere o
-    by none e = refl
-    by (some (Line.failure reason sequence)) e = refl
-    by (some (Line.good m)) e = rw (finish-data s v m e)
+use Rattle.responder.specs.Receive.{setsPassphrase, readerBehind}
+use Rattle.responder.proofs.VerdictLaws.{behind-stays, readerClosed}
 
 -- ---- a message that the whole table finds good
 
@@ -125,8 +106,16 @@ kept k bytes = record { valid = k .valid; long = k .long; bytes = bytes }
 pub pushed-kept : (s : List ℕ) (b : ℕ) → LineReader.validReader s ≡ true → b < 256 → ReaderKept s (LineReader.pushed s b)
 pushed-kept s b v l = kept (pushed-stays s b v) (pushed-each s b l)
 
-pub finished-kept : (s : List ℕ) → LineReader.validReader s ≡ true → ReaderKept s (LineReader.finish s .state)
-finished-kept s v = kept (finish-stays s v) (finish-each s)
+behind-each : (s : List ℕ) (a : LineReader.ReadReport) → LineReader.validReader s ≡ true → Each Byte s → Each Byte (readerBehind s a)
+unfolding readerBehind LineReader.readerStartPromise
+behind-each s a v h =
+    cond-by (Each Byte) (setsPassphrase s a) _ _ (λ _. rw (le-leb _ _ (valid-long s v)) (fresh-each s h)) (λ _. h)
+
+-- behind a 00
+pub closed-kept : (s : List ℕ) → LineReader.validReader s ≡ true → ReaderKept s (readerClosed s)
+closed-kept s v =
+    let k = finish-stays s v in
+    kept (stays-then k (behind-stays _ _ (k .valid))) (λ h. behind-each _ _ (k .valid) (finish-each s h))
 
 pub read-kept : (piece s : List ℕ) → LineReader.validReader s ≡ true → Each Byte piece → ReaderKept s (LineReader.readPiece s piece .state)
 read-kept piece s v h = kept (read-stays piece s v) (read-each piece s h)

@@ -10,18 +10,17 @@ use lib.Dec.{eqb·suc-zero}
 use lib.ListN as ListN
 use Rattle.octets.specs.Bytes.{numberAt}
 use Rattle.line.specs.Reader.{receivedOf}
-use Rattle.line.specs.Judge as Line
 use Rattle.line.specs.Reader as LineReader
 use Rattle.line.proofs.Received.{pushed-received, pushed-stays}
 use Rattle.supervisor.specs.Calls.{Parts}
 use Rattle.responder.specs.Requests
 use Rattle.responder.specs.Receive
+use Rattle.responder.proofs.VerdictLaws.{finished-verdict, Ends, finish-ends, finished-ended}
 use Rattle.counters.specs.Ended.{Served}
 use Rattle.supervisor_claims.specs.View.{settingsOf}
-use Rattle.supervisor_claims.specs.Histories.{upTo, endedMeant, servedMeant, saidInPiece, endedInPiece, servedInPiece, stepped}
+use Rattle.supervisor_claims.specs.Histories.{upTo, servedMeant, saidInPiece, endedInPiece, servedInPiece, stepped}
 use Rattle.supervisor_claims.specs.Histories.{stepAnswer}
 use Rattle.supervisor_claims.proofs.laws.SettingLaws.{stored-result}
-use Rattle.supervisor_claims.proofs.calls.ReceivedClaim.{finished-verdict}
 
 -- ---- the bytes read
 
@@ -44,6 +43,7 @@ feed-push image p b = rw eqb·suc-zero
 pub step-fed : (image piece : List ℕ) (p : Parts) → let o = LineReader.readPiece (p .reader) piece in
     Receive.afterAnswer image p (o .state) (o .answer) ≡ Receive.feedBytes image p (ListN.take (upTo piece) piece)
 unfolding LineReader.readPiece LineReader.oneByteLater upTo Receive.feedBytes Receive.afterAnswer Receive.innerAfter Receive.verdictOf
+    Receive.readerBehind Receive.setsPassphrase
 step-fed image [] p = refl
 step-fed image (zero ∷ bs) p = feed-close image p
 step-fed image (suc b ∷ bs) p =
@@ -52,41 +52,11 @@ step-fed image (suc b ∷ bs) p =
 
 -- ---- the frame's end
 
--- an answer to a 00
-abbrev Ends : LineReader.ReadReport → Type 0
-Ends (LineReader.refused n) = ⊥
-Ends LineReader.more = ⊥
-Ends LineReader.empty = Unit {0}
-Ends (LineReader.message version sequence command n) = Unit {0}
-Ends (LineReader.failed reason sequence) = Unit {0}
-
-verdict-ends : (v : Line.LineVerdict) → Ends (LineReader.verdictReport v)
-unfolding LineReader.verdictReport
-verdict-ends (Line.failure reason sequence) = tt
-verdict-ends (Line.good m) = tt
-
-finish-ends : (s : List ℕ) → Ends (LineReader.finish s .answer)
-unfolding LineReader.finish
-finish-ends s = by (Line.judgeReceived (receivedOf s))
-  where
-    by : (o : Option Line.LineVerdict) → Ends (LineReader.closedReport o)
-    by none = tt
-    by (some v) = verdict-ends v
-
-ended-verdict : (reader : List ℕ) (a : LineReader.ReadReport) → Ends a
-    → Receive.endedByReader reader a ≡ endedMeant (Receive.verdictOf reader a)
-unfolding Receive.endedByReader Receive.verdictOf
-ended-verdict reader (LineReader.refused n) h = absurd h
-ended-verdict reader LineReader.more h = absurd h
-ended-verdict reader LineReader.empty h = refl
-ended-verdict reader (LineReader.message version sequence command n) h = refl
-ended-verdict reader (LineReader.failed reason sequence) h = refl
-
 pub step-ends : (piece s : List ℕ) → LineReader.validReader s ≡ true → let o = LineReader.readPiece s piece in
     Receive.endedByReader (o .state) (o .answer) ≡ endedInPiece (receivedOf s) piece
 unfolding LineReader.readPiece LineReader.oneByteLater saidInPiece Receive.endedByReader
 step-ends [] s v = refl
-step-ends (zero ∷ bs) s v = ended-verdict _ _ (finish-ends s) ∙ ap endedMeant (finished-verdict s v)
+step-ends (zero ∷ bs) s v = finished-ended s v
 step-ends (suc b ∷ bs) s v =
     rw (eqb·suc-zero, ← pushed-received s (suc b) v) (step-ends bs (LineReader.pushed s (suc b)) (pushed-stays s (suc b) v .valid))
 

@@ -19,10 +19,11 @@ use Rattle.line.specs.Frame.{split, nonEmpty, closedBehind}
 use Rattle.line.proofs.Pieces.{split-at, split-none, nonEmpty-append, split-join, closed-rest, closed-join}
 use Rattle.supervisor.specs.State.{Factory, State, fresh, withReceived}
 use Rattle.counters.specs.Ended.{Ended, Served}
+use Rattle.responder.specs.Receive.{endedMeant}
 use Rattle.responder.specs.Requests.{Verdict, receiveByte, receiveStream, verdictSince}
 use Rattle.supervisor_claims.specs.View.{factoryOf}
 use Rattle.supervisor_claims.specs.Histories
-use Rattle.supervisor_claims.specs.Histories.{Call, upTo, endedMeant, servedMeant, saidInPiece, meant, Made, enough, meantMade}
+use Rattle.supervisor_claims.specs.Histories.{Call, upTo, servedMeant, saidInPiece, meant, Made, enough, meantMade}
 use Rattle.supervisor_claims.specs.Histories.{outputsMeant, leftMeant}
 use Rattle.supervisor_claims.specs.FrameHistory.{pieceRead, bytesReceivedBy, startsAnew, receivedSince, receivedSinceAll}
 use Rattle.supervisor_claims.specs.FrameHistory.{framesClosedBy, frameVerdict, saidByFrames, frameCarried, framesCarried}

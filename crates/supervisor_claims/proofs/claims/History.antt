@@ -75,7 +75,7 @@ sound-asked (Histories.receive image piece) i s v = v
 sound-asked (Histories.step image piece) i s v = v
 sound-asked (Histories.local c) i s v = v
 
-sound-fits : (q : Parts) (c : Call) → Sound q → partsFitCall q c ≡ true
+pub sound-fits : (q : Parts) (c : Call) → Sound q → partsFitCall q c ≡ true
 unfolding partsFitCall
 sound-fits q c s = every-true _ (every (λ i. by i (takesPart c i)))
   where

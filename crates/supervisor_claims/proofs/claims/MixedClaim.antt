@@ -67,8 +67,15 @@ through-split w = split-zeros (split w .closed) (split-each (λ b. Unit {0}) (λ
     any-each [] = tt
     any-each (b ∷ bs) = (tt, any-each bs)
 
-through-last : (w : List ℕ) → split (MixedCalls.throughLast00 w) .rest ≡ []
+pub through-last : (w : List ℕ) → split (MixedCalls.throughLast00 w) .rest ≡ []
 through-last w = rw (through-split w)
+
+-- none stand behind it where none has come of a frame
+pub tail-none : (bs : List ℕ) → progressOf bs ≡ some [] → bs ≡ []
+unfolding progressOf
+tail-none bs =
+    cond-by (λ o. o ≡ some [] → bs ≡ []) (ltb longest-form (length bs)) none (some bs)
+    (λ _ e. absurd (let z : _≡_ {A = ℕ} 0 1 = cc in omega arith)) (λ _ e. cc)
 
 -- whether data are handed out
 given-valid : (s : List ℕ) (n : ℕ) → LineReader.validReader s ≡ true
@@ -251,6 +258,15 @@ mixed-follows (c ∷ cs) w q s h t =
     let i = rw v at (mixed-follows cs (mixedSince w c) (madeMixed q c .parts) (k .leaves .1) (rw v (k .since)) (t .1)) in
     ((k .answer, k .out, i .0), i .1, i .2, lengths-then (k .leaves .2) (i .3))
 
+-- what stands behind the last 00 of the joined bytes has come
+pub mixed-since : (cs : List MixedCall) (w : List ℕ) (q : Parts) → Sound q → Since (split w .rest) (view q) → AllTypedMixed cs
+    → Since (split (mixedSinceAll w cs) .rest) (view (leftMixed q cs))
+unfolding mixedSinceAll leftMixed
+mixed-since [] w q s h t = h
+mixed-since (c ∷ cs) w q s h t =
+    let k = mixed-meets w q s h c (t .0) in
+    mixed-since cs (mixedSince w c) (madeMixed q c .parts) (k .leaves .1) (rw (k .leaves .0) (k .since)) (t .1)
+
 -- ---- each frame once
 
 mixed-join : (w : List ℕ) (c : MixedCall) → broughtSince w (nonEmpty (split w .closed)) c ≡ nonEmpty (split (mixedSince w c) .closed)
@@ -334,7 +350,7 @@ module _ (p : Parts) (s : Sound p) where
       by true e = rw (lent-valid p s l e) (back-reader p s l e _ (read-kept piece _ (lent-valid p s l e) b) .1)
       by false e = rw (short-invalid _ (lent-little p l e), back-same) s
 
-  call-sound : (c : MixedCall) → TypedMixed c → Sound (madeMixed p c .parts)
+  pub call-sound : (c : MixedCall) → TypedMixed c → Sound (madeMixed p c .parts)
   unfolding madeMixed
   call-sound (MixedCalls.supervisor m) typed = one-call p m s typed .leaves .1
   call-sound (MixedCalls.lineStart l) typed = start-sound l

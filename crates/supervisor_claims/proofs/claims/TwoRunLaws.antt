@@ -65,10 +65,10 @@ pub record Pair (n : ℕ) (s t : State) : Type 0 where
   pub left : Room n (s .settings)
   pub right : Room n (t .settings)
 
-passphrase : SettingsKey Limits.passphrase-key
+pub passphrase : SettingsKey Limits.passphrase-key
 passphrase = record { lower = omega arith; upper = omega arith }
 
-room-less : {m n : ℕ} {z : Settings} → m ≤ n → Room n z → Room m z
+pub room-less : {m n : ℕ} {z : Settings} → m ≤ n → Room n z → Room m z
 room-less h r = record { long = r .long; low = omega arith }
 
 pair-less : {m n : ℕ} {s t : State} → m ≤ n → Pair n s t → Pair m s t
@@ -198,7 +198,7 @@ received-like : (r : Option (List ℕ)) {s t : State} → Like s t → Like (wit
 received-like r = from-like (λ s t. Like (withReceived s r) (withReceived t r)) (λ u z e. record { rest = refl; settings = e })
 
 -- how many sets of the passphrase with a value of a right length there are among requests
-abbrev setCount : List Message → ℕ
+abbrev pub setCount : List Message → ℕ
 setCount ms = length (setsOf Limits.passphrase-key ms)
 
 onto-raise : (x : Setting) (o : Option (List ℕ)) → onto x o .edition ≤ x .edition + length (listedIf o)
@@ -214,13 +214,13 @@ sets-raise k x (m ∷ ms) =
     omega (arith, sets-raise k (onto x (setBy k m)) ms, onto-raise x (setBy k m), length-append (listedIf (setBy k m)) (setsOf k ms))
 
 -- a frame's, and then those of others
-count-ahead : (v : Verdict) (r : List Message) → setCount (requestAhead v r) ≡ setCount (requestAhead v []) + setCount r
+pub count-ahead : (v : Verdict) (r : List Message) → setCount (requestAhead v r) ≡ setCount (requestAhead v []) + setCount r
 count-ahead v r =
     let k = Limits.passphrase-key in
     rw (request-append v [] r, sets-append k (requestAhead v []) r) (length-append (setsOf k (requestAhead v [])) (setsOf k r))
 
 module _ (image : List ℕ) where
-  judged-room : (v : Verdict) (n : ℕ) (s : State) → Room (setCount (requestAhead v []) + n) (s .settings)
+  pub judged-room : (v : Verdict) (n : ℕ) (s : State) → Room (setCount (requestAhead v []) + n) (s .settings)
       → Room n (afterVerdict image s v .settings)
   judged-room v n s r =
       let x = setting (s .settings) Limits.passphrase-key in

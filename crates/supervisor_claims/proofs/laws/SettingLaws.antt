@@ -10,9 +10,10 @@ use native.Mathlib.Omega.{arith}
 use lib.Dec.{ltb, eqb}
 use lib.ListN.{length}
 use borrow.Author.Tests.{ltb-false, eqb-false}
-use Rattle.octets.specs.Bytes.{Byte, Each}
+use Rattle.octets.specs.Bytes.{Byte, Each, overlay}
 use Rattle.octets.proofs.Conditions.{cond-both}
 use Rattle.octets.proofs.Numbers.{number-small}
+use Rattle.octets.proofs.Zeros.{zeros, length-zeros, zeros-each}
 use Rattle.octets.proofs.SameBytes.{Same, number-same}
 use Rattle.supervisor.specs.Limits
 use Rattle.supervisor.specs.Layout
@@ -23,10 +24,10 @@ use Rattle.responder.specs.Requests
 use Rattle.responder.specs.Receive
 use Rattle.responder.proofs.RecordLaws.{length-right}
 use Rattle.responder.proofs.KeptLaws.{length-setting, setting-before, setting-after, setting-held, setting-edition, setting-size}
-use Rattle.responder.proofs.KeptLaws.{setting-value, value-room, value-small}
+use Rattle.responder.proofs.KeptLaws.{setting-value, cleared-most, value-room, value-small}
 use Rattle.supervisor_claims.specs.View.{settingOf, settingsOf}
 use Rattle.supervisor_claims.proofs.laws.ViewLaws.{listed-set, listed-at}
-use Rattle.supervisor_claims.proofs.laws.PartLaws.{Like, like-itself, like-put, each-number}
+use Rattle.supervisor_claims.proofs.laws.PartLaws.{Like, like-itself, like-then, like-put, each-number}
 
 -- ---- the view of a value that was put
 
@@ -34,11 +35,18 @@ use Rattle.supervisor_claims.proofs.laws.PartLaws.{Like, like-itself, l
 abbrev next : ℕ → List ℕ → Setting
 next edition v = record { edition = suc edition; value = some v }
 
-put-setting : (s v : List ℕ) (at : ℕ) → at + (Layout.setting-value-offset + length v) ≤ length s → length v < 65536
-    → Layout.settingEdition s at < Limits.last-edition → settingOf (Receive.withValue s at v) at ≡ next (Layout.settingEdition s at) v
-unfolding settingOf
-put-setting s v at room short low =
-    rw (setting-held s v at room, setting-edition s v at room low, setting-size s v at room short, setting-value s v at room)
+module _ (s v : List ℕ) (at longest cleared : ℕ) (room : at + (Layout.setting-value-offset + longest) ≤ length s)
+    (short : length v ≤ longest) (most : cleared ≤ longest) where
+  put-setting : length v < 65536 → Layout.settingEdition s at < Limits.last-edition
+      → settingOf (Receive.withValue s at cleared v) at ≡ next (Layout.settingEdition s at) v
+  unfolding settingOf
+  put-setting small low =
+      rw (
+        setting-held s v at longest cleared room short most,
+        setting-edition s v at longest cleared room short most low,
+        setting-size s v at longest cleared room short most small,
+        setting-value s v at longest cleared room short most,
+      )
 
 -- a settings key has what its setting holds
 pub setting-is : (s : List ℕ) (key : ℕ) → Limits.SettingsKey key → setting (settingsOf s) key ≡ settingOf s (Layout.setting-offset key)
@@ -60,14 +68,15 @@ setting-same {s} same at longest v h =
       same .runs (at + Layout.setting-value-offset) (Layout.settingLength s at) (omega arith),
     )
 
-module _ (s v : List ℕ) (at : ℕ) (room : at + (Layout.setting-value-offset + length v) ≤ length s) {bt shortest longest : ℕ}
-    (valid : SettingValid s bt shortest longest) where
-  before-value : bt + Layout.setting-value-offset + longest ≤ at → settingOf (Receive.withValue s at v) bt ≡ settingOf s bt
-  before-value h = setting-same (setting-before s v at room {from = bt} h) bt longest valid (omega arith)
+module _ (s v : List ℕ) (at most cleared : ℕ) (room : at + (Layout.setting-value-offset + most) ≤ length s) (short : length v ≤ most)
+    (low : cleared ≤ most) {bt shortest longest : ℕ} (valid : SettingValid s bt shortest longest) where
+  before-value : bt + Layout.setting-value-offset + longest ≤ at → settingOf (Receive.withValue s at cleared v) bt ≡ settingOf s bt
+  before-value h = setting-same (setting-before s v at most cleared room short low {from = bt} h) bt longest valid (omega arith)
 
-  after-value : at + (Layout.setting-value-offset + length v) ≤ bt → settingOf (Receive.withValue s at v) bt ≡ settingOf s bt
+  after-value : at + (Layout.setting-value-offset + most) ≤ bt → settingOf (Receive.withValue s at cleared v) bt ≡ settingOf s bt
   after-value h =
-      setting-same (setting-after s v at room {to = bt + Layout.setting-value-offset + longest} h) bt longest valid (omega arith)
+      setting-same (setting-after s v at most cleared room short low {to = bt + Layout.setting-value-offset + longest} h) bt longest valid
+      (omega arith)
 
 -- ---- what a store does and answers is what the meaning has
 
@@ -85,36 +94,43 @@ module _ (s v : List ℕ) (w : SettingsValid s) (held : Each Byte s) (each : Eac
   unstored n h = record { settings = refl; small = h; like = like-itself s }
 
   -- at the offset of a key
-  stored-at : (at shortest longest : ℕ) (x : Settings) → at + (Layout.setting-value-offset + longest) ≤ Layout.settings-length
-      → (length v ≤ longest → Layout.settingEdition s at < Limits.last-edition → settingsOf (Receive.withValue s at v) ≡ x)
-      → Stores s (Receive.storeBytesAt s at shortest longest v)
+  stored-at : (at shortest longest cleared : ℕ) (x : Settings) → at + (Layout.setting-value-offset + longest) ≤ Layout.settings-length
+      → cleared ≤ longest
+      → (length v ≤ longest → Layout.settingEdition s at < Limits.last-edition → settingsOf (Receive.withValue s at cleared v) ≡ x)
+      → Stores s (Receive.storeBytesAt s at shortest longest cleared v)
       (cond (ltb (length v) shortest || ltb longest (length v)) (storedWith 3 (settingsOf s))
       (cond (eqb (Layout.settingEdition s at) Limits.last-edition) (storedWith 4 (settingsOf s)) (storedWith 0 x)))
   unfolding Receive.storeBytesAt Receive.withValue
-  stored-at at shortest longest x h e =
+  stored-at at shortest longest cleared x h most e =
       cond-both (Stores s) (ltb (length v) shortest || ltb longest (length v)) (λ f. unstored 3 (omega arith)) (λ f.
       cond-both (Stores s) (eqb (Layout.settingEdition s at) Limits.last-edition) (λ g. unstored 4 (omega arith)) (λ g.
       let l = length-right shortest longest (length v) f .1 in
       let low = number-small 4 (at + Layout.setting-edition-offset) s held in
       let n = suc (Layout.settingEdition s at) in
+      let wiped : Like s (overlay (at + Layout.setting-value-offset) (zeros cleared) s) =
+      like-put (at + Layout.setting-value-offset) (zeros cleared) s (omega (arith, w .long, length-zeros cleared))
+      (λ _. zeros-each Byte cleared (omega arith)) in
       record {
         settings = e l (omega (arith, low, eqb-false (Layout.settingEdition s at) Limits.last-edition g));
         small = omega arith;
-        like = like-put at (Layout.settingBytes n v) s (omega (arith, length-setting n v))
-            (λ _. each-number 1 1 _ (each-number 4 n _ (each-number 2 (length v) v each)));
+        like = like-then wiped
+            (like-put at (Layout.settingBytes n v) _ (omega (arith, length-setting n v, wiped .long))
+            (λ _. each-number 1 1 _ (each-number 4 n _ (each-number 2 (length v) v each))));
       }))
 
   -- of a key
   module _ (key : ℕ) (h : Limits.SettingsKey key) (short : length v ≤ Limits.longest-setting key)
       (low : Layout.settingEdition s (Layout.setting-offset key) < Limits.last-edition) where
     abbrev after : List ℕ
-    after = Receive.withValue s (Layout.setting-offset key) v
+    after = Receive.withValue s (Layout.setting-offset key) (Receive.clearedFor key) v
 
     other-value : (j : ℕ) → Limits.SettingsKey j → Lies j key → (j ≡ key → ⊥)
         → settingOf after (Layout.setting-offset j) ≡ settingOf s (Layout.setting-offset j)
-    other-value j i (inl l) n = before-value s v (Layout.setting-offset key) (value-room s v w key h short) (w .each j i) (omega arith)
+    other-value j i (inl l) n =
+        before-value s v (Layout.setting-offset key) _ _ (value-room s v w key h short) short (cleared-most key) (w .each j i) (omega arith)
     other-value j i (inr (inl e)) n = absurd (n e)
-    other-value j i (inr (inr l)) n = after-value s v (Layout.setting-offset key) (value-room s v w key h short) (w .each j i) (omega arith)
+    other-value j i (inr (inr l)) n =
+        after-value s v (Layout.setting-offset key) _ _ (value-room s v w key h short) short (cleared-most key) (w .each j i) (omega arith)
 
     pub settings-put : settingsOf after ≡ withSetting (settingsOf s) key (next (Layout.settingEdition s (Layout.setting-offset key)) v)
     unfolding settingsOf
@@ -122,7 +138,8 @@ module _ (s v : List ℕ) (w : SettingsValid s) (held : Each Byte s) (each : Eac
         let e : Limits.first-setting + (key - Limits.first-setting) ≡ key = omega (arith, h) in
         listed-set _ _ (next (Layout.settingEdition s (Layout.setting-offset key)) v) Limits.setting-count (key - Limits.first-setting)
         (omega (arith, h))
-        (rw e (put-setting s v (Layout.setting-offset key) (value-room s v w key h short) (value-small s v w key h short) low))
+        (rw e (put-setting s v (Layout.setting-offset key) _ _ (value-room s v w key h short) short (cleared-most key)
+        (value-small s v w key h short) low))
         (λ j l n.
         let i : Limits.SettingsKey (Limits.first-setting + j) = record { lower = omega arith; upper = omega arith } in
         other-value (Limits.first-setting + j) i (setting-lies (Limits.first-setting + j) key i h) (λ o. n (omega (arith, o))))
@@ -134,7 +151,7 @@ module _ (s v : List ℕ) (w : SettingsValid s) (held : Each Byte s) (each : Eac
       cond-both (Stores s) (ltb key Limits.first-setting) (λ f. unstored 2 (omega arith)) (λ f.
       let h : Limits.SettingsKey key =
       record { lower = ltb-false key Limits.first-setting f; upper = ltb-false Limits.highest-key key e } in
-      rw (setting-is s key h) (stored-at _ _ _ _ (offset-within key h) (settings-put key h))))
+      rw (setting-is s key h) (stored-at _ _ _ _ _ (offset-within key h) (cleared-most key) (settings-put key h))))
 
 -- the result of a set, whatever the bytes of the store and of the value
 pub stored-result : (s v : List ℕ) (key : ℕ) → Receive.storeBytes s key v .result ≡ Requests.storeValue (settingsOf s) key v .result

@@ -8,9 +8,9 @@ use Rattle.requester.proofs.start.start.Tie as tie
 
 returns-3 : tie.Need-returns-3
 returns-3 c =
-    let clear-fields = c .before .before in
-    let at-start = clear-fields .before .before .before .before in
-    begun _ (record { reader = search needs; requester = search needs }) (at-start .start .ensures) (clear-fields .clear-fields .ensures)
+    let at-clear = c .before .before in
+    let at-start = at-clear .before .before .before .before in
+    begun _ (record { reader = search needs; requester = search needs }) (at-start .start .ensures) (at-clear .clear .ensures)
 
 pub start-spec : {M : Type 1} → statement M
 start-spec =

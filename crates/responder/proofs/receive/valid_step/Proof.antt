@@ -27,7 +27,7 @@ answer-frame-requires c κs =
 returns : tie.Need-returns
 unfolding lent
 returns c =
-    let settled = c .before .before .before .before .before .before in
+    let settled = c .before .before .before .before .before .before .before .before in
     let at-read = settled .before .before .before .before .before .before .before in
     let start = start-of at-read in
     valid-step-by (now (start .args .image)) (now (start .args .piece)) (lent start) (start .pre) (at-read .read .ensures)

@@ -22,11 +22,13 @@ returns-3 : tie.Need-returns-3
 unfolding storeBytes
 returns-3 c =
     let stored = c .before .before in
-    let shortest = stored .before .before .before in
+    let longest = stored .before .before .before in
+    let shortest = longest .before in
     search (
       cases,
       stored .store-at .ensures,
-      stored .before .longest-setting .ensures .0,
+      stored .before .cleared-for .ensures .0,
+      longest .longest-setting .ensures .0,
       shortest .shortest-setting .ensures,
       shortest .before .setting-offset .ensures .0,
     )
@@ -38,10 +40,13 @@ within key h k = offset-within key (record { lower = h; upper = k })
 
 store-at-requires : tie.Need-store-at-requires
 store-at-requires c κs =
-    let settable = c .before .before .before .before in
+    let longest = c .before .before in
+    let settable = longest .before .before .before in
+    let e = longest .longest-setting .ensures .0 in
     let l = within _ (settable .if2 .left) (settable .before .if1 .left) in
     search needs
 
 pub store-spec : {M : Type 1} → statement M
 store-spec = tie.close (tie.spec
-    returns returns-2 (λ c κs. search needs) (λ c κs. search needs) (λ c κs. search needs) store-at-requires (λ c. search needs) returns-3)
+    returns returns-2 (λ c κs. search needs) (λ c κs. search needs) (λ c κs. search needs) (λ c κs. search needs) store-at-requires
+    (λ c. search needs) returns-3)
