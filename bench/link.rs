@@ -1,6 +1,7 @@
 // Defines the root-of-trust link's rows: the library's reader against the same in Rust, with a table and with eight tables.
 // Assumes document 02's item 7.
 
+use crate::random::Random;
 use crate::{Action, Case};
 use oatcastle::rot::{self, Received, Type, LONGEST_MESSAGE};
 use std::hint::black_box;
@@ -100,35 +101,70 @@ fn read<'i, 'o>(crc: Crc, input: &'i [u8], out: &'o mut [u8]) -> Result<Read<'i,
 }
 
 /// A message read once: handed out, or an echo request and answered.
-pub fn reading<'a>(name: &'static str, kind: Type, payload: &[u8]) -> Case<'a> {
+pub fn reading(name: &'static str, kind: Type, payload: &[u8]) -> Case {
     let mut out = [0; LONGEST_MESSAGE];
     let message = rot::write(kind, payload, &mut out).expect("the message fits").to_vec();
     let sides = [reading_by(ordinary, &message), reading_by(strong, &message)];
     let [ordinary, strong] = sides;
-    for crc in [self::ordinary as Crc, self::strong] {
-        compared(crc, kind, payload, &message);
-    }
     let bytes = message.len();
     let library = Box::new(move || {
         black_box(rot::read(black_box(&message), &mut out).ok());
     });
-    Case { name, bytes, sides: [library, ordinary, strong] }
+    Case { name, state: "", bytes, sides: [library, ordinary, strong] }
 }
 
-fn reading_by<'a>(crc: Crc, message: &[u8]) -> Action<'a> {
+fn reading_by(crc: Crc, message: &[u8]) -> Action {
     let (message, mut out) = (message.to_vec(), [0; LONGEST_MESSAGE]);
     Box::new(move || {
         black_box(read(crc, black_box(&message), &mut out).ok());
     })
 }
 
-/// The yardstick writes and reads what the library does.
-fn compared(crc: Crc, kind: Type, payload: &[u8], message: &[u8]) {
-    let (mut out, mut other_out) = ([0; LONGEST_MESSAGE], [0; LONGEST_MESSAGE]);
-    assert_eq!(write(crc, kind.number(), payload, &mut other_out), Ok(message));
-    match (rot::read(message, &mut out), read(crc, message, &mut other_out)) {
-        (Ok(Received::Echoed(ours)), Ok(Read::Echoed(other))) => assert_eq!(ours, other),
-        (Ok(Received::Message(ours)), Ok(Read::Message(number, other))) => assert_eq!((ours.kind.number(), ours.payload), (number, other)),
-        _ => panic!("no message"),
+/// Both yardsticks write and read what the library does.
+pub fn compare() {
+    compare_by(ordinary);
+    compare_by(strong);
+}
+
+/// A yardstick that the comparison must tell from the library.
+pub fn planted() {
+    compare_by(|parts| !ordinary(parts));
+}
+
+/// Messages of any type and payload, often damaged or cut short, with rooms of any length.
+fn compare_by(crc: Crc) {
+    let mut random = Random(5);
+    for _ in 0..2000 {
+        let (kind, length) = (random.below(12) as u8, random.below(515));
+        let (payload, room) = (random.bytes(length), random.pick(&[LONGEST_MESSAGE, LONGEST_MESSAGE, 100]));
+        let (mut out, mut other_out) = (vec![0; room], vec![0; room]);
+        let other = write(crc, kind, &payload, &mut other_out);
+        if let Some(kind) = Type::from_number(kind) {
+            assert_eq!(rot::write(kind, &payload, &mut out).map_err(|refusal| refusal.number()), other, "root-of-trust message");
+        }
+        let Ok(message) = other else { continue };
+        let message = damaged(&mut random, message);
+        let (mut out, mut other_out) = (vec![0; room], vec![0; room]);
+        match (rot::read(&message, &mut out), read(crc, &message, &mut other_out)) {
+            (Err(ours), Err(other)) => assert_eq!(ours.number(), other, "root-of-trust refusal"),
+            (Ok(Received::Nothing), Ok(Read::Nothing)) => {}
+            (Ok(Received::Echoed(ours)), Ok(Read::Echoed(other))) => assert_eq!(ours, other, "root-of-trust echo"),
+            (Ok(Received::Message(ours)), Ok(Read::Message(kind, payload))) => {
+                assert_eq!((ours.kind.number(), ours.payload), (kind, payload), "root-of-trust payload");
+            }
+            (ours, other) => panic!("the library reads {ours:?}, the yardstick {other:?}"),
+        }
     }
+}
+
+/// A message whole, or with a byte changed, or cut short.
+fn damaged(random: &mut Random, message: &[u8]) -> Vec<u8> {
+    let (mut message, place) = (message.to_vec(), random.below(message.len()));
+    match random.below(6) {
+        0 => message[place] = random.byte(),
+        1 => message[random.below(4)] = random.byte(),
+        2 => message.truncate(place),
+        _ => {}
+    }
+    message
 }

@@ -1,24 +1,24 @@
-// Defines what the two yardsticks in Rust share: the message, the reader's tests, and the measured requests of the supervisor.
-// Assumes documents 01 and 02; of the supervisor's requests only those that the benchmark sends are here.
+// Defines what the two yardsticks in Rust share of the line layer: the message, the writer and the reader's tests.
+// Assumes documents 01 and 02. It tests nothing of its own state, where the library's calls test theirs for 12.
 
 use std::marker::PhantomData;
-use std::ops::RangeInclusive;
 
 const MAGIC: u32 = 0x01DE_19CC;
 const LONGEST_FORM: usize = 4140;
+const SHORTEST_MESSAGE: usize = 19;
 const LONGEST_MESSAGE: usize = 4123;
-const LONGEST_DATA: usize = 4104;
-const TOP_BIT: u64 = 1 << 63;
-const FIRST_SETTING: u8 = 3;
-/// The lengths of each setting's value, from key 3 on.
-const LENGTHS: [RangeInclusive<usize>; 4] = [0..=256, 0..=4096, 0..=4096, 8..=63];
+/// A message of at most so many bytes is put together in an array of its own, as the library does it.
+const SHORT_MESSAGE: usize = 64;
+pub const LONGEST_DATA: usize = 4104;
+pub const TOP_BIT: u64 = 1 << 63;
 
 /// Where the yardsticks differ: the work for each byte.
 pub trait Yardstick {
     const NAME: &'static str;
 
-    /// There are no keys from this one on.
-    const KEYS: u8 = FIRST_SETTING + LENGTHS.len() as u8;
+    fn rules() -> Rules {
+        Rules::PAPERS
+    }
 
     fn checksum(body: &[u8]) -> u16;
 
@@ -32,6 +32,47 @@ pub trait Yardstick {
     fn gather(frame: &mut Frame, piece: &[u8]) -> Option<usize>;
 }
 
+/// Numbers of the papers that both ends go by; a planted fault changes one.
+#[derive(Clone, Copy)]
+pub struct Rules {
+    /// There are no keys from this one on.
+    pub keys: u8,
+    /// Nobody may look this key up.
+    pub set_only: u8,
+    /// A lookup's reply has the edition in this version.
+    pub edition_version: u32,
+    /// An item with this result has its data in the reply.
+    pub item_result: u8,
+    pub most_alerts: usize,
+    /// An alert request under the same number gets the same reply.
+    pub resends: bool,
+    pub most_kept: usize,
+    /// An image has the settings up to this key.
+    pub last_saved: u8,
+    /// A record's key in an image is at least so far above the one before.
+    pub key_step: u8,
+    /// The main processor's end asks in this version, and takes answers of it.
+    pub answer_version: u32,
+    /// The main processor's end takes a frame's byte of this number, where no 00 has come, as a ground to send again.
+    pub overlong: usize,
+}
+
+impl Rules {
+    pub const PAPERS: Rules = Rules {
+        keys: 7,
+        set_only: 6,
+        edition_version: 2,
+        item_result: 0,
+        most_alerts: 8,
+        resends: true,
+        most_kept: 512,
+        last_saved: 5,
+        key_step: 1,
+        answer_version: 1,
+        overlong: LONGEST_FORM + 1,
+    };
+}
+
 /// The bytes of a frame that have come, and whether there were more than a form has.
 pub struct Frame {
     pub bytes: [u8; LONGEST_FORM],
@@ -39,23 +80,39 @@ pub struct Frame {
     pub long: bool,
 }
 
-pub fn write<Y: Yardstick>(
-    version: u32, sequence: u64, command: u8, head: &[u8], rest: &[u8], out: &mut [u8],
-) -> Result<usize, u32> {
-    let data = head.len() + rest.len();
-    if data > LONGEST_DATA {
+/// What stands ahead of a message's data.
+#[derive(Clone, Copy, Debug, PartialEq, Eq)]
+pub struct Head {
+    pub version: u32,
+    pub sequence: u64,
+    pub command: u8,
+}
+
+/// Writes the frame of a message with these data, in two parts; gives its length or a refusal.
+pub fn write<Y: Yardstick>(head: Head, first: &[u8], rest: &[u8], out: &mut [u8]) -> Result<usize, u32> {
+    let size = SHORTEST_MESSAGE + first.len() + rest.len();
+    if size > LONGEST_MESSAGE {
         return Err(9);
     }
-    let mut message = [0; LONGEST_MESSAGE];
+    if size <= SHORT_MESSAGE {
+        write_by::<Y>(&mut [0; SHORT_MESSAGE][..size], head, first, rest, out)
+    } else {
+        write_by::<Y>(&mut [0; LONGEST_MESSAGE][..size], head, first, rest, out)
+    }
+}
+
+/// The same with the room that the message is put together in.
+fn write_by<Y: Yardstick>(message: &mut [u8], head: Head, first: &[u8], rest: &[u8], out: &mut [u8]) -> Result<usize, u32> {
+    let end = 17 + first.len() + rest.len();
     message[..4].copy_from_slice(&MAGIC.to_le_bytes());
-    message[4..8].copy_from_slice(&version.to_le_bytes());
-    message[8..16].copy_from_slice(&sequence.to_le_bytes());
-    message[16] = command;
-    message[17..17 + head.len()].copy_from_slice(head);
-    message[17 + head.len()..17 + data].copy_from_slice(rest);
-    let sums = Y::checksum(&message[..17 + data]);
-    message[17 + data..19 + data].copy_from_slice(&sums.to_le_bytes());
-    Y::encode(&message[..19 + data], out).ok_or(8)
+    message[4..8].copy_from_slice(&head.version.to_le_bytes());
+    message[8..16].copy_from_slice(&head.sequence.to_le_bytes());
+    message[16] = head.command;
+    message[17..17 + first.len()].copy_from_slice(first);
+    message[17 + first.len()..end].copy_from_slice(rest);
+    let sums = Y::checksum(&message[..end]);
+    message[end..end + 2].copy_from_slice(&sums.to_le_bytes());
+    Y::encode(message, out).ok_or(8)
 }
 
 pub struct Reader<Y> {
@@ -67,7 +124,7 @@ pub struct Reader<Y> {
 pub enum End {
     More,
     Empty,
-    Message { version: u32, sequence: u64, command: u8, length: usize },
+    Message { head: Head, length: usize },
     Failure { reason: u8, sequence: Option<u64> },
 }
 
@@ -93,7 +150,7 @@ impl<Y: Yardstick> Reader<Y> {
         }
         let length = if long { None } else { Y::decode(&mut self.frame.bytes[..count]) };
         let Some(length) = length else { return End::Failure { reason: 1, sequence: None } };
-        if !(19..=LONGEST_MESSAGE).contains(&length) {
+        if !(SHORTEST_MESSAGE..=LONGEST_MESSAGE).contains(&length) {
             return End::Failure { reason: 3, sequence: None };
         }
         let (body, sums) = self.frame.bytes[..length].split_at(length - 2);
@@ -105,132 +162,20 @@ impl<Y: Yardstick> Reader<Y> {
             return End::Failure { reason: 4, sequence: Some(sequence) };
         }
         let version = u32::from_le_bytes(body[4..8].try_into().unwrap());
-        End::Message { version, sequence, command: body[16], length: length - 19 }
+        End::Message { head: Head { version, sequence, command: body[16] }, length: length - SHORTEST_MESSAGE }
+    }
+
+    /// How many bytes of a frame have come; nothing where they are more than a form has.
+    pub fn count(&self) -> Option<usize> {
+        (!self.frame.long).then_some(self.frame.count)
     }
 
     pub fn data(&self, length: usize) -> &[u8] {
         &self.frame.bytes[17..17 + length]
     }
-}
 
-/// A stored setting: how often it was set, and its value, if it has one.
-struct Setting {
-    edition: u32,
-    length: Option<usize>,
-    value: [u8; 4096],
-}
-
-impl Setting {
-    const NONE: Setting = Setting { edition: 0, length: None, value: [0; 4096] };
-
-    /// Stores a value; gives the result of the key set.
-    fn set(&mut self, lengths: &RangeInclusive<usize>, value: &[u8]) -> u8 {
-        if !lengths.contains(&value.len()) {
-            return 3;
-        }
-        let Some(edition) = self.edition.checked_add(1) else { return 4 };
-        self.edition = edition;
-        self.value[..value.len()].copy_from_slice(value);
-        self.length = Some(value.len());
-        0
-    }
-}
-
-pub struct Supervisor<Y> {
-    reader: Reader<Y>,
-    outbox: [u8; 4142],
-    begin: usize,
-    end: usize,
-    last_non_zero: bool,
-    hash: [u8; 32],
-    status: u64,
-    options: u64,
-    settings: [Setting; LENGTHS.len()],
-}
-
-impl<Y: Yardstick> Supervisor<Y> {
-    pub fn new(hash: [u8; 32]) -> Supervisor<Y> {
-        Supervisor {
-            reader: Reader::new(),
-            outbox: [0; 4142],
-            begin: 0,
-            end: 0,
-            last_non_zero: false,
-            hash,
-            status: 1,
-            options: 0,
-            settings: [Setting::NONE; LENGTHS.len()],
-        }
-    }
-
-    pub fn receive(&mut self, image: &[u8], piece: &[u8]) {
-        let mut rest = piece;
-        while !rest.is_empty() {
-            let (used, end) = self.reader.read(rest);
-            rest = &rest[used..];
-            match end {
-                End::More | End::Empty => {}
-                End::Failure { reason, sequence } => self.reply(1, sequence.unwrap_or(u64::MAX) | TOP_BIT, 2, &[reason], &[]),
-                End::Message { version, sequence, command, length } => self.request(image, version, sequence, command, length),
-            }
-        }
-    }
-
-    fn reply(&mut self, version: u32, sequence: u64, command: u8, head: &[u8], rest: &[u8]) {
-        let from = usize::from(self.last_non_zero);
-        self.outbox[0] = 0;
-        self.begin = 0;
-        self.end = from + write::<Y>(version, sequence, command, head, rest, &mut self.outbox[from..]).unwrap_or(0);
-    }
-
-    fn request(&mut self, image: &[u8], version: u32, sequence: u64, command: u8, length: usize) {
-        let number = sequence | TOP_BIT;
-        if !matches!(version, 1 | 2) {
-            return self.reply(1, number, 2, &[5], &[]);
-        }
-        if sequence & TOP_BIT != 0 {
-            return self.reply(version, number, 2, &[6], &[]);
-        }
-        match (command, length) {
-            (0x08, 0) => {
-                let (status, options) = (self.status.to_le_bytes(), self.options.to_le_bytes());
-                self.reply(version, number, 0x06, &status, &options);
-            }
-            (0x0d, 40) => {
-                let data = self.reader.data(40);
-                let offset = u64::from_le_bytes(data[32..].try_into().unwrap());
-                let ours = data[..32] == self.hash && offset < image.len() as u64;
-                let tail = if ours { &image[offset as usize..] } else { &[] };
-                self.reply(version, number, 0x09, &tail[..tail.len().min(4096)], &[]);
-            }
-            (0x10, 1..) => {
-                let data = self.reader.data(length);
-                let (key, value) = (data[0], &data[1..]);
-                let result = match key.checked_sub(FIRST_SETTING).map(usize::from) {
-                    None => 2,
-                    Some(place) if key < Y::KEYS => self.settings[place].set(&LENGTHS[place], value),
-                    Some(_) => 1,
-                };
-                self.reply(version, number, 0x0c, &[result], &[]);
-            }
-            (0x08 | 0x0d | 0x10, _) => self.reply(version, number, 2, &[7], &[]),
-            _ => self.reply(1, u64::MAX, 2, &[3], &[]),
-        }
-    }
-
-    pub fn take(&mut self, room: &mut [u8]) -> usize {
-        let moved = room.len().min(self.end - self.begin);
-        room[..moved].copy_from_slice(&self.outbox[self.begin..self.begin + moved]);
-        self.begin += moved;
-        if moved > 0 {
-            self.last_non_zero = room[moved - 1] != 0;
-        }
-        moved
-    }
-
-    /// The edition and the value of a setting.
-    pub fn setting(&self, key: u8) -> Option<(u32, &[u8])> {
-        let setting = &self.settings[usize::from(key - FIRST_SETTING)];
-        setting.length.map(|length| (setting.edition, &setting.value[..length]))
+    /// Clears the bytes of frames.
+    pub fn wipe(&mut self) {
+        self.frame.bytes.fill(0);
     }
 }

@@ -1,4 +1,4 @@
-// Defines the yardstick `strong`: safe Rust made for speed on the standard library, with blocked sums, library search, and whole runs copied or filled.
+// Defines the yardstick `strong`: safe Rust made for speed on the standard library, with blocked sums, and runs searched, copied or filled.
 // Assumes document 01.
 
 use crate::receiver::{Frame, Yardstick};
