@@ -15,6 +15,7 @@ static oatcastle_main_end main_end;
 static oatcastle_line_reader reader;
 static oatcastle_counters counters;
 static const uint8_t start_data[OATCASTLE_START_LENGTH] = {OATCASTLE_BSU_A};
+static uint8_t full_data[OATCASTLE_START_LENGTH] = {OATCASTLE_BSU_A};
 static uint8_t image[8192], data[OATCASTLE_LONGEST_DATA], piece[OATCASTLE_LONGEST_FRAME], room[OATCASTLE_LONGEST_IMAGE];
 static oatcastle_line_write_answer written;
 static oatcastle_take_answer taken;
@@ -219,6 +220,56 @@ static void setting_calls(void)
     COUNT("oatcastle_edition", oatcastle_supervisor_edition(&supervisor, OATCASTLE_KEY_WITHDRAWN_KEYS, &edition));
 }
 
+/* 64 items and an image's name with data, every setting at its longest, 8 alerts, both records. */
+static void fill_board(void)
+{
+    full_data[OATCASTLE_START_IMAGE_ID_LENGTH] = OATCASTLE_LONGEST_IMAGE_ID;
+    full_data[OATCASTLE_START_ITEM_COUNT] = OATCASTLE_MOST_ITEMS;
+    for (uint32_t i = 0; i < OATCASTLE_MOST_ITEMS; i++)
+        full_data[OATCASTLE_START_ITEMS + i * OATCASTLE_ITEM_LENGTH + OATCASTLE_ITEM_DATA_LENGTH] = OATCASTLE_LONGEST_ITEM_DATA;
+    refused |= oatcastle_supervisor_start(&supervisor, full_data);
+    fill(data, sizeof data);
+    refused |= oatcastle_supervisor_receive(&supervisor, image, 0, piece, frame(4, OATCASTLE_COMMAND_BOOT_FAILURE, sizeof data));
+    refused |= oatcastle_supervisor_receive(&supervisor, image, 0, piece, frame(5, OATCASTLE_COMMAND_PANIC, sizeof data));
+    set_all();
+    data[0] = OATCASTLE_KEY_PASSPHRASE;
+    refused |= oatcastle_supervisor_receive(&supervisor, image, 0, piece, frame(6, OATCASTLE_COMMAND_KEY_SET, 1 + OATCASTLE_LONGEST_PASSPHRASE));
+    for (uint32_t i = 0; i < OATCASTLE_MOST_ALERTS; i++)
+        refused |= oatcastle_supervisor_post(&supervisor, 1, data, OATCASTLE_LONGEST_ALERT);
+}
+
+/* A lookup of key 5, whole. */
+static uint32_t lookup_frame(void)
+{
+    data[0] = OATCASTLE_KEY_WITHDRAWN_KEYS;
+    data[1] = OATCASTLE_LONGEST_WITHDRAWN_KEYS % 256;
+    data[2] = OATCASTLE_LONGEST_WITHDRAWN_KEYS / 256;
+    return frame(8, OATCASTLE_COMMAND_KEY_LOOKUP, 3);
+}
+
+/* What a receive takes by the state of the board: as started, with the settings, and full. */
+static void board_calls(void)
+{
+    uint32_t n;
+
+    refused |= oatcastle_supervisor_start(&supervisor, start_data);
+    COUNT("oatcastle_receive, no byte", oatcastle_supervisor_receive(&supervisor, image, 0, piece, 0));
+    set_all();
+    n = lookup_frame();
+    COUNT("oatcastle_receive, lookup of 4,096", oatcastle_supervisor_receive(&supervisor, image, 0, piece, n));
+    fill_board();
+    COUNT("oatcastle_receive, full: no byte", oatcastle_supervisor_receive(&supervisor, image, 0, piece, 0));
+    n = frame(7, OATCASTLE_COMMAND_STATUS, 0);
+    COUNT("oatcastle_receive, full: a byte", oatcastle_supervisor_receive(&supervisor, image, 0, piece, 1));
+    refused |= oatcastle_supervisor_receive(&supervisor, image, 0, &piece[1], n - 1);
+    COUNT("oatcastle_receive, full: status request", oatcastle_supervisor_receive(&supervisor, image, 0, piece, n));
+    n = lookup_frame();
+    COUNT("oatcastle_receive, full: lookup of 4,096", oatcastle_supervisor_receive(&supervisor, image, 0, piece, n));
+    data[0] = OATCASTLE_KEY_DTRACE_CONF;
+    n = frame(9, OATCASTLE_COMMAND_KEY_SET, 1 + OATCASTLE_LONGEST_DTRACE_CONF);
+    COUNT("oatcastle_receive, full: set of 4,096", oatcastle_supervisor_receive(&supervisor, image, 0, piece, n));
+}
+
 static void requester_calls(void)
 {
     static const uint8_t damaged[] = {2, 0};
@@ -297,6 +348,7 @@ int main(void)
     receive_calls();
     register_calls();
     setting_calls();
+    board_calls();
     requester_calls();
     other_calls();
     if (refused)

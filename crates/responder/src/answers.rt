@@ -137,8 +137,9 @@ pub(crate) fn send_value<'a>(
 {
     let key = octets::read_u8(data, 0);
     let most = octets::read_u16(data, 1);
-    let result = keys::result_number(factory, settings, key, most);
-    let edition = keys::edition_number(factory, settings, key);
+    let p = keys::find(factory, settings, key);
+    let result = keys::result_number(keys::found_at(key, p, most));
+    let edition = keys::edition_number(keys::edition_at(settings, key, p));
     let mut head = [result, 0, 0, 0, 0];
     octets::write_u32(&mut head, 1, edition);
     let n = head_length(reply.version, result);
@@ -147,7 +148,7 @@ pub(crate) fn send_value<'a>(
         reply,
         numbers::REPLY_KEY_LOOKUP,
         &head[0..n],
-        keys::lookup(factory, settings, key, most),
+        keys::value_at(factory, settings, key, p, most),
     );
 }
 

@@ -74,7 +74,7 @@ pub fn receive(
         (parts (now (reader .entry)) (now (outbox .entry)) (now (factory .entry)) (now (settings .entry)) (now (registers .entry)))
         (now (piece .entry)) ⌝ }
 {
-    if !are_valid(reader, outbox, factory, settings, registers) {
+    if !are_valid(reader, outbox, &factory[0..], settings, registers) {
         return Received::Refused;
     }
     let mut at = 0;
@@ -115,7 +115,7 @@ pub(crate) fn are_valid(
     if !valid::outbox_is_valid(outbox) {
         return false;
     }
-    if !valid::settings_are_valid(settings) {
+    if !valid::settings_are_valid(&settings[0..]) {
         return false;
     }
     valid::registers_are_valid(registers)
@@ -141,7 +141,7 @@ pub(crate) fn valid_step(
         (parts (now (reader .exit)) (now (outbox .exit)) (now (factory .entry)) (now (settings .exit)) (now (registers .exit)))
         ≡ true ⌝ }
 {
-    let read = line::reader::read(reader, piece);
+    let read = line::reader::read(reader, &piece[0..]);
     let used = read.used;
     let answer = read.answer;
     let outcome = answer_frame(image, answer, reader, outbox, factory, settings, registers);

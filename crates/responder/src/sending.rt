@@ -51,8 +51,8 @@ fn write_reply(outbox: &mut [u8], reply: ReplyHead, command: u8, head: &[u8], re
         reply.version,
         number.0,
         command,
-        head,
-        rest,
+        &head[0..],
+        &rest[0..],
         &mut outbox[layout::OUTBOX_BYTES_OFFSET + 1..],
     );
     match written {

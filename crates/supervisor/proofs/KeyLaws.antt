@@ -1,52 +1,50 @@
 -- Laws of looking a key up: what valid stores answer, and how long a value is.
 -- Assumes nothing.
-use mathlib.Core.Path.{_≡_}
+use mathlib.Core.Path.{_≡_, refl}
 use mathlib.Core.Bool.{true, _&&_, and-eq-true-iff}
 use mathlib.Core.List.{List, []}
 use Prim.Native.Nat.{ℕ, _+_, _≤_}
 use native.Mathlib.Omega.{arith}
 use lib.Dec.{ltb, eqb}
 use lib.ListN.{length, drop, length-take}
-use borrow.Author.Tests.{le-ltb, ltb-false}
+use borrow.Author.Tests.{ltb-false}
 use denote.Ref.{now}
 use Rattle.octets.specs.Bytes.{run}
-use Rattle.octets.specs.Places.{LentBytes}
-use Rattle.octets.proofs.Conditions.{cond-by}
+use Rattle.octets.specs.Places.{LentBytes, placeIn}
+use Rattle.octets.proofs.Conditions.{cond-by, cond-both}
+use Rattle.octets.proofs.Parts.{place-there}
 use Rattle.supervisor.specs.Limits
 use Rattle.supervisor.specs.Limits.{highest-key}
 use Rattle.supervisor.specs.Layout
 use Rattle.supervisor.specs.Valid.{validFactory, validSettings}
-use Rattle.supervisor.specs.Calls.{settingAt, locationOf, resultAt, lookupResultPromise, within, valueIn, lookupPromise}
-use Rattle.supervisor.specs.Calls.{valuePlace, lookupPlace}
-use Rattle.supervisor.specs.Calls.{editionReportAt, editionPromise}
+use Rattle.supervisor.specs.Calls.{settingAt, locationOf, foundAtPromise, lookupResultPromise, within, valueIn, valueAtPromise}
+use Rattle.supervisor.specs.Calls.{lookupPromise, placeWithin, valuePlace, lookupPlace, partWithin, partPlaceAt, valueAtPlace}
+use Rattle.supervisor.specs.Calls.{editionAtPromise, editionPromise}
 use Rattle.supervisor.specs.declared.keys.Location.{Location}
 use Rattle.supervisor.specs.declared.keys.Location.the-variants as location
 use Rattle.supervisor.proofs.OffsetLaws.{longest-short, offset-within, settings-key}
 use Rattle.supervisor.proofs.ValidLaws.{FactoryValid, factory-valid, settings-valid}
 use Rattle.supervisor.specs.Valid.{SettingsValid}
 
--- ---- the value at a key's location
+-- ---- what valid stores answer is what the key's location gives
 
-module _
-    (f s : List ℕ) (key most : ℕ) (p : Location) (v : (validFactory f && validSettings s) ≡ true) (k : key ≤ highest-key)
-    (e : p ≡ locationOf f s key) where
-  pub result-found : lookupResultPromise f s key most ≡ resultAt most p
+module _ (f s : List ℕ) (key : ℕ) (v : validFactory f ≡ true) (w : validSettings s ≡ true) where
+  pub result-valid : (most : ℕ) → lookupResultPromise f s key most ≡ foundAtPromise key most (locationOf f s key)
   unfolding lookupResultPromise
-  result-found = rw (v, le-ltb highest-key key k, e)
+  result-valid most = rw (v, w)
 
-  pub value-found : lookupPromise f s key most ≡ valueIn f s most p
+  pub edition-valid : editionPromise f s key ≡ editionAtPromise s key (locationOf f s key)
+  unfolding editionPromise
+  edition-valid = rw (v, w)
+
+  pub value-valid : (most : ℕ) → lookupPromise f s key most ≡ valueAtPromise f s key most (locationOf f s key)
   unfolding lookupPromise
-  value-found = rw (v, le-ltb highest-key key k, e)
-
-pub place-found : (f s : LentBytes) (key most : ℕ) (p : Location) → (validFactory (now f) && validSettings (now s)) ≡ true
-    → key ≤ highest-key → p ≡ locationOf (now f) (now s) key → lookupPlace f s key most ≡ valuePlace f s most p
-unfolding lookupPlace
-place-found f s key most p v k e = rw (v, le-ltb highest-key key k, e)
+  value-valid most = rw (v, w)
 
 -- ---- a value begins within the store that holds it
 
 module _ (f s : List ℕ) where
-  abbrev pub Begins : Location → Type 0
+  abbrev Begins : Location → Type 0
   Begins (location.Factory at n) = at ≤ length f
   Begins (location.Settings at n) = at ≤ length s
   Begins location.Nowhere = Unit {0}
@@ -66,18 +64,31 @@ module _ (f s : List ℕ) where
       cond-by Begins (eqb key Limits.passphrase-key) _ _ (λ _. tt) (λ _.
       setting-begins (Layout.setting-offset key) (omega (arith, w, offset-within key (settings-key key a b c h)))))))
 
-  pub found-begins : (key : ℕ) (p : Location) → (validFactory f && validSettings s) ≡ true → key ≤ highest-key → p ≡ locationOf f s key
-      → Begins p
-  found-begins key p v h e =
+  found-begins : (key : ℕ) → (validFactory f && validSettings s) ≡ true → key ≤ highest-key → Begins (locationOf f s key)
+  found-begins key v h =
       let valid = and-eq-true-iff _ _ .0 v in
-      rw e (location-begins key (factory-valid f (valid .0) .long) (settings-valid s (valid .1) .long) h)
+      location-begins key (factory-valid f (valid .0) .long) (settings-valid s (valid .1) .long) h
 
--- ---- the edition of a key
+-- ---- the part of a value that begins within its store begins there
 
-pub edition-found : (f s : List ℕ) (key : ℕ) (p : Location) → (validFactory f && validSettings s) ≡ true → key ≤ highest-key
-    → p ≡ locationOf f s key → editionPromise f s key ≡ editionReportAt s key p
-unfolding editionPromise
-edition-found f s key p v k e = rw (v, le-ltb highest-key key k, e)
+part-there : (most n at : ℕ) (s : LentBytes) → at ≤ length (now s) → placeWithin most n s at ≡ partWithin most n s at
+part-there most n at s h =
+    cond-both (λ i p. placeIn s i ≡ p) (ltb most n) (λ _. refl) (λ _. place-there s at h)
+
+place-there-at : (f s : LentBytes) (most : ℕ) (p : Location) → Begins (now f) (now s) p → valuePlace f s most p ≡ partPlaceAt f s most p
+unfolding valuePlace partPlaceAt
+place-there-at f s most (location.Factory at n) h = part-there most n at f h
+place-there-at f s most (location.Settings at n) h = part-there most n at s h
+place-there-at f s most location.Nowhere h = refl
+place-there-at f s most location.SetOnly h = refl
+
+pub place-valid : (f s : LentBytes) (key most : ℕ) → (validFactory (now f) && validSettings (now s)) ≡ true
+    → lookupPlace f s key most ≡ valueAtPlace f s key most (locationOf (now f) (now s) key)
+unfolding lookupPlace
+place-valid f s key most v =
+    rw v
+    (cond-by (λ p. p ≡ valueAtPlace f s key most (locationOf (now f) (now s) key)) (ltb highest-key key) _ _ (λ e. rw e) (λ e.
+    rw e (place-there-at f s most _ (found-begins (now f) (now s) key v (ltb-false _ _ e)))))
 
 -- ---- a value that is handed out is no longer than the longest key's
 

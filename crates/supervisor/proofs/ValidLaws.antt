@@ -90,25 +90,16 @@ each-all p (suc n) f = and (Valid.all p n) (p n) (each-all p n (λ i l. f i (ome
 -- ---- start data
 
 pub record ItemGood (d : List ℕ) (i : ℕ) : Type 0 where
-  pub result : (numberAt 1 d (Layout.item-offset i) ≡ 0) ⊎ (numberAt 1 d (Layout.item-offset i) ≡ 2)
-      ⊎ (numberAt 1 d (Layout.item-offset i) ≡ 3)
+  pub result : resultAllowed (numberAt 1 d (Layout.item-offset i)) ≡ true
   pub size : numberAt 1 d (Layout.item-offset i + Layout.item-data-length-offset) ≤ Limits.longest-item-data
 
 pub item-good : (d : List ℕ) (i : ℕ) → Valid.goodItem d i ≡ true → ItemGood d i
 unfolding Valid.goodItem
-item-good d i e =
-    let t = both (resultAllowed (numberAt 1 d (Layout.item-offset i))) _ e in
-    record {
-      result = ⊎-map (eqb-true _ _) (λ o. ⊎-map (eqb-true _ _) (eqb-true _ _) (either _ _ o)) (either _ _ (t .0));
-      size = leb-true _ _ (t .1);
-    }
+item-good d i e = let t = both _ _ e in record { result = t .0; size = leb-true _ _ (t .1) }
 
 pub good-item : (d : List ℕ) (i : ℕ) → ItemGood d i → Valid.goodItem d i ≡ true
 unfolding Valid.goodItem
-good-item d i g =
-    and (resultAllowed (numberAt 1 d (Layout.item-offset i))) _
-    (or _ _ (⊎-map (eq-eqb _ _) (λ o. or _ _ (⊎-map (eq-eqb _ _) (eq-eqb _ _) o)) (g .result)))
-    (le-leb _ _ (g .size))
+good-item d i g = and _ _ (g .result) (le-leb _ _ (g .size))
 
 pub record StartGood (d : List ℕ) : Type 0 where
   pub bsu : (numberAt 1 d Layout.bsu-offset ≡ 0x41) ⊎ (numberAt 1 d Layout.bsu-offset ≡ 0x42)

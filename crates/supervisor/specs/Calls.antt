@@ -8,7 +8,7 @@ use lib.Dec.{leb, ltb, eqb}
 use lib.ListN.{length, replicate, getD}
 use denote.Ref.{now}
 use Rattle.octets.specs.Bytes.{bytes, run, numberAt, overlay}
-use Rattle.octets.specs.Places.{LentBytes, Place, placeIn}
+use Rattle.octets.specs.Places.{LentBytes, Place, placeIn, partPlace}
 use Rattle.line.specs.Reader
 use Rattle.supervisor.specs.Limits
 use Rattle.supervisor.specs.Local
@@ -229,11 +229,13 @@ resultAt most (location.Settings at n) = sized most n
 resultAt most location.Nowhere = result 2 0
 resultAt most location.SetOnly = result 4 0
 
+-- of a key whose value lies at p, in stores of any bytes
+abbrev pub foundAtPromise : ℕ → ℕ → Location → LookupReport
+foundAtPromise key most p = cond (ltb Limits.highest-key key) (result 1 0) (resultAt most p)
+
 unfoldable pub lookupResultPromise : List ℕ → List ℕ → ℕ → ℕ → LookupReport
 lookupResultPromise f s key most =
-    cond (validFactory f && validSettings s)
-    (cond (ltb Limits.highest-key key) (result 1 0) (resultAt most (locationOf f s key)))
-    (refused 12)
+    cond (validFactory f && validSettings s) (foundAtPromise key most (locationOf f s key)) (refused 12)
 
 -- the result of a key's edition and the edition, or the table's number
 pub data EditionReport : Type 0 where
@@ -259,11 +261,12 @@ editionReportAt s key (location.Settings at n) = EditionReport.result 0 (Layout.
 editionReportAt s key location.Nowhere = EditionReport.result 2 0
 editionReportAt s key location.SetOnly = EditionReport.result 4 0
 
+abbrev pub editionAtPromise : List ℕ → ℕ → Location → EditionReport
+editionAtPromise s key p = cond (ltb Limits.highest-key key) (EditionReport.result 1 0) (editionReportAt s key p)
+
 unfoldable pub editionPromise : List ℕ → List ℕ → ℕ → EditionReport
 editionPromise f s key =
-    cond (validFactory f && validSettings s)
-    (cond (ltb Limits.highest-key key) (EditionReport.result 1 0) (editionReportAt s key (locationOf f s key)))
-    (EditionReport.refused 12)
+    cond (validFactory f && validSettings s) (editionAtPromise s key (locationOf f s key)) (EditionReport.refused 12)
 
 abbrev pub within : ℕ → ℕ → List ℕ → List ℕ
 within most n v = cond (ltb most n) [] v
@@ -274,12 +277,12 @@ valueIn f s most (location.Settings at n) = within most n (run at n s)
 valueIn f s most location.Nowhere = []
 valueIn f s most location.SetOnly = []
 
+abbrev pub valueAtPromise : List ℕ → List ℕ → ℕ → ℕ → Location → List ℕ
+valueAtPromise f s key most p = cond (ltb Limits.highest-key key) [] (valueIn f s most p)
+
 -- a result other than 0 and a refusal hand out an empty part
 unfoldable pub lookupPromise : List ℕ → List ℕ → ℕ → ℕ → List ℕ
-lookupPromise f s key most =
-    cond (validFactory f && validSettings s)
-    (cond (ltb Limits.highest-key key) [] (valueIn f s most (locationOf f s key)))
-    []
+lookupPromise f s key most = cond (validFactory f && validSettings s) (valueAtPromise f s key most (locationOf f s key)) []
 
 -- where n bytes at an offset of a store begin; if they are more than asked for, the part is empty and begins where the store does
 abbrev pub placeWithin : ℕ → ℕ → LentBytes → ℕ → Place
@@ -298,6 +301,19 @@ lookupPlace f s key most =
     cond (validFactory (now f) && validSettings (now s))
     (cond (ltb Limits.highest-key key) (placeIn f 0) (valuePlace f s most (locationOf (now f) (now s) key)))
     (placeIn f 0)
+
+-- the same of a location that need not lie within its store: a part that would begin behind it is empty and begins where the store does
+abbrev pub partWithin : ℕ → ℕ → LentBytes → ℕ → Place
+partWithin most n s at = cond (ltb most n) (placeIn s 0) (partPlace s at)
+
+unfoldable pub partPlaceAt : LentBytes → LentBytes → ℕ → Location → Place
+partPlaceAt f s most (location.Factory at n) = partWithin most n f at
+partPlaceAt f s most (location.Settings at n) = partWithin most n s at
+partPlaceAt f s most location.Nowhere = placeIn f 0
+partPlaceAt f s most location.SetOnly = placeIn f 0
+
+abbrev pub valueAtPlace : LentBytes → LentBytes → ℕ → ℕ → Location → Place
+valueAtPlace f s key most p = cond (ltb Limits.highest-key key) (placeIn f 0) (partPlaceAt f s most p)
 
 -- ---- Read the line signal, the two flags, a record
 

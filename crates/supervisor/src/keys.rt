@@ -4,12 +4,12 @@ use crate::layout;
 use crate::valid;
 ghost use mathlib.Core.Path.{_≡_};
 ghost use mathlib.Core.Bool.{_&&_};
-ghost use Prim.Native.Nat.{_≤_, _<_};
-ghost use lib.ListN.{length};
+ghost use Prim.Native.Nat.{_<_};
+ghost use Rattle.octets.specs.Bytes.{run};
 ghost use Rattle.supervisor.specs.Valid.{validFactory, validSettings};
 ghost use Rattle.supervisor.specs.Calls.{resultNumber, lookupReport, lookupResultPromise, lookupPromise, lookupPlace, editionReport};
-ghost use Rattle.supervisor.specs.Calls.{editionPromise, editionNumber, locationOf, settingAt, sized, within, placeWithin};
-ghost use Rattle.octets.specs.Bytes.{run};
+ghost use Rattle.supervisor.specs.Calls.{editionPromise, editionNumber, locationOf, settingAt, sized, within, partWithin};
+ghost use Rattle.supervisor.specs.Calls.{foundAtPromise, editionAtPromise, valueAtPromise, valueAtPlace};
 
 pub enum Found {
     Refused,
@@ -29,7 +29,7 @@ pub enum EditionFound {
 }
 
 // Where a key's value lies: from which byte, and how many; the value of a key that is only set is not handed out.
-pub(crate) enum Location {
+pub enum Location {
     Factory(usize, usize),
     Settings(usize, usize),
     Nowhere,
@@ -44,16 +44,8 @@ pub fn lookup<'a>(factory: &'a [u8], settings: &'a [u8], key: u8, most: u16) -> 
     if !stores_are_valid(factory, settings) {
         return &factory[0..0];
     }
-    if layout::HIGHEST_KEY < key {
-        return &factory[0..0];
-    }
     let p = find(factory, settings, key);
-    match p {
-        Location::Factory(at, n) => part(factory, at, n, most),
-        Location::Settings(at, n) => part(settings, at, n, most),
-        Location::Nowhere => &factory[0..0],
-        Location::SetOnly => &factory[0..0],
-    }
+    value_at(factory, settings, key, p, most)
 }
 
 // The result of a lookup.
@@ -63,16 +55,8 @@ pub fn lookup_result(factory: &[u8], settings: &[u8], key: u8, most: u16) -> Fou
     if !stores_are_valid(factory, settings) {
         return Found::Refused;
     }
-    if layout::HIGHEST_KEY < key {
-        return Found::BadKey;
-    }
     let p = find(factory, settings, key);
-    match p {
-        Location::Factory(_, n) => size(n, most),
-        Location::Settings(_, n) => size(n, most),
-        Location::Nowhere => Found::NoValue,
-        Location::SetOnly => Found::SetOnly,
-    }
+    found_at(key, p, most)
 }
 
 // The edition of a key that has a value.
@@ -82,31 +66,8 @@ pub fn edition(factory: &[u8], settings: &[u8], key: u8) -> EditionFound
     if !stores_are_valid(factory, settings) {
         return EditionFound::Refused;
     }
-    if layout::HIGHEST_KEY < key {
-        return EditionFound::BadKey;
-    }
     let p = find(factory, settings, key);
-    let at = layout::setting_offset(key) + layout::SETTING_EDITION_OFFSET;
-    match p {
-        Location::Factory(_, _) => EditionFound::Edition(0),
-        Location::Settings(_, _) => EditionFound::Edition(octets::read_u32(settings, at)),
-        Location::Nowhere => EditionFound::NoValue,
-        Location::SetOnly => EditionFound::SetOnly,
-    }
-}
-
-// The edition of a key, 0 where none is handed out.
-pub fn edition_number(factory: &[u8], settings: &[u8], key: u8) -> u32
-    ensures { λ r. ⌜ r ≡ editionNumber (editionPromise (now (factory .entry)) (now (settings .entry)) key) ⌝ }
-{
-    let found = edition(factory, settings, key);
-    match found {
-        EditionFound::Refused => 0,
-        EditionFound::Edition(n) => n,
-        EditionFound::BadKey => 0,
-        EditionFound::NoValue => 0,
-        EditionFound::SetOnly => 0,
-    }
+    edition_at(settings, key, p)
 }
 
 // Whether both stores pass the tests for 12.
@@ -119,23 +80,8 @@ fn stores_are_valid(factory: &[u8], settings: &[u8]) -> bool
     valid::settings_are_valid(settings)
 }
 
-// The number of a lookup's result.
-pub fn result_number(factory: &[u8], settings: &[u8], key: u8, most: u16) -> u8
-    ensures { λ r. ⌜ r ≡ resultNumber (lookupResultPromise (now (factory .entry)) (now (settings .entry)) key most) ⌝ }
-{
-    let found = lookup_result(factory, settings, key, most);
-    match found {
-        Found::Refused => 12,
-        Found::Value(_) => 0,
-        Found::BadKey => 1,
-        Found::NoValue => 2,
-        Found::TooLong => 3,
-        Found::SetOnly => 4,
-    }
-}
-
-// Where the value of a key from 0 to 6 lies.
-fn find(factory: &[u8], settings: &[u8], key: u8) -> Location
+// Where the value of a key from 0 to 6 lies. This and what follows tests no store for 12.
+pub fn find(factory: &[u8], settings: &[u8], key: u8) -> Location
     ensures { λ r. ⌜ r ≡ locationOf (now (factory .entry)) (now (settings .entry)) key ⌝ }
 {
     if key == 0 {
@@ -170,6 +116,54 @@ fn setting(settings: &[u8], at: usize) -> Location
     Location::Nowhere
 }
 
+// The value of a key that lies at p, if it has at most `most` bytes.
+pub fn value_at<'a>(
+    factory: &'a [u8],
+    settings: &'a [u8],
+    key: u8,
+    p: Location,
+    most: u16,
+) -> &'a [u8]
+    ensures { λ r. ⌜ now r ≡ valueAtPromise (now (factory .entry)) (now (settings .entry)) key most p ⌝ }
+    ensures { λ r. ⌜ r .ptr ≡ valueAtPlace (factory .entry) (settings .entry) key most p ⌝ }
+{
+    if layout::HIGHEST_KEY < key {
+        return &factory[0..0];
+    }
+    match p {
+        Location::Factory(at, n) => part(factory, at, n, most),
+        Location::Settings(at, n) => part(settings, at, n, most),
+        Location::Nowhere => &factory[0..0],
+        Location::SetOnly => &factory[0..0],
+    }
+}
+
+// The n bytes of s from an offset on, if they are at most `most`.
+fn part<'a>(s: &'a [u8], at: usize, n: usize, most: u16) -> &'a [u8]
+    ensures { λ r. ⌜ now r ≡ within most n (run at n (now (s .entry))) ⌝ }
+    ensures { λ r. ⌜ r .ptr ≡ partWithin most n (s .entry) at ⌝ }
+{
+    if (most as usize) < n {
+        return &s[0..0];
+    }
+    octets::part(s, at, n)
+}
+
+// What a lookup of a key says whose value lies at p.
+pub fn found_at(key: u8, p: Location, most: u16) -> Found
+    ensures { λ r. ⌜ lookupReport r ≡ foundAtPromise key most p ⌝ }
+{
+    if layout::HIGHEST_KEY < key {
+        return Found::BadKey;
+    }
+    match p {
+        Location::Factory(_, n) => size(n, most),
+        Location::Settings(_, n) => size(n, most),
+        Location::Nowhere => Found::NoValue,
+        Location::SetOnly => Found::SetOnly,
+    }
+}
+
 // What a lookup says of a value of n bytes.
 fn size(n: usize, most: u16) -> Found
     ensures { λ r. ⌜ lookupReport r ≡ sized most n ⌝ }
@@ -180,14 +174,45 @@ fn size(n: usize, most: u16) -> Found
     Found::Value(n)
 }
 
-// The n bytes of s from an offset on, if they are at most `most`.
-fn part<'a>(s: &'a [u8], at: usize, n: usize, most: u16) -> &'a [u8]
-    requires { ⌜ at ≤ length (now s) ⌝ }
-    ensures { λ r. ⌜ now r ≡ within most n (run at n (now (s .entry))) ⌝ }
-    ensures { λ r. ⌜ r .ptr ≡ placeWithin most n (s .entry) at ⌝ }
+// The number of a lookup's result.
+pub fn result_number(found: Found) -> u8
+    ensures { λ r. ⌜ r ≡ resultNumber (lookupReport found) ⌝ }
 {
-    if (most as usize) < n {
-        return &s[0..0];
+    match found {
+        Found::Refused => 12,
+        Found::Value(_) => 0,
+        Found::BadKey => 1,
+        Found::NoValue => 2,
+        Found::TooLong => 3,
+        Found::SetOnly => 4,
     }
-    octets::part(s, at, n)
+}
+
+// The edition of a key whose value lies at p.
+pub fn edition_at(settings: &[u8], key: u8, p: Location) -> EditionFound
+    ensures { λ r. ⌜ editionReport r ≡ editionAtPromise (now (settings .entry)) key p ⌝ }
+{
+    if layout::HIGHEST_KEY < key {
+        return EditionFound::BadKey;
+    }
+    let at = layout::setting_offset(key) + layout::SETTING_EDITION_OFFSET;
+    match p {
+        Location::Factory(_, _) => EditionFound::Edition(0),
+        Location::Settings(_, _) => EditionFound::Edition(octets::read_u32(settings, at)),
+        Location::Nowhere => EditionFound::NoValue,
+        Location::SetOnly => EditionFound::SetOnly,
+    }
+}
+
+// The edition, 0 where none is handed out.
+pub fn edition_number(found: EditionFound) -> u32
+    ensures { λ r. ⌜ r ≡ editionNumber (editionReport found) ⌝ }
+{
+    match found {
+        EditionFound::Refused => 0,
+        EditionFound::Edition(n) => n,
+        EditionFound::BadKey => 0,
+        EditionFound::NoValue => 0,
+        EditionFound::SetOnly => 0,
+    }
 }

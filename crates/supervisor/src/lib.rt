@@ -3,6 +3,7 @@
 pub mod alerts;
 pub mod keys;
 pub mod layout;
+mod loads;
 pub mod number;
 pub mod options;
 pub mod outbox;

@@ -1,60 +1,66 @@
 // The tests for 11 and 12: start data, and each lent part.
-// Assumes nothing of the bytes tested; some inner functions want a small offset or number, as their `requires` say.
+// The public functions assume nothing; the inner ones want bytes of the published length, as their `requires` say.
 use crate::layout;
+use crate::loads;
 ghost use mathlib.Core.Path.{_≡_};
-ghost use Prim.Native.Nat.{_<_};
-ghost use Rattle.supervisor.specs.Local.{optionsAllowed};
-ghost use Rattle.supervisor.specs.Valid.{goodItem, goodItems, goodStart, validOutbox, validFactory, validSetting, validValues};
-ghost use Rattle.supervisor.specs.Valid.{validSettings, validRecord, validText, validAlert, validAlerts, validRecordsAndAlerts};
-ghost use Rattle.supervisor.specs.Valid.{validRegisters};
-ghost use Rattle.supervisor.specs.Limits.{setting-count};
+ghost use Prim.Native.Nat.{_+_, _≤_};
+ghost use lib.ListN.{length};
+ghost use Rattle.supervisor.specs.Local.{resultAllowed, optionsAllowed};
+ghost use Rattle.supervisor.specs.Limits.{most-items, most-alerts, setting-count};
+ghost use Rattle.supervisor.specs.Layout.{start-length, settings-length, registers-length, setting-value-offset, record-length};
+ghost use Rattle.supervisor.specs.Layout.{alert-length};
+ghost use Rattle.supervisor.specs.Valid.{goodItems, goodStart, validOutbox, validFactory, validSetting, validValues};
+ghost use Rattle.supervisor.specs.Valid.{validSettings, validRecord, validText, validAlerts, validRecordsAndAlerts, validRegisters};
 
-// Whether item i has a result of 0, 2 or 3 and at most 64 bytes of data.
-fn item_is_good(d: &[u8], i: usize) -> bool
-    requires { ⌜ i < 4294967296 ⌝ }
-    ensures { λ r. ⌜ r ≡ goodItem (now (d .entry)) i ⌝ }
+// Whether an item's result is 0, 2 or 3.
+fn result_is_allowed(result: usize) -> bool
+    ensures { λ r. ⌜ r ≡ resultAllowed result ⌝ }
 {
-    let at = layout::ITEMS_OFFSET + i * layout::ITEM_LENGTH;
-    let result = octets::byte_at(d, at);
-    if result != layout::INVENTORY_ITEM {
-        if result != layout::INVENTORY_ABSENT {
-            if result != layout::INVENTORY_FAILED {
-                return false;
-            }
-        }
+    if result == layout::INVENTORY_ITEM {
+        return true;
     }
-    octets::byte_at(d, at + layout::ITEM_DATA_LENGTH_OFFSET) <= layout::LONGEST_ITEM_DATA
+    if result == layout::INVENTORY_ABSENT {
+        return true;
+    }
+    result == layout::INVENTORY_FAILED
 }
 
-// Whether the first n items are good.
-fn items_are_good(d: &[u8], n: usize) -> bool
-    requires { ⌜ n < 4294967296 ⌝ }
+// Whether the first n items each have such a result and at most 64 bytes of data.
+fn items_are_good(d: &[u8], n: u32) -> bool
+    requires { ⌜ n ≤ most-items ⌝ }
+    requires { ⌜ start-length ≤ length (now d) ⌝ }
     ensures { λ r. ⌜ r ≡ goodItems (now (d .entry)) n ⌝ }
 {
+    let mut at = layout::ITEMS_OFFSET;
     let mut i = 0;
     while i < n {
-        if !item_is_good(d, i) {
+        if !result_is_allowed(loads::byte(d, at)) {
             return false;
         }
+        if layout::LONGEST_ITEM_DATA < loads::byte(d, at + layout::ITEM_DATA_LENGTH_OFFSET) {
+            return false;
+        }
+        at += layout::ITEM_LENGTH;
         i += 1;
     }
     true
 }
 
 pub(crate) fn start_is_good(d: &[u8]) -> bool
+    requires { ⌜ start-length ≤ length (now d) ⌝ }
     ensures { λ r. ⌜ r ≡ goodStart (now (d .entry)) ⌝ }
 {
-    let bsu = octets::byte_at(d, layout::BSU_OFFSET);
+    let bsu = loads::byte(d, layout::BSU_OFFSET);
     if bsu != layout::BSU_A {
         if bsu != layout::BSU_B {
             return false;
         }
     }
-    if layout::LONGEST_IMAGE_ID < octets::byte_at(d, layout::IMAGE_ID_LENGTH_OFFSET) {
+    if layout::LONGEST_IMAGE_ID < loads::byte(d, layout::IMAGE_ID_LENGTH_OFFSET) {
         return false;
     }
-    let count = octets::read_u32(d, layout::ITEM_COUNT_OFFSET) as usize;
-    if layout::MOST_ITEMS < count {
+    let count = loads::quad(d, layout::ITEM_COUNT_OFFSET);
+    if layout::MOST_ITEMS < count as usize {
         return false;
     }
     items_are_good(d, count)
@@ -66,14 +72,14 @@ pub fn outbox_is_valid(outbox: &[u8]) -> bool
     if outbox.len() < layout::OUTBOX_LENGTH {
         return false;
     }
-    let to = octets::word_at(outbox, layout::OUTBOX_TO_OFFSET);
-    if to < octets::word_at(outbox, layout::OUTBOX_FROM_OFFSET) {
+    let to = loads::word(outbox, layout::OUTBOX_TO_OFFSET);
+    if to < loads::word(outbox, layout::OUTBOX_FROM_OFFSET) {
         return false;
     }
     if layout::MOST_PENDING < to {
         return false;
     }
-    octets::byte_at(outbox, layout::OUTBOX_TERMINATOR_OWED_OFFSET) <= 1
+    loads::byte(outbox, layout::OUTBOX_TERMINATOR_OWED_OFFSET) <= 1
 }
 
 pub fn factory_is_valid(factory: &[u8]) -> bool
@@ -85,7 +91,7 @@ pub fn factory_is_valid(factory: &[u8]) -> bool
     if !start_is_good(factory) {
         return false;
     }
-    if octets::read_u32(factory, layout::INVENTORY_VERSION_OFFSET) != 0 {
+    if loads::quad(factory, layout::INVENTORY_VERSION_OFFSET) != 0 {
         return false;
     }
     octets::same(
@@ -99,24 +105,24 @@ pub fn factory_is_valid(factory: &[u8]) -> bool
 
 // A value is held, as long as its key allows; or none is, and its length and its edition are 0.
 fn setting_is_valid(settings: &[u8], at: usize, shortest: usize, longest: usize) -> bool
-    requires { ⌜ at < 65536 ⌝ }
+    requires { ⌜ at + setting-value-offset ≤ length (now settings) ⌝ }
     ensures { λ r. ⌜ r ≡ validSetting (now (settings .entry)) at shortest longest ⌝ }
 {
-    let n = octets::word_at(settings, at + layout::SETTING_LENGTH_OFFSET);
-    if longest < n {
+    let held = loads::byte(settings, at);
+    let n = loads::word(settings, at + layout::SETTING_LENGTH_OFFSET);
+    if held == 0 {
+        if n != 0 {
+            return false;
+        }
+        return loads::quad(settings, at + layout::SETTING_EDITION_OFFSET) == 0;
+    }
+    if held != 1 {
         return false;
     }
-    let held = octets::byte_at(settings, at);
-    if held == 1 {
-        return shortest <= n;
-    }
-    if held != 0 {
+    if n < shortest {
         return false;
     }
-    if n != 0 {
-        return false;
-    }
-    octets::read_u32(settings, at + layout::SETTING_EDITION_OFFSET) == 0
+    n <= longest
 }
 
 pub fn settings_are_valid(settings: &[u8]) -> bool
@@ -129,6 +135,7 @@ pub fn settings_are_valid(settings: &[u8]) -> bool
 }
 
 fn values_are_valid(settings: &[u8]) -> bool
+    requires { ⌜ settings-length ≤ length (now settings) ⌝ }
     ensures { λ r. ⌜ r ≡ validValues (now (settings .entry)) setting-count ⌝ }
 {
     let mut i = 0;
@@ -145,41 +152,37 @@ fn values_are_valid(settings: &[u8]) -> bool
 }
 
 fn record_is_valid(registers: &[u8], at: usize, most: usize) -> bool
-    requires { ⌜ at < 65536 ⌝ }
+    requires { ⌜ at + record-length ≤ length (now registers) ⌝ }
     ensures { λ r. ⌜ r ≡ validRecord (now (registers .entry)) at most ⌝ }
 {
-    if 1 < octets::byte_at(registers, at) {
+    if 1 < loads::byte(registers, at) {
         return false;
     }
-    octets::word_at(registers, at + layout::RECORD_WHOLE_OFFSET) <= most
+    loads::word(registers, at + layout::RECORD_WHOLE_OFFSET) <= most
 }
 
 fn text_is_valid(registers: &[u8], at: usize) -> bool
+    requires { ⌜ at + alert-length ≤ length (now registers) ⌝ }
     ensures { λ r. ⌜ r ≡ validText (now (registers .entry)) at ⌝ }
 {
-    octets::word_at(registers, at) <= layout::LONGEST_ALERT
+    loads::word(registers, at) <= layout::LONGEST_ALERT
 }
 
-fn alert_is_valid(registers: &[u8], i: usize) -> bool
-    requires { ⌜ i < 256 ⌝ }
-    ensures { λ r. ⌜ r ≡ validAlert (now (registers .entry)) i ⌝ }
-{
-    let at = layout::ALERTS_OFFSET + i * layout::ALERT_LENGTH;
-    if !text_is_valid(registers, at) {
-        return false;
-    }
-    1 <= octets::byte_at(registers, at + layout::ALERT_ACTION_OFFSET)
-}
-
-fn alerts_are_valid(registers: &[u8], n: usize) -> bool
-    requires { ⌜ n < 256 ⌝ }
+fn alerts_are_valid(registers: &[u8], n: u8) -> bool
+    requires { ⌜ n ≤ most-alerts ⌝ }
+    requires { ⌜ registers-length ≤ length (now registers) ⌝ }
     ensures { λ r. ⌜ r ≡ validAlerts (now (registers .entry)) n ⌝ }
 {
+    let mut at = layout::ALERTS_OFFSET;
     let mut i = 0;
     while i < n {
-        if !alert_is_valid(registers, i) {
+        if !text_is_valid(registers, at) {
             return false;
         }
+        if loads::byte(registers, at + layout::ALERT_ACTION_OFFSET) == 0 {
+            return false;
+        }
+        at += layout::ALERT_LENGTH;
         i += 1;
     }
     true
@@ -198,26 +201,27 @@ pub fn registers_are_valid(registers: &[u8]) -> bool
     if registers.len() < layout::REGISTERS_LENGTH {
         return false;
     }
-    if 3 < octets::read_u64(registers, layout::STATUS_OFFSET) {
+    if 3 < loads::long(registers, layout::STATUS_OFFSET) {
         return false;
     }
-    if !options_are_allowed(octets::read_u64(registers, layout::OPTIONS_OFFSET)) {
+    if !options_are_allowed(loads::long(registers, layout::OPTIONS_OFFSET)) {
         return false;
     }
-    if 1 < octets::byte_at(registers, layout::REBOOT_OFFSET) {
+    if 1 < loads::byte(registers, layout::REBOOT_OFFSET) {
         return false;
     }
-    if 1 < octets::byte_at(registers, layout::POWER_OFF_OFFSET) {
+    if 1 < loads::byte(registers, layout::POWER_OFF_OFFSET) {
         return false;
     }
     records_and_alerts_are_valid(registers)
 }
 
 fn records_and_alerts_are_valid(registers: &[u8]) -> bool
+    requires { ⌜ registers-length ≤ length (now registers) ⌝ }
     ensures { λ r. ⌜ r ≡ validRecordsAndAlerts (now (registers .entry)) ⌝ }
 {
     if 255
-        < octets::word_at(
+        < loads::word(
             registers,
             layout::BOOT_FAILURE_OFFSET + layout::RECORD_CODE_OFFSET,
         )
@@ -234,14 +238,14 @@ fn records_and_alerts_are_valid(registers: &[u8]) -> bool
     if !record_is_valid(registers, layout::PANIC_OFFSET, layout::LONGEST_PANIC) {
         return false;
     }
-    let count = octets::byte_at(registers, layout::ALERT_COUNT_OFFSET);
+    let count = loads::byte(registers, layout::ALERT_COUNT_OFFSET);
     if layout::MOST_ALERTS < count {
         return false;
     }
-    if !alerts_are_valid(registers, count) {
+    if !alerts_are_valid(registers, count as u8) {
         return false;
     }
-    if 2 < octets::byte_at(registers, layout::RETAINED_OFFSET) {
+    if 2 < loads::byte(registers, layout::RETAINED_OFFSET) {
         return false;
     }
     text_is_valid(registers, layout::RETAINED_ALERT_OFFSET)

@@ -1,6 +1,12 @@
 -- `responder::receive::are_valid` meets its contract: the tests in the definition's order.
 -- Assumes nothing.
+use mathlib.Core.Path.{_≡_}
+use mathlib.Core.List.{List}
+use Prim.Native.Nat.{ℕ}
 use borrow.Author.Needs.{needs}
+use denote.Ref.{now}
+use Rattle.line.proofs.Rest.{rest-mid}
+use Rattle.supervisor.specs.Valid.{validSettings}
 use Rattle.supervisor.proofs.Cases.{refused}
 use Rattle.supervisor.proofs.ValidLaws.{passed}
 use Rattle.responder.specs.Receive.{validInner, validParts}
@@ -31,10 +37,20 @@ returns-3 c =
       refused _ _ (c .before .outbox-is-valid .ensures) (c .if3 .taken),
     )
 
+-- the settings are handed on whole
+abbrev start-of : tie.After-settings-are-valid → tie.Start
+start-of c = c .before .before .before .before .before .before .before .before .before .before .before .before .before
+
+abbrev settings-of : tie.After-settings-are-valid → List ℕ
+settings-of c = now (start-of c .args .settings)
+
+tested : (c : tie.After-settings-are-valid) → c .settings-are-valid .result ≡ validSettings (settings-of c)
+tested c = rw (rest-mid (settings-of c) 0) at (c .settings-are-valid .ensures)
+
 returns-4 : tie.Need-returns-4
 unfolding validParts validInner
 returns-4 c =
-    let else3 = c .before .before in
+    let else3 = c .before .before .before in
     let at-outbox-is-valid = else3 .before in
     let else2 = at-outbox-is-valid .before in
     let at-factory-is-valid = else2 .before in
@@ -44,14 +60,14 @@ returns-4 c =
       passed _ _ (at-is-valid .is-valid .ensures) (else1 .if1 .left),
       passed _ _ (at-factory-is-valid .factory-is-valid .ensures) (else2 .if2 .left),
       passed _ _ (at-outbox-is-valid .outbox-is-valid .ensures) (else3 .if3 .left),
-      refused _ _ (c .before .settings-are-valid .ensures) (c .if4 .taken),
+      refused _ _ (tested (c .before)) (c .if4 .taken),
     )
 
 returns-5 : tie.Need-returns-5
 unfolding validParts validInner
 returns-5 c =
     let at-settings-are-valid = c .before .before in
-    let else3 = at-settings-are-valid .before in
+    let else3 = at-settings-are-valid .before .before in
     let at-outbox-is-valid = else3 .before in
     let else2 = at-outbox-is-valid .before in
     let at-factory-is-valid = else2 .before in
@@ -61,12 +77,12 @@ returns-5 c =
       passed _ _ (at-is-valid .is-valid .ensures) (else1 .if1 .left),
       passed _ _ (at-factory-is-valid .factory-is-valid .ensures) (else2 .if2 .left),
       passed _ _ (at-outbox-is-valid .outbox-is-valid .ensures) (else3 .if3 .left),
-      passed _ _ (at-settings-are-valid .settings-are-valid .ensures) (c .before .if4 .left),
+      passed _ _ (tested at-settings-are-valid) (c .before .if4 .left),
     ) (c .registers-are-valid .ensures)
 
 pub are-valid-spec : {M : Type 1} → statement M
 are-valid-spec =
     tie.close
     (tie.spec
-    (λ c κs. search needs) returns (λ c κs. search needs) returns-2 (λ c κs. search needs) returns-3 (λ c κs. search needs)
-    returns-4 (λ c κs. search needs) returns-5)
+    (λ c κs. search needs) returns (λ c κs. search needs) returns-2 (λ c κs. search needs) returns-3 (λ c. search needs)
+    (λ c. search needs) (λ c. search needs) (λ c κs. search needs) returns-4 (λ c κs. search needs) returns-5)

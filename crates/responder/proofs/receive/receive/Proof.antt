@@ -1,13 +1,16 @@
 -- `responder::receive::receive` meets its contract: an iteration for each frame, and the rest of the piece after it.
 -- Assumes nothing.
+use mathlib.Core.Path.{_≡_}
 use Prim.Native.Nat.{_-_}
 use native.Mathlib.Omega.{arith}
 use lib.ListN.{length}
 use borrow.Author.Needs.{needs}
+use denote.Ref.{now}
+use Rattle.line.proofs.Rest.{rest-mid}
 use Rattle.supervisor.specs.Calls.{parts}
 use Rattle.supervisor.proofs.Cases.{refused}
 use Rattle.supervisor.proofs.ValidLaws.{passed}
-use Rattle.responder.specs.Receive.{receiveReport, receivePromise}
+use Rattle.responder.specs.Receive.{validParts, receiveReport, receivePromise}
 use Rattle.responder.proofs.StepLaws.{Held, begun, over, valid-step-used, went}
 use Rattle.responder.proofs.receive.receive.Statement.{statement}
 use Rattle.responder.proofs.receive.receive.Tie as tie
@@ -26,12 +29,22 @@ in-loop-of c = c .before .before .before .before .before .before
 abbrev at-valid-step : tie.After-slice-known8 Inv-loop μ-loop → tie.After-valid-step Inv-loop μ-loop
 at-valid-step c = c .before .before .before .before .before .before .before .before
 
+abbrev start-of : tie.After-are-valid Inv-loop μ-loop → tie.Start Inv-loop μ-loop
+start-of c = c .before .before .before .before .before .before .before .before .before .before .before .before .before
+
+-- the factory store is handed on whole
+tested : (c : tie.After-are-valid Inv-loop μ-loop)
+    → let a = start-of c .args in
+    c .are-valid .result
+    ≡ validParts (parts (now (a .reader)) (now (a .outbox)) (now (a .factory)) (now (a .settings)) (now (a .registers)))
+tested c = rw (rest-mid (now (start-of c .args .factory)) 0) at (c .are-valid .ensures)
+
 returns : tie.Need-returns Inv-loop μ-loop
 unfolding receivePromise receiveReport
-returns c = rw (refused _ _ (c .before .are-valid .ensures) (c .if1 .taken))
+returns c = rw (refused _ _ (tested (c .before)) (c .if1 .taken))
 
 loop-holds : tie.Need-loop-holds Inv-loop μ-loop
-loop-holds c = begun _ _ _ (passed _ _ (c .before .are-valid .ensures) (c .if1 .left))
+loop-holds c = begun _ _ _ (passed _ _ (tested (c .before)) (c .if1 .left))
 
 valid-step-requires : tie.Need-valid-step-requires Inv-loop μ-loop
 valid-step-requires c κs =
@@ -44,7 +57,7 @@ add-at c =
     let in-loop = in-loop-of called in
     let u = valid-step-used (in-loop .before .loop .inv) (in-loop .loop-test .taken) (called .valid-step .ensures .0) in
     let at-are-valid = in-loop .before .before .before in
-    let start = at-are-valid .before .before .before .before .before .before .before .before .before .before .before .before in
+    let start = start-of at-are-valid in
     omega (arith, start .good .1 .0)
 
 loop-less : tie.Need-loop-less Inv-loop μ-loop
@@ -68,7 +81,8 @@ pub receive-spec : {M : Type 1} → statement M
 receive-spec =
     tie.close
     (tie.spec
-    Inv-loop μ-loop (λ c κs. search needs) (λ c. search needs) (λ c. search needs) (λ c. search needs) (λ c. search needs) returns
+    Inv-loop μ-loop (λ c. search needs) (λ c. search needs) (λ c. search needs) (λ c κs. search needs) (λ c. search needs)
+    (λ c. search needs) (λ c. search needs) (λ c. search needs) returns
     loop-holds
     (λ c. search needs) (λ c. search needs) (λ c. search needs) valid-step-requires add-at loop-less loop-again
     (λ c. search needs) (λ c. search needs) (λ c. search needs) (λ c. search needs) returns-2)

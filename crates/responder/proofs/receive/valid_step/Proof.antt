@@ -2,6 +2,7 @@
 -- Assumes nothing.
 use borrow.Author.Needs.{needs}
 use denote.Ref.{now}
+use Rattle.line.proofs.Rest.{rest-mid}
 use Rattle.supervisor.specs.Calls.{Parts, parts}
 use Rattle.supervisor.proofs.ValidLaws.{outbox-valid}
 use Rattle.responder.proofs.KeptLaws.{inner-valid}
@@ -11,7 +12,7 @@ use Rattle.responder.proofs.receive.valid_step.Tie as tie
 
 -- places of the walk, each from a later one
 abbrev start-of : tie.After-read → tie.Start
-start-of c = c .before .before .before .before .before .before .before .before .before
+start-of c = c .before .before .before .before .before .before .before .before .before .before
 
 lent : tie.Start → Parts
 lent c = let a = c .args in parts (now (a .reader)) (now (a .outbox)) (now (a .factory)) (now (a .settings)) (now (a .registers))
@@ -30,12 +31,14 @@ returns c =
     let settled = c .before .before .before .before .before .before .before .before in
     let at-read = settled .before .before .before .before .before .before .before in
     let start = start-of at-read in
-    valid-step-by (now (start .args .image)) (now (start .args .piece)) (lent start) (start .pre) (at-read .read .ensures)
+    valid-step-by (now (start .args .image)) (now (start .args .piece)) (lent start) (start .pre)
+    (rw (rest-mid (now (start .args .piece)) 0) at (at-read .read .ensures))
     (settled .answer-frame .ensures)
 
 pub valid-step-spec : {M : Type 1} → statement M
 valid-step-spec =
     tie.close
     (tie.spec
-    (λ c κs. search needs) answer-frame-requires (λ c. search needs) (λ c. search needs) (λ c. search needs) (λ c. search needs)
+    (λ c. search needs) (λ c. search needs) (λ c. search needs) (λ c κs. search needs) answer-frame-requires
+    (λ c. search needs) (λ c. search needs) (λ c. search needs) (λ c. search needs)
     returns)

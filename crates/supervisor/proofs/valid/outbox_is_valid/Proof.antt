@@ -13,4 +13,4 @@ outbox-is-valid-spec =
     (λ c. untrue _ (λ e. omega (arith, outbox-valid _ e))) (λ c κs. search needs) (λ c κs. search needs)
     (λ c. untrue _ (λ e. omega (arith, outbox-valid _ e))) (λ c. untrue _ (λ e. omega (arith, outbox-valid _ e)))
     (λ c κs. search needs)
-    (λ c. le-alike (c .byte-at .result) 1 _ (λ h. valid-outbox _ (search needs)) (λ e. omega (arith, outbox-valid _ e))))
+    (λ c. le-alike (c .byte .result) 1 _ (λ h. valid-outbox _ (search needs)) (λ e. omega (arith, outbox-valid _ e))))

@@ -11,4 +11,4 @@ record-is-valid-spec =
     tie.close
     (tie.spec
     (λ c κs. search needs) (λ c. untrue _ (λ e. omega (arith, record-valid _ _ _ e))) (λ c. search needs) (λ c κs. search needs)
-    (λ c. le-alike (c .word-at .result) _ _ (λ h. valid-record _ _ _ (search needs)) (λ e. omega (arith, record-valid _ _ _ e))))
+    (λ c. le-alike (c .word .result) _ _ (λ h. valid-record _ _ _ (search needs)) (λ e. omega (arith, record-valid _ _ _ e))))

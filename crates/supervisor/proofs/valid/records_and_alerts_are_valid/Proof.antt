@@ -24,12 +24,12 @@ records-and-alerts-are-valid-spec =
     failed _ _ (c .before .record-is-valid2 .ensures) (c .if3 .taken) (valid-record _ _ _ (records-and-alerts-valid _ e .panic))))
     (λ c κs. search needs)
     (λ c. untrue _ (λ e. omega (arith, records-and-alerts-valid _ e)))
-    (λ c κs. search needs)
+    (λ c. search needs) (λ c κs. search needs)
     (λ c.
-    let at-byte-at = c .before .before .before in
+    let at-byte = c .before .before .before in
     untrue _ (λ e.
     failed _ _ (c .before .alerts-are-valid .ensures) (c .if5 .taken)
-    (rw (at-byte-at .byte-at .ensures .0) (records-and-alerts-valid _ e .alerts))))
+    (rw (at-byte .byte .ensures .0) (records-and-alerts-valid _ e .alerts))))
     (λ c κs. search needs)
     (λ c. untrue _ (λ e. omega (arith, records-and-alerts-valid _ e)))
     (λ c κs. search needs)
@@ -44,7 +44,7 @@ records-and-alerts-are-valid-spec =
       boot-failure = record-valid _ _ _ (passed _ _ (second .before .record-is-valid .ensures) (second .if2 .left));
       panic = record-valid _ _ _ (passed _ _ (third .before .record-is-valid2 .ensures) (third .if3 .left));
       count = search needs;
-      alerts = rw (← fourth .before .byte-at .ensures .0) (passed _ _ (fifth .before .alerts-are-valid .ensures) (fifth .if5 .left));
+      alerts = rw (← fourth .before .byte .ensures .0) (passed _ _ (fifth .before .alerts-are-valid .ensures) (fifth .if5 .left));
       retained = search needs;
       text = text-valid _ _ (sym (c .text-is-valid .ensures) ∙ t);
     }))

@@ -12,7 +12,7 @@ options-fail : tie.Need-returns-3
 options-fail c =
     untrue _ (λ e.
     failed _ _ (c .before .options-are-allowed .ensures) (c .if3 .taken)
-    (rw (c .before .before .read-u642 .ensures) (registers-valid _ e .options)))
+    (rw (c .before .before .long2 .ensures) (registers-valid _ e .options)))
 
 pub registers-are-valid-spec : {M : Type 1} → statement M
 registers-are-valid-spec =
@@ -29,7 +29,7 @@ registers-are-valid-spec =
     (λ t. valid-registers _ (record {
       long = search needs;
       status = search needs;
-      options = rw (at .before .before .read-u642 .ensures) at (passed _ _ (at .before .options-are-allowed .ensures) (at .if3 .left));
+      options = rw (at .before .before .long2 .ensures) at (passed _ _ (at .before .options-are-allowed .ensures) (at .if3 .left));
       reboot = search needs;
       power-off = search needs;
       rest = records-and-alerts-valid _ (sym (c .records-and-alerts-are-valid .ensures) ∙ t);

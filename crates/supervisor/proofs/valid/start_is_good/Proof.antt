@@ -26,6 +26,6 @@ start-is-good-spec =
       bsu = ⊎-elim (λ w. inr (omega arith)) (λ w. inl (omega arith)) (joined1 .if1 .came);
       image = search needs;
       count = search needs;
-      items = rw (← counted .read-u32 .ensures, ← c .items-are-good .ensures) t;
+      items = rw (← counted .quad .ensures, ← c .items-are-good .ensures) t;
     }))
-    (λ e. rw (c .items-are-good .ensures, counted .read-u32 .ensures) (start-good _ e .items))))
+    (λ e. rw (c .items-are-good .ensures, counted .quad .ensures) (start-good _ e .items))))

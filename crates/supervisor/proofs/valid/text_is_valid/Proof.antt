@@ -11,4 +11,4 @@ text-is-valid-spec =
     tie.close
     (tie.spec
     (λ c κs. search needs)
-    (λ c. le-alike (c .word-at .result) _ _ (λ h. valid-text _ _ (omega arith)) (λ e. omega (arith, text-valid _ _ e))))
+    (λ c. le-alike (c .word .result) _ _ (λ h. valid-text _ _ (omega arith)) (λ e. omega (arith, text-valid _ _ e))))
