@@ -35,8 +35,9 @@
  * started supervisor: the calls that are lent the factory store (receive, step, receive_counted,
  * step_counted, lookup, edition) answer 12; the others find nothing pending, no signal, no flag, no
  * record and no setting, and an alert, options or settings given then are lost at the start. A
- * reader and a requester that are all 0 are as after their start. Parts of other contents answer
- * 12, or by whatever their bytes mean.
+ * reader and a requester that are all 0 are as after their start: a struct of zeros takes an
+ * oatcastle_collect where an oatcastle_receive answers 12. Parts of other contents answer 12, or by
+ * whatever their bytes mean.
  * @par Threads
  * Calls that are lent a common part are made one at a time. Calls with no part in common may run at
  * once. An interrupt counts as a thread.
@@ -553,6 +554,23 @@ uint32_t oatcastle_receive(const uint8_t *image, oatcastle_length image_length,
                            const uint8_t *factory, oatcastle_length factory_length,
                            uint8_t *settings, oatcastle_length settings_length,
                            uint8_t *registers, oatcastle_length registers_length);
+
+/** What oatcastle_collect answers. */
+typedef struct oatcastle_collect_answer {
+    uint64_t taken;     /**< how many bytes of the piece were taken: all those ahead of its first
+                             00; hand the rest to oatcastle_receive */
+} oatcastle_collect_answer;
+typedef char oatcastle_collect_answer_has_1_number[sizeof(oatcastle_collect_answer) == 8 ? 1 : -1];
+
+/** Takes the piece's bytes ahead of its first 00 into the reader's part, which is all that it looks
+ * at. Receiving the rest of the piece then is receiving the whole piece, and where the piece has no
+ * 00 nothing is left to receive.
+ * A UART's driver collects what comes, in pieces of any length, down to single bytes. At a 00 it
+ * calls oatcastle_receive, oatcastle_step or their counted forms with the rest of the piece.
+ * @return 0; 12: of the reader's part alone. */
+uint32_t oatcastle_collect(uint8_t *reader, oatcastle_length reader_length,
+                           const uint8_t *piece, oatcastle_length piece_length,
+                           oatcastle_collect_answer *answer);
 
 /** What oatcastle_step and oatcastle_step_counted answer. */
 typedef struct oatcastle_step_answer {

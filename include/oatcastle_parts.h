@@ -238,6 +238,15 @@ static inline uint32_t oatcastle_supervisor_panic_record(
                                   oatcastle_some_room(room, room_length), room_length, answer);
 }
 
+/** oatcastle_collect on these parts. */
+static inline uint32_t oatcastle_supervisor_collect(
+    oatcastle_supervisor *parts, const uint8_t *piece, oatcastle_length piece_length,
+    oatcastle_collect_answer *answer)
+{
+    return oatcastle_collect(parts->reader, sizeof parts->reader,
+                             oatcastle_some(piece, piece_length), piece_length, answer);
+}
+
 /** The main processor's end: its lent parts, which the caller owns and only these calls write. */
 typedef struct oatcastle_main_end {
     uint8_t reader[OATCASTLE_READER_LENGTH];
@@ -337,6 +346,15 @@ static inline uint32_t oatcastle_line_reader_tail(const oatcastle_line_reader *p
                                                   oatcastle_line_tail_answer *answer)
 {
     return oatcastle_line_tail(parts->reader, sizeof parts->reader, answer);
+}
+
+/** oatcastle_collect on these parts. */
+static inline uint32_t oatcastle_line_reader_collect(
+    oatcastle_line_reader *parts, const uint8_t *piece, oatcastle_length piece_length,
+    oatcastle_collect_answer *answer)
+{
+    return oatcastle_collect(parts->reader, sizeof parts->reader,
+                             oatcastle_some(piece, piece_length), piece_length, answer);
 }
 
 #ifdef __cplusplus

@@ -19,8 +19,12 @@ STRUCTS = {'supervisor': ('reader', 'outbox', 'factory', 'settings', 'registers'
 WORDS = {'supervisor': 'The supervisor', 'main_end': "The main processor's end", 'line_reader': 'A line reader alone'}
 # A parameter that is a part under another name.
 PARTS = {'state': 'reader'}
-# The line layer's call that the main processor's end has too, with the words for it.
-SHARED = {'line_data': 'oatcastle_line_data on these parts: the data of the message that oatcastle_main_end_receive handed out last.'}
+# The calls on a reader alone that another struct has too, with the words for it.
+SHARED = {
+    'supervisor': {'collect': 'oatcastle_collect on these parts.'},
+    'main_end': {'line_data':
+                 'oatcastle_line_data on these parts: the data of the message that oatcastle_main_end_receive handed out last.'},
+}
 
 TOP = '''/**
  * @file oatcastle_parts.h
@@ -161,7 +165,7 @@ def helper(name, parameters, struct):
     taken, passed = passed_on(parameters, struct)
     taken.insert(0, f'{"const " if only_read else ""}oatcastle_{struct} *parts')
     short = re.sub('^(requester|line)_', '', name)
-    words = SHARED[name] if struct == 'main_end' and name in SHARED else f'oatcastle_{name} on these parts.'
+    words = SHARED.get(struct, {}).get(name, f'oatcastle_{name} on these parts.')
     return ('\n' + comment(words) + filled(f'static inline uint32_t oatcastle_{struct}_{short}(', taken, ')')
             + '\n{\n' + filled(f'    return oatcastle_{name}(', passed, ');') + '\n}\n')
 
@@ -174,7 +178,7 @@ def made():
         fields = ''.join(f'    uint8_t {part}[OATCASTLE_{part.upper()}_LENGTH];\n' for part in own)
         out += f'typedef struct oatcastle_{struct} {{\n{fields}}} oatcastle_{struct};\n'
         calls = [call for call in listed if owner(call[1]) == struct]
-        calls += [call for call in listed if struct == 'main_end' and call[0] in SHARED]
+        calls += [call for call in listed if call[0] in SHARED.get(struct, {})]
         out += ''.join(helper(*call, struct) for call in calls)
     return out + END
 

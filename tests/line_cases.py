@@ -12,7 +12,8 @@ Commands, one a line; HEX is pairs of hex digits with no space, COUNT and the li
 * HEX COUNT   adds one byte to the piece so often
 k          prints the piece's checksum, and empties it
 r          reads the piece by calls until it is used up, and empties it; c COUNT: its first COUNT bytes, then the rest; b: byte by byte
-l COUNT    reads the piece by one call that is lent COUNT bytes of the state; the piece stays
+a          collects the piece's bytes ahead of its first 00 and prints how many, reads the rest as r does, and empties it
+l COUNT    reads the piece by one call that is lent COUNT bytes of the state; the piece stays;  e COUNT: collects it so
 s COUNT    calls start with COUNT bytes of the state
 i COUNT    stores COUNT as the state's first two bytes
 t          prints the unfinished tail;  u COUNT: asked with COUNT bytes of the state
@@ -173,6 +174,14 @@ class Case:
         self.piece = b''
         return self
 
+    def collect(self):
+        """What stands ahead of the first 00 is told and joins the tail; then comes the rest."""
+        self.commands.append('a')
+        self.say(f"took {len(self.piece.partition(bytes(1))[0])}")
+        self.feed(self.piece)
+        self.piece = b''
+        return self
+
     def checksum(self):
         self.commands.append('k')
         self.say(f'{fletcher(self.piece):04x}')
@@ -292,6 +301,40 @@ def run_cases():
             yield Case(f'written data of {n} bytes, {kind}').add(data).write(1, 9, 0x0d, 20, 4199).back()
 
 
+def collect_cases():
+    """Pieces with and without a 00, around the longest that is taken byte by byte and around the longest form; refusals."""
+    yield Case('collected, no bytes').collect().unfinished()
+    yield Case('collected, a 00 first').add(b'\0' + L12).collect()
+    yield Case('collected, L12').add(L12).collect().unfinished()
+    yield Case('collected, L12 without its 00').add(L12[:-1]).collect().unfinished().add(b'\0').collect()
+    yield Case('collected, two frames').add(L12 + L12).collect()
+    for cut in range(1, len(L12)):
+        yield Case(f'collected, L12 cut at {cut}').add(L12[:cut]).collect().unfinished().add(L12[cut:]).collect()
+    c = Case('collected, L12 byte by byte')
+    for b in L12:
+        c.add([b]).collect()
+    yield c
+    for n in (1, 7, 8, 31, 32, 33, 63, 64, 65, 66, 255):
+        yield Case(f'collected, {n} bytes').add(nonzero(n)).collect().unfinished().add(nonzero(n) + b'\0' + L12).collect().unfinished()
+        yield Case(f'collected, a 00 as byte {n}').add(nonzero(n - 1) + b'\0' + nonzero(70)).collect().unfinished()
+    for have in (4075, 4076, 4077, 4138, 4139, 4140, 4141):
+        for n in (1, 2, 3, 64, 65):
+            c = Case(f'collected, {n} bytes behind {have}').add(b'\1' * have).collect().unfinished().add(b'\1' * n).collect()
+            yield c.unfinished().add(b'\0' + L12).collect()
+    # the bytes past the longest form are taken, and kept nowhere
+    kept = digest((4141).to_bytes(2, 'little') + b'\1' * 4140)
+    yield Case('collected, 4,150 bytes').add(b'\1' * 4150).collect().tell('g', f'{kept}').unfinished()
+    fresh = digest(b'\0' * 4142)
+    c = Case('collect with too little state').add(L12)
+    for lent in (0, 1, 2, 4141):
+        c.tell(f'e {lent}', 'refused 12')
+    yield c.tell('g', f'{fresh}').tell('e 4142', 'took 20')
+    for count in (4141, 4142, 65535):
+        stored = digest(count.to_bytes(2, 'little') + b'\0' * 4140)
+        c = Case(f'collect with a stored count {count}').tell(f'i {count}').add(b'\1\1\0')
+        yield c.tell('e 4142', 'took 2' if count == 4141 else 'refused 12').tell('g', f'{stored}')
+
+
 def cases():
     for name, text in (('L1', b'abcde'), ('L2', b'abcdef'), ('L3', b'abcdefgh'), ('L4', b''), ('L5 00', b'\0'), ('L5 ff', b'\xff')):
         yield Case(name).add(text).checksum()
@@ -373,6 +416,7 @@ def cases():
         for room in (size - 1, size, size + 1):
             yield Case(f'room of {room} bytes for a frame of {size}').add(nonzero(n)).write(2, 3, 4, 0, room).back()
     yield from run_cases()
+    yield from collect_cases()
     yield Case('no room').write(1, 1, 8, 0, 0)
     yield Case('4105 bytes and no room').add(nonzero(4105)).write(1, 1, 8, 0, 0)
     # a start leaves zeros in the published length; refusals leave the state as it was

@@ -93,16 +93,23 @@ static void act(const oatcastle_step_answer *done)
         radio_set(supervisor.settings + OATCASTLE_PASSPHRASE_VALUE, length[0] + 256u * length[1]);
 }
 
-/* Hands the library what has come, a piece at most, frame by frame: what a frame's reply has room for goes to to_wire before the next frame is read. */
+/* Hands the library what has come, a piece at most, frame by frame: collects what stands ahead of a 00, and steps at the 00. What a frame's reply has room for goes to
+ * to_wire before the next frame is read. */
 static uint32_t receive(void)
 {
+    oatcastle_collect_answer ahead = {0};
     oatcastle_step_answer done = {0};
-    uint32_t n = 0, no = OATCASTLE_DONE;
+    uint32_t n = 0, at = 0, no = OATCASTLE_DONE;
 
     while (n < sizeof piece.bytes && filled(&from_wire) > 0)
         piece.bytes[n++] = get(&from_wire);
-    for (uint32_t at = 0; no == OATCASTLE_DONE && at < n; at += (uint32_t)done.used) {
+    while (no == OATCASTLE_DONE && at < n) {
+        no = oatcastle_supervisor_collect(&supervisor, piece.bytes + at, n - at, &ahead);
+        at += (uint32_t)ahead.taken;
+        if (no != OATCASTLE_DONE || at == n)
+            break;
         no = oatcastle_supervisor_step(&supervisor, 0, 0, piece.bytes + at, n - at, &done);
+        at += (uint32_t)done.used;
         if (no == OATCASTLE_DONE) {
             act(&done);
             no = send();

@@ -1,4 +1,4 @@
-/* Holds the headers' sentences about memory and answers to the library: parts before their first start, NULL with length 0, a further start, what a refused call leaves,
+/* Holds the headers' sentences about memory and answers to the library: parts before their first start, NULL with length 0, a further start, collecting, what a refused call leaves,
  * what a step tells, where the passphrase lies, and what is outstanding. Assumes the static library. Ends with 1 at the first sentence that does not hold. */
 #include <stdio.h>
 #include <stdlib.h>
@@ -24,6 +24,7 @@ static const uint8_t l12[] = {
     0x06, 0xcc, 0x19, 0xde, 0x01, 0x01, 0x01, 0x01, 0x02, 0x01, 0x01, 0x01, 0x01, 0x01, 0x01, 0x01, 0x04, 0x08, 0xcf, 0x66, 0x00,
 };
 
+static oatcastle_collect_answer collected;
 static oatcastle_step_answer stepped;
 static oatcastle_take_answer taken;
 static oatcastle_lookup_answer found;
@@ -70,6 +71,8 @@ static void before_the_first_start(void)
     HOLDS(oatcastle_supervisor_panic_record(&supervisor, NULL, 0, &record) == OATCASTLE_DONE && record.present == 0);
     HOLDS(oatcastle_supervisor_save(&supervisor, room, sizeof room, &saved) == OATCASTLE_DONE && saved.length == 2 && memcmp(room, "KE", 2) == 0);
     HOLDS(memcmp(&supervisor, &zeros, sizeof zeros) == 0);
+    HOLDS(oatcastle_supervisor_collect(&supervisor, l12, sizeof l12, &collected) == OATCASTLE_DONE && collected.taken == sizeof l12 - 1);
+    HOLDS(oatcastle_supervisor_receive(&supervisor, NULL, 0, l12 + collected.taken, 1) == OATCASTLE_BAD_STATE);
 }
 
 /* A start forgets what was given before it. */
@@ -108,6 +111,34 @@ static void further_start(void)
     HOLDS(oatcastle_supervisor_start(&supervisor, start_data) == OATCASTLE_DONE);
     HOLDS(oatcastle_supervisor_receive(&supervisor, NULL, 0, l12, sizeof l12) == OATCASTLE_DONE);
     HOLDS(oatcastle_supervisor_take(&supervisor, room, sizeof room, &taken) == OATCASTLE_DONE && taken.moved == 37 && room[0] != 0);
+}
+
+/* Collecting and then receiving the rest of a piece is receiving the piece, in one piece or in single bytes; a collect looks at the reader's part alone. */
+static void collecting(void)
+{
+    static const uint8_t pieces[][3] = {{7, 8, 9}, {0, 7, 8}, {7, 0, 0}, {0, 0, 7}, {7, 8, 0}};
+    oatcastle_supervisor whole = supervisor, parted = supervisor, singly = supervisor, others = supervisor;
+    oatcastle_counters of_whole = none_counted, of_parted = none_counted;
+    uint64_t at = 0;
+
+    for (size_t i = 0; i < sizeof pieces / sizeof *pieces; i++) {
+        HOLDS(oatcastle_supervisor_receive_counted(&whole, &of_whole, NULL, 0, pieces[i], 3) == OATCASTLE_DONE);
+        HOLDS(oatcastle_supervisor_collect(&parted, pieces[i], 3, &collected) == OATCASTLE_DONE);
+        HOLDS(collected.taken == 3 || pieces[i][collected.taken] == 0);
+        HOLDS(oatcastle_supervisor_receive_counted(&parted, &of_parted, NULL, 0, pieces[i] + collected.taken, 3 - collected.taken) == OATCASTLE_DONE);
+        HOLDS(memcmp(&whole, &parted, sizeof whole) == 0 && memcmp(&of_whole, &of_parted, sizeof of_whole) == 0);
+    }
+    HOLDS(oatcastle_supervisor_receive(&supervisor, NULL, 0, l12, sizeof l12) == OATCASTLE_DONE);
+    memset(others.outbox, 0xff, sizeof others - sizeof others.reader);
+    while (oatcastle_supervisor_collect(&singly, l12 + at, 1, &collected) == OATCASTLE_DONE && collected.taken == 1) {
+        HOLDS(oatcastle_supervisor_collect(&others, l12 + at, 1, &collected) == OATCASTLE_DONE && collected.taken == 1);
+        at++;
+    }
+    HOLDS(at == sizeof l12 - 1 && collected.taken == 0 && memcmp(others.reader, singly.reader, sizeof others.reader) == 0);
+    HOLDS(oatcastle_supervisor_receive(&singly, NULL, 0, l12 + at, 1) == OATCASTLE_DONE && memcmp(&singly, &supervisor, sizeof singly) == 0);
+    HOLDS(oatcastle_supervisor_collect(&singly, NULL, 0, &collected) == OATCASTLE_DONE && collected.taken == 0);
+    REFUSED(OATCASTLE_BAD_STATE, collected, oatcastle_collect(supervisor.reader, OATCASTLE_READER_LENGTH - 1, l12, 1, &collected));
+    HOLDS(oatcastle_supervisor_take(&supervisor, room, sizeof room, &taken) == OATCASTLE_DONE);
 }
 
 /* NULL with length 0 is an empty run of the inline functions; 8 is for a room alone, and leaves the answer. */
@@ -239,6 +270,7 @@ int main(void)
     the_first_start();
     zeros_are_started();
     further_start();
+    collecting();
     null_with_length_0();
     a_restore();
     a_step_tells();

@@ -141,6 +141,18 @@ static void receipts(const char *const what[4], uint32_t n)
     COUNT(what[3], oatcastle_supervisor_step_counted(&supervisor, &counters, image, sizeof image, piece, n, &read));
 }
 
+/* Pieces without a 00: one byte, 16 and 64. */
+static void collect_calls(void)
+{
+    static oatcastle_collect_answer collected;
+
+    for (uint32_t i = 0; i < 64; i++)
+        piece[i] = (uint8_t)(i + 1);
+    COUNT("oatcastle_collect, a byte", oatcastle_supervisor_collect(&supervisor, piece, 1, &collected));
+    COUNT("oatcastle_collect, 16 bytes", oatcastle_supervisor_collect(&supervisor, piece, 16, &collected));
+    COUNT("oatcastle_collect, 64 bytes", oatcastle_supervisor_collect(&supervisor, piece, 64, &collected));
+}
+
 static void receive_calls(void)
 {
     static const char *const byte[] = {"oatcastle_receive, a byte", "oatcastle_step, a byte", "oatcastle_receive_counted, a byte", "oatcastle_step_counted, a byte"};
@@ -156,6 +168,8 @@ static void receive_calls(void)
 
     COUNT("oatcastle_start", oatcastle_supervisor_start(&supervisor, start_data));
     COUNT("oatcastle_clear_counters", oatcastle_clear_counters(&counters));
+    collect_calls();
+    refused |= oatcastle_supervisor_start(&supervisor, start_data);
     frame(1, OATCASTLE_COMMAND_STATUS, 0);
     receipts(byte, 1);
     refused |= oatcastle_supervisor_start(&supervisor, start_data);

@@ -2,7 +2,7 @@
 // Assumes the parts of docs/STATE.md and the answers of bindings/rust/src/raw.rs, each a C struct of u64 fields alone.
 
 use crate::library::{
-    EditionAnswer, FlagsAnswer, LineReadAnswer, LineTailAnswer, LineWriteAnswer, LookupAnswer, RecordAnswer, RestoreAnswer, SaveAnswer, SignalAnswer,
+    CollectAnswer, EditionAnswer, FlagsAnswer, LineReadAnswer, LineTailAnswer, LineWriteAnswer, LookupAnswer, RecordAnswer, RestoreAnswer, SaveAnswer, SignalAnswer,
     StepAnswer, TakeAnswer,
 };
 use crate::model::Told;
@@ -22,6 +22,7 @@ pub struct Image {
 pub enum Call {
     LineStart { part: usize },
     LineRead { part: usize, piece: Vec<u8> },
+    Collect { part: usize, piece: Vec<u8> },
     LineData { part: usize, length: u64 },
     LineTail { part: usize },
     LineWrite { version: u32, sequence: u64, command: u8, head: Vec<u8>, rest: Vec<u8> },
@@ -46,9 +47,9 @@ pub enum Call {
 impl Call {
     pub fn parts(&self) -> &'static [usize] {
         match self {
-            Call::LineStart { part: LINE } | Call::LineRead { part: LINE, .. } => &[LINE],
+            Call::LineStart { part: LINE } | Call::LineRead { part: LINE, .. } | Call::Collect { part: LINE, .. } => &[LINE],
             Call::LineData { part: LINE, .. } | Call::LineTail { part: LINE } => &[LINE],
-            Call::LineStart { .. } | Call::LineRead { .. } | Call::LineData { .. } | Call::LineTail { .. } => &[READER],
+            Call::LineStart { .. } | Call::LineRead { .. } | Call::LineData { .. } | Call::LineTail { .. } | Call::Collect { .. } => &[READER],
             Call::LineWrite { .. } | Call::Addresses { .. } | Call::PlanFits { .. } => &[],
             Call::Start { .. } | Call::Receive { .. } | Call::Step { .. } => &[READER, OUTBOX, FACTORY, SETTINGS, REGISTERS],
             Call::Take => &[OUTBOX],
@@ -66,6 +67,7 @@ impl Call {
     pub fn answers(&self) -> usize {
         match self {
             Call::LineRead { .. } => fields::<LineReadAnswer>(),
+            Call::Collect { .. } => fields::<CollectAnswer>(),
             Call::LineTail { .. } => fields::<LineTailAnswer>(),
             Call::LineWrite { .. } => fields::<LineWriteAnswer>(),
             Call::Step { .. } => fields::<StepAnswer>(),
@@ -83,13 +85,14 @@ impl Call {
 
     /// The wire that the call's piece comes from: the line state's (0) or the supervisor's (1).
     pub fn wire(&self) -> usize {
-        usize::from(!matches!(self, Call::LineRead { part: LINE, .. }))
+        usize::from(!matches!(self, Call::LineRead { part: LINE, .. } | Call::Collect { part: LINE, .. }))
     }
 
     /// How many bytes of its piece the call has read, if it was carried out and answered these numbers.
     pub fn used(&self, answer: &[u64]) -> usize {
         match self {
             Call::LineRead { .. } => answered::<LineReadAnswer>(answer).used as usize,
+            Call::Collect { .. } => answered::<CollectAnswer>(answer).taken as usize,
             Call::Step { .. } => answered::<StepAnswer>(answer).used as usize,
             Call::Receive { piece, .. } => piece.len(),
             _ => 0,
@@ -103,6 +106,7 @@ impl fmt::Display for Call {
         match self {
             Call::LineStart { part } => write!(out, "oatcastle_line_start({})", NAMES[*part]),
             Call::LineRead { part, piece } => write!(out, "oatcastle_line_read({}, piece {})", NAMES[*part], hex(piece)),
+            Call::Collect { part, piece } => write!(out, "oatcastle_collect({}, piece {})", NAMES[*part], hex(piece)),
             Call::LineData { part, length } => write!(out, "oatcastle_line_data({}, {length})", NAMES[*part]),
             Call::LineTail { part } => write!(out, "oatcastle_line_tail({})", NAMES[*part]),
             Call::LineWrite { version, sequence, command, head, rest } => {

@@ -11,7 +11,7 @@ use crate::traffic;
 use crate::world::{World, TAIL};
 
 /// Kinds of calls other than the two that start.
-const KINDS: usize = 19;
+const KINDS: usize = 20;
 
 impl World {
     fn image(&mut self) -> Image {
@@ -53,7 +53,11 @@ impl World {
     fn feed(&mut self) -> Result<(), String> {
         let image = self.image();
         let piece = self.piece(1, image.length);
-        let call = if self.random.percent(50) { Call::Step { image, piece } } else { Call::Receive { image, piece } };
+        let call = match self.random.below(6) {
+            0 => Call::Collect { part: READER, piece },
+            1 | 2 => Call::Step { image, piece },
+            _ => Call::Receive { image, piece },
+        };
         let lent = self.lend(&call);
         let outcome = self.call(&call, &lent)?;
         if outcome.code == 0 {
@@ -65,7 +69,7 @@ impl World {
     fn read(&mut self) -> Result<(), String> {
         let part = if self.random.percent(90) { LINE } else { READER };
         let piece = self.piece(part, 0);
-        let call = Call::LineRead { part, piece };
+        let call = if self.random.percent(25) { Call::Collect { part, piece } } else { Call::LineRead { part, piece } };
         let lent = self.lend(&call);
         let outcome = self.call(&call, &lent)?;
         if outcome.code == 0 {
@@ -138,7 +142,11 @@ impl World {
             15 => Call::PlanFits { plan: Plan::random(random) },
             16 => Call::Save,
             17 => Call::Restore { image: images::random_image(random, &self.supervisor.settings) },
-            _ => Call::Edition { key: if random.percent(90) { random.below(8) as u8 } else { random.byte() } },
+            18 => Call::Edition { key: if random.percent(90) { random.below(8) as u8 } else { random.byte() } },
+            _ => {
+                let piece = self.piece(target, 0);
+                Call::Collect { part: target, piece }
+            }
         }
     }
 

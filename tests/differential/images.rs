@@ -125,12 +125,12 @@ fn value(random: &mut Random, key: u8) -> Vec<u8> {
     random.bytes(length)
 }
 
-/// Records of rising keys, some left out; at times of any keys.
+/// Records of rising keys, some left out; at times of one key twice, or of any keys.
 fn made(random: &mut Random) -> Vec<u8> {
-    let keys: Vec<u8> = if random.percent(70) {
-        (FIRST_KEY..=LAST_KEY).filter(|_| random.percent(60)).collect()
-    } else {
-        (0..random.below(5)).map(|_| random.pick(&[2, 3, 3, 4, 4, 5, 5, 6, 6, 7, 255])).collect()
+    let keys: Vec<u8> = match random.below(10) {
+        0 => vec![FIRST_KEY + random.below(3) as u8; 2],
+        1 | 2 => (0..random.below(5)).map(|_| random.pick(&[2, 3, 3, 4, 4, 5, 5, 6, 6, 7, 255])).collect(),
+        _ => (FIRST_KEY..=LAST_KEY).filter(|_| random.percent(60)).collect(),
     };
     let mut image = Vec::new();
     for key in keys {

@@ -94,6 +94,10 @@ faults! {
     WipeKey5: "the reader's part is wiped behind a set of key 5 too",
     WipeLookup: "the reader's part is wiped behind a lookup of key 6 too",
     WipeLineRead: "a line read wipes behind a set of key 6",
+    CollectTakes00: "a collect takes the 00 too",
+    CollectOneShort: "a collect leaves the last byte ahead of a 00",
+    CollectSaysPiece: "a collect says the whole piece's length",
+    CollectSaysKept: "a collect says the bytes kept alone, not those past the longest form",
     WipeMain: "the main processor's end wipes its reader's part behind an answer",
     PassphraseRest: "a set of key 6 leaves the rest of a longer value before it",
     OtherRest: "a set of any key clears the rest of a longer value before it",
@@ -370,6 +374,22 @@ impl Reader {
     /// How many bytes of the frame are held.
     pub fn reach(&self) -> usize {
         if self.long { LONGEST_FORM } else { LONGEST_FORM.min(self.bytes.len()) }
+    }
+
+    /// Takes the bytes ahead of the piece's first 00; gives how many.
+    pub fn collect(&mut self, piece: &[u8]) -> usize {
+        let mut taken = piece.iter().take_while(|&&byte| byte != 0).count();
+        if taken < piece.len() {
+            taken += usize::from(broken(Fault::CollectTakes00));
+            taken -= usize::from(taken > 0 && broken(Fault::CollectOneShort));
+        }
+        let room = LONGEST_FORM - self.reach();
+        self.read(&piece[..taken]);
+        match () {
+            () if broken(Fault::CollectSaysPiece) => piece.len(),
+            () if broken(Fault::CollectSaysKept) => taken.min(room),
+            () => taken,
+        }
     }
 
     /// Reads up to the piece's end or its first 00; gives how many bytes were read.

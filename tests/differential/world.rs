@@ -256,6 +256,14 @@ impl World {
                 });
                 outcome.changed[*part] = !piece.is_empty();
             }
+            Call::Collect { part, piece } => {
+                let held = self.line_reader(*part).reach();
+                let taken = self.line_reader(*part).collect(piece);
+                self.handed[*part] = None;
+                outcome.exact.push(self.past_frames(*part, model::reach(held, piece, taken), None));
+                outcome.answer = numbers(CollectAnswer { taken: taken as u64 });
+                outcome.changed[*part] = taken > 0;
+            }
             Call::LineData { part, length } => {
                 if *length > LONGEST_DATA as u64 {
                     return refused(9);
@@ -494,6 +502,10 @@ impl World {
                     let (state, n) = either(*part);
                     oatcastle_line_read(state, n, piece.as_ptr(), piece.len(), answer.cast())
                 }
+                Call::Collect { part, piece } => {
+                    let (state, n) = either(*part);
+                    oatcastle_collect(state, n, piece.as_ptr(), piece.len(), answer.cast())
+                }
                 Call::LineData { part, length } => {
                     let (state, n) = either(*part);
                     oatcastle_line_data(state, n, *length, room, room_n)
@@ -657,6 +669,7 @@ impl World {
     fn inputs(&mut self, call: &Call, given: &Call) -> Result<(), String> {
         match (call, given) {
             (Call::LineRead { piece: a, .. }, Call::LineRead { piece: b, .. })
+            | (Call::Collect { piece: a, .. }, Call::Collect { piece: b, .. })
             | (Call::Restore { image: a }, Call::Restore { image: b })
             | (Call::Post { text: a, .. }, Call::Post { text: b, .. }) => self.same("what was lent for reading", a, b),
             (Call::Receive { image, piece: a }, Call::Receive { piece: b, .. })

@@ -80,6 +80,13 @@ const _: () = assert!(size_of::<LineChecksumAnswer>() == 8);
 
 #[derive(Clone, Copy, Debug, Default, PartialEq, Eq)]
 #[repr(C)]
+pub struct CollectAnswer {
+    pub taken: u64,
+}
+const _: () = assert!(size_of::<CollectAnswer>() == 8);
+
+#[derive(Clone, Copy, Debug, Default, PartialEq, Eq)]
+#[repr(C)]
 pub struct StepAnswer {
     pub used: u64,
     pub kind: u64,
@@ -236,6 +243,9 @@ extern "C" {
         image: *const u8, image_length: Length, piece: *const u8, piece_length: Length, reader: *mut u8, reader_length: Length,
         outbox: *mut u8, outbox_length: Length, factory: *const u8, factory_length: Length, settings: *mut u8, settings_length: Length,
         registers: *mut u8, registers_length: Length,
+    ) -> u32;
+    pub(crate) fn oatcastle_collect(
+        reader: *mut u8, reader_length: Length, piece: *const u8, piece_length: Length, answer: *mut CollectAnswer,
     ) -> u32;
     pub(crate) fn oatcastle_step(
         image: *const u8, image_length: Length, piece: *const u8, piece_length: Length, reader: *mut u8, reader_length: Length,

@@ -104,11 +104,15 @@ impl Supervisor<'_> {
                 length => &room[..length],
             };
             while !piece.is_empty() {
-                let step = step(self, piece);
-                piece = &piece[step.used..];
+                piece = self.collect(piece);
+                let mut end = StepEnd::More;
+                if !piece.is_empty() {
+                    let step = step(self, piece);
+                    (piece, end) = (&piece[step.used..], step.end);
+                }
                 self.write_pending(uart)?;
-                if step.end != StepEnd::More {
-                    each(self, step.end);
+                if end != StepEnd::More {
+                    each(self, end);
                 }
             }
         }

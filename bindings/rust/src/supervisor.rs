@@ -349,8 +349,22 @@ impl<'s> Supervisor<'s> {
         });
     }
 
+    /// Takes the piece's bytes ahead of its first 00 and gives what is left of it. Receiving that then is receiving the whole piece
+    /// (`collect-then-receive` of `crates/supervisor_claims`), and nothing is to be received where nothing is left.
+    pub(crate) fn collect<'p>(&mut self, piece: &'p [u8]) -> &'p [u8] {
+        let mut answer = raw::CollectAnswer::default();
+        let (reader, from) = (lent_mut(&mut self.storage.reader), lent(piece));
+        // SAFETY: each pointer is valid for the length behind it, and what is written overlaps nothing else.
+        done(unsafe { raw::oatcastle_collect(reader.0, reader.1, from.0, from.1, &mut answer) });
+        piece.get(answer.taken as usize..).unwrap_or_else(|| ruled_out())
+    }
+
     /// Receives the whole piece. A block that a frame asks for comes from the image lent with the call that brings the frame's 00.
     pub fn receive(&mut self, image: &[u8], piece: &[u8]) {
+        let piece = self.collect(piece);
+        if piece.is_empty() {
+            return;
+        }
         let (image, piece) = (lent(image), lent(piece));
         let Parts { reader, outbox, factory, settings, registers } = self.storage.parts();
         // SAFETY: each pointer is valid for the length behind it, and what is written overlaps nothing else.
@@ -376,6 +390,10 @@ impl<'s> Supervisor<'s> {
 
     /// Receives the whole piece, and counts every frame whose 00 it brings in the block. Frames that calls without a block read are not counted.
     pub fn receive_counted(&mut self, counters: &mut Counters, image: &[u8], piece: &[u8]) {
+        let piece = self.collect(piece);
+        if piece.is_empty() {
+            return;
+        }
         let (image, piece) = (lent(image), lent(piece));
         let Parts { reader, outbox, factory, settings, registers } = self.storage.parts();
         // SAFETY: the block is one; each other pointer is valid for the length behind it, and what is written overlaps nothing else.

@@ -47,6 +47,7 @@ library! {
     oatcastle_line_checksum(Pointer, usize) answers 1;
     oatcastle_start(Pointer, Pointer, usize, Pointer, usize, Pointer, usize, Pointer, usize, Pointer, usize);
     oatcastle_receive(Pointer, usize, Pointer, usize, Pointer, usize, Pointer, usize, Pointer, usize, Pointer, usize, Pointer, usize);
+    oatcastle_collect(Pointer, usize, Pointer, usize) answers 1;
     oatcastle_step(Pointer, usize, Pointer, usize, Pointer, usize, Pointer, usize, Pointer, usize, Pointer, usize, Pointer, usize) answers 6;
     oatcastle_clear_counters(Pointer);
     oatcastle_receive_counted(Pointer, Pointer, usize, Pointer, usize, Pointer, usize, Pointer, usize, Pointer, usize, Pointer, usize, Pointer, usize);
@@ -159,7 +160,7 @@ fn numbers() {
 
 #[test]
 fn answers() {
-    let lengths = ["write_frame", "take", "save", "request", "send", "rot::write"];
+    let lengths = ["write_frame", "receive", "receive_counted", "take", "save", "request", "send", "rot::write"];
     let kinds =
         ["read", "step", "step_counted", "lookup", "lookup of the passphrase", "edition", "Requester::receive", "state", "rot::read"];
     let mut wanted = [&lengths[..], &kinds].concat();
@@ -169,6 +170,8 @@ fn answers() {
     assert_eq!(found, wanted);
     let first = [
         "write_frame",
+        "receive",
+        "receive_counted",
         "take",
         "lookup",
         "lookup of the passphrase",

@@ -689,6 +689,41 @@ fn frames_are_counted() {
     assert_eq!(counters, Counters { empty: 2, reason1: 1, ..Counters::default() });
 }
 
+/// A way to receive a piece with a counter block.
+type Receives = fn(&mut Supervisor<'_>, &mut Counters, &[u8]);
+
+/// What a supervisor replies to a stream in pieces of this length, all taken behind each, and what it counts.
+fn served(stream: &[u8], length: usize, receives: Receives) -> (Vec<u8>, Counters) {
+    let (mut storage, mut counters) = (SupervisorStorage::new(), Counters::new());
+    let mut supervisor = Supervisor::start_in(&mut storage, &StartData::new(Bsu::A));
+    let (mut replies, mut room) = (Vec::new(), [0; MOST_PENDING]);
+    for piece in stream.chunks(length) {
+        receives(&mut supervisor, &mut counters, piece);
+        replies.extend_from_slice(supervisor.take(&mut room));
+    }
+    (replies, counters)
+}
+
+/// A receive collects ahead of the first 00; steps do not, and leave the same.
+#[test]
+fn pieces_are_received_as_by_steps() {
+    let steps: Receives = |supervisor, counters, mut piece| {
+        while !piece.is_empty() {
+            piece = &piece[supervisor.step_counted(counters, &[], piece).used..];
+        }
+    };
+    let sets = [b"one".to_vec(), vec![7; 200], vec![0; 70]].map(|value| request(1, 0x10, &[&[3][..], &value].concat()));
+    let (status, lookup) = (request(2, 8, &[]), request(3, 0x0e, &[3, 0, 1]));
+    let overlong = [vec![1; LONGEST_FRAME], vec![0]].concat();
+    let stream = [&[0][..], &sets[0], &status, &[5, 0, 0], &sets[1], &overlong, &lookup, &sets[2], &lookup, &status[..9]].concat();
+    for length in [1, 2, 3, 7, 8, 20, 63, 64, 65, 200, stream.len()] {
+        let by_steps = served(&stream, length, steps);
+        assert_eq!(by_steps.1, Counters { good: 6, empty: 2, reason1: 2, ..Counters::new() });
+        assert_eq!(served(&stream, length, |s, counters, piece| s.receive_counted(counters, &[], piece)), by_steps);
+        assert_eq!(served(&stream, length, |s, _, piece| s.receive(&[], piece)).0, by_steps.0);
+    }
+}
+
 /// Bytes read, whether a recovery ended for want of a number, and whether a frame is to go out, where nothing is handed out.
 fn nothing(received: Received) -> (usize, bool, bool) {
     assert_eq!(received.handed, Handed::Nothing);

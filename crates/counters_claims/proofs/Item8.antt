@@ -2,33 +2,46 @@
 -- each counter is the number of such frames since the block was cleared, and nothing else depends on a block.
 -- Assumes nothing.
 use mathlib.Core.Path.{_≡_, refl, sym, ap, _∙_}
+use mathlib.Core.Bool.{Bool, true, false}
 use mathlib.Core.List.{List, [], _∷_, _++_}
 use mathlib.Core.Option.{Option, none, some}
-use Prim.Native.Nat.{ℕ}
+use Prim.Native.Nat.{ℕ, zero, suc, _≤_}
 use native.Mathlib.Omega.{arith}
+use lib.Dec.{eqb·suc-zero}
+use lib.ListN.{length, drop}
 use Rattle.line.specs.Frame.{split}
+use Rattle.line.specs.Reader as LineReader
+use Rattle.line.specs.Reader.{receivedOf, pushedAll, aheadOf00}
+use Rattle.line.proofs.Ahead.{ahead-nonzero, ahead-join}
+use Rattle.line.proofs.Received.{pushed-received, pushed-stays}
 use Rattle.supervisor.specs.Calls.{Parts}
 use Rattle.counters.specs.declared.Counters.{Counters}
 use Rattle.counters.specs.Count.{clearedCounters, bumpedForAll}
 use Rattle.supervisor_claims.specs.View.{factoryOf, view}
 use Rattle.supervisor_claims.specs.Histories
-use Rattle.supervisor_claims.specs.Histories.{Call, Did, Made, made, outputs, left, AllTyped, startWith, OfStart}
+use Rattle.supervisor_claims.specs.Histories.{Call, done, Did, Lent, lentOf, Made, made, outputs, left, AllTyped, receiveWith, startWith}
+use Rattle.supervisor_claims.specs.Histories.{OfStart}
 use Rattle.supervisor_claims.specs.FrameHistory.{receivedSince, receivedSinceAll}
-use Rattle.supervisor_claims.specs.Sound.{Sound}
+use Rattle.supervisor_claims.specs.Sound.{Sound, withReader}
 use Rattle.supervisor_claims.proofs.laws.Progress.{Since}
-use Rattle.supervisor_claims.proofs.claims.History.{one-call, started, history, refused-made}
+use Rattle.supervisor_claims.proofs.claims.History.{one-call, started, history, undone, refused-made}
+use Rattle.supervisor_claims.proofs.claims.LentCalls.{parts-valid}
 use Rattle.supervisor_claims.proofs.claims.InOrder.{verdict-over}
 use Rattle.supervisor_claims.proofs.claims.FramesClaim.{made-carried, by-frames}
-use Rattle.supervisor_claims.proofs.claims.MixedClaim.{mixed-meets}
-use Rattle.supervisor_claims.specs.MixedCalls.{madeMixed, mixedSince}
+use Rattle.supervisor_claims.proofs.claims.MixedClaim.{mixed-meets, collected-lent, collect-then-receive}
+use Rattle.supervisor_claims.specs.MixedCalls.{lineCollect, madeMixed, mixedSince}
 use Rattle.supervisor.specs.State.{fresh}
 use Rattle.octets.specs.Bytes.{Each}
 use Rattle.line.specs.Judge.{progressOf}
-use Rattle.counters_claims.specs.CountHistory.{didCounted, madeCounted, Lending, didLending, outputsLending, leftLending, unlent}
+use Rattle.responder.specs.Receive as Receive
+use Rattle.responder.specs.Counting.{endings, countPromise}
+use Rattle.counters_claims.specs.CountHistory.{DidCounted, didCounted, madeCounted, Lending, didLending, outputsLending, leftLending}
+use Rattle.counters_claims.specs.CountHistory.{unlent}
 use Rattle.counters_claims.specs.CountHistory.{CountEvent, plain, counted, clear, Held, afterEvent, afterEvents, callsOfEvents}
 use Rattle.counters_claims.specs.CountHistory.{allCounted, RefusedEvent, AllRefusedEvents, endedByFrame, endedAll}
 use Rattle.counters_claims.specs.CountHistory.{MixedEvent, lentBlock, withoutBlock, afterMixedEvents, TypedEvent, framesCounted}
 use Rattle.counters_claims.specs.Item8.{CountersCount, CountersFromStart, MixedCount, OverlongOnce, BlocksAlone}
+use Rattle.counters_claims.specs.Item8.{CollectThenReceiveCounted}
 use Rattle.counters_claims.proofs.FrameLaws.{ended-append, closedSince, frames-since}
 use Rattle.counters_claims.proofs.TallyLaws.{bumped-tally, bumped-append}
 use Rattle.counters_claims.proofs.CallCounts.{refused-counts, call-counts}
@@ -168,3 +181,52 @@ pub overlong-once : OverlongOnce
 unfolding endedByFrame
 overlong-once [] h = absurd (omega arith)
 overlong-once (b ∷ bs) h = rw (verdict-over (b ∷ bs) h)
+
+-- ---- a piece's bytes ahead of its first 00 are collected
+
+-- bytes that are not 00 end no frame
+endings-behind : (bs : List ℕ) → Each (λ b. 1 ≤ b) bs → (s rest : List ℕ) → LineReader.validReader s ≡ true
+    → endings (receivedOf s) (bs ++ rest) ≡ endings (receivedOf (pushedAll s bs)) rest
+unfolding endings pushedAll
+endings-behind [] z s rest v = refl
+endings-behind (zero ∷ bs) z s rest v = absurd (omega arith)
+endings-behind (suc b ∷ bs) z s rest v =
+    rw (eqb·suc-zero, ← pushed-received s (suc b) v)
+    (endings-behind bs (z .1) (LineReader.pushed s (suc b)) rest (pushed-stays s (suc b) v .valid))
+
+-- a receive is done where the parts that are lent are as 12 requires
+done-valid : (p : Parts) (l : Lent) (image piece : List ℕ) → made p (receiveWith image l piece) .answer ≡ done
+    → Receive.validParts (lentOf l p) ≡ true
+unfolding made Histories.did Receive.receivePromise
+done-valid p l image piece h = by (Receive.validParts (lentOf l p)) refl
+  where
+    by : (t : Bool) → Receive.validParts (lentOf l p) ≡ t → t ≡ true
+    by true e = refl
+    by false e = absurd (undone 12 (rw e at h))
+
+-- the block behind a collect and then a receive of what is left
+count-behind : (block : Counters) (q : Parts) (bs rest : List ℕ) → Each (λ b. 1 ≤ b) bs → Receive.validParts q ≡ true
+    → let r = withReader q (pushedAll (q .reader) bs) in Receive.validParts r ≡ true
+    → countPromise block r rest ≡ countPromise block q (bs ++ rest)
+unfolding countPromise
+count-behind block q bs rest z v w = rw (v, w, endings-behind bs z (q .reader) rest (parts-valid q v .reader))
+
+same-counted : (x y : DidCounted) → x .did ≡ y .did → x .block ≡ y .block → x ≡ y
+same-counted x y e f =
+    ap (λ (d : Did). record { did = d; block = x .block }) e ∙ ap (λ (c : Counters). record { did = y .did; block = c }) f
+
+pub collect-then-receive-counted : CollectThenReceiveCounted
+unfolding madeCounted didCounted
+collect-then-receive-counted block p b l k image piece i t h n =
+    let a = aheadOf00 piece in
+    let left = drop (length a) piece in
+    let m = receiveWith image l piece in
+    let d = ap (λ (x : Did). x .answer) (sym (same-made block p m)) ∙ h in
+    let c = madeMixed p (lineCollect k piece) .parts in
+    let whole = collect-then-receive p b l k image piece i t d n .1 in
+    let lent = collected-lent p b l k image piece i t d n in
+    let v = done-valid p l image piece d in
+    let w = rw lent at (done-valid c l image left (ap (λ (x : Did). x .answer) whole ∙ d)) in
+    let counted = count-behind block (lentOf l p) a left (ahead-nonzero piece) v w in
+    same-counted _ _ (same-made block c (receiveWith image l left) ∙ whole ∙ sym (same-made block p m))
+    (rw lent (counted ∙ ap (countPromise block (lentOf l p)) (ahead-join piece)))

@@ -4,6 +4,7 @@ use Rattle.counters_claims.specs.Item8.{CountersItem8}
 use Rattle.counters_claims.specs.Item14.{CountersItem14}
 use Rattle.counters_claims.proofs.TallyLaws.{each-counted-once}
 use Rattle.counters_claims.proofs.Item8.{counters-count, counters-from-start, mixed-count, overlong-once, blocks-alone}
+use Rattle.counters_claims.proofs.Item8.{collect-then-receive-counted}
 use Rattle.counters_claims.proofs.Item14.{two-counted-states, two-counted-runs}
 use Rattle.counters_claims.proofs.CountedPassphrases.{two-counted-passphrases}
 
@@ -15,6 +16,7 @@ item-8 = record {
   overlong-once = overlong-once;
   each-counted-once = each-counted-once;
   blocks-alone = blocks-alone;
+  collect-then-receive-counted = collect-then-receive-counted;
 }
 
 pub item-14 : CountersItem14

@@ -4,16 +4,20 @@ use mathlib.Core.Path.{_≡_}
 use mathlib.Core.Bool.{Bool}
 use mathlib.Core.List.{List, [], _∷_, _++_}
 use Prim.Native.Nat.{ℕ, _+_, _<_}
-use lib.ListN.{length}
-use Rattle.octets.specs.Bytes.{Each}
+use lib.ListN.{length, drop}
+use Rattle.octets.specs.Bytes.{Each, Byte}
 use Rattle.line.specs.Limits.{longest-form}
+use Rattle.line.specs.Reader.{aheadOf00}
+use Rattle.line_claims.specs.Loans.{Loan}
 use Rattle.supervisor.specs.Calls.{Parts}
 use Rattle.counters.specs.declared.Counters.{Counters}
 use Rattle.counters.specs.Ended.{Ended}
 use Rattle.counters.specs.Count.{clearedCounters, bumpedForAll, isGood, isEmpty, isReason, howMany, tallyOf}
-use Rattle.supervisor_claims.specs.Histories.{Lent, Made, made, AllTyped, startWith, OfStart}
+use Rattle.supervisor_claims.specs.Sound.{Bytes}
+use Rattle.supervisor_claims.specs.Histories.{done, Lent, Made, made, AllTyped, receiveWith, startWith, OfStart}
 use Rattle.supervisor_claims.specs.FrameHistory.{receivedSinceAll}
-use Rattle.counters_claims.specs.CountHistory.{Lending, outputsLending, leftLending, unlent, endedByFrame}
+use Rattle.supervisor_claims.specs.MixedCalls.{lineCollect, Says12, madeMixed}
+use Rattle.counters_claims.specs.CountHistory.{madeCounted, Lending, outputsLending, leftLending, unlent, endedByFrame}
 use Rattle.counters_claims.specs.CountHistory.{CountEvent, plain, clear, afterEvents, callsOfEvents, allCounted, framesSince}
 use Rattle.counters_claims.specs.CountHistory.{AllRefusedEvents, MixedEvent, afterMixedEvents, TypedEvent, framesCounted, endedAll}
 
@@ -50,6 +54,14 @@ abbrev pub BlocksAlone : Type 0
 BlocksAlone = (p : Parts) (xs ys : List Lending) → unlent xs ≡ unlent ys
     → (outputsLending p xs ≡ outputsLending p ys) × (leftLending p xs ≡ leftLending p ys)
 
+abbrev pub CollectThenReceiveCounted : Type 0
+CollectThenReceiveCounted = (block : Counters) (p : Parts) → Bytes p → (l : Lent) (k : Loan) (image piece : List ℕ)
+    → Each Byte image → Each Byte piece
+    → let w = madeCounted block p (receiveWith image l piece) in
+    let c = madeMixed p (lineCollect k piece) in
+    w .did .answer ≡ done → (Says12 (c .answer) → ⊥)
+    → madeCounted block (c .parts) (receiveWith image l (drop (length (aheadOf00 piece)) piece)) ≡ w
+
 pub record CountersItem8 : Type 0 where
   -- After an accepted start: any calls, lent the block or not, and clears of it; a clear;
   -- then any calls, lent the block wherever they take one.
@@ -69,3 +81,6 @@ pub record CountersItem8 : Type 0 where
   -- Two lists of calls on the same parts that differ only in the blocks lent, any or none and whatever they hold: the same answers,
   -- the same bytes written outside the state or handed out, and the same parts.
   pub blocks-alone : BlocksAlone
+  -- Collecting a piece's bytes ahead of its first 00, and then receiving what is left of the piece with the block lent, is receiving the
+  -- whole piece so, on any parts where neither is refused: the same answer, the same bytes in every part, and the same block.
+  pub collect-then-receive-counted : CollectThenReceiveCounted

@@ -15,6 +15,7 @@ pub mod State
 pub mod Judging
 pub mod Rest
 pub mod Reading
+pub mod Ahead
 pub mod Lent
 pub mod Held
 pub mod Received

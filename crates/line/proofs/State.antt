@@ -182,9 +182,13 @@ module _ (s p : List ℕ) (n : ℕ) (r : Ready s) (k : 0 < n) (l : n ≤ length 
       rw (copied-fits p 0 room s (frame-offset + receivedCount s) (omega arith) (omega arith), ← take-take room n p (omega arith))
       (sym (pushes-some (take n p) s r (omega arith) m (omega arith)))
 
-  pub append-fit : n ≤ longest-form - receivedCount s
-      → withCount (receivedCount s + n) (copied p 0 n s (frame-offset + receivedCount s)) ≡ pushedAll s (take n p)
-  append-fit m =
+  pub append-put : receivedCount s + n ≤ longest-form
+      → withCount (receivedCount s + n) (overlay (frame-offset + receivedCount s) (take n p) s) ≡ pushedAll s (take n p)
+  append-put m =
       let e = length-take-le n p l in
       let f = pushes-fit (take n p) s r (omega arith) (omega arith) in
-      rw (copied-fits p 0 n s (frame-offset + receivedCount s) (omega arith) (omega arith)) (sym (rw e at f))
+      sym (rw e at f)
+
+  pub append-fit : n ≤ longest-form - receivedCount s
+      → withCount (receivedCount s + n) (copied p 0 n s (frame-offset + receivedCount s)) ≡ pushedAll s (take n p)
+  append-fit m = rw (copied-fits p 0 n s (frame-offset + receivedCount s) (omega arith) (omega arith)) (append-put (omega arith))

@@ -18,6 +18,8 @@ use Rattle.line.specs.ReaderLayout.{overlong, receivedCount, withCount, 
 use Rattle.line.specs.declared.reader.Answer.{Answer}
 use Rattle.line.specs.declared.reader.Answer.the-variants as answer
 use Rattle.line.specs.declared.reader.Reading.{Reading}
+use Rattle.line.specs.declared.reader.Collected.{Collected}
+use Rattle.line.specs.declared.reader.Collected.the-variants as collect-answer
 use Rattle.line.specs.declared.reader.Started.{Started}
 use Rattle.line.specs.declared.reader.Started.the-variants as start-answer
 use Rattle.line.specs.declared.reader.Unfinished.{Unfinished}
@@ -122,6 +124,19 @@ readPiece s (b ∷ bs) =
 -- a call of `read`; one refused as 12 reads nothing and leaves the state
 unfoldable pub readPromise : List ℕ → List ℕ → ReadOutcome
 readPromise s piece = cond (validReader s) (readPiece s piece) (record { used = 0; answer = refused 12; state = s })
+
+-- the bytes of a piece ahead of its first 00, all of them where it has none
+unfoldable pub aheadOf00 : List ℕ → List ℕ
+aheadOf00 [] = []
+aheadOf00 (b ∷ bs) = cond (eqb b 0) [] (b ∷ aheadOf00 bs)
+
+-- A call of `collect`: it reads a piece's bytes ahead of its first 00, as a call of `read` does, and says how many.
+unfoldable pub collectPromise : List ℕ → List ℕ → ReadOutcome
+collectPromise s piece = readPromise s (aheadOf00 piece)
+
+unfoldable pub collectOutcome : Collected → List ℕ → ReadOutcome
+collectOutcome collect-answer.Refused s = record { used = 0; answer = refused 12; state = s }
+collectOutcome (collect-answer.Bytes n) s = record { used = n; answer = more; state = s }
 
 -- A call of `start`: it tests the room alone. `refusal` is the table's number, none where the call is carried out.
 pub record ReaderStartOutcome : Type 0 where

@@ -3,6 +3,7 @@
 use crate::cobs;
 use crate::cobs::Measured;
 use crate::limits;
+use crate::scan::copy_run;
 use crate::scan::nonzero_run;
 use crate::sums;
 ghost use mathlib.Core.Path.{_≡_};
@@ -12,13 +13,14 @@ ghost use lib.ListN.{length, take};
 ghost use Rattle.octets.specs.Bytes.{run, overlay};
 ghost use Rattle.line.specs.Limits.{shortest-message, longest-message, longest-form};
 ghost use Rattle.line.specs.Cobs.{uncobs};
+ghost use Rattle.line.specs.Runs.{nonzero};
 ghost use Rattle.line.specs.Decoding.{measured, plain};
 ghost use Rattle.line.specs.Judge.{judgeForm};
 ghost use Rattle.line.specs.ReaderLayout.{frame-offset, overlong, receivedCount, withCount};
 ghost use Rattle.line.specs.Reader.{reader-length, validReader, readReport};
 ghost use Rattle.line.specs.Reader.{verdictReport, pushedAll, frameOutcome, finishForm, finish, readOutcome, readPromise};
-ghost use Rattle.line.specs.Reader.{readerStartOutcome, readerStartPromise, tailReport, tailPromise, dataReport, dataGivenPromise};
-ghost use Rattle.line.specs.Reader.{dataPromise, dataPlace};
+ghost use Rattle.line.specs.Reader.{collectOutcome, collectPromise, readerStartOutcome, readerStartPromise, tailReport, tailPromise};
+ghost use Rattle.line.specs.Reader.{dataReport, dataGivenPromise, dataPromise, dataPlace};
 
 const FRAME_OFFSET: usize = 2;
 
@@ -27,6 +29,9 @@ pub const STATE_LENGTH: usize = FRAME_OFFSET + limits::LONGEST_FORM;
 
 // The count of a frame that is longer than any form.
 const OVERLONG: usize = limits::LONGEST_FORM + 1;
+
+// The longest piece that `collect` takes byte by byte.
+const SHORT_PIECE: usize = 64;
 
 const DATA_OFFSET: usize = FRAME_OFFSET + limits::HEADER_LENGTH;
 
@@ -54,6 +59,12 @@ pub enum Answer {
 pub struct Reading {
     pub used: usize,
     pub answer: Answer,
+}
+
+// What a call of `collect` answers.
+pub enum Collected {
+    Refused,
+    Bytes(usize),
 }
 
 // What a call of `start` answers.
@@ -110,6 +121,24 @@ pub fn read(state: &mut [u8], piece: &[u8]) -> Reading
         used: n + 1,
         answer,
     }
+}
+
+// Reads a piece's bytes ahead of its first 00, and leaves that 00 and what is behind it.
+pub fn collect(state: &mut [u8], piece: &[u8]) -> Collected
+    ensures { λ r. ⌜ collectOutcome r (now (state .exit)) ≡ collectPromise (now (state .entry)) (now (piece .entry)) ⌝ }
+{
+    if !is_valid(state) {
+        return Collected::Refused;
+    }
+    let have = get_count(state);
+    if piece.len() <= SHORT_PIECE {
+        if have + piece.len() <= limits::LONGEST_FORM {
+            return Collected::Bytes(append_short(state, piece, have));
+        }
+    }
+    let n = nonzero_run(&piece[0..], 0, piece.len());
+    let reading = read(state, &piece[..n]);
+    Collected::Bytes(reading.used)
 }
 
 // The data of the message that `read` handed out with this length; an empty part where `message_data_given` refuses.
@@ -200,6 +229,22 @@ fn append(state: &mut [u8], piece: &[u8], n: usize)
     }
     octets::copy(piece, 0, n, state, FRAME_OFFSET + have);
     set_count(state, have + n);
+}
+
+// A short piece's bytes ahead of its first 00, behind those that have come; all of the piece would fit.
+fn append_short(state: &mut [u8], piece: &[u8], have: usize) -> usize
+    requires { ⌜ reader-length ≤ length (now state) ⌝ }
+    requires { ⌜ have ≡ receivedCount (now state) ⌝ }
+    requires { ⌜ have + length (now piece) ≤ longest-form ⌝ }
+    ensures { λ r. ⌜ (r ≡ length (nonzero (length (now (piece .entry))) (now (piece .entry))))
+        × (now (state .exit) ≡ pushedAll (now (state .entry)) (take r (now (piece .entry)))) ⌝ }
+{
+    let taken = copy_run(piece, state, FRAME_OFFSET + have);
+    if taken == 0 {
+        return 0;
+    }
+    set_count(state, have + taken);
+    taken
 }
 
 // The 00 of a frame.

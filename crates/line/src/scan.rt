@@ -3,7 +3,7 @@
 ghost use mathlib.Core.Path.{_≡_};
 ghost use mathlib.Core.Bool.{true, false};
 ghost use Prim.Native.Nat.{_+_, _≤_, min};
-ghost use lib.ListN.{length, drop, replicate};
+ghost use lib.ListN.{length, take, drop, replicate};
 ghost use Rattle.octets.specs.Bytes.{run, overlay};
 ghost use Rattle.line.specs.Runs.{nonzero, runLength};
 
@@ -61,6 +61,27 @@ fn has_zero(s: &[u8], at: usize, n: usize) -> bool
         k += 1;
     }
     found
+}
+
+// Copies the bytes of s ahead of its first zero to an offset, and says how many. Counts in 32 bits, for processors of that width.
+pub(crate) fn copy_run(s: &[u8], dst: &mut [u8], at: usize) -> usize
+    requires { ⌜ at + length (now s) ≤ 65535 ⌝ }
+    requires { ⌜ at + length (now s) ≤ length (now dst) ⌝ }
+    ensures { λ r. ⌜ (r ≡ length (nonzero (length (now (s .entry))) (now (s .entry))))
+        × (now (dst .exit) ≡ overlay at (take r (now (s .entry))) (now (dst .entry))) ⌝ }
+{
+    let end = s.len() as u32;
+    let from = at as u32;
+    let mut k: u32 = 0;
+    while k < end {
+        let b = s[k as usize];
+        if b == 0 {
+            return k as usize;
+        }
+        dst[(from + k) as usize] = b;
+        k += 1;
+    }
+    k as usize
 }
 
 // Whether the n bytes from an offset on stand ahead of an end and are all b. The first and the last are tested ahead of the others.

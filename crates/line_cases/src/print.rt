@@ -1,6 +1,7 @@
 // Prints answers, each with one space in front; failures and refusals go by the numbers of document 01.
 // Assumes nothing: output that cannot be written is lost.
 use line::reader::Answer;
+use line::reader::Collected;
 use line::reader::Handed;
 use line::reader::Head;
 use line::reader::Started;
@@ -55,6 +56,21 @@ pub(crate) fn reading(a: Answer, state: &[u8]) {
         Answer::BadLength => failed(BAD_LENGTH),
         Answer::BadChecksum(sequence) => failed_at(BAD_CHECKSUM, sequence),
         Answer::BadMagic(sequence) => failed_at(BAD_MAGIC, sequence),
+    }
+}
+
+// What collect answered; the number of bytes taken.
+pub(crate) fn collecting(a: Collected) -> usize {
+    match a {
+        Collected::Refused => {
+            refused(REFUSED);
+            0
+        }
+        Collected::Bytes(n) => {
+            word(b" took");
+            number(n as u64);
+            n
+        }
     }
 }
 

@@ -45,8 +45,8 @@ pub(crate) fn command(line: &[u8], now: Case) -> Case {
         b'=' => begin(line),
         b'+' | b'*' => add(line, now),
         b'w' => write(line, now),
-        b'r' | b'c' | b'b' | b'o' | b'k' => use_up(line, key, now),
-        b'l' | b's' | b'i' => change(line, key, now),
+        b'r' | b'c' | b'b' | b'a' | b'o' | b'k' => use_up(line, key, now),
+        b'l' | b'e' | b's' | b'i' => change(line, key, now),
         _ => {
             look(key, fields::count(line, 1), &now.state);
             now
@@ -131,6 +131,10 @@ fn use_piece(line: &[u8], key: u8, state: &mut [u8], piece: &[u8]) {
     match key {
         b'k' => streams::hex(sums::checksum(piece) as u64, 4),
         b'b' => read_by(state, piece, 1),
+        b'a' => {
+            let taken = collect_once(state, piece);
+            read_whole(state, octets::part(piece, taken, piece.len()))
+        }
         b'c' => {
             read_whole(state, octets::part(piece, 0, n));
             read_whole(state, octets::part(piece, n, piece.len()))
@@ -147,6 +151,7 @@ fn change(line: &[u8], key: u8, now: Case) -> Case {
     let n = fields::count(line, 1);
     match key {
         b'l' => read_lent(&mut state, n, octets::part(&piece, 0, now.piece_count)),
+        b'e' => collect_lent(&mut state, n, octets::part(&piece, 0, now.piece_count)),
         b's' => start_lent(&mut state, n),
         _ => octets::write_u16(&mut state, 0, fields::decimal_u16(line, 1)),
     }
@@ -158,6 +163,12 @@ fn change(line: &[u8], key: u8, now: Case) -> Case {
 fn read_lent(state: &mut [u8], n: usize, piece: &[u8]) {
     let end = octets::min(n, state.len());
     read_once(&mut state[0..end], piece);
+}
+
+// One call of collect likewise.
+fn collect_lent(state: &mut [u8], n: usize, piece: &[u8]) {
+    let end = octets::min(n, state.len());
+    collect_once(&mut state[0..end], piece);
 }
 
 // One call of start likewise.
@@ -192,6 +203,11 @@ fn read_once(state: &mut [u8], piece: &[u8]) -> usize {
     let answer = r.answer;
     print::reading(answer, state);
     used
+}
+
+// One call of collect; how many bytes it took.
+fn collect_once(state: &mut [u8], piece: &[u8]) -> usize {
+    print::collecting(reader::collect(state, piece))
 }
 
 fn read_whole(state: &mut [u8], piece: &[u8]) {

@@ -9,7 +9,7 @@ use Rattle.line_claims.specs.Item12.{LineItem12}
 use Rattle.line_claims.proofs.Samples.{samples-hold}
 use Rattle.line_claims.proofs.LoanLaws.{any-run}
 use Rattle.line_claims.proofs.Refusals.{refused-exactly, refused-nothing, accepted-stops, too-little-12, too-little-nothing}
-use Rattle.line_claims.proofs.Refusals.{never-12, sent-handed, room-enough}
+use Rattle.line_claims.proofs.Refusals.{collect-reads, never-12, sent-handed, room-enough}
 use Rattle.line_claims.proofs.WireClaim.{one-meaning}
 use Rattle.line_claims.proofs.Refusals.{tail-refused-exactly, data-refused-exactly, start-refused-exactly}
 use Rattle.line_claims.proofs.Refusals.{start-untouched, data-not-handed}
@@ -73,6 +73,7 @@ fresh-reader = record {
   any-failures = any-failures;
   any-tail = any-tail;
   accepted-stops = accepted-stops;
+  collect-reads = collect-reads;
   cut = cut;
 }
 

@@ -15,11 +15,12 @@ use Rattle.line.specs.Limits.{longest-data}
 use Rattle.line.specs.Frame.{frame}
 use Rattle.line.specs.Judge.{LineVerdict, failure, good, judgeReceived}
 use Rattle.line.specs.Reader.{ReadReport, refused, more, empty, message, failed, verdictReport, closedReport, reader-length, receivedOf}
-use Rattle.line.specs.Reader.{validReader, pushed, finish}
+use Rattle.line.specs.Reader.{validReader, pushed, finish, collectPromise}
 use Rattle.line.specs.Reader.{ReadOutcome, oneByteLater, readPiece, readPromise, ReaderStartOutcome, readerStartPromise, TailReport}
 use Rattle.line.specs.Reader.{unfinished, longer, tailOf, tailPromise}
 use Rattle.line.specs.Reader.{dataGivenPromise}
 use Rattle.line.specs.Writer
+use Rattle.line.proofs.Ahead.{ahead-nonzero, ahead-prefix, ahead-stops, collect-more}
 use Rattle.line.proofs.Received.{valid-long, short-invalid, data-refused}
 use Rattle.line.proofs.Lent.{valid-append}
 use Rattle.line_claims.proofs.CobsClaims.{frame-fits}
@@ -31,7 +32,7 @@ use Rattle.line_claims.proofs.WriterClaim.{sent-wire}
 use Rattle.line_claims.proofs.ReaderClaim.{hands-out, stays-valid}
 use Rattle.line_claims.specs.Demand1.{NotRefused, LineRefusedExactly, RefusedNothing, TooLittle12, TooLittleNothing, LineNever12}
 use Rattle.line_claims.specs.Demand1.{TailRefusedExactly, DataRefusedExactly, DataNotHanded, StartRefusedExactly, StartUntouched}
-use Rattle.line_claims.specs.Demand3.{Stops, AcceptedStops, SentHanded, RoomEnough}
+use Rattle.line_claims.specs.Demand3.{Stops, AcceptedStops, CollectReads, SentHanded, RoomEnough}
 use Rattle.octets.specs.TableTests.{firstFailing}
 
 -- ---- What a call reads
@@ -53,6 +54,13 @@ refused-nothing s piece e = rw e
 pub accepted-stops : AcceptedStops
 unfolding readPromise
 accepted-stops s piece e = rw e (stops s piece)
+
+pub collect-reads : CollectReads
+unfolding collectPromise
+collect-reads s piece v =
+    let k = collect-more s piece v in
+    let p = ahead-prefix piece in
+    rw k (sym k ∙ ap (readPromise s) p, refl, rw p at (ahead-nonzero piece), ahead-stops piece)
 
 -- ---- When a call is refused
 

@@ -15,7 +15,7 @@ use Rattle.line.specs.Message.{Message, MessageTyped, InRange, message}
 use Rattle.line.specs.Cobs.{cobs, uncobs}
 use Rattle.line.specs.Frame.{frame, WireBytes, NonZero, split, nonEmpty}
 use Rattle.line.specs.Judge.{failure, sequenceOf, checksumOf, wrongLength, wrongChecksum, judgeForm}
-use Rattle.line.specs.Reader.{validReader, readPromise, tailPromise}
+use Rattle.line.specs.Reader.{more, validReader, readPromise, collectPromise, tailPromise}
 use Rattle.line.specs.Writer.{WriteReport, writePromise}
 use Rattle.line_claims.specs.Calls.{LineRead, Reader, readerOn, afterLineReads, OfFreshReader, frameReport, goodMessages}
 use Rattle.line_claims.specs.Calls.{failureReasons, tailMeant}
@@ -105,6 +105,15 @@ Stops piece used = (used ≡ length piece) ⊎ ((at : ℕ) × (used ≡ suc at) 
 abbrev pub AcceptedStops : Type 0
 AcceptedStops = (s piece : List ℕ) → validReader s ≡ true → Stops piece (readPromise s piece .used)
 
+-- the whole piece, or up to a 00 of that piece
+abbrev pub StopsAhead : List ℕ → ℕ → Type 0
+StopsAhead piece used = (used ≡ length piece) ⊎ ((used < length piece) × (getD piece used 0 ≡ 0))
+
+abbrev pub CollectReads : Type 0
+CollectReads = (s piece : List ℕ) → validReader s ≡ true
+    → let o = collectPromise s piece in
+    (o ≡ readPromise s (take (o .used) piece)) × (o .answer ≡ more) × Each (λ b. 1 ≤ b) (take (o .used) piece) × StopsAhead piece (o .used)
+
 abbrev pub LineCut : Type 0
 LineCut = (s : List ℕ) (cs ds : List LineRead) → afterLineReads (readerOn s) cs .bytes ≡ afterLineReads (readerOn s) ds .bytes
     → afterLineReads (readerOn s) cs ≡ afterLineReads (readerOn s) ds
@@ -124,6 +133,9 @@ pub record FreshReader : Type 0 where
   pub any-tail : OfFreshReader AnyTail
   -- a call that is not refused reads its whole piece, or stops behind a 00 of that piece
   pub accepted-stops : AcceptedStops
+  -- a collect that is not refused is a read of the piece's bytes up to its first 00, without it, or of the whole piece: so all that is
+  -- said here of calls that read is said of it
+  pub collect-reads : CollectReads
   -- cutting the stream elsewhere changes nothing: calls that read the same bytes leave the same reader
   pub cut : LineCut
 

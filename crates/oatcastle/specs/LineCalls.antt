@@ -37,6 +37,20 @@ readCallOutcome o answer = answeringWith (o .state) (readGiven (o .used) (o .ans
 unfoldable pub lineReadCall : List ℕ → List ℕ → List ℕ → CallOutcome (List ℕ × List ℕ)
 lineReadCall s piece answer = readCallOutcome (LineReader.readPromise s piece) answer
 
+-- ---- Collect: how many bytes ahead of the first 00 were taken
+
+-- of a piece without a 00, so that a report other than the first two stands here for form's sake
+unfoldable pub collectGiven : ℕ → LineReader.ReadReport → CallReport
+collectGiven taken (LineReader.refused n) = refused n
+collectGiven taken LineReader.more = given (taken ∷ [])
+collectGiven taken LineReader.empty = given (taken ∷ [])
+collectGiven taken (LineReader.message version sequence command n) = given (taken ∷ [])
+collectGiven taken (LineReader.failed reason sequence) = given (taken ∷ [])
+
+unfoldable pub collectCall : List ℕ → List ℕ → List ℕ → CallOutcome (List ℕ × List ℕ)
+collectCall s piece answer =
+    let o = LineReader.collectPromise s piece in answeringWith (o .state) (collectGiven (o .used) (o .answer)) answer
+
 -- ---- The data of the message just handed out, to a room
 
 unfoldable pub lineDataCall : List ℕ → ℕ → List ℕ → CallOutcome (List ℕ)

@@ -11,6 +11,7 @@ use crate::kinds::MESSAGE;
 use crate::kinds::MORE;
 use crate::refusals;
 use line::reader::Answer;
+use line::reader::Collected;
 use line::reader::Handed;
 use line::reader::Started;
 use line::reader::Unfinished;
@@ -20,7 +21,7 @@ ghost use Rattle.line.specs.Reader.{readReport};
 ghost use Rattle.line.specs.Writer.{messageOfParts};
 ghost use Rattle.oatcastle.specs.Answers.{callOutcome, answering};
 ghost use Rattle.oatcastle.specs.LineCalls.{lineStartCall, readGiven, lineReadCall, lineDataCall, lineTailCall, lineWriteCall};
-ghost use Rattle.oatcastle.specs.LineCalls.{lineChecksumCall};
+ghost use Rattle.oatcastle.specs.LineCalls.{collectCall, lineChecksumCall};
 
 // Begins a fresh reader in a state of any contents.
 #[no_mangle]
@@ -80,6 +81,22 @@ fn answer_reading(answer: &mut [u64; 7], used: u64, read: Answer) -> u32
         }
         Answer::BadMagic(sequence) => {
             *answer = [used, FAILURE, MAGIC, 0, sequence, 0, 0];
+            refusals::DONE
+        }
+    }
+}
+
+// Takes a piece's bytes ahead of its first 00 into the reader's part.
+#[no_mangle]
+pub extern "C" fn oatcastle_collect(reader: &mut [u8], piece: &[u8], answer: &mut [u64; 1]) -> u32
+    ensures { λ r. ⌜ callOutcome r (now (reader .exit), now (answer .exit))
+        ≡ collectCall (now (reader .entry)) (now (piece .entry)) (now (answer .entry)) ⌝ }
+{
+    let collected = line::reader::collect(reader, piece);
+    match collected {
+        Collected::Refused => refusals::BAD_STATE,
+        Collected::Bytes(taken) => {
+            *answer = [taken as u64];
             refusals::DONE
         }
     }

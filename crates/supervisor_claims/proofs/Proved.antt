@@ -17,7 +17,7 @@ use Rattle.supervisor_claims.proofs.claims.History.{step-receives, step
 use Rattle.supervisor_claims.proofs.claims.InOrder.{in-order, in-order-behind, request-carried, failure-only-pending}
 use Rattle.supervisor_claims.proofs.claims.FramesClaim.{history-frames, each-once, received-since, in-order-after}
 use Rattle.supervisor_claims.proofs.claims.MixedClaim.{no-12, sound-no-12, mixed-frames, without-line-calls}
-use Rattle.supervisor_claims.proofs.claims.MixedClaim.{data-behind-read, collected-receives}
+use Rattle.supervisor_claims.proofs.claims.MixedClaim.{data-behind-read, collected-receives, collect-then-receive}
 use Rattle.supervisor_claims.proofs.claims.FailureClaim.{failure-answered, overlong-answered, ahead-of-zero, empty-frame-ignored}
 use Rattle.supervisor_claims.proofs.claims.Cuts.{cut-any}
 use Rattle.supervisor_claims.proofs.claims.Replies.{replies-in-order, replies-replayed, replay-joined}
@@ -100,6 +100,7 @@ mixed-lists = record {
   without-line-calls = without-line-calls;
   data-behind-read = data-behind-read;
   collected-receives = collected-receives;
+  collect-then-receive = collect-then-receive;
 }
 
 pub item-1 : SupervisorItem1

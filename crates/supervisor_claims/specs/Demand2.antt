@@ -13,7 +13,7 @@ use Rattle.line.specs.Limits.{longest-form}
 use Rattle.line.specs.Numbers.{first-version, command-key-set}
 use Rattle.line.specs.Message.{Message}
 use Rattle.line.specs.Frame.{split, nonEmpty}
-use Rattle.line.specs.Reader.{more, message}
+use Rattle.line.specs.Reader.{more, message, aheadOf00}
 use Rattle.line_claims.specs.Loans.{Loan}
 use Rattle.supervisor.specs.Limits.{last-edition, SettingsKey}
 use Rattle.supervisor.specs.Layout
@@ -34,8 +34,8 @@ use Rattle.supervisor_claims.specs.FrameHistory.{receivedSinceAll, frame
 use Rattle.line.specs.Judge.{progressOf}
 use Rattle.supervisor_claims.specs.FrameHistory.{leftByFrames, carriedFrames, RepliedWith, OnRequest}
 use Rattle.supervisor_claims.specs.FrameHistory.{OnFrame, DoneLeaving, answeredWith}
-use Rattle.supervisor_claims.specs.MixedCalls.{MixedCall, lineRead, lineData, enoughOfReader, MixedAnswer, AllTypedMixed, Says12}
-use Rattle.supervisor_claims.specs.MixedCalls.{madeMixed, mixedSinceAll}
+use Rattle.supervisor_claims.specs.MixedCalls.{MixedCall, lineRead, lineData, lineCollect, enoughOfReader, MixedAnswer}
+use Rattle.supervisor_claims.specs.MixedCalls.{AllTypedMixed, Says12, madeMixed, mixedSinceAll}
 use Rattle.supervisor_claims.specs.MixedCalls.{MixedOutput, outputsMixed, leftMixed, MixedAsFrames, leftMixedByFrames}
 use Rattle.supervisor_claims.specs.MixedCalls.{broughtAll}
 use Rattle.supervisor_claims.specs.LastSet.{successful, setAfter, origin, originBehind, setSince, Has, fittedOf, lookupMessage}
@@ -326,6 +326,14 @@ CollectedReceives = (p : Parts) (l : Lent) (k : Loan) (image piece : List ℕ) �
     let c = madeMixed p (lineRead k piece) in
     r .answer ≡ done → (Says12 (c .answer) → ⊥) → (c .answer ≡ MixedAnswer.lineRead (length piece) more) × (c .parts ≡ r .parts)
 
+abbrev pub CollectThenReceive : Type 0
+CollectThenReceive = (p : Parts) → Bytes p → (l : Lent) (k : Loan) (image piece : List ℕ) → Each Byte image → Each Byte piece
+    → let w = made p (receiveWith image l piece) in
+    let c = madeMixed p (lineCollect k piece) in
+    let n = length (aheadOf00 piece) in
+    w .answer ≡ done → (Says12 (c .answer) → ⊥)
+    → (c .answer ≡ MixedAnswer.lineRead n more) × (made (c .parts) (receiveWith image l (drop n piece)) ≡ w)
+
 pub record MixedLists : Type 0 where
   -- From an accepted start, any calls of the supervisor and of the line layer on the same reader's part do what the frames make of them.
   -- What a line read reads joins the stream. A frame whose 00 a line read brings is neither carried out nor answered, and discards nothing.
@@ -338,3 +346,7 @@ pub record MixedLists : Type 0 where
   -- Reading a piece without a 00 with the line layer is receiving it, on any parts where neither is refused: it leaves the same
   -- bytes in every part, and so the same later answers.
   pub collected-receives : CollectedReceives
+  -- Collecting a piece's bytes ahead of its first 00, and then receiving what is left of the piece with the same image and loan, is
+  -- receiving the whole piece, on any parts where neither is refused. The collect says how many bytes it took. The receive answers the
+  -- same and leaves the same bytes in every part, whatever the collect is lent.
+  pub collect-then-receive : CollectThenReceive

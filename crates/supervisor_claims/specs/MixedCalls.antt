@@ -15,7 +15,8 @@ use Rattle.line.specs.Message.{Message}
 use Rattle.line.specs.Frame.{split, closedBehind, withZeros}
 use Rattle.line.specs.Judge.{progressOf}
 use Rattle.line.specs.Reader as LineReader
-use Rattle.line.specs.Reader.{ReadReport, TailReport, readPromise, readerStartPromise, tailPromise, dataGivenPromise, dataPromise}
+use Rattle.line.specs.Reader.{ReadReport, TailReport, readPromise, aheadOf00, readerStartPromise, tailPromise, dataGivenPromise}
+use Rattle.line.specs.Reader.{dataPromise}
 use Rattle.line_claims.specs.Loans.{Loan, enoughPart}
 use Rattle.line_claims.specs.Calls.{lentState, back, messagesHanded, frameReport, tailMeant, goodMessages}
 use Rattle.supervisor.specs.State.{State, withReceived}
@@ -37,6 +38,10 @@ pub data MixedCall : Type 0 where
   lineTail : Loan → MixedCall
   -- the data of a message, by their length
   lineData : Loan → ℕ → MixedCall
+
+-- a collect: by its promise (`collectPromise`) a line read of the piece's bytes ahead of its first 00
+abbrev pub lineCollect : Loan → List ℕ → MixedCall
+lineCollect l piece = lineRead l (aheadOf00 piece)
 
 abbrev pub TypedMixed : MixedCall → Type 0
 TypedMixed (supervisor m) = Typed (m .call)

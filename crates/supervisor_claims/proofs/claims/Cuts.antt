@@ -49,8 +49,14 @@ module _ (image : List ℕ) (i : Each Byte image) (l : Lent) where
             rw e (f .2, back-leaves l p _ b f .1 .bytes)
         by false e = rw (e, back-lent l p) (lengths-same, b)
 
-    -- and another behind it
-    cut-made : (u v : List ℕ) → Each Byte u → made p (receiving (u ++ v)) ≡ made (made p (receiving u) .parts) (receiving v)
+    -- and what is lent of the parts then is what the piece left of the parts lent
+    pub received-lent : (piece : List ℕ) → Each Byte piece
+        → lentOf l (made p (receiving piece) .parts) ≡ did (lentOf l p) (Histories.receive image piece) .parts
+    unfolding made
+    received-lent piece h = lent-again l p (did (lentOf l p) (Histories.receive image piece) .parts) (received-keeps piece h .0)
+
+    -- another behind it
+    pub cut-made : (u v : List ℕ) → Each Byte u → made p (receiving (u ++ v)) ≡ made (made p (receiving u) .parts) (receiving v)
     unfolding made
     cut-made u v h =
         let q = did (lentOf l p) (Histories.receive image u) .parts in
@@ -81,7 +87,7 @@ module _ (image : List ℕ) (i : Each Byte image) (l : Lent) where
         by true e = rw e
         by false e = rw e
 
-    answer-so : (piece : List ℕ) → made p (receiving piece) .answer ≡ doneWhere (Receive.validParts (lentOf l p))
+    pub answer-so : (piece : List ℕ) → made p (receiving piece) .answer ≡ doneWhere (Receive.validParts (lentOf l p))
     answer-so piece = ap (λ (t : Output). t .answer) (output-so piece)
 
   -- ---- pieces are the whole

@@ -12,14 +12,16 @@ use lib.ListN.{length, length-append}
 use borrow.Author.Tests.{le-leb, lt-leb}
 use Rattle.octets.specs.Bytes.{Each, Byte}
 use Rattle.octets.proofs.Conditions.{cond-by, cond-both}
+use Rattle.octets.proofs.Each.{each-take}
 use Rattle.line.specs.Limits.{longest-data, longest-form}
 use Rattle.line.specs.Frame.{split, nonEmpty, closedBehind, withZeros}
 use Rattle.line.specs.Judge as Line
 use Rattle.line.specs.Judge.{progressOf}
 use Rattle.line.specs.Reader as LineReader
-use Rattle.line.specs.Reader.{receivedOf, pushedAll}
+use Rattle.line.specs.Reader.{receivedOf, pushedAll, aheadOf00}
 use Rattle.line.proofs.Judged.{tail-within}
 use Rattle.line.proofs.Lent.{pushed-append, dataOf-append}
+use Rattle.line.proofs.Ahead.{ahead-nonzero, ahead-prefix, ahead-join}
 use Rattle.line.proofs.Received as Received
 use Rattle.line.proofs.Received.{short-invalid, fresh-received, tail-received, data-refused, pushed-stays, read-stays}
 use Rattle.line.proofs.Pieces.{split-at, nonEmpty-append, split-join, closed-rest, closed-join, split-each}
@@ -31,8 +33,9 @@ use Rattle.supervisor.specs.Calls.{Parts}
 use Rattle.responder.specs.Receive
 use Rattle.supervisor_claims.specs.ByPart.{Part, is}
 use Rattle.supervisor_claims.specs.View.{factoryOf, view}
-use Rattle.supervisor_claims.specs.Sound.{withReader, Sound, Lengths, Leaves}
-use Rattle.supervisor_claims.specs.Histories.{Lent, lentOf, givenBack, Made, did, made, outputs, left, upTo, receiveWith}
+use Rattle.supervisor_claims.specs.Sound.{withReader, Bytes, Sound, Lengths, Leaves}
+use Rattle.supervisor_claims.specs.Histories
+use Rattle.supervisor_claims.specs.Histories.{done, Lent, lentOf, givenBack, Made, did, made, outputs, left, upTo, receiveWith}
 use Rattle.supervisor_claims.specs.FrameHistory.{receivedSince, receivedSinceAll, framesClosedBy}
 use Rattle.supervisor_claims.specs.FrameHistory.{carriedMade, outputsByFrames, leftByFrames, carriedFrames}
 use Rattle.supervisor_claims.specs.MixedCalls
@@ -42,6 +45,7 @@ use Rattle.supervisor_claims.specs.MixedCalls.{broughtSince, broughtAll}
 use Rattle.supervisor_claims.specs.MixedCalls.{madeMixed, mixedSince, mixedSinceAll, carriedMixed, readByFrames, lineBytesRead}
 use Rattle.supervisor_claims.specs.Demand1.{Never12, SoundNo12, No12}
 use Rattle.supervisor_claims.specs.Demand2.{NoZeros, MixedFrames, WithoutLineCalls, DataBehindRead, CollectedReceives}
+use Rattle.supervisor_claims.specs.Demand2.{CollectThenReceive}
 use Rattle.supervisor_claims.proofs.ByPart.{part-long}
 use Rattle.supervisor_claims.proofs.Sound.{lengths-same, lengths-then, valid-long}
 use Rattle.supervisor_claims.proofs.laws.Locality.{EnoughOfAll, widened, widened-all, lent-sound, lent-view, back-leaves}
@@ -52,6 +56,7 @@ use Rattle.supervisor_claims.proofs.calls.LineReads.{read-follows, read
 use Rattle.supervisor_claims.proofs.claims.LentCalls.{parts-valid}
 use Rattle.supervisor_claims.proofs.claims.History.{one-call, earns-no-12, started, undone}
 use Rattle.supervisor_claims.proofs.claims.FramesClaim.{made-carried, frames-join}
+use Rattle.supervisor_claims.proofs.claims.Cuts.{received-lent, cut-made, answer-so}
 
 -- ---- the bytes up to and with the last 00
 
@@ -462,3 +467,38 @@ collected-receives p l k image piece z h n =
         same = rw (back-pushed k (p .reader) piece e) (simp (back-same, back-pushed (l Part.reader) (p .reader) piece valid))
     by true false e f = absurd (undone 12 (rw f at h))
     by false u e f = absurd (n (rw e))
+
+-- ---- a piece's bytes ahead of its first 00, and then what is left of it
+
+module _ (p : Parts) (b : Bytes p) (l : Lent) (k : Loan) (image piece : List ℕ) (i : Each Byte image) (t : Each Byte piece)
+    (h : made p (receiveWith image l piece) .answer ≡ done)
+    (n : MixedCalls.Says12 (madeMixed p (MixedCalls.lineCollect k piece) .answer) → ⊥) where
+  ahead-bytes : Each Byte (aheadOf00 piece)
+  ahead-bytes = rw (ahead-prefix piece) (each-take Byte (length (aheadOf00 piece)) piece t)
+
+  ahead-done : made p (receiveWith image l (aheadOf00 piece)) .answer ≡ done
+  ahead-done = answer-so image i l p b (aheadOf00 piece) ∙ sym (answer-so image i l p b piece) ∙ h
+
+  -- a receive of them leaves the same
+  ahead-collected : let c = madeMixed p (MixedCalls.lineCollect k piece) in
+      (c .answer ≡ MixedCalls.MixedAnswer.lineRead (length (aheadOf00 piece)) LineReader.more)
+      × (c .parts ≡ made p (receiveWith image l (aheadOf00 piece)) .parts)
+  ahead-collected = collected-receives p l k image (aheadOf00 piece) (ahead-nonzero piece) ahead-done n
+
+  -- what is lent of the parts then: they have gone to the reader's part
+  pub collected-lent : lentOf l (madeMixed p (MixedCalls.lineCollect k piece) .parts)
+      ≡ withReader (lentOf l p) (pushedAll (lentOf l p .reader) (aheadOf00 piece))
+  unfolding made did Receive.receivePromise
+  collected-lent = ap (lentOf l) (ahead-collected .1) ∙ (received-lent image i l p b (aheadOf00 piece) ahead-bytes ∙ by _ refl)
+    where
+      by : (u : Bool) → Receive.validParts (lentOf l p) ≡ u → did (lentOf l p) (Histories.receive image (aheadOf00 piece)) .parts
+          ≡ withReader (lentOf l p) (pushedAll (lentOf l p .reader) (aheadOf00 piece))
+      by true e = rw e (fed-pushed image (aheadOf00 piece) (lentOf l p) (ahead-nonzero piece))
+      by false e = absurd (undone 12 (rw e at h))
+
+pub collect-then-receive : CollectThenReceive
+collect-then-receive p b l k image piece i t h n =
+    let a = aheadOf00 piece in
+    let c = ahead-collected p b l k image piece i t h n in
+    let cut = cut-made image i l p b a (ListN.drop (length a) piece) (ahead-bytes p b l k image piece i t h n) in
+    (c .0, rw (c .1) (sym cut ∙ ap (λ x. made p (receiveWith image l x)) (ahead-join piece)))
