@@ -102,8 +102,9 @@ def counted(target):
 
 
 def call_instructions():
-    small, fast = counted('thumbv7em-Os'), counted('thumbv7em-O2')
-    return table(('Call', 'With', '-Os', '-O2'), [(f'`{name}`', what, number(n), number(fast[name][what])) for name in functions() for what, n in small[name].items()])
+    small, fast, words = (counted(target) for target in ('thumbv7em-Os', 'thumbv7em-O2', 'words-thumbv7em-O2'))
+    return table(('Call', 'With', '-Os', '-O2', '-O2, memory by words'),
+                 [(f'`{name}`', what, number(n), number(fast[name][what]), number(words[name][what])) for name in functions() for what, n in small[name].items()])
 
 
 def header_table():
@@ -202,7 +203,9 @@ By qemu's instruction count (`tests/cross/count.c`), memcpy and memset byte by b
 
 '''
 CALLS = '''
-Each call by itself, with short and with long bytes where it depends on them. `include/oatcastle.h` has these figures and the stack in one table.
+Each call by itself, with short and with long bytes where it depends on them. The supervisor is as started, unless it says "full": 64 items with data, every setting at its longest, 8 alerts and both
+records. "So many bytes" of a receive or a collect is a piece without a 00. The last column has memcpy, memmove and memset by words (`tests/cross/memory_words.c`), as a C library has them.
+`include/oatcastle.h` has the first two columns and the stack in one table.
 
 '''
 LEFT = '''

@@ -1,5 +1,5 @@
 /* Counts the instructions of calls on a bare Cortex-M4 under qemu with -icount shift=6: an instruction takes 64 ns of the board's time there, and a
- * tick of SysTick 40 ns. Prints what each takes; memory.c, byte by byte, is counted in. An echo request is answered by oatcastle_rot_read. Assumes the startup code, the linker script and memory.c of examples/firmware, and a processor clock of 25 MHz. */
+ * tick of SysTick 40 ns. Prints what each takes; memcpy, memmove and memset are counted in. An echo request is answered by oatcastle_rot_read. Assumes the startup code, the linker script and memory.c of examples/firmware, and a processor clock of 25 MHz. */
 #include "oatcastle_parts.h"
 #include "semihosting.h"
 
@@ -261,21 +261,38 @@ static uint32_t lookup_frame(void)
     return frame(8, OATCASTLE_COMMAND_KEY_LOOKUP, 3);
 }
 
+/* Pieces without a 00, of 16 and 64 bytes: received, and received and counted. */
+static void piece_calls(const char *const what[4])
+{
+    for (uint32_t i = 0; i < 64; i++)
+        piece[i] = (uint8_t)(i + 1);
+    COUNT(what[0], oatcastle_supervisor_receive(&supervisor, image, 0, piece, 16));
+    COUNT(what[1], oatcastle_supervisor_receive(&supervisor, image, 0, piece, 64));
+    COUNT(what[2], oatcastle_supervisor_receive_counted(&supervisor, &counters, image, 0, piece, 16));
+    COUNT(what[3], oatcastle_supervisor_receive_counted(&supervisor, &counters, image, 0, piece, 64));
+    refused |= oatcastle_supervisor_receive(&supervisor, image, 0, (const uint8_t[]){0}, 1);
+}
+
 /* What a receive takes by the state of the board: as started, with the settings, and full. */
 static void board_calls(void)
 {
+    static const char *const started[] = {"oatcastle_receive, 16 bytes", "oatcastle_receive, 64 bytes", "oatcastle_receive_counted, 16 bytes", "oatcastle_receive_counted, 64 bytes"};
+    static const char *const full[] = {"oatcastle_receive, full: 16 bytes", "oatcastle_receive, full: 64 bytes", "oatcastle_receive_counted, full: 16 bytes", "oatcastle_receive_counted, full: 64 bytes"};
     uint32_t n;
 
     refused |= oatcastle_supervisor_start(&supervisor, start_data);
     COUNT("oatcastle_receive, no byte", oatcastle_supervisor_receive(&supervisor, image, 0, piece, 0));
+    piece_calls(started);
     set_all();
     n = lookup_frame();
     COUNT("oatcastle_receive, lookup of 4,096", oatcastle_supervisor_receive(&supervisor, image, 0, piece, n));
     fill_board();
     COUNT("oatcastle_receive, full: no byte", oatcastle_supervisor_receive(&supervisor, image, 0, piece, 0));
+    piece_calls(full);
     n = frame(7, OATCASTLE_COMMAND_STATUS, 0);
     COUNT("oatcastle_receive, full: a byte", oatcastle_supervisor_receive(&supervisor, image, 0, piece, 1));
-    refused |= oatcastle_supervisor_receive(&supervisor, image, 0, &piece[1], n - 1);
+    COUNT("oatcastle_receive_counted, full: a byte", oatcastle_supervisor_receive_counted(&supervisor, &counters, image, 0, &piece[1], 1));
+    refused |= oatcastle_supervisor_receive(&supervisor, image, 0, &piece[2], n - 2);
     COUNT("oatcastle_receive, full: status request", oatcastle_supervisor_receive(&supervisor, image, 0, piece, n));
     n = lookup_frame();
     COUNT("oatcastle_receive, full: lookup of 4,096", oatcastle_supervisor_receive(&supervisor, image, 0, piece, n));
