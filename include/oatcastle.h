@@ -63,6 +63,12 @@
 extern "C" {
 #endif
 
+/* ---- The version of this interface, as the file VERSION has it */
+
+#define OATCASTLE_VERSION_MAJOR 0
+#define OATCASTLE_VERSION_MINOR 3
+#define OATCASTLE_VERSION_PATCH 0
+
 /* ---- Lengths */
 
 /** A length, a count or an index. The library counts in 64 bits on every processor, also where

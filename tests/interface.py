@@ -2,14 +2,14 @@
 """Compares the C interface where it is written down: the functions of crates/oatcastle/src, include/oatcastle.h and
 bindings/rust/src/raw.rs by name, parameters' names and kinds; the answers, by how many numbers the crates write and by the fields of header and
 wrapper; the records that they take, by their fields; every #define of the header, and the wrapper's numbers, with the crates; the texts of
-refusals in header and wrapper. Every constant of the crates behind them must be named in the code of a function, or in another constant that is: a
-number that no function names is held by no contract.
+refusals in header and wrapper; the version in VERSION, header, wrapper and CHANGELOG.md. Every constant of the crates behind them must be named in
+the code of a function, or in another constant that is: a number that no function names is held by no contract.
 Assumes the layouts of these files as `rt fmt` and their own style have them.
 
 usage: tests/interface.py [planted]
 
-planted: changes each #define, each parameter, each field of an answer or a record, each text of a refusal and each number of the wrapper in turn,
-takes each constant of the crates out of the functions, in memory alone, and asks that every change be seen"""
+planted: changes each #define, each parameter, each field of an answer or a record, each text of a refusal, each number of the wrapper and each
+place of the version in turn, takes each constant of the crates out of the functions, in memory alone, and asks that every change be seen"""
 import functools
 import pathlib
 import re
@@ -34,6 +34,11 @@ NAMELESS = ('SET_STORED', 'INVENTORY_BAD_INDEX')
 LIMIT = r'const (\w+): (?:usize|u64) = (\d+);'
 VARIANT = r'^    (\w+) = (0x[0-9a-f]+|\d+), "([^"]*)"'
 LONGEST_SETTINGS = r'const LONGEST_SETTINGS: \[usize; \d+\] = \[([\d, ]+)\];'
+# Where the version stands, and how; the header has it as three numbers.
+VERSION = 'VERSION'
+VERSIONS = {VERSION: r'\A(\d+\.\d+\.\d+)\n\Z', 'bindings/rust/src/lib.rs': r'^pub const VERSION: &str = "([^"]*)";$',
+            'bindings/rust/Cargo.toml': r'^version = "([^"]*)"$', 'CHANGELOG.md': r'\A[^#]*# [^#]*\n## (\S+)\n'}
+VERSION_PARTS = ('VERSION_MAJOR', 'VERSION_MINOR', 'VERSION_PATCH')
 NUMBERS = {'u8': 'u8', 'u16': 'u16', 'u32': 'u32', 'u64': 'u64', 'usize': 'u64',
            'uint8_t': 'u8', 'uint16_t': 'u16', 'uint32_t': 'u32', 'uint64_t': 'u64'}
 # The header's type of a length, which has 64 bits on every processor, as Rattle's usize has; in Rust usize on x86-64, or u64.
@@ -438,7 +443,7 @@ def defined(texts):
 
 
 def number_faults(texts):
-    wanted = wanted_numbers()
+    wanted = {**wanted_numbers(), **version_numbers(texts)}
     found = defined(texts)
     for name in sorted(wanted.keys() | found.keys()):
         value = re.fullmatch(r'(\d+|0x[0-9a-f]+)u?', found.get(name, ''))
@@ -495,6 +500,22 @@ def wrapper_faults(texts):
     for name in wanted:
         if name.startswith(WHOLE) and name not in NAMELESS and name not in dict(found):
             yield f'{name}: bindings/rust/src has none, the crates {wanted[name]}'
+
+
+# ---- The version
+
+def version_numbers(texts):
+    """The three numbers of the file VERSION, by the header's names."""
+    found = re.search(VERSIONS[VERSION], texts[VERSION])
+    return dict(zip(VERSION_PARTS, map(int, found.group(1).split('.')))) if found else {}
+
+
+def version_faults(texts):
+    """The header's three numbers are among its constants; each other place has the version of the file VERSION, once, or first of several."""
+    found = {path: re.findall(form, texts[path], re.M)[:1] for path, form in VERSIONS.items()}
+    for path, version in found.items():
+        if not version or version != found[VERSION]:
+            yield f'{path}: the version is {version}, in the file {VERSION} it is {found[VERSION]}'
 
 
 # ---- Texts of refusals
@@ -571,12 +592,13 @@ def untied(code):
 
 
 def as_written():
-    return {path: read(path) for path in (HEADER, RAW, *WRAPPER)}
+    return {path: read(path) for path in (HEADER, RAW, *WRAPPER, *VERSIONS)}
 
 
 def faults(texts):
     """Where the texts by hand and the crates differ."""
-    return [*function_faults(texts), *answer_faults(texts), *record_faults(texts), *number_faults(texts), *wrapper_faults(texts), *text_faults(texts)]
+    return [*function_faults(texts), *answer_faults(texts), *record_faults(texts), *number_faults(texts), *wrapper_faults(texts), *text_faults(texts),
+            *version_faults(texts)]
 
 
 # ---- Planted changes
@@ -648,6 +670,10 @@ def planted(texts):
     yield replaced(LIMITS, texts[LIMITS], 'a shorter setting', '= [256, ', '= [255, ')
     for path in ENUMS:
         yield from raised(path, texts[path], r'\n    \w+ = (0x[0-9a-f]+|\d+), "')
+    for path, form in VERSIONS.items():
+        place = re.search(form, texts[path], re.M).start(1)
+        yield path, 'another version', texts[path][:place] + '1' + texts[path][place:]
+    yield VERSION, 'a version of two numbers', texts[VERSION].rpartition('.')[0] + '\n'
     yield replaced(WRAPPER[1], texts[WRAPPER[1]], 'a reason taken out', '    Data = 7, ', '    // Data = 7, ')
     yield replaced(WRAPPER[1], texts[WRAPPER[1]], 'a fault taken out', '    BytesAfter = 35, ', '    // BytesAfter = 35, ')
 

@@ -67,6 +67,9 @@ pub use wire::{Command, Key, NotSet, OptionBit, ReplyCommand, StatusBit};
 
 use raw::Length;
 
+/// The version of this crate and of the library's interface.
+pub const VERSION: &str = "0.3.0";
+
 /// A run as the library takes it: its first element and its length.
 fn lent<T>(run: &[T]) -> (*const T, Length) {
     (run.as_ptr(), run.len() as Length)
