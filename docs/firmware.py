@@ -19,7 +19,9 @@ FILE = ROOT / 'docs/FIRMWARE.md'
 HEADER = ROOT / 'include/oatcastle.h'
 MARKS = (' * ---- Table by docs/firmware.py\n', ' * ---- End of the table\n')
 LOGS = ROOT / 'target/cross/tests'
+# The targets that have figures of the stack, and those that are tested alone.
 WORDS = {'x86-64-O3': 'x86-64, -O3', 'thumbv7em-Os': 'Cortex-M4, -Os', 'thumbv7em-O2': 'Cortex-M4, -O2', 'thumbv6m-Os': 'Cortex-M0, -Os', 'riscv32imc-Os': 'RV32IMC, -Os'}
+OTHERS = {'thumbv7emhf-Os': 'Cortex-M4 with hard float, -Os', 'thumbv8m-Os': 'Cortex-M33, -Os', 'thumbv8mhf-Os': 'Cortex-M33 with hard float, -Os', 'aarch64-O2': 'AArch64, -O2'}
 TRACE = ('1', '20000')
 
 
@@ -39,7 +41,7 @@ def table(head, rows):
 def sizes():
     rows = re.findall(r'^(\S+): (\d+) bytes of code, (\d+) of constants, (\d+) of data, (\d+) of bss; undefined: (.*)$', log('build'), re.M)
     return table(('Target', 'Code', 'Constants', '`.data`', '`.bss`', 'Undefined'),
-                 [(f'`{name}` ({WORDS[name]})', number(code), number(constants), data, bss, ', '.join(undefined.split())) for name, code, constants, data, bss, undefined in rows])
+                 [(f'`{name}` ({(WORDS | OTHERS)[name]})', number(code), number(constants), data, bss, ', '.join(undefined.split())) for name, code, constants, data, bss, undefined in rows])
 
 
 def firmware_size():
@@ -136,10 +138,10 @@ def left():
 
 
 def replays():
-    lines = [name for name in (*WORDS, 'bare-thumbv7em-Os', 'bare-thumbv6m-Os')]
+    lines = [name for name in (*WORDS, *OTHERS, 'bare-thumbv7em-Os', 'bare-thumbv6m-Os') if (LOGS / f'{name}.log').exists()]
     made = {name: re.search(r'^calls made again: (\d+)$', log(name), re.M).group(1) for name in lines}
     different = {name: re.search(r'^differences: (\d+)$', log(name), re.M).group(1) for name in lines}
-    how = {'x86-64-O3': 'the machine itself', 'riscv32imc-Os': 'qemu-riscv32'}
+    how = {'x86-64-O3': 'the machine itself', 'riscv32imc-Os': 'qemu-riscv32', 'aarch64-O2': 'qemu-aarch64'}
     rows = []
     for name in lines:
         target = name.removeprefix('bare-')
@@ -157,7 +159,7 @@ def document():
 
 TOP = '''# On the firmware's processor
 
-`cross/build` makes the library for Cortex-M and riscv32 (`cross/README.md`), `tests/cross/run` tests it under qemu (`tests/cross/README.md`), `make -C examples/firmware run` builds and runs a firmware for a
+`cross/build` makes the library for Cortex-M, riscv32 and AArch64 (`cross/README.md`), `tests/cross/run` tests it under qemu (`tests/cross/README.md`), `make -C examples/firmware run` builds and runs a firmware for a
 bare Cortex-M4. `docs/firmware.py write` makes this page, figures and all.
 
 ## What is proved, and what is only tested

@@ -1,15 +1,16 @@
 #!/usr/bin/env python3
 """Compares the C interface where it is written down: the functions of crates/oatcastle/src, include/oatcastle.h and
-bindings/rust/src/raw.rs by name, parameters' names and kinds; the answers, by how many numbers the crates write and by the fields of header and
-wrapper; the records that they take, by their fields; every #define of the header, and the wrapper's numbers, with the crates; the texts of
-refusals in header and wrapper; the version in VERSION, header, wrapper and CHANGELOG.md. Every constant of the crates behind them must be named in
-the code of a function, or in another constant that is: a number that no function names is held by no contract.
+bindings/rust/src/raw.rs by name, parameters' names and kinds; the answers, by how many numbers the crates write and by the fields of
+header and wrapper; the records that they take, by their fields; every #define of the header, and the wrapper's numbers, with the crates;
+the texts of refusals in header and wrapper; the version in VERSION, header, wrapper and CHANGELOG.md. Every constant of the crates behind
+them must be named in the code of a function, or in another constant that is: a number that no function names is held by no contract.
 Assumes the layouts of these files as `rt fmt` and their own style have them.
 
 usage: tests/interface.py [planted]
 
-planted: changes each #define, each parameter, each field of an answer or a record, each text of a refusal, each number of the wrapper and each
-place of the version in turn, takes each constant of the crates out of the functions, in memory alone, and asks that every change be seen"""
+planted: changes each #define, each parameter, each field of an answer or a record, each text of a refusal, each number of the wrapper and
+each place of the version in turn, takes each constant of the crates out of the functions, in memory alone, and asks that every change be
+seen"""
 import functools
 import pathlib
 import re
@@ -511,7 +512,7 @@ def version_numbers(texts):
 
 
 def version_faults(texts):
-    """The header's three numbers are among its constants; each other place has the version of the file VERSION, once, or first of several."""
+    """The header's three numbers are among its constants; each other place has the version of the file VERSION, first of several."""
     found = {path: re.findall(form, texts[path], re.M)[:1] for path, form in VERSIONS.items()}
     for path, version in found.items():
         if not version or version != found[VERSION]:
@@ -597,8 +598,8 @@ def as_written():
 
 def faults(texts):
     """Where the texts by hand and the crates differ."""
-    return [*function_faults(texts), *answer_faults(texts), *record_faults(texts), *number_faults(texts), *wrapper_faults(texts), *text_faults(texts),
-            *version_faults(texts)]
+    return [*function_faults(texts), *answer_faults(texts), *record_faults(texts), *number_faults(texts), *wrapper_faults(texts),
+            *text_faults(texts), *version_faults(texts)]
 
 
 # ---- Planted changes

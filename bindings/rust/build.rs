@@ -1,16 +1,20 @@
-// Defines where cargo finds the static library: OATCASTLE_LIBRARY, else this repository's folder with the archive for cargo's TARGET.
-// Assumes that it is built there; warns where it is not, and says which command makes it, since only what is linked needs it.
+// Defines where cargo finds the static library: OATCASTLE_LIBRARY, else a release's or this repository's folder with the archive for cargo's TARGET.
+// Assumes that it is there; warns where it is not, and says which command makes it, since only what is linked needs it.
 
 use std::env;
 use std::path::{Path, PathBuf};
 
-/// Of each target its name, the folder of its archive in this repository, and the command that makes it.
-const ARCHIVES: [(&str, &str, &str); 5] = [
-    ("x86_64-unknown-linux-gnu", "target/staticlib", "rt staticlib oatcastle"),
-    ("x86_64-unknown-linux-musl", "target/staticlib", "rt staticlib oatcastle"),
-    ("thumbv7em-none-eabi", "target/cross/thumbv7em-Os", "cross/build thumbv7em-Os"),
-    ("thumbv6m-none-eabi", "target/cross/thumbv6m-Os", "cross/build thumbv6m-Os"),
-    ("riscv32imc-unknown-none-elf", "target/cross/riscv32imc-Os", "cross/build riscv32imc-Os"),
+/// Of each target its name, the folder of its archive in a release and in this repository, and the command that makes it.
+const ARCHIVES: [(&str, &str, &str, &str); 9] = [
+    ("x86_64-unknown-linux-gnu", "lib/x86_64-linux", "target/staticlib", "rt staticlib oatcastle"),
+    ("x86_64-unknown-linux-musl", "lib/x86_64-linux", "target/staticlib", "rt staticlib oatcastle"),
+    ("aarch64-unknown-linux-gnu", "lib/aarch64-linux", "target/cross/aarch64-O2", "cross/build aarch64-O2"),
+    ("thumbv6m-none-eabi", "lib/cortex-m0", "target/cross/thumbv6m-Os", "cross/build thumbv6m-Os"),
+    ("thumbv7em-none-eabi", "lib/cortex-m4", "target/cross/thumbv7em-Os", "cross/build thumbv7em-Os"),
+    ("thumbv7em-none-eabihf", "lib/cortex-m4-hard", "target/cross/thumbv7emhf-Os", "cross/build thumbv7emhf-Os"),
+    ("thumbv8m.main-none-eabi", "lib/cortex-m33", "target/cross/thumbv8m-Os", "cross/build thumbv8m-Os"),
+    ("thumbv8m.main-none-eabihf", "lib/cortex-m33-hard", "target/cross/thumbv8mhf-Os", "cross/build thumbv8mhf-Os"),
+    ("riscv32imc-unknown-none-elf", "lib/riscv32imc", "target/cross/riscv32imc-Os", "cross/build riscv32imc-Os"),
 ];
 
 /// A folder with the archive, and how to make one that is missing.
@@ -20,8 +24,9 @@ fn archive() -> Result<(PathBuf, String), String> {
     }
     let target = env::var("TARGET").unwrap_or_default();
     let root = Path::new(&env::var_os("CARGO_MANIFEST_DIR").unwrap_or_default()).join("../..");
-    match ARCHIVES.into_iter().find(|(name, _, _)| *name == target) {
-        Some((_, folder, command)) => Ok((root.join(folder), format!("the command that makes it: {command}"))),
+    match ARCHIVES.into_iter().find(|(name, ..)| *name == target) {
+        Some((_, released, ..)) if root.join(released).exists() => Ok((root.join(released), "it is the release's folder".into())),
+        Some((_, _, folder, command)) => Ok((root.join(folder), format!("the command that makes it: {command}"))),
         None => Err(format!(
             "there is no archive for {target}; cross/targets has the processors, and OATCASTLE_LIBRARY names a folder with another"
         )),

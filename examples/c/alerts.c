@@ -60,7 +60,7 @@ int main(int count, char **words)
     serve();
     post_many();
     serve();
-    main_request(OATCASTLE_COMMAND_BSU, NULL, 0); /* an alert comes while a request is outstanding */
+    main_request(OATCASTLE_COMMAND_BSU, NULL, 0); /* an alert comes while this is outstanding */
     must(post("cable out"));
     serve();
     return 0;

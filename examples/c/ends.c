@@ -140,7 +140,7 @@ oatcastle_requester_state_answer outstanding(void)
 
 void begin(int count, char **words)
 {
-    static const char *const kinds[] = {[WHOLE] = "whole", [DAMAGED] = "damaged", [SPARE] = "spare"};
+    static const char *const kinds[] = {"whole", "damaged", "spare"};
 
     for (kind = WHOLE; count > 1 && kind <= SPARE && strcmp(words[1], kinds[kind]) != 0;)
         kind++;

@@ -1,5 +1,5 @@
 /* What the examples share: both ends in one program, and a wire in memory between them that may
- * damage or add bytes. Assumes the static library. A product has one end, and a UART for the wire. */
+ * damage or add bytes. Assumes the static library. A product has one end, and a UART for a wire. */
 #ifndef ENDS_H
 #define ENDS_H
 
@@ -31,7 +31,8 @@ void begin(int count, char **words);
 void supervisor_begin(void);
 
 /* The supervisor carries out what has come, and replies to each frame before it reads the next.
- * A program that takes more turns than any example does is ended. `stored`, unless it is NULL, is told the key of each set that was stored, ahead of its reply. */
+ * `stored`, unless it is NULL, is told the key of each set that was stored, ahead of its reply.
+ * A program that takes more turns than any example does is ended. */
 void supervisor_turn(void (*stored)(uint64_t key));
 
 /* What the main processor's end hands out: an answer, an alert or a status, and a reply's data. */

@@ -1,5 +1,5 @@
-/* Recoveries: a reply that is wholly lost, a supervisor that starts again, and a recovery of which a
- * frame is lost. Assumes ends.c. Prints what the main processor's end does and learns. */
+/* Recoveries: a reply that is wholly lost, a supervisor that starts again, and a recovery of which
+ * a frame is lost. Assumes ends.c. Prints what the main processor's end does and learns. */
 #include <stdio.h>
 
 #include "ends.h"

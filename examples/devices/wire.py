@@ -1,6 +1,7 @@
 #!/usr/bin/env python3
-"""A wire and an interrupt line between two ptys each: prints the four devices, then carries bytes between them until its standard input ends. It may lose and damage
-bytes of the wire; the line goes one way, and drops what nobody reads. Prints at the end how many bytes it carried, lost and damaged.
+"""A wire and an interrupt line between two ptys each: prints the four devices, then carries bytes between them until its standard input
+ends. It may lose and damage bytes of the wire; the line goes one way, and drops what nobody reads. Prints at the end how many bytes it
+carried, lost and damaged.
 Assumes Linux and Python 3 alone.
 
 usage: wire.py [--lose N] [--damage N] [--seed N]

@@ -23,6 +23,8 @@ static inline volatile uint32_t *port_stack(void)
     __asm__ volatile("mov %0, sp" : "=r"(sp));
 #elif defined(__riscv)
     __asm__ volatile("mv %0, sp" : "=r"(sp));
+#elif defined(__aarch64__)
+    __asm__ volatile("mov %0, sp" : "=r"(sp));
 #else
     __asm__ volatile("movq %%rsp, %0" : "=r"(sp));
 #endif

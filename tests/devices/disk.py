@@ -1,6 +1,6 @@
 """What a disk may hold after a power cut, from the calls that log_calls.c wrote down.
-Assumes a file system that keeps a file's contents once fsync of it was answered, and names in their order once fsync of their folder was; before that, of what was
-written any part may be there, and of the renames any first ones."""
+Assumes a file system that keeps a file's contents once fsync of it was answered, and names in their order once fsync of their folder was.
+Before that, of what was written any first part may be there, and of the renames any first ones."""
 import os
 
 

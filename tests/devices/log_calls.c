@@ -1,5 +1,6 @@
-/* Makes each call that opens, writes, syncs or renames a file, and writes it as a line to the file LOG_CALLS, behind the process; for LD_PRELOAD.
- * Assumes glibc on Linux with 64-bit files, and calls that are made one at a time. */
+/* Makes each call that opens, writes, syncs or renames a file, and writes it as a line to the file
+ * LOG_CALLS, behind the process; for LD_PRELOAD. Assumes glibc on Linux with 64-bit files, and calls
+ * that are made one at a time. */
 #define _GNU_SOURCE
 #include <dlfcn.h>
 #include <fcntl.h>
@@ -15,7 +16,8 @@ static int to = -1;
 
 __attribute__((constructor)) static void begin(void)
 {
-    to = (int)syscall(SYS_openat, AT_FDCWD, getenv("LOG_CALLS"), O_WRONLY | O_CREAT | O_APPEND | O_CLOEXEC, 0600);
+    to = (int)syscall(SYS_openat, AT_FDCWD, getenv("LOG_CALLS"),
+                      O_WRONLY | O_CREAT | O_APPEND | O_CLOEXEC, 0600);
 }
 
 /* A line in one write, whatever the program's own calls do. */

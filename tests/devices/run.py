@@ -2,12 +2,12 @@
 """Both programs of examples/devices over ptys, in C, in Rust and mixed:
 - what a power cut may leave at each call of a save is the image before or after, and after the reply the one after;
 - a set is not answered while the supervisor is down;
-- over a wire that loses and damages bytes, with either end killed at random and started again, each lookup gives what was set last. A set whose answer the killed
-  end did not print may have been carried out or not.
+- over a wire that loses and damages bytes, with either end killed at random and started again, each lookup gives what was set last. A set
+  whose answer the killed end did not print may have been carried out or not.
 Then each mistake of MISTAKES is put into a program, and must be seen.
 Assumes Linux, cc, rustc and target/staticlib/liboatcastle.a.
 
-usage: tests/devices/run.py [SECONDS [SEED]]      how long each pair is killed, and how; 1.5 and 1 without"""
+usage: tests/devices/run.py [SECONDS [SEED]]      how long each pair is killed, and how; 1 and 1 without"""
 import os
 import pathlib
 import random
@@ -31,7 +31,7 @@ LANGUAGES = ('c', 'rust')
 KEYS = {3: 256, 4: 4096, 5: 4096}
 PATIENCE = 15       # seconds for an answer, however bad the wire
 LEAST_KILLS = 3     # of each end, and requests of a pair, however slow the machine
-LEAST_REQUESTS = 150
+LEAST_REQUESTS = 100
 DOWN = 0.6          # seconds without a supervisor, in which a wrong program would answer
 # What a program must not do: the language, the file, what is replaced in it and by what, the program, and the test that must see it.
 MISTAKES = {
@@ -45,17 +45,21 @@ MISTAKES = {
         ('c', 'settings_file.c', 'if (fsync(folder) != 0)', 'if (0)', 'supervisor', 'power_cuts'),
         ('rust', 'src/settings_file.rs', 'File::open(folder)?.sync_all()', 'File::open(folder).map(|_| ())', 'supervisor', 'power_cuts')],
     'a reply ahead of the save': [
-        ('c', 'supervisor.c', '            save();\n', '            must(oatcastle_supervisor_take(&supervisor, room, sizeof room, &taken)), device_write(wire, room, taken.moved), save();\n',
-         'supervisor', 'power_cuts'),
-        ('rust', 'src/bin/supervisor.rs', '                self.save()?;\n', '                self.wire.write_all(self.supervisor.take(&mut room))?;\n                self.save()?;\n',
+        ('c', 'supervisor.c', '            save();\n',
+         '            must(oatcastle_supervisor_take(&supervisor, room, sizeof room, &taken)),\n'
+         '                device_write(wire, room, taken.moved), save();\n', 'supervisor', 'power_cuts'),
+        ('rust', 'src/bin/supervisor.rs', '                self.save()?;\n',
+         '                self.wire.write_all(self.supervisor.take(&mut room))?;\n                self.save()?;\n',
          'supervisor', 'power_cuts')],
     'a lost set that is acknowledged': [
-        ('c', 'main_end.c', '    while (!asked(command, data, length))\n        start();\n', '    asked(command, data, length);\n    answer.length += answer.length == 0;\n', 'main_end', 'supervisor_down'),
-        ('rust', 'src/bin/main_end.rs', '        while !self.asked(request)? {\n            self.start()?;\n        }\n', '        if !self.asked(request)? {\n            self.answer = vec![0];\n        }\n',
-         'main_end', 'supervisor_down')],
+        ('c', 'main_end.c', '    while (!asked(command, data, length))\n        start();\n',
+         '    asked(command, data, length);\n    answer.length += answer.length == 0;\n', 'main_end', 'supervisor_down'),
+        ('rust', 'src/bin/main_end.rs', '        while !self.asked(request)? {\n            self.start()?;\n        }\n',
+         '        if !self.asked(request)? {\n            self.answer = vec![0];\n        }\n', 'main_end', 'supervisor_down')],
     'settings that are not restored': [
         ('c', 'supervisor.c', '    if (length >= 0)\n', '    if (0)\n', 'supervisor', 'killed'),
-        ('rust', 'src/bin/supervisor.rs', 'self.supervisor.restore(&image)', 'self.supervisor.restore(b"KE").and(Ok(drop(image)))', 'supervisor', 'killed')],
+        ('rust', 'src/bin/supervisor.rs', 'self.supervisor.restore(&image)',
+         'self.supervisor.restore(b"KE").and(Ok(drop(image)))', 'supervisor', 'killed')],
 }
 
 
@@ -71,6 +75,10 @@ def run(*words):
         sys.exit(f'{" ".join(map(str, words))}\n{done.stdout}{done.stderr}')
 
 
+def rustc(*words):
+    run('rustc', '--edition', '2021', '-L', 'native=target/staticlib', *words)
+
+
 def compiled(language, end, sources, out):
     """A program of an end, of the sources in a folder."""
     program = out / f'{language}_{end}'
@@ -78,7 +86,7 @@ def compiled(language, end, sources, out):
         files = [sources / f'{name}.c' for name in C_FILES[end]]
         run('cc', '-std=c99', '-O2', '-Wall', '-Wextra', '-pedantic', '-Werror', '-Iinclude', *files, LIBRARY, '-o', program)
     else:
-        run('rustc', '--edition', '2021', '-D', 'warnings', '-o', program, sources / f'src/bin/{end}.rs', '--extern', f'oatcastle={OUT}/liboatcastle.rlib', '-L', 'native=target/staticlib')
+        rustc('-D', 'warnings', '-o', program, sources / f'src/bin/{end}.rs', '--extern', f'oatcastle={OUT}/liboatcastle.rlib')
     return program
 
 
@@ -86,8 +94,9 @@ def programs():
     """Every program, and what the tests need beside them."""
     shutil.rmtree(OUT, ignore_errors=True)
     OUT.mkdir(parents=True)
-    run('rustc', '--edition', '2021', '-O', '--crate-type', 'rlib', '--crate-name', 'oatcastle', '--out-dir', OUT, 'bindings/rust/src/lib.rs', '-L', 'native=target/staticlib', '-l', 'static=oatcastle')
-    run('cc', '-std=gnu11', '-O1', '-Wall', '-Wextra', '-Werror', '-shared', '-fPIC', 'tests/devices/log_calls.c', '-o', OUT / 'log_calls.so')
+    rustc('-O', '--crate-type', 'rlib', '--crate-name', 'oatcastle', '--out-dir', OUT, 'bindings/rust/src/lib.rs', '-l', 'static=oatcastle')
+    shared = ('-std=gnu11', '-O1', '-Wall', '-Wextra', '-Werror', '-shared', '-fPIC')
+    run('cc', *shared, 'tests/devices/log_calls.c', '-o', OUT / 'log_calls.so')
     return {(language, end): compiled(language, end, SOURCES / language, OUT) for language in LANGUAGES for end in ENDS}
 
 
@@ -97,7 +106,8 @@ class Pair:
     def __init__(self, supervisor, main_end, *faults, environment=None):
         self.folder = tempfile.TemporaryDirectory()
         self.file = f'{self.folder.name}/settings'
-        self.wire = subprocess.Popen([sys.executable, SOURCES / 'wire.py', *map(str, faults)], stdin=subprocess.PIPE, stdout=subprocess.PIPE, text=True)
+        words = [sys.executable, SOURCES / 'wire.py', *map(str, faults)]
+        self.wire = subprocess.Popen(words, stdin=subprocess.PIPE, stdout=subprocess.PIPE, text=True)
         devices = dict((name, words) for name, *words in (self.wire.stdout.readline().split() for _ in ENDS))
         self.words = {'supervisor': [supervisor, *devices['supervisor'], self.file], 'main_end': [main_end, *devices['main_end']]}
         self.environment = {**os.environ, **(environment or {})}
@@ -178,7 +188,8 @@ def is_set_reply(frame):
 
 
 def values(image):
-    """The settings of an image, as docs/WIRE.md has it, without their editions: a set that is sent twice has another edition. None where it has a fault."""
+    """The settings of an image, as docs/WIRE.md has it, without their editions: a set that is sent twice has another edition. None where
+    it has a fault."""
     found = {}
     while image is not None and image != b'KE':
         length = int.from_bytes(image[7:9], 'little')
@@ -191,7 +202,8 @@ def values(image):
 
 def logged(supervisor, main_end, sets):
     """Makes some sets over a good wire. Gives the calls that the supervisor made, the file, and the wire."""
-    with tempfile.NamedTemporaryFile() as log, Pair(supervisor, main_end, environment={'LD_PRELOAD': f'{OUT}/log_calls.so', 'LOG_CALLS': log.name}) as pair:
+    preload = {'LD_PRELOAD': f'{OUT}/log_calls.so'}
+    with tempfile.NamedTemporaryFile() as log, Pair(supervisor, main_end, environment={**preload, 'LOG_CALLS': log.name}) as pair:
         for key, value in sets:
             pair.wants(f'set {key} {value}', f'stored {key}')
         pair.ask('get 0')       # its reply goes out once the call ahead of it is in the log
@@ -322,8 +334,8 @@ def killed(supervisor, main_end, seconds, seed):
             raise Fault(f'{wrong[0]}')
     if not pair.alerts or ' lost 0' in pair.carried or ' damaged 0' in pair.carried:
         raise Fault(f'too little happened: {len(pair.alerts)} alerts, {pair.carried}')
-    return (f'{killer.sets} sets and {killer.gets} lookups, supervisor killed {killer.kills["supervisor"]} times, main end {killer.kills["main_end"]} times, '
-            f'{len(pair.alerts)} alerts; bytes {pair.carried}; settings lost 0')
+    kills = ', '.join(f'{end} killed {count} times' for end, count in killer.kills.items())
+    return f'{killer.sets} sets and {killer.gets} lookups, {kills}, {len(pair.alerts)} alerts; bytes {pair.carried}; settings lost 0'
 
 
 # ---- Planted mistakes
@@ -345,9 +357,9 @@ def try_mistakes(made_programs):
     for what, places in MISTAKES.items():
         for language, name, old, new, end, test in places:
             wrong = mistaken(language, name, old, new, end, made_programs)
-            pair = (wrong[language if end == 'supervisor' else 'c', 'supervisor'], wrong[language if end == 'main_end' else 'c', 'main_end'])
+            pair = [wrong[language if end == other else 'c', other] for other in ENDS]
             try:
-                globals()[test](*pair, 2, 1)
+                globals()[test](*pair, 1, 1)
             except Fault:
                 seen += 1
             else:
@@ -356,7 +368,7 @@ def try_mistakes(made_programs):
 
 
 def main():
-    seconds, seed = (float(sys.argv[1]) if len(sys.argv) > 1 else 1.5, int(sys.argv[2]) if len(sys.argv) > 2 else 1)
+    seconds, seed = (float(sys.argv[1]) if len(sys.argv) > 1 else 1, int(sys.argv[2]) if len(sys.argv) > 2 else 1)
     made(LIBRARY)
     found = programs()
     for one in LANGUAGES:

@@ -1,5 +1,5 @@
-// Defines the main processor's end on a serial port or pty: it sets and looks keys up as lines of standard input ask, and prints a line for each and for each alert.
-// Assumes device.rs.
+// Defines the main processor's end on a serial port or pty: it sets and looks keys up as lines of standard input ask, and prints a line
+// for each and for each alert. Assumes device.rs.
 // usage: main_end WIRE LINE      input: `set KEY HEX` or `get KEY`
 // output: `stored KEY`, `value KEY HEX`, `refused KEY RESULT`, `alert ACTION TEXT`
 
@@ -95,8 +95,8 @@ impl Program<'_> {
         Ok(event.is_some())
     }
 
-    /// Starts: numbers begin at 1 again, so that a reply from before must not be taken for an answer. A lookup goes out under a number that nobody
-    /// had. The wire keeps the order: once its reply is there, nothing older comes.
+    /// Starts: numbers begin at 1 again, so that a reply from before must not be taken for an answer. A lookup goes out under a number that
+    /// nobody had. The wire keeps the order: once its reply is there, nothing older comes.
     fn start(&mut self) -> io::Result<()> {
         let mut storage = ReaderStorage::new();
         let mut reader = LineReader::start_in(&mut storage);
@@ -135,7 +135,8 @@ impl Program<'_> {
         Ok(false)
     }
 
-    /// Waits until nothing is outstanding. An answer that does not come is asked for by a recovery; one in a recovery is given up. Whether it came.
+    /// Waits until nothing is outstanding. An answer that does not come is asked for by a recovery; one in a recovery is given up. Whether
+    /// it came.
     fn settled(&mut self) -> io::Result<bool> {
         loop {
             let state = self.requester.state();
@@ -158,8 +159,8 @@ impl Program<'_> {
         self.settled()
     }
 
-    /// Asks until the answer is there: its first byte, and the others. What was given up may have been carried out: setting a value once more leaves it
-    /// as it is.
+    /// Asks until the answer is there: its first byte, and the others. What was given up may have been carried out: setting a value once
+    /// more leaves it as it is.
     fn ask(&mut self, request: &Request) -> io::Result<(u8, &[u8])> {
         self.answer.clear();
         while !self.asked(request)? {

@@ -1,5 +1,5 @@
-// Defines the supervisor on a serial port or pty: it serves requests, keeps the settings in a file, and raises an interrupt line, which is a second device.
-// Assumes device.rs and settings_file.rs.
+// Defines the supervisor on a serial port or pty: it serves requests, keeps the settings in a file, and raises an interrupt line, which is
+// a second device. Assumes device.rs and settings_file.rs.
 // usage: supervisor WIRE LINE FILE
 
 #[path = "../device.rs"]
