@@ -133,7 +133,7 @@ def left():
     """What calls leave of a passphrase below the stack pointer."""
     form = r'^(oatcastle_\w+)(.*): (\d+) places below the stack pointer, the deepest at (\d+)$'
     small, fast = (re.findall(form, log(f'left-{target}'), re.M) for target in ('thumbv7em-Os', 'thumbv7em-O2'))
-    said = lambda places, depth: f'{places} of 60, from {number(depth)} bytes below on' if int(places) > 0 else '0'
+    said = lambda places, depth: f'{places}, from {number(depth)} bytes below on' if int(places) > 0 else '0'
     return table(('Behind', '-Os', '-O2'), [(f'`{name}`{what}', said(*one), said(*other)) for (name, what, *one), (_, _, *other) in zip(small, fast)])
 
 
@@ -213,10 +213,14 @@ records. "So many bytes" of a receive or a collect is a piece without a 00. The 
 LEFT = '''
 ## What is left of a passphrase below the stack pointer
 
-Looked at, not promised: a passphrase of 63 bytes on a bare Cortex-M4 (`tests/cross/left.c`). After each call the 8,192 bytes below the caller's stack pointer are searched for any four bytes of it in a row, which begin at
-60 places of it. "Behind it": what the calls before left is not painted over. The calls that receive leave none. Those that write a frame put the message together on the stack, and leave it there:
-`oatcastle_requester_request` and `oatcastle_requester_send`, on the processor that has the passphrase, and `oatcastle_line_write`. A shorter message written later overwrites its own length alone. Another compiler, level or processor
-may leave other bytes. Registers and interrupts are not looked at.
+Looked at, not promised: a passphrase of 63 bytes on a bare Cortex-M4 (`tests/cross/left.c`). After each call the 8,192 bytes below the caller's stack pointer are searched for any four bytes of it in a row. The table has the places
+where such four begin; the whole value once has 60. "Behind it": what the calls before left is not painted over.
+
+- None is left of a good set by the calls that receive: `oatcastle_receive`, `oatcastle_step`, both with counters, and `oatcastle_line_read`. `oatcastle_requester_receive` of its answer leaves none either, nor does `oatcastle_receive` of a set with a flipped bit.
+- A set whose first bytes were lost may have eight bytes of the value in the sequence's place. `oatcastle_receive` and `oatcastle_line_read` of it leave those eight, in several places. So does `oatcastle_requester_receive` of the reply.
+- The calls that write a frame put the message together on the stack, and leave it there. These are `oatcastle_requester_request` and `oatcastle_requester_send`, on the processor that has the passphrase, and `oatcastle_line_write`. A shorter message written
+  later overwrites its own length alone.
+- Another compiler, level or processor may leave other bytes. Registers and interrupts are not looked at.
 
 '''
 

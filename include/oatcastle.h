@@ -336,23 +336,32 @@ static inline const char *oatcastle_refusal_text(uint32_t number)
 
 /* ---- The wireless passphrase in the settings store, for the radio's driver: offsets in bytes.
  *
- * No call of the supervisor hands out anything that depends on it: the driver reads it here.
- * oatcastle_step tells when it was set. Where the passphrase lies, and for how long:
+ * No call of the supervisor hands out anything that depends on what the record holds: the driver
+ * reads it here. oatcastle_step tells when it was set. Where the passphrase lies, and how long:
  *
  *   - In its record, from a set with result 0 on. The next such set clears all 63 bytes of the
  *     value first, and a start clears the whole store.
  *   - In the reader's part, from the first byte of a set's frame to its 00. There the call that
  *     receives clears the whole part if the frame is good, also where the set is refused.
- *   - In the reader's part, where the frame came damaged or oatcastle_line_read brings its 00:
- *     until later frames overwrite it, or a good set of key 6 or a start clears it.
- *   - In the outbox, eight bytes at most: the reply to a damaged frame has what stands in the
- *     sequence's place, which may be bytes of the value. Until the next reply or a start.
- *   - In the main processor's part, from oatcastle_requester_request on. The answer leaves it:
- *     until data of later requests overwrite it, or oatcastle_requester_start clears it.
+ *   - In the reader's part, where the frame came damaged or oatcastle_line_read brings its 00.
+ *     Later frames overwrite it. A good set of key 6 or a start clears it.
+ *   - In the outbox, eight bytes at most. The reply to a damaged frame has what stands in the
+ *     sequence's place. That may be bytes of the value, where a set's first bytes were lost. They
+ *     stay until the next reply or a start, also after oatcastle_take.
+ *   - In the main processor's reader part, the same eight bytes, once it has read that reply.
+ *     Later frames overwrite them. oatcastle_requester_start clears them.
+ *   - In the main processor's part, from oatcastle_requester_request on. The answer leaves it. A
+ *     later request that stays outstanding (not 0x01, 0x02, 0x06) overwrites it as far as its
+ *     data reach. oatcastle_requester_start clears it.
  *
- * What this library cannot clear: the caller's buffers (piece, data, frame), a driver's queue, DMA
- * memory, registers, and the stack below a call: one that writes a frame leaves the message there
- * (docs/FIRMWARE.md). Nothing is said of the time that a call takes. */
+ * What this library cannot clear:
+ *
+ *   - the caller's buffers: piece, data, frame, room;
+ *   - a driver's queue and DMA memory;
+ *   - registers, and the stack below a call. A call that writes a frame leaves the message there.
+ *     One that reads a set without its first bytes leaves those eight (docs/FIRMWARE.md).
+ *
+ * Nothing is said of the time that a call takes. */
 
 #define OATCASTLE_PASSPHRASE_RECORD 8469    /**< 1 byte: 1 if a value is held, else 0 */
 #define OATCASTLE_PASSPHRASE_EDITION 8470   /**< 4 bytes: how often it was set since the start */
@@ -808,8 +817,8 @@ uint32_t oatcastle_panic_record(const uint8_t *registers, oatcastle_length regis
  *   - A frame whose transmission has begun is finished, or ended by one 00, before the bytes of a
  *     newer one. */
 
-/** Begins the main processor's end in parts of any contents: no number used, nothing outstanding,
- * and nothing left of what the parts' published lengths held.
+/** Begins the main processor's end in parts of any contents: no number used, nothing outstanding.
+ * Within their published lengths nothing is left of what the parts held.
  * @return 0; 12: a part is too short. */
 uint32_t oatcastle_requester_start(uint8_t *reader, oatcastle_length reader_length,
                                    uint8_t *requester, oatcastle_length requester_length);

@@ -1,5 +1,5 @@
-// Defines sets of key 6 with a value of its own for each of two supervisors, under the same version and number, each in cuts of its own, with other calls
-// among the pieces. Assumes that both readers stand between frames. With a leak, what the line layer alone leaves of the frame stands in the reader's part.
+// Defines sets of key 6 for two supervisors: each has a value and cuts of its own, under the same version and number. Other calls stand among the pieces.
+// Assumes that both readers stand between frames. With a leak, what the line layer alone leaves of the frame stands in the reader's part.
 
 use crate::calls::{answered, Call, Image, Lent};
 use crate::library::{oatcastle_line_read, LineReadAnswer, StepAnswer};

@@ -157,8 +157,8 @@ fn faults(numbers: &[usize], seed: u64, count: u64) -> ExitCode {
     if missed == 0 { ExitCode::SUCCESS } else { ExitCode::FAILURE }
 }
 
-/// Two supervisors that differ only in key 6's setting, or a scan of all parts for the bytes of a passphrase.
-fn passphrases(result: Result<String, String>, seed: u64) -> ExitCode {
+/// Prints what a run says, and ends as it did.
+fn print_result(result: Result<String, String>, seed: u64) -> ExitCode {
     let (Ok(said) | Err(said)) = &result;
     println!("seed {seed}: {}; {said}", if result.is_ok() { "no difference" } else { "a difference" });
     if result.is_ok() { ExitCode::SUCCESS } else { ExitCode::FAILURE }
@@ -197,8 +197,8 @@ fn main() -> ExitCode {
             };
             limits.map_or_else(usage, |(seed, count)| faults(&chosen, seed, count))
         }
-        ["--twins", seed, count] => numbers(seed, count).map_or_else(usage, |(seed, count)| passphrases(twins::compare(seed, count), seed)),
-        ["--traces", seed, count] => numbers(seed, count).map_or_else(usage, |(seed, count)| passphrases(traces::compare(seed, count), seed)),
+        ["--twins", seed, count] => numbers(seed, count).map_or_else(usage, |(seed, count)| print_result(twins::compare(seed, count), seed)),
+        ["--traces", seed, count] => numbers(seed, count).map_or_else(usage, |(seed, count)| print_result(traces::compare(seed, count), seed)),
         [seed, count] => numbers(seed, count).map_or_else(usage, |(seed, count)| plain(seed, count, trace)),
         _ => usage(),
     }

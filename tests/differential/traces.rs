@@ -2,8 +2,10 @@
 // Assumes that nothing else that is handed in has bytes of `LETTERS` but for checksums and code bytes; docs/STATE.md for where a passphrase may lie.
 
 use crate::apart::unwiped;
-use crate::calls::{hex, Call, Image, Lent};
-use crate::library::{self, RequesterReceiveAnswer, RequesterRequestAnswer, RequesterSendAnswer, RequesterStateAnswer};
+use crate::calls::{answered, hex, Call, Image, Lent};
+use crate::library::{
+    self, RequesterReceiveAnswer, RequesterRequestAnswer, RequesterSendAnswer, RequesterStateAnswer, SaveAnswer, TakeAnswer,
+};
 use crate::model::{self, break_rule, broken, Ended, Failure, Fault, Message, Reader, FAULTS, LONGEST, PASSPHRASE, SHORTEST_PASSPHRASE, TOP_BIT};
 use crate::random::Random;
 use crate::state::{FORM_OFFSET, LENGTHS, LINE, NAMES, OUTBOX, PASSPHRASE_OFFSET, READER, SETTINGS, START_LENGTH, VALUE_OFFSET};
@@ -16,19 +18,21 @@ const LETTERS: RangeInclusive<u8> = 0xa0..=0xfe;
 const WINDOW: usize = 4;
 const VALUES: usize = 32;
 /// In a run of so many calls each of these must have come up so often at least: `Tally`.
-const DEMANDED: u64 = 10_000;
+const DEMANDED: u64 = 20_000;
 const DEMANDED_TIMES: u64 = 50;
 
 /// The main processor's end: its reader's part and its own.
 const MAIN_LENGTHS: [usize; 2] = [4142, 4118];
 const MAIN_DATA: usize = 14;
 const LONGEST_FRAME: usize = 4141;
+/// A post is refused so while eight alerts wait.
+const ALERTS_FULL: u32 = 10;
 const NO_IMAGE: Image = Image { which: 0, length: 0 };
 
 /// The faults with which bytes of a passphrase stay; the scan or the record must show each.
-const LEAKS: [Fault; 7] = [
+const LEAKS: [Fault; 8] = [
     Fault::WipeForgotten, Fault::WipeOnResult0, Fault::WipeOnRequest, Fault::PassphraseRest, Fault::StartKeepsReader, Fault::LineStartKeeps,
-    Fault::MainStartKeepsData,
+    Fault::MainStartKeepsReader, Fault::MainStartKeepsData,
 ];
 
 /// How often what came up.
@@ -43,6 +47,8 @@ struct Tally {
     damaged: u64,
     /// The reply to a damaged frame had bytes of one as its sequence.
     echoed: u64,
+    /// The main processor's reader part had bytes of one: it read such a reply.
+    heard: u64,
     /// The main processor's part had one while its request was outstanding, and behind its answer.
     waiting: u64,
     answered: u64,
@@ -56,15 +62,18 @@ struct Ends {
     /// What has come of a frame to the supervisor, and the rest of the frame.
     reader: Reader,
     wire: Vec<u8>,
-    /// Whether the supervisor's reader part, its outbox and the main processor's part may hold bytes of a passphrase.
+    /// Whether the supervisor's reader part, its outbox and the main processor's two parts may hold bytes of a passphrase.
     reader_may: bool,
     outbox_may: bool,
-    main_may: bool,
+    main_may: [bool; 2],
     stored: Option<Vec<u8>>,
     values: VecDeque<Vec<u8>>,
     windows: HashSet<[u8; WINDOW]>,
     main: [Vec<u8>; 2],
     answers: Vec<u8>,
+    /// What was taken and is not yet on its way to the main processor, and the last image saved.
+    taken: Vec<u8>,
+    saved: Vec<u8>,
     calls: u64,
     tally: Tally,
 }
@@ -72,6 +81,12 @@ struct Ends {
 /// Bytes that no passphrase has.
 fn low(random: &mut Random, length: usize) -> Vec<u8> {
     (0..length).map(|_| random.below(usize::from(*LETTERS.start())) as u8).collect()
+}
+
+/// Where the code byte of a frame's longest group stands. A set without what is ahead of it has bytes of the value in the sequence's place.
+fn longest_group(frame: &[u8]) -> usize {
+    let places = std::iter::successors(Some(0), |&place| Some(place + usize::from(frame[place])));
+    places.take_while(|&place| frame[place] != 0).max_by_key(|&place| frame[place]).unwrap()
 }
 
 impl Ends {
@@ -87,12 +102,14 @@ impl Ends {
             wire: Vec::new(),
             reader_may: false,
             outbox_may: false,
-            main_may: false,
+            main_may: [false; 2],
             stored: None,
             values: VecDeque::new(),
             windows: HashSet::new(),
             main,
             answers: Vec::new(),
+            taken: Vec::new(),
+            saved: Vec::new(),
             calls: 0,
             tally: Tally::default(),
         }
@@ -138,10 +155,10 @@ impl Ends {
         }
         for part in 0..2 {
             match self.found(&self.main[part][..MAIN_LENGTHS[part]]) {
-                Some(place) if !(part == 1 && self.main_may && place >= MAIN_DATA) => {
+                Some(place) if !self.main_may[part] || part == 1 && place < MAIN_DATA => {
                     return Err(format!("bytes of a passphrase in the main processor's part {part} at {place}"));
                 }
-                _ => {}
+                found => self.tally.heard += u64::from(part == 0 && found.is_some()),
             }
         }
         self.record()
@@ -161,8 +178,13 @@ impl Ends {
         self.world.block.prepare(&mut self.random, None);
         let code = self.world.library(call, &Lent { parts: LENGTHS, room: 9000 }, &mut room, &mut answer);
         self.calls += 1;
-        if code != 0 {
+        if code != 0 && !(matches!(call, Call::Post { .. }) && code == ALERTS_FULL) {
             return Err(format!("{call}: refused as {code}"));
+        }
+        match call {
+            Call::Take => self.taken.extend(&room[..answered::<TakeAnswer>(&answer).moved as usize]),
+            Call::Save => self.saved = room[..answered::<SaveAnswer>(&answer).length as usize].to_vec(),
+            _ => {}
         }
         let may = match call {
             Call::LineData { .. } => self.reader_may,
@@ -212,6 +234,7 @@ impl Ends {
             match self.random.below(10) {
                 0 => frame[place] ^= if frame[place] == 1 { 2 } else { 1 },
                 1 => drop(frame.drain(..place)),
+                2 => drop(frame.drain(..longest_group(&frame))),
                 _ => {}
             }
             return frame;
@@ -285,10 +308,11 @@ impl Ends {
         }
     }
 
-    /// One of the calls that receive nothing.
+    /// One of the calls that receive nothing; often a take where the reply has bytes of a passphrase.
     fn other(&mut self) -> Result<(), String> {
         let random = &mut self.random;
-        let call = match random.below(12) {
+        let call = match random.below(14) {
+            _ if self.outbox_may && random.percent(70) => Call::Take,
             0 => Call::LineData { part: READER, length: random.pick(&[0, 29, 64, 4104]) },
             1 => Call::LineTail { part: READER },
             2 => Call::Signal,
@@ -299,6 +323,8 @@ impl Ends {
             7 => Call::BootFailure,
             8 => Call::Panic,
             9 => Call::SetOptions { options: 3 },
+            10 => Call::Post { action: 1, text: low(random, 20) },
+            11 if !self.saved.is_empty() => Call::Restore { image: self.saved.clone() },
             _ => Call::Take,
         };
         self.call(&call)
@@ -314,15 +340,18 @@ impl Ends {
     // ---- The main processor's end
 
     fn main_start(&mut self) {
-        let before = self.main[1].clone();
+        let before = self.main.clone();
         let [reader, main] = &mut self.main;
         // The pointers are to slices of these lengths.
         let code = unsafe { library::oatcastle_requester_start(reader.as_mut_ptr(), reader.len(), main.as_mut_ptr(), main.len()) };
         assert_eq!(code, 0);
         if broken(Fault::MainStartKeepsData) {
-            self.main[1][MAIN_DATA..].copy_from_slice(&before[MAIN_DATA..]);
+            self.main[1][MAIN_DATA..].copy_from_slice(&before[1][MAIN_DATA..]);
         }
-        self.main_may = false;
+        if broken(Fault::MainStartKeepsReader) {
+            self.main[0][FORM_OFFSET..].copy_from_slice(&before[0][FORM_OFFSET..]);
+        }
+        self.main_may = [false; 2];
         self.answers.clear();
     }
 
@@ -350,7 +379,7 @@ impl Ends {
         let code = unsafe {
             library::oatcastle_requester_request(part.as_mut_ptr(), part.len(), command, data.as_ptr(), data.len(), room.as_mut_ptr(), room.len(), &mut answer)
         };
-        self.main_may |= code == 0 && command == 0x10;
+        self.main_may[1] |= code == 0 && command == 0x10;
     }
 
     fn main_send(&mut self) {
@@ -361,8 +390,11 @@ impl Ends {
         unsafe { library::oatcastle_requester_send(part.as_mut_ptr(), part.len(), room.as_mut_ptr(), room.len(), &mut answer) };
     }
 
-    /// A piece of a reply to the one outstanding; at times damaged.
+    /// A piece of what was taken of the supervisor, or of a reply to the one outstanding, at times damaged.
     fn main_receive(&mut self) {
+        if self.answers.is_empty() && self.random.percent(50) {
+            self.answers = std::mem::take(&mut self.taken);
+        }
         if self.answers.is_empty() {
             self.answers = model::frame(1, self.standing().number | TOP_BIT, 0x06, &[0; 16]);
             if self.random.percent(20) {
@@ -371,6 +403,7 @@ impl Ends {
         }
         let length = 1 + self.random.below(self.answers.len());
         let piece: Vec<u8> = self.answers.drain(..length).collect();
+        self.main_may[0] |= piece.iter().any(|byte| LETTERS.contains(byte));
         let mut answer = RequesterReceiveAnswer::default();
         let [reader, main] = &mut self.main;
         // The pointers are to slices of these lengths and to an answer.
@@ -394,7 +427,7 @@ impl Ends {
             _ => self.main_receive(),
         }
         self.calls += 1;
-        if self.main_may && self.found(&self.main[1]).is_some() {
+        if self.main_may[1] && self.found(&self.main[1]).is_some() {
             let idle = self.standing().state == 0;
             self.tally.waiting += u64::from(!idle);
             self.tally.answered += u64::from(idle);
@@ -440,12 +473,12 @@ pub fn compare(seed: u64, count: u64) -> Result<String, String> {
     }
     let mut ends = Ends::new(seed);
     ends.run(count)?;
-    let Tally { scans, stored, refused, partly, damaged, echoed, waiting, answered, started } = ends.tally;
+    let Tally { scans, stored, refused, partly, damaged, echoed, heard, waiting, answered, started } = ends.tally;
     let times = format!(
         "{stored} sets stored and {refused} refused; found in the reader's part behind {partly} calls with a set partly received and behind {damaged} with one damaged or read by a \
-         line read, there ahead of {started} starts; found in the outbox behind {echoed} with the reply to a damaged set; found in the main processor's part behind {waiting} calls with its request outstanding and behind {answered} after its answer"
+         line read, there ahead of {started} starts; found in the outbox behind {echoed} with the reply to a damaged set, and behind {heard} in the main processor's reader part; found in the main processor's part behind {waiting} calls with its request outstanding and behind {answered} after its answer"
     );
-    if count >= DEMANDED && [stored, refused, partly, damaged, echoed, waiting, answered, started].iter().any(|&times| times < DEMANDED_TIMES) {
+    if count >= DEMANDED && [stored, refused, partly, damaged, echoed, heard, waiting, answered, started].iter().any(|&times| times < DEMANDED_TIMES) {
         return Err(format!("too seldom: {times}"));
     }
     Ok(format!("{scans} scans of all parts, no byte elsewhere; {times}"))
